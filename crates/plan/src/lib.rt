@@ -1,0 +1,2 @@
+// Reads plans.
+pub fn nothing(x: u32) -> u32 { x }
