@@ -31,6 +31,22 @@ pub data Own : Type 0 where
   scope : Own
   arm : (partner operation : ℕ) → (variables : List ℕ) → Own
 
+-- its kind: the code of an activity, and 12 for an arm
+unfoldable pub kind : Own → ℕ
+kind empty = 0
+kind (send partner operation variables) = 1
+kind (receive partner operation variables) = 2
+kind (set v e) = 3
+kind raise = 4
+kind leave = 5
+kind (choose e) = 6
+kind (repeat e) = 7
+kind sequence = 8
+kind flow = 9
+kind pick = 10
+kind scope = 11
+kind (arm partner operation variables) = 12
+
 -- An activity or arm with those directly within it, in the order of the file: a choose has two, a repeat and an arm one, a pick its arms,
 -- a scope its body, its fault part and its undo part.
 mutual
