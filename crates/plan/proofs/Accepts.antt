@@ -3,8 +3,8 @@ use borrow.Author.Tests.{ltb-true, ltb-false, leb-true, leb-false, eqb-true, eqb
 use native.Mathlib.Omega.{arith}
 use native.Mathlib.Numerals.{add-one, sub-one}
 use mathlib.Core.Path.{_≡_, refl, sym, ap, _∙_}
-use mathlib.Core.Bool.{Bool, true, false, cond, not, _&&_, _||_, false≢true, and-eq-true-iff}
-use mathlib.Core.List.{List, [], _∷_, _++_, append-assoc}
+use mathlib.Core.Bool.{Bool, true, false, cond, not, _&&_, _||_, false≢true, or-assoc}
+use mathlib.Core.List.{List, [], _∷_, _++_, append-assoc, append-nil}
 use Prim.Native.Nat.{ℕ, zero, suc, _+_, _-_, _≤_, _<_}
 use lib.ListN.{length, take, drop, length-append, length-drop, take-append-drop}
 use lib.Seq.{length-take-le, drop-drop, drop-append-seam}
@@ -91,6 +91,28 @@ expression-code : {rest s : List ℕ} {at code : ℕ} {ns : List ℕ} → code �
 unfolding expressionCodeIn
 expression-code h t = and-then _ (number (omega arith) t) (λ next u. rw (le-ltb _ _ h) (ends u))
 
+-- Variables.
+
+among-append : (w : ℕ) (a b : List ℕ) → among w (a ++ b) ≡ (among w a || among w b)
+unfolding among
+among-append w [] b = refl
+among-append w (x ∷ a) b = rw (among-append w a b) (sym (or-assoc (eqb w x) (among w a) (among w b)))
+
+-- where `once` holds, no variable of l is among those that are read
+Apart : (once : Bool) (read l : List ℕ) → Type 0
+Apart once read l = (w : ℕ) → among w l ≡ true → (once && among w read) ≡ false
+
+apart-first : (once : Bool) (read l : List ℕ) (v : ℕ) → Apart once read (v ∷ l) → (once && among v read) ≡ false
+unfolding Apart among
+apart-first once read l v a = a v (rw (eq-eqb v v refl))
+
+apart-next : (once : Bool) (read l : List ℕ) (v : ℕ) → Apart once read (v ∷ l) → (once && among v l) ≡ false → Apart once (read ++ (v ∷ [])) l
+unfolding Apart among
+apart-next false read l v a h w m = refl
+apart-next true read l v a h w m =
+    let n : eqb w v ≡ false = ne-eqb w v (λ e. false≢true (sym h ∙ rw e at m)) in
+    rw (among-append w read (v ∷ []), n, a w (rw n m))
+
 -- what follows is read where there are `vars` variables
 module _ {rest s : List ℕ} (vars : ℕ) (few : vars ≤ 16) where
   -- a variable
@@ -114,3 +136,13 @@ module _ {rest s : List ℕ} (vars : ℕ) (few : vars ≤ 16) where
       rw (c .inner, c .same)
       (and-then _ (expression l d (rw (sub-one (suc d)) at x) (rw append-assoc at u)) (λ q v.
       and-then _ (expression r d (rw (sub-one (suc d)) at y) v) (λ z w. ends w))))))
+
+  variables : (once : Bool) (read l : List ℕ) {at : ℕ} {ns : List ℕ} → Apart once read l → variablesWithin vars once l ≡ true
+      → Left rest s at (l ++ ns) → Finds rest s (variablesIn vars once s (length l) read at) (read ++ l) ns
+  unfolding variablesWithin variablesIn
+  variables once read [] a h t = rw (append-nil read) (ends t)
+  variables once read (v ∷ l) a h t =
+      both (ltb v vars) _ h (λ x y. both (not (once && among v l)) _ y (λ z rest-within.
+      and-then _ (a-variable x t) (λ p u.
+      rw (apart-first once read l v a)
+      (rw (append-assoc read (v ∷ []) l) at (variables once (read ++ (v ∷ [])) l (apart-next once read l v a (not-true _ z)) rest-within u)))))
