@@ -3,7 +3,7 @@ use borrow.Author.Tests.{ltb-true, ltb-false, leb-true, leb-false, eqb-true, eqb
 use native.Mathlib.Omega.{arith}
 use native.Mathlib.Numerals.{add-one, sub-one}
 use mathlib.Core.Path.{_≡_, refl, sym, ap, _∙_}
-use mathlib.Core.Bool.{Bool, true, false, cond, not, _&&_, _||_, false≢true, or-assoc}
+use mathlib.Core.Bool.{Bool, true, false, cond, not, _&&_, _||_, false≢true, or-assoc, and-false}
 use mathlib.Core.List.{List, [], _∷_, _++_, append-assoc, append-nil}
 use Prim.Native.Nat.{ℕ, zero, suc, _+_, _-_, _≤_, _<_}
 use lib.ListN.{length, take, drop, length-append, length-drop, take-append-drop}
@@ -113,6 +113,27 @@ apart-next true read l v a h w m =
     let n : eqb w v ≡ false = ne-eqb w v (λ e. false≢true (sym h ∙ rw e at m)) in
     rw (among-append w read (v ∷ []), n, a w (rw n m))
 
+-- What an exchange within the limits keeps to.
+record Exchange (vars : ℕ) (once : Bool) (partner operation : ℕ) (variables : List ℕ) : Type 0 where
+  partner-known : partner < 64
+  operation-known : operation < 64
+  some : 1 ≤ length variables
+  most : length variables ≤ 4
+  each : variablesWithin vars once variables ≡ true
+
+exchange-of : (vars : ℕ) (once : Bool) (partner operation : ℕ) (variables : List ℕ) → exchangeWithin vars once partner operation variables ≡ true
+    → Exchange vars once partner operation variables
+unfolding exchangeWithin
+exchange-of vars once partner operation variables h =
+    both (ltb partner 64) _ h (λ a h1. both (ltb operation 64) _ h1 (λ b h2. both (leb 1 (length variables)) _ h2 (λ c h3.
+    both (leb (length variables) 4) _ h3 (λ d e. record {
+      partner-known = ltb-true _ _ a;
+      operation-known = ltb-true _ _ b;
+      some = leb-true _ _ c;
+      most = leb-true _ _ d;
+      each = e
+    }))))
+
 -- what follows is read where there are `vars` variables
 module _ {rest s : List ℕ} (vars : ℕ) (few : vars ≤ 16) where
   -- a variable
@@ -146,3 +167,84 @@ module _ {rest s : List ℕ} (vars : ℕ) (few : vars ≤ 16) where
       and-then _ (a-variable x t) (λ p u.
       rw (apart-first once read l v a)
       (rw (append-assoc read (v ∷ []) l) at (variables once (read ++ (v ∷ [])) l (apart-next once read l v a (not-true _ z)) rest-within u)))))
+
+  module _ {once : Bool} {partner operation : ℕ} {l : List ℕ} (x : Exchange vars once partner operation l) where
+    tuple : {at : ℕ} {ns : List ℕ} → Left rest s at (length l ∷ (l ++ ns)) → Finds rest s (tupleIn vars once s at) l ns
+    unfolding tupleIn Apart among
+    tuple t = and-then _ (field (x .some) (omega arith) (omega arith) t) (λ p u. variables once [] l (λ w m. and-false once) (x .each) u)
+
+    exchange : (own : ℕ → List ℕ → Own) (within : ℕ) {at : ℕ} {ns : List ℕ} → Left rest s at (operation ∷ length l ∷ (l ++ ns))
+        → Finds rest s (exchangeIn vars once s own within at) (head (own operation l) within) ns
+    unfolding exchangeIn
+    exchange own within t =
+        and-then _ (field (omega arith) (x .operation-known) (omega arith) t) (λ p u. and-then _ (tuple u) (λ q w. ends w))
+
+    with-partner : (own : ℕ → ℕ → List ℕ → Own) {at : ℕ} {ns : List ℕ} → Left rest s at (partner ∷ operation ∷ length l ∷ (l ++ ns))
+        → Finds rest s (partnerIn vars once s own at) (head (own partner operation l) 0) ns
+    unfolding partnerIn
+    with-partner own t =
+        and-then _ (field (omega arith) (x .partner-known) (omega arith) t) (λ p u. exchange (own partner) 0 u)
+
+  an-arm : {partner operation : ℕ} {l : List ℕ} → Exchange vars true partner operation l → {n at : ℕ} {ns : List ℕ} → n < 256
+      → Left rest s at (partner ∷ operation ∷ length l ∷ (l ++ ns)) → Finds rest s (armIn vars s n at) (head (arm partner operation l) 1) ns
+  unfolding armIn
+  an-arm {partner} x room t =
+      and-then _ (field (omega arith) (x .partner-known) (omega arith) t) (λ p u. rw (lt-leb _ _ room) (exchange x (arm partner) 1 u))
+
+  with-expression : (own : Exp → Own) (within : ℕ) (e : Exp) {at : ℕ} {ns : List ℕ} → expressionWithin vars e 8 ≡ true
+      → Left rest s at (expressionNumbers e ++ ns) → Finds rest s (withExpressionIn vars s own within at) (head (own e) within) ns
+  unfolding withExpressionIn
+  with-expression own within e h t = and-then _ (expression e 8 h t) (λ p u. ends u)
+
+  a-set : (cs : List ℕ) (v : ℕ) (e : Exp) {at : ℕ} {ns : List ℕ} → ltb v vars ≡ true → among v cs ≡ false → expressionWithin vars e 8 ≡ true
+      → Left rest s at (v ∷ (expressionNumbers e ++ ns)) → Finds rest s (setIn vars cs s at) (head (set v e) 0) ns
+  unfolding setIn
+  a-set cs v e h k x t = and-then _ (a-variable h t) (λ p u. rw k (with-expression (set v) 0 e x u))
+
+  a-list : (own : Own) (limit within : ℕ) {at : ℕ} {ns : List ℕ} → 1 ≤ within → within < limit → within ≤ 4294967295 → Left rest s at (within ∷ ns)
+      → Finds rest s (listIn s own limit at) (head own within) ns
+  unfolding listIn
+  a-list own limit within a b c t = and-then _ (field a b c t) (λ p u. ends u)
+
+  module _ (handler : Bool) {depth n : ℕ} (levels : 0 < depth) (room : n < 256) where
+    code : {code at : ℕ} {ns : List ℕ} → code ≤ 11 → (handler && eqb code 11) ≡ false → Left rest s at (code ∷ ns)
+        → Finds rest s (codeIn s handler depth n at) code ns
+    unfolding codeIn
+    code h k t =
+        and-then _ (number (omega arith) t) (λ p u. rw (le-ltb _ _ h, k, ne-eqb depth 0 (λ z. omega arith), lt-leb _ _ room) (ends u))
+
+    -- an activity before those within it
+    an-own : (cs : List ℕ) (own : Own) (within : ℕ) {at : ℕ} {ns : List ℕ} → ownWithin vars cs handler false own within ≡ true
+        → Left rest s at (ownNumbers own within ++ ns) → Finds rest s (headIn vars cs s handler depth n at) (head own within) ns
+    unfolding headIn partsIn ownWithin ownNumbers exchangeNumbers
+    an-own cs empty within h t = rw (eqb-true within 0 h) (and-then _ (code (omega arith) (and-false handler) t) (λ p u. ends u))
+    an-own cs (send partner operation l) within h t =
+        both (eqb within 0) _ h (λ z x. rw (eqb-true within 0 z)
+        (and-then _ (code (omega arith) (and-false handler) t) (λ p u. with-partner (exchange-of vars false partner operation l x) send u)))
+    an-own cs (receive partner operation l) within h t =
+        both (eqb within 0) _ h (λ z x. rw (eqb-true within 0 z)
+        (and-then _ (code (omega arith) (and-false handler) t) (λ p u. with-partner (exchange-of vars true partner operation l x) receive u)))
+    an-own cs (set v e) within h t =
+        both (eqb within 0) _ h (λ z h1. both (ltb v vars) _ h1 (λ x h2. both (not (among v cs)) _ h2 (λ y w. rw (eqb-true within 0 z)
+        (and-then _ (code (omega arith) (and-false handler) t) (λ p u. a-set cs v e x (not-true _ y) w u)))))
+    an-own cs raise within h t = rw (eqb-true within 0 h) (and-then _ (code (omega arith) (and-false handler) t) (λ p u. ends u))
+    an-own cs leave within h t = rw (eqb-true within 0 h) (and-then _ (code (omega arith) (and-false handler) t) (λ p u. ends u))
+    an-own cs (choose e) within h t =
+        both (eqb within 2) _ h (λ z x. rw (eqb-true within 2 z)
+        (and-then _ (code (omega arith) (and-false handler) t) (λ p u. with-expression choose 2 e x u)))
+    an-own cs (repeat e) within h t =
+        both (eqb within 1) _ h (λ z x. rw (eqb-true within 1 z)
+        (and-then _ (code (omega arith) (and-false handler) t) (λ p u. with-expression repeat 1 e x u)))
+    an-own cs sequence within h t =
+        both (leb 1 within) _ h (λ x y. let l = leb-true 1 within x in let m = leb-true within 32 y in
+        and-then _ (code (omega arith) (and-false handler) t) (λ p u. a-list sequence 33 within l (omega arith) (omega arith) u))
+    an-own cs flow within h t =
+        both (leb 1 within) _ h (λ x y. let l = leb-true 1 within x in let m = leb-true within 32 y in
+        and-then _ (code (omega arith) (and-false handler) t) (λ p u. a-list flow 33 within l (omega arith) (omega arith) u))
+    an-own cs pick within h t =
+        both (leb 1 within) _ h (λ x y. let l = leb-true 1 within x in let m = leb-true within 8 y in
+        and-then _ (code (omega arith) (and-false handler) t) (λ p u. a-list pick 9 within l (omega arith) (omega arith) u))
+    an-own cs scope within h t =
+        both (eqb within 3) _ h (λ z x. rw (eqb-true within 3 z)
+        (and-then _ (code (omega arith) (rw (not-true handler x)) t) (λ p u. ends u)))
+    an-own cs (arm partner operation l) within h t = absurd (false≢true h)
