@@ -1,7 +1,7 @@
 -- The spelling of every plan within the limits is accepted as that plan. Assumes nothing.
 use borrow.Author.Tests.{ltb-true, ltb-false, leb-true, leb-false, eqb-true, eqb-false, not-true, le-ltb, lt-ltb, le-leb, lt-leb, eq-eqb, ne-eqb}
 use native.Mathlib.Omega.{arith}
-use native.Mathlib.Numerals.{add-one, sub-one}
+use native.Mathlib.Numerals.{one-add, sub-one}
 use mathlib.Core.Path.{_≡_, refl, sym, ap, _∙_}
 use mathlib.Core.Bool.{Bool, true, false, cond, not, _&&_, _||_, false≢true, or-assoc, and-false}
 use mathlib.Core.List.{List, [], _∷_, _++_, append-assoc, append-nil}
@@ -201,10 +201,14 @@ module _ {rest s : List ℕ} (vars : ℕ) (few : vars ≤ 16) where
   unfolding setIn
   a-set cs v e h k x t = and-then _ (a-variable h t) (λ p u. rw k (with-expression (set v) 0 e x u))
 
-  a-list : (own : Own) (limit within : ℕ) {at : ℕ} {ns : List ℕ} → 1 ≤ within → within < limit → within ≤ 4294967295 → Left rest s at (within ∷ ns)
-      → Finds rest s (listIn s own limit at) (head own within) ns
+  a-list : (own : Own) (limit within : ℕ) {at : ℕ} {ns : List ℕ} → from1 limit within ≡ true → limit ≤ 32 → Left rest s at (within ∷ ns)
+      → Finds rest s (listIn s own (limit + 1) at) (head own within) ns
   unfolding listIn
-  a-list own limit within a b c t = and-then _ (field a b c t) (λ p u. ends u)
+  a-list own limit within h k t =
+      both (leb 1 within) _ h (λ x y.
+      let l = leb-true 1 within x in
+      let m = leb-true within limit y in
+      and-then _ (field l (omega arith) (omega arith) t) (λ p u. ends u))
 
   module _ (handler : Bool) {depth n : ℕ} (levels : 0 < depth) (room : n < 256) where
     code : {code at : ℕ} {ns : List ℕ} → code ≤ 11 → (handler && eqb code 11) ≡ false → Left rest s at (code ∷ ns)
@@ -213,38 +217,103 @@ module _ {rest s : List ℕ} (vars : ℕ) (few : vars ≤ 16) where
     code h k t =
         and-then _ (number (omega arith) t) (λ p u. rw (le-ltb _ _ h, k, ne-eqb depth 0 (λ z. omega arith), lt-leb _ _ room) (ends u))
 
+    -- an activity's code, and what follows it
+    coded : (cs : List ℕ) {code at : ℕ} {h : Head} {ms ns : List ℕ} → code ≤ 10 → Left rest s at (code ∷ ms)
+        → ((p : ℕ) → Left rest s p ms → Finds rest s (partsIn vars cs s code p) h ns) → Finds rest s (headIn vars cs s handler depth n at) h ns
+    unfolding headIn
+    coded cs {code = c} k t parts = and-then _ (code (omega arith) (rw (ne-eqb c 11 (λ z. omega arith)) (and-false handler)) t) parts
+
     -- an activity before those within it
     an-own : (cs : List ℕ) (own : Own) (within : ℕ) {at : ℕ} {ns : List ℕ} → ownWithin vars cs handler false own within ≡ true
         → Left rest s at (ownNumbers own within ++ ns) → Finds rest s (headIn vars cs s handler depth n at) (head own within) ns
     unfolding headIn partsIn ownWithin ownNumbers exchangeNumbers
-    an-own cs empty within h t = rw (eqb-true within 0 h) (and-then _ (code (omega arith) (and-false handler) t) (λ p u. ends u))
+    an-own cs empty within h t = rw (eqb-true within 0 h) (coded cs (omega arith) t (λ p u. ends u))
     an-own cs (send partner operation l) within h t =
         both (eqb within 0) _ h (λ z x. rw (eqb-true within 0 z)
-        (and-then _ (code (omega arith) (and-false handler) t) (λ p u. with-partner (exchange-of vars false partner operation l x) send u)))
+        (coded cs (omega arith) t (λ p u. with-partner (exchange-of vars false partner operation l x) send u)))
     an-own cs (receive partner operation l) within h t =
         both (eqb within 0) _ h (λ z x. rw (eqb-true within 0 z)
-        (and-then _ (code (omega arith) (and-false handler) t) (λ p u. with-partner (exchange-of vars true partner operation l x) receive u)))
+        (coded cs (omega arith) t (λ p u. with-partner (exchange-of vars true partner operation l x) receive u)))
     an-own cs (set v e) within h t =
         both (eqb within 0) _ h (λ z h1. both (ltb v vars) _ h1 (λ x h2. both (not (among v cs)) _ h2 (λ y w. rw (eqb-true within 0 z)
-        (and-then _ (code (omega arith) (and-false handler) t) (λ p u. a-set cs v e x (not-true _ y) w u)))))
-    an-own cs raise within h t = rw (eqb-true within 0 h) (and-then _ (code (omega arith) (and-false handler) t) (λ p u. ends u))
-    an-own cs leave within h t = rw (eqb-true within 0 h) (and-then _ (code (omega arith) (and-false handler) t) (λ p u. ends u))
+        (coded cs (omega arith) t (λ p u. a-set cs v e x (not-true _ y) w u)))))
+    an-own cs raise within h t = rw (eqb-true within 0 h) (coded cs (omega arith) t (λ p u. ends u))
+    an-own cs leave within h t = rw (eqb-true within 0 h) (coded cs (omega arith) t (λ p u. ends u))
     an-own cs (choose e) within h t =
-        both (eqb within 2) _ h (λ z x. rw (eqb-true within 2 z)
-        (and-then _ (code (omega arith) (and-false handler) t) (λ p u. with-expression choose 2 e x u)))
+        both (eqb within 2) _ h (λ z x. rw (eqb-true within 2 z) (coded cs (omega arith) t (λ p u. with-expression choose 2 e x u)))
     an-own cs (repeat e) within h t =
-        both (eqb within 1) _ h (λ z x. rw (eqb-true within 1 z)
-        (and-then _ (code (omega arith) (and-false handler) t) (λ p u. with-expression repeat 1 e x u)))
-    an-own cs sequence within h t =
-        both (leb 1 within) _ h (λ x y. let l = leb-true 1 within x in let m = leb-true within 32 y in
-        and-then _ (code (omega arith) (and-false handler) t) (λ p u. a-list sequence 33 within l (omega arith) (omega arith) u))
-    an-own cs flow within h t =
-        both (leb 1 within) _ h (λ x y. let l = leb-true 1 within x in let m = leb-true within 32 y in
-        and-then _ (code (omega arith) (and-false handler) t) (λ p u. a-list flow 33 within l (omega arith) (omega arith) u))
-    an-own cs pick within h t =
-        both (leb 1 within) _ h (λ x y. let l = leb-true 1 within x in let m = leb-true within 8 y in
-        and-then _ (code (omega arith) (and-false handler) t) (λ p u. a-list pick 9 within l (omega arith) (omega arith) u))
+        both (eqb within 1) _ h (λ z x. rw (eqb-true within 1 z) (coded cs (omega arith) t (λ p u. with-expression repeat 1 e x u)))
+    an-own cs sequence within h t = coded cs (omega arith) t (λ p u. a-list sequence 32 within h (omega arith) u)
+    an-own cs flow within h t = coded cs (omega arith) t (λ p u. a-list flow 32 within h (omega arith) u)
+    an-own cs pick within h t = coded cs (omega arith) t (λ p u. a-list pick 8 within h (omega arith) u)
     an-own cs scope within h t =
         both (eqb within 3) _ h (λ z x. rw (eqb-true within 3 z)
         (and-then _ (code (omega arith) (rw (not-true handler x)) t) (λ p u. ends u)))
     an-own cs (arm partner operation l) within h t = absurd (false≢true h)
+
+  -- an arm before the activity within it
+  an-arm-own : (cs : List ℕ) (handler : Bool) (own : Own) (within : ℕ) {n at : ℕ} {ns : List ℕ} → n < 256 → ownWithin vars cs handler true own within ≡ true
+      → Left rest s at (ownNumbers own within ++ ns) → (kind own ≡ 12) × Finds rest s (armIn vars s n at) (head own within) ns
+  unfolding ownWithin ownNumbers exchangeNumbers kind
+  an-arm-own cs handler (arm partner operation l) within room h t =
+      (refl, both (eqb within 1) _ h (λ z x. rw (eqb-true within 1 z) (an-arm (exchange-of vars true partner operation l x) room t)))
+  an-arm-own cs handler empty within room h t = absurd (false≢true h)
+  an-arm-own cs handler (send partner operation l) within room h t = absurd (false≢true h)
+  an-arm-own cs handler (receive partner operation l) within room h t = absurd (false≢true h)
+  an-arm-own cs handler (set v e) within room h t = absurd (false≢true h)
+  an-arm-own cs handler raise within room h t = absurd (false≢true h)
+  an-arm-own cs handler leave within room h t = absurd (false≢true h)
+  an-arm-own cs handler (choose e) within room h t = absurd (false≢true h)
+  an-arm-own cs handler (repeat e) within room h t = absurd (false≢true h)
+  an-arm-own cs handler sequence within room h t = absurd (false≢true h)
+  an-arm-own cs handler flow within room h t = absurd (false≢true h)
+  an-arm-own cs handler pick within room h t = absurd (false≢true h)
+  an-arm-own cs handler scope within room h t = absurd (false≢true h)
+
+-- Activities and arms with those within them.
+
+-- what reads an arm, or an activity, with `depth` levels left
+abbrev reader : (vars : ℕ) (cs s : List ℕ) (arms : Bool) (depth : ℕ) → Bool → ℕ → ℕ → Found Act
+reader vars cs s arms depth = cond arms (readArm (readAct depth vars cs s) vars s) (readAct depth vars cs s)
+
+module _ (rest s : List ℕ) (vars : ℕ) (few : vars ≤ 16) (cs : List ℕ) where
+  Accepted : Act → Type 0
+  Accepted a = (arms handler : Bool) (depth n at : ℕ) (ns : List ℕ) → n + size a ≤ 256 → actWithin vars cs handler arms a depth ≡ true
+      → Left rest s at (actNumbers a ++ ns) → Finds rest s (reader vars cs s arms depth handler n at) a ns
+
+  AllAccepted : Acts → Type 0
+  AllAccepted l = (arms handler later : Bool) (depth n at : ℕ) (ns : List ℕ) → n + sizes l ≤ 256
+      → actsWithin vars cs handler later arms l depth ≡ true
+      → Left rest s at (actsNumbers l ++ ns) → Finds rest s (manyIn (reader vars cs s arms depth) handler later (count l) n at) l ns
+
+  act-accepted : (own : Own) (l : Acts) → AllAccepted l → Accepted (act own l)
+  unfolding Accepted AllAccepted actWithin actNumbers size readAct readArm
+  act-accepted own l all true handler depth n at ns room h t =
+      both (ownWithin vars cs handler true own (count l)) _ h (λ x y.
+      let (k, o) = an-arm-own vars few cs handler own (count l) (omega arith) x (rw append-assoc at t) in
+      and-then _ o (λ p u. and-then _ (all false handler handler depth (n + 1) p ns (omega arith) (rw k at y) u) (λ q w. ends w)))
+  act-accepted own l all false handler zero n at ns room h t = absurd (false≢true h)
+  act-accepted own l all false handler (suc d) n at ns room h t =
+      both (ltb 0 (suc d)) _ h (λ _ h1. both (ownWithin vars cs handler false own (count l)) _ h1 (λ x y.
+      and-then _ (an-own vars few handler (omega arith) (omega arith) cs own (count l) x (rw append-assoc at t)) (λ p u.
+      and-then _ (all (eqb (kind own) 10) handler (laterOf own handler) d (n + 1) p ns (omega arith) (rw (sub-one (suc d)) at y) u) (λ q w. ends w))))
+
+  more-accepted : (a : Act) (l : Acts) → Accepted a → AllAccepted l → AllAccepted (more a l)
+  unfolding Accepted AllAccepted actsWithin actsNumbers sizes count manyIn
+  more-accepted a l one all arms handler later depth n at ns room h t =
+      both (actWithin vars cs handler arms a depth) _ h (λ x y.
+      rw (one-add (count l))
+      (and-then _ (one arms handler depth n at (actsNumbers l ++ ns) (omega arith) x (rw append-assoc at t)) (λ p u.
+      and-then _ (all arms later later depth (n + size a) p ns (omega arith) y u) (λ q w. ends w))))
+
+  none-accepted : AllAccepted none
+  unfolding AllAccepted actsNumbers count manyIn
+  none-accepted arms handler later depth n at ns room h t = ends t
+
+  mutual
+    accepted : (a : Act) → Accepted a
+    accepted (act own l) = act-accepted own l (all-accepted l)
+
+    all-accepted : (l : Acts) → AllAccepted l
+    all-accepted none = none-accepted
+    all-accepted (more a l) = more-accepted a l (accepted a) (all-accepted l)
