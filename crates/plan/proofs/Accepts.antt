@@ -317,3 +317,91 @@ module _ (rest s : List ℕ) (vars : ℕ) (few : vars ≤ 16) (cs : List ℕ) wh
     all-accepted : (l : Acts) → AllAccepted l
     all-accepted none = none-accepted
     all-accepted (more a l) = more-accepted a l (accepted a) (all-accepted l)
+
+-- Plans.
+
+-- each of the correlation variables is above the one before, so that there are no more of them than variables
+ascending-few : (vars least : ℕ) (l : List ℕ) → least ≤ vars → ascending vars least l ≡ true → least + length l ≤ vars
+unfolding ascending
+ascending-few vars least [] k h = omega arith
+ascending-few vars least (v ∷ l) k h =
+    both (leb least v) _ h (λ x h1. both (ltb v vars) _ h1 (λ y z.
+    let a = leb-true least v x in
+    let b = ltb-true v vars y in
+    omega (arith, ascending-few vars (v + 1) l (omega arith) z)))
+
+correlation : {rest s : List ℕ} (vars : ℕ) → vars ≤ 16 → (least : ℕ) (read l : List ℕ) {at : ℕ} {ns : List ℕ} → ascending vars least l ≡ true
+    → Left rest s at (l ++ ns) → Finds rest s (correlationIn vars s (length l) least read at) (read ++ l) ns
+unfolding ascending correlationIn
+correlation vars few least read [] h t = rw (append-nil read) (ends t)
+correlation vars few least read (v ∷ l) h t =
+    both (leb least v) _ h (λ x h1. both (ltb v vars) _ h1 (λ y z.
+    let b = ltb-true v vars y in
+    and-then _ (field (leb-true least v x) b (omega arith) t) (λ p u.
+    rw (append-assoc read (v ∷ []) l) at (correlation vars few (v + 1) (read ++ (v ∷ [])) l z u))))
+
+-- What a plan within the limits keeps to.
+record Limits (p : Plan) : Type 0 where
+  short : length (spelling p) ≤ 4096
+  some : 1 ≤ p .variables
+  few : p .variables ≤ 16
+  ordered : ascending (p .variables) 0 (p .correlation) ≡ true
+  body : actWithin (p .variables) (p .correlation) false false (p .body) 16 ≡ true
+  fault : actWithin (p .variables) (p .correlation) true false (p .fault) 16 ≡ true
+  room : size (p .body) + size (p .fault) ≤ 256
+  start : startForm (p .body) ≡ true
+
+limits : (p : Plan) → planWithin p ≡ true → Limits p
+unfolding planWithin
+limits p h =
+    both (leb (length (spelling p)) 4096) _ h (λ a h1.
+    both (from1 16 (p .variables)) _ h1 (λ b h2.
+    both (leb 1 (p .variables)) _ b (λ b1 b2.
+    both (ascending (p .variables) 0 (p .correlation)) _ h2 (λ c h3.
+    both (actWithin (p .variables) (p .correlation) false false (p .body) 16) _ h3 (λ d h4.
+    both (actWithin (p .variables) (p .correlation) true false (p .fault) 16) _ h4 (λ e h5.
+    both (leb (size (p .body) + size (p .fault)) 256) _ h5 (λ f g. record {
+      short = leb-true _ _ a;
+      some = leb-true _ _ b1;
+      few = leb-true _ _ b2;
+      ordered = c;
+      body = d;
+      fault = e;
+      room = leb-true _ _ f;
+      start = g
+    })))))))
+
+-- where nothing is left, the bytes end
+at-end : (s : List ℕ) (at : ℕ) → Left [] s at [] → at ≡ length s
+unfolding spell
+at-end s at t =
+    let l : length s - at ≡ 0 = simp length-drop at (ap length (t .there)) in
+    omega (arith, t .inside)
+
+module _ (p : Plan) (l : Limits p) where
+  root : {s : List ℕ} {at : ℕ} → Left [] s at (actNumbers (p .body) ++ actNumbers (p .fault))
+      → Finds [] s (rootIn (p .variables) (p .correlation) s at) p []
+  unfolding rootIn Accepted
+  root {s} {at} t =
+      let read = accepted [] s (p .variables) (l .few) (p .correlation) in
+      and-then _ (read (p .body) false false 16 0 at (actNumbers (p .fault)) (omega arith) (l .body) t) (λ q u.
+      and-then _ (read (p .fault) false true 16 (size (p .body)) q [] (l .room) (l .fault) (rw (append-nil (actNumbers (p .fault))) u)) (λ e w.
+      rw (le-ltb e (length s) (omega (arith, at-end s e w)), l .start) (ends w)))
+
+  plan : {s : List ℕ} → length s ≤ 4096 → Left [] s 0 (planNumbers p) → Finds [] s (readPlan s) p []
+  unfolding readPlan versionIn planNumbers
+  plan {s} short t =
+      let many = ascending-few (p .variables) 0 (p .correlation) (omega arith) (l .ordered) in
+      rw (le-ltb 4096 (length s) short)
+      (and-then _ (and-then _ (number (omega arith) t) (λ q u. ends u)) (λ a t1.
+      and-then _ (field (l .some) (omega arith) (omega arith) t1) (λ b t2.
+      and-then _ (field (omega arith) (omega arith) (omega arith) t2) (λ c t3.
+      and-then _ (correlation (p .variables) (l .few) 0 [] (p .correlation) (l .ordered) t3) (λ d t4. root t4)))))
+
+-- The spelling of a plan within the limits is accepted as that plan.
+pub spelled-is-accepted : (p : Plan) → planWithin p ≡ true → readPlan (spelling p) ≡ found p (length (spelling p))
+unfolding spelling
+spelled-is-accepted p h =
+    let l = limits p h in
+    let r = plan p l (l .short) (record { inside = omega arith; there = sym (append-nil (spell (planNumbers p))) }) in
+    rw (at-end (spelling p) (r .next) (r .after)) at (r .finds)
