@@ -30,21 +30,21 @@ record Left (rest s : List ℕ) (at : ℕ) (ns : List ℕ) : Type 0 where
   there : drop at s ≡ spell ns ++ rest
 
 -- That reading finds a, and that ns are left after it.
-record Finds (rest s : List ℕ) {A : Type 0} (o : Found A) (a : A) (ns : List ℕ) : Type 0 where
+record Gives (rest s : List ℕ) {A : Type 0} (o : Found A) (a : A) (ns : List ℕ) : Type 0 where
   next : ℕ
   finds : o ≡ found a next
   after : Left rest s next ns
 
 module _ {rest s : List ℕ} where
   -- reading that goes on
-  and-then : {A B : Type 0} {o : Found A} (f : A → ℕ → Found B) {a : A} {b : B} {ms ns : List ℕ} → Finds rest s o a ms
-      → ((at : ℕ) → Left rest s at ms → Finds rest s (f a at) b ns) → Finds rest s (andThen o f) b ns
+  and-then : {A B : Type 0} {o : Found A} (f : A → ℕ → Found B) {a : A} {b : B} {ms ns : List ℕ} → Gives rest s o a ms
+      → ((at : ℕ) → Left rest s at ms → Gives rest s (f a at) b ns) → Gives rest s (andThen o f) b ns
   and-then f r g =
       let q = g (r .next) (r .after) in
       record { next = q .next; finds = rw (r .finds) (q .finds); after = q .after }
 
   -- reading that ends
-  ends : {A : Type 0} {a : A} {ns : List ℕ} {at : ℕ} → Left rest s at ns → Finds rest s (found a at) a ns
+  ends : {A : Type 0} {a : A} {ns : List ℕ} {at : ℕ} → Left rest s at ns → Gives rest s (found a at) a ns
   ends {at = at} t = record { next = at; finds = refl; after = t }
 
 -- a number, at the place where its spelling starts
@@ -55,7 +55,7 @@ number-at s r at v i e h =
     rw (l, w) at (shortest-is-read (take at s) r v h)
 
 module _ {rest s : List ℕ} {at : ℕ} {ns : List ℕ} where
-  number : {v : ℕ} → v ≤ 4294967295 → Left rest s at (v ∷ ns) → Finds rest s (numberIn s at) v ns
+  number : {v : ℕ} → v ≤ 4294967295 → Left rest s at (v ∷ ns) → Gives rest s (numberIn s at) v ns
   unfolding numberIn spell
   number {v} h t =
       let e : drop at s ≡ shortest v ++ (spell ns ++ rest) = t .there ∙ append-assoc (shortest v) (spell ns) rest in
@@ -69,7 +69,7 @@ module _ {rest s : List ℕ} {at : ℕ} {ns : List ℕ} where
         }
       }
 
-  field : {least limit v : ℕ} → least ≤ v → v < limit → v ≤ 4294967295 → Left rest s at (v ∷ ns) → Finds rest s (fieldIn s least limit at) v ns
+  field : {least limit v : ℕ} → least ≤ v → v < limit → v ≤ 4294967295 → Left rest s at (v ∷ ns) → Gives rest s (fieldIn s least limit at) v ns
   unfolding fieldIn
   field l m h t = and-then _ (number h t) (λ next u. rw (le-ltb _ _ l, lt-leb _ _ m) (ends u))
 
@@ -87,7 +87,7 @@ code-of difference = record { known = omega arith; inner = refl; same = refl }
 code-of equal = record { known = omega arith; inner = refl; same = refl }
 code-of less = record { known = omega arith; inner = refl; same = refl }
 
-expression-code : {rest s : List ℕ} {at code : ℕ} {ns : List ℕ} → code ≤ 5 → Left rest s at (code ∷ ns) → Finds rest s (expressionCodeIn s at) code ns
+expression-code : {rest s : List ℕ} {at code : ℕ} {ns : List ℕ} → code ≤ 5 → Left rest s at (code ∷ ns) → Gives rest s (expressionCodeIn s at) code ns
 unfolding expressionCodeIn
 expression-code h t = and-then _ (number (omega arith) t) (λ next u. rw (le-ltb _ _ h) (ends u))
 
@@ -137,11 +137,11 @@ exchange-of vars once partner operation variables h =
 -- what follows is read where there are `vars` variables
 module _ {rest s : List ℕ} (vars : ℕ) (few : vars ≤ 16) where
   -- a variable
-  a-variable : {at v : ℕ} {ns : List ℕ} → ltb v vars ≡ true → Left rest s at (v ∷ ns) → Finds rest s (fieldIn s 0 vars at) v ns
+  a-variable : {at v : ℕ} {ns : List ℕ} → ltb v vars ≡ true → Left rest s at (v ∷ ns) → Gives rest s (fieldIn s 0 vars at) v ns
   a-variable {v = v} h t = let l = ltb-true v vars h in field (omega arith) l (omega arith) t
 
   expression : (e : Exp) (depth : ℕ) {at : ℕ} {ns : List ℕ} → expressionWithin vars e depth ≡ true → Left rest s at (expressionNumbers e ++ ns)
-      → Finds rest s (expressionIn depth vars s at) e ns
+      → Gives rest s (expressionIn depth vars s at) e ns
   unfolding expressionWithin expressionNumbers expressionIn leafIn
   expression (constant value) zero h t = absurd (false≢true h)
   expression (variable v) zero h t = absurd (false≢true h)
@@ -159,7 +159,7 @@ module _ {rest s : List ℕ} (vars : ℕ) (few : vars ≤ 16) where
       and-then _ (expression r d (rw (sub-one (suc d)) at y) v) (λ z w. ends w))))))
 
   variables : (once : Bool) (read l : List ℕ) {at : ℕ} {ns : List ℕ} → Apart once read l → variablesWithin vars once l ≡ true
-      → Left rest s at (l ++ ns) → Finds rest s (variablesIn vars once s (length l) read at) (read ++ l) ns
+      → Left rest s at (l ++ ns) → Gives rest s (variablesIn vars once s (length l) read at) (read ++ l) ns
   unfolding variablesWithin variablesIn
   variables once read [] a h t = rw (append-nil read) (ends t)
   variables once read (v ∷ l) a h t =
@@ -169,40 +169,40 @@ module _ {rest s : List ℕ} (vars : ℕ) (few : vars ≤ 16) where
       (rw (append-assoc read (v ∷ []) l) at (variables once (read ++ (v ∷ [])) l (apart-next once read l v a (not-true _ z)) rest-within u)))))
 
   module _ {once : Bool} {partner operation : ℕ} {l : List ℕ} (x : Exchange vars once partner operation l) where
-    tuple : {at : ℕ} {ns : List ℕ} → Left rest s at (length l ∷ (l ++ ns)) → Finds rest s (tupleIn vars once s at) l ns
+    tuple : {at : ℕ} {ns : List ℕ} → Left rest s at (length l ∷ (l ++ ns)) → Gives rest s (tupleIn vars once s at) l ns
     unfolding tupleIn Apart among
     tuple t = and-then _ (field (x .some) (omega arith) (omega arith) t) (λ p u. variables once [] l (λ w m. and-false once) (x .each) u)
 
     exchange : (own : ℕ → List ℕ → Own) (within : ℕ) {at : ℕ} {ns : List ℕ} → Left rest s at (operation ∷ length l ∷ (l ++ ns))
-        → Finds rest s (exchangeIn vars once s own within at) (head (own operation l) within) ns
+        → Gives rest s (exchangeIn vars once s own within at) (head (own operation l) within) ns
     unfolding exchangeIn
     exchange own within t =
         and-then _ (field (omega arith) (x .operation-known) (omega arith) t) (λ p u. and-then _ (tuple u) (λ q w. ends w))
 
     with-partner : (own : ℕ → ℕ → List ℕ → Own) {at : ℕ} {ns : List ℕ} → Left rest s at (partner ∷ operation ∷ length l ∷ (l ++ ns))
-        → Finds rest s (partnerIn vars once s own at) (head (own partner operation l) 0) ns
+        → Gives rest s (partnerIn vars once s own at) (head (own partner operation l) 0) ns
     unfolding partnerIn
     with-partner own t =
         and-then _ (field (omega arith) (x .partner-known) (omega arith) t) (λ p u. exchange (own partner) 0 u)
 
   an-arm : {partner operation : ℕ} {l : List ℕ} → Exchange vars true partner operation l → {n at : ℕ} {ns : List ℕ} → n < 256
-      → Left rest s at (partner ∷ operation ∷ length l ∷ (l ++ ns)) → Finds rest s (armIn vars s n at) (head (arm partner operation l) 1) ns
+      → Left rest s at (partner ∷ operation ∷ length l ∷ (l ++ ns)) → Gives rest s (armIn vars s n at) (head (arm partner operation l) 1) ns
   unfolding armIn
   an-arm {partner} x room t =
       and-then _ (field (omega arith) (x .partner-known) (omega arith) t) (λ p u. rw (lt-leb _ _ room) (exchange x (arm partner) 1 u))
 
   with-expression : (own : Exp → Own) (within : ℕ) (e : Exp) {at : ℕ} {ns : List ℕ} → expressionWithin vars e 8 ≡ true
-      → Left rest s at (expressionNumbers e ++ ns) → Finds rest s (withExpressionIn vars s own within at) (head (own e) within) ns
+      → Left rest s at (expressionNumbers e ++ ns) → Gives rest s (withExpressionIn vars s own within at) (head (own e) within) ns
   unfolding withExpressionIn
   with-expression own within e h t = and-then _ (expression e 8 h t) (λ p u. ends u)
 
   a-set : (cs : List ℕ) (v : ℕ) (e : Exp) {at : ℕ} {ns : List ℕ} → ltb v vars ≡ true → among v cs ≡ false → expressionWithin vars e 8 ≡ true
-      → Left rest s at (v ∷ (expressionNumbers e ++ ns)) → Finds rest s (setIn vars cs s at) (head (set v e) 0) ns
+      → Left rest s at (v ∷ (expressionNumbers e ++ ns)) → Gives rest s (setIn vars cs s at) (head (set v e) 0) ns
   unfolding setIn
   a-set cs v e h k x t = and-then _ (a-variable h t) (λ p u. rw k (with-expression (set v) 0 e x u))
 
   a-list : (own : Own) (limit within : ℕ) {at : ℕ} {ns : List ℕ} → from1 limit within ≡ true → limit ≤ 32 → Left rest s at (within ∷ ns)
-      → Finds rest s (listIn s own (limit + 1) at) (head own within) ns
+      → Gives rest s (listIn s own (limit + 1) at) (head own within) ns
   unfolding listIn
   a-list own limit within h k t =
       both (leb 1 within) _ h (λ x y.
@@ -212,20 +212,20 @@ module _ {rest s : List ℕ} (vars : ℕ) (few : vars ≤ 16) where
 
   module _ (handler : Bool) {depth n : ℕ} (levels : 0 < depth) (room : n < 256) where
     code : {code at : ℕ} {ns : List ℕ} → code ≤ 11 → (handler && eqb code 11) ≡ false → Left rest s at (code ∷ ns)
-        → Finds rest s (codeIn s handler depth n at) code ns
+        → Gives rest s (codeIn s handler depth n at) code ns
     unfolding codeIn
     code h k t =
         and-then _ (number (omega arith) t) (λ p u. rw (le-ltb _ _ h, k, ne-eqb depth 0 (λ z. omega arith), lt-leb _ _ room) (ends u))
 
     -- an activity's code, and what follows it
     coded : (cs : List ℕ) {code at : ℕ} {h : Head} {ms ns : List ℕ} → code ≤ 10 → Left rest s at (code ∷ ms)
-        → ((p : ℕ) → Left rest s p ms → Finds rest s (partsIn vars cs s code p) h ns) → Finds rest s (headIn vars cs s handler depth n at) h ns
+        → ((p : ℕ) → Left rest s p ms → Gives rest s (partsIn vars cs s code p) h ns) → Gives rest s (headIn vars cs s handler depth n at) h ns
     unfolding headIn
     coded cs {code = c} k t parts = and-then _ (code (omega arith) (rw (ne-eqb c 11 (λ z. omega arith)) (and-false handler)) t) parts
 
     -- an activity before those within it
     an-own : (cs : List ℕ) (own : Own) (within : ℕ) {at : ℕ} {ns : List ℕ} → ownWithin vars cs handler false own within ≡ true
-        → Left rest s at (ownNumbers own within ++ ns) → Finds rest s (headIn vars cs s handler depth n at) (head own within) ns
+        → Left rest s at (ownNumbers own within ++ ns) → Gives rest s (headIn vars cs s handler depth n at) (head own within) ns
     unfolding headIn partsIn ownWithin ownNumbers exchangeNumbers
     an-own cs empty within h t = rw (eqb-true within 0 h) (coded cs (omega arith) t (λ p u. ends u))
     an-own cs (send partner operation l) within h t =
@@ -253,7 +253,7 @@ module _ {rest s : List ℕ} (vars : ℕ) (few : vars ≤ 16) where
 
   -- an arm before the activity within it
   an-arm-own : (cs : List ℕ) (handler : Bool) (own : Own) (within : ℕ) {n at : ℕ} {ns : List ℕ} → n < 256 → ownWithin vars cs handler true own within ≡ true
-      → Left rest s at (ownNumbers own within ++ ns) → (kind own ≡ 12) × Finds rest s (armIn vars s n at) (head own within) ns
+      → Left rest s at (ownNumbers own within ++ ns) → (kind own ≡ 12) × Gives rest s (armIn vars s n at) (head own within) ns
   unfolding ownWithin ownNumbers exchangeNumbers kind
   an-arm-own cs handler (arm partner operation l) within room h t =
       (refl, both (eqb within 1) _ h (λ z x. rw (eqb-true within 1 z) (an-arm (exchange-of vars true partner operation l x) room t)))
@@ -279,12 +279,12 @@ reader vars cs s arms depth = cond arms (readArm (readAct depth vars cs s) vars 
 module _ (rest s : List ℕ) (vars : ℕ) (few : vars ≤ 16) (cs : List ℕ) where
   Accepted : Act → Type 0
   Accepted a = (arms handler : Bool) (depth n at : ℕ) (ns : List ℕ) → n + size a ≤ 256 → actWithin vars cs handler arms a depth ≡ true
-      → Left rest s at (actNumbers a ++ ns) → Finds rest s (reader vars cs s arms depth handler n at) a ns
+      → Left rest s at (actNumbers a ++ ns) → Gives rest s (reader vars cs s arms depth handler n at) a ns
 
   AllAccepted : Acts → Type 0
   AllAccepted l = (arms handler later : Bool) (depth n at : ℕ) (ns : List ℕ) → n + sizes l ≤ 256
       → actsWithin vars cs handler later arms l depth ≡ true
-      → Left rest s at (actsNumbers l ++ ns) → Finds rest s (manyIn (reader vars cs s arms depth) handler later (count l) n at) l ns
+      → Left rest s at (actsNumbers l ++ ns) → Gives rest s (manyIn (reader vars cs s arms depth) handler later (count l) n at) l ns
 
   act-accepted : (own : Own) (l : Acts) → AllAccepted l → Accepted (act own l)
   unfolding Accepted AllAccepted actWithin actNumbers size readAct readArm
@@ -331,7 +331,7 @@ ascending-few vars least (v ∷ l) k h =
     omega (arith, ascending-few vars (v + 1) l (omega arith) z)))
 
 correlation : {rest s : List ℕ} (vars : ℕ) → vars ≤ 16 → (least : ℕ) (read l : List ℕ) {at : ℕ} {ns : List ℕ} → ascending vars least l ≡ true
-    → Left rest s at (l ++ ns) → Finds rest s (correlationIn vars s (length l) least read at) (read ++ l) ns
+    → Left rest s at (l ++ ns) → Gives rest s (correlationIn vars s (length l) least read at) (read ++ l) ns
 unfolding ascending correlationIn
 correlation vars few least read [] h t = rw (append-nil read) (ends t)
 correlation vars few least read (v ∷ l) h t =
@@ -380,7 +380,7 @@ at-end s at t =
 
 module _ (p : Plan) (l : Limits p) where
   root : {s : List ℕ} {at : ℕ} → Left [] s at (actNumbers (p .body) ++ actNumbers (p .fault))
-      → Finds [] s (rootIn (p .variables) (p .correlation) s at) p []
+      → Gives [] s (rootIn (p .variables) (p .correlation) s at) p []
   unfolding rootIn Accepted
   root {s} {at} t =
       let read = accepted [] s (p .variables) (l .few) (p .correlation) in
@@ -388,7 +388,7 @@ module _ (p : Plan) (l : Limits p) where
       and-then _ (read (p .fault) false true 16 (size (p .body)) q [] (l .room) (l .fault) (rw (append-nil (actNumbers (p .fault))) u)) (λ e w.
       rw (le-ltb e (length s) (omega (arith, at-end s e w)), l .start) (ends w)))
 
-  plan : {s : List ℕ} → length s ≤ 4096 → Left [] s 0 (planNumbers p) → Finds [] s (readPlan s) p []
+  plan : {s : List ℕ} → length s ≤ 4096 → Left [] s 0 (planNumbers p) → Gives [] s (readPlan s) p []
   unfolding readPlan versionIn planNumbers
   plan {s} short t =
       let many = ascending-few (p .variables) 0 (p .correlation) (omega arith) (l .ordered) in
