@@ -1,0 +1,3 @@
+-- What other crates' proofs cite of this one.
+pub mod Finds
+pub mod Stands
