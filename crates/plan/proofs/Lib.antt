@@ -1,3 +1,4 @@
 -- What other crates' proofs cite of this one.
 pub mod Finds
 pub mod Stands
+pub mod Spelled

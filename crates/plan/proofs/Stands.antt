@@ -1,7 +1,7 @@
 -- Whatever is read of a plan stands there in its spelling. Assumes nothing.
 use native.Mathlib.Omega.{arith}
 use native.Mathlib.Decide.{decLt}
-use borrow.Author.Tests.{ltb-true, ltb-false, leb-false}
+use borrow.Author.Tests.{ltb-true, ltb-false, eqb-true}
 use mathlib.Core.Path.{_≡_, refl, sym, ap, _∙_}
 use mathlib.Core.Bool.{Bool, true, false, cond, _&&_, _||_}
 use mathlib.Core.List.{List, [], _∷_, _++_, append-assoc, append-nil}
@@ -17,7 +17,7 @@ use Rattle.numbers.proofs.Laws.{read-ends, read-is-shortest, value-bounds, shor
 use Rattle.plan.specs.Found.{Found, refused, found, andThen, foundNumber, numberIn, fieldIn, among}
 use Rattle.plan.specs.Tree.{Operation, sum, difference, equal, less, Exp, constant, variable, binary, Own, empty, send, receive, set, raise, leave, choose, repeat, sequence, flow, pick, scope, arm, kind, Act, act, Acts, none, more, Plan, size, count}
 use Rattle.plan.specs.Spell.{spell, operationCode, expressionNumbers, exchangeNumbers, ownNumbers, actNumbers, actsNumbers, planNumbers}
-use Rattle.plan.specs.Read.{expressionCodeIn, operationOf, leafIn, expressionIn, variablesIn, tupleIn, Head, head, exchangeIn, armIn, partnerIn, withExpressionIn, setIn, listIn, codeIn, partsIn, headIn, manyIn, wholeIn, readArm, readsIn, laterOf, readAct, correlationIn, versionIn, closing, rootIn, readPlan}
+use Rattle.plan.specs.Read.{expressionCodeIn, operationOf, leafIn, expressionIn, variablesIn, tupleIn, Head, head, exchangeIn, armIn, partnerIn, withExpressionIn, setIn, listIn, codeIn, partsIn, headIn, manyIn, wholeIn, readArm, readsIn, laterOf, readAct, startForm, correlationIn, versionIn, closing, rootIn, readPlan}
 use Rattle.plan.proofs.Finds.{Finds, finds-refused, finds-itself, finds-found, finds-cond, finds-code, finds-then, finds-both, finds-so, cond-case, code-case}
 
 -- From `at` to `next` the numbers ns stand in their spelling, each in the shortest form.
@@ -307,3 +307,36 @@ act-stands zero vars cs s handler n at = finds-then (head-stands vars cs s handl
 act-stands (suc depth) vars cs s handler n at =
     finds-then (head-stands vars cs s handler (suc depth) n at)
     (λ h next a. whole-stands s (readsIn (h .own) (readAct depth vars cs s) vars s) (reads-stand s (readAct depth vars cs s) (act-stands depth vars cs s) (eqb (kind (h .own)) 10) vars) handler (laterOf (h .own) handler) n h at next a)
+
+-- a plan's numbers stand from 0 on, and nothing stands after them
+pub record PlanStands (s : List ℕ) (p : Plan) (next : ℕ) : Type 0 where
+  pub plan : Stands s 0 (planNumbers p) next
+  pub last : next ≡ length s
+
+root-stands : (vars : ℕ) (cs s : List ℕ) (at : ℕ) → Stands s 0 (1 ∷ vars ∷ length cs ∷ cs) at → Finds (PlanStands s) (rootIn vars cs s at)
+unfolding rootIn planNumbers
+root-stands vars cs s at h =
+    finds-then (act-stands 16 vars cs s false 0 at)
+    (λ body p b. finds-then (act-stands 16 vars cs s true (size body) p)
+    (λ fault q f. finds-cond (ltb q (length s)) (λ t. finds-refused)
+    (λ t. finds-cond (startForm body)
+    (λ u.
+    let w : Stands s 0 ((1 ∷ vars ∷ length cs ∷ cs) ++ (actNumbers body ++ actNumbers fault)) q = stands-append h (stands-append b f) in
+    finds-found (record { plan = w; last = omega (arith, stands-inside w (omega arith), ltb-false q (length s) t) }))
+    (λ u. finds-refused))))
+
+version-stands : (s : List ℕ) → Finds (λ version next. Stands s 0 (1 ∷ []) next) (versionIn s)
+unfolding versionIn
+version-stands s =
+    finds-then (number-stands s 0)
+    (λ version next h. finds-cond (eqb version 1) (λ t. finds-found (rw (eqb-true version 1 t) at h)) (λ t. finds-refused))
+
+pub plan-stands : (s : List ℕ) → Finds (PlanStands s) (readPlan s)
+unfolding readPlan
+plan-stands s =
+    finds-cond (ltb 4096 (length s)) (λ t. finds-refused)
+    (λ t. finds-then (version-stands s)
+    (λ version p v. finds-then (field-stands s 1 17 p)
+    (λ vars q w. finds-then (field-stands s 0 (vars + 1) q)
+    (λ k r h. finds-then (correlation-stands vars s k 0 [] r r k stands-none (omega arith))
+    (λ cs at c. root-stands vars cs s at (stands-append v (stands-append w (counted-stands h c))))))))
