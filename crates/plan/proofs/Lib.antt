@@ -1,3 +1,6 @@
 -- What other crates' proofs cite of this one.
 pub mod Examples
 pub mod Accepts
+pub mod Finds
+pub mod Stands
+pub mod Spelled
