@@ -20,7 +20,7 @@ use Rattle.plan.specs.Tree.{Operation, sum, difference, equal, less, Exp
 use Rattle.plan.specs.Within.{expressionWithin, variablesWithin, exchangeWithin, from1, ownWithin, levelsBelow, actWithin, actsWithin, ascending, planWithin}
 
 -- both of two tests hold
-both : (a b : Bool) {P : Type 0} → (a && b) ≡ true → (a ≡ true → b ≡ true → P) → P
+pub both : (a b : Bool) {P : Type 0} → (a && b) ≡ true → (a ≡ true → b ≡ true → P) → P
 both true b e f = f refl e
 both false b e f = absurd (false≢true e)
 
@@ -93,7 +93,7 @@ expression-code h t = and-then _ (number (omega arith) t) (λ next u. rw (le-ltb
 
 -- Variables.
 
-among-append : (w : ℕ) (a b : List ℕ) → among w (a ++ b) ≡ (among w a || among w b)
+pub among-append : (w : ℕ) (a b : List ℕ) → among w (a ++ b) ≡ (among w a || among w b)
 unfolding among
 among-append w [] b = refl
 among-append w (x ∷ a) b = rw (among-append w a b) (sym (or-assoc (eqb w x) (among w a) (among w b)))
@@ -273,7 +273,7 @@ module _ {rest s : List ℕ} (vars : ℕ) (few : vars ≤ 16) where
 -- Activities and arms with those within them.
 
 -- what reads an arm, or an activity, with `depth` levels left
-abbrev reader : (vars : ℕ) (cs s : List ℕ) (arms : Bool) (depth : ℕ) → Bool → ℕ → ℕ → Found Act
+abbrev pub reader : (vars : ℕ) (cs s : List ℕ) (arms : Bool) (depth : ℕ) → Bool → ℕ → ℕ → Found Act
 reader vars cs s arms depth = cond arms (readArm (readAct depth vars cs s) vars s) (readAct depth vars cs s)
 
 module _ (rest s : List ℕ) (vars : ℕ) (few : vars ≤ 16) (cs : List ℕ) where

@@ -4,3 +4,4 @@ pub mod Accepts
 pub mod Finds
 pub mod Stands
 pub mod Spelled
+pub mod Limits
