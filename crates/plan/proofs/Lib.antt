@@ -2,3 +2,4 @@
 pub mod Finds
 pub mod Stands
 pub mod Spelled
+pub mod Bounds
