@@ -4,4 +4,5 @@ pub mod Accepts
 pub mod Finds
 pub mod Stands
 pub mod Spelled
+pub mod Bounds
 pub mod Limits

@@ -14,10 +14,10 @@ use Rattle.numbers.specs.Shortest.{Bytes, shortest}
 use Rattle.numbers.specs.declared.Number.{Number}
 use Rattle.numbers.specs.declared.Number.the-variants.{Value, Short, Bad}
 use Rattle.numbers.proofs.Laws.{read-ends, read-is-shortest, value-bounds, shortest-long}
-use Rattle.plan.specs.Found.{Found, refused, found, andThen, foundNumber, numberIn, fieldIn, among}
-use Rattle.plan.specs.Tree.{Operation, sum, difference, equal, less, Exp, constant, variable, binary, Own, empty, send, receive, set, raise, leave, choose, repeat, sequence, flow, pick, scope, arm, kind, Act, act, Acts, none, more, Plan, size, count}
+use Rattle.plan.specs.Found.{Found, foundNumber, numberIn, fieldIn, among}
+use Rattle.plan.specs.Tree.{Exp, constant, variable, binary, Own, empty, send, receive, set, raise, leave, choose, repeat, sequence, flow, pick, scope, arm, kind, Act, act, Plan, size, count}
 use Rattle.plan.specs.Spell.{spell, operationCode, expressionNumbers, exchangeNumbers, ownNumbers, actNumbers, actsNumbers, planNumbers}
-use Rattle.plan.specs.Read.{expressionCodeIn, operationOf, leafIn, expressionIn, variablesIn, tupleIn, Head, head, exchangeIn, armIn, partnerIn, withExpressionIn, setIn, listIn, codeIn, partsIn, headIn, manyIn, wholeIn, readArm, readsIn, laterOf, readAct, startForm, correlationIn, versionIn, closing, rootIn, readPlan}
+use Rattle.plan.specs.Read.{expressionCodeIn, operationOf, leafIn, expressionIn, variablesIn, tupleIn, Head, exchangeIn, armIn, partnerIn, withExpressionIn, setIn, listIn, codeIn, partsIn, headIn, manyIn, wholeIn, readArm, readsIn, laterOf, readAct, startForm, correlationIn, versionIn, rootIn, readPlan}
 use Rattle.plan.proofs.Finds.{Finds, finds-refused, finds-itself, finds-found, finds-cond, finds-code, finds-then, finds-both, finds-so, cond-case, code-case}
 
 -- From `at` to `next` the numbers ns stand in their spelling, each in the shortest form.
@@ -47,10 +47,11 @@ module _ {s : List ℕ} {at p next : ℕ} {ns ms : List ℕ} where
             (sym (spell-append ns ms));
       }
 
-spell-some : (ns : List ℕ) → 0 < length ns → 0 < length (spell ns)
+-- numbers are no more than their bytes
+pub spell-long : (ns : List ℕ) → length ns ≤ length (spell ns)
 unfolding spell
-spell-some [] h = absurd (omega arith)
-spell-some (x ∷ ns) h = rw length-append (omega (arith, shortest-long x .0))
+spell-long [] = omega arith
+spell-long (x ∷ ns) = rw length-append (omega (arith, shortest-long x .0, spell-long ns))
 
 module _ {s : List ℕ} {at next : ℕ} {ns : List ℕ} (a : Stands s at ns next) where
   -- what stands from a place within the list on ends within it
@@ -59,7 +60,7 @@ module _ {s : List ℕ} {at next : ℕ} {ns : List ℕ} (a : Stands s at ns next
 
   -- numbers that stand somewhere end further on, and within the list
   pub stands-forward : 0 < length ns → (at < next) × (next ≤ length s)
-  stands-forward h = let f : at < next = omega (arith, a .ends, spell-some ns h) in (f, a .inside f)
+  stands-forward h = let f : at < next = omega (arith, a .ends, spell-long ns) in (f, a .inside f)
 
 pub expression-some : (e : Exp) → 0 < length (expressionNumbers e)
 unfolding expressionNumbers
@@ -97,7 +98,11 @@ one x = x ∷ []
 module _ (s : List ℕ) (at : ℕ) {v next : ℕ} (e : numberAt s at ≡ Value v next) where
   value-stands : Stands s at (v ∷ []) next
   unfolding spell
-  value-stands = record { ends = rw append-nil (read-ends s at e); inside = λ h. value-bounds s at e .inside; spells = λ y. rw append-nil (read-is-shortest s at y e .spells) }
+  value-stands = record {
+    ends = rw append-nil (read-ends s at e);
+    inside = λ h. value-bounds s at e .inside;
+    spells = λ y. rw append-nil (read-is-shortest s at y e .spells);
+  }
 
 found-number : (s : List ℕ) (at : ℕ) (r : Number) → numberAt s at ≡ r → Standing s at one (foundNumber s at r)
 found-number s at Short e = finds-refused
@@ -114,7 +119,7 @@ field-stands s least limit at =
     finds-then (number-stands s at)
     (λ v next h. finds-cond (ltb v least || leb limit v) (λ t. finds-refused) (λ t. finds-found h))
 
-code-stands : (s : List ℕ) (at : ℕ) → Finds (λ code next. Stands s at (code ∷ []) next × (code ≤ 5)) (expressionCodeIn s at)
+pub code-stands : (s : List ℕ) (at : ℕ) → Finds (λ code next. Stands s at (code ∷ []) next × (code ≤ 5)) (expressionCodeIn s at)
 unfolding expressionCodeIn
 code-stands s at =
     finds-then (number-stands s at)
@@ -132,7 +137,7 @@ stands-code : {s : List ℕ} {at p next code : ℕ} {ms : List ℕ} (k : ℕ) �
     → Stands s at (k ∷ ms) next
 stands-code k e a b = rw e at (stands-append a b)
 
-leaf-stands : (vars : ℕ) (s : List ℕ) (start at code : ℕ) → code < 2 → Stands s start (code ∷ []) at
+pub leaf-stands : (vars : ℕ) (s : List ℕ) (start at code : ℕ) → code < 2 → Stands s start (code ∷ []) at
     → Standing s start expressionNumbers (leafIn vars s code at)
 unfolding leafIn expressionNumbers
 leaf-stands vars s start at code l c =
@@ -162,7 +167,7 @@ pub record Listed (s : List ℕ) (start total : ℕ) (l : List ℕ) (next : ℕ)
 snoc-length : (read : List ℕ) (v left total : ℕ) → length read + suc left ≡ total → length (read ++ (v ∷ [])) + left ≡ total
 snoc-length read v left total e = simp length-append (omega arith)
 
-variables-stand : (vars : ℕ) (once : Bool) (s : List ℕ) (left : ℕ) (read : List ℕ) (start at total : ℕ) → Stands s start read at
+pub variables-stand : (vars : ℕ) (once : Bool) (s : List ℕ) (left : ℕ) (read : List ℕ) (start at total : ℕ) → Stands s start read at
     → length read + left ≡ total → Finds (Listed s start total) (variablesIn vars once s left read at)
 unfolding variablesIn
 variables-stand vars once s zero read start at total a e = finds-found (record { all = a; many = omega arith })
@@ -171,7 +176,7 @@ variables-stand vars once s (suc left) read start at total a e =
     (λ v next h. finds-cond (once && among v read) (λ t. finds-refused)
     (λ t. variables-stand vars once s left (read ++ (v ∷ [])) start next total (stands-append a h) (snoc-length read v left total e)))
 
-correlation-stands : (vars : ℕ) (s : List ℕ) (left least : ℕ) (read : List ℕ) (start at total : ℕ) → Stands s start read at
+pub correlation-stands : (vars : ℕ) (s : List ℕ) (left least : ℕ) (read : List ℕ) (start at total : ℕ) → Stands s start read at
     → length read + left ≡ total → Finds (Listed s start total) (correlationIn vars s left least read at)
 unfolding correlationIn
 correlation-stands vars s zero least read start at total a e = finds-found (record { all = a; many = omega arith })
@@ -196,7 +201,7 @@ headNumbers h = ownNumbers (h .own) (h .within)
 
 -- Each reader of a head's later parts: ns stand before what it reads, and the head's numbers are ns with these.
 module _ (vars : ℕ) (s : List ℕ) {start at : ℕ} (ns : List ℕ) (a : Stands s start ns at) where
-  exchange-stands : (once : Bool) (own : ℕ → List ℕ → Own) (within : ℕ)
+  pub exchange-stands : (once : Bool) (own : ℕ → List ℕ → Own) (within : ℕ)
       → ((operation : ℕ) (variables : List ℕ) → ownNumbers (own operation variables) within ≡ ns ++ (operation ∷ length variables ∷ variables))
       → Standing s start headNumbers (exchangeIn vars once s own within at)
   unfolding exchangeIn
@@ -205,13 +210,13 @@ module _ (vars : ℕ) (s : List ℕ) {start at : ℕ} (ns : List ℕ) (a : Stand
       (λ operation p h. finds-then (tuple-stands vars once s p)
       (λ variables q b. finds-found (rw (e operation variables) (stands-append a (stands-append h b)))))
 
-  with-expression-stands : (own : Exp → Own) (within : ℕ) → ((e : Exp) → ownNumbers (own e) within ≡ ns ++ expressionNumbers e)
+  pub with-expression-stands : (own : Exp → Own) (within : ℕ) → ((e : Exp) → ownNumbers (own e) within ≡ ns ++ expressionNumbers e)
       → Standing s start headNumbers (withExpressionIn vars s own within at)
   unfolding withExpressionIn
   with-expression-stands own within f =
       finds-then (expression-stands 8 vars s at) (λ e next h. finds-found (rw (f e) (stands-append a h)))
 
-  list-stands : (own : Own) (limit : ℕ) → ((k : ℕ) → ownNumbers own k ≡ ns ++ (k ∷ [])) → Standing s start headNumbers (listIn s own limit at)
+  pub list-stands : (own : Own) (limit : ℕ) → ((k : ℕ) → ownNumbers own k ≡ ns ++ (k ∷ [])) → Standing s start headNumbers (listIn s own limit at)
   unfolding listIn
   list-stands own limit e = finds-then (field-stands s 1 limit at) (λ k next h. finds-found (rw (e k) (stands-append a h)))
 
@@ -224,7 +229,7 @@ arm-stands vars s n at =
 
 -- the parts after a code
 module _ (vars : ℕ) (cs s : List ℕ) {start at code : ℕ} (a : Stands s start (code ∷ []) at) where
-  partner-stands : (once : Bool) (own : ℕ → ℕ → List ℕ → Own)
+  pub partner-stands : (once : Bool) (own : ℕ → ℕ → List ℕ → Own)
       → ((partner operation : ℕ) (variables : List ℕ) → ownNumbers (own partner operation variables) 0 ≡ code ∷ exchangeNumbers partner operation variables)
       → Standing s start headNumbers (partnerIn vars once s own at)
   unfolding partnerIn exchangeNumbers
@@ -232,7 +237,7 @@ module _ (vars : ℕ) (cs s : List ℕ) {start at code : ℕ} (a : Stands s star
       finds-then (field-stands s 0 64 at)
       (λ partner p h. exchange-stands vars s (code ∷ partner ∷ []) (stands-append a h) once (own partner) 0 (e partner))
 
-  set-stands : code ≡ 3 → Standing s start headNumbers (setIn vars cs s at)
+  pub set-stands : code ≡ 3 → Standing s start headNumbers (setIn vars cs s at)
   unfolding setIn ownNumbers
   set-stands e =
       finds-then (field-stands s 0 vars at)
@@ -240,7 +245,7 @@ module _ (vars : ℕ) (cs s : List ℕ) {start at code : ℕ} (a : Stands s star
       (λ t. with-expression-stands vars s (3 ∷ v ∷ []) (stands-code 3 e a h) (set v) 0 (λ x. refl)))
 
   -- the table of codes
-  parts-stand : code ≤ 11 → Standing s start headNumbers (partsIn vars cs s code at)
+  pub parts-stand : code ≤ 11 → Standing s start headNumbers (partsIn vars cs s code at)
   unfolding partsIn ownNumbers
   parts-stand m =
       finds-code code 0 (omega arith) (λ e. finds-found (rw e at a))
@@ -286,7 +291,7 @@ module _ (s : List ℕ) (read : Bool → ℕ → ℕ → Found Act) (r : Reads s
       finds-then (r handler n at)
       (λ a p h. finds-then (many-stands later later left (n + size a) p) (λ l q m. finds-found (stands-append h m)))
 
-  whole-stands : (handler later : Bool) (n : ℕ) (h : Head) (start at : ℕ) → Stands s start (headNumbers h) at
+  pub whole-stands : (handler later : Bool) (n : ℕ) (h : Head) (start at : ℕ) → Stands s start (headNumbers h) at
       → Standing s start actNumbers (wholeIn read handler later n h at)
   unfolding actNumbers
   whole-stands handler later n h start at a =
@@ -298,7 +303,7 @@ module _ (s : List ℕ) (read : Bool → ℕ → ℕ → Found Act) (r : Reads s
   arm-act-stands vars handler n at =
       finds-then (arm-stands vars s n at) (λ h next a. whole-stands handler handler n h at next a)
 
-  reads-stand : (arms : Bool) (vars : ℕ) → Reads s (cond arms (readArm read vars s) read)
+  pub reads-stand : (arms : Bool) (vars : ℕ) → Reads s (cond arms (readArm read vars s) read)
   reads-stand arms vars = cond-case (Reads s) arms (λ t. arm-act-stands vars) (λ t. r)
 
 pub act-stands : (depth vars : ℕ) (cs s : List ℕ) → Reads s (readAct depth vars cs s)
@@ -306,14 +311,16 @@ unfolding readAct
 act-stands zero vars cs s handler n at = finds-then (head-stands vars cs s handler 0 n at) (λ h next a. finds-refused)
 act-stands (suc depth) vars cs s handler n at =
     finds-then (head-stands vars cs s handler (suc depth) n at)
-    (λ h next a. whole-stands s (readsIn (h .own) (readAct depth vars cs s) vars s) (reads-stand s (readAct depth vars cs s) (act-stands depth vars cs s) (eqb (kind (h .own)) 10) vars) handler (laterOf (h .own) handler) n h at next a)
+    (λ h next a. whole-stands s (readsIn (h .own) (readAct depth vars cs s) vars s)
+    (reads-stand s (readAct depth vars cs s) (act-stands depth vars cs s) (eqb (kind (h .own)) 10) vars)
+    handler (laterOf (h .own) handler) n h at next a)
 
 -- a plan's numbers stand from 0 on, and nothing stands after them
 pub record PlanStands (s : List ℕ) (p : Plan) (next : ℕ) : Type 0 where
   pub plan : Stands s 0 (planNumbers p) next
   pub last : next ≡ length s
 
-root-stands : (vars : ℕ) (cs s : List ℕ) (at : ℕ) → Stands s 0 (1 ∷ vars ∷ length cs ∷ cs) at → Finds (PlanStands s) (rootIn vars cs s at)
+pub root-stands : (vars : ℕ) (cs s : List ℕ) (at : ℕ) → Stands s 0 (1 ∷ vars ∷ length cs ∷ cs) at → Finds (PlanStands s) (rootIn vars cs s at)
 unfolding rootIn planNumbers
 root-stands vars cs s at h =
     finds-then (act-stands 16 vars cs s false 0 at)
@@ -325,7 +332,7 @@ root-stands vars cs s at h =
     finds-found (record { plan = w; last = omega (arith, stands-inside w (omega arith), ltb-false q (length s) t) }))
     (λ u. finds-refused))))
 
-version-stands : (s : List ℕ) → Finds (λ version next. Stands s 0 (1 ∷ []) next) (versionIn s)
+pub version-stands : (s : List ℕ) → Finds (λ version next. Stands s 0 (1 ∷ []) next) (versionIn s)
 unfolding versionIn
 version-stands s =
     finds-then (number-stands s 0)
