@@ -7,7 +7,7 @@ use Rattle.numbers.specs.Shortest.{spelled, shortest}
 use Rattle.plan.specs.Found.{among}
 use Rattle.plan.specs.Read.{starts, startForm, firstStarts, everyStarts}
 use Rattle.plan.specs.Spell.{spell, operationCode, expressionNumbers, exchangeNumbers, ownNumbers, actNumbers, actsNumbers, planNumbers, spelling}
-use Rattle.plan.specs.Tree.{Operation, sum, difference, equal, less, Exp, constant, variable, binary, Own, empty, send, receive, set, raise, leave, choose, repeat, sequence, flow, pick, scope, arm, kind, Act, act, Acts, none, more, Plan, size, sizes, count}
+use Rattle.plan.specs.Tree.{less, Exp, constant, variable, binary, Own, empty, send, receive, set, raise, leave, choose, sequence, flow, pick, scope, arm, kind, Act, act, Acts, none, more, Plan, size, sizes, count}
 use Rattle.plan.specs.Within.{expressionWithin, variablesWithin, exchangeWithin, ownWithin, actWithin, actsWithin, ascending, planWithin}
 
 abbrev alone : Own → Act

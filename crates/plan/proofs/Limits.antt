@@ -1,25 +1,28 @@
 -- What is accepted as a plan is a plan within the limits. Assumes nothing.
-use borrow.Author.Tests.{ltb-true, ltb-false, leb-true, leb-false, eqb-true, eqb-false, not-true, le-ltb, lt-ltb, le-leb, lt-leb, eq-eqb, ne-eqb}
+use borrow.Author.Tests.{ltb-false, leb-false, eqb-false, not-true, lt-ltb, le-leb, ne-eqb}
 use native.Mathlib.Omega.{arith}
 use native.Mathlib.Numerals.{sub-one}
-use mathlib.Core.Path.{_≡_, refl, sym, ap, _∙_}
-use mathlib.Core.Bool.{Bool, true, false, cond, not, _&&_, _||_, false≢true, and-true, and-false}
+use mathlib.Core.Path.{_≡_, refl, sym, _∙_}
+use mathlib.Core.Bool.{Bool, true, false, not, _&&_, _||_, false≢true, and-true, and-false}
+use mathlib.Core.Logic.{_↔_}
 use mathlib.Core.List.{List, [], _∷_, _++_, append-assoc, append-nil}
-use Prim.Native.Nat.{ℕ, zero, suc, _+_, _-_, _≤_, _<_}
+use Prim.Native.Nat.{ℕ, zero, suc, _+_, _≤_, _<_}
 use lib.ListN.{length, length-append}
 use lib.Dec.{ltb, leb, eqb}
 use Rattle.numbers.specs.Number.{numberAt}
+use Rattle.numbers.specs.Shortest.{Bytes}
 use Rattle.numbers.specs.declared.Number.{Number}
 use Rattle.numbers.specs.declared.Number.the-variants.{Value, Short, Bad}
 use Rattle.numbers.proofs.Laws.{value-bounds}
 use Rattle.plan.specs.Found.{Found, found, foundNumber, numberIn, fieldIn, among}
-use Rattle.plan.specs.Read.{expressionCodeIn, leafIn, expressionIn, variablesIn, tupleIn, Head, head, exchangeIn, armIn, partnerIn, withExpressionIn, setIn, listIn, codeIn, partsIn, headIn, manyIn, readArm, readsIn, laterOf, readAct, startForm, correlationIn, versionIn, rootIn, readPlan}
+use Rattle.plan.specs.Read.{expressionCodeIn, leafIn, expressionIn, variablesIn, tupleIn, Head, head, exchangeIn, armIn, partnerIn, withExpressionIn, setIn, listIn, codeIn, partsIn, headIn, manyIn, readArm, laterOf, readAct, startForm, correlationIn, versionIn, rootIn, readPlan}
 use Rattle.plan.specs.Spell.{spelling}
-use Rattle.plan.specs.Tree.{Exp, Own, empty, send, receive, set, raise, leave, choose, repeat, sequence, flow, pick, scope, arm, kind, Act, act, Acts, none, more, Plan, size, count}
+use Rattle.plan.specs.Tree.{Exp, Own, send, receive, set, choose, repeat, sequence, flow, pick, arm, kind, Act, Plan, size}
 use Rattle.plan.specs.Within.{expressionWithin, variablesWithin, exchangeWithin, from1, ownWithin, actWithin, actsWithin, ascending, planWithin}
-use Rattle.plan.proofs.Accepts.{both, among-append, reader}
-use Rattle.plan.proofs.Finds.{Finds, finds-refused, finds-itself, finds-found, finds-cond, finds-code, finds-then, finds-both, finds-so, cond-case}
+use Rattle.plan.proofs.Accepts.{both, among-append, reader, spelled-is-accepted}
+use Rattle.plan.proofs.Finds.{Finds, finds-refused, finds-itself, finds-found, finds-cond, finds-code, finds-then, finds-both, finds-so}
 use Rattle.plan.proofs.Stands.{many-count, plan-stands}
+use Rattle.plan.proofs.Spelled.{accepted-is-spelled}
 use Rattle.plan.proofs.Bounds.{act-numbered}
 
 -- of two tests of which one would be enough neither holds
@@ -276,3 +279,15 @@ accepted-is-within s e =
     let (short, kept) = plan-within s .holds e in
     let r = plan-stands s .holds e in
     kept (omega (arith, r .last, r .plan .ends))
+
+-- Bytes are accepted as a plan exactly where they spell it and it is within the limits.
+pub accepted-exactly : (s : List ℕ) (p : Plan) → Bytes s → (readPlan s ≡ found p (length s)) ↔ ((planWithin p ≡ true) × (s ≡ spelling p))
+accepted-exactly s p y =
+    (λ e. (accepted-is-within s e, accepted-is-spelled s y e), λ k. rw (k .1) (spelled-is-accepted p (k .0)))
+
+-- Plans within the limits that are spelled alike are the same.
+pub spelling-tells : (p q : Plan) → planWithin p ≡ true → planWithin q ≡ true → spelling p ≡ spelling q → p ≡ q
+spelling-tells p q h k e =
+    let a = spelled-is-accepted p h in
+    let b = spelled-is-accepted q k in
+    cc
