@@ -65,8 +65,8 @@ module _ {rest s : List ℕ} {at : ℕ} {ns : List ℕ} where
         finds = rw (number-at s (spell ns ++ rest) at v (t .inside) e h);
         after = record {
           inside = omega (arith, l, t .inside);
-          there = sym (drop-drop (length (shortest v)) at s) ∙ rw e (drop-append-seam (shortest v) (spell ns ++ rest))
-        }
+          there = sym (drop-drop (length (shortest v)) at s) ∙ rw e (drop-append-seam (shortest v) (spell ns ++ rest));
+        };
       }
 
   field : {least limit v : ℕ} → least ≤ v → v < limit → v ≤ 4294967295 → Left rest s at (v ∷ ns) → Gives rest s (fieldIn s least limit at) v ns
@@ -131,7 +131,7 @@ exchange-of vars once partner operation variables h =
       operation-known = ltb-true _ _ b;
       some = leb-true _ _ c;
       most = leb-true _ _ d;
-      each = e
+      each = e;
     }))))
 
 -- what follows is read where there are `vars` variables
@@ -368,7 +368,7 @@ limits p h =
       body = d;
       fault = e;
       room = leb-true _ _ f;
-      start = g
+      start = g;
     })))))))
 
 -- where nothing is left, the bytes end

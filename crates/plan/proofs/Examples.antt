@@ -3,6 +3,7 @@ use Prim.Native.Nat.{ℕ, zero, suc}
 use mathlib.Core.Path.{_≡_, refl}
 use mathlib.Core.Bool.{Bool, true, false}
 use mathlib.Core.List.{List, [], _∷_}
+use lib.ListN.{replicate}
 use Rattle.numbers.specs.Shortest.{spelled, shortest}
 use Rattle.plan.specs.Found.{among}
 use Rattle.plan.specs.Read.{starts, startForm, firstStarts, everyStarts}
@@ -56,19 +57,21 @@ flagged [] = []
 flagged (p ∷ l) = planWithin p ∷ flagged l
 
 -- plan A; plan C's form; 16 deep; an expression 8 deep; an arm whose activity is 16 deep; 256 activities
-pub within-limits : flagged (of ask
+abbrev allowed : List Plan
+allowed =
+    of ask
     ∷ of (act sequence (more ask (more (undone (alone (send 0 1 (0 ∷ 0 ∷ [])))) (more (alone raise) none))))
     ∷ of (nested 15 ask)
     ∷ of (act sequence (more ask (more (act (choose (deep 7)) (more (alone leave) (more (alone (set 1 (deep 0))) none))) none)))
     ∷ of (nested 14 arms)
     ∷ broad 21
-    ∷ []) ≡ true ∷ true ∷ true ∷ true ∷ true ∷ true ∷ []
-unfolding planWithin spelling planNumbers actNumbers actsNumbers ownNumbers exchangeNumbers spell shortest spelled count ascending actWithin actsWithin ownWithin exchangeWithin variablesWithin among size sizes startForm firstStarts everyStarts starts kind expressionNumbers operationCode expressionWithin
-within-limits = refl
+    ∷ []
 
 -- a scope in an undo part; a scope in the fault part; a variable twice in a receive; 17 deep; an expression 9 deep; an arm's activity 17 deep;
 -- a variable for correlation set; body no start form; an arm where an activity is due; an empty sequence; 257 activities
-pub beyond-limits : flagged (of (act sequence (more ask (more (undone (undone (alone empty))) none)))
+abbrev refused : List Plan
+refused =
+    of (act sequence (more ask (more (undone (undone (alone empty))) none)))
     ∷ record { variables = 2; correlation = []; body = ask; fault = undone (alone empty) }
     ∷ of (alone (receive 3 5 (1 ∷ 1 ∷ [])))
     ∷ of (nested 16 ask)
@@ -79,6 +82,8 @@ pub beyond-limits : flagged (of (act sequence (more ask (more (undone (undone (a
     ∷ of (act sequence (more ask (more (one (arm 0 0 (0 ∷ [])) (alone empty)) none)))
     ∷ of (act sequence (more ask (more (alone sequence) none)))
     ∷ broad 22
-    ∷ []) ≡ false ∷ false ∷ false ∷ false ∷ false ∷ false ∷ false ∷ false ∷ false ∷ false ∷ false ∷ []
+    ∷ []
+
+pub both-sides : (flagged allowed ≡ replicate 6 true) × (flagged refused ≡ replicate 11 false)
 unfolding planWithin spelling planNumbers actNumbers actsNumbers ownNumbers exchangeNumbers spell shortest spelled count ascending actWithin actsWithin ownWithin exchangeWithin variablesWithin among size sizes startForm firstStarts everyStarts starts kind expressionNumbers operationCode expressionWithin
-beyond-limits = refl
+both-sides = (refl, refl)

@@ -244,7 +244,7 @@ correlation-within vars s (suc left) least read at =
     (λ l q r. record {
       others = v ∷ r .others;
       all = r .all ∙ append-assoc read (v ∷ []) (r .others);
-      rise = rw (le-leb least v (h .0), lt-ltb v vars (h .1), r .rise)
+      rise = rw (le-leb least v (h .0), lt-ltb v vars (h .1), r .rise);
     }))
 
 -- all but the length of the spelling
