@@ -1,71 +1,21 @@
 -- Laws of the numbers read: where they end, how large they are, and that the bytes read are the shortest spelling of the value and no other.
 -- Assumes nothing.
-use borrow.Author.Tests.{ltb-true, ltb-false, leb-false, eqb-true, eqb-false, le-ltb, lt-ltb, lt-leb, eq-eqb, ne-eqb}
+use borrow.Author.Tests.{le-ltb, lt-ltb, eq-eqb, ne-eqb}
 use native.Mathlib.Omega.{arith}
 use native.Mathlib.Nat.{mul-le-mul-right, add-mul, mul-assoc, mul-comm, mod-eq-of-lt, mod-add-div'}
 use native.Mathlib.Numerals.{add-one}
 use native.Mathlib.Decide.{decLt}
 use mathlib.Core.Path.{_≡_, refl, sym, ap, _∙_}
-use mathlib.Core.Bool.{Bool, true, false}
 use mathlib.Core.List.{List, [], _∷_, _++_}
-use Prim.Native.Nat.{ℕ, zero, suc, _+_, _-_, _*_, _/_, _%_, _≤_, _<_}
-use lib.ListN.{length, getD, take, drop, length-append, length-drop}
-use lib.Seq.{drop-cons, drop-drop, getD-drop, drop-append-seam}
-use lib.Dec.{ltb, leb, eqb}
-use Rattle.numbers.specs.declared.Number.{Number}
-use Rattle.numbers.specs.declared.Number.the-variants.{Value, Short, Bad}
-use Rattle.numbers.specs.Number.{cond, lastGroup, groups, numberAt}
+use Prim.Native.Nat.{ℕ, zero, suc, _+_, _*_, _/_, _%_, _≤_, _<_}
+use lib.ListN.{length, getD, take, drop, length-drop}
+use lib.Seq.{drop-cons, drop-append-seam}
+use Rattle.numbers.specs.declared.Number.the-variants.{Value}
+use Rattle.numbers.specs.Number.{lastGroup, groups, numberAt}
 use Rattle.numbers.specs.Shortest.{Bytes, spelled, shortest}
+use Rattle.numbers.proofs.Groups.{Group, nought, last, more, group, groups-last, groups-more, no-bad}
 
--- the arm that a conditional took
-cond-elim : {A P : Type 0} (t : Bool) {a b x : A} → cond t a b ≡ x → (t ≡ true → a ≡ x → P) → (t ≡ false → b ≡ x → P) → P
-cond-elim true e f g = f refl e
-cond-elim false e f g = g refl e
-
--- What the first group of a number that is read tells, where k groups may follow it.
-data Group (k : ℕ) (s : List ℕ) (at scale sum v next : ℕ) : Type 0 where
-  nought : at < length s → getD s at 0 ≡ 0 → scale ≡ 1 → v ≡ 0 → next ≡ at + 1 → Group k s at scale sum v next
-  last : at < length s → 0 < getD s at 0 → getD s at 0 < 128 → v ≡ sum + getD s at 0 * scale → v ≤ 4294967295 → next ≡ at + 1
-      → Group k s at scale sum v next
-  more : at < length s → 128 ≤ getD s at 0 → groups k s (at + 1) (scale * 128) (sum + getD s at 0 % 128 * scale) ≡ Value v next
-      → Group k s at scale sum v next
-
-no-short : {P : Type 0} {v next : ℕ} → Short ≡ Value v next → P
-no-short e = let z : _≡_ {A = ℕ} 0 1 = cc in absurd (omega arith)
-
-no-bad : {P : Type 0} {v next : ℕ} → Bad ≡ Value v next → P
-no-bad e = let z : _≡_ {A = ℕ} 0 1 = cc in absurd (omega arith)
-
-value-of : {v w m n : ℕ} → Value v m ≡ Value w n → v ≡ w
-value-of e = cc
-
-next-of : {v w m n : ℕ} → Value v m ≡ Value w n → m ≡ n
-next-of e = cc
-
-module _ (k : ℕ) (s : List ℕ) (at scale sum : ℕ) {v next : ℕ} where
-  group-last : at < length s → sum + getD s at 0 % 128 * scale ≤ 4294967295 → getD s at 0 < 128
-      → lastGroup (getD s at 0) scale (sum + getD s at 0 % 128 * scale) (at + 1) ≡ Value v next → Group k s at scale sum v next
-  unfolding lastGroup
-  group-last w f l e =
-      cond-elim (eqb (getD s at 0) 0) e
-      (λ z f1. cond-elim (eqb scale 1) f1
-      (λ o f2. nought w (eqb-true _ _ z) (eqb-true _ _ o) (sym (value-of f2)) (sym (next-of f2)))
-      (λ o f2. no-bad f2))
-      (λ z f1.
-      let q : v ≡ sum + getD s at 0 % 128 * scale = sym (value-of f1) in
-      let m : getD s at 0 % 128 ≡ getD s at 0 = mod-eq-of-lt l in
-      last w (omega (arith, eqb-false (getD s at 0) 0 z)) l (rw m at q) (omega arith) (sym (next-of f1)))
-
-  group : groups (suc k) s at scale sum ≡ Value v next → Group k s at scale sum v next
-  unfolding groups
-  group e =
-      cond-elim (leb (length s) at) e (λ t f. no-short f)
-      (λ t1 e1. cond-elim (ltb 4294967295 (sum + getD s at 0 % 128 * scale)) e1 (λ t f. no-bad f)
-      (λ t2 e2. cond-elim (ltb (getD s at 0) 128) e2
-      (λ t3 e3. group-last (leb-false _ _ t1) (ltb-false _ _ t2) (ltb-true _ _ t3) e3)
-      (λ t3 e3. more (leb-false _ _ t1) (ltb-false _ _ t3) e3)))
-
--- Where a number that is read ends, and how large it is.
+-- Where a number ends that stands at `at`, and how large it is.
 pub record Bounds (s : List ℕ) (at v next : ℕ) : Type 0 where
   pub forward : at < next
   pub inside : next ≤ length s
@@ -83,6 +33,7 @@ groups-bounds zero s at scale sum e = no-bad e
 groups-bounds (suc k) s at scale sum e =
     group-bounds (group k s at scale sum e) (groups-bounds k s (at + 1) (scale * 128) (sum + getD s at 0 % 128 * scale))
 
+-- What is read as a value ends further on, within the list, and is small enough.
 pub value-bounds : (s : List ℕ) (at : ℕ) {v next : ℕ} → numberAt s at ≡ Value v next → Bounds s at v next
 unfolding numberAt
 value-bounds s at e = groups-bounds 5 s at 1 0 e
@@ -108,7 +59,8 @@ spelled-more : (k v : ℕ) → 128 ≤ v → spelled (suc k) v ≡ (v % 128 + 12
 unfolding spelled
 spelled-more k v h = rw (le-ltb v 128 h)
 
-one-group : {k : ℕ} {s : List ℕ} {at scale sum v next : ℕ} (b : ℕ) → b ≡ getD s at 0 → at < length s → b < 128 → v ≡ sum + b * scale → (b ≡ 0 → scale ≡ 1) → next ≡ at + 1 → Spelling (suc k) s at scale sum v next
+one-group : {k : ℕ} {s : List ℕ} {at scale sum v next : ℕ} (b : ℕ) → b ≡ getD s at 0 → at < length s → b < 128 → v ≡ sum + b * scale
+    → (b ≡ 0 → scale ≡ 1) → next ≡ at + 1 → Spelling (suc k) s at scale sum v next
 one-group {k} {s} {at} b i w l q o n = record {
   w = b;
   value = q;
@@ -141,10 +93,12 @@ more-groups {k} {s} {at} {scale} {sum} w b r =
     }
 
 group-spelling : {k : ℕ} {s : List ℕ} {at scale sum v next : ℕ} → sum < scale → Group k s at scale sum v next
-    → (groups k s (at + 1) (scale * 128) (sum + getD s at 0 % 128 * scale) ≡ Value v next → Spelling k s (at + 1) (scale * 128) (sum + getD s at 0 % 128 * scale) v next)
+    → (groups k s (at + 1) (scale * 128) (sum + getD s at 0 % 128 * scale) ≡ Value v next
+    → Spelling k s (at + 1) (scale * 128) (sum + getD s at 0 % 128 * scale) v next)
     → Spelling (suc k) s at scale sum v next
-group-spelling {s = s} {at = at} {scale = scale} h (nought w b o z n) rest = one-group 0 (sym b) w (omega arith) (omega arith) (λ e. o) n
-group-spelling {s = s} {at = at} {scale = scale} h (last w b c q m n) rest = one-group (getD s at 0) refl w c q (λ e. absurd (omega arith)) n
+group-spelling h (nought w b o z n) rest = one-group 0 (sym b) w (omega arith) (omega arith) (λ e. o) n
+group-spelling {s = s} {at = at} h (last w b c q m n) rest =
+    one-group (getD s at 0) refl w c q (λ e. absurd (omega arith)) n
 group-spelling h (more w b e) rest = more-groups w b (rest e)
 
 next-below : (sum b scale : ℕ) → sum < scale → sum + b % 128 * scale < scale * 128
@@ -183,9 +137,9 @@ read-is-shortest s at y e =
     record { ends = read-ends s at e; spells = rw (← spelled-value s at e) (number-spelling s at e .stands y) }
 
 -- how many values `left` groups spell
-room : ℕ → ℕ
-room zero = 1
-room (suc k) = room k * 128
+values : ℕ → ℕ
+values zero = 1
+values (suc k) = values k * 128
 
 -- What the groups at `at` are, where they start with b.
 record Starts (s : List ℕ) (at b : ℕ) (t : List ℕ) : Type 0 where
@@ -199,17 +153,8 @@ starts s at b t e =
     let d : getD s at 0 ∷ drop (at + 1) s ≡ b ∷ t = rw (add-one at) (sym (drop-cons s at 0 w) ∙ e) in
     record { within = w; group = cc; after = cc }
 
--- what `groups` makes of one group b, the last or not
-module _ (k : ℕ) (s : List ℕ) (at b scale sum : ℕ) (w : at < length s) (e : getD s at 0 ≡ b) (fit : sum + b % 128 * scale ≤ 4294967295) where
-  pub groups-last : b < 128 → groups (suc k) s at scale sum ≡ lastGroup b scale (sum + b % 128 * scale) (at + 1)
-  unfolding groups
-  groups-last h = simp (e, lt-leb _ _ w, le-ltb _ _ fit, lt-ltb _ _ h)
-
-  pub groups-more : 128 ≤ b → groups (suc k) s at scale sum ≡ groups k s (at + 1) (scale * 128) (sum + b % 128 * scale)
-  unfolding groups
-  groups-more h = simp (e, lt-leb _ _ w, le-ltb _ _ fit, le-ltb _ _ h)
-
-last-value : (v scale sum next : ℕ) → sum < scale → (v ≡ 0 → scale ≡ 1) → lastGroup v scale (sum + v * scale) next ≡ Value (sum + v * scale) next
+last-value : (v scale sum next : ℕ) → sum < scale → (v ≡ 0 → scale ≡ 1)
+    → lastGroup v scale (sum + v * scale) next ≡ Value (sum + v * scale) next
 unfolding lastGroup
 last-value zero scale sum next h o = let z : sum + 0 * scale ≡ 0 = omega (arith, o refl) in simp (eq-eqb scale 1 (o refl), z)
 last-value (suc v) scale sum next h o = simp (ne-eqb (suc v) 0 (λ z. omega arith))
@@ -228,7 +173,8 @@ unfolding Read
 last-read k v l s r at scale sum e h fit o =
     let t = starts s at v r (e ∙ rw (spelled-last k v l)) in
     let m : v % 128 ≡ v = mod-eq-of-lt l in
-    rw (spelled-last k v l) (groups-last k s at v scale sum (t .within) (t .group) (part-fits v scale sum fit) l ∙ rw m (last-value v scale sum (at + 1) h o))
+    let step = groups-last k s at scale sum v (t .within) (t .group) (part-fits v scale sum fit) l in
+    rw (spelled-last k v l) (step ∙ rw m (last-value v scale sum (at + 1) h o))
 
 more-read : (k v : ℕ) → 128 ≤ v → Read k (v / 128) → Read (suc k) v
 unfolding Read
@@ -237,13 +183,12 @@ more-read k v l rest s r at scale sum e h fit o =
     let m : (v % 128 + 128) % 128 ≡ v % 128 = omega arith in
     let all : sum + v % 128 * scale + v / 128 * (scale * 128) ≡ sum + v * scale =
     together sum (v % 128) (v / 128) scale ∙ rw (mod-add-div' v 128) in
-    let step = groups-more k s at (v % 128 + 128) scale sum (t .within) (t .group) (rw m (part-fits v scale sum fit)) (omega arith) in
-    rw (spelled-more k v l)
-    (step ∙ rw m (rest s r (at + 1) (scale * 128) (sum + v % 128 * scale) (t .after) (next-below sum v scale h) (rw all fit) (λ z. absurd (omega arith))
-    ∙ rw all (ap (Value (sum + v * scale)) (omega arith))))
+    let step = groups-more k s at scale sum (v % 128 + 128) (t .within) (t .group) (rw m (part-fits v scale sum fit)) (omega arith) in
+    let after = rest s r (at + 1) (scale * 128) (sum + v % 128 * scale) (t .after) (next-below sum v scale h) (rw all fit) (λ z. absurd (omega arith)) in
+    rw (spelled-more k v l) (step ∙ rw m (after ∙ rw all (ap (Value (sum + v * scale)) (omega arith))))
 
-spelled-read : (left v : ℕ) → v < room left → (v ≡ 0 → 0 < left) → Read left v
-unfolding room
+spelled-read : (left v : ℕ) → v < values left → (v ≡ 0 → 0 < left) → Read left v
+unfolding values
 spelled-read zero v f z = absurd (omega (arith, z (omega arith)))
 spelled-read (suc k) v f z =
     elim (decLt v 128) [
@@ -252,17 +197,22 @@ spelled-read (suc k) v f z =
     ]
 
 -- The shortest spelling of a value is read as the value, wherever it stands.
-pub shortest-is-read : (p r : List ℕ) (v : ℕ) → v ≤ 4294967295 → numberAt (p ++ (shortest v ++ r)) (length p) ≡ Value v (length p + length (shortest v))
-unfolding numberAt shortest room Read
+pub shortest-is-read : (p r : List ℕ) (v : ℕ) → v ≤ 4294967295
+    → numberAt (p ++ (shortest v ++ r)) (length p) ≡ Value v (length p + length (shortest v))
+unfolding numberAt shortest values Read
 shortest-is-read p r v h =
     let q : 0 + v * 1 ≡ v = omega arith in
-    rw q at (spelled-read 5 v (omega arith) (λ z. omega arith) (p ++ (spelled 5 v ++ r)) r (length p) 1 0 (drop-append-seam p (spelled 5 v ++ r)) (omega arith) (omega arith) (λ z. refl))
+    let here = drop-append-seam p (spelled 5 v ++ r) in
+    rw q at
+    (spelled-read 5 v (omega arith) (λ z. omega arith) (p ++ (spelled 5 v ++ r)) r (length p) 1 0 here (omega arith) (omega arith) (λ z. refl))
 
 -- what holds of a last group and of a group with a spelling after it holds of a spelling
-spelled-cases : (P : List ℕ → Type 0) (k v : ℕ) → (v < 128 → P (v ∷ [])) → P ((v % 128 + 128) ∷ spelled k (v / 128)) → P (spelled (suc k) v)
+spelled-cases : (P : List ℕ → Type 0) (k v : ℕ) → (v < 128 → P (v ∷ [])) → P ((v % 128 + 128) ∷ spelled k (v / 128))
+    → P (spelled (suc k) v)
 spelled-cases P k v one long =
     elim (decLt v 128) [ yes l ↦ rw (spelled-last k v l) (one l) | no l ↦ rw (spelled-more k v (omega (arith, l))) long ]
 
+-- what is a list of bytes
 pub bytes-nil : Bytes []
 bytes-nil i = omega arith
 

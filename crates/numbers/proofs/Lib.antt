@@ -1,2 +1,3 @@
--- What other crates' proofs cite of this one.
+-- What the proofs of this crate share; other crates' proofs cite the laws.
+mod Groups
 pub mod Laws

@@ -6,7 +6,7 @@ use lib.ListN.{getD}
 use lib.Dec.{ltb}
 use Rattle.numbers.specs.Number.{cond}
 
--- every element is below 256: what a slice of bytes has for its own
+-- every element is below 256, as in a slice of bytes
 abbrev pub Bytes : List ℕ → Type 0
 Bytes s = (i : ℕ) → getD s i 0 < 256
 

@@ -1,0 +1,26 @@
+//! Tells the linker where the proved library is, when the feature `library` is on.
+
+use std::env;
+use std::path::PathBuf;
+
+fn main() {
+    println!("cargo::rerun-if-changed=build.rs");
+    println!("cargo::rerun-if-env-changed=MOONHALYARD_LIB");
+    if env::var_os("CARGO_FEATURE_LIBRARY").is_none() {
+        return;
+    }
+    // A relative folder counts from this package's folder.
+    let here = PathBuf::from(env::var_os("CARGO_MANIFEST_DIR").unwrap());
+    let folder = env::var_os("MOONHALYARD_LIB").unwrap_or("../target/staticlib".into());
+    let folder = here.join(folder);
+    let archive = folder.join("libboundary.a");
+    if !archive.exists() {
+        println!(
+            "cargo::error=no {}: build the proved library or set MOONHALYARD_LIB",
+            archive.display()
+        );
+    }
+    println!("cargo::rerun-if-changed={}", archive.display());
+    println!("cargo::rustc-link-search=native={}", folder.display());
+    println!("cargo::rustc-link-lib=static:-bundle=boundary");
+}

@@ -1,0 +1,324 @@
+//! The model of the plan reader: one pass over the bytes, written from document 01 alone.
+
+pub const MAX_BYTES: usize = 4096;
+pub const MAX_ACTIVITIES: usize = 256;
+pub const MAX_DEPTH: u32 = 16;
+pub const MAX_EXPRESSION_DEPTH: u32 = 8;
+
+/// Why a plan is refused: the number of document 01's table and the place.
+#[derive(Clone, Copy, Debug, PartialEq, Eq)]
+pub struct Refusal {
+    pub number: u32,
+    pub place: u32,
+}
+
+/// The bytes start..end that spell one activity or arm.
+#[derive(Clone, Copy, Debug, PartialEq, Eq)]
+pub struct Part {
+    pub start: u32,
+    pub end: u32,
+}
+
+/// An accepted plan: the part of each activity and arm, in file order.
+#[derive(Clone, Debug, Default, PartialEq, Eq)]
+pub struct Plan {
+    pub parts: Vec<Part>,
+}
+
+impl Plan {
+    /// The number of activities and arms.
+    pub fn count(&self) -> usize {
+        self.parts.len()
+    }
+}
+
+/// Reads a plan.
+pub fn read(bytes: &[u8]) -> Result<Plan, Refusal> {
+    let mut plan = Plan::default();
+    read_into(bytes, &mut plan)?;
+    Ok(plan)
+}
+
+/// Reads a plan into one that is used again. After a refusal `plan` has no parts.
+pub fn read_into(bytes: &[u8], plan: &mut Plan) -> Result<(), Refusal> {
+    plan.parts.clear();
+    let answer = read_parts(bytes, &mut plan.parts);
+    if answer.is_err() {
+        plan.parts.clear();
+    }
+    answer
+}
+
+/// Reads one number at `place`: its value and the place after it.
+pub fn read_number(bytes: &[u8], place: usize) -> Result<(u32, usize), Refusal> {
+    let first = place;
+    let mut place = place;
+    let mut value = 0;
+    let mut shift = 0;
+    loop {
+        if place >= bytes.len() {
+            return refuse(2, bytes.len());
+        }
+        let byte = bytes[place];
+        place += 1;
+        // The fifth group has room for four bits and none after it.
+        if shift == 28 && byte > 0x0F {
+            return refuse(3, first);
+        }
+        value |= u32::from(byte & 0x7F) << shift;
+        if byte < 0x80 {
+            // A last group of zero is not the shortest form, unless it is the only one.
+            if byte == 0 && shift > 0 {
+                return refuse(3, first);
+            }
+            return Ok((value, place));
+        }
+        shift += 7;
+    }
+}
+
+fn refuse<T>(number: u32, place: usize) -> Result<T, Refusal> {
+    Err(Refusal {
+        number,
+        place: place as u32,
+    })
+}
+
+fn read_parts(bytes: &[u8], parts: &mut Vec<Part>) -> Result<(), Refusal> {
+    if bytes.len() > MAX_BYTES {
+        return refuse(1, 0);
+    }
+    let mut reading = Reading {
+        bytes,
+        place: 0,
+        variables: 0,
+        correlation: 0,
+        parts,
+    };
+    reading.header()?;
+    let body = reading.place;
+    let starts = reading.activity(1, false)?;
+    reading.activity(1, true)?;
+    if reading.place < bytes.len() {
+        return refuse(9, reading.place);
+    }
+    if !starts {
+        return refuse(7, body);
+    }
+    Ok(())
+}
+
+/// The reading of one plan: where it stands and what it has seen.
+struct Reading<'a> {
+    bytes: &'a [u8],
+    place: usize,
+    /// How many variables the plan has.
+    variables: u32,
+    /// Bit v is set when variable v is for correlation.
+    correlation: u32,
+    parts: &'a mut Vec<Part>,
+}
+
+impl Reading<'_> {
+    #[inline]
+    fn number(&mut self) -> Result<u32, Refusal> {
+        // Most numbers have one group.
+        if let Some(&byte) = self.bytes.get(self.place)
+            && byte < 0x80
+        {
+            self.place += 1;
+            return Ok(u32::from(byte));
+        }
+        let (value, next) = read_number(self.bytes, self.place)?;
+        self.place = next;
+        Ok(value)
+    }
+
+    /// A number from `low` to `high`.
+    #[inline]
+    fn within(&mut self, low: u32, high: u32) -> Result<u32, Refusal> {
+        let place = self.place;
+        let value = self.number()?;
+        if value < low || value > high {
+            return refuse(5, place);
+        }
+        Ok(value)
+    }
+
+    /// Version, count of variables, and the list of correlation variables.
+    fn header(&mut self) -> Result<(), Refusal> {
+        if self.number()? != 1 {
+            return refuse(4, 0);
+        }
+        self.variables = self.within(1, 16)?;
+        let count = self.within(0, self.variables)?;
+        let mut lowest = 0;
+        for _ in 0..count {
+            let variable = self.within(lowest, self.variables - 1)?;
+            self.correlation |= 1 << variable;
+            lowest = variable + 1;
+        }
+        Ok(())
+    }
+
+    /// One more activity or arm that begins at `start`. Answers its number.
+    #[inline]
+    fn add(&mut self, start: usize) -> Result<usize, Refusal> {
+        let k = self.parts.len();
+        if k == MAX_ACTIVITIES {
+            return refuse(6, start);
+        }
+        self.parts.push(Part {
+            start: start as u32,
+            end: start as u32,
+        });
+        Ok(k)
+    }
+
+    #[inline]
+    fn end(&mut self, k: usize) {
+        self.parts[k].end = self.place as u32;
+    }
+
+    /// An activity at `depth`. `handler` tells that it stands in a fault or undo part.
+    /// Answers whether it is a start form.
+    fn activity(&mut self, depth: u32, handler: bool) -> Result<bool, Refusal> {
+        let start = self.place;
+        let code = self.number()?;
+        if code > 11 {
+            return refuse(4, start);
+        }
+        if code == 11 && handler {
+            return refuse(8, start);
+        }
+        if depth > MAX_DEPTH {
+            return refuse(6, start);
+        }
+        let k = self.add(start)?;
+        let starts = match code {
+            // send
+            1 => {
+                self.within(0, 63)?;
+                self.operation_and_tuple(false)?;
+                false
+            }
+            // receive
+            2 => {
+                self.within(0, 63)?;
+                self.operation_and_tuple(true)?;
+                true
+            }
+            // set
+            3 => {
+                let place = self.place;
+                let variable = self.within(0, self.variables - 1)?;
+                if self.correlation >> variable & 1 == 1 {
+                    return refuse(5, place);
+                }
+                self.expression(1)?;
+                false
+            }
+            // choose
+            6 => {
+                self.expression(1)?;
+                self.activity(depth + 1, handler)?;
+                self.activity(depth + 1, handler)?;
+                false
+            }
+            // repeat
+            7 => {
+                self.expression(1)?;
+                self.activity(depth + 1, handler)?;
+                false
+            }
+            // sequence: its first decides
+            8 => {
+                let count = self.within(1, 32)?;
+                let first = self.activity(depth + 1, handler)?;
+                for _ in 1..count {
+                    self.activity(depth + 1, handler)?;
+                }
+                first
+            }
+            // flow: all decide
+            9 => {
+                let count = self.within(1, 32)?;
+                let mut all = true;
+                for _ in 0..count {
+                    all &= self.activity(depth + 1, handler)?;
+                }
+                all
+            }
+            // pick
+            10 => {
+                let count = self.within(1, 8)?;
+                for _ in 0..count {
+                    self.arm(depth, handler)?;
+                }
+                true
+            }
+            // scope: its body decides
+            11 => {
+                let body = self.activity(depth + 1, false)?;
+                self.activity(depth + 1, true)?;
+                self.activity(depth + 1, true)?;
+                body
+            }
+            // empty, raise, leave
+            _ => false,
+        };
+        self.end(k);
+        Ok(starts)
+    }
+
+    /// An arm of a pick at `depth`. The arm itself adds no depth.
+    fn arm(&mut self, depth: u32, handler: bool) -> Result<(), Refusal> {
+        let start = self.place;
+        self.within(0, 63)?;
+        let k = self.add(start)?;
+        self.operation_and_tuple(true)?;
+        self.activity(depth + 1, handler)?;
+        self.end(k);
+        Ok(())
+    }
+
+    /// What follows a partner: operation, count and variables.
+    fn operation_and_tuple(&mut self, distinct: bool) -> Result<(), Refusal> {
+        self.within(0, 63)?;
+        let count = self.within(1, 4)?;
+        let mut seen = 0u32;
+        for _ in 0..count {
+            let place = self.place;
+            let variable = self.within(0, self.variables - 1)?;
+            if distinct && seen >> variable & 1 == 1 {
+                return refuse(5, place);
+            }
+            seen |= 1 << variable;
+        }
+        Ok(())
+    }
+
+    fn expression(&mut self, depth: u32) -> Result<(), Refusal> {
+        let start = self.place;
+        let form = self.number()?;
+        if form > 5 {
+            return refuse(4, start);
+        }
+        if depth > MAX_EXPRESSION_DEPTH {
+            return refuse(6, start);
+        }
+        match form {
+            0 => {
+                self.number()?;
+            }
+            1 => {
+                self.within(0, self.variables - 1)?;
+            }
+            _ => {
+                self.expression(depth + 1)?;
+                self.expression(depth + 1)?;
+            }
+        }
+        Ok(())
+    }
+}

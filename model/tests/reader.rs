@@ -1,0 +1,218 @@
+//! Checks of the model by itself: document 01's examples, the vectors, the edge cases, the generator.
+
+use model::edges::{self, Answer};
+use model::generate::{self, Random};
+use model::reader::{self, Part, Refusal, read, read_number};
+use model::vectors;
+
+fn refused(number: u32, place: u32) -> Result<usize, Refusal> {
+    Err(Refusal { number, place })
+}
+
+fn count(bytes: &[u8]) -> Result<usize, Refusal> {
+    read(bytes).map(|plan| plan.count())
+}
+
+const A: [u8; 11] = [
+    0x01, 0x02, 0x01, 0x00, 0x02, 0x03, 0x05, 0x02, 0x00, 0x01, 0x00,
+];
+
+#[test]
+fn examples_of_document_01() {
+    assert_eq!(count(&A), Ok(2));
+    assert_eq!(
+        read(&A).unwrap().parts,
+        [Part { start: 4, end: 10 }, Part { start: 10, end: 11 }]
+    );
+    assert_eq!(count(&A[..10]), refused(2, 10));
+    let mut longer = A.to_vec();
+    longer.push(0);
+    assert_eq!(count(&longer), refused(9, 11));
+    assert_eq!(count(&[]), refused(2, 0));
+    assert_eq!(count(&[0x02]), refused(4, 0));
+    assert_eq!(count(&[0x81, 0x00]), refused(3, 0));
+    assert_eq!(count(&[0x01, 0x02, 0x01, 0x00, 0x00, 0x00]), refused(7, 4));
+    let mut twice = A;
+    twice[9] = 0;
+    assert_eq!(count(&twice), refused(5, 9));
+    assert_eq!(read_number(&[0xAC, 0x02], 0), Ok((300, 2)));
+    assert_eq!(
+        read_number(&[0xFF, 0xFF, 0xFF, 0xFF, 0x0F], 0),
+        Ok((4294967295, 5))
+    );
+    assert_eq!(
+        read_number(&[0xFF, 0xFF, 0xFF, 0xFF, 0x10], 0),
+        Err(Refusal {
+            number: 3,
+            place: 0
+        })
+    );
+}
+
+#[test]
+fn plans_b_and_c_of_document_01() {
+    // B: receives 5 then 6 of (0, 1).
+    assert_eq!(
+        count(&[1, 2, 1, 0, 8, 2, 2, 0, 5, 2, 0, 1, 2, 0, 6, 2, 0, 1, 0]),
+        Ok(4)
+    );
+    // C: a receive, two scopes with an undo part that sends, raise; empty fault part.
+    let c = [
+        1, 1, 0, 8, 4, 2, 0, 0, 1, 0, 11, 0, 0, 1, 0, 1, 1, 0, 11, 0, 0, 1, 0, 2, 1, 0, 4, 0,
+    ];
+    assert_eq!(count(&c), Ok(12));
+    assert_eq!(read(&c).unwrap().parts[2], Part { start: 10, end: 18 });
+}
+
+#[test]
+fn an_arm_is_shown_from_its_partner_number() {
+    // A pick of two arms; the second one's activity is a raise.
+    let plan = read(&[1, 1, 0, 10, 2, 7, 8, 1, 0, 0, 6, 5, 1, 0, 4, 5]).unwrap();
+    let parts: Vec<(u32, u32)> = plan
+        .parts
+        .iter()
+        .map(|part| (part.start, part.end))
+        .collect();
+    assert_eq!(
+        parts,
+        [(3, 15), (5, 10), (9, 10), (10, 15), (14, 15), (15, 16)]
+    );
+}
+
+#[test]
+fn numbers() {
+    for value in generate::TELLING {
+        let bytes = generate::spell(value);
+        assert_eq!(read_number(&bytes, 0), Ok((value, bytes.len())));
+        for cut in 0..bytes.len() {
+            assert_eq!(
+                read_number(&bytes[..cut], 0),
+                Err(Refusal {
+                    number: 2,
+                    place: cut as u32
+                })
+            );
+        }
+    }
+    for bytes in generate::MISSPELT {
+        assert_eq!(
+            read_number(bytes, 0),
+            Err(Refusal {
+                number: 3,
+                place: 0
+            }),
+            "{bytes:02x?}"
+        );
+    }
+}
+
+#[test]
+fn every_line_of_the_vectors() {
+    let vectors = vectors::all();
+    let lines = vectors::TEXT
+        .lines()
+        .filter(|line| !line.starts_with('#'))
+        .count();
+    assert_eq!(vectors.len(), lines);
+    assert!(lines > 0);
+    for vector in vectors {
+        let answer = match read(&vector.bytes) {
+            Ok(plan) => (0, 0, plan.count()),
+            Err(refusal) => (refusal.number, refusal.place, 0),
+        };
+        assert_eq!(
+            answer,
+            (vector.refusal, vector.place, vector.count),
+            "line {}",
+            vector.line
+        );
+    }
+}
+
+#[test]
+fn every_edge_case() {
+    let mut wrong = 0;
+    let mut worked = 0;
+    for case in edges::all() {
+        let answer = match read(&case.bytes) {
+            Ok(plan) => Answer::Accepted(plan.count()),
+            Err(refusal) => Answer::Refused(refusal.number, refusal.place as usize),
+        };
+        if case.answer == Answer::Open {
+            continue;
+        }
+        worked += 1;
+        if answer != case.answer {
+            wrong += 1;
+            println!(
+                "{}: {} should be {:?}, is {answer:?}",
+                case.name,
+                vectors::hex(&case.bytes),
+                case.answer
+            );
+        }
+    }
+    println!("{worked} edge cases with their answer");
+    assert_eq!(wrong, 0);
+}
+
+#[test]
+fn legal_plans_are_accepted_with_the_parts_they_were_written_with() {
+    let mut random = Random::new(1);
+    let mut deepest = 0;
+    let mut deepest_expression = 0;
+    let mut most = 0;
+    let mut longest = 0;
+    for _ in 0..20_000 {
+        let sheet = generate::legal(&mut random);
+        let plan = match read(&sheet.bytes) {
+            Ok(plan) => plan,
+            Err(refusal) => panic!("{} gets {refusal:?}", vectors::hex(&sheet.bytes)),
+        };
+        let parts: Vec<(usize, usize)> = plan
+            .parts
+            .iter()
+            .map(|part| (part.start as usize, part.end as usize))
+            .collect();
+        assert_eq!(parts, sheet.parts, "{}", vectors::hex(&sheet.bytes));
+        deepest = deepest.max(sheet.deepest);
+        deepest_expression = deepest_expression.max(sheet.deepest_expression);
+        most = most.max(parts.len());
+        longest = longest.max(sheet.bytes.len());
+    }
+    assert_eq!(
+        (deepest, deepest_expression, most, longest),
+        (16, 8, 256, 4096)
+    );
+}
+
+#[test]
+fn the_mix_earns_every_refusal() {
+    let mut random = Random::new(2);
+    let mut tally = [0; 10];
+    let mut bytes = 0;
+    for _ in 0..20_000 {
+        let plan = generate::mixed(&mut random);
+        bytes += plan.len();
+        tally[read(&plan).map_or_else(|refusal| refusal.number, |_| 0) as usize] += 1;
+    }
+    println!("{tally:?}, {} bytes on average", bytes / 20_000);
+    assert!(tally.iter().all(|&count| count > 0), "{tally:?}");
+}
+
+#[test]
+fn the_same_seed_gives_the_same_plans() {
+    let (mut one, mut other) = (Random::new(3), Random::new(3));
+    for _ in 0..200 {
+        assert_eq!(generate::mixed(&mut one), generate::mixed(&mut other));
+    }
+}
+
+#[test]
+fn a_plan_used_again_holds_nothing_old() {
+    let mut plan = reader::Plan::default();
+    reader::read_into(&A, &mut plan).unwrap();
+    assert_eq!(plan.count(), 2);
+    assert!(reader::read_into(&A[..10], &mut plan).is_err());
+    assert_eq!(plan.count(), 0);
+}
