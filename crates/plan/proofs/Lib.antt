@@ -7,3 +7,4 @@ pub mod Spelled
 pub mod Bounds
 pub mod Limits
 pub mod OneNumber
+pub mod ExpressionReads

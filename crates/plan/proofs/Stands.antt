@@ -125,7 +125,7 @@ code-stands s at =
     finds-then (number-stands s at)
     (λ code next h. finds-cond (ltb 5 code) (λ t. finds-refused) (λ t. finds-found (h, ltb-false 5 code t)))
 
-operation-code : (code : ℕ) → 2 ≤ code → code ≤ 5 → operationCode (operationOf code) ≡ code
+pub operation-code : (code : ℕ) → 2 ≤ code → code ≤ 5 → operationCode (operationOf code) ≡ code
 unfolding operationCode
 operation-code code l m =
     code-case (λ o. operationCode o ≡ code) code 2 l sym
