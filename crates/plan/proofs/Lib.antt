@@ -3,3 +3,4 @@ pub mod Finds
 pub mod Stands
 pub mod Spelled
 pub mod Bounds
+pub mod OneNumber

@@ -1,2 +1,85 @@
-// Reads plans.
-pub fn nothing(x: u32) -> u32 { x }
+// Reads plans: document 01, "The plan on file". The public calls are `accept` and `show`.
+mod expressions;
+mod fields;
+mod owns;
+mod root;
+mod table;
+mod tree;
+
+
+// What reading one number finds.
+pub enum Field {
+    Got { value: u32, next: usize },
+    Refused { number: u32, place: usize },
+}
+
+// What reading a tuple finds: its count as the value, and beside it its variables, with zeros behind them.
+pub struct Tuple {
+    pub out: Field,
+    pub variables: [u32; 4],
+}
+
+// What reading an expression finds: the next place and the number of the next node.
+pub enum Nodes {
+    Read { next: usize, nodes: usize },
+    Refused { number: u32, place: usize },
+}
+
+// What reading an activity's own numbers finds: its kind, how many stand directly within it, the next place and the number of the next node.
+pub enum Own {
+    Read { kind: u32, within: u32, next: usize, nodes: usize },
+    Refused { number: u32, place: usize },
+}
+
+// What reading activities finds: the next place, the number of the next activity and of the next node, and whether the first and whether
+// every one of them is a start form.
+pub enum Out {
+    Read { next: usize, count: usize, nodes: usize, first: bool, every: bool },
+    Refused { number: u32, place: usize },
+}
+
+// Whether bytes are a plan.
+pub enum Answer {
+    Accepted { variables: u32, activities: usize, nodes: usize },
+    Refused { number: u32, place: usize },
+}
+
+// Activity or arm k of the plan s, as the very part of s that spells it; 16 where there is no activity k, a bad plan's own number.
+// Where it refuses, the part is empty.
+pub fn show<'a>(s: &'a [u8], k: usize, refusal: &mut u32) -> &'a [u8] {
+    let mut table = [0u32; 11584];
+    let mut correlation = [0u8; 16];
+    let a = accept(s, &mut table, &mut correlation);
+    match a {
+        Answer::Refused { number, place: _ } => {
+            *refusal = number;
+            &s[0..0]
+        }
+        Answer::Accepted { variables: _, activities, nodes: _ } => {
+            if k < activities {
+                let start = table[k * 13 + 10] as usize;
+                let stop = table[k * 13 + 12] as usize;
+                *refusal = 0;
+                &s[start..stop]
+            } else {
+                *refusal = 16;
+                &s[0..0]
+            }
+        }
+    }
+}
+
+// The whole plan: its answer, and in the lent arrays its table and which variables are for correlation. All zero where it is refused.
+pub fn accept(s: &[u8], table: &mut [u32; 11584], correlation: &mut [u8; 16]) -> Answer {
+    *table = [0u32; 11584];
+    *correlation = [0u8; 16];
+    let a = root::plan_at(s, table, correlation);
+    match a {
+        Answer::Accepted { variables: _, activities: _, nodes: _ } => a,
+        Answer::Refused { number: _, place: _ } => {
+            *table = [0u32; 11584];
+            *correlation = [0u8; 16];
+            a
+        }
+    }
+}

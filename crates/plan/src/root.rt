@@ -1,0 +1,93 @@
+// Reads a whole plan: its head, the root's body and the root's fault part.
+use super::Answer;
+use super::Field;
+use super::Out;
+use super::fields::{field_at, number_at};
+use super::tree::activities_at;
+
+// The version, which is 1.
+fn version_at(s: &[u8]) -> Field {
+    let read = number_at(s, 0);
+    match read {
+        Field::Refused { number: _, place: _ } => read,
+        Field::Got { value, next: _ } => {
+            if value == 1 {
+                return read;
+            }
+            Field::Refused { number: 4, place: 0 }
+        }
+    }
+}
+
+// `count` correlation variables from `at` on, flagged; the next place.
+fn correlation_at(s: &[u8], at: usize, count: u32, vars: u32, flags: &mut [u8; 16]) -> Field {
+    let mut left = count;
+    let mut least: u32 = 0;
+    let mut p = at;
+    while left > 0 {
+        let f = field_at(s, p, least, vars);
+        match f {
+            Field::Refused { number: _, place: _ } => {
+                return f;
+            }
+            Field::Got { value, next } => {
+                let v = value as usize;
+                flags[v] = 1;
+                least = value + 1;
+                p = next;
+                left -= 1;
+            }
+        }
+    }
+    Field::Got { value: count, next: p }
+}
+
+// The root's body and the root's fault part.
+fn root_at(s: &[u8], at: usize, vars: u32, flags: &[u8; 16], table: &mut [u32; 11584]) -> Answer {
+    let parts = activities_at(s, at, false, false, true, 2, 16, vars, flags, 0, 0, table);
+    match parts {
+        Out::Refused { number, place } => Answer::Refused { number, place },
+        Out::Read { next, count, nodes, first, every: _ } => {
+            if next < s.len() {
+                return Answer::Refused { number: 9, place: next };
+            }
+            if first {
+                return Answer::Accepted { variables: vars, activities: count, nodes };
+            }
+            Answer::Refused { number: 7, place: at }
+        }
+    }
+}
+
+// The correlation variables and what follows them.
+fn flagged_at(s: &[u8], at: usize, vars: u32, table: &mut [u32; 11584], flags: &mut [u8; 16]) -> Answer {
+    let c = field_at(s, at, 0, vars + 1);
+    match c {
+        Field::Refused { number, place } => Answer::Refused { number, place },
+        Field::Got { value: count, next } => {
+            let f = correlation_at(s, next, count, vars, flags);
+            match f {
+                Field::Refused { number, place } => Answer::Refused { number, place },
+                Field::Got { value: _, next: body } => root_at(s, body, vars, flags, table),
+            }
+        }
+    }
+}
+
+// The whole plan, into a table and flags that are blank.
+pub(crate) fn plan_at(s: &[u8], table: &mut [u32; 11584], flags: &mut [u8; 16]) -> Answer {
+    if 4096 < s.len() {
+        return Answer::Refused { number: 1, place: 0 };
+    }
+    let version = version_at(s);
+    match version {
+        Field::Refused { number, place } => Answer::Refused { number, place },
+        Field::Got { value: _, next } => {
+            let v = field_at(s, next, 1, 17);
+            match v {
+                Field::Refused { number, place } => Answer::Refused { number, place },
+                Field::Got { value: vars, next: after } => flagged_at(s, after, vars, table, flags),
+            }
+        }
+    }
+}

@@ -1,0 +1,68 @@
+// Stores into the table of a plan: a row for each activity and arm, a flag for each partner that is received on, and expression nodes.
+ghost use Prim.Native.Nat.{_≤_, _<_};
+ghost use lib.ListN.{getD};
+ghost use mathlib.Core.List.{[], _∷_};
+ghost use mathlib.Core.Path.{_≡_};
+ghost use Rattle.plan.specs.Table.{noted, putRow, putClose, putNode};
+
+// Flags the partner of a receive or an arm.
+fn note(table: &mut [u32; 11584], kind: u32, partner: u32)
+    requires { ⌜ partner < 64 ⌝ }
+    ensures { λ _. ⌜ now (table .exit) ≡ noted kind partner (now (table .entry)) ⌝ }
+{
+    if kind == 2 || kind == 12 {
+        let p = partner as usize;
+        table[3328 + p] = 1;
+    }
+}
+
+// Row n, but for its end and its stop.
+pub(crate) fn write_row(
+    table: &mut [u32; 11584],
+    n: usize,
+    kind: u32,
+    partner: u32,
+    operation: u32,
+    count: u32,
+    variables: [u32; 4],
+    variable: u32,
+    expression: usize,
+    place: usize,
+)
+    requires { ⌜ ((n < 256) × (partner < 64)) × ((expression ≤ 4096) × (place ≤ 4096)) ⌝ }
+    ensures { λ _. ⌜ now (table .exit) ≡ putRow n (kind ∷ partner ∷ operation ∷ count ∷ getD variables 0 0 ∷ getD variables 1 0 ∷ getD variables 2 0 ∷ getD variables 3 0 ∷ variable ∷ expression ∷ place ∷ []) (now (table .entry)) ⌝ }
+{
+    let b = n * 13;
+    table[b] = kind;
+    table[b + 1] = partner;
+    table[b + 2] = operation;
+    table[b + 3] = count;
+    table[b + 4] = variables[0];
+    table[b + 5] = variables[1];
+    table[b + 6] = variables[2];
+    table[b + 7] = variables[3];
+    table[b + 8] = variable;
+    table[b + 9] = expression as u32;
+    table[b + 10] = place as u32;
+    note(table, kind, partner);
+}
+
+// The end and the stop of row n: the number after its last activity, and the place after its last byte.
+pub(crate) fn close_row(table: &mut [u32; 11584], n: usize, end: usize, stop: usize)
+    requires { ⌜ (n < 256) × ((end ≤ 256) × (stop ≤ 4096)) ⌝ }
+    ensures { λ _. ⌜ now (table .exit) ≡ putClose n end stop (now (table .entry)) ⌝ }
+{
+    let b = n * 13;
+    table[b + 11] = end as u32;
+    table[b + 12] = stop as u32;
+}
+
+// Expression node m.
+pub(crate) fn write_node(table: &mut [u32; 11584], m: usize, code: u32, value: u32)
+    requires { ⌜ m < 4096 ⌝ }
+    ensures { λ _. ⌜ now (table .exit) ≡ putNode m code value (now (table .entry)) ⌝ }
+{
+    let b = m * 2;
+    table[3392 + b] = code;
+    table[3393 + b] = value;
+}

@@ -1,0 +1,70 @@
+// Reads an activity and a list of activities, which call each other.
+use super::Out;
+use super::Own;
+use super::owns::own_at;
+use super::table::close_row;
+
+// The levels left for what stands within: an arm adds no depth.
+fn levels_below(arm: bool, depth: usize) -> usize {
+    if arm { depth } else { depth - 1 }
+}
+
+// Whether those after the first within stand in a fault part or an undo part.
+fn later_of(kind: u32, handler: bool) -> bool {
+    if kind == 11 { true } else { handler }
+}
+
+// Whether an activity of this kind is a start form.
+fn starts_of(kind: u32, first: bool, every: bool) -> bool {
+    match kind {
+        2 => true,
+        8 => first,
+        9 => every,
+        10 => true,
+        11 => first,
+        _ => false,
+    }
+}
+
+fn both(a: bool, b: bool) -> bool {
+    if a { b } else { false }
+}
+
+// The activity, or the arm, with the number n at `at`, whose first node is m.
+fn activity_at(s: &[u8], at: usize, arm: bool, handler: bool, depth: usize, vars: u32, correlation: &[u8; 16], n: usize, m: usize, table: &mut [u32; 11584]) -> Out {
+    let own = own_at(s, at, arm, handler, depth, vars, correlation, n, m, table);
+    match own {
+        Own::Refused { number, place } => Out::Refused { number, place },
+        Own::Read { kind, within, next, nodes } => {
+            let later = later_of(kind, handler);
+            let below = levels_below(arm, depth);
+            let all = activities_at(s, next, kind == 10, handler, later, within, below, vars, correlation, n + 1, nodes, table);
+            match all {
+                Out::Refused { number: _, place: _ } => all,
+                Out::Read { next: stop, count: end, nodes: last, first, every } => {
+                    close_row(table, n, end, stop);
+                    let start = starts_of(kind, first, every);
+                    Out::Read { next: stop, count: end, nodes: last, first: start, every: start }
+                }
+            }
+        }
+    }
+}
+
+// `left` activities, or arms, from `at` on. `handler` is that of the first of them and `later` that of the others.
+pub(crate) fn activities_at(s: &[u8], at: usize, arms: bool, handler: bool, later: bool, left: u32, depth: usize, vars: u32, correlation: &[u8; 16], n: usize, m: usize, table: &mut [u32; 11584]) -> Out {
+    if left == 0 {
+        return Out::Read { next: at, count: n, nodes: m, first: false, every: true };
+    }
+    let one = activity_at(s, at, arms, handler, depth, vars, correlation, n, m, table);
+    match one {
+        Out::Refused { number: _, place: _ } => one,
+        Out::Read { next, count, nodes, first, every: _ } => {
+            let rest = activities_at(s, next, arms, later, later, left - 1, depth, vars, correlation, count, nodes, table);
+            match rest {
+                Out::Refused { number: _, place: _ } => rest,
+                Out::Read { next: stop, count: end, nodes: last, first: _, every } => Out::Read { next: stop, count: end, nodes: last, first, every: both(first, every) },
+            }
+        }
+    }
+}
