@@ -1,4 +1,4 @@
--- Whatever is read of a plan is small: its activities and arms have numbers below 256, and an expression has no more nodes than bytes.
+-- Whatever is read of a plan is small: its activities and arms have numbers below 256, and its expressions no more nodes than bytes.
 -- Assumes nothing.
 use native.Mathlib.Omega.{arith}
 use borrow.Author.Tests.{leb-false}
@@ -9,8 +9,9 @@ use Prim.Native.Nat.{ℕ, zero, suc, _+_, _≤_, _<_}
 use lib.ListN.{length, length-append}
 use lib.Dec.{ltb, leb, eqb}
 use Rattle.plan.specs.Found.{Found, numberIn, fieldIn}
-use Rattle.plan.specs.Tree.{Exp, constant, variable, binary, arm, kind, Act, size, sizes}
-use Rattle.plan.specs.Spell.{spell, expressionNumbers}
+use Rattle.plan.specs.Tree.{Exp, constant, variable, binary, Own, empty, send, receive, set, raise, leave, choose, repeat, sequence, flow, pick, scope, arm, kind, Act, act, Acts, none, more, size, sizes, count}
+use Rattle.plan.specs.Spell.{spell, expressionNumbers, ownNumbers, actNumbers, actsNumbers}
+use Rattle.plan.specs.Table.{nodesOf, ownNodes, nodes, nodesAll}
 use Rattle.plan.specs.Read.{Head, exchangeIn, armIn, codeIn, partsIn, headIn, manyIn, wholeIn, readArm, readsIn, laterOf, readAct}
 use Rattle.plan.proofs.Finds.{Finds, finds-refused, finds-itself, finds-found, finds-cond, finds-then, finds-so, cond-case}
 use Rattle.plan.proofs.Stands.{spell-long}
@@ -72,17 +73,48 @@ act-numbered (suc depth) vars cs s handler n at =
     (reads-numbered (readAct depth vars cs s) (act-numbered depth vars cs s) (eqb (kind (h .own)) 10) vars s)
     handler (laterOf (h .own) handler) n h next l)
 
--- how many nodes an expression has
-unfoldable pub nodes : Exp → ℕ
-nodes (constant value) = 1
-nodes (variable number) = 1
-nodes (binary operation left right) = 1 + nodes left + nodes right
+-- an expression has no more nodes than numbers; so has what an activity says of itself, and so have activities
+expression-nodes : (e : Exp) → nodesOf e ≤ length (expressionNumbers e)
+unfolding nodesOf expressionNumbers
+expression-nodes (constant value) = omega arith
+expression-nodes (variable number) = omega arith
+expression-nodes (binary operation left right) = rw length-append (omega (arith, expression-nodes left, expression-nodes right))
 
-nodes-numbers : (e : Exp) → nodes e ≤ length (expressionNumbers e)
-unfolding nodes expressionNumbers
-nodes-numbers (constant value) = omega arith
-nodes-numbers (variable number) = omega arith
-nodes-numbers (binary operation left right) = rw length-append (omega (arith, nodes-numbers left, nodes-numbers right))
+own-nodes : (own : Own) (within : ℕ) → ownNodes own ≤ length (ownNumbers own within)
+unfolding ownNodes ownNumbers
+own-nodes empty within = omega arith
+own-nodes (send partner operation variables) within = omega arith
+own-nodes (receive partner operation variables) within = omega arith
+own-nodes (set v e) within = omega (arith, expression-nodes e)
+own-nodes raise within = omega arith
+own-nodes leave within = omega arith
+own-nodes (choose e) within = omega (arith, expression-nodes e)
+own-nodes (repeat e) within = omega (arith, expression-nodes e)
+own-nodes sequence within = omega arith
+own-nodes flow within = omega arith
+own-nodes pick within = omega arith
+own-nodes scope within = omega arith
+own-nodes (arm partner operation variables) within = omega arith
 
-pub nodes-spelled : (e : Exp) → nodes e ≤ length (spell (expressionNumbers e))
-nodes-spelled e = omega (arith, nodes-numbers e, spell-long (expressionNumbers e))
+mutual
+  unfolding nodes nodesAll actNumbers actsNumbers
+
+  act-nodes : (a : Act) → nodes a ≤ length (actNumbers a)
+  act-nodes (act own l) = rw length-append (omega (arith, own-nodes own (count l), acts-nodes l))
+
+  acts-nodes : (l : Acts) → nodesAll l ≤ length (actsNumbers l)
+  acts-nodes none = omega arith
+  acts-nodes (more a l) = rw length-append (omega (arith, act-nodes a, acts-nodes l))
+
+-- and no more nodes than bytes
+pub expression-nodes-spelled : (e : Exp) → nodesOf e ≤ length (spell (expressionNumbers e))
+expression-nodes-spelled e = omega (arith, expression-nodes e, spell-long (expressionNumbers e))
+
+pub own-nodes-spelled : (own : Own) (within : ℕ) → ownNodes own ≤ length (spell (ownNumbers own within))
+own-nodes-spelled own within = omega (arith, own-nodes own within, spell-long (ownNumbers own within))
+
+pub act-nodes-spelled : (a : Act) → nodes a ≤ length (spell (actNumbers a))
+act-nodes-spelled a = omega (arith, act-nodes a, spell-long (actNumbers a))
+
+pub acts-nodes-spelled : (l : Acts) → nodesAll l ≤ length (spell (actsNumbers l))
+acts-nodes-spelled l = omega (arith, acts-nodes l, spell-long (actsNumbers l))
