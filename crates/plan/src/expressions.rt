@@ -41,7 +41,7 @@ fn leaf_at(s: &[u8], at: usize, code: u32, vars: u32) -> Field
 // The expression at `at`, whose first node has the number m, where `depth` levels are left.
 pub(crate) fn expression_at(s: &[u8], at: usize, depth: usize, vars: u32, m: usize, table: &mut [u32; 11584]) -> Nodes
     requires { ⌜ (length (now s) ≤ 4096) × (m ≤ at) ⌝ }
-    ensures { λ r. ⌜ NodesRead (now (s .entry)) (expressionIn depth vars (now (s .entry)) at) m r (now (table .entry)) (now (table .exit)) ⌝ }
+    ensures { λ r. ⌜ NodesRead (expressionIn depth vars (now (s .entry)) at) m r (now (table .entry)) (now (table .exit)) ⌝ }
 {
     let c = expression_code_at(s, at);
     match c {
