@@ -8,3 +8,4 @@ pub mod Bounds
 pub mod Limits
 pub mod OneNumber
 pub mod ExpressionReads
+pub mod OwnReads
