@@ -1,2 +1,3 @@
 pub mod OneNumber
 pub mod Kept
+pub mod Spelled
