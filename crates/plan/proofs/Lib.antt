@@ -1,3 +1,3 @@
 pub mod OneNumber
 pub mod Kept
-pub mod Spelled
+pub mod TableSpells
