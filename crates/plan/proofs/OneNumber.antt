@@ -36,6 +36,13 @@ pub field-fits : (s : List ℕ) (at least limit : ℕ) {value next : ℕ} {r : F
     → Ahead s at next × ((least ≤ value) × (value < limit))
 field-fits s at least limit f o = rw o at f
 
+pub number-none : (s : List ℕ) (at : ℕ) {number place : ℕ} {r : Field} → r ≡ Field.Refused number place → NumberFits s at r
+number-none s at o = rw o tt
+
+pub number-of-field : (s : List ℕ) (at least limit : ℕ) (r : Field) → FieldFits s at least limit r → NumberFits s at r
+number-of-field s at least limit (Field.Refused number place) f = tt
+number-of-field s at least limit (Got value next) f = f .0
+
 -- `number_at`
 module _ {n : Number} (s : List ℕ) (at : ℕ) (e : n ≡ numberAt s at) where
   pub number-short : n ≡ Short → Field.Refused 2 (length s) ≡ fieldOf (numberIn s at)

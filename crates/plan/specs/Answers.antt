@@ -12,6 +12,7 @@ use Rattle.plan.specs.declared.Own as code
 use Rattle.plan.specs.declared.Out.{Out}
 use Rattle.plan.specs.declared.Answer.{Answer}
 use Rattle.plan.specs.declared.Answer.the-variants.{Accepted}
+use Rattle.plan.specs.Fits.{NodesFit, OwnFits, OutFits}
 use Rattle.plan.specs.Found.{Found, refused, found}
 use Rattle.plan.specs.Read.{Head, startForm, firstStarts, everyStarts}
 use Rattle.plan.specs.Store.{padded}
@@ -37,6 +38,12 @@ unfoldable pub NodesPut : Found Exp → (m : ℕ) → (t u : List ℕ) → Type 
 NodesPut (refused number place) m t u = Unit
 NodesPut (found e next) m t u = u ≡ putNodes e m t
 
+-- what reading an expression comes to: the answer r, the table u where it was t, and what r keeps to
+pub record NodesRead (s : List ℕ) (g : Found Exp) (m : ℕ) (r : Nodes) (t u : List ℕ) : Type 0 where
+  pub is : r ≡ nodesAnswer m g
+  pub put : NodesPut g m t u
+  pub fits : NodesFit s r
+
 -- what an activity or arm says of itself
 unfoldable pub ownAnswer : (m : ℕ) → Found Head → code.Own
 ownAnswer m (refused number place) = code.Own.Refused number place
@@ -45,6 +52,11 @@ ownAnswer m (found h next) = code.Own.Read (kind (h .own)) (h .within) next (m +
 unfoldable pub OwnPut : Found Head → (at n m : ℕ) → (t u : List ℕ) → Type 0
 OwnPut (refused number place) at n m t u = Unit
 OwnPut (found h next) at n m t u = u ≡ putOwn (h .own) at n m t
+
+pub record OwnRead (s : List ℕ) (g : Found Head) (at n m : ℕ) (r : code.Own) (t u : List ℕ) : Type 0 where
+  pub is : r ≡ ownAnswer m g
+  pub put : OwnPut g at n m t u
+  pub fits : OwnFits s r
 
 -- an activity or arm with the number n
 unfoldable pub outOf : (n m : ℕ) → Found Act → Out
@@ -55,6 +67,11 @@ unfoldable pub Put : Found Act → (at n m : ℕ) → (t u : List ℕ) → Type 
 Put (refused number place) at n m t u = Unit
 Put (found a next) at n m t u = u ≡ put a at n m t
 
+pub record ActRead (s : List ℕ) (g : Found Act) (at n m : ℕ) (r : Out) (t u : List ℕ) : Type 0 where
+  pub is : r ≡ outOf n m g
+  pub put : Put g at n m t u
+  pub fits : OutFits s r
+
 -- a list of them
 unfoldable pub outAll : (n m : ℕ) → Found Acts → Out
 outAll n m (refused number place) = Out.Refused number place
@@ -63,6 +80,11 @@ outAll n m (found l next) = Out.Read next (n + sizes l) (m + nodesAll l) (firstS
 unfoldable pub PutAll : Found Acts → (at n m : ℕ) → (t u : List ℕ) → Type 0
 PutAll (refused number place) at n m t u = Unit
 PutAll (found l next) at n m t u = u ≡ putAll l at n m t
+
+pub record ActsRead (s : List ℕ) (g : Found Acts) (at n m : ℕ) (r : Out) (t u : List ℕ) : Type 0 where
+  pub is : r ≡ outAll n m g
+  pub put : PutAll g at n m t u
+  pub fits : OutFits s r
 
 -- a plan: what is accepted, with its table and its flags; a refused plan gives the empty ones
 unfoldable pub answerOf : Found Plan → Answer
