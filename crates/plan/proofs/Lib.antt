@@ -10,3 +10,4 @@ pub mod OneNumber
 pub mod Kept
 pub mod TableSpells
 pub mod ExpressionReads
+pub mod Places

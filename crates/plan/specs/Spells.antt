@@ -85,19 +85,23 @@ unfoldable mutual
 abbrev pub SpellsPlan : Plan → List ℕ → Type 0
 SpellsPlan p t = SpellsAll (more (p .body) (more (p .fault) none)) (bodyPlace p) 0 0 t
 
--- where an activity or arm stands among the bytes: the place of its first byte, and the place after its last
-pub record Place : Type 0 where
+-- an activity or arm, and the place of its first byte; then the place after its last byte
+pub record Part : Type 0 where
   pub start : ℕ
-  pub stop : ℕ
+  pub what : Act
 
--- the place of the activity or arm that has the number k, where the first has the number 0
+abbrev pub stopOf : Part → ℕ
+stopOf q = q .start + length (spell (actNumbers (q .what)))
+
+-- the activity or arm that has the number k, where the first has the number 0; where there is none, an empty one
 unfoldable mutual
-  pub partOf : Act → (at k : ℕ) → Place
+  pub partOf : Act → (at k : ℕ) → Part
   partOf (act own l) at k =
-      cond (eqb k 0)
-      (record { start = at; stop = at + length (spell (actNumbers (act own l))) })
-      (partAll l (at + length (spell (ownNumbers own (count l)))) (k - 1))
+      cond (eqb k 0) (record { start = at; what = act own l }) (partAll l (at + length (spell (ownNumbers own (count l)))) (k - 1))
 
-  pub partAll : Acts → (at k : ℕ) → Place
-  partAll none at k = record { start = at; stop = at }
+  pub partAll : Acts → (at k : ℕ) → Part
+  partAll none at k = record { start = at; what = act empty none }
   partAll (more a l) at k = cond (ltb k (size a)) (partOf a at k) (partAll l (at + length (spell (actNumbers a))) (k - size a))
+
+abbrev pub partPlan : Plan → (k : ℕ) → Part
+partPlan p k = partAll (more (p .body) (more (p .fault) none)) (bodyPlace p) k
