@@ -3,7 +3,7 @@
 use Prim.Native.Nat.{ℕ, _+_, _*_, _-_, _<_}
 use mathlib.Core.Path.{_≡_}
 use mathlib.Core.Bool.{cond}
-use mathlib.Core.List.{List}
+use mathlib.Core.List.{List, []}
 use lib.ListN.{length, getD}
 use lib.Dec.{eqb, ltb}
 use Rattle.plan.specs.Spell.{spell, operationCode, ownNumbers, actNumbers}
@@ -45,13 +45,29 @@ SpellsOwn pick m t = Unit
 SpellsOwn scope m t = Unit
 SpellsOwn (arm p o vs) m t = Unit
 
+-- the variables that an activity names as a tuple
+unfoldable pub variablesOf : Own → List ℕ
+variablesOf empty = []
+variablesOf (send p o vs) = vs
+variablesOf (receive p o vs) = vs
+variablesOf (set v e) = []
+variablesOf raise = []
+variablesOf leave = []
+variablesOf (choose e) = []
+variablesOf (repeat e) = []
+variablesOf sequence = []
+variablesOf flow = []
+variablesOf pick = []
+variablesOf scope = []
+variablesOf (arm p o vs) = vs
+
 -- row n of the table, column by column: e is the number after the last activity within, s the place after the last byte
 pub record Row (own : Own) (at n m e s : ℕ) (t : List ℕ) : Type 0 where
   pub kind : getD t (n * 13) 0 ≡ tree.kind own
   pub partner : getD t (n * 13 + 1) 0 ≡ getD (rowOf own m at) 1 0
   pub operation : getD t (n * 13 + 2) 0 ≡ getD (rowOf own m at) 2 0
-  pub count : getD t (n * 13 + 3) 0 ≡ getD (rowOf own m at) 3 0
-  pub variables : (i : ℕ) → i < 4 → getD t (n * 13 + 4 + i) 0 ≡ getD (rowOf own m at) (4 + i) 0
+  pub count : getD t (n * 13 + 3) 0 ≡ length (variablesOf own)
+  pub variables : (i : ℕ) → i < 4 → getD t (n * 13 + 4 + i) 0 ≡ getD (variablesOf own) i 0
   pub variable : getD t (n * 13 + 8) 0 ≡ getD (rowOf own m at) 8 0
   pub expression : getD t (n * 13 + 9) 0 ≡ getD (rowOf own m at) 9 0
   pub place : getD t (n * 13 + 10) 0 ≡ at
