@@ -1,18 +1,18 @@
 -- What is written into the table of a plan, and what each writing leaves as it was. Assumes nothing.
-use mathlib.Core.Path.{_≡_, refl, sym, ap, _∙_}
+use mathlib.Core.Path.{_≡_, refl, ap, _∙_}
 use mathlib.Core.Bool.{Bool, true, false, cond, _||_}
 use mathlib.Core.List.{List, [], _∷_}
 use Prim.Native.Nat.{ℕ, zero, suc, _+_, _*_, _≤_, _<_}
 use native.Mathlib.Omega.{arith}
-use native.Mathlib.Numerals.{add-one, one-add}
 use lib.Dec.{eqb}
 use lib.ListN.{length, getD, length-set}
 use lib.ListN as lists
 use lib.Seq.{getD-set-same, getD-set-other}
-use Rattle.plan.specs.Spell.{spell, operationCode, ownNumbers, actNumbers, actsNumbers}
+use Rattle.plan.specs.Spell.{operationCode}
+use Rattle.plan.specs.Spells.{variablesOf}
 use Rattle.plan.specs.Store.{store}
-use Rattle.plan.specs.Table.{rowOf, noted, putRow, nodesOf, putNode, putNodes, ownNodes, putOwnNodes, putOwn, putClose, nodes, nodesAll, put, putAll}
-use Rattle.plan.specs.Tree.{Exp, constant, variable, binary, Own, empty, send, receive, set, raise, leave, choose, repeat, sequence, flow, pick, scope, arm, kind, Act, act, Acts, none, more, Plan, size, sizes, count}
+use Rattle.plan.specs.Table.{row, rowOf, noted, putRow, nodesOf, putNode, putNodes, ownNodes, putOwnNodes, putOwn, putClose, nodes, nodesAll, put, putAll}
+use Rattle.plan.specs.Tree.{Exp, constant, variable, binary, Own, empty, send, receive, set, raise, leave, choose, repeat, sequence, flow, pick, scope, arm, kind, Act, act, Acts, none, more, size, sizes}
 
 -- u is as long as t, and has its numbers but from k up to, not including, e
 pub record But (k e : ℕ) (t u : List ℕ) : Type 0 where
@@ -80,38 +80,29 @@ unfoldable mutual
   PartnersAll none = Unit
   PartnersAll (more a l) = Partners a × PartnersAll l
 
--- what the row of an activity has, whatever it is
+-- the row of an activity, whatever it is
+pub row-is : (own : Own) (m at : ℕ)
+    → rowOf own m at ≡ row (kind own) (partnerOf own) (getD (rowOf own 0 0) 2 0) (variablesOf own) (getD (rowOf own 0 0) 8 0) (getD (rowOf own m 0) 9 0) at
+unfolding rowOf kind variablesOf
+row-is empty m at = refl
+row-is (send p o vs) m at = refl
+row-is (receive p o vs) m at = refl
+row-is (set v e) m at = refl
+row-is raise m at = refl
+row-is leave m at = refl
+row-is (choose e) m at = refl
+row-is (repeat e) m at = refl
+row-is sequence m at = refl
+row-is flow m at = refl
+row-is pick m at = refl
+row-is scope m at = refl
+row-is (arm p o vs) m at = refl
+
 pub row-length : (own : Own) (m at : ℕ) → length (rowOf own m at) ≡ 11
-unfolding rowOf
-row-length empty m at = refl
-row-length (send p o vs) m at = refl
-row-length (receive p o vs) m at = refl
-row-length (set v e) m at = refl
-row-length raise m at = refl
-row-length leave m at = refl
-row-length (choose e) m at = refl
-row-length (repeat e) m at = refl
-row-length sequence m at = refl
-row-length flow m at = refl
-row-length pick m at = refl
-row-length scope m at = refl
-row-length (arm p o vs) m at = refl
+row-length own m at = ap length (row-is own m at)
 
 pub row-partner : (own : Own) (m at : ℕ) → getD (rowOf own m at) 1 0 ≡ partnerOf own
-unfolding rowOf
-row-partner empty m at = refl
-row-partner (send p o vs) m at = refl
-row-partner (receive p o vs) m at = refl
-row-partner (set v e) m at = refl
-row-partner raise m at = refl
-row-partner leave m at = refl
-row-partner (choose e) m at = refl
-row-partner (repeat e) m at = refl
-row-partner sequence m at = refl
-row-partner flow m at = refl
-row-partner pick m at = refl
-row-partner scope m at = refl
-row-partner (arm p o vs) m at = refl
+row-partner own m at = ap (λ r. getD r 1 0) (row-is own m at)
 
 -- Whatever is written between the rows n and e and the nodes m and f is written nowhere else. In each law k is the number of the row and j that of
 -- the first node that it writes.

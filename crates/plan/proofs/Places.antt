@@ -1,17 +1,17 @@
 -- Where the activities and arms of a plan stand among its bytes, by its table. Assumes nothing.
-use borrow.Author.Tests.{ltb-true, ltb-false, eqb-true, eqb-false, leb-true}
+use borrow.Author.Tests.{ltb-true, ltb-false, eqb-true, eqb-false}
 use native.Mathlib.Omega.{arith}
 use native.Mathlib.Nat.{zero-add}
-use mathlib.Core.Path.{_≡_, refl, sym, ap, _∙_}
+use mathlib.Core.Path.{_≡_, refl, ap, _∙_}
 use mathlib.Core.List.{List, [], _∷_, _++_, append-assoc, append-nil}
 use Prim.Native.Nat.{ℕ, _+_, _*_, _-_, _≤_, _<_}
 use lib.Dec.{ltb, eqb}
 use lib.ListN.{length, getD, take, drop}
-use lib.Seq.{take-at, drop-drop, drop-at, drop-append-seam}
+use lib.Seq.{take-at, drop-drop, drop-append-seam}
 use Rattle.plan.specs.Spell.{spell, ownNumbers, actNumbers, actsNumbers, planNumbers, spelling}
-use Rattle.plan.specs.Spells.{Row, Parts, Listed, Spells, SpellsAll, SpellsPlan, Part, stopOf, partOf, partAll, partPlan}
+use Rattle.plan.specs.Spells.{Spells, SpellsAll, SpellsPlan, Part, stopOf, partOf, partAll, partPlan}
 use Rattle.plan.specs.Table.{ownNodes, nodes, bodyPlace}
-use Rattle.plan.specs.Tree.{Own, Act, act, Acts, none, more, Plan, size, sizes, count}
+use Rattle.plan.specs.Tree.{Act, act, Acts, none, more, Plan, size, sizes, count}
 use Rattle.plan.proofs.Finds.{cond-case}
 use Rattle.plan.proofs.Stands.{spell-append}
 use Rattle.plan.proofs.TableSpells.{spell-append-length, plan-length}
