@@ -7,5 +7,8 @@ pub mod Spelled
 pub mod Bounds
 pub mod Limits
 pub mod OneNumber
+pub mod Kept
+pub mod TableSpells
 pub mod ExpressionReads
 pub mod OwnReads
+pub mod Places
