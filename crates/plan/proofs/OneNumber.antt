@@ -17,6 +17,14 @@ use Rattle.plan.specs.Answers.{fieldOf, tupleOf}
 use Rattle.plan.specs.Fits.{Ahead, NumberFits, FieldFits}
 use Rattle.plan.specs.Found.{Found, refused, found, andThen, numberIn, fieldIn}
 
+-- one step of reading, where what was found is known
+module _ {A B : Type 0} (g : Found A) (f : A → ℕ → Found B) where
+  pub then-found : {a : A} {next : ℕ} → g ≡ found a next → andThen g f ≡ f a next
+  then-found e = rw e
+
+  pub then-refused : {number place : ℕ} → g ≡ refused number place → andThen g f ≡ refused number place
+  then-refused e = rw e
+
 -- what was found, where the answer is known
 pub field-got : {r : Field} {value next : ℕ} (g : Found ℕ) → r ≡ fieldOf g → r ≡ Got value next → g ≡ found value next
 unfolding fieldOf

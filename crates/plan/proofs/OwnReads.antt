@@ -1,11 +1,11 @@
 -- The returns of the functions that read what an activity or arm says of itself. Assumes nothing.
 use mathlib.Core.Path.{_≡_, refl, sym, ap, _∙_}
-use mathlib.Core.Bool.{Bool, true, false, cond, _&&_, _||_}
+use mathlib.Core.Bool.{Bool, true, false, cond, true≢false, _&&_, _||_}
 use mathlib.Core.List.{List, [], _∷_}
 use Prim.Native.Nat.{ℕ, _+_, _<_, _≤_}
 use native.Mathlib.Nat.{add-zero}
 use native.Mathlib.Omega.{arith}
-use borrow.Author.Tests.{lt-ltb, le-ltb, le-leb, lt-leb, eq-eqb, ne-eqb}
+use borrow.Author.Tests.{ltb-false, leb-false, eqb-false, lt-ltb, le-ltb, le-leb, lt-leb, eq-eqb, ne-eqb}
 use lib.Dec.{ltb, leb, eqb}
 use lib.ListN.{length, getD}
 use Rattle.plan.specs.declared.Field.{Field}
@@ -20,8 +20,14 @@ use Rattle.plan.specs.Read.{Head, head, expressionIn, exchangeIn, armIn,
 use Rattle.plan.specs.Store.{chosen}
 use Rattle.plan.specs.Table.{row, rowOf, putRow, putOwn, putOwnNodes, putNodes, ownNodes, nodesOf}
 use Rattle.plan.specs.Tree.{Exp, Own, empty, raise, leave, scope, kind}
+use Rattle.plan.proofs.Finds.{Finds, finds-refused, finds-itself, finds-found, finds-cond, finds-then}
 use Rattle.plan.proofs.ExpressionReads.{nodes-no, nodes-got}
-use Rattle.plan.proofs.OneNumber.{field-got, field-no, number-fits, field-fits, handed}
+use Rattle.plan.proofs.OneNumber.{then-found, then-refused, field-got, field-no, number-fits, field-fits, handed}
+
+-- neither of two tests holds
+cond-split : {P : Type 0} (a b : Bool) → (a || b) ≡ false → (a ≡ false → b ≡ false → P) → P
+cond-split true b e f = let z : _≡_ {A = Bool} true false = e in absurd (true≢false z)
+cond-split false b e f = f refl e
 
 -- `code_at`
 module _ {r : Field} (s : List ℕ) (handler : Bool) (depth n at : ℕ) (e : r ≡ fieldOf (numberIn s at)) where
@@ -47,6 +53,24 @@ module _ {r : Field} (s : List ℕ) (handler : Bool) (depth n at : ℕ) (e : r �
         pub code-good : y ≡ false → Got value next ≡ fieldOf (codeIn s handler depth n at)
         unfolding codeIn fieldOf
         code-good u = rw (field-got (numberIn s at) e o, le-ltb _ _ h, sym i ∙ t, sym j ∙ u)
+
+-- what holds of a code that is read
+pub record Coded (depth n code : ℕ) : Type 0 where
+  pub known : code ≤ 11
+  pub deep : depth ≡ 0 → ⊥
+  pub numbered : n < 256
+
+none-over : (depth n : ℕ) → (eqb depth 0 || leb 256 n) ≡ false → (depth ≡ 0 → ⊥) × (n < 256)
+none-over depth n e = cond-split (eqb depth 0) (leb 256 n) e (λ a b. (eqb-false depth 0 a, leb-false 256 n b))
+
+pub code-numbered : (s : List ℕ) (handler : Bool) (depth n at : ℕ) → Finds (λ code next. Coded depth n code) (codeIn s handler depth n at)
+unfolding codeIn
+code-numbered s handler depth n at =
+    finds-then (finds-itself (numberIn s at))
+    (λ code next h. finds-cond (ltb 11 code) (λ t. finds-refused)
+    (λ t. finds-cond (handler && eqb code 11) (λ u. finds-refused)
+    (λ u. finds-cond (eqb depth 0 || leb 256 n) (λ w. finds-refused)
+    (λ w. finds-found (record { known = ltb-false 11 code t; deep = none-over depth n w .0; numbered = none-over depth n w .1 })))))
 
 -- what an activity says of itself comes to, where what is found is known
 module _ (g : Found Head) (at n m : ℕ) (t u : List ℕ) where
@@ -134,4 +158,92 @@ pub own-expression : (vars : ℕ) (s : List ℕ) (k v within at place n m : ℕ)
 unfolding withExpressionIn
 own-expression vars s k v within at place n m t t₁ u i a o w =
     let x = nodes-got _ m a o in
-    expression-row _ place n m t t₁ u (x .e) i (rw (x .is)) (x .count) (x .put) w
+    expression-row _ place n m t t₁ u (x .e) i (then-found (expressionIn 8 vars s at) _ (x .is)) (x .count) (x .put) w
+
+-- `partner_own` and `arm_own`
+module _ (vars : ℕ) (once : Bool) (s : List ℕ) (k at place n m : ℕ) (t u : List ℕ) {p : Field} (e : p ≡ fieldOf (fieldIn s 0 64 at)) where
+  pub message-no-partner : {number q : ℕ} → p ≡ Field.Refused number q → OwnRead (partnerIn vars once s (messageOwn k) at) place n m (code.Own.Refused number q) t u
+  unfolding partnerIn
+  message-no-partner o = own-no-field (fieldIn s 0 64 at) _ place n m t u e o
+
+  pub message-partner : {r : code.Own} {partner next : ℕ} → p ≡ Got partner next
+      → OwnRead (exchangeIn vars once s (messageOwn k partner) 0 next) place n m r t u → OwnRead (partnerIn vars once s (messageOwn k) at) place n m r t u
+  unfolding partnerIn
+  message-partner o a = rw (field-got (fieldIn s 0 64 at) e o) a
+
+module _ (vars : ℕ) (s : List ℕ) (at n m : ℕ) (t u : List ℕ) {p : Field} (e : p ≡ fieldOf (fieldIn s 0 64 at)) where
+  pub arm-no-partner : {number q : ℕ} → p ≡ Field.Refused number q → OwnRead (armIn vars s n at) at n m (code.Own.Refused number q) t u
+  unfolding armIn
+  arm-no-partner o = own-no-field (fieldIn s 0 64 at) _ at n m t u e o
+
+  pub arm-257 : {partner next : ℕ} → p ≡ Got partner next → 256 ≤ n → OwnRead (armIn vars s n at) at n m (code.Own.Refused 6 at) t u
+  unfolding armIn
+  arm-257 o h = own-refused _ at n m t u (rw (field-got (fieldIn s 0 64 at) e o, le-leb _ _ h))
+
+  pub arm-partner : {r : code.Own} {partner next : ℕ} → p ≡ Got partner next → n < 256
+      → OwnRead (exchangeIn vars true s (messageOwn 12 partner) 1 next) at n m r t u → OwnRead (armIn vars s n at) at n m r t u
+  unfolding armIn messageOwn
+  arm-partner o h a = rw (field-got (fieldIn s 0 64 at) e o, lt-leb _ _ h) a
+
+-- `set_own`
+module _ (vars : ℕ) (flags s : List ℕ) (at place n m : ℕ) (t u : List ℕ) {v : Field} (e : v ≡ fieldOf (fieldIn s 0 vars at)) where
+  pub set-no-variable : {number q : ℕ} → v ≡ Field.Refused number q → OwnRead (setIn vars (chosen 0 flags) s at) place n m (code.Own.Refused number q) t u
+  unfolding setIn
+  set-no-variable o = own-no-field (fieldIn s 0 vars at) _ place n m t u e o
+
+  module _ {value next : ℕ} (o : v ≡ Got value next) where
+    pub set-correlated : among value (chosen 0 flags) ≡ true → OwnRead (setIn vars (chosen 0 flags) s at) place n m (code.Own.Refused 5 at) t u
+    unfolding setIn
+    set-correlated h = own-refused _ place n m t u (rw (field-got (fieldIn s 0 vars at) e o, h))
+
+    pub set-variable : {r : code.Own} → among value (chosen 0 flags) ≡ false → OwnRead (withExpressionIn vars s (expressionOwn 3 value) 0 next) place n m r t u
+        → OwnRead (setIn vars (chosen 0 flags) s at) place n m r t u
+    unfolding setIn expressionOwn
+    set-variable h a = rw (field-got (fieldIn s 0 vars at) e o, h) a
+
+-- what a value that kept its rule is below
+pub value-below : (s : List ℕ) (at least limit : ℕ) {r : Field} {value next : ℕ} → FieldFits s at least limit r → r ≡ Got value next → value < limit
+value-below s at least limit f o = field-fits s at least limit f o .1 .1
+
+pub variable-below : (s : List ℕ) (at : ℕ) {vars n m place : ℕ} {r : Field} {value next : ℕ} → FieldFits s at 0 vars r → r ≡ Got value next
+    → Room s vars n m place at → value < 16
+variable-below s at f o a = let b = a .base in omega (arith, field-fits s at 0 _ f o .1 .1)
+
+-- there is room for what follows a number
+module _ (s : List ℕ) (vars n m at : ℕ) where
+  pub room-on : (place least limit : ℕ) {r : Field} {value next : ℕ} → Room s vars n m place at → FieldFits s at least limit r → r ≡ Got value next
+      → Room s vars n m place next
+  room-on place least limit a f o =
+      let b = field-fits s at least limit f o .0 in
+      let c = a .ahead in
+      record { base = a .base; numbered = a .numbered; ahead = omega arith }
+
+  pub room-arm : (least limit : ℕ) {r : Field} {value next : ℕ} → Base s vars m at → n < 256 → FieldFits s at least limit r → r ≡ Got value next
+      → Room s vars n m at next
+  room-arm least limit a h f o = let b = field-fits s at least limit f o .0 in record { base = a; numbered = h; ahead = omega arith }
+
+  pub room-code : (handler : Bool) (depth : ℕ) {r : Field} {code next : ℕ} → Base s vars m at → r ≡ fieldOf (codeIn s handler depth n at)
+      → NumberFits s at r → r ≡ Got code next → Room s vars n m at next
+  room-code handler depth a e f o =
+      let b = number-fits s at f o in
+      record { base = a; numbered = code-numbered s handler depth n at .holds (field-got _ e o) .numbered; ahead = omega arith }
+
+-- `activity_own`
+module _ (vars : ℕ) (cs s : List ℕ) (handler : Bool) (depth at n m : ℕ) (t u : List ℕ) {c : Field} (e : c ≡ fieldOf (codeIn s handler depth n at)) where
+  pub activity-no-code : {number q : ℕ} → c ≡ Field.Refused number q → OwnRead (headIn vars cs s handler depth n at) at n m (code.Own.Refused number q) t u
+  unfolding headIn
+  activity-no-code o = own-no-field (codeIn s handler depth n at) _ at n m t u e o
+
+  pub activity-parts : {r : code.Own} {value next : ℕ} → c ≡ Got value next → OwnRead (partsIn vars cs s value next) at n m r t u
+      → OwnRead (headIn vars cs s handler depth n at) at n m r t u
+  unfolding headIn
+  activity-parts o a = rw (field-got (codeIn s handler depth n at) e o) a
+
+-- `own_at`
+module _ (a : Bool) (vars : ℕ) (cs s : List ℕ) (handler : Bool) (depth n at m : ℕ) (t u : List ℕ) {r : code.Own} where
+  pub own-of-arm : a ≡ true → OwnRead (armIn vars s n at) at n m r t u → OwnRead (nodeHeadIn a vars cs s handler depth n at) at n m r t u
+  own-of-arm h b = rw h b
+
+  pub own-of-activity : a ≡ false → OwnRead (headIn vars cs s handler depth n at) at n m r t u
+      → OwnRead (nodeHeadIn a vars cs s handler depth n at) at n m r t u
+  own-of-activity h b = rw h b
