@@ -8,3 +8,5 @@ pub mod Bounds
 pub mod Limits
 pub mod OneNumber
 pub mod ExpressionReads
+pub mod Stores
+pub mod TupleReads
