@@ -10,3 +10,4 @@ pub mod OneNumber
 pub mod ExpressionReads
 pub mod Stores
 pub mod TupleReads
+pub mod HeadReads
