@@ -12,3 +12,6 @@ pub mod TableSpells
 pub mod ExpressionReads
 pub mod OwnReads
 pub mod Places
+pub mod Stores
+pub mod TupleReads
+pub mod HeadReads
