@@ -11,17 +11,20 @@ use lib.ListN.{length, getD}
 use Rattle.plan.specs.declared.Field.{Field}
 use Rattle.plan.specs.declared.Field.the-variants.{Got}
 use Rattle.plan.specs.declared.Nodes.{Nodes}
+use Rattle.plan.specs.declared.Tuple.{Tuple}
 use Rattle.plan.specs.declared.Own as code
-use Rattle.plan.specs.Answers.{fieldOf, NodesRead, messageOwn, expressionOwn, listOwn, ownAnswer, OwnPut, OwnRead}
+use Rattle.plan.specs.Answers.{fieldOf, tupleOf, NodesRead, messageOwn, expressionOwn, listOwn, ownAnswer, OwnPut, OwnRead}
 use Rattle.plan.specs.Fits.{Ahead, NumberFits, FieldFits}
 use Rattle.plan.specs.Found.{Found, refused, found, andThen, numberIn, fieldIn, among}
-use Rattle.plan.specs.Nodes.{Base, Room, IsMessage, IsExpression, sets, chooses, repeats, IsList, isSequence, isFlow, isPick, nodeHeadIn}
-use Rattle.plan.specs.Read.{Head, head, expressionIn, exchangeIn, armIn, partnerIn, withExpressionIn, setIn, listIn, codeIn, partsIn, headIn}
+use Rattle.plan.specs.Nodes.{Base, Room, IsMessage, sends, receives, isArm, IsExpression, sets, chooses, repeats, IsList, isSequence, isFlow, isPick, nodeHeadIn}
+use Rattle.plan.specs.Read.{Head, head, expressionIn, tupleIn, exchangeIn, armIn, partnerIn, withExpressionIn, setIn, listIn, codeIn, partsIn, headIn}
 use Rattle.plan.specs.Store.{chosen}
 use Rattle.plan.specs.Table.{row, rowOf, putRow, putOwn, putOwnNodes, putNodes, ownNodes, nodesOf}
 use Rattle.plan.specs.Tree.{Exp, Own, empty, raise, leave, scope, kind}
 use Rattle.plan.proofs.Finds.{Finds, finds-refused, finds-itself, finds-found, finds-cond, finds-then}
 use Rattle.plan.proofs.ExpressionReads.{nodes-no, nodes-got}
+use Rattle.plan.proofs.Stores.{chosen-at}
+use Rattle.plan.proofs.TupleReads.{tuple-got, tuple-no}
 use Rattle.plan.proofs.OneNumber.{then-found, then-refused, field-got, field-no, number-fits, field-fits, handed}
 
 -- neither of two tests holds
@@ -137,6 +140,14 @@ pub list-counted : {c : Field} {r : code.Own} (s : List ℕ) (k limit at place n
 unfolding listIn
 list-counted s k limit at place n m t u l e o i w = rw i (list-row _ place n m t u l (rw (field-got (fieldIn s 1 limit at) e o)) w)
 
+message-row : (g : Found Head) (at n m : ℕ) (t u : List ℕ) (p o : ℕ) (vs : List ℕ) {k within next : ℕ} → IsMessage k
+    → g ≡ found (head (messageOwn k p o vs) within) next → u ≡ putRow n (row k p o vs 0 0 at) t
+    → OwnRead g at n m (code.Own.Read k within next m) t u
+unfolding messageOwn kind ownNodes putOwnNodes rowOf
+message-row g at n m t u p o vs sends e w = own-row g at n m t u (messageOwn 1 p o vs) e refl refl refl w
+message-row g at n m t u p o vs receives e w = own-row g at n m t u (messageOwn 2 p o vs) e refl refl refl w
+message-row g at n m t u p o vs isArm e w = own-row g at n m t u (messageOwn 12 p o vs) e refl refl refl w
+
 -- `expression_own`
 module _ (vars : ℕ) (s : List ℕ) (k v within at place n m : ℕ) (t : List ℕ) where
   pub own-no-expression : {r : Nodes} (u : List ℕ) {number p : ℕ} → NodesRead (expressionIn 8 vars s at) m r t u → r ≡ Nodes.Refused number p
@@ -247,3 +258,88 @@ module _ (a : Bool) (vars : ℕ) (cs s : List ℕ) (handler : Bool) (depth n at 
   pub own-of-activity : a ≡ false → OwnRead (headIn vars cs s handler depth n at) at n m r t u
       → OwnRead (nodeHeadIn a vars cs s handler depth n at) at n m r t u
   own-of-activity h b = rw h b
+
+-- `set_own`: the flag says whether the variable is for correlation
+module _ (vars : ℕ) (flags s : List ℕ) (at place n m : ℕ) (t u : List ℕ) {v : Field} {value next : ℕ} (e : v ≡ fieldOf (fieldIn s 0 vars at))
+    (o : v ≡ Got value next) where
+  pub set-flagged : getD flags value 0 ≡ 1 → OwnRead (setIn vars (chosen 0 flags) s at) place n m (code.Own.Refused 5 at) t u
+  set-flagged h = set-correlated vars flags s at place n m t u e o (chosen-at flags 0 value value (omega arith) ∙ eq-eqb _ _ h)
+
+  pub set-plain : {r : code.Own} → (getD flags value 0 ≡ 1 → ⊥) → OwnRead (withExpressionIn vars s (expressionOwn 3 value) 0 next) place n m r t u
+      → OwnRead (setIn vars (chosen 0 flags) s at) place n m r t u
+  set-plain h a = set-variable vars flags s at place n m t u e o (chosen-at flags 0 value value (omega arith) ∙ ne-eqb _ _ h) a
+
+-- `exchange_own`
+module _ (vars : ℕ) (once : Bool) (s : List ℕ) (k partner within at place n m : ℕ) (t u : List ℕ) {f : Field} (e : f ≡ fieldOf (fieldIn s 0 64 at)) where
+  pub exchange-no-operation : {number q : ℕ} → f ≡ Field.Refused number q
+      → OwnRead (exchangeIn vars once s (messageOwn k partner) within at) place n m (code.Own.Refused number q) t u
+  unfolding exchangeIn
+  exchange-no-operation o = own-no-field (fieldIn s 0 64 at) _ place n m t u e o
+
+  module _ {operation next : ℕ} (o : f ≡ Got operation next) {x : Tuple} (i : x ≡ tupleOf (tupleIn vars once s next)) where
+    pub exchange-no-tuple : {number q : ℕ} → x .out ≡ Field.Refused number q
+        → OwnRead (exchangeIn vars once s (messageOwn k partner) within at) place n m (code.Own.Refused number q) t u
+    unfolding exchangeIn
+    exchange-no-tuple z = own-refused _ place n m t u (then-found (fieldIn s 0 64 at) _ (field-got _ e o) ∙ then-refused (tupleIn vars once s next) _ (tuple-no _ i z))
+
+    pub exchange-read : {count after : ℕ} → IsMessage k → x .out ≡ Got count after
+        → u ≡ putRow n (k ∷ partner ∷ operation ∷ count ∷ getD (x .variables) 0 0 ∷ getD (x .variables) 1 0 ∷ getD (x .variables) 2 0 ∷ getD (x .variables) 3 0 ∷ 0 ∷ 0 ∷ place ∷ []) t
+        → OwnRead (exchangeIn vars once s (messageOwn k partner) within at) place n m (code.Own.Read k within after m) t u
+    unfolding exchangeIn
+    exchange-read j z w =
+        let y = tuple-got _ i z in
+        message-row _ place n m t u partner operation (y .l) j
+        (then-found (fieldIn s 0 64 at) _ (field-got _ e o) ∙ then-found (tupleIn vars once s next) _ (y .is))
+        (rw (← y .many, ← y .stored) w)
+
+-- `parts_own`: the table of codes
+module _ (vars : ℕ) (cs s : List ℕ) (k at place n m : ℕ) (t u : List ℕ) {r : code.Own} where
+  pub parts-empty : k ≡ 0 → r ≡ code.Own.Read 0 0 at m → u ≡ putRow n (row 0 0 0 [] 0 0 place) t → OwnRead (partsIn vars cs s k at) place n m r t u
+  unfolding partsIn kind ownNodes putOwnNodes rowOf
+  parts-empty h i w = rw (h, i) (own-row _ place n m t u empty refl refl refl refl w)
+
+  pub parts-raise : k ≡ 4 → r ≡ code.Own.Read 4 0 at m → u ≡ putRow n (row 4 0 0 [] 0 0 place) t → OwnRead (partsIn vars cs s k at) place n m r t u
+  unfolding partsIn kind ownNodes putOwnNodes rowOf
+  parts-raise h i w = rw (h, i) (own-row _ place n m t u raise refl refl refl refl w)
+
+  pub parts-leave : k ≡ 5 → r ≡ code.Own.Read 5 0 at m → u ≡ putRow n (row 5 0 0 [] 0 0 place) t → OwnRead (partsIn vars cs s k at) place n m r t u
+  unfolding partsIn kind ownNodes putOwnNodes rowOf
+  parts-leave h i w = rw (h, i) (own-row _ place n m t u leave refl refl refl refl w)
+
+  pub parts-scope : (k ≡ 0 → ⊥) → (k ≡ 1 → ⊥) → (k ≡ 2 → ⊥) → (k ≡ 3 → ⊥) → (k ≡ 4 → ⊥) → (k ≡ 5 → ⊥) → (k ≡ 6 → ⊥) → (k ≡ 7 → ⊥) → (k ≡ 8 → ⊥) → (k ≡ 9 → ⊥) → (k ≡ 10 → ⊥)
+      → r ≡ code.Own.Read 11 3 at m → u ≡ putRow n (row 11 0 0 [] 0 0 place) t → OwnRead (partsIn vars cs s k at) place n m r t u
+  unfolding partsIn kind ownNodes putOwnNodes rowOf
+  parts-scope n0 n1 n2 n3 n4 n5 n6 n7 n8 n9 n10 i w =
+      rw i (simp (ne-eqb _ _ n0, ne-eqb _ _ n1, ne-eqb _ _ n2, ne-eqb _ _ n3, ne-eqb _ _ n4, ne-eqb _ _ n5, ne-eqb _ _ n6, ne-eqb _ _ n7, ne-eqb _ _ n8, ne-eqb _ _ n9, ne-eqb _ _ n10) (own-row _ place n m t u scope refl refl refl refl w))
+
+  pub parts-send : k ≡ 1 → OwnRead (partnerIn vars false s (messageOwn 1) at) place n m r t u → OwnRead (partsIn vars cs s k at) place n m r t u
+  unfolding partsIn messageOwn
+  parts-send h a = rw h a
+
+  pub parts-receive : k ≡ 2 → OwnRead (partnerIn vars true s (messageOwn 2) at) place n m r t u → OwnRead (partsIn vars cs s k at) place n m r t u
+  unfolding partsIn messageOwn
+  parts-receive h a = rw h a
+
+  pub parts-set : k ≡ 3 → OwnRead (setIn vars cs s at) place n m r t u → OwnRead (partsIn vars cs s k at) place n m r t u
+  unfolding partsIn
+  parts-set h a = rw h a
+
+  pub parts-choose : k ≡ 6 → OwnRead (withExpressionIn vars s (expressionOwn 6 0) 2 at) place n m r t u → OwnRead (partsIn vars cs s k at) place n m r t u
+  unfolding partsIn expressionOwn
+  parts-choose h a = rw h a
+
+  pub parts-repeat : k ≡ 7 → OwnRead (withExpressionIn vars s (expressionOwn 7 0) 1 at) place n m r t u → OwnRead (partsIn vars cs s k at) place n m r t u
+  unfolding partsIn expressionOwn
+  parts-repeat h a = rw h a
+
+  pub parts-sequence : k ≡ 8 → OwnRead (listIn s (listOwn 8) 33 at) place n m r t u → OwnRead (partsIn vars cs s k at) place n m r t u
+  unfolding partsIn listOwn
+  parts-sequence h a = rw h a
+
+  pub parts-flow : k ≡ 9 → OwnRead (listIn s (listOwn 9) 33 at) place n m r t u → OwnRead (partsIn vars cs s k at) place n m r t u
+  unfolding partsIn listOwn
+  parts-flow h a = rw h a
+
+  pub parts-pick : k ≡ 10 → OwnRead (listIn s (listOwn 10) 9 at) place n m r t u → OwnRead (partsIn vars cs s k at) place n m r t u
+  unfolding partsIn listOwn
+  parts-pick h a = rw h a
