@@ -1,0 +1,11 @@
+pub mod Lists
+pub mod State
+pub mod Limits
+pub mod Expression
+pub mod Event
+pub mod Begin
+pub mod Scope
+pub mod Act
+pub mod Fit
+pub mod Offer
+pub mod Calls
