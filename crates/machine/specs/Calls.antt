@@ -38,14 +38,14 @@ trimmed m =
     record { partner = m .partner; operation = m .operation; count = m .count; values = stored 4 (take (m .count) (m .values)) }
 
 -- 13: "partner, operation or count outside its rule"; 14: "64 messages wait"
-unfoldable pub post : Message → State → Posted
-post m s =
-    by (record { refusal = 17; state = s })
-    (λ p.
+unfoldable pub postBy : Plan → Message → State → Posted
+postBy p m s =
     cond (not (exchanged (m .partner) (m .operation) (m .count))) (record { refusal = 13; state = s })
     (cond (leb 64 (s .waiting)) (record { refusal = 14; state = s })
-    (record { refusal = 0; state = adding (trimmed m) s })))
-    (planIn s)
+    (record { refusal = 0; state = adding (trimmed m) s }))
+
+unfoldable pub post : Message → State → Posted
+post m s = by (record { refusal = 17; state = s }) (λ p. postBy p m s) (planIn s)
 
 -- the partners that a plan receives on, in the order of the file
 unfoldable pub partnerOf : Kind → List ℕ
@@ -79,14 +79,14 @@ foreign ps i [] = i
 foreign ps i (m ∷ l) = cond (among (m .partner) ps) (foreign ps (i + 1) l) i
 
 -- "Collect hands out the oldest such message." 15: "no message for a partner the plan never receives on"
-unfoldable pub collect : State → Collected
-collect s =
-    by (record { refusal = 17; message = noMessage; state = s })
-    (λ p.
+unfoldable pub collectBy : Plan → State → Collected
+collectBy p s =
     let i = foreign (partnersOf p) 0 (letters s) in
     cond (ltb i (s .waiting)) (record { refusal = 0; message = getD (s .messages) i noMessage; state = removing i s })
-    (record { refusal = 15; message = noMessage; state = s }))
-    (planIn s)
+    (record { refusal = 15; message = noMessage; state = s })
+
+unfoldable pub collect : State → Collected
+collect s = by (record { refusal = 17; message = noMessage; state = s }) (λ p. collectBy p s) (planIn s)
 
 -- a step's answer where it is refused; where an offer is shown
 abbrev pub refusing : ℕ → Step
@@ -115,8 +115,11 @@ abbrev pub shown : Chosen → Step
 shown (refusedChoice n) = refusing n
 shown (chosen x) = answering x None
 
+unfoldable pub showBy : Plan → (choice : ℕ) → State → Step
+showBy p c s = shown (choose (offersOf p s) c)
+
 unfoldable pub show : (choice : ℕ) → State → Step
-show c s = by (refusing 17) (λ p. shown (choose (offersOf p s) c)) (planIn s)
+show c s = by (refusing 17) (λ p. showBy p c s) (planIn s)
 
 -- "A count at 4,294,967,295 stays there."
 abbrev pub counted : ℕ → ℕ
@@ -207,11 +210,11 @@ unfoldable pub stepChosen : Plan → State → Tally → Chosen → Stepped
 stepChosen p s t (refusedChoice n) = record { answer = refusing n; state = s; tally = t; log = [] }
 stepChosen p s t (chosen x) = taken p x s t
 
+unfoldable pub stepBy : Plan → (choice : ℕ) → State → Tally → Stepped
+stepBy p c s t = stepChosen p s t (choose (offersOf p s) c)
+
 unfoldable pub step : (choice : ℕ) → State → Tally → Stepped
-step c s t =
-    by (record { answer = refusing 17; state = s; tally = t; log = [] })
-    (λ p. stepChosen p s t (choose (offersOf p s) c))
-    (planIn s)
+step c s t = by (record { answer = refusing 17; state = s; tally = t; log = [] }) (λ p. stepBy p c s t) (planIn s)
 
 -- A run: the steps taken, the refusal or 0, the state and the tally.
 pub record Ran : Type 0 where
@@ -230,12 +233,12 @@ ranOn f r =
     | false ↦ record { taken = 0; refusal = r .answer .refusal; state = r .state; tally = r .tally } ]
 
 -- "A run takes a list of choices and a budget. It stops at the end of either or at the first refused step"
-unfoldable pub runFrom : (choices : List ℕ) → (budget : ℕ) → State → Tally → Ran
-runFrom [] budget s t = record { taken = 0; refusal = 0; state = s; tally = t }
-runFrom (c ∷ cs) zero s t = record { taken = 0; refusal = 0; state = s; tally = t }
-runFrom (c ∷ cs) (suc budget) s t = ranOn (runFrom cs budget) (step c s t)
+unfoldable pub runBy : (ℕ → State → Tally → Stepped) → (choices : List ℕ) → (budget : ℕ) → State → Tally → Ran
+runBy f [] budget s t = record { taken = 0; refusal = 0; state = s; tally = t }
+runBy f (c ∷ cs) zero s t = record { taken = 0; refusal = 0; state = s; tally = t }
+runBy f (c ∷ cs) (suc budget) s t = ranOn (runBy f cs budget) (f c s t)
 
 -- "A state that earns 17 gives 17 and no steps, with an empty list or budget too."
 unfoldable pub run : (choices : List ℕ) → (budget : ℕ) → State → Tally → Ran
 run cs budget s t =
-    by (record { taken = 0; refusal = 17; state = s; tally = t }) (λ p. runFrom cs budget s t) (planIn s)
+    by (record { taken = 0; refusal = 17; state = s; tally = t }) (λ p. runBy step cs budget s t) (planIn s)

@@ -52,7 +52,7 @@ unfoldable mutual
   pub readyIn : Act → (k : ℕ) → (armsOpen : Bool) → List ℕ → List Ready
   readyIn (act own within) k armsOpen ms =
       let l = readyAmong within (k + 1) (eqb (kind own) 10 && eqb (getD ms k 0) active) ms in
-      cond (awaits own armsOpen (getD ms k 0)) (record { activity = k; step = kindOf own within k } ∷ l) l
+      elim (awaits own armsOpen (getD ms k 0)) [ true ↦ record { activity = k; step = kindOf own within k } ∷ l | false ↦ l ]
 
   pub readyAmong : Acts → (c : ℕ) → (armsOpen : Bool) → List ℕ → List Ready
   readyAmong none c armsOpen ms = []
@@ -70,7 +70,9 @@ pub record Live : Type 0 where
 -- the live orders among some, the first of which has the slot i
 unfoldable pub liveFrom : Plan → (i : ℕ) → List Order → List Live
 liveFrom p i [] = []
-liveFrom p i (o ∷ l) = cond (isLive o) (record { slot = i; order = o; ready = readyOf p o } ∷ liveFrom p (i + 1) l) (liveFrom p (i + 1) l)
+liveFrom p i (o ∷ l) =
+    elim (isLive o) [ true ↦ record { slot = i; order = o; ready = readyOf p o } ∷ liveFrom p (i + 1) l
+    | false ↦ liveFrom p (i + 1) l ]
 
 -- "each place with a bound correlation variable": the places of a receive that are checked
 abbrev pub isChecked : Plan → Order → (variable : ℕ) → Bool

@@ -30,8 +30,12 @@ pub record Offers : Type 0 where
 abbrev pub nothing : Offers
 nothing = record { offered = []; held = false }
 
-abbrev pub allOf : {A : Type 0} → (A → Offers) → List A → Offers
-allOf f l = record { offered = each (λ a. f a .offered) l; held = some (λ a. f a .held) l }
+abbrev pub together : Offers → Offers → Offers
+together a b = record { offered = a .offered ++ b .offered; held = a .held || b .held }
+
+unfoldable pub allOf : {A : Type 0} → (A → Offers) → List A → Offers
+allOf f [] = nothing
+allOf f (a ∷ l) = together (f a) (allOf f l)
 
 -- "is held: not offered"
 abbrev pub unlessHeld : (held : Bool) → List Offer → Offers
@@ -92,9 +96,6 @@ unfoldable pub startOffers : Plan → (free : ℕ) → Order → List Ready → 
 startOffers p free o l x =
     let ks = startsOf p o l x in
     unlessHeld (leb 16 free && not (empties ks)) (map (λ k. offering free k (x .place)) ks)
-
-abbrev pub together : Offers → Offers → Offers
-together a b = record { offered = a .offered ++ b .offered; held = a .held || b .held }
 
 -- "Order of the offer. Live slots ascending; in each, activities ascending; for a receive or arm, messages oldest first. Then starts"
 unfoldable pub offersOf : Plan → State → Offers
