@@ -9,3 +9,5 @@ pub mod Act
 pub mod Fit
 pub mod Offer
 pub mod Calls
+pub mod History
+pub mod Demand3

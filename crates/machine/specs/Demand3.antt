@@ -1,0 +1,209 @@
+-- Demand 3, stated over the history of closings: which undo parts start, in which order, and that none is left out. Assumes nothing: these are definitions.
+use Prim.Native.Nat.{ℕ, _+_}
+use mathlib.Core.Path.{_≡_}
+use mathlib.Core.Bool.{Bool, true, false, cond, not, _&&_, _||_}
+use mathlib.Core.List.{List, [], _∷_, _++_, reverse, map}
+use lib.ListN.{length, take}
+use lib.Dec.{leb, ltb, eqb}
+use Rattle.plan.specs.Found.{Found, found}
+use Rattle.plan.specs.Read.{readPlan}
+use Rattle.plan.specs.Tree.{Act, act, Acts, none, more, Plan, size}
+use Rattle.machine.specs.declared.Tally.{Tally}
+use Rattle.machine.specs.Lists.{every, some, only, each}
+use Rattle.machine.specs.State.{Name, root, inner, same}
+use Rattle.machine.specs.Event.{Event, started, began, closed, faulted, stopped, ended, raised, left}
+use Rattle.machine.specs.Begin.{part, partAt}
+use Rattle.machine.specs.Scope.{isScope}
+use Rattle.machine.specs.Calls.{loaded}
+use Rattle.machine.specs.History.{Call, history}
+
+-- The scopes of a plan, as facts of the plan alone: a scope's number, the nearest scope around it, and the numbers of its undo part, from
+-- `undo` on and `count` many.
+pub record Inner : Type 0 where
+  pub number : ℕ
+  pub around : Name
+  pub undo : ℕ
+  pub count : ℕ
+
+unfoldable mutual
+  pub scopesIn : Act → (k : ℕ) → (around : Name) → List Inner
+  scopesIn (act own within) k n =
+      elim (isScope own) [ true ↦ record { number = k; around = n; undo = partAt 2 within (k + 1); count = size (part 2 within) }
+      ∷ scopesAmong within (k + 1) (inner k)
+      | false ↦ scopesAmong within (k + 1) n ]
+
+  pub scopesAmong : Acts → (c : ℕ) → (around : Name) → List Inner
+  scopesAmong none c n = []
+  scopesAmong (more a l) c n = scopesIn a c n ++ scopesAmong l (c + size a) n
+
+unfoldable pub scopesOf : Plan → List Inner
+scopesOf p = scopesIn (p .body) 0 root ++ scopesIn (p .fault) (size (p .body)) root
+
+-- "the scopes directly inside it"
+unfoldable pub inside : Plan → Name → List Inner
+inside p s = only (λ x. same (x .around) s) (scopesOf p)
+
+-- A history is read from its newest event back: `past` is what happened before, the newest first.
+
+-- whether an event is the beginning of a scope; of one in an earlier order of the slot nothing counts
+unfoldable pub begins : Name → Event → Bool
+begins s started = true
+begins root (began k) = false
+begins (inner e) (began k) = eqb e k
+begins s (closed k) = false
+begins s (faulted n) = false
+begins s (stopped k) = false
+begins s (ended n) = false
+begins s (raised k) = false
+begins s left = false
+
+-- "since it last began"
+unfoldable pub since : Name → (past : List Event) → List Event
+since s [] = []
+since s (e ∷ past) = elim (begins s e) [ true ↦ [] | false ↦ e ∷ since s past ]
+
+-- "when a scope faults, or is stopped before it has closed"
+unfoldable pub turns : Name → Event → Bool
+turns s started = false
+turns s (began k) = false
+turns s (closed k) = false
+turns s (faulted n) = same s n
+turns s (stopped k) = same s (inner k)
+turns s (ended n) = false
+turns s (raised k) = false
+turns s left = false
+
+-- a scope closes or ends
+unfoldable pub finishes : Name → Event → Bool
+finishes s started = false
+finishes s (began k) = false
+finishes s (closed k) = same s (inner k)
+finishes s (faulted n) = false
+finishes s (stopped k) = false
+finishes s (ended n) = same s n
+finishes s (raised k) = false
+finishes s left = false
+
+-- "that closed": the scope directly inside that an event closes
+unfoldable pub closes : List Inner → Event → List ℕ
+closes l started = []
+closes l (began k) = []
+closes l (closed k) = map (λ x. x .number) (only (λ x. eqb (x .number) k) l)
+closes l (faulted n) = []
+closes l (stopped k) = []
+closes l (ended n) = []
+closes l (raised k) = []
+closes l left = []
+
+-- "starts the undo parts": the scope directly inside whose undo part an event starts, which is the beginning of an activity like any other
+unfoldable pub undoes : List Inner → Event → List ℕ
+undoes l started = []
+undoes l (began k) = map (λ x. x .number) (only (λ x. eqb (x .undo) k) l)
+undoes l (closed k) = []
+undoes l (faulted n) = []
+undoes l (stopped k) = []
+undoes l (ended n) = []
+undoes l (raised k) = []
+undoes l left = []
+
+-- "one of them raised a fault": an activity of the undo part of a scope directly inside did
+unfoldable pub undoRaises : List Inner → Event → Bool
+undoRaises l started = false
+undoRaises l (began k) = false
+undoRaises l (closed k) = false
+undoRaises l (faulted n) = false
+undoRaises l (stopped k) = false
+undoRaises l (ended n) = false
+undoRaises l (raised k) = some (λ x. leb (x .undo) k && ltb k (x .undo + x .count)) l
+undoRaises l left = false
+
+unfoldable pub alike : List ℕ → List ℕ → Bool
+alike [] [] = true
+alike [] (y ∷ m) = false
+alike (x ∷ l) [] = false
+alike (x ∷ l) (y ∷ m) = eqb x y && alike l m
+
+-- the closings of the scopes directly inside since a scope last began, the latest first
+unfoldable pub closings : Plan → Name → (past : List Event) → List ℕ
+closings p s past = each (closes (inside p s)) (since s past)
+
+-- the undo parts of these that it has started since, by their scopes, the first first
+unfoldable pub undone : Plan → Name → (past : List Event) → List ℕ
+undone p s past = reverse (each (undoes (inside p s)) (since s past))
+
+-- it faulted or was stopped since it last began, and has not closed or ended since
+unfoldable pub hasTurned : Name → (past : List Event) → Bool
+hasTurned s past = some (turns s) (since s past) && not (some (finishes s) (since s past))
+
+-- an inner scope is left running: it began since the scope around it last began, and has neither closed nor ended since
+unfoldable pub isLeft : Name → (past : List Event) → Bool
+isLeft s [] = false
+isLeft s (e ∷ past) =
+    elim (begins s e) [ true ↦ not (begins root e) | false ↦ elim (finishes s e) [ true ↦ false | false ↦ isLeft s past ] ]
+
+unfoldable pub noneLeft : Plan → Name → (past : List Event) → Bool
+noneLeft p s past = every (λ x. not (isLeft (inner (x .number)) (since s past))) (inside p s)
+
+-- The undo part of scope x may start: the scope around x has faulted or was stopped; none of the scopes inside that one is left running; and the
+-- undo parts started so far, with this one, are those of the latest closings, "once for each closing, latest first".
+unfoldable pub mayUndo : Plan → (past : List Event) → Inner → Bool
+mayUndo p past x =
+    let us = undone p (x .around) past ++ (x .number ∷ []) in
+    hasTurned (x .around) past && (noneLeft p (x .around) past && alike us (take (length us) (closings p (x .around) past)))
+
+-- "No undo part starts otherwise."
+unfoldable pub mayBegin : Plan → (past : List Event) → (activity : ℕ) → Bool
+mayBegin p past k = every (mayUndo p past) (only (λ x. eqb (x .undo) k) (scopesOf p))
+
+-- A closing is that of a scope that began and has not faulted, been stopped, closed or ended since: one that faulted and was handled has none.
+unfoldable pub mayClose : Plan → (past : List Event) → (scope : ℕ) → Bool
+mayClose p past k =
+    isLeft (inner k) past && (not (some (turns (inner k)) (since (inner k) past)) && noneLeft p (inner k) past)
+
+-- "By the time it ends it has started them all, unless one of them raised a fault": where a scope faulted or was stopped. A scope other than the
+-- root ends only so, else it closes. And it does not end before the scopes inside it, so that none of these escapes by never ending.
+unfoldable pub startedAll : Plan → Name → (past : List Event) → Bool
+startedAll p s past =
+    alike (undone p s past) (closings p s past) || some (undoRaises (inside p s)) (since s past)
+
+abbrev pub isRoot : Name → Bool
+isRoot root = true
+isRoot (inner k) = false
+
+unfoldable pub mayEnd : Plan → Name → (past : List Event) → Bool
+mayEnd p s past = noneLeft p s past && cond (hasTurned s past) (startedAll p s past) (isRoot s)
+
+-- An order starts in a slot where the one before has ended, "or the order left".
+abbrev pub ordersEnd : Event → Bool
+ordersEnd e = elim e [ started ↦ false | began k ↦ false | closed k ↦ false | faulted n ↦ false | stopped k ↦ false | ended n ↦ isRoot n | raised k ↦ false | left ↦ true ]
+
+unfoldable pub mayStart : (past : List Event) → Bool
+mayStart [] = true
+mayStart (e ∷ past) = ordersEnd e
+
+-- what demand 3 says of each event, by what happened before it
+unfoldable pub allowed : Plan → (past : List Event) → Event → Bool
+allowed p past started = mayStart past
+allowed p past (began k) = mayBegin p past k
+allowed p past (closed k) = mayClose p past k
+allowed p past (faulted n) = true
+allowed p past (stopped k) = true
+allowed p past (ended n) = mayEnd p n past
+allowed p past (raised k) = true
+allowed p past left = true
+
+-- a history, oldest first, after a past: each event is allowed by what happened before it
+unfoldable pub rightAfter : Plan → (past : List Event) → List Event → Bool
+rightAfter p past [] = true
+rightAfter p past (e ∷ l) = allowed p past e && rightAfter p (e ∷ past) l
+
+unfoldable pub right : Plan → List Event → Bool
+right p l = rightAfter p [] l
+
+-- Demand 3: "when a scope faults, or is stopped before it has closed, it starts the undo parts of the scopes directly inside it that closed since
+-- it last began, once for each closing, latest first. By the time it ends it has started them all, unless one of them raised a fault or the order
+-- left. No undo part starts otherwise." For every accepted plan, every run of posts, collects and choices from a fresh start, and every slot.
+unfoldable pub Demand3 : Type 0
+Demand3 =
+    (bytes : List ℕ) (p : Plan) (next : ℕ) → readPlan bytes ≡ found p next → (calls : List Call) (slot : ℕ) (t : Tally) →
+    right p (history calls slot (loaded bytes) t) ≡ true
