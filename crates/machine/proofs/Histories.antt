@@ -3,24 +3,15 @@ use Prim.Native.Nat.{ℕ}
 use mathlib.Core.Path.{_≡_, refl}
 use mathlib.Core.Bool.{Bool, true, false, not}
 use mathlib.Core.List.{List, [], _∷_, map}
-use Rattle.numbers.specs.Number.{lastGroup, groups, numberAt}
-use Rattle.plan.specs.Found.{Found, refused, found, numberIn, fieldIn, among}
-use Rattle.plan.specs.Read.{expressionCodeIn, leafIn, expressionIn, variablesIn, tupleIn, exchangeIn, armIn, partnerIn, withExpressionIn, setIn, listIn, codeIn, partsIn, headIn, manyIn, readArm, readAct, starts, startForm, correlationIn, versionIn, rootIn, readPlan}
-use Rattle.plan.specs.Tree.{Plan, kind, size, sizes}
-use Rattle.machine.specs.declared.Message.{Message}
-use Rattle.machine.specs.Lists.{every, some, only, each, withoutFirst}
-use Rattle.machine.specs.State.{root, inner, noTally, noOrder, noMessage, fresh}
-use Rattle.machine.specs.Limits.{exchanged, messageInLimits, rootInLimits, orderInLimits, inLimits, planIn, by}
-use Rattle.machine.specs.Expression.{applied, evaluate}
-use Rattle.machine.specs.Event.{Event, started, began, closed, faulted, stopped, ended, raised, left}
-use Rattle.machine.specs.Begin.{begin, beginAfter, part, partAt, beginPart, cleared, quiet}
-use Rattle.machine.specs.Scope.{directly, rememberedFor, forgetting, closing, innerRuns, beginUndo, startUndo, undo, handle, undoes, turns, withdraws, stop, faults, breaks, looksAgain, bodyOver, bodyRaised, undoOver, undoRaised, fromBody, partOver, partRaised, fromFault, fromUndo}
-use Rattle.machine.specs.Act.{repeats, itself, isPart, arms, goesOn, joins, inScope, combines, stepIn, stepRoot, endOf, movedTo, stepOrder, begunOrder, startedOrder}
-use Rattle.machine.specs.Fit.{kindOf, awaits, readyIn, readyOf, liveFrom, agrees, fits, unchecked, fitting, fittings, lettersFrom, mayTake}
-use Rattle.machine.specs.Offer.{allOf, eager, stepOffers, orderOffers, startOf, startsOf, freeFrom, startOffers, offersOf}
-use Rattle.machine.specs.Calls.{loaded, postBy, post, nth, choose, countEnd, kindIn, kindAt, bindAll, valuesOf, messagesAfter, orderTaking, stepped, taken, stepChosen, stepBy, step}
+use Rattle.plan.specs.Read.{readPlan}
+use Rattle.machine.specs.Lists.{every}
+use Rattle.machine.specs.State.{root, inner, noTally}
+use Rattle.machine.specs.Limits.{by}
+use Rattle.machine.specs.Event.{Event, started, began, closed, faulted, ended, raised}
+use Rattle.machine.specs.Calls.{loaded}
+use Rattle.machine.specs.Computing.{computing}
 use Rattle.machine.specs.History.{Call, posting, stepping, history}
-use Rattle.machine.specs.Demand3.{scopesIn, scopesOf, inside, begins, since, turns as hasTurn, finishes, closes, undoes as undoesBy, undoRaises, alike, closings, undone, hasTurned, isLeft, noneLeft, mayUndo, mayBegin, mayClose, startedAll, mayEnd, mayStart, allowed, rightAfter, right}
+use Rattle.machine.specs.Demand3.{right}
 
 -- A plan, calls on a fresh state of it, what happens with them in slot 0, and what an engine that does wrong would do.
 record Example : Type 0 where
@@ -129,14 +120,14 @@ rightOf bytes l = by false (λ p. right p l) (readPlan bytes)
 
 -- it holds of each right history, and of none of the wrong ones
 judged : every (λ x. rightOf (x .bytes) (x .rightly)) examples ≡ true
-unfolding examples twoScopes threeClosings innerHandler handledScope rightOf every some only each lastGroup groups numberAt numberIn fieldIn among expressionCodeIn leafIn expressionIn variablesIn tupleIn exchangeIn armIn partnerIn withExpressionIn setIn listIn codeIn partsIn headIn manyIn readArm readAct starts startForm correlationIn versionIn rootIn readPlan kind size part partAt scopesIn scopesOf inside begins since hasTurn finishes closes undoesBy undoRaises alike closings undone hasTurned isLeft noneLeft mayUndo mayBegin mayClose startedAll mayEnd mayStart allowed rightAfter right
+unfolding examples twoScopes threeClosings innerHandler handledScope rightOf computing
 judged = refl
 
 refuted : every (λ x. every (λ l. not (rightOf (x .bytes) l)) (x .wrongly)) examples ≡ true
-unfolding examples twoScopes threeClosings innerHandler handledScope rightOf every some only each lastGroup groups numberAt numberIn fieldIn among expressionCodeIn leafIn expressionIn variablesIn tupleIn exchangeIn armIn partnerIn withExpressionIn setIn listIn codeIn partsIn headIn manyIn readArm readAct starts startForm correlationIn versionIn rootIn readPlan kind size part partAt scopesIn scopesOf inside begins since hasTurn finishes closes undoesBy undoRaises alike closings undone hasTurned isLeft noneLeft mayUndo mayBegin mayClose startedAll mayEnd mayStart allowed rightAfter right
+unfolding examples twoScopes threeClosings innerHandler handledScope rightOf computing
 refuted = refl
 
 -- and the right histories are those of the definitions
 logged : map (λ x. history (x .calls) 0 (loaded (x .bytes)) noTally) examples ≡ map (λ x. x .rightly) examples
-unfolding examples twoScopes threeClosings innerHandler handledScope every some only each withoutFirst lastGroup groups numberAt numberIn fieldIn among expressionCodeIn leafIn expressionIn variablesIn tupleIn exchangeIn armIn partnerIn withExpressionIn setIn listIn codeIn partsIn headIn manyIn readArm readAct starts startForm correlationIn versionIn rootIn readPlan kind size noOrder noMessage fresh exchanged messageInLimits rootInLimits orderInLimits inLimits planIn applied evaluate begin beginAfter part partAt beginPart cleared quiet directly rememberedFor forgetting closing innerRuns beginUndo startUndo undo handle undoes turns withdraws stop faults breaks looksAgain bodyOver bodyRaised undoOver undoRaised fromBody partOver partRaised fromFault fromUndo repeats itself isPart arms goesOn joins inScope combines stepIn stepRoot endOf movedTo stepOrder begunOrder startedOrder kindOf awaits readyIn readyOf liveFrom agrees fits unchecked fitting fittings lettersFrom mayTake allOf eager stepOffers orderOffers startOf startsOf freeFrom startOffers offersOf loaded postBy post nth choose countEnd kindIn kindAt bindAll valuesOf messagesAfter orderTaking stepped taken stepChosen stepBy step history
+unfolding examples twoScopes threeClosings innerHandler handledScope computing
 logged = refl

@@ -95,6 +95,14 @@ refusing n = record { refusal = n; slot = 0; activity = 0; place = 0; end = None
 abbrev pub answering : Offer → End → Step
 answering x e = record { refusal = 0; slot = x .slot; activity = x .activity; place = x .place; end = e }
 
+-- document 01's number for an end: 0 where there is none, then "one of well, handled, failed or left"
+unfoldable pub endNumber : End → ℕ
+endNumber None = 0
+endNumber Well = 1
+endNumber Handled = 2
+endNumber Failed = 3
+endNumber Left = 4
+
 -- What a choice comes to: refused, or one of the offers.
 pub data Chosen : Type 0 where
   refusedChoice : (number : ℕ) → Chosen

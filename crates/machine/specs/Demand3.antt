@@ -9,7 +9,7 @@ use Rattle.plan.specs.Found.{Found, found}
 use Rattle.plan.specs.Read.{readPlan}
 use Rattle.plan.specs.Tree.{Act, act, Acts, none, more, Plan, size}
 use Rattle.machine.specs.declared.Tally.{Tally}
-use Rattle.machine.specs.Lists.{every, some, only, each}
+use Rattle.machine.specs.Lists.{every, some, only, each, alike}
 use Rattle.machine.specs.State.{Name, root, inner, same}
 use Rattle.machine.specs.Event.{Event, started, began, closed, faulted, stopped, ended, raised, left}
 use Rattle.machine.specs.Begin.{part, partAt}
@@ -116,12 +116,6 @@ undoRaises l (stopped k) = false
 undoRaises l (ended n) = false
 undoRaises l (raised k) = some (λ x. leb (x .undo) k && ltb k (x .undo + x .count)) l
 undoRaises l left = false
-
-unfoldable pub alike : List ℕ → List ℕ → Bool
-alike [] [] = true
-alike [] (y ∷ m) = false
-alike (x ∷ l) [] = false
-alike (x ∷ l) (y ∷ m) = eqb x y && alike l m
 
 -- the closings of the scopes directly inside since a scope last began, the latest first
 unfoldable pub closings : Plan → Name → (past : List Event) → List ℕ

@@ -11,3 +11,5 @@ pub mod Offer
 pub mod Calls
 pub mod History
 pub mod Demand3
+pub mod Computing
+pub mod Starred
