@@ -20,7 +20,7 @@ use Rattle.machine.specs.Limits.{exchanged, planIn, by}
 use Rattle.machine.specs.Event.{Event, started}
 use Rattle.machine.specs.Begin.{Begun}
 use Rattle.machine.specs.Act.{allBound, Moved, stepOrder, begunOrder, startedOrder}
-use Rattle.machine.specs.Fit.{Kind, no, sending, taking, moving, cutting, closing, kindOf}
+use Rattle.machine.specs.Fit.{Doing, noStep, sends, takes, moves, cuts, closes, doingOf}
 use Rattle.machine.specs.Offer.{Offer, Offers, offersOf}
 
 -- Load. "A refused plan gives a state with no plan."
@@ -48,17 +48,17 @@ unfoldable pub post : Message → State → Posted
 post m s = by (record { refusal = 17; state = s }) (λ p. postBy p m s) (planIn s)
 
 -- the partners that a plan receives on, in the order of the file
-unfoldable pub partnerOf : Kind → List ℕ
-partnerOf no = []
-partnerOf (sending partner operation vs) = []
-partnerOf (taking partner operation vs) = partner ∷ []
-partnerOf moving = []
-partnerOf cutting = []
-partnerOf (closing s) = []
+unfoldable pub partnerOf : Doing → List ℕ
+partnerOf noStep = []
+partnerOf (sends partner operation vs) = []
+partnerOf (takes partner operation vs) = partner ∷ []
+partnerOf moves = []
+partnerOf cuts = []
+partnerOf (closes s) = []
 
 unfoldable mutual
   pub partnersIn : Act → List ℕ
-  partnersIn (act own within) = partnerOf (kindOf own within 0) ++ partnersAmong within
+  partnersIn (act own within) = partnerOf (doingOf own within 0) ++ partnersAmong within
 
   pub partnersAmong : Acts → List ℕ
   partnersAmong none = []
@@ -115,8 +115,8 @@ nth number (x ∷ l) zero = chosen x
 nth number (x ∷ l) (suc c) = nth number l c
 
 -- 10: "nothing offered, nothing held"; 11: "nothing offered, something held"; 12: "choice beyond the offer"
-unfoldable pub choose : Offers → (choice : ℕ) → Chosen
-choose a c = nth (cond (empties (a .offered)) (cond (a .held) 11 10) 12) (a .offered) c
+unfoldable pub choosing : Offers → (choice : ℕ) → Chosen
+choosing a c = nth (cond (empties (a .offered)) (cond (a .held) 11 10) 12) (a .offered) c
 
 -- The offer shown without taking it.
 abbrev pub shown : Chosen → Step
@@ -124,7 +124,7 @@ shown (refusedChoice n) = refusing n
 shown (chosen x) = answering x None
 
 unfoldable pub showBy : Plan → (choice : ℕ) → State → Step
-showBy p c s = shown (choose (offersOf p s) c)
+showBy p c s = shown (choosing (offersOf p s) c)
 
 unfoldable pub show : (choice : ℕ) → State → Step
 show c s = by (refusing 17) (λ p. showBy p c s) (planIn s)
@@ -154,16 +154,16 @@ pub record Stepped : Type 0 where
 
 -- the step that activity t is there for
 unfoldable mutual
-  pub kindIn : Act → (k t : ℕ) → Kind
-  kindIn (act own within) k t = elim (eqb k t) [ true ↦ kindOf own within k | false ↦ kindAmong within (k + 1) t ]
+  pub doingIn : Act → (k t : ℕ) → Doing
+  doingIn (act own within) k t = elim (eqb k t) [ true ↦ doingOf own within k | false ↦ doingAmong within (k + 1) t ]
 
-  pub kindAmong : Acts → (c t : ℕ) → Kind
-  kindAmong none c t = no
-  kindAmong (more a l) c t = elim (ltb t (c + size a)) [ true ↦ kindIn a c t | false ↦ kindAmong l (c + size a) t ]
+  pub doingAmong : Acts → (c t : ℕ) → Doing
+  doingAmong none c t = noStep
+  doingAmong (more a l) c t = elim (ltb t (c + size a)) [ true ↦ doingIn a c t | false ↦ doingAmong l (c + size a) t ]
 
-unfoldable pub kindAt : Plan → (t : ℕ) → Kind
-kindAt p t =
-    elim (ltb t (size (p .body))) [ true ↦ kindIn (p .body) 0 t | false ↦ kindIn (p .fault) (size (p .body)) t ]
+unfoldable pub doingAt : Plan → (t : ℕ) → Doing
+doingAt p t =
+    elim (ltb t (size (p .body))) [ true ↦ doingIn (p .body) 0 t | false ↦ doingIn (p .fault) (size (p .body)) t ]
 
 -- the variables of a receive "get bound or overwritten"
 unfoldable pub bindAll : (variables values : List ℕ) → Order → Order
@@ -176,29 +176,29 @@ valuesOf o [] = []
 valuesOf o (v ∷ vs) = valueOf o v ∷ valuesOf o vs
 
 -- "Send (adds a message)"; a taken message leaves the table, and its values are bound
-unfoldable pub messagesAfter : Kind → (place : ℕ) → Order → State → State
-messagesAfter no j o s = s
-messagesAfter (sending partner operation vs) j o s =
+unfoldable pub messagesAfter : Doing → (place : ℕ) → Order → State → State
+messagesAfter noStep j o s = s
+messagesAfter (sends partner operation vs) j o s =
     cond (allBound o vs)
     (adding (record { partner = partner; operation = operation; count = length vs; values = stored 4 (valuesOf o vs) }) s)
     s
-messagesAfter (taking partner operation vs) j o s = removing j s
-messagesAfter moving j o s = s
-messagesAfter cutting j o s = s
-messagesAfter (closing x) j o s = s
+messagesAfter (takes partner operation vs) j o s = removing j s
+messagesAfter moves j o s = s
+messagesAfter cuts j o s = s
+messagesAfter (closes x) j o s = s
 
-unfoldable pub orderTaking : Kind → Message → Order → Order
-orderTaking no m o = o
-orderTaking (sending partner operation vs) m o = o
-orderTaking (taking partner operation vs) m o = bindAll vs (m .values) o
-orderTaking moving m o = o
-orderTaking cutting m o = o
-orderTaking (closing x) m o = o
+unfoldable pub orderTaking : Doing → Message → Order → Order
+orderTaking noStep m o = o
+orderTaking (sends partner operation vs) m o = o
+orderTaking (takes partner operation vs) m o = bindAll vs (m .values) o
+orderTaking moves m o = o
+orderTaking cuts m o = o
+orderTaking (closes x) m o = o
 
 -- an order has the step x: what its slot, the messages and the tally are then; `l` is what happened before
 unfoldable pub stepped : Plan → Offer → State → Tally → Order → List Event → Stepped
 stepped p x s t o l =
-    let step = kindAt p (x .activity) in
+    let step = doingAt p (x .activity) in
     let m = stepOrder p (x .activity) (orderTaking step (getD (s .messages) (x .place) noMessage) o) in
     record {
       answer = answering x (m .end);
@@ -219,7 +219,7 @@ stepChosen p s t (refusedChoice n) = record { answer = refusing n; state = s; ta
 stepChosen p s t (chosen x) = taken p x s t
 
 unfoldable pub stepBy : Plan → (choice : ℕ) → State → Tally → Stepped
-stepBy p c s t = stepChosen p s t (choose (offersOf p s) c)
+stepBy p c s t = stepChosen p s t (choosing (offersOf p s) c)
 
 unfoldable pub step : (choice : ℕ) → State → Tally → Stepped
 step c s t = by (record { answer = refusing 17; state = s; tally = t; log = [] }) (λ p. stepBy p c s t) (planIn s)

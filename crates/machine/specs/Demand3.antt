@@ -40,110 +40,110 @@ unfoldable pub scopesOf : Plan → List Inner
 scopesOf p = scopesIn (p .body) 0 root ++ scopesIn (p .fault) (size (p .body)) root
 
 -- "the scopes directly inside it"
-unfoldable pub inside : Plan → Name → List Inner
-inside p s = only (λ x. same (x .around) s) (scopesOf p)
+unfoldable pub insideOf : Plan → Name → List Inner
+insideOf p s = only (λ x. same (x .around) s) (scopesOf p)
 
 -- A history is read from its newest event back: `past` is what happened before, the newest first.
 
 -- whether an event is the beginning of a scope; of one in an earlier order of the slot nothing counts
-unfoldable pub begins : Name → Event → Bool
-begins s started = true
-begins root (began k) = false
-begins (inner e) (began k) = eqb e k
-begins s (closed k) = false
-begins s (faulted n) = false
-begins s (stopped k) = false
-begins s (ended n) = false
-begins s (raised k) = false
-begins s left = false
+unfoldable pub isBegin : Name → Event → Bool
+isBegin s started = true
+isBegin root (began k) = false
+isBegin (inner e) (began k) = eqb e k
+isBegin s (closed k) = false
+isBegin s (faulted n) = false
+isBegin s (stopped k) = false
+isBegin s (ended n) = false
+isBegin s (raised k) = false
+isBegin s left = false
 
 -- "since it last began"
 unfoldable pub since : Name → (past : List Event) → List Event
 since s [] = []
-since s (e ∷ past) = elim (begins s e) [ true ↦ [] | false ↦ e ∷ since s past ]
+since s (e ∷ past) = elim (isBegin s e) [ true ↦ [] | false ↦ e ∷ since s past ]
 
 -- "when a scope faults, or is stopped before it has closed"
-unfoldable pub turns : Name → Event → Bool
-turns s started = false
-turns s (began k) = false
-turns s (closed k) = false
-turns s (faulted n) = same s n
-turns s (stopped k) = same s (inner k)
-turns s (ended n) = false
-turns s (raised k) = false
-turns s left = false
+unfoldable pub isTurn : Name → Event → Bool
+isTurn s started = false
+isTurn s (began k) = false
+isTurn s (closed k) = false
+isTurn s (faulted n) = same s n
+isTurn s (stopped k) = same s (inner k)
+isTurn s (ended n) = false
+isTurn s (raised k) = false
+isTurn s left = false
 
 -- a scope closes or ends
-unfoldable pub finishes : Name → Event → Bool
-finishes s started = false
-finishes s (began k) = false
-finishes s (closed k) = same s (inner k)
-finishes s (faulted n) = false
-finishes s (stopped k) = false
-finishes s (ended n) = same s n
-finishes s (raised k) = false
-finishes s left = false
+unfoldable pub isFinish : Name → Event → Bool
+isFinish s started = false
+isFinish s (began k) = false
+isFinish s (closed k) = same s (inner k)
+isFinish s (faulted n) = false
+isFinish s (stopped k) = false
+isFinish s (ended n) = same s n
+isFinish s (raised k) = false
+isFinish s left = false
 
 -- "that closed": the scope directly inside that an event closes
-unfoldable pub closes : List Inner → Event → List ℕ
-closes l started = []
-closes l (began k) = []
-closes l (closed k) = map (λ x. x .number) (only (λ x. eqb (x .number) k) l)
-closes l (faulted n) = []
-closes l (stopped k) = []
-closes l (ended n) = []
-closes l (raised k) = []
-closes l left = []
+unfoldable pub closedBy : List Inner → Event → List ℕ
+closedBy l started = []
+closedBy l (began k) = []
+closedBy l (closed k) = map (λ x. x .number) (only (λ x. eqb (x .number) k) l)
+closedBy l (faulted n) = []
+closedBy l (stopped k) = []
+closedBy l (ended n) = []
+closedBy l (raised k) = []
+closedBy l left = []
 
 -- "starts the undo parts": the scope directly inside whose undo part an event starts, which is the beginning of an activity like any other
-unfoldable pub undoes : List Inner → Event → List ℕ
-undoes l started = []
-undoes l (began k) = map (λ x. x .number) (only (λ x. eqb (x .undo) k) l)
-undoes l (closed k) = []
-undoes l (faulted n) = []
-undoes l (stopped k) = []
-undoes l (ended n) = []
-undoes l (raised k) = []
-undoes l left = []
+unfoldable pub undoneBy : List Inner → Event → List ℕ
+undoneBy l started = []
+undoneBy l (began k) = map (λ x. x .number) (only (λ x. eqb (x .undo) k) l)
+undoneBy l (closed k) = []
+undoneBy l (faulted n) = []
+undoneBy l (stopped k) = []
+undoneBy l (ended n) = []
+undoneBy l (raised k) = []
+undoneBy l left = []
 
 -- "one of them raised a fault": an activity of the undo part of a scope directly inside did
-unfoldable pub undoRaises : List Inner → Event → Bool
-undoRaises l started = false
-undoRaises l (began k) = false
-undoRaises l (closed k) = false
-undoRaises l (faulted n) = false
-undoRaises l (stopped k) = false
-undoRaises l (ended n) = false
-undoRaises l (raised k) = some (λ x. leb (x .undo) k && ltb k (x .undo + x .count)) l
-undoRaises l left = false
+unfoldable pub isUndoRaise : List Inner → Event → Bool
+isUndoRaise l started = false
+isUndoRaise l (began k) = false
+isUndoRaise l (closed k) = false
+isUndoRaise l (faulted n) = false
+isUndoRaise l (stopped k) = false
+isUndoRaise l (ended n) = false
+isUndoRaise l (raised k) = some (λ x. leb (x .undo) k && ltb k (x .undo + x .count)) l
+isUndoRaise l left = false
 
 -- the closings of the scopes directly inside since a scope last began, the latest first
-unfoldable pub closings : Plan → Name → (past : List Event) → List ℕ
-closings p s past = each (closes (inside p s)) (since s past)
+unfoldable pub closingsOf : Plan → Name → (past : List Event) → List ℕ
+closingsOf p s past = each (closedBy (insideOf p s)) (since s past)
 
 -- the undo parts of these that it has started since, by their scopes, the first first
-unfoldable pub undone : Plan → Name → (past : List Event) → List ℕ
-undone p s past = reverse (each (undoes (inside p s)) (since s past))
+unfoldable pub undoneOf : Plan → Name → (past : List Event) → List ℕ
+undoneOf p s past = reverse (each (undoneBy (insideOf p s)) (since s past))
 
 -- it faulted or was stopped since it last began, and has not closed or ended since
 unfoldable pub hasTurned : Name → (past : List Event) → Bool
-hasTurned s past = some (turns s) (since s past) && not (some (finishes s) (since s past))
+hasTurned s past = some (isTurn s) (since s past) && not (some (isFinish s) (since s past))
 
 -- an inner scope is left running: it began since the scope around it last began, and has neither closed nor ended since
 unfoldable pub isLeft : Name → (past : List Event) → Bool
 isLeft s [] = false
 isLeft s (e ∷ past) =
-    elim (begins s e) [ true ↦ not (begins root e) | false ↦ elim (finishes s e) [ true ↦ false | false ↦ isLeft s past ] ]
+    elim (isBegin s e) [ true ↦ not (isBegin root e) | false ↦ elim (isFinish s e) [ true ↦ false | false ↦ isLeft s past ] ]
 
 unfoldable pub noneLeft : Plan → Name → (past : List Event) → Bool
-noneLeft p s past = every (λ x. not (isLeft (inner (x .number)) (since s past))) (inside p s)
+noneLeft p s past = every (λ x. not (isLeft (inner (x .number)) (since s past))) (insideOf p s)
 
 -- The undo part of scope x may start: the scope around x has faulted or was stopped; none of the scopes inside that one is left running; and the
 -- undo parts started so far, with this one, are those of the latest closings, "once for each closing, latest first".
 unfoldable pub mayUndo : Plan → (past : List Event) → Inner → Bool
 mayUndo p past x =
-    let us = undone p (x .around) past ++ (x .number ∷ []) in
-    hasTurned (x .around) past && (noneLeft p (x .around) past && alike us (take (length us) (closings p (x .around) past)))
+    let us = undoneOf p (x .around) past ++ (x .number ∷ []) in
+    hasTurned (x .around) past && (noneLeft p (x .around) past && alike us (take (length us) (closingsOf p (x .around) past)))
 
 -- "No undo part starts otherwise."
 unfoldable pub mayBegin : Plan → (past : List Event) → (activity : ℕ) → Bool
@@ -152,13 +152,13 @@ mayBegin p past k = every (mayUndo p past) (only (λ x. eqb (x .undo) k) (scopes
 -- A closing is that of a scope that began and has not faulted, been stopped, closed or ended since: one that faulted and was handled has none.
 unfoldable pub mayClose : Plan → (past : List Event) → (scope : ℕ) → Bool
 mayClose p past k =
-    isLeft (inner k) past && (not (some (turns (inner k)) (since (inner k) past)) && noneLeft p (inner k) past)
+    isLeft (inner k) past && (not (some (isTurn (inner k)) (since (inner k) past)) && noneLeft p (inner k) past)
 
 -- "By the time it ends it has started them all, unless one of them raised a fault": where a scope faulted or was stopped. A scope other than the
 -- root ends only so, else it closes. And it does not end before the scopes inside it, so that none of these escapes by never ending.
 unfoldable pub startedAll : Plan → Name → (past : List Event) → Bool
 startedAll p s past =
-    alike (undone p s past) (closings p s past) || some (undoRaises (inside p s)) (since s past)
+    alike (undoneOf p s past) (closingsOf p s past) || some (isUndoRaise (insideOf p s)) (since s past)
 
 abbrev pub isRoot : Name → Bool
 isRoot root = true

@@ -15,28 +15,28 @@ use Rattle.machine.specs.Scope.{Scope, scopeAt, isScope}
 
 -- "Steps. Send, take, set, decide (choose or repeat), raise, leave, close": the step that activity k is there for. To move is to set or to
 -- decide, to cut off is to raise or to leave.
-pub data Kind : Type 0 where
-  no : Kind
-  sending : (partner operation : ℕ) → (variables : List ℕ) → Kind
-  taking : (partner operation : ℕ) → (variables : List ℕ) → Kind
-  moving : Kind
-  cutting : Kind
-  closing : Scope → Kind
+pub data Doing : Type 0 where
+  noStep : Doing
+  sends : (partner operation : ℕ) → (variables : List ℕ) → Doing
+  takes : (partner operation : ℕ) → (variables : List ℕ) → Doing
+  moves : Doing
+  cuts : Doing
+  closes : Scope → Doing
 
-unfoldable pub kindOf : Own → (within : Acts) → (k : ℕ) → Kind
-kindOf empty within k = no
-kindOf (send p o vs) within k = sending p o vs
-kindOf (receive p o vs) within k = taking p o vs
-kindOf (setting v e) within k = moving
-kindOf raise within k = cutting
-kindOf leave within k = cutting
-kindOf (choose e) within k = moving
-kindOf (repeat e) within k = moving
-kindOf sequence within k = no
-kindOf flow within k = no
-kindOf pick within k = no
-kindOf scope within k = closing (scopeAt k within)
-kindOf (arm p o vs) within k = taking p o vs
+unfoldable pub doingOf : Own → (within : Acts) → (k : ℕ) → Doing
+doingOf empty within k = noStep
+doingOf (send p o vs) within k = sends p o vs
+doingOf (receive p o vs) within k = takes p o vs
+doingOf (setting v e) within k = moves
+doingOf raise within k = cuts
+doingOf leave within k = cuts
+doingOf (choose e) within k = moves
+doingOf (repeat e) within k = moves
+doingOf sequence within k = noStep
+doingOf flow within k = noStep
+doingOf pick within k = noStep
+doingOf scope within k = closes (scopeAt k within)
+doingOf (arm p o vs) within k = takes p o vs
 
 -- whether it awaits that step: an arm where its pick is active, a scope where its body is done, all else where it is active
 unfoldable pub awaits : Own → (armsOpen : Bool) → (mark : ℕ) → Bool
@@ -45,14 +45,14 @@ awaits own armsOpen m = cond (eqb (kind own) 12) armsOpen (cond (isScope own) (e
 -- an activity or arm with the step that it awaits
 pub record Ready : Type 0 where
   pub activity : ℕ
-  pub step : Kind
+  pub step : Doing
 
 -- all of these in activity k and within it, ascending
 unfoldable mutual
   pub readyIn : Act → (k : ℕ) → (armsOpen : Bool) → List ℕ → List Ready
   readyIn (act own within) k armsOpen ms =
       let l = readyAmong within (k + 1) (eqb (kind own) 10 && eqb (getD ms k 0) active) ms in
-      elim (awaits own armsOpen (getD ms k 0)) [ true ↦ record { activity = k; step = kindOf own within k } ∷ l | false ↦ l ]
+      elim (awaits own armsOpen (getD ms k 0)) [ true ↦ record { activity = k; step = doingOf own within k } ∷ l | false ↦ l ]
 
   pub readyAmong : Acts → (c : ℕ) → (armsOpen : Bool) → List ℕ → List Ready
   readyAmong none c armsOpen ms = []
@@ -94,13 +94,13 @@ unchecked p o [] = 0
 unchecked p o (v ∷ vs) = cond (isChecked p o v) (unchecked p o vs) (suc (unchecked p o vs))
 
 -- of an open receive that the message fits, how many places are unchecked; of anything else nothing
-unfoldable pub fitting : Plan → Order → Message → Kind → List ℕ
-fitting p o m no = []
-fitting p o m (sending partner operation vs) = []
-fitting p o m (taking partner operation vs) = cond (fits p o partner operation vs m) (unchecked p o vs ∷ []) []
-fitting p o m moving = []
-fitting p o m cutting = []
-fitting p o m (closing s) = []
+unfoldable pub fitting : Plan → Order → Message → Doing → List ℕ
+fitting p o m noStep = []
+fitting p o m (sends partner operation vs) = []
+fitting p o m (takes partner operation vs) = cond (fits p o partner operation vs m) (unchecked p o vs ∷ []) []
+fitting p o m moves = []
+fitting p o m cuts = []
+fitting p o m (closes s) = []
 
 -- "all open receives in live orders that a message fits", each by its number of unchecked places
 unfoldable pub fittings : Plan → List Live → Message → List ℕ

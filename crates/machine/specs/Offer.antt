@@ -11,7 +11,7 @@ use Rattle.machine.specs.Lists.{every, some, only, each, empties}
 use Rattle.machine.specs.State.{isLive, closings, letters}
 use Rattle.machine.specs.Scope.{Scope, forgetting}
 use Rattle.machine.specs.Act.{allBound, startedOrder}
-use Rattle.machine.specs.Fit.{Kind, no, sending, taking, moving, cutting, closing, Ready, readyOf, Live, liveFrom, Letter, lettersFrom, fits, mayTake}
+use Rattle.machine.specs.Fit.{Doing, noStep, sends, takes, moves, cuts, closes, Ready, readyOf, Live, liveFrom, Letter, lettersFrom, fits, mayTake}
 
 -- one step on offer: its slot, its activity and the place of its message (0 where none)
 pub record Offer : Type 0 where
@@ -27,14 +27,14 @@ pub record Offers : Type 0 where
   pub offered : List Offer
   pub held : Bool
 
-abbrev pub nothing : Offers
-nothing = record { offered = []; held = false }
+abbrev pub noOffers : Offers
+noOffers = record { offered = []; held = false }
 
 abbrev pub together : Offers → Offers → Offers
 together a b = record { offered = a .offered ++ b .offered; held = a .held || b .held }
 
 unfoldable pub allOf : {A : Type 0} → (A → Offers) → List A → Offers
-allOf f [] = nothing
+allOf f [] = noOffers
 allOf f (a ∷ l) = together (f a) (allOf f l)
 
 -- "is held: not offered"
@@ -43,12 +43,12 @@ unlessHeld true l = record { offered = []; held = true }
 unlessHeld false l = record { offered = l; held = false }
 
 -- "Eagerness. While an order has an active raise or leave, only these are offered for that order"
-abbrev pub isCutting : Ready → Bool
-isCutting r =
-    elim (r .step) [ no ↦ false | sending p o vs ↦ false | taking p o vs ↦ false | moving ↦ false | cutting ↦ true | closing s ↦ false ]
+abbrev pub isCut : Ready → Bool
+isCut r =
+    elim (r .step) [ noStep ↦ false | sends p o vs ↦ false | takes p o vs ↦ false | moves ↦ false | cuts ↦ true | closes s ↦ false ]
 
 unfoldable pub eager : List Ready → List Ready
-eager l = cond (some isCutting l) (only isCutting l) l
+eager l = cond (some isCut l) (only isCut l) l
 
 -- "Room. A send with all its variables bound while 64 messages wait": `wait` is how many do
 abbrev pub sendHeld : (wait : ℕ) → Order → (variables : List ℕ) → Bool
@@ -59,14 +59,14 @@ abbrev pub closeHeld : Order → Scope → Bool
 closeHeld o s = ltb 32 (length (closings (forgetting s o)) + 1)
 
 -- what one activity of an order has on offer: "for a receive or arm, messages oldest first"
-unfoldable pub stepOffers : Plan → (wait : ℕ) → List Letter → (slot : ℕ) → Order → (k : ℕ) → Kind → Offers
-stepOffers p wait l i o k no = nothing
-stepOffers p wait l i o k (sending partner operation vs) = unlessHeld (sendHeld wait o vs) (offering i k 0 ∷ [])
-stepOffers p wait l i o k (taking partner operation vs) =
+unfoldable pub stepOffers : Plan → (wait : ℕ) → List Letter → (slot : ℕ) → Order → (k : ℕ) → Doing → Offers
+stepOffers p wait l i o k noStep = noOffers
+stepOffers p wait l i o k (sends partner operation vs) = unlessHeld (sendHeld wait o vs) (offering i k 0 ∷ [])
+stepOffers p wait l i o k (takes partner operation vs) =
     unlessHeld false (map (λ x. offering i k (x .place)) (only (mayTake p o partner operation vs) l))
-stepOffers p wait l i o k moving = unlessHeld false (offering i k 0 ∷ [])
-stepOffers p wait l i o k cutting = unlessHeld false (offering i k 0 ∷ [])
-stepOffers p wait l i o k (closing s) = unlessHeld (closeHeld o s) (offering i k 0 ∷ [])
+stepOffers p wait l i o k moves = unlessHeld false (offering i k 0 ∷ [])
+stepOffers p wait l i o k cuts = unlessHeld false (offering i k 0 ∷ [])
+stepOffers p wait l i o k (closes s) = unlessHeld (closeHeld o s) (offering i k 0 ∷ [])
 
 -- "in each, activities ascending"; "An order's steps put aside by eagerness are not held."
 unfoldable pub orderOffers : Plan → (wait : ℕ) → List Letter → Live → Offers
@@ -75,12 +75,12 @@ orderOffers p wait l x = allOf (λ r. stepOffers p wait l (x .slot) (x .order) (
 -- the start receives of the body, which are "open as soon as it begins", that one message fits: their numbers, ascending
 unfoldable pub startOf : Plan → Order → Letter → Ready → List ℕ
 startOf p o x r =
-    elim (r .step) [ no ↦ []
-    | sending partner operation vs ↦ []
-    | taking partner operation vs ↦ cond (fits p o partner operation vs (x .message)) (r .activity ∷ []) []
-    | moving ↦ []
-    | cutting ↦ []
-    | closing s ↦ [] ]
+    elim (r .step) [ noStep ↦ []
+    | sends partner operation vs ↦ []
+    | takes partner operation vs ↦ cond (fits p o partner operation vs (x .message)) (r .activity ∷ []) []
+    | moves ↦ []
+    | cuts ↦ []
+    | closes s ↦ [] ]
 
 -- "Only if it fits none may it start an order"
 unfoldable pub startsOf : Plan → Order → List Ready → Letter → List ℕ

@@ -78,5 +78,5 @@ rows =
 
 -- every row holds
 pub allHold : every holds rows ≡ true
-unfolding rows holds answer ofMessage ofTally ofStep endNumber computing
+unfolding rows holds answer ofMessage ofTally ofStep computing
 allHold = refl
