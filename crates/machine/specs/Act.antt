@@ -83,8 +83,10 @@ joins k within o = elim (quiet (k + 1) (sizes within) (o .marks)) [ true ↦ fin
 -- a step t in the body, in the fault part or in the undo part of a scope
 unfoldable pub inScope : (k t : ℕ) → Acts → Outcome → Outcome
 inScope k t within r =
-    elim (ltb t (partAt 1 within (k + 1))) [ true ↦ fromBody (scopeAt k within) r
-    | false ↦ elim (ltb t (partAt 2 within (k + 1))) [ true ↦ fromFault (scopeAt k within) r | false ↦ fromUndo r ] ]
+    elim (ltb t (partAt 1 within (k + 1))) [
+      | true ↦ fromBody (scopeAt k within) r
+      | false ↦ elim (ltb t (partAt 2 within (k + 1))) [ true ↦ fromFault (scopeAt k within) r | false ↦ fromUndo r ]
+    ]
 
 -- what activity k makes of the outcome of step t within it
 unfoldable pub combines : Own → (within : Acts) → (k t : ℕ) → Outcome → Outcome
@@ -107,8 +109,10 @@ combines (arm p op vs) within k t r = r
 unfoldable mutual
   pub stepIn : Act → (k t : ℕ) → Order → Outcome
   stepIn (act own within) k t o =
-      elim (eqb k t) [ true ↦ itself own within k o
-      | false ↦ combines own within k t (stepAmong within (k + 1) t (arms own within k t o)) ]
+      elim (eqb k t) [
+        | true ↦ itself own within k o
+        | false ↦ combines own within k t (stepAmong within (k + 1) t (arms own within k t o))
+      ]
 
   pub stepAmong : Acts → (c t : ℕ) → Order → Outcome
   stepAmong none c t o = runs o
@@ -118,18 +122,22 @@ unfoldable mutual
 -- step t in the root's body or in the root's fault part
 unfoldable pub stepRoot : Plan → (t : ℕ) → Order → Outcome
 stepRoot p t o =
-    elim (ltb t (size (p .body))) [ true ↦ fromBody (rootOf p) (stepIn (p .body) 0 t o)
-    | false ↦ fromFault (rootOf p) (stepIn (p .fault) (size (p .body)) t o) ]
+    elim (ltb t (size (p .body))) [
+      | true ↦ fromBody (rootOf p) (stepIn (p .body) 0 t o)
+      | false ↦ fromFault (rootOf p) (stepIn (p .fault) (size (p .body)) t o)
+    ]
 
 -- "How an order ended is one of well, handled, failed or left: root body done; root fault part done; a fault out of the root; leave."
 unfoldable pub endOf : Outcome → End
 endOf r =
-    elim (r .result) [ running ↦ cond (eqb (r .order .root) done) Well None
-    | over ↦ Handled
-    | raising ↦ Failed
-    | leaving ↦ Left
-    | undone ↦ None
-    | undoRaising ↦ None ]
+    elim (r .result) [
+      | running ↦ cond (eqb (r .order .root) done) Well None
+      | over ↦ Handled
+      | raising ↦ Failed
+      | leaving ↦ Left
+      | undone ↦ None
+      | undoRaising ↦ None
+    ]
 
 -- an order after a step: how it ended, if it did, what stands in its slot, and what happened
 pub record Moved : Type 0 where

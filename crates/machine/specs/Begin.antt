@@ -24,14 +24,18 @@ awaiting k ms = record { marks = set ms k active; over = false; log = began k �
 -- sequence or flow k, within which these began: over with them
 abbrev pub throughout : (k : ℕ) → Begun → Begun
 throughout k r =
-    elim (r .over) [ true ↦ record { marks = set (r .marks) k idle; over = true; log = r .log }
-    | false ↦ r ]
+    elim (r .over) [
+      | true ↦ record { marks = set (r .marks) k idle; over = true; log = r .log }
+      | false ↦ r
+    ]
 
 -- scope k, whose body began so: where the body is over, it may close; the scope itself is not over
 abbrev pub around : (k : ℕ) → Begun → Begun
 around k r =
-    elim (r .over) [ true ↦ record { marks = set (r .marks) k done; over = false; log = r .log }
-    | false ↦ r ]
+    elim (r .over) [
+      | true ↦ record { marks = set (r .marks) k done; over = false; log = r .log }
+      | false ↦ r
+    ]
 
 -- activity k began before what began within it
 abbrev pub itsBeginning : (k : ℕ) → Begun → Begun
@@ -40,8 +44,10 @@ itsBeginning k r = record { marks = r .marks; over = r .over; log = began k ∷ 
 -- one after the other: the rest begins where the first is over
 abbrev pub inTurn : (List ℕ → Begun) → Begun → Begun
 inTurn rest r =
-    elim (r .over) [ true ↦ (let s = rest (r .marks) in record { marks = s .marks; over = s .over; log = r .log ++ s .log })
-    | false ↦ r ]
+    elim (r .over) [
+      | true ↦ (let s = rest (r .marks) in record { marks = s .marks; over = s .over; log = r .log ++ s .log })
+      | false ↦ r
+    ]
 
 -- side by side: the rest begins as well, and they are over when all are
 abbrev pub sideBySide : (List ℕ → Begun) → Begun → Begun

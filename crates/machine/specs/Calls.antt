@@ -23,9 +23,21 @@ use Rattle.machine.specs.Act.{allBound, Moved, stepOrder, begunOrder, st
 use Rattle.machine.specs.Fit.{Doing, noStep, sends, takes, moves, cuts, closes, doingOf}
 use Rattle.machine.specs.Offer.{Offer, Offers, offersOf}
 
--- Load. "A refused plan gives a state with no plan."
-unfoldable pub loaded : List ℕ → State
-loaded s = by unplanned (λ p. fresh s) (readPlan s)
+-- Load: the refusal and its place, or 0 and 0, and the state. "A refused plan gives a state with no plan."
+pub record Loaded : Type 0 where
+  pub refusal : ℕ
+  pub place : ℕ
+  pub state : State
+
+abbrev pub loadedAs : List ℕ → Found Plan → Loaded
+loadedAs s (refused n place) = record { refusal = n; place = place; state = unplanned }
+loadedAs s (found p next) = record { refusal = 0; place = 0; state = fresh s }
+
+unfoldable pub load : List ℕ → Loaded
+load s = loadedAs s (readPlan s)
+
+abbrev pub loaded : List ℕ → State
+loaded s = load s .state
 
 -- Post: the refusal or 0, and the state.
 pub record Posted : Type 0 where
@@ -119,15 +131,15 @@ unfoldable pub choosing : Offers → (choice : ℕ) → Chosen
 choosing a c = nth (cond (empties (a .offered)) (cond (a .held) 11 10) 12) (a .offered) c
 
 -- The offer shown without taking it.
-abbrev pub shown : Chosen → Step
-shown (refusedChoice n) = refusing n
-shown (chosen x) = answering x None
+abbrev pub previewed : Chosen → Step
+previewed (refusedChoice n) = refusing n
+previewed (chosen x) = answering x None
 
-unfoldable pub showBy : Plan → (choice : ℕ) → State → Step
-showBy p c s = shown (choosing (offersOf p s) c)
+unfoldable pub previewBy : Plan → (choice : ℕ) → State → Step
+previewBy p c s = previewed (choosing (offersOf p s) c)
 
-unfoldable pub show : (choice : ℕ) → State → Step
-show c s = by (refusing 17) (λ p. showBy p c s) (planIn s)
+unfoldable pub preview : (choice : ℕ) → State → Step
+preview c s = by (refusing 17) (λ p. previewBy p c s) (planIn s)
 
 -- "A count at 4,294,967,295 stays there."
 abbrev pub counted : ℕ → ℕ
@@ -211,8 +223,10 @@ stepped p x s t o l =
 unfoldable pub taken : Plan → Offer → State → Tally → Stepped
 taken p x s t =
     let o = getD (s .orders) (x .slot) noOrder in
-    elim (isLive o) [ true ↦ stepped p x s t o []
-    | false ↦ stepped p x s (countStart t) (startedOrder p) (started ∷ begunOrder p .log) ]
+    elim (isLive o) [
+      | true ↦ stepped p x s t o []
+      | false ↦ stepped p x s (countStart t) (startedOrder p) (started ∷ begunOrder p .log)
+    ]
 
 unfoldable pub stepChosen : Plan → State → Tally → Chosen → Stepped
 stepChosen p s t (refusedChoice n) = record { answer = refusing n; state = s; tally = t; log = [] }
@@ -237,8 +251,10 @@ oneMore r = record { taken = r .taken + 1; refusal = r .refusal; state = r .stat
 -- goes on after a step that was taken
 abbrev pub ranOn : (State → Tally → Ran) → Stepped → Ran
 ranOn f r =
-    elim (eqb (r .answer .refusal) 0) [ true ↦ oneMore (f (r .state) (r .tally))
-    | false ↦ record { taken = 0; refusal = r .answer .refusal; state = r .state; tally = r .tally } ]
+    elim (eqb (r .answer .refusal) 0) [
+      | true ↦ oneMore (f (r .state) (r .tally))
+      | false ↦ record { taken = 0; refusal = r .answer .refusal; state = r .state; tally = r .tally }
+    ]
 
 -- "A run takes a list of choices and a budget. It stops at the end of either or at the first refused step"
 unfoldable pub runBy : (ℕ → State → Tally → Stepped) → (choices : List ℕ) → (budget : ℕ) → State → Tally → Ran

@@ -28,9 +28,11 @@ pub record Inner : Type 0 where
 unfoldable mutual
   pub scopesIn : Act → (k : ℕ) → (around : Name) → List Inner
   scopesIn (act own within) k n =
-      elim (isScope own) [ true ↦ record { number = k; around = n; undo = partAt 2 within (k + 1); count = size (part 2 within) }
-      ∷ scopesAmong within (k + 1) (inner k)
-      | false ↦ scopesAmong within (k + 1) n ]
+      elim (isScope own) [
+        | true ↦ record { number = k; around = n; undo = partAt 2 within (k + 1); count = size (part 2 within) }
+            ∷ scopesAmong within (k + 1) (inner k)
+        | false ↦ scopesAmong within (k + 1) n
+      ]
 
   pub scopesAmong : Acts → (c : ℕ) → (around : Name) → List Inner
   scopesAmong none c n = []

@@ -71,8 +71,10 @@ pub record Live : Type 0 where
 unfoldable pub liveFrom : Plan → (i : ℕ) → List Order → List Live
 liveFrom p i [] = []
 liveFrom p i (o ∷ l) =
-    elim (isLive o) [ true ↦ record { slot = i; order = o; ready = readyOf p o } ∷ liveFrom p (i + 1) l
-    | false ↦ liveFrom p (i + 1) l ]
+    elim (isLive o) [
+      | true ↦ record { slot = i; order = o; ready = readyOf p o } ∷ liveFrom p (i + 1) l
+      | false ↦ liveFrom p (i + 1) l
+    ]
 
 -- "each place with a bound correlation variable": the places of a receive that are checked
 abbrev pub isChecked : Plan → Order → (variable : ℕ) → Bool

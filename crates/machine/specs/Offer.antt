@@ -75,12 +75,14 @@ orderOffers p wait l x = allOf (λ r. stepOffers p wait l (x .slot) (x .order) (
 -- the start receives of the body, which are "open as soon as it begins", that one message fits: their numbers, ascending
 unfoldable pub startOf : Plan → Order → Letter → Ready → List ℕ
 startOf p o x r =
-    elim (r .step) [ noStep ↦ []
-    | sends partner operation vs ↦ []
-    | takes partner operation vs ↦ cond (fits p o partner operation vs (x .message)) (r .activity ∷ []) []
-    | moves ↦ []
-    | cuts ↦ []
-    | closes s ↦ [] ]
+    elim (r .step) [
+      | noStep ↦ []
+      | sends partner operation vs ↦ []
+      | takes partner operation vs ↦ cond (fits p o partner operation vs (x .message)) (r .activity ∷ []) []
+      | moves ↦ []
+      | cuts ↦ []
+      | closes s ↦ []
+    ]
 
 -- "Only if it fits none may it start an order"
 unfoldable pub startsOf : Plan → Order → List Ready → Letter → List ℕ

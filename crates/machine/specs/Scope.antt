@@ -129,12 +129,14 @@ unfoldable mutual
 -- goes on in the same step where this much is over
 abbrev pub whereOver : (Order → Outcome) → Outcome → Outcome
 whereOver f r =
-    elim (r .result) [ running ↦ r
-    | over ↦ after (r .log) (f (r .order))
-    | raising ↦ r
-    | leaving ↦ r
-    | undone ↦ r
-    | undoRaising ↦ r ]
+    elim (r .result) [
+      | running ↦ r
+      | over ↦ after (r .log) (f (r .order))
+      | raising ↦ r
+      | leaving ↦ r
+      | undone ↦ r
+      | undoRaising ↦ r
+    ]
 
 -- "the last remembered for it is removed and its undo part started"
 unfoldable pub startUndo : (e : ℕ) → Scope → Order → Outcome
@@ -196,9 +198,13 @@ withdraws k s r =
 unfoldable mutual
   pub stop : Act → (k : ℕ) → Order → Stopped
   stop (act own within) k o =
-      elim (isScope own) [ true ↦ elim (isOpen (markAt k o)) [ true ↦ withdraws k (scopeAt k within) (stopFirst within (k + 1) (marked k halted o))
-      | false ↦ untouched o ]
-      | false ↦ stopAll within (k + 1) (marked k idle o) ]
+      elim (isScope own) [
+        | true ↦ elim (isOpen (markAt k o)) [
+          | true ↦ withdraws k (scopeAt k within) (stopFirst within (k + 1) (marked k halted o))
+          | false ↦ untouched o
+        ]
+        | false ↦ stopAll within (k + 1) (marked k idle o)
+      ]
 
   pub stopAll : Acts → (c : ℕ) → Order → Stopped
   stopAll none c o = untouched o
@@ -224,8 +230,10 @@ breaks s o =
 -- a scope where something in its body ran on, is over, or ended in a fault that goes no further: where it waits for its inner scopes, it looks again
 unfoldable pub looksAgain : Scope → Order → Outcome
 looksAgain s o =
-    elim (eqb (markOf (s .name) o) faulty) [ true ↦ turns true s o
-    | false ↦ elim (eqb (markOf (s .name) o) halted) [ true ↦ turns false s o | false ↦ runs o ] ]
+    elim (eqb (markOf (s .name) o) faulty) [
+      | true ↦ turns true s o
+      | false ↦ elim (eqb (markOf (s .name) o) halted) [ true ↦ turns false s o | false ↦ runs o ]
+    ]
 
 -- the body is over: the scope may close where the body was running. "An inner scope that finishes lets nothing in a stopped body go on."
 unfoldable pub bodyOver : Scope → Order → Outcome
@@ -239,8 +247,10 @@ bodyRaised s o = elim (isOpen (markOf (s .name) o)) [ true ↦ faults s o | fals
 -- an undo part that the scope is running is over: the next
 unfoldable pub undoOver : Scope → Order → Outcome
 undoOver s o =
-    elim (eqb (markOf (s .name) o) undoing) [ true ↦ undoes true s o
-    | false ↦ elim (eqb (markOf (s .name) o) withdrawing) [ true ↦ undoes false s o | false ↦ runs o ] ]
+    elim (eqb (markOf (s .name) o) undoing) [
+      | true ↦ undoes true s o
+      | false ↦ elim (eqb (markOf (s .name) o) withdrawing) [ true ↦ undoes false s o | false ↦ runs o ]
+    ]
 
 -- a fault came out of it
 unfoldable pub undoRaised : Scope → Order → Outcome
@@ -250,12 +260,14 @@ undoRaised s o =
 -- what a scope makes of the outcome of a step in its body
 unfoldable pub fromBody : Scope → Outcome → Outcome
 fromBody s r =
-    elim (r .result) [ running ↦ after (r .log) (looksAgain s (r .order))
-    | over ↦ after (r .log) (bodyOver s (r .order))
-    | raising ↦ after (r .log) (bodyRaised s (r .order))
-    | leaving ↦ r
-    | undone ↦ after (r .log) (undoOver s (r .order))
-    | undoRaising ↦ after (r .log) (undoRaised s (r .order)) ]
+    elim (r .result) [
+      | running ↦ after (r .log) (looksAgain s (r .order))
+      | over ↦ after (r .log) (bodyOver s (r .order))
+      | raising ↦ after (r .log) (bodyRaised s (r .order))
+      | leaving ↦ r
+      | undone ↦ after (r .log) (undoOver s (r .order))
+      | undoRaising ↦ after (r .log) (undoRaised s (r .order))
+    ]
 
 -- the fault part that the scope is running is over; a fault came out of it
 unfoldable pub partOver : Scope → Order → Outcome
@@ -267,24 +279,28 @@ partRaised s o = elim (eqb (markOf (s .name) o) handling) [ true ↦ breaks s o 
 -- what a scope makes of the outcome of a step in its fault part, in which there is no scope
 unfoldable pub fromFault : Scope → Outcome → Outcome
 fromFault s r =
-    elim (r .result) [ running ↦ r
-    | over ↦ after (r .log) (partOver s (r .order))
-    | raising ↦ after (r .log) (partRaised s (r .order))
-    | leaving ↦ r
-    | undone ↦ record { result = running; order = r .order; log = r .log }
-    | undoRaising ↦ record { result = running; order = r .order; log = r .log } ]
+    elim (r .result) [
+      | running ↦ r
+      | over ↦ after (r .log) (partOver s (r .order))
+      | raising ↦ after (r .log) (partRaised s (r .order))
+      | leaving ↦ r
+      | undone ↦ record { result = running; order = r .order; log = r .log }
+      | undoRaising ↦ record { result = running; order = r .order; log = r .log }
+    ]
 
 -- what goes up from the undo part of a scope, to the scope around it that runs it
 unfoldable pub fromUndo : Outcome → Outcome
 fromUndo r =
     record {
       result =
-          elim (r .result) [ running ↦ running
-          | over ↦ undone
-          | raising ↦ undoRaising
-          | leaving ↦ leaving
-          | undone ↦ undone
-          | undoRaising ↦ undoRaising ];
+          elim (r .result) [
+            | running ↦ running
+            | over ↦ undone
+            | raising ↦ undoRaising
+            | leaving ↦ leaving
+            | undone ↦ undone
+            | undoRaising ↦ undoRaising
+          ];
       order = r .order;
       log = r .log;
     }
