@@ -19,7 +19,7 @@ use Rattle.machine.specs.State.{isLive, noOrder, noMessage, fresh, unpla
 use Rattle.machine.specs.Limits.{exchanged, planIn, by}
 use Rattle.machine.specs.Event.{Event, started}
 use Rattle.machine.specs.Begin.{Begun}
-use Rattle.machine.specs.Act.{allBound, Moved, stepOrder, begunOrder, startedOrder}
+use Rattle.machine.specs.Acting.{allBound, Moved, stepOrder, begunOrder, startedOrder}
 use Rattle.machine.specs.Fit.{Doing, noStep, sends, takes, moves, cuts, closes, doingOf}
 use Rattle.machine.specs.Offer.{Offer, Offers, offersOf}
 

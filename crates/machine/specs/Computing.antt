@@ -9,7 +9,7 @@ use Rattle.machine.specs.Limits.{exchanged, messageInLimits, rootInLimit
 use Rattle.machine.specs.Expression.{applied, evaluate}
 use Rattle.machine.specs.Begin.{begin, beginAfter, part, partAt, beginPart, cleared, quiet}
 use Rattle.machine.specs.Scope.{directly, rememberedFor, forgetting, closing, innerRuns, beginUndo, startUndo, undo, handle, undoes, turns, withdraws, stop, faults, breaks, looksAgain, bodyOver, bodyRaised, undoOver, undoRaised, fromBody, partOver, partRaised, fromFault, fromUndo}
-use Rattle.machine.specs.Act.{repeats, itself, isPart, arms, goesOn, joins, inScope, combines, stepIn, stepRoot, endOf, movedTo, stepOrder, begunOrder, startedOrder}
+use Rattle.machine.specs.Acting.{repeats, itself, isPart, arms, goesOn, joins, inScope, combines, stepIn, stepRoot, endOf, movedTo, stepOrder, begunOrder, startedOrder}
 use Rattle.machine.specs.Fit.{doingOf, awaits, readyIn, readyOf, liveFrom, agrees, fits, unchecked, fitting, fittings, lettersFrom, mayTake}
 use Rattle.machine.specs.Offer.{allOf, eager, stepOffers, orderOffers, startOf, startsOf, freeFrom, startOffers, offersOf}
 use Rattle.machine.specs.Calls.{load, postBy, post, partnerOf, partnersIn, partnersOf, foreign, collectBy, collect, endNumber, nth, choosing, previewBy, preview, countEnd, doingIn, doingAt, bindAll, valuesOf, messagesAfter, orderTaking, stepped, taken, stepChosen, stepBy, step, runBy, run}

@@ -5,7 +5,7 @@ pub mod Expression
 pub mod Event
 pub mod Begin
 pub mod Scope
-pub mod Act
+pub mod Acting
 pub mod Fit
 pub mod Offer
 pub mod Calls

@@ -10,7 +10,7 @@ use Rattle.machine.specs.declared.State.{State}
 use Rattle.machine.specs.Lists.{every, some, only, each, empties}
 use Rattle.machine.specs.State.{isLive, closings, letters}
 use Rattle.machine.specs.Scope.{Scope, forgetting}
-use Rattle.machine.specs.Act.{allBound, startedOrder}
+use Rattle.machine.specs.Acting.{allBound, startedOrder}
 use Rattle.machine.specs.Fit.{Doing, noStep, sends, takes, moves, cuts, closes, Ready, readyOf, Live, liveFrom, Letter, lettersFrom, fits, mayTake}
 
 -- one step on offer: its slot, its activity and the place of its message (0 where none)
