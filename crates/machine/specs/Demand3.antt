@@ -47,9 +47,10 @@ insideOf p s = only (λ x. same (x .around) s) (scopesOf p)
 
 -- A history is read from its newest event back: `past` is what happened before, the newest first.
 
--- whether an event is the beginning of a scope; of one in an earlier order of the slot nothing counts
+-- whether an event is the beginning of a scope
 unfoldable pub isBegin : Name → Event → Bool
-isBegin s started = true
+isBegin root started = true
+isBegin (inner e) started = false
 isBegin root (began k) = false
 isBegin (inner e) (began k) = eqb e k
 isBegin s (closed k) = false
@@ -59,10 +60,10 @@ isBegin s (ended n) = false
 isBegin s (raised k) = false
 isBegin s left = false
 
--- "since it last began"
+-- "since it last began"; of an earlier order in the slot nothing counts
 unfoldable pub since : Name → (past : List Event) → List Event
 since s [] = []
-since s (e ∷ past) = elim (isBegin s e) [ true ↦ [] | false ↦ e ∷ since s past ]
+since s (e ∷ past) = elim (isBegin s e || isBegin root e) [ true ↦ [] | false ↦ e ∷ since s past ]
 
 -- "when a scope faults, or is stopped before it has closed"
 unfoldable pub isTurn : Name → Event → Bool
@@ -131,14 +132,22 @@ undoneOf p s past = reverse (each (undoneBy (insideOf p s)) (since s past))
 unfoldable pub hasTurned : Name → (past : List Event) → Bool
 hasTurned s past = some (isTurn s) (since s past) && not (some (isFinish s) (since s past))
 
--- an inner scope is left running: it began since the scope around it last began, and has neither closed nor ended since
+-- a scope is left running: it began in this order, and has neither closed nor ended since
 unfoldable pub isLeft : Name → (past : List Event) → Bool
 isLeft s [] = false
 isLeft s (e ∷ past) =
-    elim (isBegin s e) [ true ↦ not (isBegin root e) | false ↦ elim (isFinish s e) [ true ↦ false | false ↦ isLeft s past ] ]
+    elim (isBegin s e) [
+      | true ↦ true
+      | false ↦ elim (isFinish s e || isBegin root e) [ true ↦ false | false ↦ isLeft s past ]
+    ]
 
+-- "none of a scope's inner scopes is left running", of those that began since it last began
 unfoldable pub noneLeft : Plan → Name → (past : List Event) → Bool
 noneLeft p s past = every (λ x. not (isLeft (inner (x .number)) (since s past))) (insideOf p s)
+
+-- A scope faults, or is stopped, "before it has closed", and once: "A fault that reaches a scope already stopped or faulted is absorbed."
+unfoldable pub mayTurn : Name → (past : List Event) → Bool
+mayTurn s past = isLeft s past && not (some (isTurn s) (since s past))
 
 -- The undo part of scope x may start: the scope around x has faulted or was stopped; none of the scopes inside that one is left running; and the
 -- undo parts started so far, with this one, are those of the latest closings, "once for each closing, latest first".
@@ -153,8 +162,7 @@ mayBegin p past k = every (mayUndo p past) (only (λ x. eqb (x .undo) k) (scopes
 
 -- A closing is that of a scope that began and has not faulted, been stopped, closed or ended since: one that faulted and was handled has none.
 unfoldable pub mayClose : Plan → (past : List Event) → (scope : ℕ) → Bool
-mayClose p past k =
-    isLeft (inner k) past && (not (some (isTurn (inner k)) (since (inner k) past)) && noneLeft p (inner k) past)
+mayClose p past k = mayTurn (inner k) past && noneLeft p (inner k) past
 
 -- "By the time it ends it has started them all, unless one of them raised a fault": where a scope faulted or was stopped. A scope other than the
 -- root ends only so, else it closes. And it does not end before the scopes inside it, so that none of these escapes by never ending.
@@ -169,24 +177,31 @@ isRoot (inner k) = false
 unfoldable pub mayEnd : Plan → Name → (past : List Event) → Bool
 mayEnd p s past = noneLeft p s past && cond (hasTurned s past) (startedAll p s past) (isRoot s)
 
--- An order starts in a slot where the one before has ended, "or the order left".
-abbrev pub ordersEnd : Event → Bool
-ordersEnd e = elim e [ started ↦ false | began k ↦ false | closed k ↦ false | faulted n ↦ false | stopped k ↦ false | ended n ↦ isRoot n | raised k ↦ false | left ↦ true ]
+-- "or the order left": an order is over when the root ends or it leaves. Nothing happens in it after that, and only then the next may start.
+unfoldable pub isOver : Event → Bool
+isOver started = false
+isOver (began k) = false
+isOver (closed k) = false
+isOver (faulted n) = false
+isOver (stopped k) = false
+isOver (ended n) = isRoot n
+isOver (raised k) = false
+isOver left = true
 
-unfoldable pub mayStart : (past : List Event) → Bool
-mayStart [] = true
-mayStart (e ∷ past) = ordersEnd e
+unfoldable pub noneNow : (past : List Event) → Bool
+noneNow [] = true
+noneNow (e ∷ past) = isOver e
 
 -- what demand 3 says of each event, by what happened before it
 unfoldable pub allowed : Plan → (past : List Event) → Event → Bool
-allowed p past started = mayStart past
-allowed p past (began k) = mayBegin p past k
-allowed p past (closed k) = mayClose p past k
-allowed p past (faulted n) = true
-allowed p past (stopped k) = true
-allowed p past (ended n) = mayEnd p n past
-allowed p past (raised k) = true
-allowed p past left = true
+allowed p past started = noneNow past
+allowed p past (began k) = not (noneNow past) && mayBegin p past k
+allowed p past (closed k) = not (noneNow past) && mayClose p past k
+allowed p past (faulted n) = not (noneNow past) && mayTurn n past
+allowed p past (stopped k) = not (noneNow past) && mayTurn (inner k) past
+allowed p past (ended n) = not (noneNow past) && mayEnd p n past
+allowed p past (raised k) = not (noneNow past)
+allowed p past left = not (noneNow past)
 
 -- a history, oldest first, after a past: each event is allowed by what happened before it
 unfoldable pub rightAfter : Plan → (past : List Event) → List Event → Bool
