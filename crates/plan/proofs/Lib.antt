@@ -16,3 +16,4 @@ pub mod Stores
 pub mod TupleReads
 pub mod HeadReads
 pub mod TreeReads
+pub mod RootReads
