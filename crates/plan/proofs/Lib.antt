@@ -17,3 +17,4 @@ pub mod TupleReads
 pub mod HeadReads
 pub mod TreeReads
 pub mod RootReads
+pub mod ShowReads
