@@ -1,2 +1,5 @@
+mod Copied
 mod Histories
+mod Moved
+mod Ruled
 mod Seventeen

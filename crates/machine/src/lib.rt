@@ -1,4 +1,10 @@
 // Runs orders by a plan: the state that it runs on, and what a step answers.
+mod letters;
+mod limits;
+mod made;
+
+ghost use mathlib.Core.Path.{_≡_};
+ghost use Rattle.machine.specs.State.{noTally};
 
 // A message: places beyond its count hold 0.
 pub struct Message {
@@ -47,6 +53,26 @@ pub struct Step {
     pub end: End,
 }
 
+// What loading bytes gives: the refusal and its place, or 0 and 0, and the state.
+pub struct Loaded {
+    pub refusal: u32,
+    pub place: usize,
+    pub state: State,
+}
+
+// What posting gives: the refusal or 0, and the state.
+pub struct Posted {
+    pub refusal: u32,
+    pub state: State,
+}
+
+// What collecting gives: the refusal or 0, the message handed out (one with no values where it is refused), and the state.
+pub struct Collected {
+    pub refusal: u32,
+    pub message: Message,
+    pub state: State,
+}
+
 // How many orders started, and how many ended in each way.
 pub struct Tally {
     pub started: u32,
@@ -57,7 +83,9 @@ pub struct Tally {
 }
 
 // A tally with nothing counted.
-pub fn no_tally() -> Tally {
+pub fn no_tally() -> Tally
+    ensures { λ r. ⌜ r ≡ noTally ⌝ }
+{
     Tally {
         started: 0,
         well: 0,
