@@ -3,7 +3,9 @@ mod letters;
 mod limits;
 mod made;
 
+use plan::Answer;
 ghost use mathlib.Core.Path.{_≡_};
+ghost use Rattle.machine.specs.Calls as calls;
 ghost use Rattle.machine.specs.State.{noTally};
 
 // A message: places beyond its count hold 0.
@@ -92,5 +94,82 @@ pub fn no_tally() -> Tally
         handled: 0,
         failed: 0,
         left: 0,
+    }
+}
+// Loads the plan that some bytes spell.
+pub fn load(s: &[u8]) -> Loaded
+    ensures { λ r. ⌜ r ≡ calls.load (now (s .entry)) ⌝ }
+{
+    let mut table = [0u32; 11584];
+    let mut flags = [0u8; 16];
+    let a = plan::accept(s, &mut table, &mut flags);
+    match a {
+        Answer::Refused { number, place } => {
+            let state = made::fresh_state(&s[..0]);
+            Loaded {
+                refusal: number,
+                place,
+                state,
+            }
+        }
+        Answer::Accepted {
+            variables: _,
+            activities: _,
+            nodes: _,
+        } => {
+            let state = made::fresh_state(s);
+            Loaded {
+                refusal: 0,
+                place: 0,
+                state,
+            }
+        }
+    }
+}
+
+// Posts a message.
+pub fn post(state: State, m: Message) -> Posted
+    ensures { λ r. ⌜ r ≡ calls.post m state ⌝ }
+{
+    let mut table = [0u32; 11584];
+    let mut flags = [0u8; 16];
+    let a = limits::planned(state, &mut table, &mut flags);
+    match a {
+        Answer::Refused {
+            number: _,
+            place: _,
+        } => Posted { refusal: 17, state },
+        Answer::Accepted {
+            variables: _,
+            activities: _,
+            nodes: _,
+        } => letters::post_by(state, m),
+    }
+}
+
+// Collects the oldest message for a partner that the plan never receives on.
+pub fn collect(state: State) -> Collected
+    ensures { λ r. ⌜ r ≡ calls.collect state ⌝ }
+{
+    let mut table = [0u32; 11584];
+    let mut flags = [0u8; 16];
+    let a = limits::planned(state, &mut table, &mut flags);
+    match a {
+        Answer::Refused {
+            number: _,
+            place: _,
+        } => {
+            let none = made::no_message();
+            Collected {
+                refusal: 17,
+                message: none,
+                state,
+            }
+        }
+        Answer::Accepted {
+            variables: _,
+            activities: _,
+            nodes: _,
+        } => letters::collect_by(state, &table),
     }
 }

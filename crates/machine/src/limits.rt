@@ -2,12 +2,15 @@
 use super::Message;
 use super::Order;
 use super::State;
+use plan::Answer;
 ghost use Prim.Native.Nat.{_≤_};
 ghost use lib.Dec.{eqb, leb};
 ghost use lib.ListN.{drop, take};
 ghost use mathlib.Core.Path.{_≡_};
+ghost use Rattle.plan.specs.Answers.{answerOf, tableFor, flagsFor};
+ghost use Rattle.plan.specs.Read.{readPlan};
 ghost use Rattle.machine.specs.Lists.{every};
-ghost use Rattle.machine.specs.Limits.{exchanged, messageInLimits, rootInLimits, orderInLimits, inLimits};
+ghost use Rattle.machine.specs.Limits.{exchanged, messageInLimits, rootInLimits, orderInLimits, inLimits, planIn};
 
 // Whether a partner, an operation and a count of values are within their rules.
 pub(crate) fn exchange_ruled(partner: u32, operation: u32, count: u32) -> bool
@@ -156,4 +159,32 @@ pub(crate) fn state_ruled(state: State) -> bool
         return false;
     }
     messages_ruled(messages, state.waiting)
+}
+
+// Whether the first n of some bytes are a plan, with its table and flags.
+fn accepted(bytes: [u8; 4096], n: usize, table: &mut [u32; 11584], flags: &mut [u8; 16]) -> Answer
+    requires { ⌜ n ≤ 4096 ⌝ }
+    ensures is { λ r. ⌜ r ≡ answerOf (readPlan (take n bytes)) ⌝ }
+    ensures rows { λ _. ⌜ now (table .exit) ≡ tableFor (readPlan (take n bytes)) ⌝ }
+    ensures flags { λ _. ⌜ now (flags .exit) ≡ flagsFor (readPlan (take n bytes)) ⌝ }
+{
+    plan::accept(&bytes[..n], table, flags)
+}
+
+// The plan that a state runs by: what accepting its bytes answers, with its table and flags; 17 where a number is outside its limit.
+pub(crate) fn planned(state: State, table: &mut [u32; 11584], flags: &mut [u8; 16]) -> Answer
+    ensures is { λ r. ⌜ r ≡ answerOf (planIn state) ⌝ }
+    ensures rows { λ _. ⌜ now (table .exit) ≡ tableFor (planIn state) ⌝ }
+    ensures flags { λ _. ⌜ now (flags .exit) ≡ flagsFor (planIn state) ⌝ }
+{
+    if !state_ruled(state) {
+        *table = [0u32; 11584];
+        *flags = [0u8; 16];
+        return Answer::Refused {
+            number: 17,
+            place: 0,
+        };
+    }
+    let bytes = state.plan;
+    accepted(bytes, state.length, table, flags)
 }
