@@ -10,6 +10,9 @@ use Rattle.plan.specs.Tree.{Act, act, Acts, none, more, Plan, size}
 use Rattle.machine.specs.declared.Message.{Message}
 use Rattle.machine.specs.declared.Order.{Order}
 use Rattle.machine.specs.declared.State.{State}
+use Rattle.machine.specs.declared.Loaded.{Loaded}
+use Rattle.machine.specs.declared.Posted.{Posted}
+use Rattle.machine.specs.declared.Collected.{Collected}
 use Rattle.machine.specs.declared.Step.{Step}
 use Rattle.machine.specs.declared.Tally.{Tally}
 use Rattle.machine.specs.declared.End.{End}
@@ -24,11 +27,6 @@ use Rattle.machine.specs.Fit.{Doing, noStep, sends, takes, moves, cuts, 
 use Rattle.machine.specs.Offer.{Offer, Offers, offersOf}
 
 -- Load: the refusal and its place, or 0 and 0, and the state. "A refused plan gives a state with no plan."
-pub record Loaded : Type 0 where
-  pub refusal : ℕ
-  pub place : ℕ
-  pub state : State
-
 abbrev pub loadedAs : List ℕ → Found Plan → Loaded
 loadedAs s (refused n place) = record { refusal = n; place = place; state = unplanned }
 loadedAs s (found p next) = record { refusal = 0; place = 0; state = fresh s }
@@ -39,12 +37,7 @@ load s = loadedAs s (readPlan s)
 abbrev pub loaded : List ℕ → State
 loaded s = load s .state
 
--- Post: the refusal or 0, and the state.
-pub record Posted : Type 0 where
-  pub refusal : ℕ
-  pub state : State
-
--- "Places beyond its count hold 0; post makes them so."
+-- Post: the refusal or 0, and the state. "Places beyond its count hold 0; post makes them so."
 abbrev pub trimmed : Message → Message
 trimmed m =
     record { partner = m .partner; operation = m .operation; count = m .count; values = stored 4 (take (m .count) (m .values)) }
@@ -80,10 +73,6 @@ unfoldable pub partnersOf : Plan → List ℕ
 partnersOf p = partnersIn (p .body) ++ partnersIn (p .fault)
 
 -- Collect: the refusal or 0, the message handed out (one with no values where it is refused), and the state.
-pub record Collected : Type 0 where
-  pub refusal : ℕ
-  pub message : Message
-  pub state : State
 
 -- the place of the oldest message, from the place i on, for a partner that is not among these; where there is none, the place after the last
 unfoldable pub foreign : List ℕ → (i : ℕ) → List Message → ℕ

@@ -1,6 +1,7 @@
 pub mod Lists
 pub mod State
 pub mod Limits
+pub mod Heard
 pub mod Expression
 pub mod Event
 pub mod Begin

@@ -1,4 +1,12 @@
 // Runs orders by a plan: the state that it runs on, and what a step answers.
+mod letters;
+mod limits;
+mod made;
+
+use plan::Answer;
+ghost use mathlib.Core.Path.{_≡_};
+ghost use Rattle.machine.specs.Calls as calls;
+ghost use Rattle.machine.specs.State.{noTally};
 
 // A message: places beyond its count hold 0.
 pub struct Message {
@@ -47,6 +55,26 @@ pub struct Step {
     pub end: End,
 }
 
+// What loading bytes gives: the refusal and its place, or 0 and 0, and the state.
+pub struct Loaded {
+    pub refusal: u32,
+    pub place: usize,
+    pub state: State,
+}
+
+// What posting gives: the refusal or 0, and the state.
+pub struct Posted {
+    pub refusal: u32,
+    pub state: State,
+}
+
+// What collecting gives: the refusal or 0, the message handed out (one with no values where it is refused), and the state.
+pub struct Collected {
+    pub refusal: u32,
+    pub message: Message,
+    pub state: State,
+}
+
 // How many orders started, and how many ended in each way.
 pub struct Tally {
     pub started: u32,
@@ -57,12 +85,91 @@ pub struct Tally {
 }
 
 // A tally with nothing counted.
-pub fn no_tally() -> Tally {
+pub fn no_tally() -> Tally
+    ensures { λ r. ⌜ r ≡ noTally ⌝ }
+{
     Tally {
         started: 0,
         well: 0,
         handled: 0,
         failed: 0,
         left: 0,
+    }
+}
+// Loads the plan that some bytes spell.
+pub fn load(s: &[u8]) -> Loaded
+    ensures { λ r. ⌜ r ≡ calls.load (now (s .entry)) ⌝ }
+{
+    let mut table = [0u32; 11584];
+    let mut flags = [0u8; 16];
+    let a = plan::accept(s, &mut table, &mut flags);
+    match a {
+        Answer::Refused { number, place } => {
+            let state = made::fresh_state(&s[..0]);
+            Loaded {
+                refusal: number,
+                place,
+                state,
+            }
+        }
+        Answer::Accepted {
+            variables: _,
+            activities: _,
+            nodes: _,
+        } => {
+            let state = made::fresh_state(s);
+            Loaded {
+                refusal: 0,
+                place: 0,
+                state,
+            }
+        }
+    }
+}
+
+// Posts a message.
+pub fn post(state: State, m: Message) -> Posted
+    ensures { λ r. ⌜ r ≡ calls.post m state ⌝ }
+{
+    let mut table = [0u32; 11584];
+    let mut flags = [0u8; 16];
+    let a = limits::planned(state, &mut table, &mut flags);
+    match a {
+        Answer::Refused {
+            number: _,
+            place: _,
+        } => Posted { refusal: 17, state },
+        Answer::Accepted {
+            variables: _,
+            activities: _,
+            nodes: _,
+        } => letters::post_by(state, m),
+    }
+}
+
+// Collects the oldest message for a partner that the plan never receives on.
+pub fn collect(state: State) -> Collected
+    ensures { λ r. ⌜ r ≡ calls.collect state ⌝ }
+{
+    let mut table = [0u32; 11584];
+    let mut flags = [0u8; 16];
+    let a = limits::planned(state, &mut table, &mut flags);
+    match a {
+        Answer::Refused {
+            number: _,
+            place: _,
+        } => {
+            let none = made::no_message();
+            Collected {
+                refusal: 17,
+                message: none,
+                state,
+            }
+        }
+        Answer::Accepted {
+            variables: _,
+            activities: _,
+            nodes: _,
+        } => letters::collect_by(state, &table),
     }
 }

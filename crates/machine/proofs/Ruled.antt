@@ -1,0 +1,190 @@
+-- The returns of the functions that decide whether the numbers of a state are within their limits. Assumes nothing.
+use mathlib.Core.Path.{_≡_, refl, sym, ap, _∙_}
+use mathlib.Core.Bool.{Bool, true, false, cond, not, _&&_, _||_}
+use mathlib.Core.List.{List, [], _∷_}
+use Prim.Native.Nat.{ℕ, zero, suc, _+_, _<_, _≤_}
+use native.Mathlib.Numerals.{add-one}
+use native.Mathlib.Omega.{arith}
+use borrow.Author.Tests.{lt-ltb, le-ltb, le-leb, lt-leb, eq-eqb, ne-eqb, not-true, not-false}
+use lib.Dec.{ltb, leb, eqb}
+use lib.ListN.{length, getD, take, drop, drop-of-length-le, length-take}
+use lib.Seq.{drop-cons, getD-take, length-take-le}
+use Rattle.plan.specs.Found.{among}
+use Rattle.machine.specs.declared.Message.{Message}
+use Rattle.machine.specs.declared.Order.{Order}
+use Rattle.machine.specs.declared.State.{State}
+use Rattle.machine.specs.Lists.{every}
+use Rattle.machine.specs.State.{idle, active, faulty, undoing, handling, withdrawing, letters}
+use Rattle.machine.specs.Limits.{exchanged, messageInLimits, rootInLimits, orderInLimits, inLimits}
+
+-- `exchange_ruled`
+module _ (p o n : ℕ) where
+  pub far-partner : 64 ≤ p → false ≡ exchanged p o n
+  unfolding exchanged
+  far-partner h = rw (le-ltb _ _ h)
+
+  module _ (a : p < 64) where
+    pub far-operation : 64 ≤ o → false ≡ exchanged p o n
+    unfolding exchanged
+    far-operation h = rw (lt-ltb _ _ a, le-ltb _ _ h)
+
+    module _ (b : o < 64) where
+      pub no-count : n < 1 → false ≡ exchanged p o n
+      unfolding exchanged
+      no-count h = rw (lt-ltb _ _ a, lt-ltb _ _ b, lt-leb _ _ h)
+
+      pub some-count : 1 ≤ n → leb n 4 ≡ exchanged p o n
+      unfolding exchanged
+      some-count h = rw (lt-ltb _ _ a, lt-ltb _ _ b, le-leb _ _ h)
+
+-- A loop that tests each element of a list, from the place i on: what is left to decide is whether the test holds of each that is left.
+pub record Tested {A : Type 0} (f : A → Bool) (l : List A) (whole : Bool) (n i : ℕ) : Type 0 where
+  pub long : length l ≡ n
+  pub same : whole ≡ every f (drop i l)
+
+module _ {A : Type 0} {f : A → Bool} {l : List A} {whole : Bool} {n i : ℕ} (a : Tested f l whole n i) where
+  pub tested-done : n ≤ i → true ≡ whole
+  unfolding every
+  tested-done h =
+      let m = a .long in
+      let k : length l ≤ i = omega arith in
+      let q : drop i l ≡ [] = drop-of-length-le l k in
+      sym (a .same ∙ rw q)
+
+  module _ (d : A) (h : i < n) where
+    tested-one : whole ≡ (f (getD l i d) && every f (drop (i + 1) l))
+    unfolding every
+    tested-one =
+        let m = a .long in
+        let k : i < length l = omega arith in
+        a .same ∙ rw (drop-cons l i d k, add-one i)
+
+    tested-fails : f (getD l i d) ≡ false → false ≡ whole
+    tested-fails q = sym (tested-one ∙ rw q)
+
+    tested-holds : f (getD l i d) ≡ true → Tested f l whole n (i + 1)
+    tested-holds q = record { long = a .long; same = tested-one ∙ rw q }
+
+-- numbers that are at most m
+module _ {m : ℕ} {l : List ℕ} {whole : Bool} {n i : ℕ} (a : Tested (λ x. leb x m) l whole n i) (h : i < n) where
+  pub most-fails : m < getD l i 0 → false ≡ whole
+  most-fails q = tested-fails a 0 h (lt-leb _ _ q)
+
+  pub most-holds : getD l i 0 ≤ m → Tested (λ x. leb x m) l whole n (i + 1)
+  most-holds q = tested-holds a 0 h (le-leb _ _ q)
+
+-- numbers that are 0
+module _ {l : List ℕ} {whole : Bool} {n i : ℕ} (a : Tested (eqb 0) l whole n i) (h : i < n) where
+  pub zero-fails : 0 < getD l i 0 → false ≡ whole
+  zero-fails q = tested-fails a 0 h (ne-eqb 0 (getD l i 0) (λ e. omega arith))
+
+  pub zero-holds : getD l i 0 ≤ 0 → Tested (eqb 0) l whole n (i + 1)
+  zero-holds q = tested-holds a 0 h (eq-eqb 0 (getD l i 0) (omega arith))
+
+-- elements that a call decides
+module _ {A : Type 0} {f : A → Bool} {l : List A} {whole : Bool} {n i : ℕ} (d : A) {b : Bool} (a : Tested f l whole n i) (h : i < n) (e : b ≡ f (getD l i d)) where
+  pub call-fails : not b ≡ true → false ≡ whole
+  call-fails q = tested-fails a d h (sym e ∙ not-true b q)
+
+  pub call-holds : not b ≡ false → Tested f l whole n (i + 1)
+  call-holds q = tested-holds a d h (sym e ∙ not-false b q)
+
+-- `root_ruled`
+pub root-runs : (m : ℕ) → m < 2 → true ≡ rootInLimits m
+unfolding rootInLimits among
+root-runs zero h = refl
+root-runs (suc zero) h = refl
+root-runs (suc (suc m)) h = absurd (omega arith)
+
+pub root-not : (m : ℕ) → 2 ≤ m → m < 4 → false ≡ rootInLimits m
+unfolding rootInLimits among
+root-not zero h l = absurd (omega arith)
+root-not (suc zero) h l = absurd (omega arith)
+root-not (suc (suc zero)) h l = refl
+root-not (suc (suc (suc zero))) h l = refl
+root-not (suc (suc (suc (suc m)))) h l = absurd (omega arith)
+
+pub root-undoes : (m : ℕ) → 4 ≤ m → leb m 6 ≡ rootInLimits m
+unfolding rootInLimits among
+root-undoes zero h = absurd (omega arith)
+root-undoes (suc zero) h = absurd (omega arith)
+root-undoes (suc (suc zero)) h = absurd (omega arith)
+root-undoes (suc (suc (suc zero))) h = absurd (omega arith)
+root-undoes (suc (suc (suc (suc zero)))) h = refl
+root-undoes (suc (suc (suc (suc (suc zero))))) h = refl
+root-undoes (suc (suc (suc (suc (suc (suc zero)))))) h = refl
+root-undoes (suc (suc (suc (suc (suc (suc (suc m))))))) h =
+    let k = suc (suc (suc (suc (suc (suc (suc m)))))) in
+    rw (
+      lt-leb k 6 (omega arith),
+      ne-eqb k 0 (λ e. omega arith),
+      ne-eqb k 1 (λ e. omega arith),
+      ne-eqb k 4 (λ e. omega arith),
+      ne-eqb k 5 (λ e. omega arith),
+      ne-eqb k 6 (λ e. omega arith),
+    )
+
+-- `message_ruled`
+module _ (m : Message) {r : Bool} (e : r ≡ exchanged (m .partner) (m .operation) (m .count)) where
+  pub message-decided : {b : Bool} → r ≡ true → b ≡ every (eqb 0) (drop (m .count) (m .values)) → b ≡ messageInLimits m
+  unfolding messageInLimits
+  message-decided t q = rw (sym e ∙ t) q
+
+  pub message-not : r ≡ false → false ≡ messageInLimits m
+  unfolding messageInLimits
+  message-not t = rw (sym e ∙ t)
+
+-- `order_ruled`
+module _ (o : Order) {a : Bool} (ea : a ≡ rootInLimits (o .root)) where
+  pub order-root : not a ≡ true → false ≡ orderInLimits o
+  unfolding orderInLimits
+  order-root t = rw (sym ea ∙ not-true a t)
+
+  module _ {b : Bool} (ta : not a ≡ false) (eb : b ≡ every (λ m. leb m 8) (o .marks)) where
+    pub order-marks : not b ≡ true → false ≡ orderInLimits o
+    unfolding orderInLimits
+    order-marks t = rw (sym ea ∙ not-false a ta, sym eb ∙ not-true b t)
+
+    module _ {c : Bool} (tb : not b ≡ false) (ec : c ≡ every (λ x. leb x 1) (o .bound)) where
+      pub order-bound : not c ≡ true → false ≡ orderInLimits o
+      unfolding orderInLimits
+      order-bound t = rw (sym ea ∙ not-false a ta, sym eb ∙ not-false b tb, sym ec ∙ not-true c t)
+
+      pub order-kept : not c ≡ false → leb (o .kept) 32 ≡ orderInLimits o
+      unfolding orderInLimits
+      order-kept t = rw (sym ea ∙ not-false a ta, sym eb ∙ not-false b tb, sym ec ∙ not-false c t)
+
+-- `messages_ruled`
+module _ {f : Message → Bool} (l : List Message) (n : ℕ) where
+  pub take-tested : n ≤ 64 → length l ≡ 64 → Tested f (take n l) (every f (take n l)) n 0
+  take-tested h e = record { long = length-take-le n l (omega arith); same = refl }
+
+  module _ {i : ℕ} (d : Message) {b : Bool} (a : Tested f (take n l) (every f (take n l)) n i) (h : i < n) (e : b ≡ f (getD l i d)) where
+    one-of-take : b ≡ f (getD (take n l) i d)
+    one-of-take = e ∙ ap f (sym (getD-take n l i d h))
+
+    pub take-fails : not b ≡ true → false ≡ every f (take n l)
+    take-fails q = call-fails d a h one-of-take q
+
+    pub take-holds : not b ≡ false → Tested f (take n l) (every f (take n l)) n (i + 1)
+    take-holds q = call-holds d a h one-of-take q
+
+-- `state_ruled`
+module _ (s : State) where
+  pub state-long : 4096 < s .length → false ≡ inLimits s
+  unfolding inLimits
+  state-long h = rw (lt-leb _ _ h)
+
+  module _ (a : s .length ≤ 4096) where
+    pub state-waits : 64 < s .waiting → false ≡ inLimits s
+    unfolding inLimits
+    state-waits h = rw (le-leb _ _ a, lt-leb _ _ h)
+
+    module _ {b : Bool} (h : s .waiting ≤ 64) (e : b ≡ every orderInLimits (s .orders)) where
+      pub state-orders : not b ≡ true → false ≡ inLimits s
+      unfolding inLimits
+      state-orders t = rw (le-leb _ _ a, le-leb _ _ h, sym e ∙ not-true b t)
+
+      pub state-messages : {r : Bool} → not b ≡ false → r ≡ every messageInLimits (take (s .waiting) (s .messages)) → r ≡ inLimits s
+      unfolding inLimits
+      state-messages t q = rw (le-leb _ _ a, le-leb _ _ h, sym e ∙ not-false b t) q

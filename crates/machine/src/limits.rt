@@ -1,0 +1,190 @@
+// Refusal 17: which numbers of a state are within their limits, decided from the state alone.
+use super::Message;
+use super::Order;
+use super::State;
+use plan::Answer;
+ghost use Prim.Native.Nat.{_≤_};
+ghost use lib.Dec.{eqb, leb};
+ghost use lib.ListN.{drop, take};
+ghost use mathlib.Core.Path.{_≡_};
+ghost use Rattle.plan.specs.Answers.{answerOf, tableFor, flagsFor};
+ghost use Rattle.plan.specs.Read.{readPlan};
+ghost use Rattle.machine.specs.Lists.{every};
+ghost use Rattle.machine.specs.Limits.{exchanged, messageInLimits, rootInLimits, orderInLimits, inLimits, planIn};
+
+// Whether a partner, an operation and a count of values are within their rules.
+pub(crate) fn exchange_ruled(partner: u32, operation: u32, count: u32) -> bool
+    ensures { λ r. ⌜ r ≡ exchanged partner operation count ⌝ }
+{
+    if 64 <= partner {
+        return false;
+    }
+    if 64 <= operation {
+        return false;
+    }
+    if count < 1 {
+        return false;
+    }
+    count <= 4
+}
+
+// Whether the values behind the first `count` are 0.
+fn rest_zero(values: [u32; 4], count: u32) -> bool
+    ensures { λ r. ⌜ r ≡ every (eqb 0) (drop count values) ⌝ }
+{
+    let mut i = count as usize;
+    while i < 4 {
+        if 0 < values[i] {
+            return false;
+        }
+        i += 1;
+    }
+    true
+}
+
+// A message that waits.
+fn message_ruled(m: Message) -> bool
+    ensures { λ r. ⌜ r ≡ messageInLimits m ⌝ }
+{
+    let values = m.values;
+    if exchange_ruled(m.partner, m.operation, m.count) {
+        return rest_zero(values, m.count);
+    }
+    false
+}
+
+// The mark of the root.
+fn root_ruled(mark: u8) -> bool
+    ensures { λ r. ⌜ r ≡ rootInLimits mark ⌝ }
+{
+    if mark < 2 {
+        return true;
+    }
+    if mark < 4 {
+        return false;
+    }
+    mark <= 6
+}
+
+// The marks of an order.
+fn marks_ruled(marks: [u8; 256]) -> bool
+    ensures { λ r. ⌜ r ≡ every (λ m. leb m 8) marks ⌝ }
+{
+    let mut i = 0;
+    while i < 256 {
+        if 8 < marks[i] {
+            return false;
+        }
+        i += 1;
+    }
+    true
+}
+
+// Which variables of an order are bound.
+fn bound_ruled(bound: [u8; 16]) -> bool
+    ensures { λ r. ⌜ r ≡ every (λ b. leb b 1) bound ⌝ }
+{
+    let mut i = 0;
+    while i < 16 {
+        if 1 < bound[i] {
+            return false;
+        }
+        i += 1;
+    }
+    true
+}
+
+// An order.
+fn order_ruled(o: Order) -> bool
+    ensures { λ r. ⌜ r ≡ orderInLimits o ⌝ }
+{
+    let marks = o.marks;
+    let bound = o.bound;
+    if !root_ruled(o.root) {
+        return false;
+    }
+    if !marks_ruled(marks) {
+        return false;
+    }
+    if !bound_ruled(bound) {
+        return false;
+    }
+    o.kept <= 32
+}
+
+// The orders, live or not.
+fn orders_ruled(orders: [Order; 16]) -> bool
+    ensures { λ r. ⌜ r ≡ every orderInLimits orders ⌝ }
+{
+    let mut i = 0;
+    while i < 16 {
+        let o = orders[i];
+        if !order_ruled(o) {
+            return false;
+        }
+        i += 1;
+    }
+    true
+}
+
+// The messages that wait.
+fn messages_ruled(messages: [Message; 64], waiting: usize) -> bool
+    requires { ⌜ waiting ≤ 64 ⌝ }
+    ensures { λ r. ⌜ r ≡ every messageInLimits (take waiting messages) ⌝ }
+{
+    let mut i = 0;
+    while i < waiting {
+        let m = messages[i];
+        if !message_ruled(m) {
+            return false;
+        }
+        i += 1;
+    }
+    true
+}
+
+// A state.
+pub(crate) fn state_ruled(state: State) -> bool
+    ensures { λ r. ⌜ r ≡ inLimits state ⌝ }
+{
+    let orders = state.orders;
+    let messages = state.messages;
+    if 4096 < state.length {
+        return false;
+    }
+    if 64 < state.waiting {
+        return false;
+    }
+    if !orders_ruled(orders) {
+        return false;
+    }
+    messages_ruled(messages, state.waiting)
+}
+
+// Whether the first n of some bytes are a plan, with its table and flags.
+fn accepted(bytes: [u8; 4096], n: usize, table: &mut [u32; 11584], flags: &mut [u8; 16]) -> Answer
+    requires { ⌜ n ≤ 4096 ⌝ }
+    ensures is { λ r. ⌜ r ≡ answerOf (readPlan (take n bytes)) ⌝ }
+    ensures rows { λ _. ⌜ now (table .exit) ≡ tableFor (readPlan (take n bytes)) ⌝ }
+    ensures flags { λ _. ⌜ now (flags .exit) ≡ flagsFor (readPlan (take n bytes)) ⌝ }
+{
+    plan::accept(&bytes[..n], table, flags)
+}
+
+// The plan that a state runs by: what accepting its bytes answers, with its table and flags; 17 where a number is outside its limit.
+pub(crate) fn planned(state: State, table: &mut [u32; 11584], flags: &mut [u8; 16]) -> Answer
+    ensures is { λ r. ⌜ r ≡ answerOf (planIn state) ⌝ }
+    ensures rows { λ _. ⌜ now (table .exit) ≡ tableFor (planIn state) ⌝ }
+    ensures flags { λ _. ⌜ now (flags .exit) ≡ flagsFor (planIn state) ⌝ }
+{
+    if !state_ruled(state) {
+        *table = [0u32; 11584];
+        *flags = [0u8; 16];
+        return Answer::Refused {
+            number: 17,
+            place: 0,
+        };
+    }
+    let bytes = state.plan;
+    accepted(bytes, state.length, table, flags)
+}
