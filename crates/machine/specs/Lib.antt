@@ -2,6 +2,7 @@ pub mod Lists
 pub mod State
 pub mod Limits
 pub mod Expression
+pub mod Answering
 pub mod Event
 pub mod Begin
 pub mod Scope

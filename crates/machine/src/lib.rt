@@ -1,4 +1,5 @@
 // Runs orders by a plan: the state that it runs on, and what a step answers.
+mod evaluation;
 
 // A message: places beyond its count hold 0.
 pub struct Message {
@@ -54,6 +55,12 @@ pub struct Tally {
     pub handled: u32,
     pub failed: u32,
     pub left: u32,
+}
+
+// What an expression comes to.
+pub enum Worth {
+    Fault,
+    Value { value: u32 },
 }
 
 // A tally with nothing counted.
