@@ -1,3 +1,4 @@
 mod Histories
 mod EvaluationReturns
+mod FitReturns
 mod Seventeen

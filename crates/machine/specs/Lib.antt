@@ -2,12 +2,13 @@ pub mod Lists
 pub mod State
 pub mod Limits
 pub mod Expression
-pub mod Answering
 pub mod Event
 pub mod Begin
 pub mod Scope
 pub mod Acting
 pub mod Fit
+pub mod Finding
+pub mod Answering
 pub mod Offer
 pub mod Calls
 pub mod History

@@ -1,5 +1,6 @@
 // Runs orders by a plan: the state that it runs on, and what a step answers.
 mod evaluation;
+mod fitness;
 
 // A message: places beyond its count hold 0.
 pub struct Message {
@@ -61,6 +62,12 @@ pub struct Tally {
 pub enum Worth {
     Fault,
     Value { value: u32 },
+}
+
+// An open receive, by the slot of its order and its activity, or none.
+pub enum Receiver {
+    At { slot: usize, activity: usize },
+    Nothing,
 }
 
 // A tally with nothing counted.
