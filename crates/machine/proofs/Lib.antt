@@ -1,4 +1,6 @@
 mod Histories
 mod EvaluationReturns
 mod FitReturns
+mod SearchReturns
+mod Finds
 mod Seventeen

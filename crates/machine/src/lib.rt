@@ -1,6 +1,7 @@
 // Runs orders by a plan: the state that it runs on, and what a step answers.
 mod evaluation;
 mod fitness;
+mod search;
 
 // A message: places beyond its count hold 0.
 pub struct Message {
