@@ -1,11 +1,11 @@
 -- The returns of the functions that evaluate an expression. Assumes nothing.
 use mathlib.Core.Path.{_≡_, refl, sym, ap, _∙_}
-use mathlib.Core.Bool.{Bool, true, false, cond, _&&_}
+use mathlib.Core.Bool.{Bool, true, false}
 use mathlib.Core.List.{List}
-use Prim.Native.Nat.{ℕ, zero, suc, _+_, _*_, _-_, _<_, _≤_}
+use Prim.Native.Nat.{ℕ, zero, _+_, _*_, _-_, _<_, _≤_}
 use native.Mathlib.Decide.{decLt}
 use native.Mathlib.Omega.{arith}
-use borrow.Author.Tests.{eq-eqb, ne-eqb, lt-ltb, le-ltb, le-leb, lt-leb, ltb-true}
+use borrow.Author.Tests.{eq-eqb, ne-eqb, le-leb, lt-leb, ltb-true}
 use lib.Dec.{eqb, ltb, leb}
 use lib.ListN.{length, getD, List·getD-eq-default}
 use mir.Syntax.{w32, w64}
@@ -20,7 +20,6 @@ use Rattle.machine.specs.declared.Order.{Order}
 use Rattle.machine.specs.declared.Worth.{Worth}
 use Rattle.machine.specs.Answering.{worthOf, NodeCode, Applies, Evaluates}
 use Rattle.machine.specs.Expression.{Value, fault, value, truth, applied, evaluate}
-use Rattle.machine.specs.State.{isBound, valueOf}
 
 -- `node_code`, `node_value`: beyond its nodes the table has nothing
 module _ (t : List ℕ) (m : ℕ) (l : length t ≡ 11584) (h : 4096 ≤ m) where
@@ -209,8 +208,10 @@ module _ (t : List ℕ) (o : Order) (m depth : ℕ) where
             is (binary op l y) vars h s w =
                 let i = operands-within vars op l y depth w in
                 let k : v ≡ m + 1 + nodesOf l = n ∙ s .node .value in
-                rw (value-known (evaluate l o) (a .is l vars h (s .left) (i .0)) q,
-                fault-known (evaluate y o) (b .is y vars h (rw k (s .right)) (i .1)) p)
+                rw (
+                  value-known (evaluate l o) (a .is l vars h (s .left) (i .0)) q,
+                  fault-known (evaluate y o) (b .is y vars h (rw k (s .right)) (i .1)) p,
+                )
 
         pub both-made : {y : ℕ} {r : Worth} → right ≡ Worth.Value y → Applies code x y r → Evaluates t o m depth r
         unfolding SpellsExp evaluate
@@ -222,6 +223,8 @@ module _ (t : List ℕ) (o : Order) (m depth : ℕ) where
             is (binary op l u) vars h s w =
                 let i = operands-within vars op l u depth w in
                 let k : v ≡ m + 1 + nodesOf l = n ∙ s .node .value in
-                rw (value-known (evaluate l o) (a .is l vars h (s .left) (i .0)) q,
-                value-known (evaluate u o) (b .is u vars h (rw k (s .right)) (i .1)) p)
+                rw (
+                  value-known (evaluate l o) (a .is l vars h (s .left) (i .0)) q,
+                  value-known (evaluate u o) (b .is u vars h (rw k (s .right)) (i .1)) p,
+                )
                 (g .is op (node .is ∙ s .node .code))

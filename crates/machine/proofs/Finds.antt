@@ -17,7 +17,7 @@ use Rattle.machine.specs.Answering.{Correlated, openPick, armsFrom, fits
 use Rattle.machine.specs.Finding.{firstOf, orElse}
 use Rattle.machine.specs.Fit.{doingOf, awaits, Ready, readyIn, readyAmong, readyOf, fitting, fits, unchecked}
 use Rattle.machine.specs.Lists.{empties}
-use Rattle.machine.specs.State.{active, markAt}
+use Rattle.machine.specs.State.{active}
 
 -- no row of an activity reaches beyond the activity
 mutual

@@ -1,24 +1,23 @@
 -- The returns of the functions that ask whether a message fits. Assumes nothing.
-use mathlib.Core.Path.{_≡_, refl, sym, ap, _∙_}
+use mathlib.Core.Path.{_≡_, refl, sym, _∙_}
 use mathlib.Core.Bool.{Bool, true, false, false≢true, cond, not, _&&_, _||_}
-use mathlib.Core.List.{List, [], _∷_}
-use Prim.Native.Nat.{ℕ, zero, suc, _+_, _*_, _-_, _<_, _≤_}
+use mathlib.Core.List.{List, []}
+use Prim.Native.Nat.{ℕ, zero, suc, _+_, _*_, _<_, _≤_}
 use native.Mathlib.Nat.{add-zero}
 use native.Mathlib.Numerals.{add-one}
 use native.Mathlib.Omega.{arith}
 use borrow.Author.Tests.{eq-eqb, ne-eqb}
-use lib.Dec.{eqb, ltb}
+use lib.Dec.{eqb}
 use lib.ListN.{length, getD, drop, drop-of-length-le}
 use lib.Seq.{drop-cons, getD-drop, drop-drop}
 use mir.Syntax.{w64}
 use mir.Val.{Fits}
-use Rattle.plan.specs.Found.{among}
 use Rattle.plan.specs.Tree.{Plan}
 use Rattle.machine.specs.declared.Message.{Message}
 use Rattle.machine.specs.declared.Order.{Order}
 use Rattle.machine.specs.Answering.{Correlated, Exchange, Checks, Allows, Costs, Agrees, FitsRow, UncheckedRow}
 use Rattle.machine.specs.Fit.{isChecked, agrees, fits, unchecked}
-use Rattle.machine.specs.State.{isBound, valueOf}
+use Rattle.machine.specs.State.{valueOf}
 
 -- `is_checked`
 module _ (flags : List ℕ) (o : Order) (v : ℕ) where
@@ -72,7 +71,7 @@ module _ {t flags : List ℕ} {o : Order} {k count : ℕ} {xs : List ℕ} {i : �
   agreeing-done h = record {
     is = λ p a b vs c e l.
         let g : length vs ≤ i = omega arith in
-        rw (w .same p a b vs c e l, drop-of-length-le vs g)
+        rw (w .same p a b vs c e l, drop-of-length-le vs g);
   }
 
   module _ (h : i < count) (few : count ≤ 4) {b : Bool} (a : Allows flags o (getD t (k * 13 + 4 + i) 0) (getD xs i 0) b) where
@@ -102,7 +101,7 @@ module _ (t flags : List ℕ) (o : Order) (k : ℕ) (m : Message) where
     pub fits-operation : (m .operation ≡ getD t (k * 13 + 2) 0 → ⊥) → FitsRow t flags o k m false
     unfolding fits
     fits-operation n = record {
-      is = λ p a b vs c e. rw (eq-eqb (m .partner) a (y ∙ e .partner), ne-eqb (m .operation) b (λ q. n (q ∙ sym (e .operation))))
+      is = λ p a b vs c e. rw (eq-eqb (m .partner) a (y ∙ e .partner), ne-eqb (m .operation) b (λ q. n (q ∙ sym (e .operation))));
     }
 
     module _ (z : m .operation ≡ getD t (k * 13 + 2) 0) where
@@ -110,17 +109,23 @@ module _ (t flags : List ℕ) (o : Order) (k : ℕ) (m : Message) where
       unfolding fits
       fits-count n = record {
         is = λ p a b vs c e.
-            rw (eq-eqb (m .partner) a (y ∙ e .partner), eq-eqb (m .operation) b (z ∙ e .operation),
-            ne-eqb (m .count) (length vs) (λ q. n (q ∙ sym (e .count))))
+            rw (
+              eq-eqb (m .partner) a (y ∙ e .partner),
+              eq-eqb (m .operation) b (z ∙ e .operation),
+              ne-eqb (m .count) (length vs) (λ q. n (q ∙ sym (e .count))),
+            );
       }
 
       pub fits-values : {r : Bool} → m .count ≡ getD t (k * 13 + 3) 0 → Agrees t flags o k (m .count) (m .values) r → FitsRow t flags o k m r
       unfolding fits
       fits-values n g = record {
         is = λ p a b vs c e.
-            rw (eq-eqb (m .partner) a (y ∙ e .partner), eq-eqb (m .operation) b (z ∙ e .operation),
-            eq-eqb (m .count) (length vs) (n ∙ e .count))
-            (g .is p a b vs c e (sym (n ∙ e .count)))
+            rw (
+              eq-eqb (m .partner) a (y ∙ e .partner),
+              eq-eqb (m .operation) b (z ∙ e .operation),
+              eq-eqb (m .count) (length vs) (n ∙ e .count),
+            )
+            (g .is p a b vs c e (sym (n ∙ e .count)));
       }
 
 -- the loop of `unchecked_at`: n of the places passed are unchecked
@@ -152,7 +157,7 @@ module _ {t flags : List ℕ} {o : Order} {k n i : ℕ} (w : Counting t flags o 
         let g : length vs ≤ i = omega (arith, e .count) in
         let d : drop i vs ≡ [] = drop-of-length-le vs g in
         let s : unchecked p o vs ≡ n + unchecked p o [] = rw d at (w .same p a b vs c e) in
-        omega arith
+        omega arith;
   }
 
   module _ (h : i < getD t (k * 13 + 3) 0) (few : getD t (k * 13 + 3) 0 ≤ 4) {r : ℕ} (a : Costs flags o (getD t (k * 13 + 4 + i) 0) r) where

@@ -3,4 +3,5 @@ mod EvaluationReturns
 mod FitReturns
 mod SearchReturns
 mod Finds
+pub mod FirstFits
 mod Seventeen

@@ -1,9 +1,9 @@
 -- The returns of the functions that search for an open receive. Assumes nothing.
 use mathlib.Core.Path.{_≡_, refl, sym, ap, _∙_}
-use mathlib.Core.Bool.{Bool, true, false, false≢true, cond, not, _&&_, _||_}
-use mathlib.Core.List.{List, [], _∷_, _++_}
+use mathlib.Core.Bool.{Bool, true, false, cond, not, _&&_}
+use mathlib.Core.List.{List, _∷_}
 use Prim.Native.Nat.{ℕ, zero, suc, _+_, _*_, _-_, _<_, _≤_}
-use native.Mathlib.Decide.{ℕ-discrete, decLt}
+use native.Mathlib.Decide.{decLt}
 use native.Mathlib.Numerals.{add-one, sub-one}
 use native.Mathlib.Omega.{arith}
 use borrow.Author.Tests.{eq-eqb, ne-eqb, lt-ltb, le-ltb}
@@ -121,12 +121,12 @@ fits-other p o m pick x y = refl
 fits-other p o m scope x y = refl
 fits-other p o m (arm c d vs) x y = absurd (y refl)
 
-receive-row : (a b : ℕ) (vs : List ℕ) (at k n e s : ℕ) (t : List ℕ) → Row (receive a b vs) at k n e s t → Exchange a b vs k t
+pub receive-row : (a b : ℕ) (vs : List ℕ) (at k n e s : ℕ) (t : List ℕ) → Row (receive a b vs) at k n e s t → Exchange a b vs k t
 unfolding rowOf variablesOf
 receive-row a b vs at k n e s t r =
     record { partner = r .partner; operation = r .operation; count = r .count; variables = r .variables }
 
-arm-row : (a b : ℕ) (vs : List ℕ) (at k n e s : ℕ) (t : List ℕ) → Row (arm a b vs) at k n e s t → Exchange a b vs k t
+pub arm-row : (a b : ℕ) (vs : List ℕ) (at k n e s : ℕ) (t : List ℕ) → Row (arm a b vs) at k n e s t → Exchange a b vs k t
 unfolding rowOf variablesOf
 arm-row a b vs at k n e s t r =
     record { partner = r .partner; operation = r .operation; count = r .count; variables = r .variables }
@@ -151,7 +151,7 @@ module _ (t flags : List ℕ) (o : Order) (k : ℕ) (m : Message) where
           if-receive (λ w. Row w at k n e s t → r ≡ catches p o m w (armsFrom t (o .marks) k k) k)
           (λ a b vs w. rw (catches-receive p o m a b vs (armsFrom t (o .marks) k k) k, eq-eqb _ _ y)
           (f .is p a b vs c (receive-row a b vs at k n e s t w)))
-          own (sym (row .kind) ∙ z) row
+          own (sym (row .kind) ∙ z) row;
     }
 
     pub takes-idle : (getD (o .marks) k 0 ≡ 1 → ⊥) → TakesRow t flags o k m false
@@ -159,7 +159,7 @@ module _ (t flags : List ℕ) (o : Order) (k : ℕ) (m : Message) where
       is = λ p own at n e s c row.
           if-receive (λ w. false ≡ catches p o m w (armsFrom t (o .marks) k k) k)
           (λ a b vs. rw (catches-receive p o m a b vs (armsFrom t (o .marks) k k) k, ne-eqb _ _ y))
-          own (sym (row .kind) ∙ z)
+          own (sym (row .kind) ∙ z);
     }
 
   module _ (z : getD t (k * 13) 0 ≡ 12) {b : Bool} (q : b ≡ armsFrom t (o .marks) k k) where
@@ -170,7 +170,7 @@ module _ (t flags : List ℕ) (o : Order) (k : ℕ) (m : Message) where
           if-arm (λ w. Row w at k n e s t → r ≡ catches p o m w (armsFrom t (o .marks) k k) k)
           (λ a d vs w. rw (catches-arm p o m a d vs (armsFrom t (o .marks) k k) k, sym q ∙ y)
           (f .is p a d vs c (arm-row a d vs at k n e s t w)))
-          own (sym (row .kind) ∙ z) row
+          own (sym (row .kind) ∙ z) row;
     }
 
     pub takes-shut : b ≡ false → TakesRow t flags o k m false
@@ -178,13 +178,13 @@ module _ (t flags : List ℕ) (o : Order) (k : ℕ) (m : Message) where
       is = λ p own at n e s c row.
           if-arm (λ w. false ≡ catches p o m w (armsFrom t (o .marks) k k) k)
           (λ a d vs. rw (catches-arm p o m a d vs (armsFrom t (o .marks) k k) k, sym q ∙ y))
-          own (sym (row .kind) ∙ z)
+          own (sym (row .kind) ∙ z);
     }
 
   pub takes-other : (getD t (k * 13) 0 ≡ 2 → ⊥) → (getD t (k * 13) 0 ≡ 12 → ⊥) → TakesRow t flags o k m false
   takes-other x y = record {
     is = λ p own at n e s c row.
-        sym (catches-not p o m own (armsFrom t (o .marks) k k) k (fits-other p o m own (λ q. x (row .kind ∙ q)) (λ q. y (row .kind ∙ q))))
+        sym (catches-not p o m own (armsFrom t (o .marks) k k) k (fits-other p o m own (λ q. x (row .kind ∙ q)) (λ q. y (row .kind ∙ q))));
   }
 
 -- `first_receiver`: an order has as many rows as the plan has activities and arms, or none where its slot is free
@@ -256,7 +256,7 @@ module _ {t flags : List ℕ} {orders : List Order} {activities : ℕ} {m : Mess
   searching-done h = record {
     is = λ p c s e.
         let g : length orders ≤ slot = omega (arith, w .long) in
-        w .nothing ∙ sym (w .same p c s e ∙ rw (drop-of-length-le orders g))
+        w .nothing ∙ sym (w .same p c s e ∙ rw (drop-of-length-le orders g));
   }
 
   module _ (d : Order) {rows : ℕ} (many : rows ≡ cond (isLive (getD orders slot d)) activities 0) (h : slot < 16) {found : Receiver} {k : ℕ}
@@ -282,7 +282,7 @@ module _ {t flags : List ℕ} {orders : List Order} {activities : ℕ} {m : Mess
     searching-found l {b} y z = record {
       is = λ p c s e.
           sym (w .same p c s e ∙ (live-drop p m slot orders d (omega (arith, w .long))
-          ∙ rw (by-test p c s e (isLive (getD orders slot d)) many)))
+          ∙ rw (by-test p c s e (isLive (getD orders slot d)) many)));
     }
       where
         by-test : (p : Plan) → Correlated p flags → SpellsPlan p t → activities ≡ size (p .body) + size (p .fault) → (x : Bool) → rows ≡ cond x activities 0

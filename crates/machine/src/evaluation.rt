@@ -33,7 +33,9 @@ fn variable_worth(order: Order, v: u32) -> Worth
     }
     let i = v as usize;
     if order.bound[i] == 1 {
-        return Worth::Value { value: order.values[i] };
+        return Worth::Value {
+            value: order.values[i],
+        };
     }
     Worth::Fault
 }
@@ -42,7 +44,11 @@ fn variable_worth(order: Order, v: u32) -> Worth
 fn truth_worth(holds: bool) -> Worth
     ensures { λ r. ⌜ r ≡ worthOf (truth holds) ⌝ }
 {
-    if holds { Worth::Value { value: 1 } } else { Worth::Value { value: 0 } }
+    if holds {
+        Worth::Value { value: 1 }
+    } else {
+        Worth::Value { value: 0 }
+    }
 }
 
 // What the operation with that code makes of two values.

@@ -37,7 +37,14 @@ fn unchecked_place(flags: &[u8; 16], order: Order, v: u32) -> usize
 }
 
 // Whether the first `count` places of the receive or arm in row k may hold these values.
-fn agrees_at(table: &[u32; 11584], flags: &[u8; 16], order: Order, k: usize, count: usize, values: [u32; 4]) -> bool
+fn agrees_at(
+    table: &[u32; 11584],
+    flags: &[u8; 16],
+    order: Order,
+    k: usize,
+    count: usize,
+    values: [u32; 4],
+) -> bool
     requires { ⌜ (k < 256) × (count ≤ 4) ⌝ }
     ensures { λ r. ⌜ Agrees (now (table .entry)) (now (flags .entry)) order k count values r ⌝ }
 {
@@ -53,7 +60,13 @@ fn agrees_at(table: &[u32; 11584], flags: &[u8; 16], order: Order, k: usize, cou
 }
 
 // Whether a message fits the receive or arm in row k for an order: all 32 bits of each checked place count.
-pub(crate) fn fits_at(table: &[u32; 11584], flags: &[u8; 16], order: Order, k: usize, message: Message) -> bool
+pub(crate) fn fits_at(
+    table: &[u32; 11584],
+    flags: &[u8; 16],
+    order: Order,
+    k: usize,
+    message: Message,
+) -> bool
     requires { ⌜ (k < 256) × (message .count ≤ 4) ⌝ }
     ensures { λ r. ⌜ FitsRow (now (table .entry)) (now (flags .entry)) order k message r ⌝ }
 {

@@ -4,10 +4,9 @@ use super::Order;
 use super::Receiver;
 use super::fitness::fits_at;
 ghost use Prim.Native.Nat.{_≤_, _<_};
-ghost use lib.Dec.{eqb};
-ghost use mathlib.Core.Bool.{cond, _&&_};
+ghost use mathlib.Core.Bool.{cond};
 ghost use mathlib.Core.Path.{_≡_};
-ghost use Rattle.machine.specs.State.{isLive, active};
+ghost use Rattle.machine.specs.State.{isLive};
 ghost use Rattle.machine.specs.Answering.{openPick, armsFrom, TakesRow, Receives};
 
 // Whether row j is an active pick.
@@ -38,7 +37,13 @@ fn arm_open(table: &[u32; 11584], order: Order, k: usize) -> bool
 }
 
 // Whether row k is an open receive or arm of the order that the message fits.
-fn takes_at(table: &[u32; 11584], flags: &[u8; 16], order: Order, k: usize, message: Message) -> bool
+fn takes_at(
+    table: &[u32; 11584],
+    flags: &[u8; 16],
+    order: Order,
+    k: usize,
+    message: Message,
+) -> bool
     requires { ⌜ (k < 256) × (message .count ≤ 4) ⌝ }
     ensures { λ r. ⌜ TakesRow (now (table .entry)) (now (flags .entry)) order k message r ⌝ }
 {
@@ -66,7 +71,13 @@ fn rows_of(order: Order, activities: usize) -> usize
 }
 
 // The first open receive of a live order that the message fits: live slots ascending, in each activities ascending.
-pub(crate) fn first_receiver(table: &[u32; 11584], flags: &[u8; 16], orders: [Order; 16], activities: usize, message: Message) -> Receiver
+pub(crate) fn first_receiver(
+    table: &[u32; 11584],
+    flags: &[u8; 16],
+    orders: [Order; 16],
+    activities: usize,
+    message: Message,
+) -> Receiver
     requires { ⌜ (activities ≤ 256) × (message .count ≤ 4) ⌝ }
     ensures { λ r. ⌜ Receives (now (table .entry)) (now (flags .entry)) orders activities message r ⌝ }
 {

@@ -1,6 +1,5 @@
 -- `machine::evaluation::evaluate_at` meets its contract. Assumes nothing.
 use borrow.Author.Needs.{needs}
-use native.Mathlib.Omega.{arith}
 use Rattle.machine.proofs.EvaluationReturns.{too-deep, constant-made, variable-made, left-fault, right-fault, both-made, node-next}
 use Prim.Native.Nat.{ℕ, _<_}
 use borrow.Fn.Kinds.{In}

@@ -1,6 +1,5 @@
 -- `machine::evaluation::node_code` meets its contract. Assumes nothing.
 use borrow.Author.Needs.{needs}
-use native.Mathlib.Omega.{arith}
 use Rattle.machine.proofs.EvaluationReturns.{code-here, code-beyond}
 use Rattle.machine.proofs.evaluation.node_code.Statement.{statement}
 use Rattle.machine.proofs.evaluation.node_code.Tie as tie

@@ -1,6 +1,5 @@
 -- `machine::evaluation::node_value` meets its contract. Assumes nothing.
 use borrow.Author.Needs.{needs}
-use native.Mathlib.Omega.{arith}
 use Rattle.machine.proofs.EvaluationReturns.{value-beyond}
 use Rattle.machine.proofs.evaluation.node_value.Statement.{statement}
 use Rattle.machine.proofs.evaluation.node_value.Tie as tie

@@ -1,6 +1,5 @@
 -- `machine::evaluation::operation_worth` meets its contract. Assumes nothing.
 use borrow.Author.Needs.{needs}
-use native.Mathlib.Omega.{arith}
 use Rattle.machine.proofs.EvaluationReturns.{sum-over, sum-made, difference-under, difference-made, equal-made, less-made}
 use Rattle.machine.proofs.evaluation.operation_worth.Statement.{statement}
 use Rattle.machine.proofs.evaluation.operation_worth.Tie as tie

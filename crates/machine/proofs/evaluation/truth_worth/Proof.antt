@@ -1,6 +1,4 @@
 -- `machine::evaluation::truth_worth` meets its contract. Assumes nothing.
-use borrow.Author.Needs.{needs}
-use native.Mathlib.Omega.{arith}
 use Rattle.machine.proofs.EvaluationReturns.{truth-one, truth-zero}
 use Rattle.machine.proofs.evaluation.truth_worth.Statement.{statement}
 use Rattle.machine.proofs.evaluation.truth_worth.Tie as tie

@@ -1,6 +1,5 @@
 -- `machine::evaluation::variable_worth` meets its contract. Assumes nothing.
 use borrow.Author.Needs.{needs}
-use native.Mathlib.Omega.{arith}
 use Rattle.machine.proofs.EvaluationReturns.{variable-far, variable-bound, variable-unbound}
 use Rattle.machine.proofs.evaluation.variable_worth.Statement.{statement}
 use Rattle.machine.proofs.evaluation.variable_worth.Tie as tie

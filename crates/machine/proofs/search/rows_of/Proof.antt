@@ -1,5 +1,4 @@
 -- `machine::search::rows_of` meets its contract. Assumes nothing.
-use borrow.Author.Needs.{needs}
 use Rattle.machine.proofs.SearchReturns.{rows-free, rows-live}
 use Rattle.machine.proofs.search.rows_of.Statement.{statement}
 use Rattle.machine.proofs.search.rows_of.Tie as tie
