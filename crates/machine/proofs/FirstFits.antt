@@ -13,17 +13,18 @@ use Rattle.plan.specs.Read.{readPlan}
 use Rattle.plan.specs.Spell.{spelling}
 use Rattle.plan.specs.Store.{store}
 use Rattle.plan.specs.Table.{rowOf, noted, putRow, putNode, putNodes, putOwnNodes, putOwn, putClose, put, putAll, blankTable, flagsOf, tableOf}
-use Rattle.plan.specs.Tree.{Exp, constant, variable, binary, Own, empty, send, receive, set, raise, leave, choose, repeat, sequence, flow, pick, scope, arm, Act, act, Acts, none, more, Plan}
+use Rattle.plan.specs.Tree.{Exp, constant, variable, binary, Own, empty, send, receive, set, raise, leave, choose, repeat, sequence, flow, pick, scope, arm, Act, act, Acts, none, more, Plan, size}
 use Rattle.plan.specs.Within.{from1, ascending, planWithin}
 use Rattle.plan.proofs.Accepts.{both}
 use Rattle.plan.proofs.Limits.{accepted-is-within}
 use Rattle.plan.proofs.Stores.{length-store, flagged-among}
+use Rattle.plan.proofs.TableSpells.{accepted-spells}
 use Rattle.machine.specs.declared.Message.{Message}
 use Rattle.machine.specs.declared.Order.{Order}
 use Rattle.machine.specs.declared.Receiver.{Receiver}
-use Rattle.machine.specs.Answering.{Correlated}
+use Rattle.machine.specs.Answering.{Correlated, Receives}
 use Rattle.machine.specs.Finding.{firstOf, orElse, firstReceiver, isNothing}
-use Rattle.machine.specs.Fit.{Ready, Live, fitting, fittings}
+use Rattle.machine.specs.Fit.{Ready, Live, liveFrom, fitting, fittings}
 use Rattle.machine.specs.Lists.{each, empties}
 
 -- the search finds nothing exactly where the message fits no open receive of a live order
@@ -132,3 +133,11 @@ mutual
 pub table-long : (p : Plan) → length (tableOf p) ≡ 11584
 unfolding tableOf
 table-long p = length-putAll _ _ 0 0 blankTable ∙ length-replicate {A = ℕ} 11584 0
+
+-- so of an accepted plan's table and flags the search answers the first open receive that the message fits, and nothing exactly where it fits none
+pub received : (s : List ℕ) {p : Plan} {next : ℕ} → readPlan s ≡ found p next → {orders : List Order} {m : Message} {r : Receiver}
+    → Receives (tableOf p) (flagsOf p) orders (size (p .body) + size (p .fault)) m r
+    → (r ≡ firstReceiver p (liveFrom p 0 orders) m) × (isNothing r ≡ empties (fittings p (liveFrom p 0 orders) m))
+received s {p} e {orders} {m} a =
+    let i = a .is p (accepted-correlated s e) (accepted-spells s e) refl in
+    (i, ap isNothing i ∙ first-exactly p (liveFrom p 0 orders) m)
