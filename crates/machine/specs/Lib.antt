@@ -8,6 +8,8 @@ pub mod Begin
 pub mod Scope
 pub mod Acting
 pub mod Fit
+pub mod Finding
+pub mod Answering
 pub mod Offer
 pub mod Calls
 pub mod History

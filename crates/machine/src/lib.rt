@@ -1,7 +1,10 @@
 // Runs orders by a plan: the state that it runs on, and what a step answers.
+mod evaluation;
+mod fitness;
 mod letters;
 mod limits;
 mod made;
+mod search;
 
 use plan::Answer;
 ghost use mathlib.Core.Path.{_≡_};
@@ -82,6 +85,18 @@ pub struct Tally {
     pub handled: u32,
     pub failed: u32,
     pub left: u32,
+}
+
+// What an expression comes to.
+pub enum Worth {
+    Fault,
+    Value { value: u32 },
+}
+
+// An open receive, by the slot of its order and its activity, or none.
+pub enum Receiver {
+    At { slot: usize, activity: usize },
+    Nothing,
 }
 
 // A tally with nothing counted.
