@@ -42,13 +42,14 @@ value-bounds s at e = groups-bounds 5 s at 1 0 e
 together : (sum d w scale : ℕ) → sum + d * scale + w * (scale * 128) ≡ sum + (d + w * 128) * scale
 together sum d w scale = rw (mul-comm scale 128, ← mul-assoc w 128 scale, add-mul d (w * 128) scale) (omega arith)
 
--- What the groups read are: the spelling of w, which they count `scale` times; w is zero only where they are the whole number.
+-- What the groups read are: the spelling of w, which they count `scale` times; w is zero only where they are the whole number. Where they end
+-- does not ask that they are bytes.
 record Spelling (left : ℕ) (s : List ℕ) (at scale sum v next : ℕ) : Type 0 where
   w : ℕ
   value : v ≡ sum + w * scale
   whole : w ≡ 0 → scale ≡ 1
   ends : next ≡ at + length (spelled left w)
-  stands : take (length (spelled left w)) (drop at s) ≡ spelled left w
+  stands : Bytes s → take (length (spelled left w)) (drop at s) ≡ spelled left w
 
 spelled-last : (k v : ℕ) → v < 128 → spelled (suc k) v ≡ v ∷ []
 unfolding spelled
@@ -65,61 +66,75 @@ one-group {k} {s} {at} b i w l q o n = record {
   value = q;
   whole = o;
   ends = rw (spelled-last k b l) n;
-  stands = rw (spelled-last k b l, drop-cons s at 0 w, i);
+  stands = λ y. rw (spelled-last k b l, drop-cons s at 0 w, i);
 }
 
 later-pos : (w scale : ℕ) → (w ≡ 0 → scale * 128 ≡ 1) → 0 < w
 later-pos zero scale h = absurd (omega (arith, h refl))
 later-pos (suc w) scale h = omega arith
 
-more-groups : {k : ℕ} {s : List ℕ} {at scale sum v next : ℕ} → getD s at 0 < 256 → at < length s → 128 ≤ getD s at 0
+-- a byte with the top bit set is what it counts with that bit set again
+top-bit : (b w : ℕ) → 128 ≤ b → b < 256 → (b % 128 + w * 128) % 128 + 128 ≡ b
+top-bit b w l h = omega arith
+
+more-groups : {k : ℕ} {s : List ℕ} {at scale sum v next : ℕ} → at < length s → 128 ≤ getD s at 0
     → Spelling k s (at + 1) (scale * 128) (sum + getD s at 0 % 128 * scale) v next → Spelling (suc k) s at scale sum v next
-more-groups {k} {s} {at} {scale} {sum} y w b r =
+more-groups {k} {s} {at} {scale} {sum} w b r =
     let pos : 0 < r .w = later-pos (r .w) scale (r .whole) in
-    let byte : (getD s at 0 % 128 + r .w * 128) % 128 + 128 ≡ getD s at 0 = omega arith in
     let rest : (getD s at 0 % 128 + r .w * 128) / 128 ≡ r .w = omega arith in
-    let whole : spelled (suc k) (getD s at 0 % 128 + r .w * 128) ≡ getD s at 0 ∷ spelled k (r .w) =
-    spelled-more k _ (omega arith) ∙ rw (byte, rest) in
+    let whole : spelled (suc k) (getD s at 0 % 128 + r .w * 128) ≡ ((getD s at 0 % 128 + r .w * 128) % 128 + 128) ∷ spelled k (r .w) =
+    spelled-more k _ (omega arith) ∙ rw rest in
     record {
       w = getD s at 0 % 128 + r .w * 128;
       value = r .value ∙ together sum (getD s at 0 % 128) (r .w) scale;
       whole = λ z. absurd (omega arith);
       ends = rw whole (omega (arith, r .ends));
-      stands = rw (whole, drop-cons s at 0 w) (ap (λ l. getD s at 0 ∷ l) (rw (add-one at) at (r .stands)));
+      stands = λ y. rw (whole, top-bit (getD s at 0) (r .w) b (y at), drop-cons s at 0 w) (ap (λ l. getD s at 0 ∷ l) (rw (add-one at) at (r .stands y)));
     }
 
-group-spelling : {k : ℕ} {s : List ℕ} {at scale sum v next : ℕ} → Bytes s → sum < scale → Group k s at scale sum v next
+group-spelling : {k : ℕ} {s : List ℕ} {at scale sum v next : ℕ} → sum < scale → Group k s at scale sum v next
     → (groups k s (at + 1) (scale * 128) (sum + getD s at 0 % 128 * scale) ≡ Value v next
     → Spelling k s (at + 1) (scale * 128) (sum + getD s at 0 % 128 * scale) v next)
     → Spelling (suc k) s at scale sum v next
-group-spelling y h (nought w b o z n) rest = one-group 0 (sym b) w (omega arith) (omega arith) (λ e. o) n
-group-spelling {s = s} {at = at} y h (last w b c q m n) rest =
+group-spelling h (nought w b o z n) rest = one-group 0 (sym b) w (omega arith) (omega arith) (λ e. o) n
+group-spelling {s = s} {at = at} h (last w b c q m n) rest =
     one-group (getD s at 0) refl w c q (λ e. absurd (omega arith)) n
-group-spelling {at = at} y h (more w b e) rest = more-groups (y at) w b (rest e)
+group-spelling h (more w b e) rest = more-groups w b (rest e)
 
 next-below : (sum b scale : ℕ) → sum < scale → sum + b % 128 * scale < scale * 128
 next-below sum b scale h = let m : b % 128 * scale ≤ 127 * scale = mul-le-mul-right scale (omega arith) in omega arith
 
-groups-spelling : (left : ℕ) (s : List ℕ) (at scale sum : ℕ) {v next : ℕ} → Bytes s → sum < scale → groups left s at scale sum ≡ Value v next
+groups-spelling : (left : ℕ) (s : List ℕ) (at scale sum : ℕ) {v next : ℕ} → sum < scale → groups left s at scale sum ≡ Value v next
     → Spelling left s at scale sum v next
 unfolding groups
-groups-spelling zero s at scale sum y h e = no-bad e
-groups-spelling (suc k) s at scale sum y h e =
-    group-spelling y h (group k s at scale sum e)
-    (groups-spelling k s (at + 1) (scale * 128) (sum + getD s at 0 % 128 * scale) y (next-below sum (getD s at 0) scale h))
+groups-spelling zero s at scale sum h e = no-bad e
+groups-spelling (suc k) s at scale sum h e =
+    group-spelling h (group k s at scale sum e)
+    (groups-spelling k s (at + 1) (scale * 128) (sum + getD s at 0 % 128 * scale) (next-below sum (getD s at 0) scale h))
 
 -- That a number stands at a place in its shortest spelling.
 pub record Stands (s : List ℕ) (at v next : ℕ) : Type 0 where
   pub ends : next ≡ at + length (shortest v)
   pub spells : take (length (shortest v)) (drop at s) ≡ shortest v
 
+module _ (s : List ℕ) (at : ℕ) {v next : ℕ} (e : numberAt s at ≡ Value v next) where
+  number-spelling : Spelling 5 s at 1 0 v next
+  unfolding numberAt
+  number-spelling = groups-spelling 5 s at 1 0 (omega arith) e
+
+  spelled-value : number-spelling .w ≡ v
+  spelled-value = omega (arith, number-spelling .value)
+
+  -- What is read as a value ends where its shortest spelling does.
+  pub read-ends : next ≡ at + length (shortest v)
+  unfolding shortest
+  read-ends = rw (← spelled-value) (number-spelling .ends)
+
 -- What is read as a value stands there in the value's shortest spelling.
 pub read-is-shortest : (s : List ℕ) (at : ℕ) {v next : ℕ} → Bytes s → numberAt s at ≡ Value v next → Stands s at v next
-unfolding numberAt shortest
-read-is-shortest s at {v} y e =
-    let r = groups-spelling 5 s at 1 0 y (omega arith) e in
-    let q : r .w ≡ v = omega (arith, r .value) in
-    record { ends = rw (← q) (r .ends); spells = rw (← q) (r .stands) }
+unfolding shortest
+read-is-shortest s at y e =
+    record { ends = read-ends s at e; spells = rw (← spelled-value s at e) (number-spelling s at e .stands y) }
 
 -- how many values `left` groups spell
 values : ℕ → ℕ

@@ -17,6 +17,14 @@ use Rattle.plan.specs.Answers.{fieldOf, tupleOf}
 use Rattle.plan.specs.Fits.{Ahead, NumberFits, FieldFits}
 use Rattle.plan.specs.Found.{Found, refused, found, andThen, numberIn, fieldIn}
 
+-- one step of reading, where what was found is known
+module _ {A B : Type 0} (g : Found A) (f : A → ℕ → Found B) where
+  pub then-found : {a : A} {next : ℕ} → g ≡ found a next → andThen g f ≡ f a next
+  then-found e = rw e
+
+  pub then-refused : {number place : ℕ} → g ≡ refused number place → andThen g f ≡ refused number place
+  then-refused e = rw e
+
 -- what was found, where the answer is known
 pub field-got : {r : Field} {value next : ℕ} (g : Found ℕ) → r ≡ fieldOf g → r ≡ Got value next → g ≡ found value next
 unfolding fieldOf
@@ -35,6 +43,13 @@ number-fits s at f o = rw o at f
 pub field-fits : (s : List ℕ) (at least limit : ℕ) {value next : ℕ} {r : Field} → FieldFits s at least limit r → r ≡ Got value next
     → Ahead s at next × ((least ≤ value) × (value < limit))
 field-fits s at least limit f o = rw o at f
+
+pub number-none : (s : List ℕ) (at : ℕ) {number place : ℕ} {r : Field} → r ≡ Field.Refused number place → NumberFits s at r
+number-none s at o = rw o tt
+
+pub number-of-field : (s : List ℕ) (at least limit : ℕ) (r : Field) → FieldFits s at least limit r → NumberFits s at r
+number-of-field s at least limit (Field.Refused number place) f = tt
+number-of-field s at least limit (Got value next) f = f .0
 
 -- `number_at`
 module _ {n : Number} (s : List ℕ) (at : ℕ) (e : n ≡ numberAt s at) where

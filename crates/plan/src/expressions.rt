@@ -8,8 +8,8 @@ ghost use lib.Dec.{eqb};
 ghost use lib.ListN.{length};
 ghost use mathlib.Core.Bool.{cond};
 ghost use mathlib.Core.Path.{_≡_};
-ghost use Rattle.plan.specs.Answers.{fieldOf, nodesAnswer, NodesPut};
-ghost use Rattle.plan.specs.Fits.{NumberFits, NodesFit};
+ghost use Rattle.plan.specs.Answers.{fieldOf, NodesRead};
+ghost use Rattle.plan.specs.Fits.{NumberFits};
 ghost use Rattle.plan.specs.Found.{numberIn, fieldIn};
 ghost use Rattle.plan.specs.Read.{expressionCodeIn, expressionIn};
 
@@ -41,9 +41,7 @@ fn leaf_at(s: &[u8], at: usize, code: u32, vars: u32) -> Field
 // The expression at `at`, whose first node has the number m, where `depth` levels are left.
 pub(crate) fn expression_at(s: &[u8], at: usize, depth: usize, vars: u32, m: usize, table: &mut [u32; 11584]) -> Nodes
     requires { ⌜ (length (now s) ≤ 4096) × (m ≤ at) ⌝ }
-    ensures is { λ r. ⌜ r ≡ nodesAnswer m (expressionIn depth vars (now (s .entry)) at) ⌝ }
-    ensures put { λ r. ⌜ NodesPut (expressionIn depth vars (now (s .entry)) at) m (now (table .entry)) (now (table .exit)) ⌝ }
-    ensures fits { λ r. ⌜ NodesFit (now (s .entry)) r ⌝ }
+    ensures { λ r. ⌜ NodesRead (expressionIn depth vars (now (s .entry)) at) m r (now (table .entry)) (now (table .exit)) ⌝ }
 {
     let c = expression_code_at(s, at);
     match c {

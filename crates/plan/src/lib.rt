@@ -6,6 +6,11 @@ mod root;
 mod table;
 mod tree;
 
+ghost use mathlib.Core.Path.{_≡_};
+ghost use Rattle.plan.specs.Answers.{answerOf, tableFor, flagsFor};
+ghost use Rattle.plan.specs.Read.{readPlan};
+ghost use Rattle.plan.specs.Shown.{shownPart, shownRefusal};
+
 
 // What reading one number finds.
 pub enum Field {
@@ -46,7 +51,10 @@ pub enum Answer {
 
 // Activity or arm k of the plan s, as the very part of s that spells it; 16 where there is no activity k, a bad plan's own number.
 // Where it refuses, the part is empty.
-pub fn show<'a>(s: &'a [u8], k: usize, refusal: &mut u32) -> &'a [u8] {
+pub fn show<'a>(s: &'a [u8], k: usize, refusal: &mut u32) -> &'a [u8]
+    ensures part { λ r. ⌜ now r ≡ shownPart (readPlan (now (s .entry))) (now (s .entry)) k ⌝ }
+    ensures refused { λ _. ⌜ now (refusal .exit) ≡ shownRefusal (readPlan (now (s .entry))) k ⌝ }
+{
     let mut table = [0u32; 11584];
     let mut correlation = [0u8; 16];
     let a = accept(s, &mut table, &mut correlation);
@@ -70,7 +78,11 @@ pub fn show<'a>(s: &'a [u8], k: usize, refusal: &mut u32) -> &'a [u8] {
 }
 
 // The whole plan: its answer, and in the lent arrays its table and which variables are for correlation. All zero where it is refused.
-pub fn accept(s: &[u8], table: &mut [u32; 11584], correlation: &mut [u8; 16]) -> Answer {
+pub fn accept(s: &[u8], table: &mut [u32; 11584], correlation: &mut [u8; 16]) -> Answer
+    ensures is { λ r. ⌜ r ≡ answerOf (readPlan (now (s .entry))) ⌝ }
+    ensures rows { λ _. ⌜ now (table .exit) ≡ tableFor (readPlan (now (s .entry))) ⌝ }
+    ensures flags { λ _. ⌜ now (correlation .exit) ≡ flagsFor (readPlan (now (s .entry))) ⌝ }
+{
     *table = [0u32; 11584];
     *correlation = [0u8; 16];
     let a = root::plan_at(s, table, correlation);

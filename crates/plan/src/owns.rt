@@ -5,15 +5,33 @@ use super::Own;
 use super::expressions::expression_at;
 use super::fields::{field_at, number_at, tuple_at};
 use super::table::write_row;
+ghost use Prim.Native.Nat.{_≤_, _<_};
+ghost use lib.Dec.{eqb, leb};
+ghost use mathlib.Core.Bool.{_&&_, _||_};
+ghost use mathlib.Core.List.{[]};
+ghost use mathlib.Core.Path.{_≡_};
+ghost use Rattle.plan.specs.Answers.{fieldOf, messageOwn, expressionOwn, listOwn, OwnRead};
+ghost use Rattle.plan.specs.Fits.{NumberFits};
+ghost use Rattle.plan.specs.Nodes.{Base, Room, IsMessage, IsExpression, IsList, nodeHeadIn};
+ghost use Rattle.plan.specs.Read.{exchangeIn, partnerIn, armIn, withExpressionIn, setIn, listIn, codeIn, partsIn, headIn};
+ghost use Rattle.plan.specs.Store.{chosen};
+ghost use Rattle.plan.specs.Table.{row, putRow};
 
-// An activity that is its code alone.
-fn plain_own(at: usize, kind: u32, within: u32, n: usize, m: usize, place: usize, table: &mut [u32; 11584]) -> Own {
+// An activity whose own numbers are all read.
+fn plain_own(at: usize, kind: u32, within: u32, n: usize, m: usize, place: usize, table: &mut [u32; 11584]) -> Own
+    requires { ⌜ (n < 256) × (place ≤ 4096) ⌝ }
+    ensures is { λ r. ⌜ r ≡ Own.Read kind within at m ⌝ }
+    ensures put { λ _. ⌜ now (table .exit) ≡ putRow n (row kind 0 0 [] 0 0 place) (now (table .entry)) ⌝ }
+{
     write_row(table, n, kind, 0, 0, 0, [0u32; 4], 0, 0, place);
     Own::Read { kind, within, next: at, nodes: m }
 }
 
 // Operation, count and variables.
-fn exchange_own(s: &[u8], at: usize, kind: u32, partner: u32, once: bool, within: u32, vars: u32, n: usize, m: usize, place: usize, table: &mut [u32; 11584]) -> Own {
+fn exchange_own(s: &[u8], at: usize, kind: u32, partner: u32, once: bool, within: u32, vars: u32, n: usize, m: usize, place: usize, table: &mut [u32; 11584]) -> Own
+    requires { ⌜ Room (now s) vars n m place at × (IsMessage kind × (partner < 64)) ⌝ }
+    ensures { λ r. ⌜ OwnRead (exchangeIn vars once (now (s .entry)) (messageOwn kind partner) within at) place n m r (now (table .entry)) (now (table .exit)) ⌝ }
+{
     let o = field_at(s, at, 0, 64);
     match o {
         Field::Refused { number, place } => Own::Refused { number, place },
@@ -33,7 +51,10 @@ fn exchange_own(s: &[u8], at: usize, kind: u32, partner: u32, once: bool, within
 }
 
 // A send or a receive.
-fn partner_own(s: &[u8], at: usize, kind: u32, once: bool, vars: u32, n: usize, m: usize, place: usize, table: &mut [u32; 11584]) -> Own {
+fn partner_own(s: &[u8], at: usize, kind: u32, once: bool, vars: u32, n: usize, m: usize, place: usize, table: &mut [u32; 11584]) -> Own
+    requires { ⌜ Room (now s) vars n m place at × IsMessage kind ⌝ }
+    ensures { λ r. ⌜ OwnRead (partnerIn vars once (now (s .entry)) (messageOwn kind) at) place n m r (now (table .entry)) (now (table .exit)) ⌝ }
+{
     let p = field_at(s, at, 0, 64);
     match p {
         Field::Refused { number, place } => Own::Refused { number, place },
@@ -42,7 +63,10 @@ fn partner_own(s: &[u8], at: usize, kind: u32, once: bool, vars: u32, n: usize, 
 }
 
 // An arm, from its partner number on.
-fn arm_own(s: &[u8], at: usize, vars: u32, n: usize, m: usize, table: &mut [u32; 11584]) -> Own {
+fn arm_own(s: &[u8], at: usize, vars: u32, n: usize, m: usize, table: &mut [u32; 11584]) -> Own
+    requires { ⌜ Base (now s) vars m at ⌝ }
+    ensures { λ r. ⌜ OwnRead (armIn vars (now (s .entry)) n at) at n m r (now (table .entry)) (now (table .exit)) ⌝ }
+{
     let p = field_at(s, at, 0, 64);
     match p {
         Field::Refused { number, place } => Own::Refused { number, place },
@@ -56,7 +80,10 @@ fn arm_own(s: &[u8], at: usize, vars: u32, n: usize, m: usize, table: &mut [u32;
 }
 
 // An activity with an expression.
-fn expression_own(s: &[u8], at: usize, kind: u32, variable: u32, within: u32, vars: u32, n: usize, m: usize, place: usize, table: &mut [u32; 11584]) -> Own {
+fn expression_own(s: &[u8], at: usize, kind: u32, variable: u32, within: u32, vars: u32, n: usize, m: usize, place: usize, table: &mut [u32; 11584]) -> Own
+    requires { ⌜ Room (now s) vars n m place at × IsExpression kind variable ⌝ }
+    ensures { λ r. ⌜ OwnRead (withExpressionIn vars (now (s .entry)) (expressionOwn kind variable) within at) place n m r (now (table .entry)) (now (table .exit)) ⌝ }
+{
     let e = expression_at(s, at, 8, vars, m, table);
     match e {
         Nodes::Refused { number, place } => Own::Refused { number, place },
@@ -68,13 +95,17 @@ fn expression_own(s: &[u8], at: usize, kind: u32, variable: u32, within: u32, va
 }
 
 // A set: a variable that is not for correlation, and an expression.
-fn set_own(s: &[u8], at: usize, vars: u32, correlation: &[u8; 16], n: usize, m: usize, place: usize, table: &mut [u32; 11584]) -> Own {
+fn set_own(s: &[u8], at: usize, vars: u32, correlation: &[u8; 16], n: usize, m: usize, place: usize, table: &mut [u32; 11584]) -> Own
+    requires { ⌜ Room (now s) vars n m place at ⌝ }
+    ensures { λ r. ⌜ OwnRead (setIn vars (chosen 0 (now (correlation .entry))) (now (s .entry)) at) place n m r (now (table .entry)) (now (table .exit)) ⌝ }
+{
     let v = field_at(s, at, 0, vars);
     match v {
         Field::Refused { number, place } => Own::Refused { number, place },
         Field::Got { value, next } => {
             let i = value as usize;
-            if correlation[i] == 1 {
+            let flag = correlation[i];
+            if flag == 1 {
                 return Own::Refused { number: 5, place: at };
             }
             expression_own(s, next, 3, value, 0, vars, n, m, place, table)
@@ -83,7 +114,10 @@ fn set_own(s: &[u8], at: usize, vars: u32, correlation: &[u8; 16], n: usize, m: 
 }
 
 // A list of activities or arms: a count below `limit`.
-fn list_own(s: &[u8], at: usize, kind: u32, limit: u32, n: usize, m: usize, place: usize, table: &mut [u32; 11584]) -> Own {
+fn list_own(s: &[u8], at: usize, kind: u32, limit: u32, n: usize, m: usize, place: usize, table: &mut [u32; 11584]) -> Own
+    requires { ⌜ IsList kind × ((n < 256) × (place ≤ 4096)) ⌝ }
+    ensures { λ r. ⌜ OwnRead (listIn (now (s .entry)) (listOwn kind) limit at) place n m r (now (table .entry)) (now (table .exit)) ⌝ }
+{
     let c = field_at(s, at, 1, limit);
     match c {
         Field::Refused { number, place } => Own::Refused { number, place },
@@ -91,8 +125,25 @@ fn list_own(s: &[u8], at: usize, kind: u32, limit: u32, n: usize, m: usize, plac
     }
 }
 
+// Whether a scope stands where none may.
+fn misplaced(code: u32, handler: bool) -> bool
+    ensures { λ r. ⌜ r ≡ (handler && eqb code 11) ⌝ }
+{
+    if handler { code == 11 } else { false }
+}
+
+// Whether there is no level left, or no number.
+fn overrun(depth: usize, n: usize) -> bool
+    ensures { λ r. ⌜ r ≡ (eqb depth 0 || leb 256 n) ⌝ }
+{
+    if depth == 0 { true } else { 256 <= n }
+}
+
 // The code of an activity.
-fn code_at(s: &[u8], at: usize, handler: bool, depth: usize, n: usize) -> Field {
+fn code_at(s: &[u8], at: usize, handler: bool, depth: usize, n: usize) -> Field
+    ensures is { λ r. ⌜ r ≡ fieldOf (codeIn (now (s .entry)) handler depth n at) ⌝ }
+    ensures fits { λ r. ⌜ NumberFits (now (s .entry)) at r ⌝ }
+{
     let read = number_at(s, at);
     match read {
         Field::Refused { number: _, place: _ } => read,
@@ -100,10 +151,10 @@ fn code_at(s: &[u8], at: usize, handler: bool, depth: usize, n: usize) -> Field 
             if 11 < value {
                 return Field::Refused { number: 4, place: at };
             }
-            if value == 11 && handler {
+            if misplaced(value, handler) {
                 return Field::Refused { number: 8, place: at };
             }
-            if depth == 0 || 256 <= n {
+            if overrun(depth, n) {
                 return Field::Refused { number: 6, place: at };
             }
             read
@@ -112,7 +163,10 @@ fn code_at(s: &[u8], at: usize, handler: bool, depth: usize, n: usize) -> Field 
 }
 
 // The parts of an activity by its code.
-fn parts_own(s: &[u8], at: usize, code: u32, vars: u32, correlation: &[u8; 16], n: usize, m: usize, place: usize, table: &mut [u32; 11584]) -> Own {
+fn parts_own(s: &[u8], at: usize, code: u32, vars: u32, correlation: &[u8; 16], n: usize, m: usize, place: usize, table: &mut [u32; 11584]) -> Own
+    requires { ⌜ Room (now s) vars n m place at ⌝ }
+    ensures { λ r. ⌜ OwnRead (partsIn vars (chosen 0 (now (correlation .entry))) (now (s .entry)) code at) place n m r (now (table .entry)) (now (table .exit)) ⌝ }
+{
     match code {
         0 => plain_own(at, 0, 0, n, m, place, table),
         1 => partner_own(s, at, 1, false, vars, n, m, place, table),
@@ -130,7 +184,10 @@ fn parts_own(s: &[u8], at: usize, code: u32, vars: u32, correlation: &[u8; 16], 
 }
 
 // What the activity at `at` says of itself.
-fn activity_own(s: &[u8], at: usize, handler: bool, depth: usize, vars: u32, correlation: &[u8; 16], n: usize, m: usize, table: &mut [u32; 11584]) -> Own {
+fn activity_own(s: &[u8], at: usize, handler: bool, depth: usize, vars: u32, correlation: &[u8; 16], n: usize, m: usize, table: &mut [u32; 11584]) -> Own
+    requires { ⌜ Base (now s) vars m at ⌝ }
+    ensures { λ r. ⌜ OwnRead (headIn vars (chosen 0 (now (correlation .entry))) (now (s .entry)) handler depth n at) at n m r (now (table .entry)) (now (table .exit)) ⌝ }
+{
     let c = code_at(s, at, handler, depth, n);
     match c {
         Field::Refused { number, place } => Own::Refused { number, place },
@@ -139,6 +196,9 @@ fn activity_own(s: &[u8], at: usize, handler: bool, depth: usize, vars: u32, cor
 }
 
 // What the arm, or the activity, at `at` says of itself.
-pub(crate) fn own_at(s: &[u8], at: usize, arm: bool, handler: bool, depth: usize, vars: u32, correlation: &[u8; 16], n: usize, m: usize, table: &mut [u32; 11584]) -> Own {
+pub(crate) fn own_at(s: &[u8], at: usize, arm: bool, handler: bool, depth: usize, vars: u32, correlation: &[u8; 16], n: usize, m: usize, table: &mut [u32; 11584]) -> Own
+    requires { ⌜ Base (now s) vars m at ⌝ }
+    ensures { λ r. ⌜ OwnRead (nodeHeadIn arm vars (chosen 0 (now (correlation .entry))) (now (s .entry)) handler depth n at) at n m r (now (table .entry)) (now (table .exit)) ⌝ }
+{
     if arm { arm_own(s, at, vars, n, m, table) } else { activity_own(s, at, handler, depth, vars, correlation, n, m, table) }
 }

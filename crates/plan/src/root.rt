@@ -4,9 +4,21 @@ use super::Field;
 use super::Out;
 use super::fields::{field_at, number_at};
 use super::tree::activities_at;
+ghost use Prim.Native.Nat.{_≤_};
+ghost use mathlib.Core.List.{[]};
+ghost use mathlib.Core.Path.{_≡_};
+ghost use Rattle.plan.specs.Answers.{fieldOf, CorrelationRead, RootRead, FlaggedRead, PlanRead, flaggedIn};
+ghost use Rattle.plan.specs.Fits.{NumberFits};
+ghost use Rattle.plan.specs.Nodes.{Base};
+ghost use Rattle.plan.specs.Read.{versionIn, correlationIn, rootIn, readPlan};
+ghost use Rattle.plan.specs.Store.{chosen};
+ghost use Rattle.plan.specs.Table.{blankTable, blankFlags};
 
 // The version, which is 1.
-fn version_at(s: &[u8]) -> Field {
+fn version_at(s: &[u8]) -> Field
+    ensures is { λ r. ⌜ r ≡ fieldOf (versionIn (now (s .entry))) ⌝ }
+    ensures fits { λ r. ⌜ NumberFits (now (s .entry)) 0 r ⌝ }
+{
     let read = number_at(s, 0);
     match read {
         Field::Refused { number: _, place: _ } => read,
@@ -20,7 +32,10 @@ fn version_at(s: &[u8]) -> Field {
 }
 
 // `count` correlation variables from `at` on, flagged; the next place.
-fn correlation_at(s: &[u8], at: usize, count: u32, vars: u32, flags: &mut [u8; 16]) -> Field {
+fn correlation_at(s: &[u8], at: usize, count: u32, vars: u32, flags: &mut [u8; 16]) -> Field
+    requires { ⌜ (vars ≤ 16) × (now flags ≡ blankFlags) ⌝ }
+    ensures { λ r. ⌜ CorrelationRead (correlationIn vars (now (s .entry)) count 0 [] at) count r (now (flags .exit)) ⌝ }
+{
     let mut left = count;
     let mut least: u32 = 0;
     let mut p = at;
@@ -43,7 +58,10 @@ fn correlation_at(s: &[u8], at: usize, count: u32, vars: u32, flags: &mut [u8; 1
 }
 
 // The root's body and the root's fault part.
-fn root_at(s: &[u8], at: usize, vars: u32, flags: &[u8; 16], table: &mut [u32; 11584]) -> Answer {
+fn root_at(s: &[u8], at: usize, vars: u32, flags: &[u8; 16], table: &mut [u32; 11584]) -> Answer
+    requires { ⌜ Base (now s) vars 0 at × (now table ≡ blankTable) ⌝ }
+    ensures { λ r. ⌜ RootRead (rootIn vars (chosen 0 (now (flags .entry))) (now (s .entry)) at) at r (now (table .exit)) ⌝ }
+{
     let parts = activities_at(s, at, false, false, true, 2, 16, vars, flags, 0, 0, table);
     match parts {
         Out::Refused { number, place } => Answer::Refused { number, place },
@@ -60,7 +78,10 @@ fn root_at(s: &[u8], at: usize, vars: u32, flags: &[u8; 16], table: &mut [u32; 1
 }
 
 // The correlation variables and what follows them.
-fn flagged_at(s: &[u8], at: usize, vars: u32, table: &mut [u32; 11584], flags: &mut [u8; 16]) -> Answer {
+fn flagged_at(s: &[u8], at: usize, vars: u32, table: &mut [u32; 11584], flags: &mut [u8; 16]) -> Answer
+    requires { ⌜ Base (now s) vars 0 at × ((now table ≡ blankTable) × (now flags ≡ blankFlags)) ⌝ }
+    ensures { λ r. ⌜ FlaggedRead (flaggedIn vars (now (s .entry)) at) at r (now (table .exit)) (now (flags .exit)) ⌝ }
+{
     let c = field_at(s, at, 0, vars + 1);
     match c {
         Field::Refused { number, place } => Answer::Refused { number, place },
@@ -75,7 +96,10 @@ fn flagged_at(s: &[u8], at: usize, vars: u32, table: &mut [u32; 11584], flags: &
 }
 
 // The whole plan, into a table and flags that are blank.
-pub(crate) fn plan_at(s: &[u8], table: &mut [u32; 11584], flags: &mut [u8; 16]) -> Answer {
+pub(crate) fn plan_at(s: &[u8], table: &mut [u32; 11584], flags: &mut [u8; 16]) -> Answer
+    requires { ⌜ (now table ≡ blankTable) × (now flags ≡ blankFlags) ⌝ }
+    ensures { λ r. ⌜ PlanRead (readPlan (now (s .entry))) r (now (table .exit)) (now (flags .exit)) ⌝ }
+{
     if 4096 < s.len() {
         return Answer::Refused { number: 1, place: 0 };
     }

@@ -1,16 +1,29 @@
 // Stores into the table of a plan: a row for each activity and arm, a flag for each partner that is received on, and expression nodes.
 ghost use Prim.Native.Nat.{_≤_, _<_};
+ghost use lib.Dec.{eqb};
 ghost use lib.ListN.{getD};
+ghost use mathlib.Core.Bool.{_||_};
 ghost use mathlib.Core.List.{[], _∷_};
 ghost use mathlib.Core.Path.{_≡_};
 ghost use Rattle.plan.specs.Table.{noted, putRow, putClose, putNode};
+
+// Whether an activity of this kind takes messages.
+fn receives(kind: u32) -> bool
+    ensures { λ r. ⌜ r ≡ (eqb kind 2 || eqb kind 12) ⌝ }
+{
+    match kind {
+        2 => true,
+        12 => true,
+        _ => false,
+    }
+}
 
 // Flags the partner of a receive or an arm.
 fn note(table: &mut [u32; 11584], kind: u32, partner: u32)
     requires { ⌜ partner < 64 ⌝ }
     ensures { λ _. ⌜ now (table .exit) ≡ noted kind partner (now (table .entry)) ⌝ }
 {
-    if kind == 2 || kind == 12 {
+    if receives(kind) {
         let p = partner as usize;
         table[3328 + p] = 1;
     }
@@ -62,7 +75,7 @@ pub(crate) fn write_node(table: &mut [u32; 11584], m: usize, code: u32, value: u
     requires { ⌜ m < 4096 ⌝ }
     ensures { λ _. ⌜ now (table .exit) ≡ putNode m code value (now (table .entry)) ⌝ }
 {
-    let b = m * 2;
-    table[3392 + b] = code;
-    table[3393 + b] = value;
+    let b = 3392 + m * 2;
+    table[b] = code;
+    table[b + 1] = value;
 }

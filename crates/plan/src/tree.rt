@@ -3,19 +3,37 @@ use super::Out;
 use super::Own;
 use super::owns::own_at;
 use super::table::close_row;
+ghost use Prim.Native.Nat.{_≤_, _<_};
+ghost use lib.Dec.{eqb};
+ghost use mathlib.Core.Bool.{_&&_, _||_};
+ghost use mathlib.Core.Path.{_≡_};
+ghost use Rattle.plan.specs.Answers.{ActRead, ActsRead};
+ghost use Rattle.plan.specs.Nodes.{Base, nodeIn};
+ghost use Rattle.plan.specs.Read.{starts, manyIn};
+ghost use Rattle.plan.specs.Store.{chosen};
+ghost use Rattle.plan.specs.Within.{levelsBelow};
 
 // The levels left for what stands within: an arm adds no depth.
-fn levels_below(arm: bool, depth: usize) -> usize {
-    if arm { depth } else { depth - 1 }
+fn levels_below(arm: bool, depth: usize) -> usize
+    ensures { λ r. ⌜ r ≡ levelsBelow arm depth ⌝ }
+{
+    if arm {
+        return depth;
+    }
+    if depth == 0 { 0 } else { depth - 1 }
 }
 
 // Whether those after the first within stand in a fault part or an undo part.
-fn later_of(kind: u32, handler: bool) -> bool {
+fn later_of(kind: u32, handler: bool) -> bool
+    ensures { λ r. ⌜ r ≡ (eqb kind 11 || handler) ⌝ }
+{
     if kind == 11 { true } else { handler }
 }
 
 // Whether an activity of this kind is a start form.
-fn starts_of(kind: u32, first: bool, every: bool) -> bool {
+fn starts_of(kind: u32, first: bool, every: bool) -> bool
+    ensures { λ r. ⌜ r ≡ starts kind first every ⌝ }
+{
     match kind {
         2 => true,
         8 => first,
@@ -26,12 +44,17 @@ fn starts_of(kind: u32, first: bool, every: bool) -> bool {
     }
 }
 
-fn both(a: bool, b: bool) -> bool {
+fn both(a: bool, b: bool) -> bool
+    ensures { λ r. ⌜ r ≡ (a && b) ⌝ }
+{
     if a { b } else { false }
 }
 
-// The activity, or the arm, with the number n at `at`, whose first node is m.
-fn activity_at(s: &[u8], at: usize, arm: bool, handler: bool, depth: usize, vars: u32, correlation: &[u8; 16], n: usize, m: usize, table: &mut [u32; 11584]) -> Out {
+// The activity, or the arm, with the number n at `at`; m is the number of the next expression node.
+fn activity_at(s: &[u8], at: usize, arm: bool, handler: bool, depth: usize, vars: u32, correlation: &[u8; 16], n: usize, m: usize, table: &mut [u32; 11584]) -> Out
+    requires { ⌜ Base (now s) vars m at ⌝ }
+    ensures { λ r. ⌜ ActRead (nodeIn arm depth vars (chosen 0 (now (correlation .entry))) (now (s .entry)) handler n at) at n m r (now (table .entry)) (now (table .exit)) ⌝ }
+{
     let own = own_at(s, at, arm, handler, depth, vars, correlation, n, m, table);
     match own {
         Own::Refused { number, place } => Out::Refused { number, place },
@@ -52,7 +75,10 @@ fn activity_at(s: &[u8], at: usize, arm: bool, handler: bool, depth: usize, vars
 }
 
 // `left` activities, or arms, from `at` on. `handler` is that of the first of them and `later` that of the others.
-pub(crate) fn activities_at(s: &[u8], at: usize, arms: bool, handler: bool, later: bool, left: u32, depth: usize, vars: u32, correlation: &[u8; 16], n: usize, m: usize, table: &mut [u32; 11584]) -> Out {
+pub(crate) fn activities_at(s: &[u8], at: usize, arms: bool, handler: bool, later: bool, left: u32, depth: usize, vars: u32, correlation: &[u8; 16], n: usize, m: usize, table: &mut [u32; 11584]) -> Out
+    requires { ⌜ Base (now s) vars m at × ((n ≤ 256) × (left ≤ 32)) ⌝ }
+    ensures { λ r. ⌜ ActsRead (manyIn (nodeIn arms depth vars (chosen 0 (now (correlation .entry))) (now (s .entry))) handler later left n at) at n m r (now (table .entry)) (now (table .exit)) ⌝ }
+{
     if left == 0 {
         return Out::Read { next: at, count: n, nodes: m, first: false, every: true };
     }

@@ -1,0 +1,2 @@
+mod Histories
+mod Seventeen

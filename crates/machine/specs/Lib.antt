@@ -1,0 +1,15 @@
+pub mod Lists
+pub mod State
+pub mod Limits
+pub mod Expression
+pub mod Event
+pub mod Begin
+pub mod Scope
+pub mod Acting
+pub mod Fit
+pub mod Offer
+pub mod Calls
+pub mod History
+pub mod Demand3
+pub mod Computing
+pub mod Starred

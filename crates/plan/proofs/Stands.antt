@@ -1,0 +1,349 @@
+-- Whatever is read of a plan stands there in its spelling. Assumes nothing.
+use native.Mathlib.Omega.{arith}
+use native.Mathlib.Decide.{decLt}
+use borrow.Author.Tests.{ltb-true, ltb-false, eqb-true}
+use mathlib.Core.Path.{_≡_, refl, sym, ap, _∙_}
+use mathlib.Core.Bool.{Bool, true, false, cond, _&&_, _||_}
+use mathlib.Core.List.{List, [], _∷_, _++_, append-assoc, append-nil}
+use Prim.Native.Nat.{ℕ, zero, suc, _+_, _≤_, _<_}
+use lib.ListN.{length, take, drop, length-append}
+use lib.Seq.{take-add, drop-drop}
+use lib.Dec.{ltb, leb, eqb}
+use Rattle.numbers.specs.Number.{numberAt}
+use Rattle.numbers.specs.Shortest.{Bytes, shortest}
+use Rattle.numbers.specs.declared.Number.{Number}
+use Rattle.numbers.specs.declared.Number.the-variants.{Value, Short, Bad}
+use Rattle.numbers.proofs.Laws.{read-ends, read-is-shortest, value-bounds, shortest-long}
+use Rattle.plan.specs.Found.{Found, foundNumber, numberIn, fieldIn, among}
+use Rattle.plan.specs.Tree.{Exp, constant, variable, binary, Own, empty, send, receive, set, raise, leave, choose, repeat, sequence, flow, pick, scope, arm, kind, Act, act, Plan, size, count}
+use Rattle.plan.specs.Spell.{spell, operationCode, expressionNumbers, exchangeNumbers, ownNumbers, actNumbers, actsNumbers, planNumbers}
+use Rattle.plan.specs.Read.{expressionCodeIn, operationOf, leafIn, expressionIn, variablesIn, tupleIn, Head, exchangeIn, armIn, partnerIn, withExpressionIn, setIn, listIn, codeIn, partsIn, headIn, manyIn, wholeIn, readArm, readsIn, laterOf, readAct, startForm, correlationIn, versionIn, rootIn, readPlan}
+use Rattle.plan.proofs.Finds.{Finds, finds-refused, finds-itself, finds-found, finds-cond, finds-code, finds-then, finds-both, finds-so, cond-case, code-case}
+
+-- From `at` to `next` the numbers ns stand in their spelling, each in the shortest form.
+pub record Stands (s : List ℕ) (at : ℕ) (ns : List ℕ) (next : ℕ) : Type 0 where
+  pub ends : next ≡ at + length (spell ns)
+  pub inside : at < next → next ≤ length s
+  pub spells : Bytes s → take (length (spell ns)) (drop at s) ≡ spell ns
+
+pub spell-append : (ns ms : List ℕ) → spell (ns ++ ms) ≡ spell ns ++ spell ms
+unfolding spell
+spell-append [] ms = refl
+spell-append (x ∷ ns) ms = rw (spell-append ns ms) (sym (append-assoc (shortest x) (spell ns) (spell ms)))
+
+pub stands-none : {s : List ℕ} {at : ℕ} → Stands s at [] at
+unfolding spell
+stands-none = record { ends = omega arith; inside = λ h. absurd (omega arith); spells = λ y. refl }
+
+module _ {s : List ℕ} {at p next : ℕ} {ns ms : List ℕ} where
+  pub stands-append : Stands s at ns p → Stands s p ms next → Stands s at (ns ++ ms) next
+  stands-append a b =
+      let l : length (spell (ns ++ ms)) ≡ length (spell ns) + length (spell ms) = ap length (spell-append ns ms) ∙ length-append (spell ns) (spell ms) in
+      record {
+        ends = omega (arith, a .ends, b .ends);
+        inside = λ h. elim (decLt p next) [ yes f ↦ b .inside f | no f ↦ omega (arith, f, a .inside (omega (arith, f, b .ends)), b .ends) ];
+        spells = λ y.
+            rw (l, take-add (length (spell ns)) (length (spell ms)) (drop at s), a .spells y, drop-drop, ← a .ends, b .spells y)
+            (sym (spell-append ns ms));
+      }
+
+-- numbers are no more than their bytes
+pub spell-long : (ns : List ℕ) → length ns ≤ length (spell ns)
+unfolding spell
+spell-long [] = omega arith
+spell-long (x ∷ ns) = rw length-append (omega (arith, shortest-long x .0, spell-long ns))
+
+module _ {s : List ℕ} {at next : ℕ} {ns : List ℕ} (a : Stands s at ns next) where
+  -- what stands from a place within the list on ends within it
+  pub stands-inside : at ≤ length s → next ≤ length s
+  stands-inside h = elim (decLt at next) [ yes f ↦ a .inside f | no f ↦ omega (arith, f) ]
+
+  -- numbers that stand somewhere end further on, and within the list
+  pub stands-forward : 0 < length ns → (at < next) × (next ≤ length s)
+  stands-forward h = let f : at < next = omega (arith, a .ends, spell-long ns) in (f, a .inside f)
+
+pub expression-some : (e : Exp) → 0 < length (expressionNumbers e)
+unfolding expressionNumbers
+expression-some (constant value) = omega arith
+expression-some (variable number) = omega arith
+expression-some (binary operation left right) = omega arith
+
+pub own-some : (own : Own) (within : ℕ) → 0 < length (ownNumbers own within)
+unfolding ownNumbers exchangeNumbers
+own-some empty within = omega arith
+own-some (send partner operation variables) within = omega arith
+own-some (receive partner operation variables) within = omega arith
+own-some (set v e) within = omega arith
+own-some raise within = omega arith
+own-some leave within = omega arith
+own-some (choose e) within = omega arith
+own-some (repeat e) within = omega arith
+own-some sequence within = omega arith
+own-some flow within = omega arith
+own-some pick within = omega arith
+own-some scope within = omega arith
+own-some (arm partner operation variables) within = omega arith
+
+pub act-some : (a : Act) → 0 < length (actNumbers a)
+unfolding actNumbers
+act-some (act own l) = rw length-append (omega (arith, own-some own (count l)))
+
+-- What is found is numbers that stand where it was read.
+abbrev pub Standing : {A : Type 0} → (s : List ℕ) (at : ℕ) → (A → List ℕ) → Found A → Type 0
+Standing s at numbers x = Finds (λ a next. Stands s at (numbers a) next) x
+
+abbrev pub one : ℕ → List ℕ
+one x = x ∷ []
+
+module _ (s : List ℕ) (at : ℕ) {v next : ℕ} (e : numberAt s at ≡ Value v next) where
+  value-stands : Stands s at (v ∷ []) next
+  unfolding spell
+  value-stands = record {
+    ends = rw append-nil (read-ends s at e);
+    inside = λ h. value-bounds s at e .inside;
+    spells = λ y. rw append-nil (read-is-shortest s at y e .spells);
+  }
+
+found-number : (s : List ℕ) (at : ℕ) (r : Number) → numberAt s at ≡ r → Standing s at one (foundNumber s at r)
+found-number s at Short e = finds-refused
+found-number s at Bad e = finds-refused
+found-number s at (Value v next) e = finds-found (value-stands s at e)
+
+pub number-stands : (s : List ℕ) (at : ℕ) → Standing s at one (numberIn s at)
+unfolding numberIn
+number-stands s at = found-number s at (numberAt s at) refl
+
+pub field-stands : (s : List ℕ) (least limit at : ℕ) → Standing s at one (fieldIn s least limit at)
+unfolding fieldIn
+field-stands s least limit at =
+    finds-then (number-stands s at)
+    (λ v next h. finds-cond (ltb v least || leb limit v) (λ t. finds-refused) (λ t. finds-found h))
+
+pub code-stands : (s : List ℕ) (at : ℕ) → Finds (λ code next. Stands s at (code ∷ []) next × (code ≤ 5)) (expressionCodeIn s at)
+unfolding expressionCodeIn
+code-stands s at =
+    finds-then (number-stands s at)
+    (λ code next h. finds-cond (ltb 5 code) (λ t. finds-refused) (λ t. finds-found (h, ltb-false 5 code t)))
+
+pub operation-code : (code : ℕ) → 2 ≤ code → code ≤ 5 → operationCode (operationOf code) ≡ code
+unfolding operationCode
+operation-code code l m =
+    code-case (λ o. operationCode o ≡ code) code 2 l sym
+    (λ l3. code-case (λ o. operationCode o ≡ code) code 3 l3 sym
+    (λ l4. code-case (λ o. operationCode o ≡ code) code 4 l4 sym (λ l5. omega arith)))
+
+-- a code is followed by numbers
+stands-code : {s : List ℕ} {at p next code : ℕ} {ms : List ℕ} (k : ℕ) → code ≡ k → Stands s at (code ∷ []) p → Stands s p ms next
+    → Stands s at (k ∷ ms) next
+stands-code k e a b = rw e at (stands-append a b)
+
+pub leaf-stands : (vars : ℕ) (s : List ℕ) (start at code : ℕ) → code < 2 → Stands s start (code ∷ []) at
+    → Standing s start expressionNumbers (leafIn vars s code at)
+unfolding leafIn expressionNumbers
+leaf-stands vars s start at code l c =
+    finds-code code 0 (omega arith)
+    (λ z. finds-then (number-stands s at) (λ v next h. finds-found (stands-code 0 z c h)))
+    (λ z. finds-then (field-stands s 0 vars at) (λ v next h. finds-found (stands-code 1 (omega arith) c h)))
+
+pub expression-stands : (depth vars : ℕ) (s : List ℕ) (at : ℕ) → Standing s at expressionNumbers (expressionIn depth vars s at)
+unfolding expressionIn expressionNumbers
+expression-stands zero vars s at = finds-then (code-stands s at) (λ code next h. finds-refused)
+expression-stands (suc depth) vars s at =
+    finds-then (code-stands s at)
+    (λ code next h. finds-cond (ltb code 2)
+    (λ t. leaf-stands vars s at next code (ltb-true code 2 t) (h .0))
+    (λ t. finds-then (expression-stands depth vars s next)
+    (λ left p a. finds-then (expression-stands depth vars s p)
+    (λ right q b. finds-found
+    (stands-code (operationCode (operationOf code)) (sym (operation-code code (ltb-false code 2 t) (h .1))) (h .0)
+    (stands-append a b))))))
+
+-- the numbers l stand from `start` on, `total` of them
+pub record Listed (s : List ℕ) (start total : ℕ) (l : List ℕ) (next : ℕ) : Type 0 where
+  pub all : Stands s start l next
+  pub many : length l ≡ total
+
+-- one more after those that are read
+snoc-length : (read : List ℕ) (v left total : ℕ) → length read + suc left ≡ total → length (read ++ (v ∷ [])) + left ≡ total
+snoc-length read v left total e = simp length-append (omega arith)
+
+pub variables-stand : (vars : ℕ) (once : Bool) (s : List ℕ) (left : ℕ) (read : List ℕ) (start at total : ℕ) → Stands s start read at
+    → length read + left ≡ total → Finds (Listed s start total) (variablesIn vars once s left read at)
+unfolding variablesIn
+variables-stand vars once s zero read start at total a e = finds-found (record { all = a; many = omega arith })
+variables-stand vars once s (suc left) read start at total a e =
+    finds-then (field-stands s 0 vars at)
+    (λ v next h. finds-cond (once && among v read) (λ t. finds-refused)
+    (λ t. variables-stand vars once s left (read ++ (v ∷ [])) start next total (stands-append a h) (snoc-length read v left total e)))
+
+pub correlation-stands : (vars : ℕ) (s : List ℕ) (left least : ℕ) (read : List ℕ) (start at total : ℕ) → Stands s start read at
+    → length read + left ≡ total → Finds (Listed s start total) (correlationIn vars s left least read at)
+unfolding correlationIn
+correlation-stands vars s zero least read start at total a e = finds-found (record { all = a; many = omega arith })
+correlation-stands vars s (suc left) least read start at total a e =
+    finds-then (field-stands s least vars at)
+    (λ v next h. correlation-stands vars s left (v + 1) (read ++ (v ∷ [])) start next total (stands-append a h) (snoc-length read v left total e))
+
+-- a count and that many numbers
+counted-stands : {s : List ℕ} {at p next total : ℕ} {l : List ℕ} → Stands s at (total ∷ []) p → Listed s p total l next
+    → Stands s at (length l ∷ l) next
+counted-stands h a = stands-code _ (sym (a .many)) h (a .all)
+
+pub tuple-stands : (vars : ℕ) (once : Bool) (s : List ℕ) (at : ℕ) → Standing s at (λ l. length l ∷ l) (tupleIn vars once s at)
+unfolding tupleIn
+tuple-stands vars once s at =
+    finds-then (field-stands s 1 5 at)
+    (λ k p h. finds-so (variables-stand vars once s k [] p p k stands-none (omega arith)) (λ l next a. counted-stands h a))
+
+-- the numbers of a head stand from `start` on
+abbrev pub headNumbers : Head → List ℕ
+headNumbers h = ownNumbers (h .own) (h .within)
+
+-- Each reader of a head's later parts: ns stand before what it reads, and the head's numbers are ns with these.
+module _ (vars : ℕ) (s : List ℕ) {start at : ℕ} (ns : List ℕ) (a : Stands s start ns at) where
+  pub exchange-stands : (once : Bool) (own : ℕ → List ℕ → Own) (within : ℕ)
+      → ((operation : ℕ) (variables : List ℕ) → ownNumbers (own operation variables) within ≡ ns ++ (operation ∷ length variables ∷ variables))
+      → Standing s start headNumbers (exchangeIn vars once s own within at)
+  unfolding exchangeIn
+  exchange-stands once own within e =
+      finds-then (field-stands s 0 64 at)
+      (λ operation p h. finds-then (tuple-stands vars once s p)
+      (λ variables q b. finds-found (rw (e operation variables) (stands-append a (stands-append h b)))))
+
+  pub with-expression-stands : (own : Exp → Own) (within : ℕ) → ((e : Exp) → ownNumbers (own e) within ≡ ns ++ expressionNumbers e)
+      → Standing s start headNumbers (withExpressionIn vars s own within at)
+  unfolding withExpressionIn
+  with-expression-stands own within f =
+      finds-then (expression-stands 8 vars s at) (λ e next h. finds-found (rw (f e) (stands-append a h)))
+
+  pub list-stands : (own : Own) (limit : ℕ) → ((k : ℕ) → ownNumbers own k ≡ ns ++ (k ∷ [])) → Standing s start headNumbers (listIn s own limit at)
+  unfolding listIn
+  list-stands own limit e = finds-then (field-stands s 1 limit at) (λ k next h. finds-found (rw (e k) (stands-append a h)))
+
+pub arm-stands : (vars : ℕ) (s : List ℕ) (n at : ℕ) → Standing s at headNumbers (armIn vars s n at)
+unfolding armIn ownNumbers exchangeNumbers
+arm-stands vars s n at =
+    finds-then (field-stands s 0 64 at)
+    (λ partner p h. finds-cond (leb 256 n) (λ t. finds-refused)
+    (λ t. exchange-stands vars s (partner ∷ []) h true (arm partner) 1 (λ operation variables. refl)))
+
+-- the parts after a code
+module _ (vars : ℕ) (cs s : List ℕ) {start at code : ℕ} (a : Stands s start (code ∷ []) at) where
+  pub partner-stands : (once : Bool) (own : ℕ → ℕ → List ℕ → Own)
+      → ((partner operation : ℕ) (variables : List ℕ) → ownNumbers (own partner operation variables) 0 ≡ code ∷ exchangeNumbers partner operation variables)
+      → Standing s start headNumbers (partnerIn vars once s own at)
+  unfolding partnerIn exchangeNumbers
+  partner-stands once own e =
+      finds-then (field-stands s 0 64 at)
+      (λ partner p h. exchange-stands vars s (code ∷ partner ∷ []) (stands-append a h) once (own partner) 0 (e partner))
+
+  pub set-stands : code ≡ 3 → Standing s start headNumbers (setIn vars cs s at)
+  unfolding setIn ownNumbers
+  set-stands e =
+      finds-then (field-stands s 0 vars at)
+      (λ v p h. finds-cond (among v cs) (λ t. finds-refused)
+      (λ t. with-expression-stands vars s (3 ∷ v ∷ []) (stands-code 3 e a h) (set v) 0 (λ x. refl)))
+
+  -- the table of codes
+  pub parts-stand : code ≤ 11 → Standing s start headNumbers (partsIn vars cs s code at)
+  unfolding partsIn ownNumbers
+  parts-stand m =
+      finds-code code 0 (omega arith) (λ e. finds-found (rw e at a))
+      (λ l. finds-code code 1 l (λ e. partner-stands false send (λ partner operation variables. rw e))
+      (λ l. finds-code code 2 l (λ e. partner-stands true receive (λ partner operation variables. rw e))
+      (λ l. finds-code code 3 l set-stands
+      (λ l. finds-code code 4 l (λ e. finds-found (rw e at a))
+      (λ l. finds-code code 5 l (λ e. finds-found (rw e at a))
+      (λ l. finds-code code 6 l (λ e. with-expression-stands vars s (code ∷ []) a choose 2 (λ x. rw e))
+      (λ l. finds-code code 7 l (λ e. with-expression-stands vars s (code ∷ []) a repeat 1 (λ x. rw e))
+      (λ l. finds-code code 8 l (λ e. list-stands vars s (code ∷ []) a sequence 33 (λ k. rw e))
+      (λ l. finds-code code 9 l (λ e. list-stands vars s (code ∷ []) a flow 33 (λ k. rw e))
+      (λ l. finds-code code 10 l (λ e. list-stands vars s (code ∷ []) a pick 9 (λ k. rw e))
+      (λ l. let e : code ≡ 11 = omega arith in finds-found (rw e at a))))))))))))
+
+pub head-stands : (vars : ℕ) (cs s : List ℕ) (handler : Bool) (depth n at : ℕ) → Standing s at headNumbers (headIn vars cs s handler depth n at)
+unfolding headIn codeIn
+head-stands vars cs s handler depth n at =
+    finds-then
+    (finds-then {Q = λ code next. Stands s at (code ∷ []) next × (code ≤ 11)} (number-stands s at)
+    (λ code next h. finds-cond (ltb 11 code) (λ t. finds-refused)
+    (λ t. finds-cond (handler && eqb code 11) (λ u. finds-refused)
+    (λ u. finds-cond (eqb depth 0 || leb 256 n) (λ w. finds-refused) (λ w. finds-found (h, ltb-false 11 code t))))))
+    (λ code next h. parts-stand vars cs s (h .0) (h .1))
+
+-- whatever a reader of an activity or arm finds stands where it was read
+abbrev pub Reads : List ℕ → (Bool → ℕ → ℕ → Found Act) → Type 0
+Reads s read = (handler : Bool) (n at : ℕ) → Standing s at actNumbers (read handler n at)
+
+pub many-count : (read : Bool → ℕ → ℕ → Found Act) (handler later : Bool) (left n at : ℕ)
+    → Finds (λ l next. count l ≡ left) (manyIn read handler later left n at)
+unfolding manyIn count
+many-count read handler later zero n at = finds-found refl
+many-count read handler later (suc left) n at =
+    finds-then (finds-itself (read handler n at))
+    (λ a p h. finds-then (many-count read later later left (n + size a) p) (λ l q e. finds-found (omega arith)))
+
+module _ (s : List ℕ) (read : Bool → ℕ → ℕ → Found Act) (r : Reads s read) where
+  pub many-stands : (handler later : Bool) (left n at : ℕ) → Standing s at actsNumbers (manyIn read handler later left n at)
+  unfolding manyIn actsNumbers
+  many-stands handler later zero n at = finds-found stands-none
+  many-stands handler later (suc left) n at =
+      finds-then (r handler n at)
+      (λ a p h. finds-then (many-stands later later left (n + size a) p) (λ l q m. finds-found (stands-append h m)))
+
+  pub whole-stands : (handler later : Bool) (n : ℕ) (h : Head) (start at : ℕ) → Stands s start (headNumbers h) at
+      → Standing s start actNumbers (wholeIn read handler later n h at)
+  unfolding actNumbers
+  whole-stands handler later n h start at a =
+      finds-then (finds-both (many-count read handler later (h .within) (n + 1) at) (many-stands handler later (h .within) (n + 1) at))
+      (λ l next m. finds-found (rw (m .0) (stands-append a (m .1))))
+
+  pub arm-act-stands : (vars : ℕ) → Reads s (readArm read vars s)
+  unfolding readArm
+  arm-act-stands vars handler n at =
+      finds-then (arm-stands vars s n at) (λ h next a. whole-stands handler handler n h at next a)
+
+  pub reads-stand : (arms : Bool) (vars : ℕ) → Reads s (cond arms (readArm read vars s) read)
+  reads-stand arms vars = cond-case (Reads s) arms (λ t. arm-act-stands vars) (λ t. r)
+
+pub act-stands : (depth vars : ℕ) (cs s : List ℕ) → Reads s (readAct depth vars cs s)
+unfolding readAct
+act-stands zero vars cs s handler n at = finds-then (head-stands vars cs s handler 0 n at) (λ h next a. finds-refused)
+act-stands (suc depth) vars cs s handler n at =
+    finds-then (head-stands vars cs s handler (suc depth) n at)
+    (λ h next a. whole-stands s (readsIn (h .own) (readAct depth vars cs s) vars s)
+    (reads-stand s (readAct depth vars cs s) (act-stands depth vars cs s) (eqb (kind (h .own)) 10) vars)
+    handler (laterOf (h .own) handler) n h at next a)
+
+-- a plan's numbers stand from 0 on, and nothing stands after them
+pub record PlanStands (s : List ℕ) (p : Plan) (next : ℕ) : Type 0 where
+  pub plan : Stands s 0 (planNumbers p) next
+  pub last : next ≡ length s
+
+pub root-stands : (vars : ℕ) (cs s : List ℕ) (at : ℕ) → Stands s 0 (1 ∷ vars ∷ length cs ∷ cs) at → Finds (PlanStands s) (rootIn vars cs s at)
+unfolding rootIn planNumbers
+root-stands vars cs s at h =
+    finds-then (act-stands 16 vars cs s false 0 at)
+    (λ body p b. finds-then (act-stands 16 vars cs s true (size body) p)
+    (λ fault q f. finds-cond (ltb q (length s)) (λ t. finds-refused)
+    (λ t. finds-cond (startForm body)
+    (λ u.
+    let w : Stands s 0 ((1 ∷ vars ∷ length cs ∷ cs) ++ (actNumbers body ++ actNumbers fault)) q = stands-append h (stands-append b f) in
+    finds-found (record { plan = w; last = omega (arith, stands-inside w (omega arith), ltb-false q (length s) t) }))
+    (λ u. finds-refused))))
+
+pub version-stands : (s : List ℕ) → Finds (λ version next. Stands s 0 (1 ∷ []) next) (versionIn s)
+unfolding versionIn
+version-stands s =
+    finds-then (number-stands s 0)
+    (λ version next h. finds-cond (eqb version 1) (λ t. finds-found (rw (eqb-true version 1 t) at h)) (λ t. finds-refused))
+
+pub plan-stands : (s : List ℕ) → Finds (PlanStands s) (readPlan s)
+unfolding readPlan
+plan-stands s =
+    finds-cond (ltb 4096 (length s)) (λ t. finds-refused)
+    (λ t. finds-then (version-stands s)
+    (λ version p v. finds-then (field-stands s 1 17 p)
+    (λ vars q w. finds-then (field-stands s 0 (vars + 1) q)
+    (λ k r h. finds-then (correlation-stands vars s k 0 [] r r k stands-none (omega arith))
+    (λ cs at c. root-stands vars cs s at (stands-append v (stands-append w (counted-stands h c))))))))
