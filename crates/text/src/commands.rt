@@ -5,8 +5,6 @@ use super::Verb;
 use super::decimals::decimal_of;
 use super::words::same;
 use super::words::word_at;
-ghost use Prim.Native.Nat.{_≤_};
-ghost use lib.ListN.{length};
 ghost use mathlib.Core.Path.{_≡_};
 ghost use Rattle.text.specs.Commands.{verbOf, showOf, commandOf, Inside};
 

@@ -1,8 +1,6 @@
 // Decimal numbers.
 use super::Decimal;
 ghost use Prim.Native.Nat.{_-_, _≤_};
-ghost use lib.Dec.{leb};
-ghost use mathlib.Core.Bool.{_&&_};
 ghost use mathlib.Core.Path.{_≡_};
 ghost use Rattle.text.specs.Decimals.{digit, decimalOf};
 ghost use Rattle.text.specs.Words.{all};

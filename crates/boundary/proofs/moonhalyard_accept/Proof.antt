@@ -1,6 +1,6 @@
 -- `boundary::moonhalyard_accept` meets its contract. Assumes nothing.
 use borrow.Author.Needs.{needs}
-use mathlib.Core.Path.{_≡_, ap, _∙_}
+use mathlib.Core.Path.{ap, _∙_}
 use Rattle.boundary.specs.Packed.{acceptNumber}
 use Rattle.boundary.proofs.moonhalyard_accept.Statement.{statement}
 use Rattle.boundary.proofs.moonhalyard_accept.Tie as tie

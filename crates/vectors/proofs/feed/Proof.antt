@@ -1,5 +1,4 @@
 -- `vectors::feed` is safe and ends. The measure is what is left of the chunk. Assumes nothing.
-use borrow.Author.Needs.{needs}
 use native.Mathlib.Omega.{arith}
 use Prim.Native.Nat.{_-_}
 use lib.ListN.{length}

@@ -3,11 +3,10 @@
 use borrow.Author.Needs.{needs}
 use native.Mathlib.Omega.{arith}
 use mathlib.Core.Path.{_≡_, refl, sym, ap, _∙_}
-use mathlib.Core.Bool.{Bool, true, false, not}
+use mathlib.Core.Bool.{not}
 use Prim.Native.Nat.{_≤_, _+_, _-_}
 use lib.ListN.{length, drop}
-use borrow.Author.Tests.{not-true, not-false}
-use Rattle.text.specs.Words.{run, blank, solid}
+use Rattle.text.specs.Words.{run, solid}
 use Rattle.text.proofs.Scans.{run-more, run-stop, run-end}
 use Rattle.text.proofs.words.after_solid.Statement.{statement}
 use Rattle.text.proofs.words.after_solid.Tie as tie
