@@ -15,3 +15,4 @@ pub mod Places
 pub mod Stores
 pub mod TupleReads
 pub mod HeadReads
+pub mod TreeReads

@@ -132,10 +132,10 @@ module _ (vars : ℕ) (s : List ℕ) (P : Head → Type 0) where
       (λ within next h. finds-found (f within (rw (le-leb 1 within (h .0), le-leb within most (omega (arith, h .1))))))
 
 -- what an activity or arm says of itself is within the limits
-abbrev HeadWithin : (vars : ℕ) (cs : List ℕ) (handler arms : Bool) → Head → Type 0
+abbrev pub HeadWithin : (vars : ℕ) (cs : List ℕ) (handler arms : Bool) → Head → Type 0
 HeadWithin vars cs handler arms h = ownWithin vars cs handler arms (h .own) (h .within) ≡ true
 
-arm-within : (vars : ℕ) (cs s : List ℕ) (handler : Bool) (n at : ℕ)
+pub arm-within : (vars : ℕ) (cs s : List ℕ) (handler : Bool) (n at : ℕ)
     → Finds (λ h next. (kind (h .own) ≡ 12) × HeadWithin vars cs handler true h) (armIn vars s n at)
 unfolding armIn ownWithin kind
 arm-within vars cs s handler n at =
@@ -175,7 +175,7 @@ module _ (vars : ℕ) (cs s : List ℕ) (handler : Bool) where
       (λ l. finds-code code 10 l (λ e. list-within vars s (HeadWithin vars cs handler false) pick 8 at (λ x h. h))
       (λ l. let e : code ≡ 11 = omega arith in finds-found (rw (sym (and-true handler) ∙ rw e at k)))))))))))))
 
-  head-within : (depth n at : ℕ) → Finds (λ h next. HeadWithin vars cs handler false h) (headIn vars cs s handler depth n at)
+  pub head-within : (depth n at : ℕ) → Finds (λ h next. HeadWithin vars cs handler false h) (headIn vars cs s handler depth n at)
   unfolding headIn codeIn
   head-within depth n at =
       finds-then

@@ -1,0 +1,383 @@
+-- The returns of the two functions that read an activity and a list of activities, and why their calls of each other end. Assumes nothing.
+use mathlib.Core.Path.{_≡_, refl, sym, ap, _∙_}
+use mathlib.Core.Bool.{Bool, true, false, cond, not, _&&_, _||_}
+use mathlib.Core.List.{List, []}
+use Prim.Native.Nat.{ℕ, zero, suc, _+_, _-_, _*_, _<_, _≤_}
+use native.Mathlib.Nat.{add-zero}
+use native.Mathlib.Numerals.{sub-one}
+use native.Mathlib.Omega.{arith}
+use borrow.Author.Tests.{leb-true, eqb-true}
+use lib.Dec.{eqb, leb}
+use lib.ListN.{length, length-append}
+use mir.Syntax.{w32, w64}
+use mir.Val.{Fits}
+use Rattle.plan.specs.declared.Out.{Out}
+use Rattle.plan.specs.declared.Own as code
+use Rattle.plan.specs.Answers.{OwnRead, outOf, Put, ActRead, outAll, PutAll, ActsRead}
+use Rattle.plan.specs.Fits.{weigh}
+use Rattle.plan.specs.Found.{Found, refused, found, andThen}
+use Rattle.plan.specs.Nodes.{Base, nodeHeadIn, nodeIn}
+use Rattle.plan.specs.Read.{Head, armIn, headIn, manyIn, wholeIn, readArm, readAct, laterOf, starts, startForm, firstStarts, everyStarts}
+use Rattle.plan.specs.Spell.{spell, ownNumbers, actNumbers, actsNumbers}
+use Rattle.plan.specs.Table.{putOwn, putClose, put, putAll, ownNodes, nodes, nodesAll}
+use Rattle.plan.specs.Tree.{Own, empty, send, receive, set, raise, leave, choose, repeat, sequence, flow, pick, scope, arm, kind, Act, act, Acts, none, more, size, sizes, count}
+use Rattle.plan.specs.Within.{levelsBelow, ownWithin}
+use Rattle.plan.proofs.Accepts.{both}
+use Rattle.plan.proofs.Bounds.{arm-numbered, own-nodes-spelled, act-nodes-spelled, many-numbered, reads-numbered, act-numbered, Numbered}
+use Rattle.plan.proofs.Finds.{Finds, finds-refused, finds-itself, finds-found, finds-cond, finds-then, finds-so, finds-both, cond-case}
+use Rattle.plan.proofs.Limits.{arm-within, head-within}
+use Rattle.plan.proofs.OneNumber.{then-found, then-refused}
+use Rattle.plan.proofs.OwnReads.{Said, own-got, own-no, code-numbered}
+use Rattle.plan.proofs.Stands.{Stands, Reads, headNumbers, stands-forward, stands-inside, own-some, act-some, arm-stands, head-stands, many-stands, many-count, reads-stand, act-stands}
+
+-- both of two tests hold
+halves : (a b : Bool) → (a && b) ≡ true → (a ≡ true) × (b ≡ true)
+halves a b e = both a b e (λ x y. (x, y))
+
+-- within the limits no more than 32 stand directly within
+few : (vars : ℕ) (cs : List ℕ) (handler arms : Bool) (own : Own) (within : ℕ) → ownWithin vars cs handler arms own within ≡ true → within ≤ 32
+unfolding ownWithin
+few vars cs handler arms empty within e = let z = eqb-true within 0 (halves (not arms) _ e .1) in omega arith
+few vars cs handler arms (send p o vs) within e = let z = eqb-true within 0 (halves (eqb within 0) _ (halves (not arms) _ e .1) .0) in omega arith
+few vars cs handler arms (receive p o vs) within e = let z = eqb-true within 0 (halves (eqb within 0) _ (halves (not arms) _ e .1) .0) in omega arith
+few vars cs handler arms (set v x) within e = let z = eqb-true within 0 (halves (eqb within 0) _ (halves (not arms) _ e .1) .0) in omega arith
+few vars cs handler arms raise within e = let z = eqb-true within 0 (halves (not arms) _ e .1) in omega arith
+few vars cs handler arms leave within e = let z = eqb-true within 0 (halves (not arms) _ e .1) in omega arith
+few vars cs handler arms (choose x) within e = let z = eqb-true within 2 (halves (eqb within 2) _ (halves (not arms) _ e .1) .0) in omega arith
+few vars cs handler arms (repeat x) within e = let z = eqb-true within 1 (halves (eqb within 1) _ (halves (not arms) _ e .1) .0) in omega arith
+few vars cs handler arms sequence within e = leb-true within 32 (halves (leb 1 within) _ (halves (not arms) _ e .1) .1)
+few vars cs handler arms flow within e = leb-true within 32 (halves (leb 1 within) _ (halves (not arms) _ e .1) .1)
+few vars cs handler arms pick within e = let z = leb-true within 8 (halves (leb 1 within) _ (halves (not arms) _ e .1) .1) in omega arith
+few vars cs handler arms scope within e = let z = eqb-true within 3 (halves (eqb within 3) _ (halves (not arms) _ e .1) .0) in omega arith
+few vars cs handler arms (arm p o vs) within e = let z = eqb-true within 1 (halves (eqb within 1) _ (halves arms _ e .1) .0) in omega arith
+
+-- What holds of the head of an activity, or of an arm, that was read.
+pub record Noded (arm : Bool) (depth n : ℕ) (h : Head) : Type 0 where
+  pub numbered : n < 256
+  pub few : h .within ≤ 32
+  pub falls : weigh (eqb (kind (h .own)) 10) (levelsBelow arm depth) + (1 + h .within) < weigh arm depth
+
+pos : (d : ℕ) → (d ≡ 0 → ⊥) → 0 < d
+pos zero z = absurd (z refl)
+pos (suc d) z = omega arith
+
+weigh-most : (arm : Bool) (depth : ℕ) → weigh arm depth ≤ depth * 128 + 64
+weigh-most true depth = omega arith
+weigh-most false depth = omega arith
+
+head-deep : (vars : ℕ) (cs s : List ℕ) (handler : Bool) (depth n at : ℕ) → Finds (λ h next. (depth ≡ 0 → ⊥) × (n < 256)) (headIn vars cs s handler depth n at)
+unfolding headIn
+head-deep vars cs s handler depth n at =
+    finds-then (code-numbered s handler depth n at) (λ code next c. finds-so (finds-itself _) (λ h q e. (c .deep, c .numbered)))
+
+pub node-noded : (arm : Bool) (vars : ℕ) (cs s : List ℕ) (handler : Bool) (depth n at : ℕ)
+    → Finds (λ h next. Noded arm depth n h) (nodeHeadIn arm vars cs s handler depth n at)
+node-noded true vars cs s handler depth n at =
+    finds-so (finds-both (arm-within vars cs s handler n at) (arm-numbered vars s n at))
+    (λ h next w. record {
+      numbered = w .1;
+      few = few vars cs handler true (h .own) (h .within) (w .0 .1);
+      falls = let f = few vars cs handler true (h .own) (h .within) (w .0 .1) in rw (w .0 .0) (omega arith);
+    })
+node-noded false vars cs s handler depth n at =
+    finds-so (finds-both (head-within vars cs s handler depth n at) (head-deep vars cs s handler depth n at))
+    (λ h next w. record {
+      numbered = w .1 .1;
+      few = few vars cs handler false (h .own) (h .within) (w .0);
+      falls =
+          let f = few vars cs handler false (h .own) (h .within) (w .0) in
+          omega (arith, weigh-most (eqb (kind (h .own)) 10) (depth - 1), pos depth (w .1 .0));
+    })
+
+pub node-stands : (arm : Bool) (vars : ℕ) (cs s : List ℕ) (handler : Bool) (depth n at : ℕ)
+    → Finds (λ h next. Stands s at (headNumbers h) next) (nodeHeadIn arm vars cs s handler depth n at)
+node-stands true vars cs s handler depth n at = arm-stands vars s n at
+node-stands false vars cs s handler depth n at = head-stands vars cs s handler depth n at
+
+-- one level of reading, where the head is read and where it is refused
+module _ (vars : ℕ) (cs s : List ℕ) (handler : Bool) (n at : ℕ) where
+  level-act : (depth : ℕ) {h : Head} {next : ℕ} → headIn vars cs s handler depth n at ≡ found h next
+      → readAct depth vars cs s handler n at
+      ≡ wholeIn (nodeIn (eqb (kind (h .own)) 10) (depth - 1) vars cs s) handler (laterOf (h .own) handler) n h next
+  unfolding readAct
+  level-act zero e = absurd (head-deep vars cs s handler 0 n at .holds e .0 refl)
+  level-act (suc depth) e = rw (sub-one (suc depth)) (then-found (headIn vars cs s handler (suc depth) n at) _ e)
+
+  level-arm : (depth : ℕ) {h : Head} {next : ℕ} → armIn vars s n at ≡ found h next
+      → readArm (readAct depth vars cs s) vars s handler n at
+      ≡ wholeIn (nodeIn (eqb (kind (h .own)) 10) depth vars cs s) handler (laterOf (h .own) handler) n h next
+  unfolding readArm
+  level-arm depth {h} e =
+      let k : kind (h .own) ≡ 12 = arm-within vars cs s handler n at .holds e .0 in
+      then-found (armIn vars s n at) _ e ∙ rw k
+
+  level : (arm : Bool) (depth : ℕ) {h : Head} {next : ℕ} → nodeHeadIn arm vars cs s handler depth n at ≡ found h next
+      → nodeIn arm depth vars cs s handler n at
+      ≡ wholeIn (nodeIn (eqb (kind (h .own)) 10) (levelsBelow arm depth) vars cs s) handler (laterOf (h .own) handler) n h next
+  level true depth e = level-arm depth e
+  level false depth e = level-act depth e
+
+  no-level : (arm : Bool) (depth : ℕ) {number place : ℕ} → nodeHeadIn arm vars cs s handler depth n at ≡ refused number place
+      → nodeIn arm depth vars cs s handler n at ≡ refused number place
+  unfolding readArm readAct
+  no-level true depth e = then-refused (armIn vars s n at) _ e
+  no-level false zero e = then-refused (headIn vars cs s handler 0 n at) _ e
+  no-level false (suc depth) e = then-refused (headIn vars cs s handler (suc depth) n at) _ e
+
+-- What reading comes to, where what is found is known, and the other way round.
+module _ (at n m : ℕ) where
+  act-refused : (g : Found Act) (t u : List ℕ) {number place : ℕ} → g ≡ refused number place → ActRead g at n m (Out.Refused number place) t u
+  unfolding outOf Put
+  act-refused g t u e = rw e (record { is = refl; put = tt })
+
+  act-no : (g : Found Act) {r : Out} {t u : List ℕ} {number place : ℕ} → ActRead g at n m r t u → r ≡ Out.Refused number place → g ≡ refused number place
+  unfolding outOf
+  act-no (refused x p) a o = let i = a .is in cc
+  act-no (found x q) a o = let i = a .is in let z : _≡_ {A = ℕ} 0 1 = cc in absurd (omega arith)
+
+  acts-refused : (g : Found Acts) (t u : List ℕ) {number place : ℕ} → g ≡ refused number place → ActsRead g at n m (Out.Refused number place) t u
+  unfolding outAll PutAll
+  acts-refused g t u e = rw e (record { is = refl; put = tt })
+
+  acts-no : (g : Found Acts) {r : Out} {t u : List ℕ} {number place : ℕ} → ActsRead g at n m r t u → r ≡ Out.Refused number place → g ≡ refused number place
+  unfolding outAll
+  acts-no (refused x p) a o = let i = a .is in cc
+  acts-no (found x q) a o = let i = a .is in let z : _≡_ {A = ℕ} 0 1 = cc in absurd (omega arith)
+
+-- an activity that was read, and a list
+pub record OneRead (g : Found Act) (at n m next end last : ℕ) (first every : Bool) (t u : List ℕ) : Type 0 where
+  pub a : Act
+  pub is : g ≡ found a next
+  pub end-is : end ≡ n + size a
+  pub last-is : last ≡ m + nodes a
+  pub first-is : first ≡ startForm a
+  pub put-is : u ≡ put a at n m t
+
+pub act-got : (at n m : ℕ) (g : Found Act) {r : Out} {t u : List ℕ} {next end last : ℕ} {first every : Bool} → ActRead g at n m r t u
+    → r ≡ Out.Read next end last first every → OneRead g at n m next end last first every t u
+unfolding outOf Put
+act-got at n m (refused x p) b o = let i = b .is in let z : _≡_ {A = ℕ} 0 1 = cc in absurd (omega arith)
+act-got at n m (found x q) {next = next} b o =
+    let i = b .is in
+    let j : next ≡ q = cc in
+    record { a = x; is = rw j; end-is = cc; last-is = cc; first-is = cc; put-is = b .put }
+
+pub record AllRead (g : Found Acts) (at n m next end last : ℕ) (first every : Bool) (t u : List ℕ) : Type 0 where
+  pub l : Acts
+  pub is : g ≡ found l next
+  pub end-is : end ≡ n + sizes l
+  pub last-is : last ≡ m + nodesAll l
+  pub first-is : first ≡ firstStarts l
+  pub every-is : every ≡ everyStarts l
+  pub put-is : u ≡ putAll l at n m t
+
+pub acts-got : (at n m : ℕ) (g : Found Acts) {r : Out} {t u : List ℕ} {next end last : ℕ} {first every : Bool} → ActsRead g at n m r t u
+    → r ≡ Out.Read next end last first every → AllRead g at n m next end last first every t u
+unfolding outAll PutAll
+acts-got at n m (refused x p) b o = let i = b .is in let z : _≡_ {A = ℕ} 0 1 = cc in absurd (omega arith)
+acts-got at n m (found x q) {next = next} b o =
+    let i = b .is in
+    let j : next ≡ q = cc in
+    record { l = x; is = rw j; end-is = cc; last-is = cc; first-is = cc; every-is = cc; put-is = b .put }
+
+-- whatever an activity or arm is read as stands where it was read, and keeps to 256 numbers
+node-reads : (arms : Bool) (depth vars : ℕ) (cs s : List ℕ) → Reads s (nodeIn arms depth vars cs s)
+node-reads arms depth vars cs s = reads-stand s (readAct depth vars cs s) (act-stands depth vars cs s) arms vars
+
+node-numbered : (arms : Bool) (depth vars : ℕ) (cs s : List ℕ) → Numbered (nodeIn arms depth vars cs s)
+node-numbered arms depth vars cs s = reads-numbered (readAct depth vars cs s) (act-numbered depth vars cs s) arms vars s
+
+-- a list that is not empty
+many-some : (read : Bool → ℕ → ℕ → Found Act) (handler later : Bool) (left n at : ℕ) → (left ≡ 0 → ⊥) → manyIn read handler later left n at
+    ≡ andThen (read handler n at) (λ a p. andThen (manyIn read later later (left - 1) (n + size a) p) (λ l q. found (more a l) q))
+unfolding manyIn
+many-some read handler later zero n at z = absurd (z refl)
+many-some read handler later (suc k) n at z = rw (sub-one (suc k))
+
+-- a list whose first and whose rest are read
+more-found : (g : Found Acts) (at n m : ℕ) (t u : List ℕ) (a : Act) (l : Acts) {stop end last : ℕ} {first both : Bool} → g ≡ found (more a l) stop
+    → end ≡ n + (size a + sizes l) → last ≡ m + (nodes a + nodesAll l) → first ≡ startForm a → both ≡ (startForm a && everyStarts l)
+    → u ≡ putAll l (at + length (spell (actNumbers a))) (n + size a) (m + nodes a) (put a at n m t) → ActsRead g at n m (Out.Read stop end last first both) t u
+unfolding outAll PutAll putAll nodesAll sizes firstStarts
+more-found g at n m t u a l e i j f v p = rw (e, i, j, f, v) (record { is = refl; put = p })
+
+same-both : {both first every x y : Bool} → both ≡ (first && every) → first ≡ x → every ≡ y → both ≡ (x && y)
+same-both w f e = w ∙ rw (f, e)
+
+put-on : (l : Acts) {a b n k m j : ℕ} {t u : List ℕ} → a ≡ b → n ≡ k → m ≡ j → t ≡ u → putAll l a n m t ≡ putAll l b k j u
+put-on l e f g h = rw (e, f, g, h)
+
+-- `activities_at`
+module _ (arms : Bool) (depth vars : ℕ) (cs s : List ℕ) (handler later : Bool) (left n at m : ℕ) (t : List ℕ) where
+  pub acts-none : left ≡ 0 → ActsRead (manyIn (nodeIn arms depth vars cs s) handler later left n at) at n m (Out.Read at n m false true) t t
+  unfolding manyIn outAll PutAll putAll nodesAll sizes firstStarts everyStarts
+  acts-none z = rw z (record { is = rw (add-zero n, add-zero m); put = refl })
+
+  module _ (z : left ≡ 0 → ⊥) where
+    some : manyIn (nodeIn arms depth vars cs s) handler later left n at
+        ≡ andThen (nodeIn arms depth vars cs s handler n at) (λ a p. andThen (manyIn (nodeIn arms depth vars cs s) later later (left - 1) (n + size a) p) (λ l q. found (more a l) q))
+    some = many-some (nodeIn arms depth vars cs s) handler later left n at z
+
+    pub acts-no-first : (u : List ℕ) {one : Out} {number place : ℕ} → ActRead (nodeIn arms depth vars cs s handler n at) at n m one t u
+        → one ≡ Out.Refused number place → ActsRead (manyIn (nodeIn arms depth vars cs s) handler later left n at) at n m one t u
+    acts-no-first u a o = rw o (acts-refused at n m _ t u (some ∙ then-refused _ _ (act-no at n m _ a o)))
+
+    module _ (t₁ u : List ℕ) {one rest : Out} {next end nodes₁ : ℕ} {first every₁ : Bool}
+        (a : ActRead (nodeIn arms depth vars cs s handler n at) at n m one t t₁) (o : one ≡ Out.Read next end nodes₁ first every₁)
+        (b : ActsRead (manyIn (nodeIn arms depth vars cs s) later later (left - 1) end next) next end nodes₁ rest t₁ u) where
+      pub acts-no-rest : {number place : ℕ} → rest ≡ Out.Refused number place
+          → ActsRead (manyIn (nodeIn arms depth vars cs s) handler later left n at) at n m rest t u
+      acts-no-rest r =
+          let x = act-got at n m _ a o in
+          let e = acts-no next end nodes₁ _ b r in
+          rw r (acts-refused at n m _ t u (some ∙ (then-found _ _ (x .is) ∙ then-refused _ _ (rw (x .end-is) at e))))
+
+      pub acts-more : {stop end₂ last : ℕ} {f every both : Bool} → rest ≡ Out.Read stop end₂ last f every → both ≡ (first && every)
+          → ActsRead (manyIn (nodeIn arms depth vars cs s) handler later left n at) at n m (Out.Read stop end₂ last first both) t u
+      acts-more {stop} {end₂} {last} {f} {every} {both} r w =
+          let x = act-got at n m _ a o in
+          let y = acts-got next end nodes₁ _ b r in
+          let k = node-reads arms depth vars cs s handler n at .holds (x .is) in
+          more-found _ at n m t u (x .a) (y .l)
+          (some ∙ (then-found _ _ (x .is) ∙ then-found _ _ (sym (ap (λ i. manyIn (nodeIn arms depth vars cs s) later later (left - 1) i next) (x .end-is)) ∙ y .is)))
+          (omega (arith, y .end-is, x .end-is)) (omega (arith, y .last-is, x .last-is)) (x .first-is) (same-both w (x .first-is) (y .every-is))
+          (y .put-is ∙ put-on (y .l) (k .ends) (x .end-is) (x .last-is) (x .put-is))
+
+-- an activity whose head and whose list are read
+whole-found : (g : Found Act) (at n m : ℕ) (t u : List ℕ) (own : Own) (l : Acts) {stop end last : ℕ} {start : Bool} → g ≡ found (act own l) stop
+    → end ≡ n + (1 + sizes l) → last ≡ m + (ownNodes own + nodesAll l) → start ≡ starts (kind own) (firstStarts l) (everyStarts l)
+    → u ≡ put (act own l) at n m t → ActRead g at n m (Out.Read stop end last start start) t u
+unfolding outOf Put size nodes startForm
+whole-found g at n m t u own l e i j s p = rw (e, i, j, s) (record { is = refl; put = p })
+
+same-start : {start first every f e : Bool} {k j : ℕ} → start ≡ starts k first every → k ≡ j → first ≡ f → every ≡ e → start ≡ starts j f e
+same-start w i f e = w ∙ rw (i, f, e)
+
+put-whole : (own : Own) (l : Acts) (at n m : ℕ) (t : List ℕ) {next end stop nodes₁ within : ℕ} {t₁ t₂ u : List ℕ} → within ≡ count l
+    → next ≡ at + length (spell (ownNumbers own within)) → nodes₁ ≡ m + ownNodes own → t₁ ≡ putOwn own at n m t
+    → end ≡ n + 1 + sizes l → stop ≡ next + length (spell (actsNumbers l)) → t₂ ≡ putAll l next (n + 1) nodes₁ t₁ → u ≡ putClose n end stop t₂
+    → u ≡ put (act own l) at n m t
+unfolding put
+put-whole own l at n m t c e j w i s p q = q ∙ rw (i, s, p, j, w, e, c)
+
+-- `activity_at`
+module _ (arm : Bool) (depth vars : ℕ) (cs s : List ℕ) (handler : Bool) (n at m : ℕ) (t : List ℕ) where
+  pub act-no-own : (u : List ℕ) {own : code.Own} {number place : ℕ} → OwnRead (nodeHeadIn arm vars cs s handler depth n at) at n m own t u
+      → own ≡ code.Own.Refused number place → ActRead (nodeIn arm depth vars cs s handler n at) at n m (Out.Refused number place) t u
+  act-no-own u a o = act-refused at n m _ t u (no-level vars cs s handler n at arm depth (own-no _ at n m a o))
+
+  module _ (t₁ t₂ : List ℕ) {own : code.Own} {k within next nodes₁ : ℕ} {later : Bool} {below : ℕ} {all : Out}
+      (a : OwnRead (nodeHeadIn arm vars cs s handler depth n at) at n m own t t₁) (o : own ≡ code.Own.Read k within next nodes₁)
+      (i : later ≡ (eqb k 11 || handler)) (j : below ≡ levelsBelow arm depth)
+      (b : ActsRead (manyIn (nodeIn (eqb k 10) below vars cs s) handler later within (n + 1) next) next (n + 1) nodes₁ all t₁ t₂) where
+    x : Said (nodeHeadIn arm vars cs s handler depth n at) at n m k within next nodes₁ t t₁
+    x = own-got _ at n m a o
+
+    -- the list that the code reads is the one that the definition reads
+    list : (h : Head) → k ≡ kind (h .own) → within ≡ h .within
+        → manyIn (nodeIn (eqb (kind (h .own)) 10) (levelsBelow arm depth) vars cs s) handler (laterOf (h .own) handler) (h .within) (n + 1) next
+        ≡ manyIn (nodeIn (eqb k 10) below vars cs s) handler later within (n + 1) next
+    list h e f = rw (i, j, e, f)
+
+    pub act-no-within : {number place : ℕ} → all ≡ Out.Refused number place → ActRead (nodeIn arm depth vars cs s handler n at) at n m all t t₂
+    act-no-within r =
+        rw r (act-refused at n m _ t t₂
+        (level vars cs s handler n at arm depth (x .is) ∙ then-refused _ _ (list (x .h) (x .same) (x .many) ∙ acts-no next (n + 1) nodes₁ _ b r)))
+
+    pub act-whole : (u : List ℕ) {stop end last : ℕ} {first every start : Bool} → all ≡ Out.Read stop end last first every
+        → u ≡ putClose n end stop t₂ → start ≡ starts k first every
+        → ActRead (nodeIn arm depth vars cs s handler n at) at n m (Out.Read stop end last start start) t u
+    act-whole u r w z =
+        let y = acts-got next (n + 1) nodes₁ _ b r in
+        let c = many-count (nodeIn (eqb k 10) below vars cs s) handler later within (n + 1) next .holds (y .is) in
+        let d = many-stands s (nodeIn (eqb k 10) below vars cs s) (node-reads (eqb k 10) below vars cs s) handler later within (n + 1) next .holds (y .is) in
+        let e = node-stands arm vars cs s handler depth n at .holds (x .is) in
+        whole-found _ at n m t u (x .h .own) (y .l)
+        (level vars cs s handler n at arm depth (x .is) ∙ then-found _ _ (list (x .h) (x .same) (x .many) ∙ y .is))
+        (omega (arith, y .end-is)) (omega (arith, y .last-is, x .count)) (same-start z (x .same) (y .first-is) (y .every-is))
+        (put-whole (x .h .own) (y .l) at n m t (sym (x .many) ∙ sym c) (e .ends) (x .count) (x .put) (y .end-is) (d .ends) (y .put-is) w)
+
+-- What the calls of the two functions may count on.
+falls-same : (b : Bool) (depth : ℕ) {below t₀ k j within w : ℕ} → below ≡ levelsBelow b depth → weigh b depth ≡ t₀ → k ≡ j → within ≡ w
+    → weigh (eqb j 10) (levelsBelow b depth) + (1 + w) < weigh b depth → weigh (eqb k 10) below + (1 + within) < t₀
+falls-same b depth e f i l h = rw (← f, e, i, l) h
+
+module _ (arm : Bool) (depth vars : ℕ) (cs s : List ℕ) (handler : Bool) (n at m : ℕ) {t t₁ : List ℕ} {own : code.Own} {k within next nodes₁ : ℕ}
+    (a : OwnRead (nodeHeadIn arm vars cs s handler depth n at) at n m own t t₁) (o : own ≡ code.Own.Read k within next nodes₁) where
+  said : Said (nodeHeadIn arm vars cs s handler depth n at) at n m k within next nodes₁ t t₁
+  said = own-got _ at n m a o
+
+  noded : Noded arm depth n (said .h)
+  noded = node-noded arm vars cs s handler depth n at .holds (said .is)
+
+  pub own-numbered : n < 256
+  own-numbered = noded .numbered
+
+  pub own-next : n + 1 ≤ 256
+  own-next = let l = noded .numbered in omega arith
+
+  pub own-next-fits : Fits w64 (n + 1)
+  own-next-fits = let l = noded .numbered in omega arith
+
+  pub own-few : within ≤ 32
+  own-few = omega (arith, said .many, noded .few)
+
+  pub own-base : Base s vars m at → Base s vars nodes₁ next
+  own-base b =
+      let e = node-stands arm vars cs s handler depth n at .holds (said .is) in
+      let f = stands-forward e (own-some (said .h .own) (said .h .within)) in
+      record {
+        short = b .short;
+        few = b .few;
+        behind = omega (arith, b .behind, said .count, e .ends, own-nodes-spelled (said .h .own) (said .h .within));
+        placed = omega (arith, b .short, f .1);
+      }
+
+  pub own-falls : (below t₀ : ℕ) → below ≡ levelsBelow arm depth → weigh arm depth ≡ t₀ → weigh (eqb k 10) below + (1 + within) < t₀
+  own-falls below t₀ e f = falls-same arm depth e f (said .same) (said .many) (noded .falls)
+
+module _ (arms : Bool) (depth vars : ℕ) (cs s : List ℕ) (handler : Bool) (n at m : ℕ) {t t₁ : List ℕ} {one : Out} {next end nodes₁ : ℕ} {first every : Bool}
+    (a : ActRead (nodeIn arms depth vars cs s handler n at) at n m one t t₁) (o : one ≡ Out.Read next end nodes₁ first every) where
+  read-one : OneRead (nodeIn arms depth vars cs s handler n at) at n m next end nodes₁ first every t t₁
+  read-one = act-got at n m _ a o
+
+  pub one-numbered : end ≤ 256
+  one-numbered = omega (arith, read-one .end-is, node-numbered arms depth vars cs s handler n at .holds (read-one .is))
+
+  pub one-base : Base s vars m at → Base s vars nodes₁ next
+  one-base b =
+      let e = node-reads arms depth vars cs s handler n at .holds (read-one .is) in
+      let f = stands-forward e (act-some (read-one .a)) in
+      record {
+        short = b .short;
+        few = b .few;
+        behind = omega (arith, b .behind, read-one .last-is, e .ends, act-nodes-spelled (read-one .a));
+        placed = omega (arith, b .short, f .1);
+      }
+
+module _ (arms : Bool) (depth vars : ℕ) (cs s : List ℕ) (handler later : Bool) (left n at m : ℕ) {t t₁ : List ℕ} {all : Out} {next end nodes₁ : ℕ}
+    {first every : Bool} (a : ActsRead (manyIn (nodeIn arms depth vars cs s) handler later left n at) at n m all t t₁)
+    (o : all ≡ Out.Read next end nodes₁ first every) where
+  read-all : AllRead (manyIn (nodeIn arms depth vars cs s) handler later left n at) at n m next end nodes₁ first every t t₁
+  read-all = acts-got at n m _ a o
+
+  pub all-numbered : n ≤ 256 → end ≤ 256
+  all-numbered h =
+      omega (arith, read-all .end-is, many-numbered (nodeIn arms depth vars cs s) (node-numbered arms depth vars cs s) handler later left n at h .holds (read-all .is))
+
+  pub all-base : Base s vars m at → at ≤ length s → next ≤ 4096
+  all-base b h =
+      let e = many-stands s (nodeIn arms depth vars cs s) (node-reads arms depth vars cs s) handler later left n at .holds (read-all .is) in
+      omega (arith, b .short, stands-inside e h)
+
+-- the place after an activity is one of a short slice's
+pub whole-stop : (b : Bool) (depth vars : ℕ) (cs s : List ℕ) (handler : Bool) (n at m : ℕ) {t t₁ t₂ : List ℕ} {own : code.Own} {k within next nodes₁ : ℕ}
+    → OwnRead (nodeHeadIn b vars cs s handler depth n at) at n m own t t₁ → own ≡ code.Own.Read k within next nodes₁
+    → (arms : Bool) (below : ℕ) (later : Bool) {all : Out} {stop end last : ℕ} {first every : Bool}
+    → ActsRead (manyIn (nodeIn arms below vars cs s) handler later within (n + 1) next) next (n + 1) nodes₁ all t₁ t₂ → all ≡ Out.Read stop end last first every
+    → Base s vars m at → stop ≤ 4096
+whole-stop b depth vars cs s handler n at m a o arms below later l r c =
+    let x = own-got _ at n m a o in
+    let e = node-stands b vars cs s handler depth n at .holds (x .is) in
+    all-base arms below vars cs s handler later _ (n + 1) _ _ l r (own-base b depth vars cs s handler n at m a o c)
+    (stands-forward e (own-some (x .h .own) (x .h .within)) .1)
