@@ -16,3 +16,5 @@ pub mod Stores
 pub mod TupleReads
 pub mod HeadReads
 pub mod TreeReads
+pub mod RootReads
+pub mod ShowReads

@@ -185,7 +185,7 @@ correlation-stands vars s (suc left) least read start at total a e =
     (λ v next h. correlation-stands vars s left (v + 1) (read ++ (v ∷ [])) start next total (stands-append a h) (snoc-length read v left total e))
 
 -- a count and that many numbers
-counted-stands : {s : List ℕ} {at p next total : ℕ} {l : List ℕ} → Stands s at (total ∷ []) p → Listed s p total l next
+pub counted-stands : {s : List ℕ} {at p next total : ℕ} {l : List ℕ} → Stands s at (total ∷ []) p → Listed s p total l next
     → Stands s at (length l ∷ l) next
 counted-stands h a = stands-code _ (sym (a .many)) h (a .all)
 

@@ -139,7 +139,7 @@ module _ (at n m : ℕ) where
   unfolding outAll PutAll
   acts-refused g t u e = rw e (record { is = refl; put = tt })
 
-  acts-no : (g : Found Acts) {r : Out} {t u : List ℕ} {number place : ℕ} → ActsRead g at n m r t u → r ≡ Out.Refused number place → g ≡ refused number place
+  pub acts-no : (g : Found Acts) {r : Out} {t u : List ℕ} {number place : ℕ} → ActsRead g at n m r t u → r ≡ Out.Refused number place → g ≡ refused number place
   unfolding outAll
   acts-no (refused x p) a o = let i = a .is in cc
   acts-no (found x q) a o = let i = a .is in let z : _≡_ {A = ℕ} 0 1 = cc in absurd (omega arith)

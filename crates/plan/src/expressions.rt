@@ -1,7 +1,8 @@
 // Reads expressions into the table's nodes.
 use super::Field;
 use super::Nodes;
-use super::fields::{field_at, number_at};
+use super::fields::field_at;
+use super::fields::number_at;
 use super::table::write_node;
 ghost use Prim.Native.Nat.{_≤_, _<_};
 ghost use lib.Dec.{eqb};
@@ -20,10 +21,16 @@ fn expression_code_at(s: &[u8], at: usize) -> Field
 {
     let read = number_at(s, at);
     match read {
-        Field::Refused { number: _, place: _ } => read,
+        Field::Refused {
+            number: _,
+            place: _,
+        } => read,
         Field::Got { value, next: _ } => {
             if 5 < value {
-                return Field::Refused { number: 4, place: at };
+                return Field::Refused {
+                    number: 4,
+                    place: at,
+                };
             }
             read
         }
@@ -35,11 +42,22 @@ fn leaf_at(s: &[u8], at: usize, code: u32, vars: u32) -> Field
     ensures is { λ r. ⌜ r ≡ fieldOf (cond (eqb code 0) (numberIn (now (s .entry)) at) (fieldIn (now (s .entry)) 0 vars at)) ⌝ }
     ensures fits { λ r. ⌜ NumberFits (now (s .entry)) at r ⌝ }
 {
-    if code == 0 { number_at(s, at) } else { field_at(s, at, 0, vars) }
+    if code == 0 {
+        number_at(s, at)
+    } else {
+        field_at(s, at, 0, vars)
+    }
 }
 
 // The expression at `at`, whose first node has the number m, where `depth` levels are left.
-pub(crate) fn expression_at(s: &[u8], at: usize, depth: usize, vars: u32, m: usize, table: &mut [u32; 11584]) -> Nodes
+pub(crate) fn expression_at(
+    s: &[u8],
+    at: usize,
+    depth: usize,
+    vars: u32,
+    m: usize,
+    table: &mut [u32; 11584],
+) -> Nodes
     requires { ⌜ (length (now s) ≤ 4096) × (m ≤ at) ⌝ }
     ensures { λ r. ⌜ NodesRead (expressionIn depth vars (now (s .entry)) at) m r (now (table .entry)) (now (table .exit)) ⌝ }
 {
@@ -48,7 +66,10 @@ pub(crate) fn expression_at(s: &[u8], at: usize, depth: usize, vars: u32, m: usi
         Field::Refused { number, place } => Nodes::Refused { number, place },
         Field::Got { value: code, next } => {
             if depth == 0 {
-                return Nodes::Refused { number: 6, place: at };
+                return Nodes::Refused {
+                    number: 6,
+                    place: at,
+                };
             }
             if code < 2 {
                 let v = leaf_at(s, next, code, vars);
@@ -56,13 +77,19 @@ pub(crate) fn expression_at(s: &[u8], at: usize, depth: usize, vars: u32, m: usi
                     Field::Refused { number, place } => Nodes::Refused { number, place },
                     Field::Got { value, next: after } => {
                         write_node(table, m, code, value);
-                        Nodes::Read { next: after, nodes: m + 1 }
+                        Nodes::Read {
+                            next: after,
+                            nodes: m + 1,
+                        }
                     }
                 }
             } else {
                 let left = expression_at(s, next, depth - 1, vars, m + 1, table);
                 match left {
-                    Nodes::Refused { number: _, place: _ } => left,
+                    Nodes::Refused {
+                        number: _,
+                        place: _,
+                    } => left,
                     Nodes::Read { next: p, nodes } => {
                         write_node(table, m, code, nodes as u32);
                         expression_at(s, p, depth - 1, vars, nodes, table)

@@ -1,7 +1,7 @@
 // The numbers of a plan, each with its rule, and tuples of variables.
-use numbers::Number;
 use super::Field;
 use super::Tuple;
+use numbers::Number;
 ghost use Prim.Native.Nat.{_≤_, _<_};
 ghost use lib.Dec.{eqb};
 ghost use mathlib.Core.Bool.{_&&_};
@@ -19,8 +19,14 @@ pub(crate) fn number_at(s: &[u8], at: usize) -> Field
 {
     let read = numbers::read(s, at);
     match read {
-        Number::Short => Field::Refused { number: 2, place: s.len() },
-        Number::Bad => Field::Refused { number: 3, place: at },
+        Number::Short => Field::Refused {
+            number: 2,
+            place: s.len(),
+        },
+        Number::Bad => Field::Refused {
+            number: 3,
+            place: at,
+        },
         Number::Value { value, next } => Field::Got { value, next },
     }
 }
@@ -32,13 +38,22 @@ pub(crate) fn field_at(s: &[u8], at: usize, least: u32, limit: u32) -> Field
 {
     let read = number_at(s, at);
     match read {
-        Field::Refused { number: _, place: _ } => read,
+        Field::Refused {
+            number: _,
+            place: _,
+        } => read,
         Field::Got { value, next: _ } => {
             if value < least {
-                return Field::Refused { number: 5, place: at };
+                return Field::Refused {
+                    number: 5,
+                    place: at,
+                };
             }
             if limit <= value {
-                return Field::Refused { number: 5, place: at };
+                return Field::Refused {
+                    number: 5,
+                    place: at,
+                };
             }
             read
         }
@@ -49,7 +64,10 @@ pub(crate) fn field_at(s: &[u8], at: usize, least: u32, limit: u32) -> Field
 fn no_tuple(number: u32, place: usize) -> Tuple
     ensures { λ r. ⌜ r ≡ tupleOf (refused number place) ⌝ }
 {
-    Tuple { out: Field::Refused { number, place }, variables: [0u32; 4] }
+    Tuple {
+        out: Field::Refused { number, place },
+        variables: [0u32; 4],
+    }
 }
 
 // Whether a variable that is flagged so may not stand here.
@@ -86,7 +104,13 @@ fn variables_at(s: &[u8], at: usize, count: u32, vars: u32, once: bool) -> Tuple
             }
         }
     }
-    Tuple { out: Field::Got { value: count, next: p }, variables }
+    Tuple {
+        out: Field::Got {
+            value: count,
+            next: p,
+        },
+        variables,
+    }
 }
 
 // A tuple: its count, 1 to 4, and its variables.

@@ -6,11 +6,12 @@ mod root;
 mod table;
 mod tree;
 
+ghost use Prim.Native.Nat.{_-_, _≤_};
+ghost use lib.ListN.{length, take, drop};
 ghost use mathlib.Core.Path.{_≡_};
 ghost use Rattle.plan.specs.Answers.{answerOf, tableFor, flagsFor};
 ghost use Rattle.plan.specs.Read.{readPlan};
 ghost use Rattle.plan.specs.Shown.{shownPart, shownRefusal};
-
 
 // What reading one number finds.
 pub enum Field {
@@ -32,21 +33,53 @@ pub enum Nodes {
 
 // What reading an activity's own numbers finds: its kind, how many stand directly within it, the next place and the number of the next node.
 pub enum Own {
-    Read { kind: u32, within: u32, next: usize, nodes: usize },
-    Refused { number: u32, place: usize },
+    Read {
+        kind: u32,
+        within: u32,
+        next: usize,
+        nodes: usize,
+    },
+    Refused {
+        number: u32,
+        place: usize,
+    },
 }
 
 // What reading activities finds: the next place, the number of the next activity and of the next node, and whether the first and whether
 // every one of them is a start form.
 pub enum Out {
-    Read { next: usize, count: usize, nodes: usize, first: bool, every: bool },
-    Refused { number: u32, place: usize },
+    Read {
+        next: usize,
+        count: usize,
+        nodes: usize,
+        first: bool,
+        every: bool,
+    },
+    Refused {
+        number: u32,
+        place: usize,
+    },
 }
 
 // Whether bytes are a plan.
 pub enum Answer {
-    Accepted { variables: u32, activities: usize, nodes: usize },
-    Refused { number: u32, place: usize },
+    Accepted {
+        variables: u32,
+        activities: usize,
+        nodes: usize,
+    },
+    Refused {
+        number: u32,
+        place: usize,
+    },
+}
+
+// The part of s from a to e.
+fn between(s: &[u8], a: usize, e: usize) -> &[u8]
+    requires { ⌜ (a ≤ e) × (e ≤ length (now s)) ⌝ }
+    ensures { λ r. ⌜ now r ≡ take (e - a) (drop a (now (s .entry))) ⌝ }
+{
+    &s[a..e]
 }
 
 // Activity or arm k of the plan s, as the very part of s that spells it; 16 where there is no activity k, a bad plan's own number.
@@ -61,17 +94,21 @@ pub fn show<'a>(s: &'a [u8], k: usize, refusal: &mut u32) -> &'a [u8]
     match a {
         Answer::Refused { number, place: _ } => {
             *refusal = number;
-            &s[0..0]
+            between(s, 0, 0)
         }
-        Answer::Accepted { variables: _, activities, nodes: _ } => {
+        Answer::Accepted {
+            variables: _,
+            activities,
+            nodes: _,
+        } => {
             if k < activities {
-                let start = table[k * 13 + 10] as usize;
-                let stop = table[k * 13 + 12] as usize;
+                let start = table::column(&table, k, 10);
+                let stop = table::column(&table, k, 12);
                 *refusal = 0;
-                &s[start..stop]
+                between(s, start, stop)
             } else {
                 *refusal = 16;
-                &s[0..0]
+                between(s, 0, 0)
             }
         }
     }
@@ -87,8 +124,15 @@ pub fn accept(s: &[u8], table: &mut [u32; 11584], correlation: &mut [u8; 16]) ->
     *correlation = [0u8; 16];
     let a = root::plan_at(s, table, correlation);
     match a {
-        Answer::Accepted { variables: _, activities: _, nodes: _ } => a,
-        Answer::Refused { number: _, place: _ } => {
+        Answer::Accepted {
+            variables: _,
+            activities: _,
+            nodes: _,
+        } => a,
+        Answer::Refused {
+            number: _,
+            place: _,
+        } => {
             *table = [0u32; 11584];
             *correlation = [0u8; 16];
             a

@@ -3,7 +3,9 @@ use super::Field;
 use super::Nodes;
 use super::Own;
 use super::expressions::expression_at;
-use super::fields::{field_at, number_at, tuple_at};
+use super::fields::field_at;
+use super::fields::number_at;
+use super::fields::tuple_at;
 use super::table::write_row;
 ghost use Prim.Native.Nat.{_≤_, _<_};
 ghost use lib.Dec.{eqb, leb};
@@ -18,32 +20,79 @@ ghost use Rattle.plan.specs.Store.{chosen};
 ghost use Rattle.plan.specs.Table.{row, putRow};
 
 // An activity whose own numbers are all read.
-fn plain_own(at: usize, kind: u32, within: u32, n: usize, m: usize, place: usize, table: &mut [u32; 11584]) -> Own
+fn plain_own(
+    at: usize,
+    kind: u32,
+    within: u32,
+    n: usize,
+    m: usize,
+    place: usize,
+    table: &mut [u32; 11584],
+) -> Own
     requires { ⌜ (n < 256) × (place ≤ 4096) ⌝ }
     ensures is { λ r. ⌜ r ≡ Own.Read kind within at m ⌝ }
     ensures put { λ _. ⌜ now (table .exit) ≡ putRow n (row kind 0 0 [] 0 0 place) (now (table .entry)) ⌝ }
 {
     write_row(table, n, kind, 0, 0, 0, [0u32; 4], 0, 0, place);
-    Own::Read { kind, within, next: at, nodes: m }
+    Own::Read {
+        kind,
+        within,
+        next: at,
+        nodes: m,
+    }
 }
 
 // Operation, count and variables.
-fn exchange_own(s: &[u8], at: usize, kind: u32, partner: u32, once: bool, within: u32, vars: u32, n: usize, m: usize, place: usize, table: &mut [u32; 11584]) -> Own
+fn exchange_own(
+    s: &[u8],
+    at: usize,
+    kind: u32,
+    partner: u32,
+    once: bool,
+    within: u32,
+    vars: u32,
+    n: usize,
+    m: usize,
+    place: usize,
+    table: &mut [u32; 11584],
+) -> Own
     requires { ⌜ Room (now s) vars n m place at × (IsMessage kind × (partner < 64)) ⌝ }
     ensures { λ r. ⌜ OwnRead (exchangeIn vars once (now (s .entry)) (messageOwn kind partner) within at) place n m r (now (table .entry)) (now (table .exit)) ⌝ }
 {
     let o = field_at(s, at, 0, 64);
     match o {
         Field::Refused { number, place } => Own::Refused { number, place },
-        Field::Got { value: operation, next } => {
+        Field::Got {
+            value: operation,
+            next,
+        } => {
             let t = tuple_at(s, next, vars, once);
             let out = t.out;
             match out {
                 Field::Refused { number, place } => Own::Refused { number, place },
-                Field::Got { value: count, next: after } => {
+                Field::Got {
+                    value: count,
+                    next: after,
+                } => {
                     let variables = t.variables;
-                    write_row(table, n, kind, partner, operation, count, variables, 0, 0, place);
-                    Own::Read { kind, within, next: after, nodes: m }
+                    write_row(
+                        table,
+                        n,
+                        kind,
+                        partner,
+                        operation,
+                        count,
+                        variables,
+                        0,
+                        0,
+                        place,
+                    );
+                    Own::Read {
+                        kind,
+                        within,
+                        next: after,
+                        nodes: m,
+                    }
                 }
             }
         }
@@ -51,14 +100,27 @@ fn exchange_own(s: &[u8], at: usize, kind: u32, partner: u32, once: bool, within
 }
 
 // A send or a receive.
-fn partner_own(s: &[u8], at: usize, kind: u32, once: bool, vars: u32, n: usize, m: usize, place: usize, table: &mut [u32; 11584]) -> Own
+fn partner_own(
+    s: &[u8],
+    at: usize,
+    kind: u32,
+    once: bool,
+    vars: u32,
+    n: usize,
+    m: usize,
+    place: usize,
+    table: &mut [u32; 11584],
+) -> Own
     requires { ⌜ Room (now s) vars n m place at × IsMessage kind ⌝ }
     ensures { λ r. ⌜ OwnRead (partnerIn vars once (now (s .entry)) (messageOwn kind) at) place n m r (now (table .entry)) (now (table .exit)) ⌝ }
 {
     let p = field_at(s, at, 0, 64);
     match p {
         Field::Refused { number, place } => Own::Refused { number, place },
-        Field::Got { value: partner, next } => exchange_own(s, next, kind, partner, once, 0, vars, n, m, place, table),
+        Field::Got {
+            value: partner,
+            next,
+        } => exchange_own(s, next, kind, partner, once, 0, vars, n, m, place, table),
     }
 }
 
@@ -70,9 +132,15 @@ fn arm_own(s: &[u8], at: usize, vars: u32, n: usize, m: usize, table: &mut [u32;
     let p = field_at(s, at, 0, 64);
     match p {
         Field::Refused { number, place } => Own::Refused { number, place },
-        Field::Got { value: partner, next } => {
+        Field::Got {
+            value: partner,
+            next,
+        } => {
             if 256 <= n {
-                return Own::Refused { number: 6, place: at };
+                return Own::Refused {
+                    number: 6,
+                    place: at,
+                };
             }
             exchange_own(s, next, 12, partner, true, 1, vars, n, m, at, table)
         }
@@ -80,7 +148,18 @@ fn arm_own(s: &[u8], at: usize, vars: u32, n: usize, m: usize, table: &mut [u32;
 }
 
 // An activity with an expression.
-fn expression_own(s: &[u8], at: usize, kind: u32, variable: u32, within: u32, vars: u32, n: usize, m: usize, place: usize, table: &mut [u32; 11584]) -> Own
+fn expression_own(
+    s: &[u8],
+    at: usize,
+    kind: u32,
+    variable: u32,
+    within: u32,
+    vars: u32,
+    n: usize,
+    m: usize,
+    place: usize,
+    table: &mut [u32; 11584],
+) -> Own
     requires { ⌜ Room (now s) vars n m place at × IsExpression kind variable ⌝ }
     ensures { λ r. ⌜ OwnRead (withExpressionIn vars (now (s .entry)) (expressionOwn kind variable) within at) place n m r (now (table .entry)) (now (table .exit)) ⌝ }
 {
@@ -89,13 +168,27 @@ fn expression_own(s: &[u8], at: usize, kind: u32, variable: u32, within: u32, va
         Nodes::Refused { number, place } => Own::Refused { number, place },
         Nodes::Read { next, nodes } => {
             write_row(table, n, kind, 0, 0, 0, [0u32; 4], variable, m, place);
-            Own::Read { kind, within, next, nodes }
+            Own::Read {
+                kind,
+                within,
+                next,
+                nodes,
+            }
         }
     }
 }
 
 // A set: a variable that is not for correlation, and an expression.
-fn set_own(s: &[u8], at: usize, vars: u32, correlation: &[u8; 16], n: usize, m: usize, place: usize, table: &mut [u32; 11584]) -> Own
+fn set_own(
+    s: &[u8],
+    at: usize,
+    vars: u32,
+    correlation: &[u8; 16],
+    n: usize,
+    m: usize,
+    place: usize,
+    table: &mut [u32; 11584],
+) -> Own
     requires { ⌜ Room (now s) vars n m place at ⌝ }
     ensures { λ r. ⌜ OwnRead (setIn vars (chosen 0 (now (correlation .entry))) (now (s .entry)) at) place n m r (now (table .entry)) (now (table .exit)) ⌝ }
 {
@@ -106,7 +199,10 @@ fn set_own(s: &[u8], at: usize, vars: u32, correlation: &[u8; 16], n: usize, m: 
             let i = value as usize;
             let flag = correlation[i];
             if flag == 1 {
-                return Own::Refused { number: 5, place: at };
+                return Own::Refused {
+                    number: 5,
+                    place: at,
+                };
             }
             expression_own(s, next, 3, value, 0, vars, n, m, place, table)
         }
@@ -114,7 +210,16 @@ fn set_own(s: &[u8], at: usize, vars: u32, correlation: &[u8; 16], n: usize, m: 
 }
 
 // A list of activities or arms: a count below `limit`.
-fn list_own(s: &[u8], at: usize, kind: u32, limit: u32, n: usize, m: usize, place: usize, table: &mut [u32; 11584]) -> Own
+fn list_own(
+    s: &[u8],
+    at: usize,
+    kind: u32,
+    limit: u32,
+    n: usize,
+    m: usize,
+    place: usize,
+    table: &mut [u32; 11584],
+) -> Own
     requires { ⌜ IsList kind × ((n < 256) × (place ≤ 4096)) ⌝ }
     ensures { λ r. ⌜ OwnRead (listIn (now (s .entry)) (listOwn kind) limit at) place n m r (now (table .entry)) (now (table .exit)) ⌝ }
 {
@@ -146,16 +251,28 @@ fn code_at(s: &[u8], at: usize, handler: bool, depth: usize, n: usize) -> Field
 {
     let read = number_at(s, at);
     match read {
-        Field::Refused { number: _, place: _ } => read,
+        Field::Refused {
+            number: _,
+            place: _,
+        } => read,
         Field::Got { value, next: _ } => {
             if 11 < value {
-                return Field::Refused { number: 4, place: at };
+                return Field::Refused {
+                    number: 4,
+                    place: at,
+                };
             }
             if misplaced(value, handler) {
-                return Field::Refused { number: 8, place: at };
+                return Field::Refused {
+                    number: 8,
+                    place: at,
+                };
             }
             if overrun(depth, n) {
-                return Field::Refused { number: 6, place: at };
+                return Field::Refused {
+                    number: 6,
+                    place: at,
+                };
             }
             read
         }
@@ -163,7 +280,17 @@ fn code_at(s: &[u8], at: usize, handler: bool, depth: usize, n: usize) -> Field
 }
 
 // The parts of an activity by its code.
-fn parts_own(s: &[u8], at: usize, code: u32, vars: u32, correlation: &[u8; 16], n: usize, m: usize, place: usize, table: &mut [u32; 11584]) -> Own
+fn parts_own(
+    s: &[u8],
+    at: usize,
+    code: u32,
+    vars: u32,
+    correlation: &[u8; 16],
+    n: usize,
+    m: usize,
+    place: usize,
+    table: &mut [u32; 11584],
+) -> Own
     requires { ⌜ Room (now s) vars n m place at ⌝ }
     ensures { λ r. ⌜ OwnRead (partsIn vars (chosen 0 (now (correlation .entry))) (now (s .entry)) code at) place n m r (now (table .entry)) (now (table .exit)) ⌝ }
 {
@@ -184,21 +311,56 @@ fn parts_own(s: &[u8], at: usize, code: u32, vars: u32, correlation: &[u8; 16], 
 }
 
 // What the activity at `at` says of itself.
-fn activity_own(s: &[u8], at: usize, handler: bool, depth: usize, vars: u32, correlation: &[u8; 16], n: usize, m: usize, table: &mut [u32; 11584]) -> Own
+fn activity_own(
+    s: &[u8],
+    at: usize,
+    handler: bool,
+    depth: usize,
+    vars: u32,
+    correlation: &[u8; 16],
+    n: usize,
+    m: usize,
+    table: &mut [u32; 11584],
+) -> Own
     requires { ⌜ Base (now s) vars m at ⌝ }
     ensures { λ r. ⌜ OwnRead (headIn vars (chosen 0 (now (correlation .entry))) (now (s .entry)) handler depth n at) at n m r (now (table .entry)) (now (table .exit)) ⌝ }
 {
     let c = code_at(s, at, handler, depth, n);
     match c {
         Field::Refused { number, place } => Own::Refused { number, place },
-        Field::Got { value: code, next } => parts_own(s, next, code, vars, correlation, n, m, at, table),
+        Field::Got { value: code, next } => parts_own(
+            s,
+            next,
+            code,
+            vars,
+            correlation,
+            n,
+            m,
+            at,
+            table,
+        ),
     }
 }
 
 // What the arm, or the activity, at `at` says of itself.
-pub(crate) fn own_at(s: &[u8], at: usize, arm: bool, handler: bool, depth: usize, vars: u32, correlation: &[u8; 16], n: usize, m: usize, table: &mut [u32; 11584]) -> Own
+pub(crate) fn own_at(
+    s: &[u8],
+    at: usize,
+    arm: bool,
+    handler: bool,
+    depth: usize,
+    vars: u32,
+    correlation: &[u8; 16],
+    n: usize,
+    m: usize,
+    table: &mut [u32; 11584],
+) -> Own
     requires { ⌜ Base (now s) vars m at ⌝ }
     ensures { λ r. ⌜ OwnRead (nodeHeadIn arm vars (chosen 0 (now (correlation .entry))) (now (s .entry)) handler depth n at) at n m r (now (table .entry)) (now (table .exit)) ⌝ }
 {
-    if arm { arm_own(s, at, vars, n, m, table) } else { activity_own(s, at, handler, depth, vars, correlation, n, m, table) }
+    if arm {
+        arm_own(s, at, vars, n, m, table)
+    } else {
+        activity_own(s, at, handler, depth, vars, correlation, n, m, table)
+    }
 }

@@ -2,7 +2,8 @@
 use super::Answer;
 use super::Field;
 use super::Out;
-use super::fields::{field_at, number_at};
+use super::fields::field_at;
+use super::fields::number_at;
 use super::tree::activities_at;
 ghost use Prim.Native.Nat.{_≤_};
 ghost use mathlib.Core.List.{[]};
@@ -21,12 +22,18 @@ fn version_at(s: &[u8]) -> Field
 {
     let read = number_at(s, 0);
     match read {
-        Field::Refused { number: _, place: _ } => read,
+        Field::Refused {
+            number: _,
+            place: _,
+        } => read,
         Field::Got { value, next: _ } => {
             if value == 1 {
                 return read;
             }
-            Field::Refused { number: 4, place: 0 }
+            Field::Refused {
+                number: 4,
+                place: 0,
+            }
         }
     }
 }
@@ -42,7 +49,10 @@ fn correlation_at(s: &[u8], at: usize, count: u32, vars: u32, flags: &mut [u8; 1
     while left > 0 {
         let f = field_at(s, p, least, vars);
         match f {
-            Field::Refused { number: _, place: _ } => {
+            Field::Refused {
+                number: _,
+                place: _,
+            } => {
                 return f;
             }
             Field::Got { value, next } => {
@@ -54,7 +64,10 @@ fn correlation_at(s: &[u8], at: usize, count: u32, vars: u32, flags: &mut [u8; 1
             }
         }
     }
-    Field::Got { value: count, next: p }
+    Field::Got {
+        value: count,
+        next: p,
+    }
 }
 
 // The root's body and the root's fault part.
@@ -65,20 +78,42 @@ fn root_at(s: &[u8], at: usize, vars: u32, flags: &[u8; 16], table: &mut [u32; 1
     let parts = activities_at(s, at, false, false, true, 2, 16, vars, flags, 0, 0, table);
     match parts {
         Out::Refused { number, place } => Answer::Refused { number, place },
-        Out::Read { next, count, nodes, first, every: _ } => {
+        Out::Read {
+            next,
+            count,
+            nodes,
+            first,
+            every: _,
+        } => {
             if next < s.len() {
-                return Answer::Refused { number: 9, place: next };
+                return Answer::Refused {
+                    number: 9,
+                    place: next,
+                };
             }
             if first {
-                return Answer::Accepted { variables: vars, activities: count, nodes };
+                return Answer::Accepted {
+                    variables: vars,
+                    activities: count,
+                    nodes,
+                };
             }
-            Answer::Refused { number: 7, place: at }
+            Answer::Refused {
+                number: 7,
+                place: at,
+            }
         }
     }
 }
 
 // The correlation variables and what follows them.
-fn flagged_at(s: &[u8], at: usize, vars: u32, table: &mut [u32; 11584], flags: &mut [u8; 16]) -> Answer
+fn flagged_at(
+    s: &[u8],
+    at: usize,
+    vars: u32,
+    table: &mut [u32; 11584],
+    flags: &mut [u8; 16],
+) -> Answer
     requires { ⌜ Base (now s) vars 0 at × ((now table ≡ blankTable) × (now flags ≡ blankFlags)) ⌝ }
     ensures { λ r. ⌜ FlaggedRead (flaggedIn vars (now (s .entry)) at) at r (now (table .exit)) (now (flags .exit)) ⌝ }
 {
@@ -89,7 +124,10 @@ fn flagged_at(s: &[u8], at: usize, vars: u32, table: &mut [u32; 11584], flags: &
             let f = correlation_at(s, next, count, vars, flags);
             match f {
                 Field::Refused { number, place } => Answer::Refused { number, place },
-                Field::Got { value: _, next: body } => root_at(s, body, vars, flags, table),
+                Field::Got {
+                    value: _,
+                    next: body,
+                } => root_at(s, body, vars, flags, table),
             }
         }
     }
@@ -101,7 +139,10 @@ pub(crate) fn plan_at(s: &[u8], table: &mut [u32; 11584], flags: &mut [u8; 16]) 
     ensures { λ r. ⌜ PlanRead (readPlan (now (s .entry))) r (now (table .exit)) (now (flags .exit)) ⌝ }
 {
     if 4096 < s.len() {
-        return Answer::Refused { number: 1, place: 0 };
+        return Answer::Refused {
+            number: 1,
+            place: 0,
+        };
     }
     let version = version_at(s);
     match version {
@@ -110,7 +151,10 @@ pub(crate) fn plan_at(s: &[u8], table: &mut [u32; 11584], flags: &mut [u8; 16]) 
             let v = field_at(s, next, 1, 17);
             match v {
                 Field::Refused { number, place } => Answer::Refused { number, place },
-                Field::Got { value: vars, next: after } => flagged_at(s, after, vars, table, flags),
+                Field::Got {
+                    value: vars,
+                    next: after,
+                } => flagged_at(s, after, vars, table, flags),
             }
         }
     }

@@ -51,23 +51,67 @@ fn both(a: bool, b: bool) -> bool
 }
 
 // The activity, or the arm, with the number n at `at`; m is the number of the next expression node.
-fn activity_at(s: &[u8], at: usize, arm: bool, handler: bool, depth: usize, vars: u32, correlation: &[u8; 16], n: usize, m: usize, table: &mut [u32; 11584]) -> Out
+fn activity_at(
+    s: &[u8],
+    at: usize,
+    arm: bool,
+    handler: bool,
+    depth: usize,
+    vars: u32,
+    correlation: &[u8; 16],
+    n: usize,
+    m: usize,
+    table: &mut [u32; 11584],
+) -> Out
     requires { ⌜ Base (now s) vars m at ⌝ }
     ensures { λ r. ⌜ ActRead (nodeIn arm depth vars (chosen 0 (now (correlation .entry))) (now (s .entry)) handler n at) at n m r (now (table .entry)) (now (table .exit)) ⌝ }
 {
     let own = own_at(s, at, arm, handler, depth, vars, correlation, n, m, table);
     match own {
         Own::Refused { number, place } => Out::Refused { number, place },
-        Own::Read { kind, within, next, nodes } => {
+        Own::Read {
+            kind,
+            within,
+            next,
+            nodes,
+        } => {
             let later = later_of(kind, handler);
             let below = levels_below(arm, depth);
-            let all = activities_at(s, next, kind == 10, handler, later, within, below, vars, correlation, n + 1, nodes, table);
+            let all = activities_at(
+                s,
+                next,
+                kind == 10,
+                handler,
+                later,
+                within,
+                below,
+                vars,
+                correlation,
+                n + 1,
+                nodes,
+                table,
+            );
             match all {
-                Out::Refused { number: _, place: _ } => all,
-                Out::Read { next: stop, count: end, nodes: last, first, every } => {
+                Out::Refused {
+                    number: _,
+                    place: _,
+                } => all,
+                Out::Read {
+                    next: stop,
+                    count: end,
+                    nodes: last,
+                    first,
+                    every,
+                } => {
                     close_row(table, n, end, stop);
                     let start = starts_of(kind, first, every);
-                    Out::Read { next: stop, count: end, nodes: last, first: start, every: start }
+                    Out::Read {
+                        next: stop,
+                        count: end,
+                        nodes: last,
+                        first: start,
+                        every: start,
+                    }
                 }
             }
         }
@@ -75,21 +119,77 @@ fn activity_at(s: &[u8], at: usize, arm: bool, handler: bool, depth: usize, vars
 }
 
 // `left` activities, or arms, from `at` on. `handler` is that of the first of them and `later` that of the others.
-pub(crate) fn activities_at(s: &[u8], at: usize, arms: bool, handler: bool, later: bool, left: u32, depth: usize, vars: u32, correlation: &[u8; 16], n: usize, m: usize, table: &mut [u32; 11584]) -> Out
+pub(crate) fn activities_at(
+    s: &[u8],
+    at: usize,
+    arms: bool,
+    handler: bool,
+    later: bool,
+    left: u32,
+    depth: usize,
+    vars: u32,
+    correlation: &[u8; 16],
+    n: usize,
+    m: usize,
+    table: &mut [u32; 11584],
+) -> Out
     requires { ⌜ Base (now s) vars m at × ((n ≤ 256) × (left ≤ 32)) ⌝ }
     ensures { λ r. ⌜ ActsRead (manyIn (nodeIn arms depth vars (chosen 0 (now (correlation .entry))) (now (s .entry))) handler later left n at) at n m r (now (table .entry)) (now (table .exit)) ⌝ }
 {
     if left == 0 {
-        return Out::Read { next: at, count: n, nodes: m, first: false, every: true };
+        return Out::Read {
+            next: at,
+            count: n,
+            nodes: m,
+            first: false,
+            every: true,
+        };
     }
     let one = activity_at(s, at, arms, handler, depth, vars, correlation, n, m, table);
     match one {
-        Out::Refused { number: _, place: _ } => one,
-        Out::Read { next, count, nodes, first, every: _ } => {
-            let rest = activities_at(s, next, arms, later, later, left - 1, depth, vars, correlation, count, nodes, table);
+        Out::Refused {
+            number: _,
+            place: _,
+        } => one,
+        Out::Read {
+            next,
+            count,
+            nodes,
+            first,
+            every: _,
+        } => {
+            let rest = activities_at(
+                s,
+                next,
+                arms,
+                later,
+                later,
+                left - 1,
+                depth,
+                vars,
+                correlation,
+                count,
+                nodes,
+                table,
+            );
             match rest {
-                Out::Refused { number: _, place: _ } => rest,
-                Out::Read { next: stop, count: end, nodes: last, first: _, every } => Out::Read { next: stop, count: end, nodes: last, first, every: both(first, every) },
+                Out::Refused {
+                    number: _,
+                    place: _,
+                } => rest,
+                Out::Read {
+                    next: stop,
+                    count: end,
+                    nodes: last,
+                    first: _,
+                    every,
+                } => Out::Read {
+                    next: stop,
+                    count: end,
+                    nodes: last,
+                    first,
+                    every: both(first, every),
+                },
             }
         }
     }

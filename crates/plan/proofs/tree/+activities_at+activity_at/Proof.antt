@@ -108,9 +108,14 @@ pub +activities-at+activity-at-spec : {M : Type 1} → statement M
     let b : Base (g .args .s .now) (g .args .vars) (g .args .m) (g .args .at) = search needs in
     let a = o .own-at .ensures in
     let w = c .before .before .before .before .before .before .before .before .before in
-    let q = w .own2 .given .1 in
-    (own-numbered (g .args .arm) (g .args .depth) (g .args .vars) (chosen 0 (g .args .correlation .now)) (g .args .s .now) (g .args .handler) (g .args .n) (g .args .at) (g .args .m) a q, (search room, whole-stop (g .args .arm) (g .args .depth) (g .args .vars) (chosen 0 (g .args .correlation .now)) (g .args .s .now) (g .args .handler) (g .args .n) (g .args .at) (g .args .m) a q (eqb (w .own2 .given .0 .0) 10)
-    (c .before .before .before .before .before .before .levels-below .result) (c .before .before .before .before .before .before .before .later-of .result) (c .before .before .before .before .activities-at .ensures) (c .before .before .all .given .1) b)))
+    let q = w .own2 .given .1 in (
+      own-numbered (g .args .arm) (g .args .depth) (g .args .vars) (chosen 0 (g .args .correlation .now)) (g .args .s .now) (g .args .handler) (g .args .n) (g .args .at) (g .args .m) a q,
+      (
+        search room,
+        whole-stop (g .args .arm) (g .args .depth) (g .args .vars) (chosen 0 (g .args .correlation .now)) (g .args .s .now) (g .args .handler) (g .args .n) (g .args .at) (g .args .m) a q (eqb (w .own2 .given .0 .0) 10)
+            (c .before .before .before .before .before .before .levels-below .result) (c .before .before .before .before .before .before .before .later-of .result) (c .before .before .before .before .activities-at .ensures) (c .before .before .all .given .1) b,
+      ),
+    ))
     -- starts-of-requires
     (λ c κs. search needs)
     -- returns

@@ -1,0 +1,33 @@
+-- `plan::show` meets its contract. Assumes nothing.
+use borrow.Author.Needs.{needs}
+use Rattle.plan.proofs.ShowReads.{show-row, show-ordered, show-inside, show-part, show-shown, show-beyond, show-nothing, show-bad, show-empty}
+use Rattle.plan.proofs.show.Statement.{statement}
+use Rattle.plan.proofs.show.Tie as tie
+
+ruleset cases = (show-row, show-ordered, show-inside, show-part, show-shown, show-beyond, show-nothing, show-bad, show-empty)
+
+pub show-spec : {M : Type 1} → statement M
+show-spec =
+    tie.close (tie.spec
+    -- accept-requires
+    (λ c κs. search needs)
+    -- enum-known-a
+    (λ c. search needs)
+    -- between-requires
+    (λ c κs. search needs)
+    -- enum-known-a-2
+    (λ c. search needs)
+    -- column-requires
+    (λ c κs. (search cases, search needs))
+    -- column-requires-2
+    (λ c κs. (search cases, search needs))
+    -- between-requires-2
+    (λ c κs. (search cases, search cases))
+    -- between-requires-3
+    (λ c κs. search needs)
+    -- returns
+    (λ c. search cases)
+    -- returns-2
+    (λ c. search cases)
+    -- returns-3
+    (λ c. search cases))
