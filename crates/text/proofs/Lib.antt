@@ -1,0 +1,5 @@
+-- What the proofs of several functions use.
+mod Scans
+mod Digits
+mod Verbs
+mod Parts
