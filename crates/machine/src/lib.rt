@@ -111,6 +111,7 @@ pub fn no_tally() -> Tally
         left: 0,
     }
 }
+
 // Loads the plan that some bytes spell.
 pub fn load(s: &[u8]) -> Loaded
     ensures { λ r. ⌜ r ≡ calls.load (now (s .entry)) ⌝ }
