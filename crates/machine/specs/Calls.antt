@@ -72,14 +72,13 @@ unfoldable mutual
 unfoldable pub partnersOf : Plan → List ℕ
 partnersOf p = partnersIn (p .body) ++ partnersIn (p .fault)
 
--- Collect: the refusal or 0, the message handed out (one with no values where it is refused), and the state.
-
 -- the place of the oldest message, from the place i on, for a partner that is not among these; where there is none, the place after the last
 unfoldable pub foreign : List ℕ → (i : ℕ) → List Message → ℕ
 foreign ps i [] = i
 foreign ps i (m ∷ l) = cond (among (m .partner) ps) (foreign ps (i + 1) l) i
 
--- "Collect hands out the oldest such message." 15: "no message for a partner the plan never receives on"
+-- Collect: the refusal or 0, the message handed out (one with no values where it is refused), and the state. "Collect hands out the oldest
+-- such message." 15: "no message for a partner the plan never receives on"
 unfoldable pub collectBy : Plan → State → Collected
 collectBy p s =
     let i = foreign (partnersOf p) 0 (letters s) in
