@@ -3,13 +3,12 @@
 //! The model is written from document 01 alone and shares no code with the proved crates.
 //!
 //! - `cargo test --offline` checks the model by itself; no library is needed.
-//! - `cargo run --release --offline --features library --bin compare [SEED] [COUNT]`
-//! - `cargo run --release --offline --features library --bin bench`
-//!
-//! The last two link `libboundary.a` from the folder in MOONHALYARD_LIB.
+//! - `model/run compare [SEED] [COUNT]` asks the library in a process of its own.
+//! - `model/run bench` links `libboundary.a`, on x86-64.
 
 #![deny(unsafe_code)]
 
+pub mod answers;
 pub mod edges;
 pub mod generate;
 pub mod reader;

@@ -2,10 +2,11 @@
 
 #![forbid(unsafe_code)]
 
+use model::answers::Library;
 use model::edges;
 use model::generate::{self, Random};
 use model::reader::{Plan, Refusal, read_into};
-use model::{boundary, vectors};
+use model::vectors;
 use std::process::exit;
 use std::time::Instant;
 
@@ -15,10 +16,11 @@ const COUNT: u64 = 200_000;
 const SHOWN: usize = 24;
 
 struct Comparison {
+    library: Library,
     plan: Plan,
     /// Accepted at 0, refusals at their numbers.
     tally: [u64; 10],
-    shown: u64,
+    parts: u64,
     /// Chooses the parts to show.
     random: Random,
 }
@@ -35,10 +37,15 @@ fn main() {
     let seed = number(SEED);
     let count = number(COUNT);
     let began = Instant::now();
+    let command = std::env::var("MOONHALYARD_ANSWERS").unwrap_or_else(|_| {
+        eprintln!("compare: MOONHALYARD_ANSWERS is the command that answers for the library; model/run sets it");
+        exit(2);
+    });
     let mut comparison = Comparison {
+        library: Library::start(&command),
         plan: Plan::default(),
         tally: [0; 10],
-        shown: 0,
+        parts: 0,
         random: Random::new(!seed),
     };
 
@@ -69,7 +76,7 @@ fn main() {
         tally.iter().sum::<u64>(),
         cases.len(),
         written.len(),
-        comparison.shown,
+        comparison.parts,
         began.elapsed().as_secs_f64(),
     );
     println!("accepted {}, refused {}", tally[0], refusals.join(", "));
@@ -119,7 +126,9 @@ impl Comparison {
             Some(Refusal { number, place }) => u64::from(number) << 32 | u64::from(place),
             None => count as u64,
         };
-        let got = boundary::accept(bytes);
+        let activities = self.activities(refusal.is_some(), count);
+        let answers = self.library.answers(bytes, &activities);
+        let got = answers[0];
         if got != expected {
             let part = |answer: u64| match answer >> 32 {
                 0 => format!("accepted with {answer} activities and arms"),
@@ -127,32 +136,36 @@ impl Comparison {
             };
             differ(name, bytes, "accept", &part(expected), &part(got), got);
         }
-        if refusal.is_some() {
-            self.show(name, bytes, refusal, 0);
-        } else if count <= SHOWN {
-            for k in 0..count {
-                self.show(name, bytes, None, k as u32);
-            }
-        } else {
-            self.show(name, bytes, None, 0);
-            self.show(name, bytes, None, count as u32 - 1);
-            for _ in 2..SHOWN {
-                let k = self.random.below(count) as u32;
-                self.show(name, bytes, None, k);
-            }
+        for (k, got) in activities.iter().zip(&answers[1..]) {
+            self.shown(name, bytes, refusal, *k, *got);
         }
-        self.show(name, bytes, refusal, count as u32);
-        self.show(name, bytes, refusal, u32::MAX);
     }
 
-    fn show(&mut self, name: &str, bytes: &[u8], refusal: Option<Refusal>, k: u32) {
+    /// The activities to be shown: all, or some of many; one more than there are; and the largest number.
+    fn activities(&mut self, refused: bool, count: usize) -> Vec<u32> {
+        let mut some: Vec<u32> = if refused {
+            vec![0]
+        } else if count <= SHOWN {
+            (0..count as u32).collect()
+        } else {
+            let random = &mut self.random;
+            [0, count as u32 - 1]
+                .into_iter()
+                .chain((2..SHOWN).map(|_| random.below(count) as u32))
+                .collect()
+        };
+        some.push(count as u32);
+        some.push(u32::MAX);
+        some
+    }
+
+    fn shown(&mut self, name: &str, bytes: &[u8], refusal: Option<Refusal>, k: u32, got: u64) {
         let expected = match (refusal, self.plan.parts.get(k as usize)) {
             (Some(refusal), _) => u64::from(refusal.number) << 48,
             (None, None) => 16 << 48,
             (None, Some(part)) => u64::from(part.start) << 24 | u64::from(part.end - part.start),
         };
-        self.shown += u64::from(expected >> 48 == 0);
-        let got = boundary::show(bytes, k);
+        self.parts += u64::from(expected >> 48 == 0);
         if got != expected {
             let part = |answer: u64| {
                 let (start, length) = (answer >> 24 & 0xFF_FFFF, answer & 0xFF_FFFF);
