@@ -10,6 +10,7 @@
 
 pub mod answers;
 pub mod edges;
+pub mod full;
 pub mod generate;
 pub mod reader;
 pub mod vectors;
