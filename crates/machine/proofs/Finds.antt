@@ -11,13 +11,13 @@ use lib.ListN.{getD}
 use Rattle.plan.specs.Spells.{Spells, SpellsAll, SpellsPlan}
 use Rattle.plan.specs.Tree.{Own, empty, send, receive, set, raise, leave, choose, repeat, sequence, flow, pick, scope, arm, kind, Act, act, Acts, none, more, Plan, size, sizes}
 use Rattle.machine.specs.declared.Message.{Message}
-use Rattle.machine.specs.declared.Order.{Order}
+use Rattle.order.specs.declared.Order.{Order}
 use Rattle.machine.specs.declared.Receiver.{Receiver}
 use Rattle.machine.specs.Answering.{Correlated, openPick, armsFrom, fitsOwn, catches, TakesRow}
 use Rattle.machine.specs.Finding.{firstOf, orElse}
 use Rattle.machine.specs.Fit.{doingOf, awaits, Ready, readyIn, readyAmong, readyOf, fitting, fits, unchecked}
-use Rattle.machine.specs.Lists.{empties}
-use Rattle.machine.specs.State.{active}
+use Rattle.order.specs.Lists.{empties}
+use Rattle.order.specs.State.{active}
 
 -- no row of an activity reaches beyond the activity
 mutual

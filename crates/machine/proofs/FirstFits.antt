@@ -20,12 +20,12 @@ use Rattle.plan.proofs.Limits.{accepted-is-within}
 use Rattle.plan.proofs.Stores.{length-store, flagged-among}
 use Rattle.plan.proofs.TableSpells.{accepted-spells}
 use Rattle.machine.specs.declared.Message.{Message}
-use Rattle.machine.specs.declared.Order.{Order}
+use Rattle.order.specs.declared.Order.{Order}
 use Rattle.machine.specs.declared.Receiver.{Receiver}
 use Rattle.machine.specs.Answering.{Correlated, Receives}
 use Rattle.machine.specs.Finding.{firstOf, orElse, firstReceiver, isNothing}
 use Rattle.machine.specs.Fit.{Ready, Live, liveFrom, fitting, fittings}
-use Rattle.machine.specs.Lists.{each, empties}
+use Rattle.order.specs.Lists.{each, empties}
 
 -- the search finds nothing exactly where the message fits no open receive of a live order
 empties-append : (l k : List ℕ) → empties (l ++ k) ≡ (empties l && empties k)

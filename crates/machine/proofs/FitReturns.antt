@@ -14,10 +14,10 @@ use mir.Syntax.{w64}
 use mir.Val.{Fits}
 use Rattle.plan.specs.Tree.{Plan}
 use Rattle.machine.specs.declared.Message.{Message}
-use Rattle.machine.specs.declared.Order.{Order}
+use Rattle.order.specs.declared.Order.{Order}
 use Rattle.machine.specs.Answering.{Correlated, Exchange, Checks, Allows, Costs, Agrees, FitsRow, UncheckedRow}
 use Rattle.machine.specs.Fit.{isChecked, agrees, fits, unchecked}
-use Rattle.machine.specs.State.{valueOf}
+use Rattle.order.specs.State.{valueOf}
 
 -- `is_checked`
 module _ (flags : List ℕ) (o : Order) (v : ℕ) where

@@ -14,12 +14,12 @@ use Rattle.plan.specs.Spells.{variablesOf, Row, SpellsPlan}
 use Rattle.plan.specs.Table.{rowOf}
 use Rattle.plan.specs.Tree.{Own, empty, send, receive, set, raise, leave, choose, repeat, sequence, flow, pick, scope, arm, kind, Plan, size}
 use Rattle.machine.specs.declared.Message.{Message}
-use Rattle.machine.specs.declared.Order.{Order}
+use Rattle.order.specs.declared.Order.{Order}
 use Rattle.machine.specs.declared.Receiver.{Receiver}
 use Rattle.machine.specs.Answering.{Correlated, Exchange, FitsRow, openPick, armsFrom, fitsOwn, catches, TakesRow, Receives}
 use Rattle.machine.specs.Finding.{firstOf, orElse, firstReceiver}
 use Rattle.machine.specs.Fit.{awaits, readyOf, liveFrom}
-use Rattle.machine.specs.State.{active, isLive, markAt}
+use Rattle.order.specs.State.{active, isLive, markAt}
 use Rattle.machine.proofs.Finds.{plan-none, plan-found}
 
 -- `open_pick`

@@ -6,10 +6,11 @@ use mathlib.Core.List.{List, [], _∷_}
 use lib.ListN.{set}
 use lib.Dec.{eqb}
 use Rattle.machine.specs.declared.Message.{Message}
-use Rattle.machine.specs.declared.Order.{Order}
+use Rattle.order.specs.declared.Order.{Order}
 use Rattle.machine.specs.declared.State.{State}
-use Rattle.machine.specs.Lists.{every}
-use Rattle.machine.specs.State.{noOrder, noMessage, fresh, unplanned, noTally, marked, withRoot, withOrder, withMessages, adding}
+use Rattle.order.specs.Lists.{every}
+use Rattle.order.specs.State.{noOrder, marked, withRoot}
+use Rattle.machine.specs.State.{noMessage, fresh, unplanned, noTally, withOrder, withMessages, adding}
 use Rattle.machine.specs.Limits.{inLimits}
 use Rattle.machine.specs.Calls.{post, collect, preview, step, run}
 use Rattle.machine.specs.Computing.{computing}

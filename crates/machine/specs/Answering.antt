@@ -11,31 +11,13 @@ use Rattle.plan.specs.Spells.{SpellsExp, Row, SpellsPlan}
 use Rattle.plan.specs.Tree.{Operation, Exp, Own, empty, send, receive, set as setting, raise, leave, choose, repeat, sequence, flow, pick, scope, arm, Plan, size}
 use Rattle.plan.specs.Within.{expressionWithin}
 use Rattle.machine.specs.declared.Message.{Message}
-use Rattle.machine.specs.declared.Order.{Order}
+use Rattle.order.specs.declared.Order.{Order}
 use Rattle.machine.specs.declared.Receiver.{Receiver}
-use Rattle.machine.specs.declared.Worth.{Worth}
-use Rattle.machine.specs.Expression.{Value, fault, value, applied, evaluate}
+use Rattle.order.specs.declared.Worth.{Worth}
+use Rattle.order.specs.Expression.{Value, fault, value, applied, evaluate}
 use Rattle.machine.specs.Finding.{firstReceiver}
 use Rattle.machine.specs.Fit.{awaits, liveFrom, isChecked, agrees, fits, unchecked}
-use Rattle.machine.specs.State.{active, markAt, valueOf}
-
--- what an expression comes to
-unfoldable pub worthOf : Value → Worth
-worthOf fault = Worth.Fault
-worthOf (value n) = Worth.Value n
-
--- r is the code of node m of the table t, 0 where there is no such node
-pub record NodeCode (t : List ℕ) (m r : ℕ) : Type 0 where
-  pub is : r ≡ getD t (3392 + m * 2) 0
-  pub inside : 0 < r → m < 4096
-
--- r is what the operation with that code makes of x and y
-pub record Applies (code x y : ℕ) (r : Worth) : Type 0 where
-  pub is : (o : Operation) → code ≡ operationCode o → r ≡ worthOf (applied o x y)
-
--- r is what the expression comes to that the table t spells from node m on, where it is within `depth` levels
-pub record Evaluates (t : List ℕ) (o : Order) (m depth : ℕ) (r : Worth) : Type 0 where
-  pub is : (e : Exp) (vars : ℕ) → vars ≤ 16 → SpellsExp e m t → expressionWithin vars e depth ≡ true → r ≡ worthOf (evaluate e o)
+use Rattle.order.specs.State.{active, markAt, valueOf}
 
 -- the flags say which variables are for correlation, and none beyond them is
 pub record Correlated (p : Plan) (flags : List ℕ) : Type 0 where

@@ -4,9 +4,9 @@ use mathlib.Core.Bool.{Bool, true, false, cond}
 use mathlib.Core.List.{List, [], _∷_}
 use Rattle.plan.specs.Tree.{Plan}
 use Rattle.machine.specs.declared.Message.{Message}
-use Rattle.machine.specs.declared.Order.{Order}
+use Rattle.order.specs.declared.Order.{Order}
 use Rattle.machine.specs.declared.Receiver.{Receiver}
-use Rattle.machine.specs.Lists.{empties}
+use Rattle.order.specs.Lists.{empties}
 use Rattle.machine.specs.Fit.{Ready, Live, fitting}
 
 -- of what the order in a slot awaits, the first that is an open receive and that the message fits

@@ -16,7 +16,7 @@ use Rattle.machine.specs.declared.Message.{Message}
 use Rattle.machine.specs.declared.State.{State}
 use Rattle.machine.specs.declared.Step.{Step}
 use Rattle.machine.specs.declared.Tally.{Tally}
-use Rattle.machine.specs.Lists.{every, each, alike, stored}
+use Rattle.order.specs.Lists.{every, each, alike, stored}
 use Rattle.machine.specs.State.{letters, noTally}
 use Rattle.machine.specs.Calls.{endNumber, loaded, post, collect, Stepped, step}
 use Rattle.machine.specs.History.{Call, posting, collecting, stepping}

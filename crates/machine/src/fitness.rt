@@ -1,6 +1,6 @@
 // Whether a message fits a receive or an arm of the plan, and how many of its places are unchecked.
 use super::Message;
-use super::Order;
+use order::Order;
 ghost use Prim.Native.Nat.{_≤_, _<_};
 ghost use Rattle.machine.specs.Answering.{Checks, Allows, Costs, Agrees, FitsRow, UncheckedRow};
 

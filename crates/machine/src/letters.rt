@@ -14,7 +14,7 @@ ghost use mathlib.Core.Path.{_≡_};
 ghost use Rattle.plan.specs.Tree.{Plan};
 ghost use Rattle.machine.specs.Heard.{Heard};
 ghost use Rattle.machine.specs.Limits.{messageInLimits, inLimits};
-ghost use Rattle.machine.specs.Lists.{every, stored};
+ghost use Rattle.order.specs.Lists.{every, stored};
 ghost use Rattle.machine.specs.State.{noMessage, adding, removing};
 ghost use Rattle.machine.specs.Calls.{trimmed, postBy, partnersOf, foreign, collectBy};
 

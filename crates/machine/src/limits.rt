@@ -1,7 +1,7 @@
 // Refusal 17: which numbers of a state are within their limits, decided from the state alone.
 use super::Message;
-use super::Order;
 use super::State;
+use order::Order;
 use plan::Answer;
 ghost use Prim.Native.Nat.{_≤_};
 ghost use lib.Dec.{eqb, leb};
@@ -9,7 +9,7 @@ ghost use lib.ListN.{drop, take};
 ghost use mathlib.Core.Path.{_≡_};
 ghost use Rattle.plan.specs.Answers.{answerOf, tableFor, flagsFor};
 ghost use Rattle.plan.specs.Read.{readPlan};
-ghost use Rattle.machine.specs.Lists.{every};
+ghost use Rattle.order.specs.Lists.{every};
 ghost use Rattle.machine.specs.Limits.{exchanged, messageInLimits, rootInLimits, orderInLimits, inLimits, planIn};
 
 // Whether a partner, an operation and a count of values are within their rules.

@@ -1,12 +1,12 @@
 // The search for an open receive that a message fits: it ends at the first.
 use super::Message;
-use super::Order;
 use super::Receiver;
 use super::fitness::fits_at;
+use order::Order;
 ghost use Prim.Native.Nat.{_≤_, _<_};
 ghost use mathlib.Core.Bool.{cond};
 ghost use mathlib.Core.Path.{_≡_};
-ghost use Rattle.machine.specs.State.{isLive};
+ghost use Rattle.order.specs.State.{isLive};
 ghost use Rattle.machine.specs.Answering.{openPick, armsFrom, TakesRow, Receives};
 
 // Whether row j is an active pick.
@@ -21,7 +21,7 @@ fn open_pick(table: &[u32; 11584], order: Order, j: usize) -> bool
 }
 
 // Whether the arm in row k is open: the nearest row before it that it stands within is an active pick.
-fn arm_open(table: &[u32; 11584], order: Order, k: usize) -> bool
+pub(crate) fn arm_open(table: &[u32; 11584], order: Order, k: usize) -> bool
     requires { ⌜ k < 256 ⌝ }
     ensures { λ r. ⌜ r ≡ armsFrom (now (table .entry)) (order .marks) k k ⌝ }
 {
@@ -37,7 +37,7 @@ fn arm_open(table: &[u32; 11584], order: Order, k: usize) -> bool
 }
 
 // Whether row k is an open receive or arm of the order that the message fits.
-fn takes_at(
+pub(crate) fn takes_at(
     table: &[u32; 11584],
     flags: &[u8; 16],
     order: Order,

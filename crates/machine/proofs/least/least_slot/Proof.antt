@@ -1,0 +1,18 @@
+-- `machine::least::least_slot` meets its contract. Assumes nothing.
+use borrow.Author.Needs.{needs}
+use Rattle.machine.proofs.Crossed.{slot-free}
+use Rattle.machine.proofs.Fewest.{least-live}
+use Rattle.machine.proofs.least.least_slot.Statement.{statement}
+use Rattle.machine.proofs.least.least_slot.Tie as tie
+
+ruleset cases = (slot-free, least-live)
+
+pub least-slot-spec : {M : Type 1} → statement M
+least-slot-spec =
+    tie.close (tie.spec
+    -- returns
+    (λ c. search cases)
+    -- least-rows-requires
+    (λ c κs. search needs)
+    -- returns-2
+    (λ c. search cases))

@@ -1,0 +1,17 @@
+-- `machine::previews::preview_by` meets its contract. Assumes nothing.
+use borrow.Author.Needs.{needs}
+use Rattle.machine.proofs.Answered.{previews-all}
+use Rattle.machine.proofs.previews.preview_by.Statement.{statement}
+use Rattle.machine.proofs.previews.preview_by.Tie as tie
+
+ruleset cases = (previews-all)
+
+pub preview-by-spec : {M : Type 1} → statement M
+preview-by-spec =
+    tie.close (tie.spec
+    -- sight-of-requires
+    (λ c κs. search needs)
+    -- answer-requires
+    (λ c κs. search needs)
+    -- returns
+    (λ c. search cases))
