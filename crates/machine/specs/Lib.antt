@@ -2,16 +2,9 @@ pub mod State
 pub mod Limits
 pub mod Heard
 pub mod Fit
-pub mod Finding
-pub mod Answering
 pub mod Offer
 pub mod Calls
-pub mod Folds
-pub mod Lines
-pub mod Sights
-pub mod Stepping
-pub mod Running
+pub mod Planned
 pub mod History
 pub mod Demand3
 pub mod Computing
-pub mod Starred
