@@ -1,6 +1,7 @@
 // The numbers of a plan, each with its rule, and tuples of variables.
 use super::Field;
 use super::Tuple;
+use super::reading;
 use numbers::Number;
 ghost use Prim.Native.Nat.{_≤_, _<_};
 ghost use lib.Dec.{eqb};
@@ -17,7 +18,7 @@ pub(crate) fn number_at(s: &[u8], at: usize) -> Field
     ensures is { λ r. ⌜ r ≡ fieldOf (numberIn (now (s .entry)) at) ⌝ }
     ensures fits { λ r. ⌜ NumberFits (now (s .entry)) at r ⌝ }
 {
-    let read = numbers::read(s, at);
+    let read = reading::read(s, at);
     match read {
         Number::Short => Field::Refused {
             number: 2,

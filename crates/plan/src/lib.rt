@@ -2,6 +2,7 @@
 mod expressions;
 mod fields;
 mod owns;
+mod reading;
 mod root;
 mod table;
 mod tree;
@@ -12,6 +13,12 @@ ghost use mathlib.Core.Path.{_≡_};
 ghost use Rattle.plan.specs.Answers.{answerOf, tableFor, flagsFor};
 ghost use Rattle.plan.specs.Read.{readPlan};
 ghost use Rattle.plan.specs.Shown.{shownPart, shownRefusal};
+
+// The reading head: the lent bytes and a place in them.
+pub struct Head<'a> {
+    pub bytes: &'a [u8],
+    pub place: usize,
+}
 
 // What reading one number finds.
 pub enum Field {
