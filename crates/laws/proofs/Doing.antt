@@ -1,18 +1,20 @@
 -- The step that an activity is there for, by the activity with its number; and that a step on offer has room. Assumes nothing.
 use mathlib.Core.Path.{_≡_, refl, sym, subst, _∙_}
-use mathlib.Core.Bool.{Bool, true, false}
+use mathlib.Core.Bool.{Bool, true, false, _&&_}
 use mathlib.Core.List.{List}
 use Prim.Native.Nat.{ℕ, _+_, _<_}
 use native.Mathlib.Omega.{arith}
-use borrow.Author.Tests.{lt-ltb, eqb-true}
-use lib.Dec.{eqb, ltb}
+use borrow.Author.Tests.{lt-ltb, leb-false, eqb-true}
+use lib.Dec.{eqb, leb, ltb}
 use Rattle.plan.specs.Tree.{Own, Act, act, Acts, none, more, Plan, size}
 use Rattle.order.specs.declared.Order.{Order}
+use Rattle.order.specs.Acting.{allBound}
 use Rattle.order.specs.Room.{roomPlan}
 use Rattle.order.specs.State.{closings}
 use Rattle.order.specs.Taking.{actIn, actAmong, actAt}
 use Rattle.machine.specs.Calls.{doingIn, doingAmong, doingAt}
 use Rattle.machine.specs.Fit.{Doing, noStep, sends, takes, moves, cuts, closes, doingOf}
+use Rattle.machine.specs.Offer.{sendHeld}
 use Rattle.laws.specs.Good.{Allowed, Good}
 use Rattle.laws.proofs.Roomy.{roomOf, plan-room, close-room}
 
@@ -73,3 +75,11 @@ room-allowed (closes s) wait o j a = close-room o s a
 
 pub good-room : {p : Plan} {wait : ℕ} {o : Order} {k j : ℕ} → Good p wait o k j → roomPlan p k (closings o) ≡ true
 good-room {p} {wait} {o} {k} {j} g = plan-room p k (closings o) (room-allowed (doingAt p k) wait o j (g .allowed))
+
+-- a send of bound variables that is not held has a place for its message
+pub send-room : (n : ℕ) (o : Order) (vs : List ℕ) → sendHeld n o vs ≡ false → allBound o vs ≡ true → n < 64
+send-room n o vs h f = go (leb 64 n) refl (subst (λ (z : Bool). (leb 64 n && z) ≡ false) f h)
+  where
+    go : (z : Bool) → leb 64 n ≡ z → (z && true) ≡ false → n < 64
+    go true w g = absurd (let c : _≡_ {A = ℕ} 0 1 = cc in omega arith)
+    go false w g = leb-false 64 n w

@@ -355,16 +355,3 @@ load-plans l {p} {next} e =
     let h : length l ≤ 4096 = short-found l e in
     let g : take (length l) (stored 4096 l) ≡ l = take-at l (replicate (4096 - length l) 0) (length l) refl in
     rw e (record { is = rw (le-leb (length l) 4096 h, none-limits, g, e); long = length-replicate 64 noMessage })
-
--- The states that a plan's calls lead to, from the plan loaded on: none of them earns 17, and all keep the plan.
-pub data Reached (p : Plan) (next : ℕ) : State → Type 0 where
-  loading : (l : List ℕ) → readPlan l ≡ found p next → Reached p next (load l .state)
-  posting : {s : State} (m : Message) → length (m .values) ≡ 4 → Reached p next s → Reached p next (post m s .state)
-  collecting : {s : State} → Reached p next s → Reached p next (collect s .state)
-  stepping : {s : State} (c : ℕ) (t : Tally) → Reached p next s → Reached p next (step c s t .state)
-
-pub never-17 : {p : Plan} {next : ℕ} {s : State} → Reached p next s → Planned p next s
-never-17 (loading l e) = load-plans l e
-never-17 (posting m l r) = post-keeps (never-17 r) m l
-never-17 (collecting r) = collect-keeps (never-17 r)
-never-17 (stepping c t r) = step-keeps (never-17 r) c t

@@ -1,4 +1,4 @@
--- What is on offer may be taken: its step is the one that its activity is there for, it is not held, and its message is there. Assumes nothing.
+-- What is on offer may be taken: its step is the one that its activity is there for, it is not held, and its message is there and fits. Assumes nothing.
 use Prim.Native.Nat.{ℕ, zero, suc, _+_, _<_, _≤_}
 use native.Mathlib.Omega.{arith}
 use mathlib.Core.Path.{_≡_, refl, sym, ap, subst, _∙_}
@@ -8,6 +8,7 @@ use lib.ListN.{length, getD, take, length-append, List·getD-eq-default}
 use lib.Seq.{getD-append-seam, append-snoc}
 use lib.Dec.{leb, ltb, eqb}
 use borrow.Author.Tests.{lt-ltb, le-ltb, eq-eqb, ne-eqb}
+use Rattle.plan.proofs.Accepts.{both}
 use Rattle.plan.specs.Tree.{Own, Act, act, Acts, none, more, Plan, size, sizes}
 use Rattle.order.specs.declared.Order.{Order}
 use Rattle.order.specs.Acting.{startedOrder}
@@ -18,8 +19,8 @@ use Rattle.machine.specs.declared.State.{State}
 use Rattle.machine.specs.Calls.{doingIn, doingAmong, doingAt, chosen, nth, choosing}
 use Rattle.machine.specs.Fit.{Doing, noStep, sends, takes, moves, cuts, closes, doingOf, awaits, Ready, readyIn, readyAmong, readyOf, Live, liveFrom, Letter, lettersFrom, fits, fittings, mayTake}
 use Rattle.machine.specs.Offer.{Offer, offering, Offers, allOf, unlessHeld, isCut, eager, sendHeld, closeHeld, stepOffers, orderOffers, startOf, startsOf, freeFrom, startOffers, offersOf}
-use Rattle.machine.specs.State.{letters}
-use Rattle.laws.specs.Good.{Allowed, Good, actingIn, actor}
+use Rattle.machine.specs.State.{noMessage}
+use Rattle.laws.specs.Good.{Allowed, Heeds, Good, actingIn, actor}
 
 -- P holds of each
 pub data Each {A : Type 0} (P : A → Type 0) : List A → Type 0 where
@@ -44,6 +45,16 @@ module _ {A : Type 0} where
       by-test true r = each-more x r
       by-test false r = r
 
+  -- what is picked passes the test
+  each-picked : {P : A → Type 0} {l : List A} (f : A → Bool) → Each P l → Each (λ a. P a × (f a ≡ true)) (only f l)
+  unfolding only
+  each-picked f each-none = each-none
+  each-picked {P} f (each-more {a} {l} x y) = by-test (f a) refl (each-picked f y)
+    where
+      by-test : (b : Bool) → f a ≡ b → Each (λ z. P z × (f z ≡ true)) (only f l) → Each (λ z. P z × (f z ≡ true)) (cond b (a ∷ only f l) (only f l))
+      by-test true e r = each-more (x, e) r
+      by-test false e r = r
+
   each-map : {B : Type 0} {P : A → Type 0} {Q : B → Type 0} {l : List A} (f : A → B) → ((a : A) → P a → Q (f a)) → Each P l → Each Q (map f l)
   each-map f h each-none = each-none
   each-map f h (each-more {a} x y) = each-more (h a x) (each-map f h y)
@@ -51,6 +62,11 @@ module _ {A : Type 0} where
   each-cond : {P : A → Type 0} {l m : List A} (b : Bool) → Each P l → Each P m → Each P (cond b l m)
   each-cond true x y = x
   each-cond false x y = y
+
+  -- some or none, by a test
+  each-where : {P : A → Type 0} {l : List A} (b : Bool) → (b ≡ true → Each P l) → Each P (cond b l [])
+  each-where true f = f refl
+  each-where false f = each-none
 
 pub pick-true : {A : Type 0} (b : Bool) (x y : A) → b ≡ true → elim b [ true ↦ x | false ↦ y ] ≡ x
 pick-true true x y e = refl
@@ -113,15 +129,21 @@ plan-ready p o =
       high = w .high;
     }) (in-ready (p .fault) (size (p .body)) false (o .marks)))
 
--- the messages stand where they wait
-record Waits (wait : ℕ) (x : Letter) : Type 0 where
+-- the messages stand where they wait, each with its fittings
+record Waits (p : Plan) (live : List Live) (ms : List Message) (wait : ℕ) (x : Letter) : Type 0 where
   is : x .place < wait
+  stands : x .message ≡ getD ms (x .place) noMessage
+  fitted : x .fitted ≡ fittings p live (x .message)
 
-letters-wait : (p : Plan) (live : List Live) (i : ℕ) (ms : List Message) (n wait : ℕ) → i + n ≤ wait → Each (Waits wait) (lettersFrom p live i (take n ms))
+letters-wait : (p : Plan) (live : List Live) (pre ms all : List Message) → pre ++ ms ≡ all → (i : ℕ) → length pre ≡ i → (n wait : ℕ) → i + n ≤ wait
+    → Each (Waits p live all wait) (lettersFrom p live i (take n ms))
 unfolding lettersFrom
-letters-wait p live i ms zero wait h = each-none
-letters-wait p live i [] (suc n) wait h = each-none
-letters-wait p live i (m ∷ ms) (suc n) wait h = each-more {a = record { place = i; message = m; fitted = fittings p live m }} (record { is = omega arith }) (letters-wait p live (i + 1) ms n wait (omega arith))
+letters-wait p live pre ms all e i d zero wait h = each-none
+letters-wait p live pre [] all e i d (suc n) wait h = each-none
+letters-wait p live pre (m ∷ ms) all e i d (suc n) wait h =
+    let g : getD all i noMessage ≡ m = ap (λ (z : List Message). getD z i noMessage) (sym e) ∙ subst (λ (z : ℕ). getD (pre ++ (m ∷ ms)) z noMessage ≡ m) d (getD-append-seam pre m ms noMessage) in
+    each-more {a = record { place = i; message = m; fitted = fittings p live m }} (record { is = omega arith; stands = sym g; fitted = refl })
+    (letters-wait p live (pre ++ (m ∷ [])) ms all (append-snoc pre m ms ∙ e) (i + 1) (length-append pre (m ∷ []) ∙ omega (arith, d)) n wait (omega arith))
 
 -- all offers of many
 all-each : {A : Type 0} {P : A → Type 0} {Q : Offer → Type 0} {l : List A} (f : A → Offers) → ((a : A) → P a → Each Q (f a .offered)) → Each P l
@@ -130,46 +152,60 @@ unfolding allOf
 all-each f h each-none = each-none
 all-each f h (each-more {a} x y) = each-append (h a x) (all-each f h y)
 
--- the offers of one activity are for its slot and for itself, and are not held
-record Offered (wait : ℕ) (o : Order) (i k : ℕ) (d : Doing) (x : Offer) : Type 0 where
+-- the offers of one activity are for its slot and for itself, are not held, and their messages fit
+record Offered (p : Plan) (live : List Live) (ms : List Message) (wait : ℕ) (starts : Bool) (o : Order) (i k : ℕ) (d : Doing) (x : Offer) : Type 0 where
   slot : x .slot ≡ i
   activity : x .activity ≡ k
   allowed : Allowed d wait o (x .place)
+  heeds : Heeds d p live starts o (getD ms (x .place) noMessage)
 
-module _ (p : Plan) (wait : ℕ) {l : List Letter} (w : Each (Waits wait) l) (i : ℕ) (o : Order) (k : ℕ) where
-  step-each : (d : Doing) → Each (Offered wait o i k d) (stepOffers p wait l i o k d .offered)
-  unfolding stepOffers Allowed
+module _ (p : Plan) (live : List Live) (ms : List Message) (wait : ℕ) {l : List Letter} (w : Each (Waits p live ms wait) l) (i : ℕ) (o : Order) (k : ℕ) where
+  letter-heeds : (a b : ℕ) (vs : List ℕ) (x : Letter) → Waits p live ms wait x → mayTake p o a b vs x ≡ true
+      → Heeds (takes a b vs) p live false o (getD ms (x .place) noMessage)
+  unfolding Heeds mayTake
+  letter-heeds a b vs x h e = both (fits p o a b vs (x .message)) _ e (λ f g. (rw (sym (h .stands)) f, rw (sym (h .stands), sym (h .fitted)) g))
+
+  step-each : (d : Doing) → Each (Offered p live ms wait false o i k d) (stepOffers p wait l i o k d .offered)
+  unfolding stepOffers Allowed Heeds
   step-each noStep = each-none
   step-each (sends a b vs) = held (sendHeld wait o vs) refl
     where
-      held : (x : Bool) → sendHeld wait o vs ≡ x → Each (Offered wait o i k (sends a b vs)) (unlessHeld x (offering i k 0 ∷ []) .offered)
+      held : (x : Bool) → sendHeld wait o vs ≡ x → Each (Offered p live ms wait false o i k (sends a b vs)) (unlessHeld x (offering i k 0 ∷ []) .offered)
       held true e = each-none
-      held false e = each-more (record { slot = refl; activity = refl; allowed = e }) each-none
+      held false e = each-more (record { slot = refl; activity = refl; allowed = e; heeds = tt }) each-none
   step-each (takes a b vs) =
-      each-map (λ x. offering i k (x .place)) (λ x h. record { slot = refl; activity = refl; allowed = h .is }) (each-only (mayTake p o a b vs) w)
-  step-each moves = each-more (record { slot = refl; activity = refl; allowed = tt }) each-none
-  step-each cuts = each-more (record { slot = refl; activity = refl; allowed = tt }) each-none
+      each-map (λ x. offering i k (x .place)) (λ x h. record { slot = refl; activity = refl; allowed = h .0 .is; heeds = letter-heeds a b vs x (h .0) (h .1) })
+      (each-picked (mayTake p o a b vs) w)
+  step-each moves = each-more (record { slot = refl; activity = refl; allowed = tt; heeds = tt }) each-none
+  step-each cuts = each-more (record { slot = refl; activity = refl; allowed = tt; heeds = tt }) each-none
   step-each (closes s) = held (closeHeld o s) refl
     where
-      held : (x : Bool) → closeHeld o s ≡ x → Each (Offered wait o i k (closes s)) (unlessHeld x (offering i k 0 ∷ []) .offered)
+      held : (x : Bool) → closeHeld o s ≡ x → Each (Offered p live ms wait false o i k (closes s)) (unlessHeld x (offering i k 0 ∷ []) .offered)
       held true e = each-none
-      held false e = each-more (record { slot = refl; activity = refl; allowed = e }) each-none
+      held false e = each-more (record { slot = refl; activity = refl; allowed = e; heeds = tt }) each-none
+
+-- whether an offer for a slot is a start: it is free
+abbrev pub startsIn : List Order → (slot : ℕ) → Bool
+startsIn os i = not (isLive (getD os i noOrder))
 
 -- an offer that may be taken
-pub record Fine (p : Plan) (os : List Order) (wait : ℕ) (x : Offer) : Type 0 where
-  pub good : Good p wait (actor p os (x .slot)) (x .activity) (x .place)
+pub record Fine (p : Plan) (s : State) (x : Offer) : Type 0 where
+  pub good : Good p (s .waiting) (actor p (s .orders) (x .slot)) (x .activity) (x .place)
+  pub heeds : Heeds (doingAt p (x .activity)) p (liveFrom p 0 (s .orders)) (startsIn (s .orders) (x .slot)) (actor p (s .orders) (x .slot)) (getD (s .messages) (x .place) noMessage)
 
-fine-from : (p : Plan) (os : List Order) (wait : ℕ) (o : Order) (i k : ℕ) (d : Doing) → actor p os i ≡ o → d ≡ doingAt p k → k < size (p .body) + size (p .fault)
-    → (x : Offer) → Offered wait o i k d x → Fine p os wait x
-fine-from p os wait o i k d e f h x y = record {
-  good =
-      let g : actor p os (x .slot) ≡ o = ap (actor p os) (y .slot) ∙ e in
-      let z : d ≡ doingAt p (x .activity) = f ∙ ap (doingAt p) (sym (y .activity)) in
-      record {
+fine-from : (p : Plan) (s : State) (b : Bool) (o : Order) (i k : ℕ) (d : Doing) → actor p (s .orders) i ≡ o → startsIn (s .orders) i ≡ b → d ≡ doingAt p k
+    → k < size (p .body) + size (p .fault) → (x : Offer) → Offered p (liveFrom p 0 (s .orders)) (s .messages) (s .waiting) b o i k d x → Fine p s x
+fine-from p s b o i k d e st f h x y =
+    let g : actor p (s .orders) (x .slot) ≡ o = ap (actor p (s .orders)) (y .slot) ∙ e in
+    let v : startsIn (s .orders) (x .slot) ≡ b = ap (startsIn (s .orders)) (y .slot) ∙ st in
+    let z : d ≡ doingAt p (x .activity) = f ∙ ap (doingAt p) (sym (y .activity)) in
+    record {
+      good = record {
         inside = omega (arith, y .activity);
-        allowed = subst (λ (q : Order). Allowed (doingAt p (x .activity)) wait q (x .place)) (sym g) (subst (λ (q : Doing). Allowed q wait o (x .place)) z (y .allowed));
+        allowed = subst (λ (q : Order). Allowed (doingAt p (x .activity)) (s .waiting) q (x .place)) (sym g) (subst (λ (q : Doing). Allowed q (s .waiting) o (x .place)) z (y .allowed));
       };
-}
+      heeds = rw (g, v, sym z) (y .heeds);
+    }
 
 eager-each : {P : Ready → Type 0} {l : List Ready} → Each P l → Each P (eager l)
 unfolding eager
@@ -178,6 +214,7 @@ eager-each {P} {l} y = each-cond (some isCut l) (each-only isCut y) y
 record Sits (p : Plan) (os : List Order) (x : Live) : Type 0 where
   ready : x .ready ≡ readyOf p (x .order)
   sits : actor p os (x .slot) ≡ x .order
+  lives : startsIn os (x .slot) ≡ false
 
 -- each live order stands in its slot
 live-each : (p : Plan) (pre l os : List Order) → pre ++ l ≡ os → (i : ℕ) → length pre ≡ i → Each (Sits p os) (liveFrom p i l)
@@ -190,15 +227,16 @@ live-each p pre (o ∷ l) os e i d =
         → Each (Sits p os) (elim b [ true ↦ record { slot = i; order = o; ready = readyOf p o } ∷ liveFrom p (i + 1) l | false ↦ liveFrom p (i + 1) l ])
     live-own true h y =
         let g : getD os i noOrder ≡ o = ap (λ (z : List Order). getD z i noOrder) (sym e) ∙ subst (λ (z : ℕ). getD (pre ++ (o ∷ l)) z noOrder ≡ o) d (getD-append-seam pre o l noOrder) in
-        each-more (record { ready = refl; sits = ap (actingIn p) g ∙ pick-true (isLive o) o (startedOrder p) h }) y
+        each-more (record { ready = refl; sits = ap (actingIn p) g ∙ pick-true (isLive o) o (startedOrder p) h; lives = ap (λ (z : Order). not (isLive z)) g ∙ ap not h }) y
     live-own false h y = y
 
-order-each : (p : Plan) (os : List Order) (wait : ℕ) {l : List Letter} → Each (Waits wait) l → (x : Live) → Sits p os x → Each (Fine p os wait) (orderOffers p wait l x .offered)
+order-each : (p : Plan) (s : State) {l : List Letter} → Each (Waits p (liveFrom p 0 (s .orders)) (s .messages) (s .waiting)) l → (x : Live) → Sits p (s .orders) x
+    → Each (Fine p s) (orderOffers p (s .waiting) l x .offered)
 unfolding orderOffers
-order-each p os wait {l} w x h =
-    all-each (λ r. stepOffers p wait l (x .slot) (x .order) (r .activity) (r .step))
-    (λ r d. each-so (fine-from p os wait (x .order) (x .slot) (r .activity) (r .step) (h .sits) (d .is) (d .high))
-    (step-each p wait w (x .slot) (x .order) (r .activity) (r .step)))
+order-each p s {l} w x h =
+    all-each (λ r. stepOffers p (s .waiting) l (x .slot) (x .order) (r .activity) (r .step))
+    (λ r d. each-so (fine-from p s false (x .order) (x .slot) (r .activity) (r .step) (h .sits) (h .lives) (d .is) (d .high))
+    (step-each p (liveFrom p 0 (s .orders)) (s .messages) (s .waiting) w (x .slot) (x .order) (r .activity) (r .step)))
     (eager-each (subst (λ (z : List Ready). Each (Does (doingAt p) 0 (size (p .body) + size (p .fault))) z) (sym (h .ready)) (plan-ready p (x .order))))
 
 -- the first free slot is free
@@ -212,52 +250,55 @@ free-each pre (o ∷ l) os e i d = by-test (isLive o) refl (free-each (pre ++ (o
     by-test true t r = r
     by-test false t r = ap isLive (ap (λ (z : List Order). getD z i noOrder) (sym e) ∙ subst (λ (z : ℕ). getD (pre ++ (o ∷ l)) z noOrder ≡ o) d (getD-append-seam pre o l noOrder)) ∙ t
 
--- starts: each is a receive of the plan
-record Starts (p : Plan) (k : ℕ) : Type 0 where
+-- starts: each is a receive of the plan that the message fits, where it fits no open one
+record Starts (p : Plan) (o : Order) (x : Letter) (k : ℕ) : Type 0 where
   inside : k < size (p .body) + size (p .fault)
   partner : ℕ
   operation : ℕ
   variables : List ℕ
   is : takes partner operation variables ≡ doingAt p k
+  fit : fits p o partner operation variables (x .message) ≡ true
+  alone : empties (x .fitted) ≡ true
 
-starts-each : (p : Plan) (o : Order) (x : Letter) {l : List Ready} → Each (Does (doingAt p) 0 (size (p .body) + size (p .fault))) l → Each (Starts p) (startsOf p o l x)
+starts-each : (p : Plan) (o : Order) (x : Letter) {l : List Ready} → Each (Does (doingAt p) 0 (size (p .body) + size (p .fault))) l → Each (Starts p o x) (startsOf p o l x)
 unfolding startsOf startOf each
-starts-each p o x {l} y = each-cond (empties (x .fitted)) (all y) each-none
+starts-each p o x {l} y = each-where (empties (x .fitted)) (λ q. all q y)
   where
-    one : (a : ℕ) (d : Doing) → a < size (p .body) + size (p .fault) → d ≡ doingAt p a → Each (Starts p) (startOf p o x (record { activity = a; step = d }))
-    one a noStep h e = each-none
-    one a (sends b c vs) h e = each-none
-    one a (takes b c vs) h e =
-        each-cond (fits p o b c vs (x .message)) (each-more (record { inside = h; partner = b; operation = c; variables = vs; is = e }) each-none) each-none
-    one a moves h e = each-none
-    one a cuts h e = each-none
-    one a (closes s) h e = each-none
+    one : empties (x .fitted) ≡ true → (a : ℕ) (d : Doing) → a < size (p .body) + size (p .fault) → d ≡ doingAt p a → Each (Starts p o x) (startOf p o x (record { activity = a; step = d }))
+    one q a noStep h e = each-none
+    one q a (sends b c vs) h e = each-none
+    one q a (takes b c vs) h e =
+        each-where (fits p o b c vs (x .message)) (λ f. each-more (record { inside = h; partner = b; operation = c; variables = vs; is = e; fit = f; alone = q }) each-none)
+    one q a moves h e = each-none
+    one q a cuts h e = each-none
+    one q a (closes s) h e = each-none
 
-    all : {l : List Ready} → Each (Does (doingAt p) 0 (size (p .body) + size (p .fault))) l → Each (Starts p) (each (startOf p o x) l)
-    all each-none = each-none
-    all (each-more {a} w z) = each-append (one (a .activity) (a .step) (w .high) (w .is)) (all z)
+    all : empties (x .fitted) ≡ true → {l : List Ready} → Each (Does (doingAt p) 0 (size (p .body) + size (p .fault))) l → Each (Starts p o x) (each (startOf p o x) l)
+    all q each-none = each-none
+    all q (each-more {a} w z) = each-append (one q (a .activity) (a .step) (w .high) (w .is)) (all q z)
 
-start-each : (p : Plan) (os : List Order) (wait free : ℕ) → isLive (getD os free noOrder) ≡ false → (x : Letter) → Waits wait x
-    → Each (Fine p os wait) (startOffers p free (startedOrder p) (readyOf p (startedOrder p)) x .offered)
-unfolding startOffers Allowed
-start-each p os wait free h x w =
+start-each : (p : Plan) (s : State) (free : ℕ) → isLive (getD (s .orders) free noOrder) ≡ false → (x : Letter)
+    → Waits p (liveFrom p 0 (s .orders)) (s .messages) (s .waiting) x → Each (Fine p s) (startOffers p free (startedOrder p) (readyOf p (startedOrder p)) x .offered)
+unfolding startOffers Allowed Heeds
+start-each p s free h x w =
     held (leb 16 free && not (empties (startsOf p (startedOrder p) (readyOf p (startedOrder p)) x)))
     (each-map (λ k. offering free k (x .place)) (λ k z.
-    fine-from p os wait (startedOrder p) free k (takes (z .partner) (z .operation) (z .variables)) (pick-false (isLive (getD os free noOrder)) _ _ h) (z .is) (z .inside)
-    (offering free k (x .place)) (record { slot = refl; activity = refl; allowed = w .is }))
+    fine-from p s true (startedOrder p) free k (takes (z .partner) (z .operation) (z .variables)) (pick-false (isLive (getD (s .orders) free noOrder)) _ _ h) (ap not h) (z .is) (z .inside)
+    (offering free k (x .place))
+    (record { slot = refl; activity = refl; allowed = w .is; heeds = (rw (sym (w .stands)) (z .fit), rw (sym (w .stands), sym (w .fitted)) (z .alone)) }))
     (starts-each p (startedOrder p) x (plan-ready p (startedOrder p))))
   where
-    held : (b : Bool) {l : List Offer} → Each (Fine p os wait) l → Each (Fine p os wait) (unlessHeld b l .offered)
+    held : (b : Bool) {l : List Offer} → Each (Fine p s) l → Each (Fine p s) (unlessHeld b l .offered)
     held true y = each-none
     held false y = y
 
-offers-fine : (p : Plan) (s : State) → Each (Fine p (s .orders) (s .waiting)) (offersOf p s .offered)
+offers-fine : (p : Plan) (s : State) → Each (Fine p s) (offersOf p s .offered)
 unfolding offersOf
 offers-fine p s =
-    let w = letters-wait p (liveFrom p 0 (s .orders)) 0 (s .messages) (s .waiting) (s .waiting) (omega arith) in
+    let w = letters-wait p (liveFrom p 0 (s .orders)) [] (s .messages) (s .messages) refl 0 refl (s .waiting) (s .waiting) (omega arith) in
     each-append
-    (all-each _ (λ x h. order-each p (s .orders) (s .waiting) w x h) (live-each p [] (s .orders) (s .orders) refl 0 refl))
-    (all-each _ (λ x h. start-each p (s .orders) (s .waiting) (freeFrom 0 (s .orders)) (free-each [] (s .orders) (s .orders) refl 0 refl) x h) w)
+    (all-each _ (λ x h. order-each p s w x h) (live-each p [] (s .orders) (s .orders) refl 0 refl))
+    (all-each _ (λ x h. start-each p s (freeFrom 0 (s .orders)) (free-each [] (s .orders) (s .orders) refl 0 refl) x h) w)
 
 -- the one chosen is one of them
 nth-each : {P : Offer → Type 0} {l : List Offer} (n c : ℕ) (x : Offer) → Each P l → nth n l c ≡ chosen x → P x
@@ -267,6 +308,6 @@ nth-each {P} n zero x (each-more {a} h y) e = subst P (let z : a ≡ x = cc in z
 nth-each n (suc c) x (each-more h y) e = nth-each n c x y e
 
 -- What a choice comes to may be taken.
-pub chosen-fine : (p : Plan) (s : State) (c : ℕ) (x : Offer) → choosing (offersOf p s) c ≡ chosen x → Fine p (s .orders) (s .waiting) x
+pub chosen-fine : (p : Plan) (s : State) (c : ℕ) (x : Offer) → choosing (offersOf p s) c ≡ chosen x → Fine p s x
 unfolding choosing
 chosen-fine p s c x e = nth-each _ c x (offers-fine p s) e

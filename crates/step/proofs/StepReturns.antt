@@ -35,23 +35,8 @@ use Rattle.offer.proofs.Having.{has-limits, has-from}
 use Rattle.step.specs.Stepping.{bare, TakesOffer, StepsBy}
 use Rattle.machine.proofs.Called.{answer-no, answer-got, plan-found}
 use Rattle.laws.proofs.Offering.{pick-true, pick-false}
+use Rattle.laws.proofs.Promised.{refusal-some}
 use Rattle.laws.proofs.Keeping.{step-by-keeps, step-is-by, step-keeps}
-
--- a refused choice has a number
-nth-number : (m : ℕ) (l : List Offer) (c n : ℕ) → nth m l c ≡ refusedChoice n → m ≡ n
-unfolding nth
-nth-number m [] c n e = cc
-nth-number m (x ∷ l) zero n e = absurd (let z : _≡_ {A = ℕ} 0 1 = cc in omega arith)
-nth-number m (x ∷ l) (suc c) n e = nth-number m l c n e
-
-refusal-some : (a : Offers) (c n : ℕ) → choosing a c ≡ refusedChoice n → n ≡ 0 → ⊥
-unfolding choosing
-refusal-some a c n e z = go (empties (a .offered)) (a .held) (nth-number _ (a .offered) c n e)
-  where
-    go : (x y : Bool) → cond x (cond y 11 10) 12 ≡ n → ⊥
-    go true true q = omega arith
-    go true false q = omega arith
-    go false y q = omega arith
 
 -- `step_by`
 module _ {t flags : List ℕ} {n : ℕ} {s : State} (h : Has t flags n s) (c : ℕ) (y : Tally) {x : Step} (e : x ≡ preview c s) where

@@ -4,7 +4,7 @@ use mathlib.Core.Bool.{Bool, true, false, cond, not, _&&_}
 use mathlib.Core.List.{List, [], _∷_}
 use Prim.Native.Nat.{ℕ, zero, suc, _+_, _*_, _<_, _≤_}
 use native.Mathlib.Omega.{arith}
-use borrow.Author.Tests.{lt-ltb, le-ltb, le-leb, leb-false, eq-eqb, ne-eqb}
+use borrow.Author.Tests.{lt-ltb, le-ltb, le-leb, eq-eqb, ne-eqb}
 use lib.Dec.{eqb, ltb, leb}
 use lib.ListN.{length, getD, set, take, replicate, List·getD-eq-default}
 use lib.Seq.{set-out, take-all}
@@ -46,7 +46,7 @@ use Rattle.machine.proofs.Copied.{stored-more}
 use Rattle.machine.proofs.Moved.{same-there, letter-there, limits-letters}
 use Rattle.laws.proofs.Offering.{pick-true, pick-false, chosen-fine}
 use Rattle.laws.proofs.Roomy.{takes-same, take-closings}
-use Rattle.laws.proofs.Doing.{actDoing, plan-doing, good-room}
+use Rattle.laws.proofs.Doing.{actDoing, plan-doing, good-room, send-room}
 
 -- `value_of`
 pub value-far : (o : Order) (v : ℕ) → 16 ≤ v → Worths o v 0
@@ -102,15 +102,8 @@ module _ {t : List ℕ} {k : ℕ} {o : Order} {b : Bool} (a : AllBound t k o b) 
   send-adds e v q = record {
     is = λ x y vs j r h.
         let f : every (isBound o) vs ≡ true = sym (a .is vs (r .names)) ∙ e in
-        q ∙ rw (lt-ltb _ _ (room (s .waiting) vs h f), f, v .is vs (r .names), r .partner, r .operation, r .names .count);
+        q ∙ rw (lt-ltb _ _ (send-room (s .waiting) o vs h f), f, v .is vs (r .names), r .partner, r .operation, r .names .count);
   }
-    where
-      room : (n : ℕ) (vs : List ℕ) → sendHeld n o vs ≡ false → every (isBound o) vs ≡ true → n < 64
-      room n vs h f = go (leb 64 n) refl (subst (λ (z : Bool). (leb 64 n && z) ≡ false) f h)
-        where
-          go : (z : Bool) → leb 64 n ≡ z → (z && true) ≡ false → n < 64
-          go true w g = absurd (let c : _≡_ {A = ℕ} 0 1 = cc in omega arith)
-          go false w g = leb-false 64 n w
 
   pub send-raises : b ≡ false → Sends t k o s s
   unfolding messagesAfter
