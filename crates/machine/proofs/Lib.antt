@@ -1,6 +1,5 @@
 mod Called
 mod Copied
-mod Histories
 mod Moved
 mod Partners
 mod Ruled

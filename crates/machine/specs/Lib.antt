@@ -11,7 +11,5 @@ pub mod Lines
 pub mod Sights
 pub mod Stepping
 pub mod Running
-pub mod History
-pub mod Demand3
 pub mod Computing
 pub mod Starred

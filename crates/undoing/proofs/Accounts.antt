@@ -9,7 +9,7 @@ use Rattle.plan.specs.Tree.{Plan}
 use Rattle.order.specs.Lists.{every, some, only, each}
 use Rattle.order.specs.State.{idle, active, done, faulty, undoing, handling, halted, withdrawing, Name, root, inner, same}
 use Rattle.order.specs.Event.{Event, left}
-use Rattle.machine.specs.Demand3.{Inner, scopesOf, insideOf, isBegin, since, isTurn, isFinish, closedBy, undoneBy, closingsOf, undoneOf, isLeft, noneLeft, noneNow}
+use Rattle.undoing.specs.Demand3.{Inner, scopesOf, insideOf, isBegin, since, isTurn, isFinish, closedBy, undoneBy, closingsOf, undoneOf, isLeft, noneLeft, noneNow}
 use Rattle.undoing.specs.Ties.{isName}
 use Rattle.undoing.proofs.Parts.{decide, every-so, every-both, every-only}
 

@@ -15,7 +15,7 @@ use Rattle.order.specs.State.{Name, root, inner, same, idle, withMarks, closing
 use Rattle.order.specs.Event.{ended, raised}
 use Rattle.order.specs.Begin.{cleared}
 use Rattle.order.specs.Scope.{Scope, isFor, forgetting}
-use Rattle.machine.specs.Demand3.{Inner, insideOf, isRoot, rightAfter, noneNow, isOver, isUndoRaise, allowed}
+use Rattle.undoing.specs.Demand3.{Inner, insideOf, isRoot, rightAfter, noneNow, isOver, isUndoRaise, allowed}
 use Rattle.undoing.specs.Ties.{isName}
 use Rattle.undoing.proofs.Parts.{both, decide, only-not, only-within}
 use Rattle.undoing.proofs.Accounts.{Phase, heals, phase, Inside·rest}

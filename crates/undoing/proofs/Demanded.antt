@@ -27,9 +27,9 @@ use Rattle.order.specs.Acting.{allBound, Moved, stepOrder, begunOrder, startedO
 use Rattle.machine.specs.Fit.{Doing, noStep, sends, takes, moves, cuts, closes}
 use Rattle.machine.specs.Offer.{Offer, offersOf}
 use Rattle.order.specs.Taking.{bindAll}
-use Rattle.machine.specs.Calls.{loadedAs, load, refusing, postBy, post, partnersOf, foreign, collectBy, collect, Chosen, refusedChoice, chosen, choosing, countStart, Stepped, doingAt, messagesAfter, orderTaking, stepped, taken, stepChosen, stepBy, step}
-use Rattle.machine.specs.History.{Call, posting, collecting, stepping, logOf, history}
-use Rattle.machine.specs.Demand3.{rightAfter, right, noneNow, allowed, Demand3}
+use Rattle.machine.specs.Calls.{loadedAs, load, refusing, postBy, post, partnersOf, foreign, collectBy, collect, Chosen, refusedChoice, chosen, choosing, countStart, Stepped, doingAt, messagesAfter, orderTaking, stepped, taken, stepChosen, stepBy, step, Call, posting, collecting, stepping}
+use Rattle.undoing.specs.History.{logOf, history}
+use Rattle.undoing.specs.Demand3.{rightAfter, right, noneNow, allowed, Demand3}
 use Rattle.undoing.proofs.Parts.{both, decide}
 use Rattle.undoing.proofs.Accounts.{Phase, rest, waits, heals, phase}
 use Rattle.undoing.proofs.Moves.{Everywhere, HoldsAt, move-start}

@@ -1,3 +1,4 @@
+mod Histories
 pub mod Parts
 pub mod Accounts
 pub mod Moves

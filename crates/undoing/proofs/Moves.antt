@@ -10,7 +10,7 @@ use Rattle.plan.specs.Tree.{Plan}
 use Rattle.order.specs.Lists.{every, some, only}
 use Rattle.order.specs.State.{Name, root, inner, same}
 use Rattle.order.specs.Event.{Event, started, began, closed, faulted, stopped, ended, raised, left}
-use Rattle.machine.specs.Demand3.{Inner, scopesOf, insideOf, isBegin, since, isTurn, isFinish, closedBy, undoneBy, isUndoRaise, closingsOf, undoneOf, hasTurned, mayTurn, mayUndo, mayBegin, mayClose, startedAll, isRoot, mayEnd, isOver, noneNow, allowed}
+use Rattle.undoing.specs.Demand3.{Inner, scopesOf, insideOf, isBegin, since, isTurn, isFinish, closedBy, undoneBy, isUndoRaise, closingsOf, undoneOf, hasTurned, mayTurn, mayUndo, mayBegin, mayClose, startedAll, isRoot, mayEnd, isOver, noneNow, allowed}
 use Rattle.undoing.specs.Ties.{isName}
 use Rattle.undoing.proofs.Parts.{decide, only-swap, alike-itself, same-equal, same-itself, same-swap}
 use Rattle.undoing.proofs.Accounts.{Account, accountOf, next, account-next, left-unfinished, Phase, rest, live, waits, undoes, heals, phase, Tied, tied-as, Holds, Known, Inside·rest, none-left}

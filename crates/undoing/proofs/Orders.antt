@@ -15,7 +15,7 @@ use Rattle.order.specs.State.{Name, root, inner, closings, markAt, marked, mark
 use Rattle.order.specs.Event.{Event}
 use Rattle.order.specs.Begin.{part, partAt}
 use Rattle.order.specs.Scope.{isScope}
-use Rattle.machine.specs.Demand3.{Inner, insideOf, allowed, rightAfter, noneNow}
+use Rattle.undoing.specs.Demand3.{Inner, insideOf, allowed, rightAfter, noneNow}
 use Rattle.undoing.specs.Ties.{isName}
 use Rattle.undoing.proofs.Marks.{trio}
 use Rattle.undoing.proofs.Parts.{both, decide}

@@ -15,7 +15,7 @@ use Rattle.order.specs.Lists.{only}
 use Rattle.order.specs.State.{Name, root, inner, same}
 use Rattle.order.specs.Begin.{part, partAt}
 use Rattle.order.specs.Scope.{isScope, rootOf}
-use Rattle.machine.specs.Demand3.{Inner, scopesIn, scopesAmong, scopesOf, insideOf}
+use Rattle.undoing.specs.Demand3.{Inner, scopesIn, scopesAmong, scopesOf, insideOf}
 use Rattle.undoing.specs.Ties.{isName}
 use Rattle.undoing.proofs.Marks.{trio, spread}
 use Rattle.undoing.proofs.Parts.{both, decide, only-append, only-swap, none-some, one-some, same-equal, same-itself, same-swap}

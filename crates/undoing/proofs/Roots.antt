@@ -16,7 +16,7 @@ use Rattle.order.specs.declared.Way.{Way as Result}
 use Rattle.order.specs.declared.Way.the-variants.{Running as running, Over as over, Raising as raising, Leaving as leaving, Undone as undone, UndoRaising as undoRaising}
 use Rattle.order.specs.Scope.{Outcome, Scope, rootOf, fromBody, fromFault}
 use Rattle.order.specs.Acting.{stepIn, stepRoot, endOf, Moved, movedTo, stepOrder}
-use Rattle.machine.specs.Demand3.{rightAfter, noneNow, isOver}
+use Rattle.undoing.specs.Demand3.{rightAfter, noneNow, isOver}
 use Rattle.undoing.proofs.Accounts.{Phase, live, waits, heals, phase}
 use Rattle.undoing.proofs.Moves.{HoldsAt, root-well}
 use Rattle.undoing.proofs.Marks.{Quiet, turned-waits, turned-undoes, turned-heals}

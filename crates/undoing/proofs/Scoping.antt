@@ -15,7 +15,7 @@ use Rattle.order.specs.Begin.{cleared}
 use Rattle.order.specs.declared.Way.{Way as Result}
 use Rattle.order.specs.declared.Way.the-variants.{Running as running, Over as over, Raising as raising, Leaving as leaving, Undone as undone, UndoRaising as undoRaising}
 use Rattle.order.specs.Scope.{Outcome, runs, after, Scope, isOpen, innerRuns, ends, undoes, turns, stop, faults, breaks, looksAgain, bodyOver, bodyRaised, undoOver, undoRaised, fromBody, partOver, partRaised, fromFault, forgetting}
-use Rattle.machine.specs.Demand3.{isRoot, insideOf, isUndoRaise}
+use Rattle.undoing.specs.Demand3.{isRoot, insideOf, isUndoRaise}
 use Rattle.undoing.specs.Ties.{isName}
 use Rattle.undoing.proofs.Parts.{decide}
 use Rattle.undoing.proofs.Accounts.{Phase, rest, live, waits, heals, odd, phase, tied-as}

@@ -14,7 +14,7 @@ use Rattle.order.specs.Lists.{every, some, only, withoutFirst, withoutLast}
 use Rattle.order.specs.State.{Name, root, inner, same, idle, closings, remembering, markOf, marking}
 use Rattle.order.specs.Event.{began}
 use Rattle.order.specs.Scope.{Scope, isScope, directly, directlyIn, innerRuns, innerRunsIn, rememberedFor}
-use Rattle.machine.specs.Demand3.{Inner, scopesOf, insideOf}
+use Rattle.undoing.specs.Demand3.{Inner, scopesOf, insideOf}
 use Rattle.undoing.specs.Ties.{isName}
 use Rattle.undoing.proofs.Parts.{neither, decide, some-append, every-append, only-swap, only-without, only-without-other, only-reverse, none-some, same-swap}
 use Rattle.undoing.proofs.Accounts.{rest, waits, undoes, heals, phase, Known, Inside·rest}

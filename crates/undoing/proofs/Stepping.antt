@@ -19,7 +19,7 @@ use Rattle.order.specs.declared.Way.the-variants.{Running as running, Over as o
 use Rattle.order.specs.Scope.{Outcome, runs, begunIn, Scope, scopeAt, isScope, forgetting, closing, innerRuns, innerRunsIn, fromBody, fromFault, fromUndo}
 use Rattle.order.specs.Acting.{itself, inScope, combines, arms, isPart, stepIn, stepAmong}
 use Rattle.machine.specs.Fit.{awaits}
-use Rattle.machine.specs.Demand3.{Inner, insideOf, isUndoRaise}
+use Rattle.undoing.specs.Demand3.{Inner, insideOf, isUndoRaise}
 use Rattle.undoing.specs.Ties.{isName}
 use Rattle.undoing.proofs.Parts.{both, decide, one-some, only-append, same-itself, same-swap}
 use Rattle.undoing.proofs.Accounts.{live, phase, Known}

@@ -16,7 +16,7 @@ use Rattle.order.specs.declared.Way.{Way as Result}
 use Rattle.order.specs.declared.Way.the-variants.{Running as running, Over as over, Raising as raising, Leaving as leaving, Undone as undone, UndoRaising as undoRaising}
 use Rattle.order.specs.Scope.{Outcome, Scope, scopeAt, isScope, isOpen, turns, untouched, withdraws, stop, stopAll, stopFirst}
 use Rattle.order.specs.Scope as definitions
-use Rattle.machine.specs.Demand3.{insideOf}
+use Rattle.undoing.specs.Demand3.{insideOf}
 use Rattle.undoing.proofs.Accounts.{phase, Known}
 use Rattle.undoing.proofs.Moves.{move-stop}
 use Rattle.undoing.proofs.Marks.{trio, spread, Quiet, Kept, Stopped, stopped-part, stopped-quiet, stopped-scope, StoppedIn, stopped-none, stopped-more, Stoppable, StoppableIn, able-more, quiet-part, quiet-agree, quiet-join, agree-below, agree-above, kept-wider, kept-then, kept-itself, kept-set, stopped-agree, stoppable-agree, stoppable-in-agree, parts-stoppable, Found, found-quiet, found-open, found-turned, scope-found}

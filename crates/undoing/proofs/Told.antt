@@ -19,9 +19,9 @@ use Rattle.order.specs.State.{idle, active, done, faulty, undoing, handling, ha
 use Rattle.machine.specs.State.{fresh}
 use Rattle.order.specs.Event.{Event}
 use Rattle.order.specs.Scope.{isOpen}
-use Rattle.machine.specs.Calls.{loadedAs, load, post, collect, step}
-use Rattle.machine.specs.History.{Call, posting, collecting, stepping, logOf, history}
-use Rattle.machine.specs.Demand3.{closingsOf, undoneOf, hasTurned, isLeft, mayTurn, noneNow}
+use Rattle.machine.specs.Calls.{loadedAs, load, post, collect, step, Call, posting, collecting, stepping}
+use Rattle.undoing.specs.History.{logOf, history}
+use Rattle.undoing.specs.Demand3.{closingsOf, undoneOf, hasTurned, isLeft, mayTurn, noneNow}
 use Rattle.plan.specs.Tree.{Plan}
 use Rattle.undoing.specs.Ties.{stateAfter, orderAfter, pastAfter, LiveTold, isTurned, MarksTold, remembered, ListsTold, fits, placeOf, PlacesTold}
 use Rattle.undoing.proofs.Parts.{decide}

@@ -15,7 +15,7 @@ use Rattle.order.specs.Begin.{begin}
 use Rattle.order.specs.declared.Way.{Way as Result}
 use Rattle.order.specs.declared.Way.the-variants.{Running as running, Over as over, Raising as raising, Leaving as leaving, Undone as undone, UndoRaising as undoRaising}
 use Rattle.order.specs.Scope.{Outcome, runs, after, begunIn, Scope, innerRuns, whereOver, undo, ends, handle, undoes, turns, rememberedFor}
-use Rattle.machine.specs.Demand3.{isRoot, rightAfter, noneNow, isOver}
+use Rattle.undoing.specs.Demand3.{isRoot, rightAfter, noneNow, isOver}
 use Rattle.undoing.specs.Ties.{isName}
 use Rattle.undoing.proofs.Parts.{decide, same-equal}
 use Rattle.undoing.proofs.Accounts.{Account, accountOf, Phase, waits, heals, phase, Tied, tied-as, Inside·rest}

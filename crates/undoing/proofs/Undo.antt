@@ -16,7 +16,7 @@ use Rattle.order.specs.Begin.{Begun, begin, beginPart, part, partAt}
 use Rattle.order.specs.declared.Way.{Way as Result}
 use Rattle.order.specs.declared.Way.the-variants.{Running as running, Over as over, Raising as raising, Leaving as leaving, Undone as undone, UndoRaising as undoRaising}
 use Rattle.order.specs.Scope.{Outcome, runs, begunIn, Scope, isScope, directly, directlyIn, beginUndo, beginUndoIn, whereOver, startUndo, undo, undoes}
-use Rattle.machine.specs.Demand3.{Inner}
+use Rattle.undoing.specs.Demand3.{Inner}
 use Rattle.undoing.proofs.Parts.{decide, only-first, only-reverse}
 use Rattle.undoing.proofs.Accounts.{Phase, phase, Known}
 use Rattle.undoing.proofs.Marks.{trio, spread, Quiet, Kept, Run, Undoing, undoing-part, undoing-scope, UndoingIn, undoing-here, undoing-later, quiet-part, quiet-agree, quiet-join, agree-below, agree-above, kept-wider, kept-then, kept-itself}

@@ -1,1 +1,4 @@
+pub mod History
+pub mod Demand3
 pub mod Ties
+pub mod Computing

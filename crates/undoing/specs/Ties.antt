@@ -20,9 +20,9 @@ use Rattle.order.specs.Begin.{quiet}
 use Rattle.order.specs.Scope.{Scope, scopeAt, rootOf, isOpen, isScope, innerRuns}
 use Rattle.order.specs.Acting.{allBound, startedOrder}
 use Rattle.machine.specs.Fit.{readyOf}
-use Rattle.machine.specs.Calls.{loaded, post, collect, Stepped, step}
-use Rattle.machine.specs.History.{Call, posting, collecting, stepping, history}
-use Rattle.machine.specs.Demand3.{scopesOf, insideOf, closingsOf, undoneOf, hasTurned, isLeft, mayTurn, noneNow}
+use Rattle.machine.specs.Calls.{loaded, post, collect, Stepped, step, Call, posting, collecting, stepping}
+use Rattle.undoing.specs.History.{history}
+use Rattle.undoing.specs.Demand3.{scopesOf, insideOf, closingsOf, undoneOf, hasTurned, isLeft, mayTurn, noneNow}
 
 -- the state after these calls
 unfoldable pub stateAfter : List Call → State → Tally → State

@@ -8,14 +8,14 @@ use lib.Dec.{leb, ltb, eqb}
 use Rattle.plan.specs.Found.{Found, found}
 use Rattle.plan.specs.Read.{readPlan}
 use Rattle.plan.specs.Tree.{Act, act, Acts, none, more, Plan, size}
 use Rattle.machine.specs.declared.Tally.{Tally}
 use Rattle.order.specs.Lists.{every, some, only, each, alike}
 use Rattle.order.specs.State.{Name, root, inner, same}
 use Rattle.order.specs.Event.{Event, started, began, closed, faulted, stopped, ended, raised, left}
 use Rattle.order.specs.Begin.{part, partAt}
 use Rattle.order.specs.Scope.{isScope}
-use Rattle.machine.specs.Calls.{loaded}
-use Rattle.machine.specs.History.{Call, history}
+use Rattle.machine.specs.Calls.{loaded, Call}
+use Rattle.undoing.specs.History.{history}
 
 -- The scopes of a plan, as facts of the plan alone: a scope's number, the nearest scope around it, and the numbers of its undo part, from
 -- `undo` on and `count` many.
