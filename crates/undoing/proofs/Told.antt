@@ -68,8 +68,8 @@ told m l a f t =
 pub listed : (q : Phase) (l : List ℕ) (a : Account) → Tied q l a → (a .left ≡ true → a .closings ≡ a .undone ++ l) × (a .left ≡ false → l ≡ [])
 listed rest l a t = ((λ e. absurd (false≢true (sym (t .0) ∙ e))), λ e. t .1)
 listed live l a t = ((λ e. t .3 ∙ rw (t .2)), λ e. absurd (false≢true (sym e ∙ t .0)))
-listed waits l a t = ((λ e. t .3 ∙ rw (t .2)), λ e. absurd (false≢true (sym e ∙ t .0)))
-listed undoes l a t = ((λ e. t .2), λ e. absurd (false≢true (sym e ∙ t .0)))
+listed (waits w) l a t = ((λ e. t .3 ∙ rw (t .2)), λ e. absurd (false≢true (sym e ∙ t .0)))
+listed (undoes w) l a t = ((λ e. t .2), λ e. absurd (false≢true (sym e ∙ t .0)))
 listed heals l a t = ((λ e. t .2 ∙ rw (t .3, append-nil)), λ e. absurd (false≢true (sym e ∙ t .0)))
 listed odd l a t = absurd t
 

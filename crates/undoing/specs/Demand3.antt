@@ -17,11 +17,12 @@ use Rattle.order.specs.Scope.{isScope}
 use Rattle.machine.specs.Calls.{loaded, Call}
 use Rattle.undoing.specs.History.{history}
 
--- The scopes of a plan, as facts of the plan alone: a scope's number, the nearest scope around it, and the numbers of its undo part, from
--- `undo` on and `count` many.
+-- The scopes of a plan, as facts of the plan alone: a scope's number, the nearest scope around it, the number of its fault part, and the numbers
+-- of its undo part, from `undo` on and `count` many.
 pub record Inner : Type 0 where
   pub number : ℕ
   pub around : Name
+  pub fault : ℕ
   pub undo : ℕ
   pub count : ℕ
 
@@ -29,7 +30,13 @@ unfoldable mutual
   pub scopesIn : Act → (k : ℕ) → (around : Name) → List Inner
   scopesIn (act own within) k n =
       elim (isScope own) [
-        | true ↦ record { number = k; around = n; undo = partAt 2 within (k + 1); count = size (part 2 within) }
+        | true ↦ record {
+          number = k;
+          around = n;
+          fault = partAt 1 within (k + 1);
+          undo = partAt 2 within (k + 1);
+          count = size (part 2 within);
+        }
             ∷ scopesAmong within (k + 1) (inner k)
         | false ↦ scopesAmong within (k + 1) n
       ]

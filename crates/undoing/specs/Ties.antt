@@ -318,12 +318,30 @@ unfoldable pub NeverStuck : Type 0
 NeverStuck =
     Always (λ p o past. isLive o ≡ true → (awaitsIn (p .body) 0 (o .marks) || awaitsIn (p .fault) (size (p .body)) (o .marks)) ≡ true)
 
--- GOING ON. In a live order a scope that waits has one running directly inside it; where one undoes, something in its body runs; where one
--- handles, something in its fault part does.
+-- GOING ON. In a live order a scope that waits has one running directly inside it; one that undoes has the undo part of one directly inside it
+-- running, and never more than one, and no scope but one that undoes has any; one that handles has something running in its fault part.
+
+-- 1 where the third of these, the undo part of a scope, runs, and 0 where not
+unfoldable pub undoRuns : Acts → (c : ℕ) → (marks : List ℕ) → ℕ
+undoRuns none c ms = 0
+undoRuns (more b none) c ms = 0
+undoRuns (more b (more f none)) c ms = 0
+undoRuns (more b (more f (more u l))) c ms = cond (quiet (c + size b + size f) (size u) ms) 0 1
+
+-- how many undo parts run, of the scopes of activity k with no other scope around them there
+unfoldable mutual
+  pub undosIn : Act → (k : ℕ) → (marks : List ℕ) → ℕ
+  undosIn (act own within) k ms =
+      elim (isScope own) [ true ↦ undoRuns within (k + 1) ms | false ↦ undosAmong within (k + 1) ms ]
+
+  pub undosAmong : Acts → (c : ℕ) → (marks : List ℕ) → ℕ
+  undosAmong none c ms = 0
+  undosAmong (more a l) c ms = undosIn a c ms + undosAmong l (c + size a) ms
+
 unfoldable pub movesOn : Scope → (mark : ℕ) → (marks : List ℕ) → Bool
 movesOn s m ms =
     (not (eqb m faulty || eqb m halted) || innerRuns (s .body) (s .bodyAt) ms)
-    && ((not (eqb m undoing || eqb m withdrawing) || not (quiet (s .bodyAt) (size (s .body)) ms))
+    && (eqb (undosIn (s .body) (s .bodyAt) ms) (cond (eqb m undoing || eqb m withdrawing) 1 0)
     && (not (eqb m handling) || not (quiet (s .faultAt) (size (s .fault)) ms)))
 
 unfoldable mutual
