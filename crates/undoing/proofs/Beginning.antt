@@ -14,11 +14,11 @@ use Rattle.order.specs.State.{Name, inner, idle, active, done, withMarks, marke
 use Rattle.order.specs.Event.{Event, began}
 use Rattle.order.specs.Begin.{Begun, nothingBegun, awaiting, throughout, around, itsBeginning, inTurn, sideBySide, begin, beginInTurn, beginAll}
 use Rattle.order.specs.Scope.{isScope}
-use Rattle.undoing.specs.Ties.{isName, Place, bodyOf, nameOf, isDoer}
+use Rattle.undoing.specs.Ties.{isName, Place, bodyOf, nameOf}
 use Rattle.undoing.proofs.Parts.{both, decide}
 use Rattle.undoing.proofs.Accounts.{phase, Known}
 use Rattle.undoing.proofs.Moves.{Before, Spot, move-plain, move-begin}
-use Rattle.undoing.proofs.Marks.{run-loud, trio, spread, Agree, Quiet, Kept, Run, run-awaits, run-one, run-all, run-body, run-done, One, one-here, one-later, All, all-none, all-run, all-quiet, quiet-part, quiet-agree, quiet-join, agree-below, agree-above, kept-wider, kept-then, kept-itself, kept-set, run-agree}
+use Rattle.undoing.proofs.Marks.{isDoer, run-loud, trio, spread, Agree, Quiet, Kept, Run, run-awaits, run-one, run-all, run-body, run-done, One, one-here, one-later, All, all-none, all-run, all-quiet, quiet-part, quiet-agree, quiet-join, agree-below, agree-above, kept-wider, kept-then, kept-itself, kept-set, run-agree}
 use Rattle.undoing.proofs.Orders.{momentOf, Fit, fit-kept, fit-marked, before-of, before-on, Does, does-then, does-nothing, does-still, does-one, plain-marked, phase-marked, marked-elsewhere, innerAt, isArm, Sits, sits-part, sits-scope, SitsIn, sits-none, sits-more, Remedy, remedy}
 
 -- what began in order o, where the events before led from o₀ to o: S holds of its marks while it runs

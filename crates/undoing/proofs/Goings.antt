@@ -19,11 +19,11 @@ use Rattle.order.specs.declared.Way.the-variants.{Running as running, Over as o
 use Rattle.order.specs.Scope.{Outcome, runs, after, begunIn, whereOver, isScope}
 use Rattle.order.specs.Acting.{finishes, raises, leaves, orRaises, enters, again, repeats, allBound, itself}
 use Rattle.undoing.specs.Demand3.{noneNow, isOver}
-use Rattle.undoing.specs.Ties.{isName, Place, nameOf, isDoer}
+use Rattle.undoing.specs.Ties.{isName, Place, nameOf}
 use Rattle.undoing.proofs.Parts.{decide}
 use Rattle.undoing.proofs.Accounts.{phase}
 use Rattle.undoing.proofs.Moves.{Everywhere, Before, Spot, move-raise, order-left}
-use Rattle.undoing.proofs.Marks.{Quiet, Kept, holding, Run, run-awaits, run-one, One, one-here, one-later, able-part, quiet-part, quiet-agree, quiet-join, agree-below, agree-above, kept-wider, kept-then, kept-itself, kept-set, quiet-stoppable}
+use Rattle.undoing.proofs.Marks.{isDoer, Quiet, Kept, holding, Run, run-awaits, run-one, One, one-here, one-later, able-part, quiet-part, quiet-agree, quiet-join, agree-below, agree-above, kept-wider, kept-then, kept-itself, kept-set, quiet-stoppable}
 use Rattle.undoing.proofs.Orders.{momentOf, fairAfter, Fit, fit-kept, fit-marked, before-on, Does, does-then, does-nothing, does-still, does-one, plain-marked, isArm, least, SitsIn, sits-none, sits-more}
 use Rattle.undoing.proofs.Beginning.{Begins, begins, begins-in-turn, begins-nothing, quiet-set, quiet-cons}
 use Rattle.undoing.proofs.Breaking.{cleared-kept, cleared-quiet}

@@ -11,7 +11,6 @@ use borrow.Author.Tests.{ltb-true, ltb-false}
 use Rattle.plan.specs.Tree.{Own, empty, send, receive, set as setting, raise, leave, choose, repeat, sequence, flow, pick, scope, arm, kind, Act, act, Acts, none, more, size, sizes}
 use Rattle.order.specs.State.{idle, active, inside, done}
 use Rattle.order.specs.Scope.{isScope, isOpen, innerRuns, innerRunsIn}
-use Rattle.undoing.specs.Ties.{isDoer}
 use Rattle.undoing.proofs.Parts.{decide}
 use Rattle.undoing.proofs.Accounts.{Phase, rest, live, waits, undoes, heals, phase}
 
@@ -22,6 +21,22 @@ trio b f u = more b (more f (more u none))
 -- how many numbers a scope has
 abbrev pub spread : (body fault undo : Act) → ℕ
 spread b f u = 1 + (size b + (size f + (size u + 0)))
+
+-- whether an activity has a step of its own while it is active: a pick has that of an arm
+unfoldable pub isDoer : Own → Bool
+isDoer empty = false
+isDoer (send p op vs) = true
+isDoer (receive p op vs) = true
+isDoer (setting v e) = true
+isDoer raise = true
+isDoer leave = true
+isDoer (choose e) = true
+isDoer (repeat e) = true
+isDoer sequence = false
+isDoer flow = false
+isDoer pick = true
+isDoer scope = false
+isDoer (arm p op vs) = false
 
 -- n marks from k on are the same; are idle
 pub record Agree (k n : ℕ) (ms ns : List ℕ) : Type 0 where

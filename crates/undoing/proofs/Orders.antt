@@ -152,9 +152,9 @@ unfoldable mutual
 abbrev pub isArm : Own → Bool
 isArm own = eqb (kind own) 12
 
--- how many must stand within an activity that begins one of them
+-- how many must stand within an activity that begins one of them, or has them for arms
 unfoldable pub least : Own → ℕ
-least own = cond (eqb (kind own) 6) 2 (cond (eqb (kind own) 7 || eqb (kind own) 12) 1 0)
+least own = cond (eqb (kind own) 6) 2 (cond (eqb (kind own) 7 || (eqb (kind own) 10 || eqb (kind own) 12)) 1 0)
 
 -- k is the fault part of scope n, of no other, and no undo part
 pub record Faulty (p : Plan) (n : Name) (k : ℕ) : Type 0 where

@@ -32,7 +32,7 @@ mutual
   pub data Formed : (h r : Bool) → Act → Type 0 where
     formed-part : {h r : Bool} {own : Own} {within : Acts} → isScope own ≡ false → isArm own ≡ r → least own ≤ count within
         → FormedIn h (eqb (kind own) 10) within → Formed h r (act own within)
-    formed-scope : {r : Bool} {b f u : Act} → Formed false false b → Formed true false f → Formed true false u → Formed false r (act scope (trio b f u))
+    formed-scope : {b f u : Act} → Formed false false b → Formed true false f → Formed true false u → Formed false false (act scope (trio b f u))
 
   pub data FormedIn : (h r : Bool) → Acts → Type 0 where
     formed-none : {h r : Bool} → FormedIn h r none
@@ -53,7 +53,8 @@ own-formed vars cs h r (repeat x) n e s =
     both (not r) _ e (λ a b. both (eqb n 1) _ b (λ c d. (sym (not-true r a), let z : n ≡ 1 = eqb-true n 1 c in omega arith)))
 own-formed vars cs h r sequence n e s = (sym (not-true r (both (not r) _ e (λ x y. x))), omega arith)
 own-formed vars cs h r flow n e s = (sym (not-true r (both (not r) _ e (λ x y. x))), omega arith)
-own-formed vars cs h r pick n e s = (sym (not-true r (both (not r) _ e (λ x y. x))), omega arith)
+own-formed vars cs h r pick n e s =
+    both (not r) _ e (λ a b. both (leb 1 n) _ b (λ c d. (sym (not-true r a), let z : 1 ≤ n = leb-true 1 n c in omega arith)))
 own-formed vars cs h r scope n e s = absurd (false≢true (sym s))
 own-formed vars cs h r (arm x y vs) n e s =
     both r _ e (λ a b. both (eqb n 1) _ b (λ c d. (sym a, let z : n ≡ 1 = eqb-true n 1 c in omega arith)))
@@ -76,16 +77,17 @@ scope-own scope e = refl
 scope-own (arm x y vs) e = absurd (false≢true e)
 
 -- a scope's three parts
-three : (h r : Bool) (l : Acts) → h ≡ false → count l ≡ 3
+three : (h r : Bool) (l : Acts) → h ≡ false → r ≡ false → count l ≡ 3
     → ((a : Act) (x : Acts) → l ≡ more a x → Formed false false a) → ((a b : Act) (x : Acts) → l ≡ more a (more b x) → Formed true false b)
     → ((a b c : Act) (x : Acts) → l ≡ more a (more b (more c x)) → Formed true false c) → Formed h r (act scope l)
 unfolding count
-three h r none e d f g i = absurd (omega arith)
-three h r (more a none) e d f g i = absurd (omega arith)
-three h r (more a (more b none)) e d f g i = absurd (omega arith)
-three h r (more a (more b (more c none))) e d f g i =
-    subst (λ (z : Bool). Formed z r (act scope (more a (more b (more c none))))) (sym e) (formed-scope (f a _ refl) (g a b _ refl) (i a b c _ refl))
-three h r (more a (more b (more c (more x l)))) e d f g i = absurd (omega arith)
+three h r none e v d f g i = absurd (omega arith)
+three h r (more a none) e v d f g i = absurd (omega arith)
+three h r (more a (more b none)) e v d f g i = absurd (omega arith)
+three h r (more a (more b (more c none))) e v d f g i =
+    subst (λ (z : Bool). Formed z r (act scope (more a (more b (more c none))))) (sym e)
+    (subst (λ (z : Bool). Formed false z (act scope (more a (more b (more c none))))) (sym v) (formed-scope (f a _ refl) (g a b _ refl) (i a b c _ refl)))
+three h r (more a (more b (more c (more x l)))) e v d f g i = absurd (omega arith)
 
 -- the first of a list
 formed-first : {h r : Bool} (a : Act) (l x : Acts) → l ≡ more a x → FormedIn h r l → Formed h r a
@@ -104,7 +106,7 @@ unfolding ownWithin
 formed-scope-own vars cs h r l e f =
     both (not r) _ e (λ x y. both (eqb (count l) 3) (not h) y (λ c d.
     let z : h ≡ false = not-true h d in
-    three h r l z (eqb-true (count l) 3 c) (λ a x g. subst (λ (b : Bool). Formed b false a) z (f .0 a x g))
+    three h r l z (not-true r x) (eqb-true (count l) 3 c) (λ a x g. subst (λ (b : Bool). Formed b false a) z (f .0 a x g))
     (λ a b x g. formed-first b (more b x) x refl (f .1 a (more b x) g))
     (λ a b c x g. formed-second b c (more b (more c x)) x refl (f .1 a (more b (more c x)) g))))
 
@@ -649,6 +651,8 @@ pub record Promised (p : Plan) : Type 0 where
   pub seat : Seat p (rootOf p)
   pub distinct : Distinct p
   pub few : size (p .body) + size (p .fault) ≤ 256
+  pub body : Formed false false (p .body)
+  pub fault : Formed true false (p .fault)
 
 module _ (p : Plan) (x : Formed false false (p .body)) (y : Formed true false (p .fault)) where
   -- the scopes of the plan are those of its body
@@ -719,4 +723,4 @@ promised p e =
     both (actWithin (p .variables) (p .correlation) true false (p .fault) 16) _ j (λ k l. both (leb (size (p .body) + size (p .fault)) 256) _ l (λ m n.
     let x = formed (p .variables) (p .correlation) false false (p .body) 16 i in
     let y = formed (p .variables) (p .correlation) true false (p .fault) 16 k in
-    record { seat = root-seat p x y; distinct = no-two p x y; few = leb-true (size (p .body) + size (p .fault)) 256 m }))))))
+    record { seat = root-seat p x y; distinct = no-two p x y; few = leb-true (size (p .body) + size (p .fault)) 256 m; body = x; fault = y }))))))
