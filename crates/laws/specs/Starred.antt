@@ -18,8 +18,7 @@ use Rattle.machine.specs.declared.Step.{Step}
 use Rattle.machine.specs.declared.Tally.{Tally}
 use Rattle.order.specs.Lists.{every, each, alike, stored}
 use Rattle.machine.specs.State.{letters, noTally}
-use Rattle.machine.specs.Calls.{endNumber, loaded, post, collect, Stepped, step}
-use Rattle.machine.specs.History.{Call, posting, collecting, stepping}
+use Rattle.machine.specs.Calls.{endNumber, loaded, post, collect, Stepped, step, Call, posting, collecting, stepping}
 use Rattle.machine.specs.Computing.{computing}
 
 -- A run: the bytes of a plan, calls on a fresh state of it, all that they answer in turn (a refusal, or 0 and the values), the messages that wait

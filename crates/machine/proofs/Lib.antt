@@ -1,6 +1,5 @@
 pub mod Called
 pub mod Copied
-mod Histories
 pub mod Moved
 mod Partners
 mod Ruled

@@ -251,3 +251,9 @@ runBy f (c ∷ cs) (suc budget) s t = ranOn (runBy f cs budget) (f c s t)
 unfoldable pub run : (choices : List ℕ) → (budget : ℕ) → State → Tally → Ran
 run cs budget s t =
     by (record { taken = 0; refusal = 17; state = s; tally = t }) (λ p. runBy step cs budget s t) (planIn s)
+
+-- A call that may change a state. A run is its steps.
+pub data Call : Type 0 where
+  posting : Message → Call
+  collecting : Call
+  stepping : (choice : ℕ) → Call

@@ -9,8 +9,9 @@ use Rattle.plan.specs.Tree.{Plan}
 use Rattle.order.specs.Lists.{every, some, only, each}
 use Rattle.order.specs.State.{idle, active, done, faulty, undoing, handling, halted, withdrawing, Name, root, inner, same}
 use Rattle.order.specs.Event.{Event, left}
-use Rattle.machine.specs.Demand3.{Inner, scopesOf, insideOf, isBegin, since, isTurn, isFinish, closedBy, undoneBy, closingsOf, undoneOf, isLeft, noneLeft, noneNow}
-use Rattle.undoing.specs.Ties.{isName}
+use Rattle.undoing.specs.Demand3.{Inner, scopesOf, insideOf, isBegin, since, isTurn, isFinish, closedBy, undoneBy, closingsOf, undoneOf, isLeft, noneLeft, noneNow}
+use Rattle.undoing.specs.Ties.{isName, isFaultOf}
+use Rattle.undoing.specs.Orderly.{isFaultPart, isBeganOf, hasFaulted, hasHandled}
 use Rattle.undoing.proofs.Parts.{decide, every-so, every-both, every-only}
 
 pub record Account : Type 0 where
@@ -19,8 +20,11 @@ pub record Account : Type 0 where
   pub finished : Bool
   pub undone : List ℕ
   pub closings : List ℕ
+  pub faulted : Bool
+  pub handled : Bool
 
--- whether it is left running, whether it turned or finished since it last began, whose undo parts it started since, and the closings inside it since
+-- whether it is left running, whether it turned or finished since it last began, whose undo parts it started since, the closings inside it since,
+-- whether it faulted, and whether its fault part began
 abbrev pub accountOf : Plan → Name → (past : List Event) → Account
 accountOf p s past =
     record {
@@ -29,28 +33,32 @@ accountOf p s past =
       finished = some (isFinish s) (since s past);
       undone = undoneOf p s past;
       closings = closingsOf p s past;
+      faulted = hasFaulted s past;
+      handled = hasHandled p s past;
     }
 
 -- the account after one more event
 abbrev pub next : Plan → Name → Event → Account → Account
 next p s e a =
     elim (isBegin s e) [
-      | true ↦ record { left = true; turned = false; finished = false; undone = []; closings = [] }
+      | true ↦ record { left = true; turned = false; finished = false; undone = []; closings = []; faulted = false; handled = false }
       | false ↦ elim (isBegin root e) [
-        | true ↦ record { left = false; turned = false; finished = false; undone = []; closings = [] }
+        | true ↦ record { left = false; turned = false; finished = false; undone = []; closings = []; faulted = false; handled = false }
         | false ↦ record {
           left = not (isFinish s e) && a .left;
           turned = isTurn s e || a .turned;
           finished = isFinish s e || a .finished;
           undone = a .undone ++ reverse (undoneBy (insideOf p s) e);
           closings = closedBy (insideOf p s) e ++ a .closings;
+          faulted = isFaultOf (same s) e || a .faulted;
+          handled = isBeganOf (isFaultPart p s) e || a .handled;
         }
       ]
     ]
 
 -- one more event makes of an account the next one
 pub account-next : (p : Plan) (s : Name) (e : Event) (past : List Event) → accountOf p s (e ∷ past) ≡ next p s e (accountOf p s past)
-unfolding isLeft since closingsOf undoneOf some each
+unfolding isLeft since closingsOf undoneOf hasFaulted hasHandled some each
 account-next p s e past =
     decide (isBegin s e)
     (λ b. rw (b, isLeft, since, next))
@@ -85,12 +93,13 @@ left-since x s (e ∷ past) h =
     (λ f. rw (t, since, isLeft, b, f, left-since x s past (rw (b, isLeft, f) at h)))))
 
 -- How a scope stands by its mark: at rest; live, its body running or done; waiting for its inner scopes; undoing; healing by its fault part.
--- A mark that is none of a scope's has a phase of its own, in which nothing is tied.
+-- One that waits or undoes does so with its fault part to come, where it faulted, or without, where it was stopped. A mark that is none of a
+-- scope's has a phase of its own, in which nothing is tied.
 pub data Phase : Type 0 where
   rest : Phase
   live : Phase
-  waits : Phase
-  undoes : Phase
+  waits : (withFault : Bool) → Phase
+  undoes : (withFault : Bool) → Phase
   heals : Phase
   odd : Phase
 
@@ -98,18 +107,18 @@ pub data Phase : Type 0 where
 abbrev pub phase : (mark : ℕ) → Phase
 phase m =
     cond (eqb m active || eqb m done) live
-    (cond (eqb m faulty || eqb m halted) waits
-    (cond (eqb m undoing || eqb m withdrawing) undoes
+    (cond (eqb m faulty || eqb m halted) (waits (eqb m faulty))
+    (cond (eqb m undoing || eqb m withdrawing) (undoes (eqb m undoing))
     (cond (eqb m handling) heals
     (cond (eqb m idle) rest odd))))
 
 -- The tie between a scope's mark, what is remembered for it (the last first), and its account.
 abbrev pub Tied : Phase → (list : List ℕ) → Account → Type 0
 Tied rest l a = (a .left ≡ false) × (l ≡ []) × ((a .turned && not (a .finished)) ≡ false)
-Tied live l a = (a .left ≡ true) × (a .turned ≡ false) × (a .undone ≡ []) × (a .closings ≡ l)
-Tied waits l a = (a .left ≡ true) × (a .turned ≡ true) × (a .undone ≡ []) × (a .closings ≡ l)
-Tied undoes l a = (a .left ≡ true) × (a .turned ≡ true) × (a .closings ≡ a .undone ++ l)
-Tied heals l a = (a .left ≡ true) × (a .turned ≡ true) × (a .closings ≡ a .undone) × (l ≡ [])
+Tied live l a = (a .left ≡ true) × (a .turned ≡ false) × (a .undone ≡ []) × (a .closings ≡ l) × (a .faulted ≡ false) × (a .handled ≡ false)
+Tied (waits w) l a = (a .left ≡ true) × (a .turned ≡ true) × (a .undone ≡ []) × (a .closings ≡ l) × (a .faulted ≡ w) × (a .handled ≡ false)
+Tied (undoes w) l a = (a .left ≡ true) × (a .turned ≡ true) × (a .closings ≡ a .undone ++ l) × (a .faulted ≡ w) × (a .handled ≡ false)
+Tied heals l a = (a .left ≡ true) × (a .turned ≡ true) × (a .closings ≡ a .undone) × (l ≡ []) × (a .faulted ≡ true) × (a .handled ≡ true)
 Tied odd l a = ⊥
 
 -- An order is live, and each scope's mark and list are tied to the history.
@@ -117,12 +126,19 @@ pub record Holds (p : Plan) (mk : Name → ℕ) (ls : Name → List ℕ) (past :
   pub now : noneNow past ≡ false
   pub ties : (s : Name) → isName p s ≡ true → Tied (phase (mk s)) (ls s) (accountOf p s past)
 
--- What the plan says of one of its scopes: no other has its number or its undo part, and neither of these two numbers is the other kind's.
+-- k is the fault part of no scope
+abbrev pub NoFaultPart : Plan → (k : ℕ) → Type 0
+NoFaultPart p k = (s : Name) → isFaultPart p s k ≡ false
+
+-- What the plan says of one of its scopes: no other has its number or its undo part, and neither of these two numbers is the other kind's, or
+-- that of a fault part.
 pub record Known (p : Plan) (x : Inner) : Type 0 where
   pub byNumber : only (λ y. eqb (y .number) (x .number)) (scopesOf p) ≡ x ∷ []
   pub byUndo : only (λ y. eqb (y .undo) (x .undo)) (scopesOf p) ≡ x ∷ []
   pub noUndo : only (λ y. eqb (y .undo) (x .number)) (scopesOf p) ≡ []
   pub noScope : isName p (inner (x .undo)) ≡ false
+  pub noFault : NoFaultPart p (x .number)
+  pub undoNoFault : NoFaultPart p (x .undo)
   pub apart : same (inner (x .number)) (x .around) ≡ false
   pub name : isName p (inner (x .number)) ≡ true
   pub parent : isName p (x .around) ≡ true

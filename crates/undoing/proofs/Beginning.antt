@@ -14,12 +14,12 @@ use Rattle.order.specs.State.{Name, inner, idle, active, done, withMarks, marke
 use Rattle.order.specs.Event.{Event, began}
 use Rattle.order.specs.Begin.{Begun, nothingBegun, awaiting, throughout, around, itsBeginning, inTurn, sideBySide, begin, beginInTurn, beginAll}
 use Rattle.order.specs.Scope.{isScope}
-use Rattle.undoing.specs.Ties.{isName, isDoer}
+use Rattle.undoing.specs.Ties.{isName, Place, bodyOf, nameOf}
 use Rattle.undoing.proofs.Parts.{both, decide}
 use Rattle.undoing.proofs.Accounts.{phase, Known}
-use Rattle.undoing.proofs.Moves.{move-plain, move-begin}
-use Rattle.undoing.proofs.Marks.{run-loud, trio, spread, Agree, Quiet, Kept, Run, run-awaits, run-one, run-all, run-body, run-done, One, one-here, one-later, All, all-none, all-run, all-quiet, quiet-part, quiet-agree, quiet-join, agree-below, agree-above, kept-wider, kept-then, kept-itself, kept-set, run-agree}
-use Rattle.undoing.proofs.Orders.{momentOf, Does, does-then, does-nothing, does-still, does-one, plain-marked, phase-marked, marked-elsewhere, innerAt, isArm, Sits, sits-part, sits-scope, SitsIn, sits-none, sits-more}
+use Rattle.undoing.proofs.Moves.{Before, Spot, move-plain, move-begin}
+use Rattle.undoing.proofs.Marks.{isDoer, run-loud, trio, spread, Agree, Quiet, Kept, Run, run-awaits, run-one, run-all, run-body, run-done, One, one-here, one-later, All, all-none, all-run, all-quiet, quiet-part, quiet-agree, quiet-join, agree-below, agree-above, kept-wider, kept-then, kept-itself, kept-set, run-agree}
+use Rattle.undoing.proofs.Orders.{momentOf, Fit, fit-kept, fit-marked, before-of, before-on, Does, does-then, does-nothing, does-still, does-one, plain-marked, phase-marked, marked-elsewhere, innerAt, isArm, Sits, sits-part, sits-scope, SitsIn, sits-none, sits-more, Remedy, remedy}
 
 -- what began in order o, where the events before led from o₀ to o: S holds of its marks while it runs
 pub record Begins (p : Plan) (S : List ℕ → Type 0) (k n : ℕ) (o₀ o : Order) (r : Begun) : Type 0 where
@@ -80,32 +80,32 @@ module _ (p : Plan) where
       }
 
   -- what an activity other than a scope or an arm begins with, by its kind
-  pub begins-own : (own : Own) (within : Acts) (k : ℕ) (o₀ o : Order) → isScope own ≡ false → isArm own ≡ false → isName p (inner k) ≡ false
+  pub begins-own : (x : Place) (own : Own) (within : Acts) (k : ℕ) (o₀ o : Order) → isScope own ≡ false → isArm own ≡ false → Before (nameOf x) k → Fit x o → isName p (inner k) ≡ false
       → Does p false o₀ (began k ∷ []) o → Quiet (o .marks) k (1 + sizes within) → k + (1 + sizes within) ≤ length (o .marks)
-      → ((o : Order) → Quiet (o .marks) (k + 1) (sizes within) → k + 1 + sizes within ≤ length (o .marks)
+      → ((o : Order) → Quiet (o .marks) (k + 1) (sizes within) → k + 1 + sizes within ≤ length (o .marks) → Fit x o
       → Begins p (λ ms. One ms within (k + 1)) (k + 1) (sizes within) o o (beginInTurn within (k + 1) (o .marks)))
-      → ((o : Order) → Quiet (o .marks) (k + 1) (sizes within) → k + 1 + sizes within ≤ length (o .marks)
+      → ((o : Order) → Quiet (o .marks) (k + 1) (sizes within) → k + 1 + sizes within ≤ length (o .marks) → Fit x o
       → Begins p (λ ms. All ms within (k + 1) × (Quiet ms (k + 1) (sizes within) → ⊥)) (k + 1) (sizes within) o o (beginAll within (k + 1) (o .marks)))
       → Begins p (λ ms. Run ms (act own within) k) k (1 + sizes within) o₀ o (begin (act own within) k (o .marks))
   unfolding begin kind isDoer
-  begins-own empty within k o₀ o s a z d q h f g =
+  begins-own x empty within k o₀ o s a v w z d q h f g =
       record { kept = kept-itself k _ (o .marks); quiet = λ e. q; runs = λ e. absurd (false≢true (sym e)); does = d }
-  begins-own (send x y vs) within k o₀ o s a z d q h f g = begins-awaiting (send x y vs) within k o₀ o s refl z d q (omega arith)
-  begins-own (receive x y vs) within k o₀ o s a z d q h f g = begins-awaiting (receive x y vs) within k o₀ o s refl z d q (omega arith)
-  begins-own (setting v e) within k o₀ o s a z d q h f g = begins-awaiting (setting v e) within k o₀ o s refl z d q (omega arith)
-  begins-own raise within k o₀ o s a z d q h f g = begins-awaiting raise within k o₀ o s refl z d q (omega arith)
-  begins-own leave within k o₀ o s a z d q h f g = begins-awaiting leave within k o₀ o s refl z d q (omega arith)
-  begins-own (choose e) within k o₀ o s a z d q h f g = begins-awaiting (choose e) within k o₀ o s refl z d q (omega arith)
-  begins-own (repeat e) within k o₀ o s a z d q h f g = begins-awaiting (repeat e) within k o₀ o s refl z d q (omega arith)
-  begins-own sequence within k o₀ o s a z d q h f g =
+  begins-own x (send a b vs) within k o₀ o s i v w z d q h f g = begins-awaiting (send a b vs) within k o₀ o s refl z d q (omega arith)
+  begins-own x (receive a b vs) within k o₀ o s i v w z d q h f g = begins-awaiting (receive a b vs) within k o₀ o s refl z d q (omega arith)
+  begins-own x (setting y e) within k o₀ o s a v w z d q h f g = begins-awaiting (setting y e) within k o₀ o s refl z d q (omega arith)
+  begins-own x raise within k o₀ o s a v w z d q h f g = begins-awaiting raise within k o₀ o s refl z d q (omega arith)
+  begins-own x leave within k o₀ o s a v w z d q h f g = begins-awaiting leave within k o₀ o s refl z d q (omega arith)
+  begins-own x (choose e) within k o₀ o s a v w z d q h f g = begins-awaiting (choose e) within k o₀ o s refl z d q (omega arith)
+  begins-own x (repeat e) within k o₀ o s a v w z d q h f g = begins-awaiting (repeat e) within k o₀ o s refl z d q (omega arith)
+  begins-own x sequence within k o₀ o s a v w z d q h f g =
       begins-throughout sequence within (λ ms. One ms within (k + 1)) k o₀ o z d q (omega arith) (λ ms e r. run-one s e r) _ _ _
-      (f (marked k active o) (quiet-set active (quiet-part q (omega arith) (omega arith)) (omega arith)) (omega (arith, length-set (o .marks) k active)))
-  begins-own flow within k o₀ o s a z d q h f g =
+      (f (marked k active o) (quiet-set active (quiet-part q (omega arith) (omega arith)) (omega arith)) (omega (arith, length-set (o .marks) k active)) (fit-marked x k active o v w))
+  begins-own x flow within k o₀ o s a v w z d q h f g =
       begins-throughout flow within (λ ms. All ms within (k + 1) × (Quiet ms (k + 1) (sizes within) → ⊥)) k o₀ o z d q (omega arith) (λ ms e r. run-all e (r .0) (r .1)) _ _ _
-      (g (marked k active o) (quiet-set active (quiet-part q (omega arith) (omega arith)) (omega arith)) (omega (arith, length-set (o .marks) k active)))
-  begins-own pick within k o₀ o s a z d q h f g = begins-awaiting pick within k o₀ o s refl z d q (omega arith)
-  begins-own scope within k o₀ o s a z d q h f g = absurd (false≢true (sym s))
-  begins-own (arm x y vs) within k o₀ o s a z d q h f g = absurd (false≢true (sym a))
+      (g (marked k active o) (quiet-set active (quiet-part q (omega arith) (omega arith)) (omega arith)) (omega (arith, length-set (o .marks) k active)) (fit-marked x k active o v w))
+  begins-own x pick within k o₀ o s a v w z d q h f g = begins-awaiting pick within k o₀ o s refl z d q (omega arith)
+  begins-own x scope within k o₀ o s a v w z d q h f g = absurd (false≢true (sym s))
+  begins-own x (arm a b vs) within k o₀ o s i v w z d q h f g = absurd (false≢true (sym i))
 
   -- nothing begins with an arm
   arm-begins : (own : Own) (within : Acts) (k : ℕ) (ms : List ℕ) → isArm own ≡ true → begin (act own within) k ms ≡ nothingBegun ms
@@ -135,14 +135,15 @@ module _ (p : Plan) where
       }
 
   -- one after the other
-  begins-then : (a : Act) (l : Acts) (c : ℕ) (o : Order) (later : List ℕ → Begun) (ms : List ℕ) (v : Bool) (e : List Event)
-      → Quiet (o .marks) c (size a + sizes l) → c + (size a + sizes l) ≤ length (o .marks)
+  begins-then : (x : Place) (a : Act) (l : Acts) (c : ℕ) (o : Order) (later : List ℕ → Begun) (ms : List ℕ) (v : Bool) (e : List Event)
+      → Quiet (o .marks) c (size a + sizes l) → c + (size a + sizes l) ≤ length (o .marks) → Before (nameOf x) c → Fit x o
       → Begins p (λ ns. Run ns a c) c (size a) o o (record { marks = ms; over = v; log = e })
-      → ((o : Order) → Quiet (o .marks) (c + size a) (sizes l) → c + size a + sizes l ≤ length (o .marks)
+      → ((o : Order) → Quiet (o .marks) (c + size a) (sizes l) → c + size a + sizes l ≤ length (o .marks) → Fit x o
       → Begins p (λ ns. One ns l (c + size a)) (c + size a) (sizes l) o o (later (o .marks)))
       → Begins p (λ ns. One ns (more a l) c) c (size a + sizes l) o o (inTurn later (record { marks = ms; over = v; log = e }))
-  begins-then a l c o later ms true e q h b f =
-      let r = f (withMarks ms o) (quiet-agree (quiet-part q (omega arith) (omega arith)) (agree-above (b .kept) (omega arith))) (omega (arith, b .kept .many)) in
+  begins-then x a l c o later ms true e q h v w b f =
+      let r = f (withMarks ms o) (quiet-agree (quiet-part q (omega arith) (omega arith)) (agree-above (b .kept) (omega arith))) (omega (arith, b .kept .many))
+      (fit-kept x c o (withMarks ms o) v (omega arith) refl (b .kept) w) in
       let q₁ : Quiet (later ms .marks) c (size a) = quiet-agree (b .quiet refl) (agree-below (r .kept) (omega arith)) in
       record {
         kept = kept-then (kept-wider (b .kept) (omega arith) (omega arith)) (kept-wider (r .kept) (omega arith) (omega arith));
@@ -150,7 +151,7 @@ module _ (p : Plan) where
         runs = λ x. one-later q₁ (r .runs x);
         does = does-then (b .does) (r .does);
       }
-  begins-then a l c o later ms false e q h b f =
+  begins-then x a l c o later ms false e q h v w b f =
       record {
         kept = kept-wider (b .kept) (omega arith) (omega arith);
         quiet = λ x. absurd (false≢true x);
@@ -159,14 +160,15 @@ module _ (p : Plan) where
       }
 
   -- side by side
-  begins-beside : (a : Act) (l : Acts) (c : ℕ) (o : Order) (later : List ℕ → Begun) (ms : List ℕ) (v : Bool) (e : List Event)
-      → Quiet (o .marks) c (size a + sizes l) → c + (size a + sizes l) ≤ length (o .marks)
+  begins-beside : (x : Place) (a : Act) (l : Acts) (c : ℕ) (o : Order) (later : List ℕ → Begun) (ms : List ℕ) (v : Bool) (e : List Event)
+      → Quiet (o .marks) c (size a + sizes l) → c + (size a + sizes l) ≤ length (o .marks) → Before (nameOf x) c → Fit x o
       → Begins p (λ ns. Run ns a c) c (size a) o o (record { marks = ms; over = v; log = e })
-      → ((o : Order) → Quiet (o .marks) (c + size a) (sizes l) → c + size a + sizes l ≤ length (o .marks)
+      → ((o : Order) → Quiet (o .marks) (c + size a) (sizes l) → c + size a + sizes l ≤ length (o .marks) → Fit x o
       → Begins p (λ ns. All ns l (c + size a) × (Quiet ns (c + size a) (sizes l) → ⊥)) (c + size a) (sizes l) o o (later (o .marks)))
       → Begins p (λ ns. All ns (more a l) c × (Quiet ns c (size a + sizes l) → ⊥)) c (size a + sizes l) o o (sideBySide later (record { marks = ms; over = v; log = e }))
-  begins-beside a l c o later ms v e q h b f =
-      let r = f (withMarks ms o) (quiet-agree (quiet-part q (omega arith) (omega arith)) (agree-above (b .kept) (omega arith))) (omega (arith, b .kept .many)) in
+  begins-beside s a l c o later ms v e q h u w b f =
+      let r = f (withMarks ms o) (quiet-agree (quiet-part q (omega arith) (omega arith)) (agree-above (b .kept) (omega arith))) (omega (arith, b .kept .many))
+      (fit-kept s c o (withMarks ms o) u (omega arith) refl (b .kept) w) in
       record {
         kept = kept-then (kept-wider (b .kept) (omega arith) (omega arith)) (kept-wider (r .kept) (omega arith) (omega arith));
         quiet = λ x. both v (later ms .over) x (λ y z. quiet-join (quiet-agree (b .quiet y) (agree-below (r .kept) (omega arith))) (r .quiet z) refl);
@@ -185,16 +187,16 @@ module _ (p : Plan) where
       all-first false q r g z = all-run (run-agree (r refl) g) z
 
   -- scope k, whose body began so
-  begins-around : {n : Name} (b f u : Act) (k : ℕ) (o : Order) → Known p (innerAt k n (trio b f u))
+  begins-around : {n c : Name} (b f u : Act) (k : ℕ) (o : Order) → Known p (innerAt k n (trio b f u)) → Spot p (bodyOf n c) k → Fit (bodyOf n c) o
       → Quiet (o .marks) k (spread b f u) → k < length (o .marks) → (ms : List ℕ) (v : Bool) (l : List Event)
       → Begins p (λ ns. Run ns b (k + 1)) (k + 1) (size b) (marked k active o) (marked k active o) (record { marks = ms; over = v; log = l })
       → Begins p (λ ns. Run ns (act scope (trio b f u)) k) k (spread b f u) o o
       (itsBeginning k (around k (record { marks = ms; over = v; log = l })))
-  begins-around {n} b f u k o kn q h ms v l r = go v r
+  begins-around {n} b f u k o kn y w q h ms v l r = go v r
     where
       first : Does p false o (began k ∷ []) (marked k active o)
       first =
-          does-one (λ past x. move-begin p (momentOf p o) (momentOf p (marked k active o)) past x (innerAt k n (trio b f u)) kn
+          does-one (λ past x. move-begin p (momentOf p o) (momentOf p (marked k active o)) past x (innerAt k n (trio b f u)) kn y w
           (ap phase (q .at k (omega arith) (omega arith))) (ap phase (getD-set-same (o .marks) k active 0 h)) refl (marked-elsewhere p k active o))
 
       later : {ns : List ℕ} → Kept (k + 1) (size b) (set (o .marks) k active) ns → Quiet ns (k + 1 + size b) (size f + size u)
@@ -224,35 +226,45 @@ module _ (p : Plan) where
             does = does-then first (r .does);
           }
 
-  -- What begins where all is quiet runs, or is over and quiet.
+  -- What begins where all is quiet, and where it may, runs, or is over and quiet.
   mutual
     unfolding begin size
 
     -- an activity
-    pub begins : {n : Name} {a : Act} {k : ℕ} → Sits p n a k → (o : Order) → Quiet (o .marks) k (size a) → k + size a ≤ length (o .marks)
+    pub begins : {x : Place} {a : Act} {k : ℕ} → Sits p x a k → (o : Order) → Quiet (o .marks) k (size a) → k + size a ≤ length (o .marks) → Fit x o
         → Begins p (λ ms. Run ms a k) k (size a) o o (begin a k (o .marks))
-    begins (sits-part {n} {own} {within} {k} s g y l) o q h =
+    begins (sits-part {q = x} {own} {within} {k} s g v y l) o q h w =
         decide (isArm own)
         (λ e. subst (λ (r : Begun). Begins p (λ ms. Run ms (act own within) k) k (1 + sizes within) o o r) (sym (arm-begins own within k (o .marks) e))
         (begins-nothing _ k _ o q))
-        (λ e. begins-own own within k o o s e (y .noScope)
-        (does-one (λ past x. move-plain p (momentOf p o) (momentOf p o) past x k y (λ z i. (refl, refl)))) q h (λ o q h. begins-in-turn l o q h) (λ o q h. begins-all l o q h))
-    begins (sits-scope {n} {b} {f} {u} {k} kn w sb sf z su) o q h =
-        begins-around b f u k o kn q (omega arith) _ _ _
-        (begins sb (marked k active o) (quiet-set active (quiet-part q (omega arith) (omega arith)) (omega arith)) (omega (arith, length-set (o .marks) k active)))
+        (λ e. begins-own x own within k o o s e (v .before) w (y .noScope)
+        (does-one (λ past z. move-plain p (momentOf p o) (momentOf p o) past z k y v w (λ z i. (refl, refl)))) q h
+        (λ o q h w. begins-in-turn l o q h w) (λ o q h w. begins-all l o q h w))
+    begins (sits-scope {n} {c} {b} {f} {u} {k} kn v i sb z sf su) o q h w =
+        begins-around b f u k o kn v w q (omega arith) _ _ _
+        (begins sb (marked k active o) (quiet-set active (quiet-part q (omega arith) (omega arith)) (omega arith)) (omega (arith, length-set (o .marks) k active))
+        (ap phase (getD-set-same (o .marks) k active 0 (omega arith))))
 
     -- the activities of a sequence
-    pub begins-in-turn : {n : Name} {l : Acts} {c : ℕ} → SitsIn p n l c → (o : Order) → Quiet (o .marks) c (sizes l) → c + sizes l ≤ length (o .marks)
+    pub begins-in-turn : {x : Place} {l : Acts} {c : ℕ} → SitsIn p x l c → (o : Order) → Quiet (o .marks) c (sizes l) → c + sizes l ≤ length (o .marks) → Fit x o
         → Begins p (λ ms. One ms l c) c (sizes l) o o (beginInTurn l c (o .marks))
-    begins-in-turn (sits-none {n} {c}) o q h = begins-nothing _ c 0 o q
-    begins-in-turn (sits-more {n} {a} {l} {c} s y) o q h =
-        begins-then a l c o (beginInTurn l (c + size a)) _ _ _ q h
-        (begins s o (quiet-part q (omega arith) (omega arith)) (omega arith)) (λ o q h. begins-in-turn y o q h)
+    begins-in-turn (sits-none {q = x} {c}) o q h w = begins-nothing _ c 0 o q
+    begins-in-turn (sits-more {q = x} {a} {l} {c} s y) o q h w =
+        begins-then x a l c o (beginInTurn l (c + size a)) _ _ _ q h (before-of s) w
+        (begins s o (quiet-part q (omega arith) (omega arith)) (omega arith) w) (λ o q h w. begins-in-turn y o q h w)
 
     -- the activities of a flow
-    pub begins-all : {n : Name} {l : Acts} {c : ℕ} → SitsIn p n l c → (o : Order) → Quiet (o .marks) c (sizes l) → c + sizes l ≤ length (o .marks)
+    pub begins-all : {x : Place} {l : Acts} {c : ℕ} → SitsIn p x l c → (o : Order) → Quiet (o .marks) c (sizes l) → c + sizes l ≤ length (o .marks) → Fit x o
         → Begins p (λ ms. All ms l c × (Quiet ms c (sizes l) → ⊥)) c (sizes l) o o (beginAll l c (o .marks))
-    begins-all (sits-none {n} {c}) o q h = begins-nothing _ c 0 o q
-    begins-all (sits-more {n} {a} {l} {c} s y) o q h =
-        begins-beside a l c o (beginAll l (c + size a)) _ _ _ q h
-        (begins s o (quiet-part q (omega arith) (omega arith)) (omega arith)) (λ o q h. begins-all y o q h)
+    begins-all (sits-none {q = x} {c}) o q h w = begins-nothing _ c 0 o q
+    begins-all (sits-more {q = x} {a} {l} {c} s y) o q h w =
+        begins-beside x a l c o (beginAll l (c + size a)) _ _ _ q h (before-of s) w
+        (begins s o (quiet-part q (omega arith) (omega arith)) (omega arith) w) (λ o q h w. begins-all y o q h w)
+
+  -- a fault part or an undo part begins, its own beginning being said
+  pub begins-remedy : {x : Place} {a : Act} {k : ℕ} → Remedy p x a k → (o₀ o : Order) → Does p false o₀ (began k ∷ []) o → Quiet (o .marks) k (size a)
+      → k + size a ≤ length (o .marks) → Fit x o
+      → Begins p (λ ms. Run ms a k) k (size a) o₀ o (begin a k (o .marks))
+  unfolding size
+  begins-remedy (remedy {q = x} {own} {within} {k} s a g v z l b) o₀ o d q h w =
+      begins-own x own within k o₀ o s a (v .before) w z d q h (λ o q h w. begins-in-turn l o q h w) (λ o q h w. begins-all l o q h w)

@@ -15,13 +15,13 @@ use Rattle.order.specs.State.{Name, root, inner, same, idle, withMarks, closing
 use Rattle.order.specs.Event.{ended, raised}
 use Rattle.order.specs.Begin.{cleared}
 use Rattle.order.specs.Scope.{Scope, isFor, forgetting}
-use Rattle.machine.specs.Demand3.{Inner, insideOf, isRoot, rightAfter, noneNow, isOver, isUndoRaise, allowed}
+use Rattle.undoing.specs.Demand3.{Inner, insideOf, isRoot, noneNow, isOver, isUndoRaise}
 use Rattle.undoing.specs.Ties.{isName}
 use Rattle.undoing.proofs.Parts.{both, decide, only-not, only-within}
 use Rattle.undoing.proofs.Accounts.{Phase, heals, phase, Inside·rest}
-use Rattle.undoing.proofs.Moves.{Elsewhere, move-end-healed, move-end-raised, root-healed, root-raised}
+use Rattle.undoing.proofs.Moves.{Elsewhere, fair, move-end-healed, move-end-raised, root-healed, root-raised}
 use Rattle.undoing.proofs.Marks.{Quiet, Kept, kept-then, kept-wider, kept-itself, kept-set}
-use Rattle.undoing.proofs.Orders.{isIn, listOf, momentOf, Does, does-one}
+use Rattle.undoing.proofs.Orders.{isIn, listOf, momentOf, fairAfter, Does, does-one}
 use Rattle.undoing.proofs.Seats.{Seat, remembering-closings, directly-directs}
 
 -- Cleared marks.
@@ -130,7 +130,7 @@ module _ (p : Plan) (distinct : Distinct p) where
   -- by a raise in its fault part
   pub breaks-healed : (s : Scope) (o : Order) → Seat p s → Owns (s .name) (s .first) (s .count) → phase (markOf (s .name) o) ≡ heals
       → Inside·rest p (λ z. markOf z o) (s .name) → OthersRest s o → Does p (isRoot (s .name)) o (ended (s .name) ∷ []) (broken s o)
-  unfolding rightAfter noneNow isOver
+  unfolding fairAfter noneNow isOver
   breaks-healed s o h w q r f = go (s .name) refl
     where
       go : (n : Name) → s .name ≡ n → Does p (isRoot n) o (ended n ∷ []) (broken s o)
@@ -144,21 +144,21 @@ module _ (p : Plan) (distinct : Distinct p) where
           (subst (λ (z : Name). Elsewhere p z (momentOf p o) (momentOf p (broken s o))) e (broken-elsewhere s o h f)))
 
   -- by a raise in an undo part that it is running
-  pub breaks-raised : (s : Scope) (t : ℕ) (o₀ o : Order) → Seat p s → Owns (s .name) (s .first) (s .count) → phase (markOf (s .name) o) ≡ Phase.undoes
+  pub breaks-raised : (v : Bool) (s : Scope) (t : ℕ) (o₀ o : Order) → Seat p s → Owns (s .name) (s .first) (s .count) → phase (markOf (s .name) o) ≡ Phase.undoes v
       → Inside·rest p (λ z. markOf z o) (s .name) → OthersRest s o → isUndoRaise (insideOf p (s .name)) (raised t) ≡ true → Does p false o₀ (raised t ∷ []) o
       → Does p (isRoot (s .name)) o₀ (raised t ∷ ended (s .name) ∷ []) (broken s o)
-  unfolding rightAfter noneNow isOver
-  breaks-raised s t o₀ o h w q r f u d = go (s .name) refl
+  unfolding fairAfter noneNow isOver
+  breaks-raised v s t o₀ o h w q r f u d = go (s .name) refl
     where
       go : (n : Name) → s .name ≡ n → Does p (isRoot n) o₀ (raised t ∷ ended n ∷ []) (broken s o)
       go root e =
           record {
             does = λ past x.
                 let y = d .does past x in
-                both (allowed p past (raised t)) true (y .0) (λ a b. (
+                both (fair p past (raised t)) true (y .0) (λ a b. (
                   rw (
                     a,
-                    root-raised p (momentOf p o) (momentOf p o) past t (y .1) (subst (λ (z : Name). phase (markOf z o) ≡ Phase.undoes) e q)
+                    root-raised p (momentOf p o) (momentOf p o) past t (y .1) v (subst (λ (z : Name). phase (markOf z o) ≡ Phase.undoes v) e q)
                         (subst (λ (z : Name). isUndoRaise (insideOf p z) (raised t) ≡ true) e u) (subst (λ (z : Name). Inside·rest p (λ y. markOf y o) z) e r),
                   ),
                   refl,
@@ -168,11 +168,11 @@ module _ (p : Plan) (distinct : Distinct p) where
           record {
             does = λ past x.
                 let y = d .does past x in
-                let m = move-end-raised p (momentOf p o) (momentOf p (broken s o)) past t (y .1) (inner k) (subst (λ (z : Name). isName p z ≡ true) e (h .name)) refl
-                (subst (λ (z : Name). phase (markOf z o) ≡ Phase.undoes) e q) (subst (λ (z : Name). isUndoRaise (insideOf p z) (raised t) ≡ true) e u)
+                let m = move-end-raised p (momentOf p o) (momentOf p (broken s o)) past t (y .1) (inner k) v (subst (λ (z : Name). isName p z ≡ true) e (h .name)) refl
+                (subst (λ (z : Name). phase (markOf z o) ≡ Phase.undoes v) e q) (subst (λ (z : Name). isUndoRaise (insideOf p z) (raised t) ≡ true) e u)
                 (subst (λ (z : Name). Inside·rest p (λ y. markOf y o) z) e r)
                 (ap phase (broken-mark (inner k) s o e (subst (λ (z : Name). Owns z (s .first) (s .count)) e w)))
                 (subst (λ (z : Name). listOf p z (broken s o) ≡ []) e (forgotten-list s (marking (s .name) idle o) h))
                 (subst (λ (z : Name). Elsewhere p z (momentOf p o) (momentOf p (broken s o))) e (broken-elsewhere s o h f)) in
-                both (allowed p past (raised t)) true (y .0) (λ a b. (rw (a, m .0), m .1));
+                both (fair p past (raised t)) true (y .0) (λ a b. (rw (a, m .0), m .1));
           }

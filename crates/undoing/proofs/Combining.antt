@@ -17,11 +17,11 @@ use Rattle.order.specs.declared.Way.{Way as Result}
 use Rattle.order.specs.declared.Way.the-variants.{Running as running, Over as over, Raising as raising, Leaving as leaving, Undone as undone, UndoRaising as undoRaising}
 use Rattle.order.specs.Scope.{Outcome, runs, after, begunIn, whereOver, isScope}
 use Rattle.order.specs.Acting.{finishes, again, goesOn, joins, combines, arms, isPart}
-use Rattle.undoing.specs.Ties.{isName}
+use Rattle.undoing.specs.Ties.{isName, Place, nameOf}
 use Rattle.undoing.proofs.Parts.{both, decide}
-use Rattle.undoing.proofs.Moves.{Everywhere}
+use Rattle.undoing.proofs.Moves.{Everywhere, Before}
 use Rattle.undoing.proofs.Marks.{one-loud, Quiet, Kept, holding, run-one, run-all, One, one-here, one-later, All, all-run, all-quiet, able-part, StoppableIn, quiet-part, kept-wider, kept-then}
-use Rattle.undoing.proofs.Orders.{momentOf, Does, does-then, does-nothing, bare, bareIn, SitsIn}
+use Rattle.undoing.proofs.Orders.{momentOf, Does, does-then, does-nothing, bare, bareIn, SitsIn, Fit, fit-kept}
 use Rattle.undoing.proofs.Beginning.{quiet-cons, quiet-all}
 use Rattle.undoing.proofs.Scoping.{Acted, RunAs}
 use Rattle.undoing.proofs.Goings.{GoAs, go-run, go-after, begins-after, go-finishes, go-begun, go-again}
@@ -64,7 +64,7 @@ unfolding bare
 bare-within own within e = both (not (isScope own)) (bareIn within) e (λ x y. y)
 
 -- marks that are idle are found so
-quiet-told : (n k : ℕ) (ms : List ℕ) → Quiet ms k n → quiet k n ms ≡ true
+pub quiet-told : (n k : ℕ) (ms : List ℕ) → Quiet ms k n → quiet k n ms ≡ true
 unfolding quiet
 quiet-told zero k ms q = refl
 quiet-told (suc n) k ms q = rw (q .at k (omega arith) (omega arith), quiet-told n (k + 1) ms (quiet-part q (omega arith) (omega arith)))
@@ -77,7 +77,7 @@ quiet-found (suc n) k ms e =
     both (eqb (getD ms k 0) idle) (quiet (k + 1) n ms) e (λ x y. quiet-part (quiet-cons (eqb-true (getD ms k 0) idle x) (quiet-found n (k + 1) ms y)) (omega arith) (omega arith))
 
 module _ (p : Plan) where
-  module _ {n : Name} (own : Own) (within : Acts) (k t : ℕ) (o : Order) (r : Outcome) (s : isScope own ≡ false) (z : isName p (inner k) ≡ false) (l : SitsIn p n within (k + 1))
+  module _ {x : Place} (own : Own) (within : Acts) (k t : ℕ) (o : Order) (r : Outcome) (s : isScope own ≡ false) (z : isName p (inner k) ≡ false) (d : Before (nameOf x) k) (f : Fit x o) (l : SitsIn p x within (k + 1))
       (e : getD (o .marks) k 0 ≡ holding own) (m : k + (1 + sizes within) ≤ length (o .marks)) (w : Acted (k + 1) (sizes within) o (OneAs p within (k + 1) t o) r) where
     its-mark : getD (r .order .marks) k 0 ≡ holding own
     its-mark = w .kept .below k (omega arith) ∙ e
@@ -99,21 +99,21 @@ module _ (p : Plan) where
         go undoRaising c = absurd c
 
     -- where it goes on so
-    goes : (v : ℕ) (f : Order → Outcome) → holding own ≡ v
-        → ((o₁ : Order) → isName p (inner k) ≡ false → Quiet (o₁ .marks) (k + 1) (sizes within) → getD (o₁ .marks) k 0 ≡ v → k + (1 + sizes within) ≤ length (o₁ .marks)
-        → Acted k (1 + sizes within) o₁ (GoAs p (act own within) k o₁) (f o₁))
-        → Acted k (1 + sizes within) o (RunAs p (act own within) k t o) (goesOn k v f r)
+    goes : (v : ℕ) (i : Order → Outcome) → holding own ≡ v
+        → ((o₁ : Order) → isName p (inner k) ≡ false → Quiet (o₁ .marks) (k + 1) (sizes within) → getD (o₁ .marks) k 0 ≡ v → k + (1 + sizes within) ≤ length (o₁ .marks) → Fit x o₁
+        → Acted k (1 + sizes within) o₁ (GoAs p (act own within) k o₁) (i o₁))
+        → Acted k (1 + sizes within) o (RunAs p (act own within) k t o) (goesOn k v i r)
     unfolding goesOn
-    goes v f h g = go (r .result) (w .comes)
+    goes v i h g = go (r .result) (w .comes)
       where
         go : (x : Result) → OneAs p within (k + 1) t o (r .log) (r .order) x
             → Acted k (1 + sizes within) o (RunAs p (act own within) k t o)
-            (whereOver (λ o₁. elim (eqb (markAt k o₁) v) [ true ↦ f o₁ | false ↦ runs o₁ ]) (record { result = x; order = r .order; log = r .log }))
+            (whereOver (λ o₁. elim (eqb (markAt k o₁) v) [ true ↦ i o₁ | false ↦ runs o₁ ]) (record { result = x; order = r .order; log = r .log }))
         go running c = record { kept = its-kept; rooted = w .rooted; comes = (run-one s its-mark (c .0), c .1) }
         go over c =
-            subst (λ (b : Bool). Acted k (1 + sizes within) o (RunAs p (act own within) k t o) (after (r .log) (elim b [ true ↦ f (r .order) | false ↦ runs (r .order) ])))
+            subst (λ (b : Bool). Acted k (1 + sizes within) o (RunAs p (act own within) k t o) (after (r .log) (elim b [ true ↦ i (r .order) | false ↦ runs (r .order) ])))
             (sym (eq-eqb (getD (r .order .marks) k 0) v (its-mark ∙ h)))
-            (go-run t (go-after its-kept (w .rooted) (c .1) (g (r .order) z (c .0) (its-mark ∙ h) (omega (arith, w .kept .many)))))
+            (go-run t (go-after its-kept (w .rooted) (c .1) (g (r .order) z (c .0) (its-mark ∙ h) (omega (arith, w .kept .many)) (fit-kept x k o (r .order) d (omega arith) (w .rooted) (w .kept) f))))
         go raising c = record { kept = its-kept; rooted = w .rooted; comes = (able-part s (c .0), c .1, λ b. c .2 (bare-within own within b)) }
         go leaving c = record { kept = its-kept; rooted = w .rooted; comes = c }
         go undone c = absurd c
@@ -155,36 +155,36 @@ module _ (p : Plan) where
   one-all (one-later q r) = all-quiet q (one-all r)
 
   -- a sequence goes on after the one that is over
-  go-sequence : {n : Name} (within : Acts) (k t : ℕ) → SitsIn p n within (k + 1) → (o : Order) → isName p (inner k) ≡ false → Quiet (o .marks) (k + 1) (sizes within)
+  go-sequence : {x : Place} (within : Acts) (k t : ℕ) → SitsIn p x within (k + 1) → (o : Order) → Fit x o → isName p (inner k) ≡ false → Quiet (o .marks) (k + 1) (sizes within)
       → getD (o .marks) k 0 ≡ active → k + (1 + sizes within) ≤ length (o .marks)
       → Acted k (1 + sizes within) o (GoAs p (act sequence within) k o) (whereOver (finishes k) (begunIn o (beginAfter within (k + 1) t (o .marks))))
   unfolding kind
-  go-sequence within k t l o z q e m =
-      let b = begins-after p l t o q (omega arith) in
+  go-sequence within k t l o f z q e m =
+      let b = begins-after p l t o q (omega arith) f in
       go-begun p sequence within k o (finishes k) _ _ _ refl e b
       (λ q₁. let o₁ = withMarks (beginAfter within (k + 1) t (o .marks) .marks) o in
       go-finishes p sequence within k o₁ o₁ refl refl (λ s j. (refl, refl)) z q₁ (omega (arith, b .kept .many)))
 
   -- What an activity other than a scope, in which one ran, makes of a step there.
-  pub combines-one : {n : Name} (own : Own) (within : Acts) (k t : ℕ) (o : Order) (r : Outcome) → isScope own ≡ false → isName p (inner k) ≡ false
-      → SitsIn p n within (k + 1)
+  pub combines-one : {x : Place} (own : Own) (within : Acts) (k t : ℕ) (o : Order) (r : Outcome) → isScope own ≡ false → isName p (inner k) ≡ false
+      → Before (nameOf x) k → Fit x o → SitsIn p x within (k + 1)
       → getD (o .marks) k 0 ≡ holding own → k + (1 + sizes within) ≤ length (o .marks) → Acted (k + 1) (sizes within) o (OneAs p within (k + 1) t o) r
       → Acted k (1 + sizes within) o (RunAs p (act own within) k t o) (combines own within k t r)
   unfolding combines kind
-  combines-one empty within k t o r s z l e m w = through empty within k t o r s z l e m w refl
-  combines-one (send x y vs) within k t o r s z l e m w = through (send x y vs) within k t o r s z l e m w refl
-  combines-one (receive x y vs) within k t o r s z l e m w = through (receive x y vs) within k t o r s z l e m w refl
-  combines-one (setting v x) within k t o r s z l e m w = through (setting v x) within k t o r s z l e m w refl
-  combines-one raise within k t o r s z l e m w = through raise within k t o r s z l e m w refl
-  combines-one leave within k t o r s z l e m w = through leave within k t o r s z l e m w refl
-  combines-one (choose x) within k t o r s z l e m w =
-      goes (choose x) within k t o r s z l e m w inside (finishes k) refl
-      (λ o₁ z₁ q e₁ m₁. go-finishes p (choose x) within k o₁ o₁ refl refl (λ s j. (refl, refl)) z₁ q (omega arith))
-  combines-one (repeat x) within k t o r s z l e m w =
-      goes (repeat x) within k t o r s z l e m w inside (again k) refl (λ o₁ z₁ q e₁ m₁. go-again p x within k o₁ z₁ q (omega arith))
-  combines-one sequence within k t o r s z l e m w =
-      goes sequence within k t o r s z l e m w active _ refl (λ o₁ z₁ q e₁ m₁. go-sequence within k t l o₁ z₁ q e₁ m₁)
-  combines-one flow within k t o r s z l e m w =
+  combines-one empty within k t o r s z d f l e m w = through empty within k t o r s z d f l e m w refl
+  combines-one (send x y vs) within k t o r s z d f l e m w = through (send x y vs) within k t o r s z d f l e m w refl
+  combines-one (receive x y vs) within k t o r s z d f l e m w = through (receive x y vs) within k t o r s z d f l e m w refl
+  combines-one (setting v x) within k t o r s z d f l e m w = through (setting v x) within k t o r s z d f l e m w refl
+  combines-one raise within k t o r s z d f l e m w = through raise within k t o r s z d f l e m w refl
+  combines-one leave within k t o r s z d f l e m w = through leave within k t o r s z d f l e m w refl
+  combines-one (choose x) within k t o r s z d f l e m w =
+      goes (choose x) within k t o r s z d f l e m w inside (finishes k) refl
+      (λ o₁ z₁ q e₁ m₁ f₁. go-finishes p (choose x) within k o₁ o₁ refl refl (λ s j. (refl, refl)) z₁ q (omega arith))
+  combines-one (repeat x) within k t o r s z d f l e m w =
+      goes (repeat x) within k t o r s z d f l e m w inside (again k) refl (λ o₁ z₁ q e₁ m₁ f₁. go-again p x within k o₁ z₁ q (omega arith))
+  combines-one sequence within k t o r s z d f l e m w =
+      goes sequence within k t o r s z d f l e m w active _ refl (λ o₁ z₁ q e₁ m₁ f₁. go-sequence within k t l o₁ f₁ z₁ q e₁ m₁)
+  combines-one flow within k t o r s z d f l e m w =
       combines-all within k t o r z e m (record { kept = w .kept; rooted = w .rooted; comes = go (r .result) (w .comes) })
     where
       go : (x : Result) → OneAs p within (k + 1) t o (r .log) (r .order) x → AllAs p within (k + 1) t o (r .log) (r .order) x
@@ -194,11 +194,11 @@ module _ (p : Plan) where
       go leaving c = c
       go undone c = c
       go undoRaising c = c
-  combines-one pick within k t o r s z l e m w =
-      goes pick within k t o r s z l e m w inside (finishes k) refl
-      (λ o₁ z₁ q e₁ m₁. go-finishes p pick within k o₁ o₁ refl refl (λ s j. (refl, refl)) z₁ q (omega arith))
-  combines-one scope within k t o r s z l e m w = absurd (false≢true (sym s))
-  combines-one (arm x y vs) within k t o r s z l e m w = through (arm x y vs) within k t o r s z l e m w refl
+  combines-one pick within k t o r s z d f l e m w =
+      goes pick within k t o r s z d f l e m w inside (finishes k) refl
+      (λ o₁ z₁ q e₁ m₁ f₁. go-finishes p pick within k o₁ o₁ refl refl (λ s j. (refl, refl)) z₁ q (omega arith))
+  combines-one scope within k t o r s z d f l e m w = absurd (false≢true (sym s))
+  combines-one (arm x y vs) within k t o r s z d f l e m w = through (arm x y vs) within k t o r s z d f l e m w refl
 
 -- only a pick has arms
 pub arms-holding : (own : Own) → eqb (kind own) 10 ≡ true → holding own ≡ inside

@@ -1,4 +1,4 @@
--- Demand 3, proved: over any calls from a fresh start the history of every slot is right. Assumes nothing.
+-- Demand 3, proved: over any calls from a fresh start the history of every slot is right, and orderly. Assumes nothing.
 use Prim.Native.Nat.{ℕ, zero, suc, _+_, _≤_, _<_}
 use native.Mathlib.Omega.{arith}
 use mathlib.Core.Path.{_≡_, refl, sym, ap, subst, _∙_}
@@ -27,14 +27,15 @@ use Rattle.order.specs.Acting.{allBound, Moved, stepOrder, begunOrder, startedO
 use Rattle.machine.specs.Fit.{Doing, noStep, sends, takes, moves, cuts, closes}
 use Rattle.machine.specs.Offer.{Offer, offersOf}
 use Rattle.order.specs.Taking.{bindAll}
-use Rattle.machine.specs.Calls.{loadedAs, load, refusing, postBy, post, partnersOf, foreign, collectBy, collect, Chosen, refusedChoice, chosen, choosing, countStart, Stepped, doingAt, messagesAfter, orderTaking, stepped, taken, stepChosen, stepBy, step}
-use Rattle.machine.specs.History.{Call, posting, collecting, stepping, logOf, history}
-use Rattle.machine.specs.Demand3.{rightAfter, right, noneNow, allowed, Demand3}
+use Rattle.machine.specs.Calls.{loadedAs, load, refusing, postBy, post, partnersOf, foreign, collectBy, collect, Chosen, refusedChoice, chosen, choosing, countStart, Stepped, doingAt, messagesAfter, orderTaking, stepped, taken, stepChosen, stepBy, step, Call, posting, collecting, stepping}
+use Rattle.undoing.specs.History.{logOf, history}
+use Rattle.undoing.specs.Demand3.{right, noneNow, Demand3}
+use Rattle.undoing.specs.Orderly.{Orderly}
 use Rattle.undoing.proofs.Parts.{both, decide}
 use Rattle.undoing.proofs.Accounts.{Phase, rest, waits, heals, phase}
-use Rattle.undoing.proofs.Moves.{Everywhere, HoldsAt, move-start}
+use Rattle.undoing.proofs.Moves.{Everywhere, HoldsAt, fair, move-start}
 use Rattle.undoing.proofs.Marks.{Quiet, Run, turned-waits, turned-undoes, turned-heals, quiet-agree, agree-above}
-use Rattle.undoing.proofs.Orders.{momentOf, onto, right-append, onto-append, does-nothing}
+use Rattle.undoing.proofs.Orders.{momentOf, fairAfter, fair-right, onto, fair-append, onto-append, does-nothing}
 use Rattle.undoing.proofs.Beginning.{Begins, begins}
 use Rattle.undoing.proofs.Waiting.{quiet-waits}
 use Rattle.undoing.proofs.Scoping.{scope-live, scope-done, scope-turned, Running}
@@ -57,8 +58,8 @@ standing-live p o h = go (o .root) (h .runs)
     go : (m : ℕ) → Running (rootOf p) (o .marks) m → not (eqb m idle) ≡ true
     go m (scope-live e r q) = rw e
     go m (scope-done e r q) = rw e
-    go m (scope-turned (turned-waits e r _ q)) = not-rest m waits e (λ d. let z : _≡_ {A = ℕ} 0 1 = cc in omega arith)
-    go m (scope-turned (turned-undoes e r q)) = not-rest m Phase.undoes e (λ d. let z : _≡_ {A = ℕ} 0 1 = cc in omega arith)
+    go m (scope-turned (turned-waits {w = a} e r _ q)) = not-rest m (waits a) e (λ d. let z : _≡_ {A = ℕ} 0 1 = cc in omega arith)
+    go m (scope-turned (turned-undoes {w = a} e r q)) = not-rest m (Phase.undoes a) e (λ d. let z : _≡_ {A = ℕ} 0 1 = cc in omega arith)
     go m (scope-turned (turned-heals e r q)) = not-rest m heals e (λ d. let z : _≡_ {A = ℕ} 0 1 = cc in omega arith)
 
 -- Binding the values of a message changes no mark and nothing that is remembered.
@@ -102,7 +103,7 @@ module _ (p : Plan) (h : Promised p) where
   -- a step of an order that stands and has taken its message
   taken-step : (t : ℕ) (o o′ : Order) (past : List Event) → Alike p o o′ → Awaited p (o .marks) t → Standing p o → rootInLimits (o .root) ≡ true
       → HoldsAt p (momentOf p o) past → Passed p past (stepOrder p t o′)
-  unfolding rightAfter
+  unfolding fairAfter
   taken-step t o o′ past e w st l g =
       let m = root-mild (o .root) l in
       order-steps p (h .distinct) (h .seat) t o′ past (subst (λ (ms : List ℕ). Awaited p ms t) (sym (e .marks)) w)
@@ -114,7 +115,7 @@ module _ (p : Plan) (h : Promised p) where
       (λ d. m .0 (sym (e .root) ∙ d)) (λ d. m .1 (sym (e .root) ∙ d)) (does-nothing (e .everywhere) .does past g .1)
 
   -- what stands in a slot after that
-  passed-slot : (past : List Event) (m : Moved) → Passed p past m → (rightAfter p past (m .log) ≡ true) × Slot p (m .order) (onto (m .log) past)
+  passed-slot : (past : List Event) (m : Moved) → Passed p past m → (fairAfter p past (m .log) ≡ true) × Slot p (m .order) (onto (m .log) past)
   unfolding noOrder
   passed-slot past m (passes-on r st g) = (r, slot-live st g)
   passed-slot past m (passes-end r e n) = (r, slot-free (ap isLive e) n)
@@ -129,8 +130,8 @@ module _ (p : Plan) (h : Promised p) where
 
   -- what is logged then is right, and the order stands
   pub order-starts : (t : ℕ) (past : List Event) → noneNow past ≡ true → Awaited p (startedOrder p .marks) t
-      → (rightAfter p past (started ∷ begunOrder p .log) ≡ true) × Standing p (startedOrder p) × HoldsAt p (momentOf p (startedOrder p)) (onto (started ∷ begunOrder p .log) past)
-  unfolding startedOrder begunOrder noOrder rightAfter only
+      → (fairAfter p past (started ∷ begunOrder p .log) ≡ true) × Standing p (startedOrder p) × HoldsAt p (momentOf p (startedOrder p)) (onto (started ∷ begunOrder p .log) past)
+  unfolding startedOrder begunOrder noOrder fairAfter only
   order-starts t past z w = (
     rw (m .0) (d .0),
     record { many = omega (arith, b .kept .many, h .few, length-replicate 256 idle); runs = go (begunOrder p .over) refl; going = λ e. omega arith },
@@ -144,12 +145,12 @@ module _ (p : Plan) (h : Promised p) where
       few = omega (arith, h .few, length-replicate 256 idle)
 
       b : Begins p (λ ms. Run ms (p .body) 0) 0 (size (p .body)) o₀ o₀ (begin (p .body) 0 (noOrder .marks))
-      b = begins p (h .seat .body) o₀ (idle-marks 0 (size (p .body))) few
+      b = begins p (h .seat .body) o₀ (idle-marks 0 (size (p .body))) few refl
 
-      m : (allowed p past started ≡ true) × HoldsAt p (momentOf p o₀) (started ∷ past)
+      m : (fair p past started ≡ true) × HoldsAt p (momentOf p o₀) (started ∷ past)
       m = move-start p (momentOf p o₀) past z refl (λ k. ap phase (idle-marks k 1 .at k (omega arith) (omega arith))) (λ s. refl)
 
-      d : (rightAfter p (started ∷ past) (begunOrder p .log) ≡ true) × HoldsAt p (momentOf p (startedOrder p)) (onto (begunOrder p .log) (started ∷ past))
+      d : (fairAfter p (started ∷ past) (begunOrder p .log) ≡ true) × HoldsAt p (momentOf p (startedOrder p)) (onto (begunOrder p .log) (started ∷ past))
       d = b .does .does (started ∷ past) (m .1)
 
       q : Quiet (begunOrder p .marks) (size (p .body)) (size (p .fault))
@@ -261,21 +262,21 @@ module _ (p : Plan) (bytes : List ℕ) (next i : ℕ) (accepted : readPlan bytes
 
   -- what holds after a step: its log is right, and the state is sane
   abbrev pub After : List Event → Stepped → Type 0
-  After past r = (rightAfter p past (logOf i r) ≡ true) × Sane (r .state) (onto (logOf i r) past)
+  After past r = (fairAfter p past (logOf i r) ≡ true) × Sane (r .state) (onto (logOf i r) past)
 
   -- a refused step
   refused-after : (past : List Event) (s : State) (r : Stepped) → r .state ≡ s → r .log ≡ [] → Sane s past → After past r
-  unfolding rightAfter
+  unfolding fairAfter
   refused-after past s r e d g =
       let l : logOf i r ≡ [] = decide (eqb (r .answer .slot) i) (λ t. rw (t, d)) (λ t. rw t) in
       (rw l, rw l (subst (λ (x : State). Sane x past) (sym e) g))
 
   -- a step taken, in this slot or in another
   stepped-after : (x : Offer) (s : State) (t : Tally) (o : Order) (l past : List Event) → Sane s past → x .slot < 16
-      → (x .slot ≡ i → (rightAfter p past (stepped p x s t o l .log) ≡ true)
+      → (x .slot ≡ i → (fairAfter p past (stepped p x s t o l .log) ≡ true)
       × Slot p (stepOrder p (x .activity) (orderTaking (doingAt p (x .activity)) (getD (s .messages) (x .place) noMessage) o) .order) (onto (stepped p x s t o l .log) past))
       → After past (stepped p x s t o l)
-  unfolding stepped rightAfter
+  unfolding stepped fairAfter
   stepped-after x s t o l past g b f =
       decide (eqb (x .slot) i)
       (λ e. rw e (
@@ -329,7 +330,7 @@ module _ (p : Plan) (bytes : List ℕ) (next i : ℕ) (accepted : readPlan bytes
       mild = both (rootInLimits (o .root)) _ (every-at orderInLimits (s .orders) (x .slot) noOrder no-order-limits l) (λ a b. a)
 
       goes : Slot p o past
-          → (rightAfter p past (stepped p x s t o [] .log) ≡ true) × Slot p (stepOrder p (x .activity) o₁ .order) (onto (stepped p x s t o [] .log) past)
+          → (fairAfter p past (stepped p x s t o [] .log) ≡ true) × Slot p (stepOrder p (x .activity) o₁ .order) (onto (stepped p x s t o [] .log) past)
       goes (slot-free n y) = absurd (false≢true (sym n ∙ e))
       goes (slot-live st y) =
           passed-slot p h past (stepOrder p (x .activity) o₁)
@@ -348,13 +349,13 @@ module _ (p : Plan) (bytes : List ℕ) (next i : ℕ) (accepted : readPlan bytes
       m = stepOrder p (x .activity) o₁
 
       goes : Slot p (getD (s .orders) (x .slot) noOrder) past
-          → (rightAfter p past ((started ∷ begunOrder p .log) ++ m .log) ≡ true) × Slot p (m .order) (onto ((started ∷ begunOrder p .log) ++ m .log) past)
+          → (fairAfter p past ((started ∷ begunOrder p .log) ++ m .log) ≡ true) × Slot p (m .order) (onto ((started ∷ begunOrder p .log) ++ m .log) past)
       goes (slot-live st y) = absurd (false≢true (sym e ∙ standing-live p (getD (s .orders) (x .slot) noOrder) st))
       goes (slot-free n y) =
           let a = order-starts p h (x .activity) past y w in
           let c = passed-slot p h (onto (started ∷ begunOrder p .log) past) m
           (taken-step p h (x .activity) o o₁ (onto (started ∷ begunOrder p .log) past) (taking-alike p (doingAt p (x .activity)) (getD (s .messages) (x .place) noMessage) o) w (a .1) (started-in-limits p) (a .2)) in (
-            right-append p past (started ∷ begunOrder p .log) (m .log) (a .0) (c .0),
+            fair-append p past (started ∷ begunOrder p .log) (m .log) (a .0) (c .0),
             subst (λ (z : List Event). Slot p (m .order) z) (sym (onto-append past (started ∷ begunOrder p .log) (m .log))) (c .1),
           )
 
@@ -372,24 +373,35 @@ module _ (p : Plan) (bytes : List ℕ) (next i : ℕ) (accepted : readPlan bytes
       choice (refusedChoice n) e l = refused-after past s (record { answer = refusing n; state = s; tally = t; log = [] }) refl refl g
       choice (chosen x) e l = taken-after x s t past g l (chosen-good p s c x e)
 
-  -- The history of the slot is right.
-  rightly : (calls : List Call) (s : State) (t : Tally) (past : List Event) → Sane s past → rightAfter p past (history calls i s t) ≡ true
-  unfolding history rightAfter
-  rightly [] s t past g = refl
-  rightly (posting m ∷ l) s t past g = rightly l (post m s .state) t past (same-sane s (post m s .state) past (post-same m s) g)
-  rightly (collecting ∷ l) s t past g = rightly l (collect s .state) t past (same-sane s (collect s .state) past (collect-same s) g)
-  rightly (stepping c ∷ l) s t past g =
+  -- The history of the slot is fair.
+  fairly : (calls : List Call) (s : State) (t : Tally) (past : List Event) → Sane s past → fairAfter p past (history calls i s t) ≡ true
+  unfolding history fairAfter
+  fairly [] s t past g = refl
+  fairly (posting m ∷ l) s t past g = fairly l (post m s .state) t past (same-sane s (post m s .state) past (post-same m s) g)
+  fairly (collecting ∷ l) s t past g = fairly l (collect s .state) t past (same-sane s (collect s .state) past (collect-same s) g)
+  fairly (stepping c ∷ l) s t past g =
       let r = step-after c s t past g in
-      right-append p past (logOf i (step c s t)) (history l i (step c s t .state) (step c s t .tally)) (r .0) (rightly l (step c s t .state) (step c s t .tally) (onto (logOf i (step c s t)) past) (r .1))
+      fair-append p past (logOf i (step c s t)) (history l i (step c s t .state) (step c s t .tally)) (r .0) (fairly l (step c s t .state) (step c s t .tally) (onto (logOf i (step c s t)) past) (r .1))
 
--- Demand 3.
-pub demand3 : Demand3
-unfolding Demand3 right load fresh noneNow noOrder
-demand3 bytes p next e calls slot t =
-    subst (λ (f : Found Plan). right p (history calls slot (loadedAs bytes f .state) t) ≡ true) (sym e)
-    (rightly p bytes next slot e (promised p (accepted-is-within bytes e)) calls (fresh bytes) t []
+-- over any calls from a fresh start
+all-fair : (bytes : List ℕ) (p : Plan) (next : ℕ) → readPlan bytes ≡ found p next → (calls : List Call) (slot : ℕ) (t : Tally)
+    → fairAfter p [] (history calls slot (load bytes .state) t) ≡ true
+unfolding load fresh noneNow noOrder
+all-fair bytes p next e calls slot t =
+    subst (λ (f : Found Plan). fairAfter p [] (history calls slot (loadedAs bytes f .state) t) ≡ true) (sym e)
+    (fairly p bytes next slot e (promised p (accepted-is-within bytes e)) calls (fresh bytes) t []
     (record {
       plan = take-append-seam bytes _;
       many = length-replicate 16 noOrder;
       slot = slot-free (ap isLive (fresh-order slot)) refl;
     }))
+
+-- Demand 3.
+pub demand3 : Demand3
+unfolding Demand3 right
+demand3 bytes p next e calls slot t = fair-right p [] (history calls slot (load bytes .state) t) (all-fair bytes p next e calls slot t) .0
+
+-- And all happens where it may.
+pub orderly : Orderly
+unfolding Orderly
+orderly bytes p next e calls slot t = fair-right p [] (history calls slot (load bytes .state) t) (all-fair bytes p next e calls slot t) .1

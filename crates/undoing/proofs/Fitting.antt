@@ -2,7 +2,7 @@
 use Prim.Native.Nat.{ℕ, _+_, _≤_, _<_}
 use native.Mathlib.Omega.{arith}
 use mathlib.Core.Path.{_≡_, refl, sym, ap, _∙_}
-use mathlib.Core.Bool.{Bool, true, false, _||_}
+use mathlib.Core.Bool.{Bool, true, false, not, _||_}
 use lib.ListN.{getD}
 use lib.Dec.{eqb, ltb}
 use borrow.Author.Tests.{eq-eqb, ne-eqb, lt-ltb, le-ltb}
@@ -15,18 +15,22 @@ use Rattle.undoing.proofs.Parts.{decide}
 use Rattle.undoing.proofs.Accounts.{Phase, heals, phase}
 use Rattle.undoing.proofs.Marks.{trio, Quiet, holding, Run, run-awaits, run-one, run-all, run-body, run-done, run-turned, One, one-here, one-later, All, all-run, all-quiet, Turned, turned-waits, turned-undoes, turned-heals, Stopped, stopped-part, stopped-quiet, stopped-scope, StoppedIn, stopped-more, Undoing, undoing-part, undoing-scope, UndoingIn, undoing-here, undoing-later, quiet-part}
 use Rattle.undoing.proofs.Waiting.{opens, Waits, waits-itself, waits-within, WaitsIn, waits-first, waits-later, opens-idle, quiet-waits, quiet-waits-in, stopped-waits, undoing-waits}
-use Rattle.undoing.proofs.Scoping.{scope-live, scope-done, scope-turned, Running, no-undoes-but, no-heals}
+use Rattle.undoing.proofs.Scoping.{scope-live, scope-done, scope-turned, Running, undoes-mark, no-heals}
 use Rattle.undoing.proofs.Combining.{arms-holding}
 use Rattle.undoing.proofs.Roots.{Awaited, in-body, in-fault, Standing}
-use Rattle.undoing.proofs.Shapes.{first-of, second-of, place-here, place-within, place-scope, place-first, place-later, parts-first, parts-later}
+use Rattle.undoing.proofs.Places.{first-of, second-of, place-here, place-within, place-scope, place-first, place-later, parts-first, parts-later}
 
 -- what has one running in it has no open arms
 opens-held : (own : Own) (m : ℕ) → m ≡ holding own → opens own m ≡ false
 opens-held own m e = decide (eqb (kind own) 10) (λ t. rw (t, e, arms-holding own t)) (λ t. rw t)
 
 -- a scope that undoes, or that runs its fault part, by its mark
-marks-undo : (m : ℕ) → phase m ≡ Phase.undoes → (eqb m undoing || eqb m withdrawing) ≡ true
-marks-undo m e = decide (eqb m undoing || eqb m withdrawing) (λ t. t) (λ t. absurd (no-undoes-but m t e))
+pub marks-undo : (m : ℕ) {w : Bool} → phase m ≡ Phase.undoes w → (eqb m undoing || eqb m withdrawing) ≡ true
+marks-undo m {w} e = go w (undoes-mark m e .0) (undoes-mark m e .1)
+  where
+    go : (w : Bool) → eqb m undoing ≡ w → eqb m withdrawing ≡ not w → (eqb m undoing || eqb m withdrawing) ≡ true
+    go true x y = rw x
+    go false x y = rw (x, y)
 
 marks-heal : (m : ℕ) → phase m ≡ heals → eqb m handling ≡ true
 marks-heal m e = decide (eqb m handling) (λ t. t) (λ t. absurd (no-heals m t e))

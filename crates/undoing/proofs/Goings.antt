@@ -18,13 +18,13 @@ use Rattle.order.specs.declared.Way.{Way as Result}
 use Rattle.order.specs.declared.Way.the-variants.{Running as running, Over as over, Raising as raising, Leaving as leaving, Undone as undone, UndoRaising as undoRaising}
 use Rattle.order.specs.Scope.{Outcome, runs, after, begunIn, whereOver, isScope}
 use Rattle.order.specs.Acting.{finishes, raises, leaves, orRaises, enters, again, repeats, allBound, itself}
-use Rattle.machine.specs.Demand3.{rightAfter, noneNow, isOver}
-use Rattle.undoing.specs.Ties.{isName, isDoer}
+use Rattle.undoing.specs.Demand3.{noneNow, isOver}
+use Rattle.undoing.specs.Ties.{isName, Place, nameOf}
 use Rattle.undoing.proofs.Parts.{decide}
 use Rattle.undoing.proofs.Accounts.{phase}
-use Rattle.undoing.proofs.Moves.{Everywhere, move-raise, order-left}
-use Rattle.undoing.proofs.Marks.{Quiet, Kept, holding, Run, run-awaits, run-one, One, one-here, one-later, able-part, quiet-part, quiet-agree, quiet-join, agree-below, agree-above, kept-wider, kept-then, kept-itself, kept-set, quiet-stoppable}
-use Rattle.undoing.proofs.Orders.{momentOf, Does, does-then, does-nothing, does-still, does-one, plain-marked, isArm, least, SitsIn, sits-none, sits-more}
+use Rattle.undoing.proofs.Moves.{Everywhere, Before, Spot, move-raise, order-left}
+use Rattle.undoing.proofs.Marks.{isDoer, Quiet, Kept, holding, Run, run-awaits, run-one, One, one-here, one-later, able-part, quiet-part, quiet-agree, quiet-join, agree-below, agree-above, kept-wider, kept-then, kept-itself, kept-set, quiet-stoppable}
+use Rattle.undoing.proofs.Orders.{momentOf, fairAfter, Fit, fit-kept, fit-marked, before-on, Does, does-then, does-nothing, does-still, does-one, plain-marked, isArm, least, SitsIn, sits-none, sits-more}
 use Rattle.undoing.proofs.Beginning.{Begins, begins, begins-in-turn, begins-nothing, quiet-set, quiet-cons}
 use Rattle.undoing.proofs.Breaking.{cleared-kept, cleared-quiet}
 use Rattle.undoing.proofs.Scoping.{Acted, RunAs}
@@ -67,26 +67,26 @@ go-after {p} {a} {k} {n} {o} {o₁} {l} {r} v e d w =
 
 module _ (p : Plan) where
   -- the i-th within begins
-  pub begins-at : {n : Name} {l : Acts} {c : ℕ} → SitsIn p n l c → (i : ℕ) → i < count l → (o : Order) → Quiet (o .marks) c (sizes l)
-      → c + sizes l ≤ length (o .marks)
+  pub begins-at : {x : Place} {l : Acts} {c : ℕ} → SitsIn p x l c → (i : ℕ) → i < count l → (o : Order) → Quiet (o .marks) c (sizes l)
+      → c + sizes l ≤ length (o .marks) → Fit x o
       → Begins p (λ ms. One ms l c) c (sizes l) o o (beginPart i l c (o .marks))
   unfolding beginPart part partAt size count
-  begins-at (sits-none) i h o q m = absurd (omega arith)
-  begins-at (sits-more {n} {a} {l} {c} s y) zero h o q m =
-      let b = begins p s o (quiet-part q (omega arith) (omega arith)) (omega arith) in
+  begins-at (sits-none) i h o q m f = absurd (omega arith)
+  begins-at (sits-more {q = x} {a} {l} {c} s y) zero h o q m f =
+      let b = begins p s o (quiet-part q (omega arith) (omega arith)) (omega arith) f in
       let z : Quiet (begin a c (o .marks) .marks) (c + size a) (sizes l) = quiet-agree (quiet-part q (omega arith) (omega arith)) (agree-above (b .kept) (omega arith)) in
       record { kept = kept-wider (b .kept) (omega arith) (omega arith); quiet = λ e. quiet-join (b .quiet e) z refl; runs = λ e. one-here (b .runs e) z; does = b .does }
-  begins-at (sits-more {n} {a} {l} {c} s y) (suc i) h o q m =
-      let b = begins-at y i (omega arith) o (quiet-part q (omega arith) (omega arith)) (omega arith) in
+  begins-at (sits-more {q = x} {a} {l} {c} s y) (suc i) h o q m f =
+      let b = begins-at y i (omega arith) o (quiet-part q (omega arith) (omega arith)) (omega arith) f in
       let z : Quiet (beginPart i l (c + size a) (o .marks) .marks) c (size a) = quiet-agree (quiet-part q (omega arith) (omega arith)) (agree-below (b .kept) (omega arith)) in
       record { kept = kept-wider (b .kept) (omega arith) (omega arith); quiet = λ e. quiet-join z (b .quiet e) refl; runs = λ e. one-later z (b .runs e); does = b .does }
 
   -- what follows an activity in a sequence begins
-  pub begins-after : {n : Name} {l : Acts} {c : ℕ} → SitsIn p n l c → (t : ℕ) (o : Order) → Quiet (o .marks) c (sizes l) → c + sizes l ≤ length (o .marks)
+  pub begins-after : {x : Place} {l : Acts} {c : ℕ} → SitsIn p x l c → (t : ℕ) (o : Order) → Quiet (o .marks) c (sizes l) → c + sizes l ≤ length (o .marks) → Fit x o
       → Begins p (λ ms. One ms l c) c (sizes l) o o (beginAfter l c t (o .marks))
   unfolding beginAfter size
-  begins-after (sits-none {n} {c}) t o q m = begins-nothing p _ c 0 o q
-  begins-after (sits-more {n} {a} {l} {c} s y) t o q m = go (ltb t (c + size a)) (begins-in-turn p y o q₁ (omega arith)) (begins-after y t o q₁ (omega arith))
+  begins-after (sits-none {q = x} {c}) t o q m f = begins-nothing p _ c 0 o q
+  begins-after (sits-more {q = x} {a} {l} {c} s y) t o q m f = go (ltb t (c + size a)) (begins-in-turn p y o q₁ (omega arith) f) (begins-after y t o q₁ (omega arith) f)
     where
       q₁ : Quiet (o .marks) (c + size a) (sizes l)
       q₁ = quiet-part q (omega arith) (omega arith)
@@ -134,22 +134,22 @@ module _ (p : Plan) where
       }
 
   -- an activity whose step it is raises; lets the order leave; stays as it is
-  acts-raises : (own : Own) (within : Acts) (k : ℕ) (o : Order) → isScope own ≡ false → isName p (inner k) ≡ false → Quiet (o .marks) (k + 1) (sizes within)
+  acts-raises : {x : Place} (own : Own) (within : Acts) (k : ℕ) (o : Order) → Spot p x k → Fit x o → isScope own ≡ false → isName p (inner k) ≡ false → Quiet (o .marks) (k + 1) (sizes within)
       → Acted k (1 + sizes within) o (RunAs p (act own within) k k o) (raises k o)
-  acts-raises own within k o s z q =
+  acts-raises own within k o u f s z q =
       record {
         kept = kept-set k (1 + sizes within) k idle (o .marks) (omega arith) (omega arith);
         rooted = refl;
         comes = (
           able-part s (quiet-stoppable within (k + 1) (quiet-set idle q (omega arith))),
-          does-one (λ past x. move-raise p (momentOf p o) (momentOf p (marked k idle o)) past x k (plain-marked p k idle o z)),
+          does-one (λ past x. move-raise p (momentOf p o) (momentOf p (marked k idle o)) past x k u f (plain-marked p k idle o z)),
           λ e. refl,
         );
       }
 
   -- it lets the order leave
   acts-leaves : (own : Own) (within : Acts) (k : ℕ) (o : Order) → Acted k (1 + sizes within) o (RunAs p (act own within) k k o) (leaves k o)
-  unfolding rightAfter noneNow isOver
+  unfolding fairAfter noneNow isOver
   acts-leaves own within k o =
       record {
         kept = kept-set k (1 + sizes within) k idle (o .marks) (omega arith) (omega arith);
@@ -190,11 +190,11 @@ module _ (p : Plan) where
       }
 
   -- a repeat has another turn
-  go-repeats : {n : Name} (e : Exp) (within : Acts) (k : ℕ) (o : Order) → SitsIn p n within (k + 1) → 1 ≤ count within → isName p (inner k) ≡ false
+  go-repeats : {x : Place} (e : Exp) (within : Acts) (k : ℕ) (o : Order) → Before (nameOf x) k → Fit x o → SitsIn p x within (k + 1) → 1 ≤ count within → isName p (inner k) ≡ false
       → Quiet (o .marks) (k + 1) (sizes within) → k + (1 + sizes within) ≤ length (o .marks)
       → Acted k (1 + sizes within) o (GoAs p (act (repeat e) within) k o) (repeats k within o)
   unfolding repeats kind
-  go-repeats e within k o l c z q m =
+  go-repeats {x} e within k o d f l c z q m =
       go-after {l = []} (kept-then (kept-wider w (omega arith) (omega arith)) (kept-set k (1 + sizes within) k inside ms (omega arith) (omega arith))) refl
       (does-still (does-nothing (cleared-everywhere (k + 1) (sizes within) o q)) (plain-marked p k inside (withMarks ms o) z))
       (go-begun (repeat e) within k o₁ (again k) _ _ _ refl (getD-set-same ms k inside 0 (omega (arith, w .many))) b
@@ -211,13 +211,14 @@ module _ (p : Plan) where
 
       b : Begins p (λ ns. One ns within (k + 1)) (k + 1) (sizes within) o₁ o₁ (beginPart 0 within (k + 1) (o₁ .marks))
       b = begins-at l 0 c o₁ (quiet-set inside (cleared-quiet (sizes within) (k + 1) (o .marks)) (omega arith)) (omega (arith, w .many, length-set ms k inside))
+          (fit-marked x k inside (withMarks ms o) d (fit-kept x k o (withMarks ms o) d (omega arith) refl w f))
 
   -- a choose enters one of its two
-  go-enters : {n : Name} (e : Exp) (within : Acts) (k i : ℕ) (o : Order) → SitsIn p n within (k + 1) → i < count within → isName p (inner k) ≡ false
+  go-enters : {x : Place} (e : Exp) (within : Acts) (k i : ℕ) (o : Order) → Before (nameOf x) k → Fit x o → SitsIn p x within (k + 1) → i < count within → isName p (inner k) ≡ false
       → Quiet (o .marks) (k + 1) (sizes within) → k + (1 + sizes within) ≤ length (o .marks)
       → Acted k (1 + sizes within) o (GoAs p (act (choose e) within) k o) (enters k o (beginPart i within (k + 1) (marked k inside o .marks)))
   unfolding kind
-  go-enters e within k i o l c z q m =
+  go-enters {x} e within k i o d f l c z q m =
       go-after {l = []} (kept-set k (1 + sizes within) k inside (o .marks) (omega arith) (omega arith)) refl (does-nothing (plain-marked p k inside o z))
       (go-begun (choose e) within k o₁ (finishes k) _ _ _ refl (getD-set-same (o .marks) k inside 0 (omega arith)) b
       (λ q₁. let o₂ = withMarks (beginPart i within (k + 1) (o₁ .marks) .marks) o₁ in
@@ -227,47 +228,47 @@ module _ (p : Plan) where
       o₁ = marked k inside o
 
       b : Begins p (λ ns. One ns within (k + 1)) (k + 1) (sizes within) o₁ o₁ (beginPart i within (k + 1) (o₁ .marks))
-      b = begins-at l i c o₁ (quiet-set inside q (omega arith)) (omega (arith, length-set (o .marks) k inside))
+      b = begins-at l i c o₁ (quiet-set inside q (omega arith)) (omega (arith, length-set (o .marks) k inside)) (fit-marked x k inside o d f)
 
   -- its step, by what its expression comes to
-  acts-or-raises : (own : Own) (within : Acts) (k : ℕ) (o : Order) (f : ℕ → Outcome) (v : Value) → isScope own ≡ false → isName p (inner k) ≡ false
+  acts-or-raises : {x : Place} (own : Own) (within : Acts) (k : ℕ) (o : Order) (f : ℕ → Outcome) (v : Value) → Spot p x k → Fit x o → isScope own ≡ false → isName p (inner k) ≡ false
       → Quiet (o .marks) (k + 1) (sizes within)
       → ((n : ℕ) → Acted k (1 + sizes within) o (RunAs p (act own within) k k o) (f n))
       → Acted k (1 + sizes within) o (RunAs p (act own within) k k o) (orRaises k o f v)
-  acts-or-raises own within k o f fault s z q g = acts-raises own within k o s z q
-  acts-or-raises own within k o f (value n) s z q g = g n
+  acts-or-raises own within k o f fault u i s z q g = acts-raises own within k o u i s z q
+  acts-or-raises own within k o f (value n) u i s z q g = g n
 
   -- An activity other than a scope or an arm has its step.
-  pub acts-itself : {n : Name} (own : Own) (within : Acts) (k : ℕ) (o : Order) → isScope own ≡ false → isArm own ≡ false → isDoer own ≡ true → least own ≤ count within
+  pub acts-itself : {x : Place} (own : Own) (within : Acts) (k : ℕ) (o : Order) → isScope own ≡ false → isArm own ≡ false → isDoer own ≡ true → least own ≤ count within
       → isName p (inner k) ≡ false
-      → SitsIn p n within (k + 1) → getD (o .marks) k 0 ≡ active → Quiet (o .marks) (k + 1) (sizes within) → k + (1 + sizes within) ≤ length (o .marks)
+      → Spot p x k → Fit x o → SitsIn p x within (k + 1) → getD (o .marks) k 0 ≡ active → Quiet (o .marks) (k + 1) (sizes within) → k + (1 + sizes within) ≤ length (o .marks)
       → Acted k (1 + sizes within) o (RunAs p (act own within) k k o) (itself own within k o)
   unfolding itself kind least isDoer
-  acts-itself empty within k o s a i c z l e q m = absurd (false≢true i)
-  acts-itself (send x y vs) within k o s a i c z l e q m = go (allBound o vs)
+  acts-itself empty within k o s a i c z u f l e q m = absurd (false≢true i)
+  acts-itself (send x y vs) within k o s a i c z u f l e q m = go (allBound o vs)
     where
       go : (b : Bool) → Acted k (1 + sizes within) o (RunAs p (act (send x y vs) within) k k o) (cond b (finishes k o) (raises k o))
       go true = go-run k (go-finishes (send x y vs) within k o o refl refl (λ s j. (refl, refl)) z q (omega arith))
-      go false = acts-raises (send x y vs) within k o s z q
-  acts-itself (receive x y vs) within k o s a i c z l e q m = go-run k (go-finishes (receive x y vs) within k o o refl refl (λ s j. (refl, refl)) z q (omega arith))
-  acts-itself (setting v x) within k o s a i c z l e q m =
-      acts-or-raises (setting v x) within k o _ (evaluate x o) s z q
+      go false = acts-raises (send x y vs) within k o u f s z q
+  acts-itself (receive x y vs) within k o s a i c z u f l e q m = go-run k (go-finishes (receive x y vs) within k o o refl refl (λ s j. (refl, refl)) z q (omega arith))
+  acts-itself (setting v x) within k o s a i c z u f l e q m =
+      acts-or-raises (setting v x) within k o _ (evaluate x o) u f s z q
       (λ n. go-run k (go-finishes (setting v x) within k o (binding v n o) refl refl (bound-everywhere v n o) z q (omega arith)))
-  acts-itself raise within k o s a i c z l e q m = acts-raises raise within k o s z q
-  acts-itself leave within k o s a i c z l e q m = acts-leaves leave within k o
-  acts-itself (choose x) within k o s a i c z l e q m =
-      acts-or-raises (choose x) within k o _ (evaluate x o) s z q (λ n. go-run k (go-enters x within k (cond (isTrue n) 0 1) o l (omega (arith, first-two (isTrue n))) z q m))
+  acts-itself raise within k o s a i c z u f l e q m = acts-raises raise within k o u f s z q
+  acts-itself leave within k o s a i c z u f l e q m = acts-leaves leave within k o
+  acts-itself (choose x) within k o s a i c z u f l e q m =
+      acts-or-raises (choose x) within k o _ (evaluate x o) u f s z q (λ n. go-run k (go-enters x within k (cond (isTrue n) 0 1) o (u .before) f l (omega (arith, first-two (isTrue n))) z q m))
     where
       first-two : (b : Bool) → cond b 0 1 < 2
       first-two true = omega arith
       first-two false = omega arith
-  acts-itself (repeat x) within k o s a i c z l e q m = acts-or-raises (repeat x) within k o _ (evaluate x o) s z q (λ n. go (isTrue n))
+  acts-itself (repeat x) within k o s a i c z u f l e q m = acts-or-raises (repeat x) within k o _ (evaluate x o) u f s z q (λ n. go (isTrue n))
     where
       go : (b : Bool) → Acted k (1 + sizes within) o (RunAs p (act (repeat x) within) k k o) (elim b [ true ↦ repeats k within o | false ↦ finishes k o ])
-      go true = go-run k (go-repeats x within k o l c z q m)
+      go true = go-run k (go-repeats x within k o (u .before) f l c z q m)
       go false = go-run k (go-finishes (repeat x) within k o o refl refl (λ s j. (refl, refl)) z q (omega arith))
-  acts-itself sequence within k o s a i c z l e q m = absurd (false≢true i)
-  acts-itself flow within k o s a i c z l e q m = absurd (false≢true i)
-  acts-itself pick within k o s a i c z l e q m = acts-runs (act pick within) k _ k o (run-awaits s i e q)
-  acts-itself scope within k o s a i c z l e q m = absurd (false≢true (sym s))
-  acts-itself (arm x y vs) within k o s a i c z l e q m = absurd (false≢true (sym a))
+  acts-itself sequence within k o s a i c z u f l e q m = absurd (false≢true i)
+  acts-itself flow within k o s a i c z u f l e q m = absurd (false≢true i)
+  acts-itself pick within k o s a i c z u f l e q m = acts-runs (act pick within) k _ k o (run-awaits s i e q)
+  acts-itself scope within k o s a i c z u f l e q m = absurd (false≢true (sym s))
+  acts-itself (arm x y vs) within k o s a i c z u f l e q m = absurd (false≢true (sym a))

@@ -23,9 +23,9 @@ use Rattle.order.specs.Event.{Event, started, began, closed, faulted, stopped, 
 use Rattle.order.specs.Scope.{isOpen, rootOf}
 use Rattle.order.specs.Acting.{stepOrder, begunOrder, startedOrder}
 use Rattle.machine.specs.Offer.{Offer, offersOf}
-use Rattle.machine.specs.Calls.{loadedAs, load, refusing, post, collect, Chosen, refusedChoice, chosen, choosing, countStart, Stepped, doingAt, orderTaking, stepped, taken, stepChosen, stepBy, step}
-use Rattle.machine.specs.History.{Call, posting, collecting, stepping, logOf, history}
-use Rattle.machine.specs.Demand3.{mayTurn, noneNow}
+use Rattle.machine.specs.Calls.{loadedAs, load, refusing, post, collect, Chosen, refusedChoice, chosen, choosing, countStart, Stepped, doingAt, orderTaking, stepped, taken, stepChosen, stepBy, step, Call, posting, collecting, stepping}
+use Rattle.undoing.specs.History.{logOf, history}
+use Rattle.undoing.specs.Demand3.{mayTurn, noneNow}
 use Rattle.undoing.specs.Ties.{isName, fits, Place, bodyOf, faultOf, undoOf, placeOf, Due, nothing, fault, end, dueFirst, dueSecond, dueEnded, due, isFaultOf, isEndOf, heeds, isNothing, heedsAfter, FaultsTold}
 use Rattle.undoing.proofs.Parts.{both, decide, same-itself}
 use Rattle.undoing.proofs.Accounts.{accountOf, left-unfinished}

@@ -1,3 +1,4 @@
+mod Histories
 pub mod Parts
 pub mod Accounts
 pub mod Moves
@@ -15,6 +16,7 @@ pub mod Goings
 pub mod Combining
 pub mod Stepping
 pub mod Roots
+pub mod Places
 pub mod Planning
 pub mod Offered
 pub mod Demanded

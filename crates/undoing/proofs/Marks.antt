@@ -11,7 +11,6 @@ use borrow.Author.Tests.{ltb-true, ltb-false}
 use Rattle.plan.specs.Tree.{Own, empty, send, receive, set as setting, raise, leave, choose, repeat, sequence, flow, pick, scope, arm, kind, Act, act, Acts, none, more, size, sizes}
 use Rattle.order.specs.State.{idle, active, inside, done}
 use Rattle.order.specs.Scope.{isScope, isOpen, innerRuns, innerRunsIn}
-use Rattle.undoing.specs.Ties.{isDoer}
 use Rattle.undoing.proofs.Parts.{decide}
 use Rattle.undoing.proofs.Accounts.{Phase, rest, live, waits, undoes, heals, phase}
 
@@ -22,6 +21,22 @@ trio b f u = more b (more f (more u none))
 -- how many numbers a scope has
 abbrev pub spread : (body fault undo : Act) → ℕ
 spread b f u = 1 + (size b + (size f + (size u + 0)))
+
+-- whether an activity has a step of its own while it is active: a pick has that of an arm
+unfoldable pub isDoer : Own → Bool
+isDoer empty = false
+isDoer (send p op vs) = true
+isDoer (receive p op vs) = true
+isDoer (setting v e) = true
+isDoer raise = true
+isDoer leave = true
+isDoer (choose e) = true
+isDoer (repeat e) = true
+isDoer sequence = false
+isDoer flow = false
+isDoer pick = true
+isDoer scope = false
+isDoer (arm p op vs) = false
 
 -- n marks from k on are the same; are idle
 pub record Agree (k n : ℕ) (ms ns : List ℕ) : Type 0 where
@@ -77,8 +92,8 @@ mutual
 
   -- a scope that turned, by its mark, its body and its fault part
   pub data Turned (ms : List ℕ) : (mark : ℕ) → (body : Act) → ℕ → (fault : Act) → ℕ → Type 0 where
-    turned-waits : {m kb kf : ℕ} {b f : Act} → phase m ≡ waits → Stopped ms b kb → innerRuns b kb ms ≡ true → Quiet ms kf (size f) → Turned ms m b kb f kf
-    turned-undoes : {m kb kf : ℕ} {b f : Act} → phase m ≡ undoes → Undoing ms b kb → Quiet ms kf (size f) → Turned ms m b kb f kf
+    turned-waits : {w : Bool} {m kb kf : ℕ} {b f : Act} → phase m ≡ waits w → Stopped ms b kb → innerRuns b kb ms ≡ true → Quiet ms kf (size f) → Turned ms m b kb f kf
+    turned-undoes : {w : Bool} {m kb kf : ℕ} {b f : Act} → phase m ≡ undoes w → Undoing ms b kb → Quiet ms kf (size f) → Turned ms m b kb f kf
     turned-heals : {m kb kf : ℕ} {b f : Act} → phase m ≡ heals → Quiet ms kb (size b) → Run ms f kf → Turned ms m b kb f kf
 
   -- a body that was stopped: only scopes that turned run in it
@@ -236,8 +251,8 @@ mutual
   -- a scope that turned
   pub turned-agree : {ms ns : List ℕ} {m m′ kb kf : ℕ} {b f : Act} → Turned ms m b kb f kf → m′ ≡ m → Agree kb (size b) ms ns → Agree kf (size f) ms ns
       → Turned ns m′ b kb f kf
-  turned-agree (turned-waits {m} {kb} {kf} {b} {f} e s n q) d g h = turned-waits (ap phase d ∙ e) (stopped-agree s g) (inner-agree b kb g ∙ n) (quiet-agree q h)
-  turned-agree (turned-undoes {m} {kb} {kf} {b} {f} e s q) d g h = turned-undoes (ap phase d ∙ e) (undoing-agree s g) (quiet-agree q h)
+  turned-agree (turned-waits {w} {m} {kb} {kf} {b} {f} e s n q) d g h = turned-waits (ap phase d ∙ e) (stopped-agree s g) (inner-agree b kb g ∙ n) (quiet-agree q h)
+  turned-agree (turned-undoes {w} {m} {kb} {kf} {b} {f} e s q) d g h = turned-undoes (ap phase d ∙ e) (undoing-agree s g) (quiet-agree q h)
   turned-agree (turned-heals {m} {kb} {kf} {b} {f} e q r) d g h = turned-heals (ap phase d ∙ e) (quiet-agree q g) (run-agree r h)
 
   -- what is stopped
@@ -332,8 +347,8 @@ not-open m q e f = decide (isOpen m) (λ t. absurd (f (sym e ∙ rw t))) (λ t. 
 
 -- a scope that turned is not open
 pub turned-not-open : {ms : List ℕ} {m kb kf : ℕ} {b f : Act} → Turned ms m b kb f kf → isOpen m ≡ false
-turned-not-open (turned-waits {m} e x n y) = not-open m waits e (λ d. let z : _≡_ {A = ℕ} 0 1 = cc in omega arith)
-turned-not-open (turned-undoes {m} e x y) = not-open m undoes e (λ d. let z : _≡_ {A = ℕ} 0 1 = cc in omega arith)
+turned-not-open (turned-waits {w} {m} e x n y) = not-open m (waits w) e (λ d. let z : _≡_ {A = ℕ} 0 1 = cc in omega arith)
+turned-not-open (turned-undoes {w} {m} e x y) = not-open m (undoes w) e (λ d. let z : _≡_ {A = ℕ} 0 1 = cc in omega arith)
 turned-not-open (turned-heals {m} e x y) = not-open m heals e (λ d. let z : _≡_ {A = ℕ} 0 1 = cc in omega arith)
 
 -- a scope that may be stopped is found so
@@ -350,8 +365,8 @@ scope-found (able-run (run-turned t q)) = found-turned (turned-not-open t) t q
 
 -- a scope that turned is not at rest
 pub turned-not-rest : {ms : List ℕ} {m kb kf : ℕ} {b f : Act} → Turned ms m b kb f kf → m ≡ idle → ⊥
-turned-not-rest (turned-waits e x n y) d = let z : waits ≡ rest = sym e ∙ ap phase d in let w : _≡_ {A = ℕ} 0 1 = cc in omega arith
-turned-not-rest (turned-undoes e x y) d = let z : undoes ≡ rest = sym e ∙ ap phase d in let w : _≡_ {A = ℕ} 0 1 = cc in omega arith
+turned-not-rest (turned-waits {w} e x n y) d = let z : waits w ≡ rest = sym e ∙ ap phase d in let v : _≡_ {A = ℕ} 0 1 = cc in omega arith
+turned-not-rest (turned-undoes {w} e x y) d = let z : undoes w ≡ rest = sym e ∙ ap phase d in let v : _≡_ {A = ℕ} 0 1 = cc in omega arith
 turned-not-rest (turned-heals e x y) d = let z : heals ≡ rest = sym e ∙ ap phase d in let w : _≡_ {A = ℕ} 0 1 = cc in omega arith
 
 -- what runs is not quiet

@@ -1,7 +1,7 @@
--- Each event that an order logs, as a move: it is allowed, and the ties hold after it. Assumes nothing.
-use Prim.Native.Nat.{ℕ}
+-- Each event that an order logs, as a move: it is allowed and orderly, and the ties hold after it. Assumes nothing.
+use Prim.Native.Nat.{ℕ, _<_}
 use mathlib.Core.Path.{_≡_, refl, sym, ap, subst, _∙_}
-use mathlib.Core.Bool.{true, false, false≢true, or-true, and-false}
+use mathlib.Core.Bool.{Bool, true, false, _&&_, false≢true, or-true, and-false}
 use mathlib.Core.List.{List, [], _∷_, _++_, append-nil, map}
 use lib.Seq.{take-append-seam, append-snoc}
 use lib.Dec.{eqb}
@@ -10,10 +10,11 @@ use Rattle.plan.specs.Tree.{Plan}
 use Rattle.order.specs.Lists.{every, some, only}
 use Rattle.order.specs.State.{Name, root, inner, same}
 use Rattle.order.specs.Event.{Event, started, began, closed, faulted, stopped, ended, raised, left}
-use Rattle.machine.specs.Demand3.{Inner, scopesOf, insideOf, isBegin, since, isTurn, isFinish, closedBy, undoneBy, isUndoRaise, closingsOf, undoneOf, hasTurned, mayTurn, mayUndo, mayBegin, mayClose, startedAll, isRoot, mayEnd, isOver, noneNow, allowed}
-use Rattle.undoing.specs.Ties.{isName}
+use Rattle.undoing.specs.Demand3.{Inner, scopesOf, insideOf, isBegin, since, isTurn, isFinish, closedBy, undoneBy, isUndoRaise, closingsOf, undoneOf, hasTurned, mayTurn, mayUndo, mayBegin, mayClose, startedAll, isRoot, mayEnd, isOver, noneNow, allowed}
+use Rattle.undoing.specs.Ties.{isName, Place, bodyOf, faultOf, undoOf, nameOf, placeOf, isFaultOf}
+use Rattle.undoing.specs.Orderly.{isFaultPart, isBeganOf, mayAct, mayHandle, mayStart, notLeft, hasMended, orderly}
 use Rattle.undoing.proofs.Parts.{decide, only-swap, alike-itself, same-equal, same-itself, same-swap}
-use Rattle.undoing.proofs.Accounts.{Account, accountOf, next, account-next, left-unfinished, Phase, rest, live, waits, undoes, heals, phase, Tied, tied-as, Holds, Known, Inside·rest, none-left}
+use Rattle.undoing.proofs.Accounts.{Account, accountOf, next, account-next, left-unfinished, Phase, rest, live, waits, undoes, heals, phase, Tied, tied-as, Holds, NoFaultPart, Known, Inside·rest, none-left}
 
 -- the marks and lists of two moments
 pub record Moment : Type 0 where
@@ -32,6 +33,27 @@ Everywhere p m m′ = (s : Name) → isName p s ≡ true → (phase (m′ .mark 
 abbrev pub HoldsAt : Plan → Moment → List Event → Type 0
 HoldsAt p m past = Holds p (m .mark) (m .list) past
 
+-- an event is as demand 3 says, and happens where it may
+abbrev pub fair : Plan → (past : List Event) → Event → Bool
+fair p past e = allowed p past e && orderly p past e
+
+-- a name whose mark stands before the place c, or that has none among the marks
+abbrev pub Before : Name → (c : ℕ) → Type 0
+Before root c = Unit {0}
+Before (inner k) c = k < c
+
+-- activity k stands in this place, in a scope that comes before it
+pub record Spot (p : Plan) (q : Place) (k : ℕ) : Type 0 where
+  pub place : placeOf p k ≡ q
+  pub name : isName p (nameOf q) ≡ true
+  pub before : Before (nameOf q) k
+
+-- the scope is in the phase in which what stands there may act
+abbrev pub FitAt : Place → (Name → ℕ) → Type 0
+FitAt (bodyOf n m) mk = phase (mk n) ≡ live
+FitAt (faultOf n m) mk = phase (mk n) ≡ heals
+FitAt (undoOf n m) mk = (w : Bool) × (phase (mk n) ≡ undoes w)
+
 -- what becomes of the ties, one scope at a time
 pub advance : (p : Plan) (m m′ : Moment) (past : List Event) (e : Event) → isOver e ≡ false
     → ((s : Name) → isName p s ≡ true → Tied (phase (m′ .mark s)) (m′ .list s) (next p s e (accountOf p s past)))
@@ -41,8 +63,8 @@ advance p m m′ past e o f = record { now = o; ties = λ s i. subst (λ (a : Ac
 
 -- an event that says nothing of a scope leaves its account
 pub unmoved : (p : Plan) (s : Name) (e : Event) (a : Account) → isBegin s e ≡ false → isBegin root e ≡ false → isFinish s e ≡ false → isTurn s e ≡ false
-    → closedBy (insideOf p s) e ≡ [] → undoneBy (insideOf p s) e ≡ [] → next p s e a ≡ a
-unmoved p s e a b r f t c u = rw (b, next, r, f, t, c, u, append-nil)
+    → closedBy (insideOf p s) e ≡ [] → undoneBy (insideOf p s) e ≡ [] → isFaultOf (same s) e ≡ false → isBeganOf (isFaultPart p s) e ≡ false → next p s e a ≡ a
+unmoved p s e a b r f t c u x y = rw (b, next, r, f, t, c, u, x, y, append-nil)
 
 -- the same tie at equal marks and lists
 pub tied-same : (a : Account) (q q′ : Phase) (l l′ : List ℕ) → q′ ≡ q → l′ ≡ l → Tied q l a → Tied q′ l′ a
@@ -64,10 +86,11 @@ closed-inside : (p : Plan) (s : Name) (k : ℕ)
 unfolding closedBy insideOf
 closed-inside p s k = ap (map (λ x. x .number)) (only-swap (λ x. eqb (x .number) k) (λ x. same (x .around) s) (scopesOf p))
 
--- j is neither a scope nor an undo part
+-- j is neither a scope nor an undo part nor a fault part
 pub record Plain (p : Plan) (j : ℕ) : Type 0 where
   pub noUndo : only (λ y. eqb (y .undo) j) (scopesOf p) ≡ []
   pub noScope : isName p (inner j) ≡ false
+  pub noFault : NoFaultPart p j
 
 -- a scope that begins is none that does not
 not-begun : (p : Plan) (s : Name) (j : ℕ) → isName p s ≡ true → isName p (inner j) ≡ false → isBegin s (began j) ≡ false
@@ -99,12 +122,13 @@ module _ (p : Plan) (m m′ : Moment) (past : List Event) (h : HoldsAt p m past)
       (tied-same (accountOf p s past) _ _ _ _ (w s i t .0) (w s i t .1) (h .ties s i))))
 
   -- a scope that is live turns: the fault of any scope, and the stop of an inner one
-  turned : (n : Name) → isName p n ≡ true → phase (m .mark n) ≡ live → phase (m′ .mark n) ≡ waits → m′ .list n ≡ m .list n
-      → (a : Account) → Tied (phase (m .mark n)) (m .list n) a
-      → Tied (phase (m′ .mark n)) (m′ .list n) (record { left = a .left; turned = true; finished = a .finished; undone = a .undone; closings = a .closings })
-  turned n i q r e a t =
+  turned : (n : Name) (w x : Bool) → phase (m .mark n) ≡ live → phase (m′ .mark n) ≡ waits w → m′ .list n ≡ m .list n
+      → (a : Account) → Tied (phase (m .mark n)) (m .list n) a → x ≡ w
+      → Tied (phase (m′ .mark n)) (m′ .list n)
+      (record { left = a .left; turned = true; finished = a .finished; undone = a .undone; closings = a .closings; faulted = x; handled = a .handled })
+  turned n w x q r e a t y =
       let t₁ = tied-as live (m .list n) a (m .mark n) q t in
-      tied-from waits _ _ (m′ .mark n) r (t₁ .0, refl, t₁ .2, t₁ .3 ∙ sym e)
+      tied-from (waits w) _ _ (m′ .mark n) r (t₁ .0, refl, t₁ .2, t₁ .3 ∙ sym e, y, t₁ .5)
 
   -- the tie of n, as its phase says
   pub tied-at : (q : Phase) (n : Name) → isName p n ≡ true → phase (m .mark n) ≡ q → Tied q (m .list n) (accountOf p n past)
@@ -115,27 +139,54 @@ module _ (p : Plan) (m m′ : Moment) (past : List Event) (h : HoldsAt p m past)
   unfolding mayTurn
   may-turn n i q = let t = tied-at live n i q in rw (t .0, t .1)
 
+  -- what is left and has turned has not finished since
+  has-turned : (n : Name) → accountOf p n past .left ≡ true → accountOf p n past .turned ≡ true → hasTurned n past ≡ true
+  unfolding hasTurned
+  has-turned n l t = rw (t, left-unfinished n past l)
+
+  -- what stands in a place whose scope is in its phase may act
+  may-act : (q : Place) → isName p (nameOf q) ≡ true → FitAt q (m .mark) → mayAct p past q ≡ true
+  unfolding mayAct
+  may-act (bodyOf n c) i f = may-turn n i f
+  may-act (faultOf n c) i f = let t = tied-at heals n i f in rw (has-turned n (t .0) (t .1), t .5)
+  may-act (undoOf n c) i f = let t = tied-at (undoes (f .0)) n i (f .1) in rw (has-turned n (t .0) (t .1), t .4)
+
+  -- and may begin there, where it is no fault part
+  may-start : (q : Place) (j : ℕ) → isName p (nameOf q) ≡ true → FitAt q (m .mark) → NoFaultPart p j → mayStart p past j q ≡ true
+  may-start (bodyOf n c) j i f z = may-act (bodyOf n c) i f
+  may-start (faultOf n c) j i f z = rw (z n) (may-act (faultOf n c) i f)
+  may-start (undoOf n c) j i f z = may-act (undoOf n c) i f
+
+  -- the same by its spot
+  acts-there : {q : Place} {j : ℕ} → Spot p q j → FitAt q (m .mark) → mayAct p past (placeOf p j) ≡ true
+  acts-there {q} {j} s f = rw (s .place) (may-act q (s .name) f)
+
+  starts-there : {q : Place} {j : ℕ} → Spot p q j → FitAt q (m .mark) → NoFaultPart p j → mayStart p past j (placeOf p j) ≡ true
+  starts-there {q} {j} s f z = subst (λ (x : Place). mayStart p past j x ≡ true) (sym (s .place)) (may-start q j (s .name) f z)
+
   -- a scope faults
-  pub move-fault : (n : Name) → isName p n ≡ true → phase (m .mark n) ≡ live → phase (m′ .mark n) ≡ waits → m′ .list n ≡ m .list n → Elsewhere p n m m′
-      → (allowed p past (faulted n) ≡ true) × HoldsAt p m′ (faulted n ∷ past)
-  unfolding allowed isOver isBegin isFinish isTurn closedBy undoneBy
+  pub move-fault : (n : Name) → isName p n ≡ true → phase (m .mark n) ≡ live → phase (m′ .mark n) ≡ waits true → m′ .list n ≡ m .list n → Elsewhere p n m m′
+      → (fair p past (faulted n) ≡ true) × HoldsAt p m′ (faulted n ∷ past)
+  unfolding allowed orderly isOver isBegin isFinish isTurn closedBy undoneBy isFaultOf isBeganOf
   move-fault n i q r e w = (
     rw (h .now, may-turn n i q),
     moved-one n (faulted n) refl w
-        (λ s j t. unmoved p s (faulted n) (accountOf p s past) refl refl refl t refl refl)
-        (λ j. rw (append-nil, same-itself n) (turned n i q r e (accountOf p n past) (h .ties n i))),
+        (λ s j t. unmoved p s (faulted n) (accountOf p s past) refl refl refl t refl refl t refl)
+        (λ j. rw (append-nil, same-itself n) (turned n true true q r e (accountOf p n past) (h .ties n i) refl)),
   )
 
-  -- an inner scope is stopped
-  pub move-stop : (k : ℕ) → isName p (inner k) ≡ true → phase (m .mark (inner k)) ≡ live → phase (m′ .mark (inner k)) ≡ waits
-      → m′ .list (inner k) ≡ m .list (inner k) → Elsewhere p (inner k) m m′ → (allowed p past (stopped k) ≡ true) × HoldsAt p m′ (stopped k ∷ past)
-  unfolding allowed isOver isBegin isFinish isTurn closedBy undoneBy
-  move-stop k i q r e w = (
-    rw (h .now, may-turn (inner k) i q),
-    moved-one (inner k) (stopped k) refl w
-        (λ s j t. unmoved p s (stopped k) (accountOf p s past) refl refl refl t refl refl)
-        (λ j. rw (append-nil, same-itself (inner k)) (turned (inner k) i q r e (accountOf p (inner k) past) (h .ties (inner k) i))),
-  )
+  -- an inner scope is stopped, by the one around it, which waits
+  pub move-stop : {n c : Name} {v : Bool} (k : ℕ) → isName p (inner k) ≡ true → Spot p (bodyOf n c) k → phase (m .mark n) ≡ waits v
+      → phase (m .mark (inner k)) ≡ live → phase (m′ .mark (inner k)) ≡ waits false
+      → m′ .list (inner k) ≡ m .list (inner k) → Elsewhere p (inner k) m m′ → (fair p past (stopped k) ≡ true) × HoldsAt p m′ (stopped k ∷ past)
+  unfolding allowed orderly isOver isBegin isFinish isTurn closedBy undoneBy isFaultOf isBeganOf
+  move-stop {n} {c} {v} k i u z q r e w =
+      let t = tied-at (waits v) n (u .name) z in (
+        rw (h .now, may-turn (inner k) i q, u .place, has-turned n (t .0) (t .1)),
+        moved-one (inner k) (stopped k) refl w
+            (λ s j t. unmoved p s (stopped k) (accountOf p s past) refl refl refl t refl refl refl refl)
+            (λ j. rw (append-nil, same-itself (inner k)) (turned (inner k) false _ q r e (accountOf p (inner k) past) (h .ties (inner k) i) (tied-at live (inner k) i q .4))),
+      )
 
   -- no scope has a change, and the event says nothing of any
   pub moved-none : (e : Event) → isOver e ≡ false → Everywhere p m m′
@@ -145,49 +196,48 @@ module _ (p : Plan) (m m′ : Moment) (past : List Event) (h : HoldsAt p m past)
       (λ s i. subst (λ (a : Account). Tied (phase (m′ .mark s)) (m′ .list s) a) (sym (f s i))
       (tied-same (accountOf p s past) _ _ _ _ (w s i .0) (w s i .1) (h .ties s i)))
 
-  -- an activity begins that is neither a scope nor an undo part
-  pub move-plain : (j : ℕ) → Plain p j → Everywhere p m m′
-      → (allowed p past (began j) ≡ true) × HoldsAt p m′ (began j ∷ past)
-  unfolding allowed isOver isBegin isFinish isTurn closedBy mayBegin every only
-  move-plain j q w = (
-    rw (h .now, q .noUndo),
+  -- an activity begins that is neither a scope nor an undo part nor a fault part
+  pub move-plain : {q : Place} (j : ℕ) → Plain p j → Spot p q j → FitAt q (m .mark) → Everywhere p m m′
+      → (fair p past (began j) ≡ true) × HoldsAt p m′ (began j ∷ past)
+  unfolding allowed orderly notLeft isOver isBegin isFinish isTurn closedBy mayBegin every only isFaultOf isBeganOf
+  move-plain {q} j z u f w = (
+    rw (h .now, z .noUndo, starts-there u f (z .noFault), z .noScope),
     moved-none (began j) refl w
-        (λ s i. unmoved p s (began j) (accountOf p s past) (not-begun p s j i (q .noScope)) refl refl refl refl (undone-inside p s j ∙ rw (q .noUndo))),
+        (λ s i. unmoved p s (began j) (accountOf p s past) (not-begun p s j i (z .noScope)) refl refl refl refl (undone-inside p s j ∙ rw (z .noUndo)) refl (z .noFault s)),
   )
 
   -- an activity raises
-  pub move-raise : (j : ℕ) → Everywhere p m m′
-      → (allowed p past (raised j) ≡ true) × HoldsAt p m′ (raised j ∷ past)
-  unfolding allowed isOver isBegin isFinish isTurn closedBy undoneBy
-  move-raise j w =
-      (rw (h .now), moved-none (raised j) refl w (λ s i. unmoved p s (raised j) (accountOf p s past) refl refl refl refl refl refl))
-
-  -- a scope begins
-  pub move-begin : (x : Inner) → Known p x → phase (m .mark (inner (x .number))) ≡ rest → phase (m′ .mark (inner (x .number))) ≡ live
-      → m′ .list (inner (x .number)) ≡ m .list (inner (x .number)) → Elsewhere p (inner (x .number)) m m′
-      → (allowed p past (began (x .number)) ≡ true) × HoldsAt p m′ (began (x .number) ∷ past)
-  unfolding allowed isOver isBegin isFinish isTurn closedBy mayBegin every only
-  move-begin x k q r e w = (
-    rw (h .now, k .noUndo),
-    moved-one (inner (x .number)) (began (x .number)) refl w
-        (λ s i t. unmoved p s (began (x .number)) (accountOf p s past) (not-begun-other s (x .number) t) refl refl refl refl
-        (undone-inside p s (x .number) ∙ rw (k .noUndo)))
-        (λ i. rw (eq-eqb (x .number) (x .number) refl, next)
-        (tied-from live _ _ (m′ .mark (inner (x .number))) r (refl, refl, refl, sym (e ∙ tied-at rest (inner (x .number)) i q .1)))),
+  pub move-raise : {q : Place} (j : ℕ) → Spot p q j → FitAt q (m .mark) → Everywhere p m m′
+      → (fair p past (raised j) ≡ true) × HoldsAt p m′ (raised j ∷ past)
+  unfolding allowed orderly isOver isBegin isFinish isTurn closedBy undoneBy isFaultOf isBeganOf
+  move-raise j u f w = (
+    rw (h .now, acts-there u f),
+    moved-none (raised j) refl w (λ s i. unmoved p s (raised j) (accountOf p s past) refl refl refl refl refl refl refl refl),
   )
 
-  -- what is left and has turned has not finished since
-  has-turned : (n : Name) → accountOf p n past .left ≡ true → accountOf p n past .turned ≡ true → hasTurned n past ≡ true
-  unfolding hasTurned
-  has-turned n l t = rw (t, left-unfinished n past l)
+  -- a scope begins
+  pub move-begin : {n c : Name} (x : Inner) → Known p x → Spot p (bodyOf n c) (x .number) → phase (m .mark n) ≡ live
+      → phase (m .mark (inner (x .number))) ≡ rest → phase (m′ .mark (inner (x .number))) ≡ live
+      → m′ .list (inner (x .number)) ≡ m .list (inner (x .number)) → Elsewhere p (inner (x .number)) m m′
+      → (fair p past (began (x .number)) ≡ true) × HoldsAt p m′ (began (x .number) ∷ past)
+  unfolding allowed orderly notLeft isOver isBegin isFinish isTurn closedBy mayBegin every only isFaultOf isBeganOf
+  move-begin {n} {c} x k u f q r e w = (
+    rw (h .now, k .noUndo, starts-there u f (k .noFault), tied-at rest (inner (x .number)) (k .name) q .0, and-false),
+    moved-one (inner (x .number)) (began (x .number)) refl w
+        (λ s i t. unmoved p s (began (x .number)) (accountOf p s past) (not-begun-other s (x .number) t) refl refl refl refl
+        (undone-inside p s (x .number) ∙ rw (k .noUndo)) refl (k .noFault s))
+        (λ i. rw (eq-eqb (x .number) (x .number) refl, next)
+        (tied-from live _ _ (m′ .mark (inner (x .number))) r (refl, refl, refl, sym (e ∙ tied-at rest (inner (x .number)) i q .1), refl, refl))),
+  )
 
   -- the undo part of x begins, for the scope around it, which undoes and has x as the last remembered
-  pub move-undo : (x : Inner) → Known p x → phase (m .mark (x .around)) ≡ undoes → Inside·rest p (m .mark) (x .around) → m′ .mark (x .around) ≡ m .mark (x .around)
+  pub move-undo : {c : Name} (v : Bool) (x : Inner) → Known p x → Spot p (undoOf (x .around) c) (x .undo) → phase (m .mark (x .around)) ≡ undoes v
+      → Inside·rest p (m .mark) (x .around) → m′ .mark (x .around) ≡ m .mark (x .around)
       → m .list (x .around) ≡ x .number ∷ m′ .list (x .around) → Elsewhere p (x .around) m m′
-      → (allowed p past (began (x .undo)) ≡ true) × HoldsAt p m′ (began (x .undo) ∷ past)
-  unfolding allowed isOver isBegin isFinish isTurn closedBy mayBegin mayUndo every only
-  move-undo x k q r e d w =
-      let t = tied-at undoes (x .around) (k .parent) q in
+      → (fair p past (began (x .undo)) ≡ true) × HoldsAt p m′ (began (x .undo) ∷ past)
+  unfolding allowed orderly notLeft isOver isBegin isFinish isTurn closedBy mayBegin mayUndo every only isFaultOf isBeganOf
+  move-undo v x k g q r e d w =
+      let t = tied-at (undoes v) (x .around) (k .parent) q in
       let c : closingsOf p (x .around) past ≡ (undoneOf p (x .around) past ++ (x .number ∷ [])) ++ m′ .list (x .around)
       = t .2 ∙ rw (d, append-snoc) in (
         rw (
@@ -198,23 +248,64 @@ module _ (p : Plan) (m m′ : Moment) (past : List Event) (h : HoldsAt p m past)
           c,
           take-append-seam (undoneOf p (x .around) past ++ (x .number ∷ [])) (m′ .list (x .around)),
           alike-itself (undoneOf p (x .around) past ++ (x .number ∷ [])),
+          starts-there g (v, q) (k .undoNoFault),
+          k .noScope,
         ),
         moved-one (x .around) (began (x .undo)) refl w
             (λ s i u. unmoved p s (began (x .undo)) (accountOf p s past) (not-begun p s (x .undo) i (k .noScope)) refl refl refl refl
-            (undone-inside p s (x .undo) ∙ rw (k .byUndo, same-swap (x .around) s, u)))
-            (λ i. rw (not-begun p (x .around) (x .undo) i (k .noScope), next, undone-inside p (x .around) (x .undo), k .byUndo, same-itself (x .around), e)
-            (tied-from undoes _ _ (m .mark (x .around)) q (t .0, t .1, c))),
+            (undone-inside p s (x .undo) ∙ rw (k .byUndo, same-swap (x .around) s, u)) refl (k .undoNoFault s))
+            (λ i. rw (
+              not-begun p (x .around) (x .undo) i (k .noScope),
+              next,
+              undone-inside p (x .around) (x .undo),
+              k .byUndo,
+              same-itself (x .around),
+              k .undoNoFault (x .around),
+              e,
+            )
+            (tied-from (undoes v) _ _ (m .mark (x .around)) q (t .0, t .1, c, t .3, t .4))),
+      )
+
+  -- the fault part of a scope begins, where its list is undone
+  pub move-handle : {c : Name} (n : Name) (j : ℕ) → Spot p (faultOf n c) j → only (λ y. eqb (y .undo) j) (scopesOf p) ≡ [] → isName p (inner j) ≡ false
+      → ((s : Name) → isName p s ≡ true → isFaultPart p s j ≡ same s n)
+      → phase (m .mark n) ≡ undoes true → m .list n ≡ [] → Inside·rest p (m .mark) n → phase (m′ .mark n) ≡ heals → m′ .list n ≡ [] → Elsewhere p n m m′
+      → (fair p past (began j) ≡ true) × HoldsAt p m′ (began j ∷ past)
+  unfolding allowed orderly notLeft mayHandle isOver isBegin isFinish isTurn closedBy mayBegin every only isFaultOf isBeganOf
+  move-handle n j u z y f q l r q′ l′ w =
+      let t = tied-at (undoes true) n (u .name) q in (
+        rw (
+          h .now,
+          z,
+          u .place,
+          f n (u .name),
+          same-itself n,
+          t .3,
+          has-turned n (t .0) (t .1),
+          none-left p (m .mark) (m .list) past n h r,
+          t .2,
+          l,
+          append-nil,
+          alike-itself (undoneOf p n past),
+          t .4,
+          y,
+        ),
+        moved-one n (began j) refl w
+            (λ s i v. unmoved p s (began j) (accountOf p s past) (not-begun p s j i y) refl refl refl refl (undone-inside p s j ∙ rw z) refl (f s i ∙ v))
+            (λ i. rw (not-begun p n j i y, next, undone-inside p n j, z, append-nil, f n i, same-itself n)
+            (tied-from heals _ _ (m′ .mark n) q′ (t .0, t .1, t .2 ∙ rw (l, append-nil), l′, t .3, refl))),
       )
 
   -- scope x closes: it is remembered for the scope around it, which is live too
-  pub move-close : (x : Inner) → Known p x → phase (m .mark (inner (x .number))) ≡ live → Inside·rest p (m .mark) (inner (x .number))
+  pub move-close : {c : Name} (x : Inner) → Known p x → Spot p (bodyOf (x .around) c) (x .number) → phase (m .mark (inner (x .number))) ≡ live
+      → Inside·rest p (m .mark) (inner (x .number))
       → phase (m .mark (x .around)) ≡ live → phase (m′ .mark (inner (x .number))) ≡ rest → m′ .list (inner (x .number)) ≡ []
       → m′ .mark (x .around) ≡ m .mark (x .around) → m′ .list (x .around) ≡ x .number ∷ m .list (x .around)
       → ((s : Name) → isName p s ≡ true → same s (inner (x .number)) ≡ false → same s (x .around) ≡ false → (phase (m′ .mark s) ≡ phase (m .mark s)) × (m′ .list s ≡ m .list s))
-      → (allowed p past (closed (x .number)) ≡ true) × HoldsAt p m′ (closed (x .number) ∷ past)
-  unfolding allowed isOver isBegin isFinish isTurn undoneBy mayClose only
-  move-close x k q r u q′ c e d w = (
-    rw (h .now, may-turn (inner (x .number)) (k .name) q, none-left p (m .mark) (m .list) past (inner (x .number)) h r),
+      → (fair p past (closed (x .number)) ≡ true) × HoldsAt p m′ (closed (x .number) ∷ past)
+  unfolding allowed orderly isOver isBegin isFinish isTurn undoneBy mayClose only isFaultOf isBeganOf
+  move-close x k g q r u q′ c e d w = (
+    rw (h .now, may-turn (inner (x .number)) (k .name) q, none-left p (m .mark) (m .list) past (inner (x .number)) h r, acts-there g u),
     advance p m m′ past (closed (x .number)) refl
         (λ s i. decide (same s (inner (x .number)))
         (λ t. rw (same-equal s (inner (x .number)) t)
@@ -222,39 +313,39 @@ module _ (p : Plan) (m m′ : Moment) (past : List Event) (h : HoldsAt p m past)
         (λ t. decide (same s (x .around))
         (λ v. let t₁ = tied-at live (x .around) (k .parent) u in
         rw (t, same-equal s (x .around) v, append-nil, closed-inside p (x .around) (x .number), k .byNumber, same-itself (x .around), e, d)
-        (tied-from live _ _ (m .mark (x .around)) u (t₁ .0, t₁ .1, t₁ .2, ap (λ (l : List ℕ). x .number ∷ l) (t₁ .3))))
+        (tied-from live _ _ (m .mark (x .around)) u (t₁ .0, t₁ .1, t₁ .2, ap (λ (l : List ℕ). x .number ∷ l) (t₁ .3), t₁ .4, t₁ .5)))
         (λ v. subst (λ (a : Account). Tied (phase (m′ .mark s)) (m′ .list s) a)
-        (sym (unmoved p s (closed (x .number)) (accountOf p s past) refl refl t refl (closed-inside p s (x .number) ∙ rw (k .byNumber, same-swap (x .around) s, v)) refl))
+        (sym (unmoved p s (closed (x .number)) (accountOf p s past) refl refl t refl (closed-inside p s (x .number) ∙ rw (k .byNumber, same-swap (x .around) s, v)) refl refl refl))
         (tied-same (accountOf p s past) _ _ _ _ (w s i t v .0) (w s i t v .1) (h .ties s i))))),
   )
 
   -- a scope that turned ends, where it has started all: it is at rest, and nothing is remembered for it
   ended-at : (n : Name) → isName p n ≡ true → accountOf p n past .left ≡ true → accountOf p n past .turned ≡ true → startedAll p n past ≡ true
-      → Inside·rest p (m .mark) n → phase (m′ .mark n) ≡ rest → m′ .list n ≡ [] → Elsewhere p n m m′ → isRoot n ≡ false
-      → (allowed p past (ended n) ≡ true) × HoldsAt p m′ (ended n ∷ past)
-  unfolding allowed isOver isBegin isFinish isTurn closedBy undoneBy mayEnd
-  ended-at n i l t a r q c w z = (
-    rw (h .now, none-left p (m .mark) (m .list) past n h r, has-turned n l t, a),
+      → hasMended p n past ≡ true → Inside·rest p (m .mark) n → phase (m′ .mark n) ≡ rest → m′ .list n ≡ [] → Elsewhere p n m m′ → isRoot n ≡ false
+      → (fair p past (ended n) ≡ true) × HoldsAt p m′ (ended n ∷ past)
+  unfolding allowed orderly isOver isBegin isFinish isTurn closedBy undoneBy mayEnd isFaultOf isBeganOf
+  ended-at n i l t a g r q c w z = (
+    rw (h .now, none-left p (m .mark) (m .list) past n h r, has-turned n l t, a, g),
     moved-one n (ended n) z w
-        (λ s j v. unmoved p s (ended n) (accountOf p s past) refl refl v refl refl refl)
+        (λ s j v. unmoved p s (ended n) (accountOf p s past) refl refl v refl refl refl refl refl)
         (λ j. rw (same-itself n) (tied-from rest _ _ (m′ .mark n) q (refl, c, rw and-false))),
   )
 
   -- after its list
-  pub move-end-undone : (n : Name) → isName p n ≡ true → isRoot n ≡ false → phase (m .mark n) ≡ undoes → m .list n ≡ [] → Inside·rest p (m .mark) n
-      → phase (m′ .mark n) ≡ rest → m′ .list n ≡ [] → Elsewhere p n m m′ → (allowed p past (ended n) ≡ true) × HoldsAt p m′ (ended n ∷ past)
-  unfolding startedAll
+  pub move-end-undone : (n : Name) → isName p n ≡ true → isRoot n ≡ false → phase (m .mark n) ≡ undoes false → m .list n ≡ [] → Inside·rest p (m .mark) n
+      → phase (m′ .mark n) ≡ rest → m′ .list n ≡ [] → Elsewhere p n m m′ → (fair p past (ended n) ≡ true) × HoldsAt p m′ (ended n ∷ past)
+  unfolding startedAll hasMended
   move-end-undone n i z q e r q′ c w =
-      let t = tied-at undoes n i q in
-      ended-at n i (t .0) (t .1) (rw (t .2, e, append-nil, alike-itself (undoneOf p n past))) r q′ c w z
+      let t = tied-at (undoes false) n i q in
+      ended-at n i (t .0) (t .1) (rw (t .2, e, append-nil, alike-itself (undoneOf p n past))) (rw (t .3)) r q′ c w z
 
   -- after its fault part, or by a raise in it
   pub move-end-healed : (n : Name) → isName p n ≡ true → isRoot n ≡ false → phase (m .mark n) ≡ heals → Inside·rest p (m .mark) n
-      → phase (m′ .mark n) ≡ rest → m′ .list n ≡ [] → Elsewhere p n m m′ → (allowed p past (ended n) ≡ true) × HoldsAt p m′ (ended n ∷ past)
-  unfolding startedAll
+      → phase (m′ .mark n) ≡ rest → m′ .list n ≡ [] → Elsewhere p n m m′ → (fair p past (ended n) ≡ true) × HoldsAt p m′ (ended n ∷ past)
+  unfolding startedAll hasMended
   move-end-healed n i z q r q′ c w =
       let t = tied-at heals n i q in
-      ended-at n i (t .0) (t .1) (rw (t .2, alike-itself (undoneOf p n past))) r q′ c w z
+      ended-at n i (t .0) (t .1) (rw (t .2, alike-itself (undoneOf p n past))) (rw (t .5, or-true)) r q′ c w z
 
   -- where all that changes is a phase, with no event
   pub settled : ((s : Name) → isName p s ≡ true → Tied (phase (m .mark s)) (m .list s) (accountOf p s past) → Tied (phase (m′ .mark s)) (m′ .list s) (accountOf p s past))
@@ -262,20 +353,20 @@ module _ (p : Plan) (m m′ : Moment) (past : List Event) (h : HoldsAt p m past)
   settled f = record { now = h .now; ties = λ s i. f s i (h .ties s i) }
 
   -- the root ends: its body is done; after its fault part, or by a raise in it
-  pub root-well : phase (m .mark root) ≡ live → Inside·rest p (m .mark) root → allowed p past (ended root) ≡ true
-  unfolding allowed mayEnd hasTurned
-  root-well q r = let t = tied-at live root refl q in rw (h .now, none-left p (m .mark) (m .list) past root h r, t .1)
+  pub root-well : phase (m .mark root) ≡ live → Inside·rest p (m .mark) root → fair p past (ended root) ≡ true
+  unfolding allowed orderly mayEnd hasTurned hasMended
+  root-well q r = let t = tied-at live root refl q in rw (h .now, none-left p (m .mark) (m .list) past root h r, t .1, t .4)
 
   -- the root ends after its fault part, or by a raise in it
-  pub root-healed : phase (m .mark root) ≡ heals → Inside·rest p (m .mark) root → allowed p past (ended root) ≡ true
-  unfolding allowed mayEnd startedAll
+  pub root-healed : phase (m .mark root) ≡ heals → Inside·rest p (m .mark) root → fair p past (ended root) ≡ true
+  unfolding allowed orderly mayEnd startedAll hasMended
   root-healed q r =
       let t = tied-at heals root refl q in
-      rw (h .now, none-left p (m .mark) (m .list) past root h r, has-turned root (t .0) (t .1), t .2, alike-itself (undoneOf p root past))
+      rw (h .now, none-left p (m .mark) (m .list) past root h r, has-turned root (t .0) (t .1), t .2, alike-itself (undoneOf p root past), t .5, or-true)
 
   -- the order leaves
-  pub order-left : allowed p past left ≡ true
-  unfolding allowed
+  pub order-left : fair p past left ≡ true
+  unfolding allowed orderly
   order-left = rw (h .now)
 
 -- By a raise in an undo part that it is running: the raise is the newest event.
@@ -284,28 +375,32 @@ module _ (p : Plan) (m m′ : Moment) (past : List Event) (t : ℕ) (h : HoldsAt
   unfolding startedAll since isBegin some
   all-but-raised n u = rw (u, or-true)
 
+  mended-raised : (n : Name) → isUndoRaise (insideOf p n) (raised t) ≡ true → hasMended p n (raised t ∷ past) ≡ true
+  unfolding hasMended since isBegin some
+  mended-raised n u = rw (u, or-true, or-true)
+
   -- an inner scope ends so
-  pub move-end-raised : (n : Name) → isName p n ≡ true → isRoot n ≡ false → phase (m .mark n) ≡ undoes → isUndoRaise (insideOf p n) (raised t) ≡ true
+  pub move-end-raised : (n : Name) (v : Bool) → isName p n ≡ true → isRoot n ≡ false → phase (m .mark n) ≡ undoes v → isUndoRaise (insideOf p n) (raised t) ≡ true
       → Inside·rest p (m .mark) n → phase (m′ .mark n) ≡ rest → m′ .list n ≡ [] → Elsewhere p n m m′
-      → (allowed p (raised t ∷ past) (ended n) ≡ true) × HoldsAt p m′ (ended n ∷ raised t ∷ past)
-  move-end-raised n i z q u r q′ c w =
-      let t₁ = tied-at p m m′ (raised t ∷ past) h undoes n i q in
-      ended-at p m m′ (raised t ∷ past) h n i (t₁ .0) (t₁ .1) (all-but-raised n u) r q′ c w z
+      → (fair p (raised t ∷ past) (ended n) ≡ true) × HoldsAt p m′ (ended n ∷ raised t ∷ past)
+  move-end-raised n v i z q u r q′ c w =
+      let t₁ = tied-at p m m′ (raised t ∷ past) h (undoes v) n i q in
+      ended-at p m m′ (raised t ∷ past) h n i (t₁ .0) (t₁ .1) (all-but-raised n u) (mended-raised n u) r q′ c w z
 
   -- the root ends so
-  pub root-raised : phase (m .mark root) ≡ undoes → isUndoRaise (insideOf p root) (raised t) ≡ true → Inside·rest p (m .mark) root
-      → allowed p (raised t ∷ past) (ended root) ≡ true
-  unfolding allowed mayEnd
-  root-raised q u r =
-      let t₁ = tied-at p m m′ (raised t ∷ past) h undoes root refl q in
-      rw (h .now, none-left p (m .mark) (m .list) (raised t ∷ past) root h r, has-turned p m m′ (raised t ∷ past) h root (t₁ .0) (t₁ .1), all-but-raised root u)
+  pub root-raised : (v : Bool) → phase (m .mark root) ≡ undoes v → isUndoRaise (insideOf p root) (raised t) ≡ true → Inside·rest p (m .mark) root
+      → fair p (raised t ∷ past) (ended root) ≡ true
+  unfolding allowed orderly mayEnd
+  root-raised v q u r =
+      let t₁ = tied-at p m m′ (raised t ∷ past) h (undoes v) root refl q in
+      rw (h .now, none-left p (m .mark) (m .list) (raised t ∷ past) root h r, has-turned p m m′ (raised t ∷ past) h root (t₁ .0) (t₁ .1), all-but-raised root u, mended-raised root u)
 
 -- An order starts: the root is live, every other scope is at rest, and nothing is remembered.
 pub move-start : (p : Plan) (m : Moment) (past : List Event) → noneNow past ≡ true → phase (m .mark root) ≡ live
-    → ((k : ℕ) → phase (m .mark (inner k)) ≡ rest) → ((s : Name) → m .list s ≡ []) → (allowed p past started ≡ true) × HoldsAt p m (started ∷ past)
-unfolding allowed isOver isBegin
-move-start p m past z q r e = (z, advance p m m past started refl go)
+    → ((k : ℕ) → phase (m .mark (inner k)) ≡ rest) → ((s : Name) → m .list s ≡ []) → (fair p past started ≡ true) × HoldsAt p m (started ∷ past)
+unfolding allowed orderly isOver isBegin
+move-start p m past z q r e = (rw z, advance p m m past started refl go)
   where
     go : (s : Name) → isName p s ≡ true → Tied (phase (m .mark s)) (m .list s) (next p s started (accountOf p s past))
-    go root i = tied-from live _ _ (m .mark root) q (refl, refl, refl, sym (e root))
+    go root i = tied-from live _ _ (m .mark root) q (refl, refl, refl, sym (e root), refl, refl)
     go (inner k) i = tied-from rest _ _ (m .mark (inner k)) (r k) (refl, e (inner k), refl)

@@ -2,27 +2,29 @@
 use Prim.Native.Nat.{ℕ, _+_, _≤_, _<_}
 use native.Mathlib.Omega.{arith}
 use mathlib.Core.Path.{_≡_, refl, sym, ap, subst, _∙_}
-use mathlib.Core.Bool.{Bool, true, false, not, _||_, false≢true}
+use mathlib.Core.Bool.{Bool, true, false, not, _&&_, _||_, false≢true, or-false, and-true, and-false}
 use mathlib.Core.List.{List, [], _∷_, _++_, append-nil}
 use lib.ListN.{length}
 use lib.Dec.{eqb, ltb, leb}
-use borrow.Author.Tests.{eqb-true, eq-eqb, ne-eqb, not-true, ltb-true, ltb-false, leb-true}
+use borrow.Author.Tests.{eqb-true, eq-eqb, ne-eqb, not-true, ltb-true, ltb-false, lt-ltb, le-ltb, leb-true}
 use Rattle.plan.specs.Read.{laterOf}
 use Rattle.plan.specs.Tree.{Own, empty, send, receive, set as setting, raise, leave, choose, repeat, sequence, flow, pick, scope, arm, kind, Act, act, Acts, none, more, Plan, size, sizes, count}
 use Rattle.plan.specs.Spell.{spelling}
 use Rattle.plan.specs.Within.{from1, ownWithin, actWithin, actsWithin, levelsBelow, ascending, planWithin}
-use Rattle.order.specs.Lists.{only}
+use Rattle.order.specs.Lists.{some, only}
 use Rattle.order.specs.State.{Name, root, inner, same}
 use Rattle.order.specs.Begin.{part, partAt}
 use Rattle.order.specs.Scope.{isScope, rootOf}
-use Rattle.machine.specs.Demand3.{Inner, scopesIn, scopesAmong, scopesOf, insideOf}
-use Rattle.undoing.specs.Ties.{isName}
+use Rattle.undoing.specs.Demand3.{Inner, scopesIn, scopesAmong, scopesOf, insideOf}
+use Rattle.undoing.specs.Ties.{isName, Place, bodyOf, faultOf, undoOf, nameOf, aroundOf, placeIn, placeAmong, placeOf}
+use Rattle.undoing.specs.Orderly.{isFaultPart}
 use Rattle.undoing.proofs.Marks.{trio, spread}
 use Rattle.undoing.proofs.Parts.{both, decide, only-append, only-swap, none-some, one-some, same-equal, same-itself, same-swap}
-use Rattle.undoing.proofs.Accounts.{Known}
-use Rattle.undoing.proofs.Moves.{Plain}
-use Rattle.undoing.proofs.Orders.{isIn, innerAt, directs, directsIn, bare, bareIn, isArm, least, Sits, sits-part, sits-scope, SitsIn, sits-none, sits-more, UndoPart, undo-part}
-use Rattle.undoing.proofs.Seats.{Before, Seat, directs-is}
+use Rattle.undoing.proofs.Accounts.{NoFaultPart, Known}
+use Rattle.undoing.proofs.Moves.{Before, Spot, Plain}
+use Rattle.undoing.proofs.Orders.{isIn, innerAt, directs, directsIn, bare, bareIn, isArm, least, Sits, sits-part, sits-scope, SitsIn, sits-none, sits-more, before-on, Faulty, Remedy, remedy}
+use Rattle.undoing.proofs.Places.{place-here, place-within, place-scope, place-first, place-later, parts-first, parts-later, first-of, second-of}
+use Rattle.undoing.proofs.Seats.{Seat, directs-is}
 use Rattle.undoing.proofs.Breaking.{Distinct}
 
 -- The form of a tree: `h` holds in a handler, where there is no scope; `r` holds of an arm.
@@ -30,7 +32,7 @@ mutual
   pub data Formed : (h r : Bool) → Act → Type 0 where
     formed-part : {h r : Bool} {own : Own} {within : Acts} → isScope own ≡ false → isArm own ≡ r → least own ≤ count within
         → FormedIn h (eqb (kind own) 10) within → Formed h r (act own within)
-    formed-scope : {r : Bool} {b f u : Act} → Formed false false b → Formed true false f → Formed true false u → Formed false r (act scope (trio b f u))
+    formed-scope : {b f u : Act} → Formed false false b → Formed true false f → Formed true false u → Formed false false (act scope (trio b f u))
 
   pub data FormedIn : (h r : Bool) → Acts → Type 0 where
     formed-none : {h r : Bool} → FormedIn h r none
@@ -51,7 +53,8 @@ own-formed vars cs h r (repeat x) n e s =
     both (not r) _ e (λ a b. both (eqb n 1) _ b (λ c d. (sym (not-true r a), let z : n ≡ 1 = eqb-true n 1 c in omega arith)))
 own-formed vars cs h r sequence n e s = (sym (not-true r (both (not r) _ e (λ x y. x))), omega arith)
 own-formed vars cs h r flow n e s = (sym (not-true r (both (not r) _ e (λ x y. x))), omega arith)
-own-formed vars cs h r pick n e s = (sym (not-true r (both (not r) _ e (λ x y. x))), omega arith)
+own-formed vars cs h r pick n e s =
+    both (not r) _ e (λ a b. both (leb 1 n) _ b (λ c d. (sym (not-true r a), let z : 1 ≤ n = leb-true 1 n c in omega arith)))
 own-formed vars cs h r scope n e s = absurd (false≢true (sym s))
 own-formed vars cs h r (arm x y vs) n e s =
     both r _ e (λ a b. both (eqb n 1) _ b (λ c d. (sym a, let z : n ≡ 1 = eqb-true n 1 c in omega arith)))
@@ -74,16 +77,17 @@ scope-own scope e = refl
 scope-own (arm x y vs) e = absurd (false≢true e)
 
 -- a scope's three parts
-three : (h r : Bool) (l : Acts) → h ≡ false → count l ≡ 3
+three : (h r : Bool) (l : Acts) → h ≡ false → r ≡ false → count l ≡ 3
     → ((a : Act) (x : Acts) → l ≡ more a x → Formed false false a) → ((a b : Act) (x : Acts) → l ≡ more a (more b x) → Formed true false b)
     → ((a b c : Act) (x : Acts) → l ≡ more a (more b (more c x)) → Formed true false c) → Formed h r (act scope l)
 unfolding count
-three h r none e d f g i = absurd (omega arith)
-three h r (more a none) e d f g i = absurd (omega arith)
-three h r (more a (more b none)) e d f g i = absurd (omega arith)
-three h r (more a (more b (more c none))) e d f g i =
-    subst (λ (z : Bool). Formed z r (act scope (more a (more b (more c none))))) (sym e) (formed-scope (f a _ refl) (g a b _ refl) (i a b c _ refl))
-three h r (more a (more b (more c (more x l)))) e d f g i = absurd (omega arith)
+three h r none e v d f g i = absurd (omega arith)
+three h r (more a none) e v d f g i = absurd (omega arith)
+three h r (more a (more b none)) e v d f g i = absurd (omega arith)
+three h r (more a (more b (more c none))) e v d f g i =
+    subst (λ (z : Bool). Formed z r (act scope (more a (more b (more c none))))) (sym e)
+    (subst (λ (z : Bool). Formed false z (act scope (more a (more b (more c none))))) (sym v) (formed-scope (f a _ refl) (g a b _ refl) (i a b c _ refl)))
+three h r (more a (more b (more c (more x l)))) e v d f g i = absurd (omega arith)
 
 -- the first of a list
 formed-first : {h r : Bool} (a : Act) (l x : Acts) → l ≡ more a x → FormedIn h r l → Formed h r a
@@ -102,7 +106,7 @@ unfolding ownWithin
 formed-scope-own vars cs h r l e f =
     both (not r) _ e (λ x y. both (eqb (count l) 3) (not h) y (λ c d.
     let z : h ≡ false = not-true h d in
-    three h r l z (eqb-true (count l) 3 c) (λ a x g. subst (λ (b : Bool). Formed b false a) z (f .0 a x g))
+    three h r l z (not-true r x) (eqb-true (count l) 3 c) (λ a x g. subst (λ (b : Bool). Formed b false a) z (f .0 a x g))
     (λ a b x g. formed-first b (more b x) x refl (f .1 a (more b x) g))
     (λ a b c x g. formed-second b c (more b (more c x)) x refl (f .1 a (more b (more c x)) g))))
 
@@ -171,12 +175,15 @@ mutual
   bare-formed-in (formed-more {a = a} {l = l} f g) e =
       let x = bare-formed f e in let y = bare-formed-in g e in (rw (x .0, y .0), λ c n. rw (x .1 c n, y .1 (c + size a) n))
 
--- the tests that find a scope: by its number, by its undo part, by the scope around it
+-- the tests that find a scope: by its number, by its undo part, by its fault part, by the scope around it
 abbrev byNumber : ℕ → Inner → Bool
 byNumber j x = eqb (x .number) j
 
 abbrev byUndo : ℕ → Inner → Bool
 byUndo j x = eqb (x .undo) j
+
+abbrev byFault : ℕ → Inner → Bool
+byFault j x = eqb (x .fault) j
 
 abbrev byAround : ℕ → Inner → Bool
 byAround j x = same (x .around) (inner j)
@@ -185,12 +192,13 @@ byAround j x = same (x .around) (inner j)
 record Clear (j : ℕ) (l : List Inner) : Type 0 where
   number : only (byNumber j) l ≡ []
   undo : only (byUndo j) l ≡ []
+  fault : only (byFault j) l ≡ []
   around : only (byAround j) l ≡ []
 
 -- no scopes
 clear-none : (j : ℕ) → Clear j []
 unfolding only
-clear-none j = record { number = refl; undo = refl; around = refl }
+clear-none j = record { number = refl; undo = refl; fault = refl; around = refl }
 
 -- two lists
 clear-append : {j : ℕ} (l m : List Inner) → Clear j l → Clear j m → Clear j (l ++ m)
@@ -198,13 +206,14 @@ clear-append {j} l m x y =
     record {
       number = only-append (byNumber j) l m ∙ rw (x .number, y .number);
       undo = only-append (byUndo j) l m ∙ rw (x .undo, y .undo);
+      fault = only-append (byFault j) l m ∙ rw (x .fault, y .fault);
       around = only-append (byAround j) l m ∙ rw (x .around, y .around);
     }
 
 -- one more
-clear-cons : {j : ℕ} (x : Inner) (l : List Inner) → byNumber j x ≡ false → byUndo j x ≡ false → byAround j x ≡ false → Clear j l → Clear j (x ∷ l)
+clear-cons : {j : ℕ} (x : Inner) (l : List Inner) → byNumber j x ≡ false → byUndo j x ≡ false → byFault j x ≡ false → byAround j x ≡ false → Clear j l → Clear j (x ∷ l)
 unfolding only
-clear-cons x l a b c y = record { number = rw (a, y .number); undo = rw (b, y .undo); around = rw (c, y .around) }
+clear-cons x l a b d c y = record { number = rw (a, y .number); undo = rw (b, y .undo); fault = rw (d, y .fault); around = rw (c, y .around) }
 
 -- j is outside a stretch
 data Outside (j k n : ℕ) : Type 0 where
@@ -236,7 +245,7 @@ mutual
       rw (scopes-is own within k n false s) (clear-among f (k + 1) j n t (outside-part o (omega arith) (omega arith)))
   clear-in (formed-scope {b = b} {f = f} {u = u} x y z) k j n t o =
       rw (scopes-is scope (trio b f u) k n true refl)
-      (clear-cons (innerAt k n (trio b f u)) _ (outside-ne k o (omega arith) (omega arith)) (outside-ne (k + 1 + size b + size f) o (omega arith) (omega (arith, positive u))) t
+      (clear-cons (innerAt k n (trio b f u)) _ (outside-ne k o (omega arith) (omega arith)) (outside-ne (k + 1 + size b + size f) o (omega arith) (omega (arith, positive u))) (outside-ne (k + 1 + size b) o (omega arith) (omega (arith, positive f))) t
       (clear-append (scopesIn b (k + 1) (inner k)) _ (clear-in x (k + 1) j (inner k) (outside-ne k o (omega arith) (omega arith)) (outside-part o (omega arith) (omega arith)))
       (clear-append (scopesIn f (k + 1 + size b) (inner k)) _ (clear-in y (k + 1 + size b) j (inner k) (outside-ne k o (omega arith) (omega arith)) (outside-part o (omega arith) (omega arith)))
       (clear-append (scopesIn u (k + 1 + size b + size f) (inner k)) _ (clear-in z (k + 1 + size b + size f) j (inner k) (outside-ne k o (omega arith) (omega arith)) (outside-part o (omega arith) (omega arith))) (clear-none j)))))
@@ -251,20 +260,26 @@ mutual
 record Free (j : ℕ) (l : List Inner) : Type 0 where
   number : only (byNumber j) l ≡ []
   undo : only (byUndo j) l ≡ []
+  fault : only (byFault j) l ≡ []
 
 -- no scopes
 free-none : (j : ℕ) → Free j []
 unfolding only
-free-none j = record { number = refl; undo = refl }
+free-none j = record { number = refl; undo = refl; fault = refl }
 
 -- two lists
 free-append : (j : ℕ) (l m : List Inner) → Free j l → Free j m → Free j (l ++ m)
-free-append j l m x y = record { number = only-append (byNumber j) l m ∙ rw (x .number, y .number); undo = only-append (byUndo j) l m ∙ rw (x .undo, y .undo) }
+free-append j l m x y =
+    record {
+      number = only-append (byNumber j) l m ∙ rw (x .number, y .number);
+      undo = only-append (byUndo j) l m ∙ rw (x .undo, y .undo);
+      fault = only-append (byFault j) l m ∙ rw (x .fault, y .fault);
+    }
 
 -- one more
-free-cons : (j : ℕ) (x : Inner) (l : List Inner) → byNumber j x ≡ false → byUndo j x ≡ false → Free j l → Free j (x ∷ l)
+free-cons : (j : ℕ) (x : Inner) (l : List Inner) → byNumber j x ≡ false → byUndo j x ≡ false → byFault j x ≡ false → Free j l → Free j (x ∷ l)
 unfolding only
-free-cons j x l a b y = record { number = rw (a, y .number); undo = rw (b, y .undo) }
+free-cons j x l a b c y = record { number = rw (a, y .number); undo = rw (b, y .undo); fault = rw (c, y .fault) }
 
 mutual
   unfolding scopesIn kind size part partAt only
@@ -274,7 +289,7 @@ mutual
   free-in (formed-part {own = own} {within = within} s i g f) k j n o =
       subst (λ (l : List Inner). Free j l) (sym (scopes-is own within k n false s)) (free-among f (k + 1) j n (outside-part o (omega arith) (omega arith)))
   free-in (formed-scope {b = b} {f = f} {u = u} x y z) k j n o =
-      free-cons j (innerAt k n (trio b f u)) _ (outside-ne k o (omega arith) (omega arith)) (outside-ne (k + 1 + size b + size f) o (omega arith) (omega (arith, positive u)))
+      free-cons j (innerAt k n (trio b f u)) _ (outside-ne k o (omega arith) (omega arith)) (outside-ne (k + 1 + size b + size f) o (omega arith) (omega (arith, positive u))) (outside-ne (k + 1 + size b) o (omega arith) (omega (arith, positive f)))
       (free-append j (scopesIn b (k + 1) (inner k)) _ (free-in x (k + 1) j (inner k) (outside-part o (omega arith) (omega arith)))
       (free-append j (scopesIn f (k + 1 + size b) (inner k)) _ (free-in y (k + 1 + size b) j (inner k) (outside-part o (omega arith) (omega arith)))
       (free-append j (scopesIn u (k + 1 + size b + size f) (inner k)) [] (free-in z (k + 1 + size b + size f) j (inner k) (outside-part o (omega arith) (omega arith))) (free-none j))))
@@ -313,16 +328,6 @@ before-other : (n : Name) (k j : ℕ) → Before n k → k ≤ j → same n (inn
 before-other root k j b h = refl
 before-other (inner i) k j b h = ne-eqb i j (omega arith)
 
--- a name before k is before k + 1
-before-later : (n : Name) (k : ℕ) → Before n k → Before n (k + 1)
-before-later root k b = tt
-before-later (inner i) k b = omega arith
-
--- and before all that follows
-before-on : (n : Name) (k m : ℕ) → Before n k → Before n (k + m)
-before-on root k m b = tt
-before-on (inner i) k m b = omega arith
-
 -- of the scopes inside a scope none but those directly inside have what is around that
 inner-away : {h r : Bool} {a : Act} → Formed h r a → (k c : ℕ) (n : Name) → Before n k → k < c → only (λ x. same (x .around) n) (scopesIn a c (inner k)) ≡ []
 inner-away f k c root b h = no-root f c k
@@ -335,7 +340,7 @@ mutual
   -- in an activity
   directs-only : {h r : Bool} {a : Act} → Formed h r a → (k : ℕ) (n : Name) → Before n k → only (λ x. same (x .around) n) (scopesIn a k n) ≡ directs a k n
   directs-only (formed-part {own = own} {within = within} s x g f) k n b =
-      rw (scopes-is own within k n false s, directs-is own within k n false s) (directs-only-in f (k + 1) n (before-later n k b))
+      rw (scopes-is own within k n false s, directs-is own within k n false s) (directs-only-in f (k + 1) n (before-on n b (omega arith)))
   directs-only (formed-scope {b = b} {f = f} {u = u} x y z) k n h =
       rw (
         same-itself n,
@@ -351,13 +356,15 @@ mutual
   directs-only-in : {h r : Bool} {l : Acts} → FormedIn h r l → (c : ℕ) (n : Name) → Before n c → only (λ x. same (x .around) n) (scopesAmong l c n) ≡ directsIn l c n
   directs-only-in (formed-none) c n b = refl
   directs-only-in (formed-more {a = a} {l = l} f g) c n b =
-      rw (only-append (λ x. same (x .around) n) (scopesIn a c n) (scopesAmong l (c + size a) n), directs-only f c n b, directs-only-in g (c + size a) n (before-on n c (size a) b))
+      rw (only-append (λ x. same (x .around) n) (scopesIn a c n) (scopesAmong l (c + size a) n), directs-only f c n b, directs-only-in g (c + size a) n (before-on n b (omega arith)))
 
--- What is to do with the numbers of a stretch is found in a list.
+-- What is to do with the numbers of a stretch is found in a list, and none of them is the root's fault part.
 record Focus (p : Plan) (m : List Inner) (k n : ℕ) : Type 0 where
   number : (j : ℕ) → k ≤ j → j < k + n → only (byNumber j) (scopesOf p) ≡ only (byNumber j) m
   undo : (j : ℕ) → k ≤ j → j < k + n → only (byUndo j) (scopesOf p) ≡ only (byUndo j) m
+  fault : (j : ℕ) → k ≤ j → j < k + n → only (byFault j) (scopesOf p) ≡ only (byFault j) m
   around : (j : ℕ) → k ≤ j → j < k + n → only (byAround j) (scopesOf p) ≡ only (byAround j) m
+  rootless : (j : ℕ) → k ≤ j → j < k + n → eqb (size (p .body)) j ≡ false
 
 -- in a part of it, with what is clear of that left out before and after
 focus-part : {p : Plan} {k n c m : ℕ} (x l y : List Inner) → Focus p (x ++ (l ++ y)) k n → k ≤ c → c + m ≤ k + n
@@ -366,6 +373,8 @@ focus-part {p} {k} {n} {c} {m} x l y f h e a b =
     record {
       number = λ j u v. f .number j (omega arith) (omega arith) ∙ (only-append (byNumber j) x (l ++ y) ∙ rw (a j u v .number, only-append (byNumber j) l y, b j u v .number, append-nil));
       undo = λ j u v. f .undo j (omega arith) (omega arith) ∙ (only-append (byUndo j) x (l ++ y) ∙ rw (a j u v .undo, only-append (byUndo j) l y, b j u v .undo, append-nil));
+      fault = λ j u v. f .fault j (omega arith) (omega arith) ∙ (only-append (byFault j) x (l ++ y) ∙ rw (a j u v .fault, only-append (byFault j) l y, b j u v .fault, append-nil));
+      rootless = λ j u v. f .rootless j (omega arith) (omega arith);
       around = λ j u v. f .around j (omega arith) (omega arith) ∙ (only-append (byAround j) x (l ++ y) ∙ rw (a j u v .around, only-append (byAround j) l y, b j u v .around, append-nil));
     }
 
@@ -373,27 +382,119 @@ focus-part {p} {k} {n} {c} {m} x l y f h e a b =
 focus-same : {p : Plan} {k n : ℕ} (l m : List Inner) → l ≡ m → Focus p l k n → Focus p m k n
 focus-same {p} {k} {n} l m e f = subst (λ (x : List Inner). Focus p x k n) e f
 
+-- where no scope of a list has the fault part j, none with a number has
+no-fault-in : (i j : ℕ) (l : List Inner) → only (byFault j) l ≡ [] → some (λ x. eqb (x .number) i && eqb (x .fault) j) l ≡ false
+unfolding only some
+no-fault-in i j [] e = refl
+no-fault-in i j (x ∷ l) e =
+    decide (eqb (x .fault) j)
+    (λ t. absurd (let d : x ∷ only (byFault j) l ≡ [] = rw t at e in let z : _≡_ {A = ℕ} 0 1 = cc in omega arith))
+    (λ t. rw (t, and-false, no-fault-in i j l (rw t at e)))
+
+-- of the scopes with this fault part the one in a list has another number, or this one
+fault-in : (i j : ℕ) (x : Inner) (l : List Inner) → only (byFault j) l ≡ x ∷ [] → some (λ y. eqb (y .number) i && eqb (y .fault) j) l ≡ eqb (x .number) i
+unfolding only some
+fault-in i j x [] e = absurd (let z : _≡_ {A = ℕ} 0 1 = cc in omega arith)
+fault-in i j x (y ∷ l) e =
+    decide (eqb (y .fault) j)
+    (λ t. let d : y ∷ only (byFault j) l ≡ x ∷ [] = rw t at e in
+    let z : y ≡ x = cc in let n : only (byFault j) l ≡ [] = cc in
+    rw (t, and-true, no-fault-in i j l n, or-false, z))
+    (λ t. rw (t, and-false, fault-in i j x l (rw t at e)))
+
+-- the places of a tree's numbers, and of a list's
+abbrev Stood : Plan → Act → (k : ℕ) → Place → Type 0
+Stood p a k q = (t : ℕ) → k ≤ t → t < k + size a → placeOf p t ≡ placeIn a k t q
+
+abbrev StoodIn : Plan → Acts → (c : ℕ) → Place → Type 0
+StoodIn p l c q = (t : ℕ) → c ≤ t → t < c + sizes l → placeOf p t ≡ placeAmong l c t q
+
 module _ (p : Plan) where
-  -- what is neither a scope nor an undo part
+  -- of what stands within, of the first and of the others
+  stood-within : (own : Own) (within : Acts) (k : ℕ) (q : Place) → isScope own ≡ false → Stood p (act own within) k q → StoodIn p within (k + 1) q
+  unfolding size
+  stood-within own within k q s h t x y = h t (omega arith) (omega arith) ∙ place-within own within k t q (ne-eqb k t (omega arith)) s
+
+  stood-first : (a : Act) (l : Acts) (c : ℕ) (q : Place) → StoodIn p (more a l) c q → Stood p a c q
+  unfolding size
+  stood-first a l c q h t x y = h t (omega arith) (omega arith) ∙ place-first a l c t q (lt-ltb t (c + size a) (omega arith))
+
+  stood-later : (a : Act) (l : Acts) (c : ℕ) (q : Place) → StoodIn p (more a l) c q → StoodIn p l (c + size a) q
+  unfolding size
+  stood-later a l c q h t x y = h t (omega arith) (omega arith) ∙ place-later a l c t q (le-ltb t (c + size a) (omega arith))
+
+  -- of the parts of a scope
+  module _ (b f u : Act) (k : ℕ) (q : Place) (h : Stood p (act scope (trio b f u)) k q) where
+    stood-body : Stood p b (k + 1) (bodyOf (inner k) (nameOf q))
+    unfolding size
+    stood-body t x y =
+        h t (omega arith) (omega arith) ∙ (place-scope (trio b f u) k t q (ne-eqb k t (omega arith)) ∙ parts-first b (more f (more u none)) (k + 1) t _ _ _ (lt-ltb t (k + 1 + size b) (omega arith)))
+
+    stood-fault : Stood p f (k + 1 + size b) (faultOf (inner k) (nameOf q))
+    unfolding size
+    stood-fault t x y =
+        h t (omega arith) (omega arith) ∙ (place-scope (trio b f u) k t q (ne-eqb k t (omega arith)) ∙ (parts-later b (more f (more u none)) (k + 1) t _ _ _ (le-ltb t (k + 1 + size b) (omega arith))
+        ∙ parts-first f (more u none) (k + 1 + size b) t _ _ _ (lt-ltb t (k + 1 + size b + size f) (omega arith))))
+
+    stood-undo : Stood p u (k + 1 + size b + size f) (undoOf (nameOf q) (aroundOf q))
+    unfolding size
+    stood-undo t x y =
+        h t (omega arith) (omega arith) ∙ (place-scope (trio b f u) k t q (ne-eqb k t (omega arith)) ∙ (parts-later b (more f (more u none)) (k + 1) t _ _ _ (le-ltb t (k + 1 + size b) (omega arith))
+        ∙ (parts-later f (more u none) (k + 1 + size b) t _ _ _ (le-ltb t (k + 1 + size b + size f) (omega arith)) ∙ parts-first u none (k + 1 + size b + size f) t _ _ _ (lt-ltb t (k + 1 + size b + size f + size u) (omega arith)))))
+
+  -- the first number of a tree stands where the tree does
+  spot-of : (a : Act) (k : ℕ) (q : Place) → Stood p a k q → isName p (nameOf q) ≡ true → Before (nameOf q) k → Spot p q k
+  unfolding size
+  spot-of (act own within) k q h i b = record { place = h k (omega arith) (omega arith) ∙ place-here own within k k q (eq-eqb k k refl); name = i; before = b }
+
+  -- what is no scope's fault part, and not the root's
+  no-fault : (l : List Inner) (k n j : ℕ) → Focus p l k n → k ≤ j → j < k + n → only (byFault j) l ≡ [] → NoFaultPart p j
+  unfolding isFaultPart
+  no-fault l k n j f x y c root = f .rootless j x y
+  no-fault l k n j f x y c (inner i) = no-fault-in i j (scopesOf p) (f .fault j x y ∙ c)
+
+  -- what is neither a scope nor an undo part nor a fault part
   plain-focus : (l : List Inner) (k n j : ℕ) → Focus p l k n → k ≤ j → j < k + n → Clear j l → Plain p j
-  plain-focus l k n j f x y c = record { noUndo = f .undo j x y ∙ c .undo; noScope = none-some (byNumber j) (scopesOf p) (f .number j x y ∙ c .number) }
+  plain-focus l k n j f x y c =
+      record {
+        noUndo = f .undo j x y ∙ c .undo;
+        noScope = none-some (byNumber j) (scopesOf p) (f .number j x y ∙ c .number);
+        noFault = no-fault l k n j f x y (c .fault);
+      }
 
   -- a scope of the plan: x, before what stands in its body
-  known-focus : (x : Inner) (l : List Inner) (m : ℕ) → Focus p (x ∷ l) (x .number) m → x .number < x .undo → x .undo < x .number + m
+  known-focus : (x : Inner) (l : List Inner) (m : ℕ) → Focus p (x ∷ l) (x .number) m → x .number < x .fault → x .fault < x .undo → x .undo < x .number + m
       → Free (x .number) l → Free (x .undo) l
       → same (x .around) (inner (x .number)) ≡ false → isName p (x .around) ≡ true → Known p x
   unfolding only
-  known-focus x l m f h e c d t n =
+  known-focus x l m f h g e c d t n =
       let a : only (byNumber (x .number)) (scopesOf p) ≡ x ∷ [] = f .number (x .number) (omega arith) (omega arith) ∙ rw (eq-eqb (x .number) (x .number) refl, c .number) in
       record {
         byNumber = a;
         byUndo = f .undo (x .undo) (omega arith) (omega arith) ∙ rw (eq-eqb (x .undo) (x .undo) refl, d .undo);
         noUndo = f .undo (x .number) (omega arith) (omega arith) ∙ rw (ne-eqb (x .undo) (x .number) (omega arith), c .undo);
         noScope = none-some (byNumber (x .undo)) (scopesOf p) (f .number (x .undo) (omega arith) (omega arith) ∙ rw (ne-eqb (x .number) (x .undo) (omega arith), d .number));
+        noFault = no-fault (x ∷ l) (x .number) m (x .number) f (omega arith) (omega arith) (rw (ne-eqb (x .fault) (x .number) (omega arith), c .fault));
+        undoNoFault = no-fault (x ∷ l) (x .number) m (x .undo) f (omega arith) (omega arith) (rw (ne-eqb (x .fault) (x .undo) (omega arith), d .fault));
         apart = same-swap (inner (x .number)) (x .around) ∙ t;
         name = one-some (byNumber (x .number)) (byNumber (x .number)) x (scopesOf p) a (eq-eqb (x .number) (x .number) refl);
         parent = n;
       }
+
+  -- and its fault part
+  faulty-focus : (x : Inner) (l : List Inner) (m : ℕ) → Focus p (x ∷ l) (x .number) m → x .number < x .fault → x .fault < x .undo → x .undo < x .number + m
+      → Free (x .fault) l → Faulty p (inner (x .number)) (x .fault)
+  unfolding only isFaultPart
+  faulty-focus x l m f h g e c =
+      record {
+        noUndo = f .undo (x .fault) (omega arith) (omega arith) ∙ rw (ne-eqb (x .undo) (x .fault) (omega arith), c .undo);
+        own = theirs;
+      }
+    where
+      theirs : (s : Name) → isName p s ≡ true → isFaultPart p s (x .fault) ≡ same s (inner (x .number))
+      theirs root i = f .rootless (x .fault) (omega arith) (omega arith)
+      theirs (inner j) i =
+          fault-in j (x .fault) x (scopesOf p) (f .fault (x .fault) (omega arith) (omega arith) ∙ rw (eq-eqb (x .fault) (x .fault) refl, c .fault)) ∙ same-swap (inner (x .number)) (inner j)
 
   -- the scopes directly inside one
   inside-focus : (x : Inner) (l d : List Inner) (k m : ℕ) → Focus p (x ∷ l) k m → 0 < m → same (x .around) (inner k) ≡ false
@@ -401,62 +502,94 @@ module _ (p : Plan) where
   unfolding insideOf only
   inside-focus x l d k m f h t e = f .around k (omega arith) (omega arith) ∙ rw (t, e)
 
-  -- A tree of this form sits in its plan.
+  -- A tree in a fault part or an undo part, in which there is no scope, sits in its plan.
+  mutual
+    unfolding size only
+
+    -- an activity
+    sits-bare : {h r : Bool} {a : Act} → Formed h r a → h ≡ true → (k : ℕ) (q : Place) → Focus p [] k (size a) → isName p (nameOf q) ≡ true → Before (nameOf q) k
+        → Stood p a k q → Sits p q a k
+    sits-bare (formed-part {own = own} {within = within} s x g f) e k q c i b d =
+        sits-part s g (spot-of (act own within) k q d i b) (plain-focus [] k (1 + sizes within) k c (omega arith) (omega arith) (clear-none k))
+        (sits-bare-all f e (k + 1) q (focus-part [] [] [] c (omega arith) (omega arith) (λ j u v. clear-none j) (λ j u v. clear-none j)) i (before-on (nameOf q) b (omega arith))
+        (stood-within own within k q s d))
+    sits-bare (formed-scope x y z) e k q c i b d = absurd (false≢true e)
+
+    -- a list
+    sits-bare-all : {h r : Bool} {l : Acts} → FormedIn h r l → h ≡ true → (c : ℕ) (q : Place) → Focus p [] c (sizes l) → isName p (nameOf q) ≡ true → Before (nameOf q) c
+        → StoodIn p l c q → SitsIn p q l c
+    sits-bare-all (formed-none) e c q f i b d = sits-none
+    sits-bare-all (formed-more {a = a} {l = l} x y) e c q f i b d =
+        sits-more
+        (sits-bare x e c q (focus-part [] [] [] f (omega arith) (omega arith) (λ j u v. clear-none j) (λ j u v. clear-none j)) i b (stood-first a l c q d))
+        (sits-bare-all y e (c + size a) q (focus-part [] [] [] f (omega arith) (omega arith) (λ j u v. clear-none j) (λ j u v. clear-none j)) i (before-on (nameOf q) b (omega arith))
+        (stood-later a l c q d))
+
+  -- a fault part or an undo part
+  sits-remedy : {h r : Bool} {a : Act} → Formed h r a → (k : ℕ) (q : Place) → h ≡ true → r ≡ false → isName p (inner k) ≡ false
+      → ((m : ℕ) → 1 + m ≡ size a → Focus p [] (k + 1) m) → isName p (nameOf q) ≡ true → Before (nameOf q) k → Stood p a k q → Remedy p q a k
+  unfolding size
+  sits-remedy (formed-part {own = own} {within = within} s i g f) k q e d z c n b v =
+      remedy s (i ∙ d) g (spot-of (act own within) k q v n b) z
+      (sits-bare-all f e (k + 1) q (c (sizes within) refl) n (before-on (nameOf q) b (omega arith)) (stood-within own within k q s v)) (bare-formed-in f e .0)
+  sits-remedy (formed-scope x y z) k q e d w c n b v = absurd (false≢true e)
+
+  -- A tree in the body of a scope sits in its plan.
   mutual
     unfolding scopesIn kind size part partAt only
 
     -- an activity
-    sits : {h r : Bool} {a : Act} → Formed h r a → (k : ℕ) (n : Name) → Focus p (scopesIn a k n) k (size a) → isName p n ≡ true → Before n k → Sits p n a k
-    sits (formed-part {own = own} {within = within} s x g f) k n c i b =
+    sits : {h r : Bool} {a : Act} → Formed h r a → (k : ℕ) (n m : Name) → Focus p (scopesIn a k n) k (size a) → isName p n ≡ true → Before n k
+        → Stood p a k (bodyOf n m) → Sits p (bodyOf n m) a k
+    sits (formed-part {own = own} {within = within} s x g f) k n m c i b d =
         let e = scopes-is own within k n false s in
         let c₁ : Focus p (scopesAmong within (k + 1) n) k (1 + sizes within) = focus-same (scopesIn (act own within) k n) (scopesAmong within (k + 1) n) e c in
         let q : Plain p k = plain-focus (scopesAmong within (k + 1) n) k (1 + sizes within) k c₁ (omega arith) (omega arith) (clear-among f (k + 1) k n (before-other n k k b (omega arith)) (below (omega arith))) in
-        sits-part s g q
-        (sits-all f (k + 1) n (focus-part [] (scopesAmong within (k + 1) n) [] (focus-same _ _ (sym (append-nil (scopesAmong within (k + 1) n))) c₁) (omega arith) (omega arith) (λ j u v. clear-none j) (λ j u v. clear-none j)) i (before-later n k b))
-    sits (formed-scope {b = b} {f = f} {u = u} x y z) k n c i h =
+        sits-part s g (spot-of (act own within) k (bodyOf n m) d i b) q
+        (sits-all f (k + 1) n m (focus-part [] (scopesAmong within (k + 1) n) [] (focus-same _ _ (sym (append-nil (scopesAmong within (k + 1) n))) c₁) (omega arith) (omega arith) (λ j u v. clear-none j) (λ j u v. clear-none j)) i (before-on n b (omega arith))
+        (stood-within own within k (bodyOf n m) s d))
+    sits (formed-scope {b = b} {f = f} {u = u} x y z) k n m c i h d =
         let xi = innerAt k n (trio b f u) in
         let l = scopesIn b (k + 1) (inner k) in
         let e : scopesIn (act scope (trio b f u)) k n ≡ xi ∷ l
         = rw (bare-formed y refl .1 (k + 1 + size b) (inner k), bare-formed z refl .1 (k + 1 + size b + size f) (inner k), append-nil) in
         let c₁ : Focus p (xi ∷ l) k (spread b f u) = focus-same _ (xi ∷ l) e c in
-        let kn : Known p xi = known-focus xi l (spread b f u) c₁ (omega arith) (omega (arith, positive u))
+        let kn : Known p xi = known-focus xi l (spread b f u) c₁ (omega arith) (omega (arith, positive f)) (omega (arith, positive u))
         (free-in x (k + 1) k (inner k) (below (omega arith)))
         (free-in x (k + 1) (k + 1 + size b + size f) (inner k) (above (omega arith)))
         (before-other n k k h (omega arith)) i in
-        let o : (j : ℕ) → k < j → j < k + 1 + size b + size f → Clear j (xi ∷ [])
-        = λ j u v. clear-cons xi [] (ne-eqb k j (omega arith)) (ne-eqb (k + 1 + size b + size f) j (omega arith)) (before-other n k j h (omega arith)) (clear-none j) in
+        let kf : Faulty p (inner k) (k + 1 + size b) = faulty-focus xi l (spread b f u) c₁ (omega arith) (omega (arith, positive f)) (omega (arith, positive u))
+        (free-in x (k + 1) (k + 1 + size b) (inner k) (above (omega arith))) in
+        let o : (j : ℕ) → k < j → eqb (k + 1 + size b + size f) j ≡ false → eqb (k + 1 + size b) j ≡ false → Clear j (xi ∷ [])
+        = λ j u v w. clear-cons xi [] (ne-eqb k j (omega arith)) v w (before-other n k j h (omega arith)) (clear-none j) in
         let c₂ : Focus p ((xi ∷ []) ++ (l ++ [])) k (spread b f u) = focus-same (xi ∷ l) (xi ∷ (l ++ [])) (ap (λ (w : List Inner). xi ∷ w) (sym (append-nil l))) c₁ in
         let c₃ : Focus p ((xi ∷ l) ++ ([] ++ [])) k (spread b f u) = focus-same (xi ∷ l) (xi ∷ (l ++ [])) (ap (λ (w : List Inner). xi ∷ w) (sym (append-nil l))) c₁ in
-        sits-scope kn
+        sits-scope kn (spot-of (act scope (trio b f u)) k (bodyOf n m) d i h)
         (inside-focus xi l (directs b (k + 1) (inner k)) k (spread b f u) c₁ (omega arith) (before-other n k k h (omega arith)) (directs-only x (k + 1) (inner k) (omega arith)))
-        (sits x (k + 1) (inner k) (focus-part (xi ∷ []) l [] c₂ (omega arith) (omega arith) (λ j v w. o j (omega arith) (omega arith)) (λ j v w. clear-none j)) (kn .name) (omega arith))
-        (sits y (k + 1 + size b) root
-        (focus-same [] _ (sym (bare-formed y refl .1 (k + 1 + size b) root))
-        (focus-part (xi ∷ l) [] [] c₃ (omega arith) (omega arith)
-        (λ j v w. clear-append (xi ∷ []) l (o j (omega arith) (omega arith)) (clear-in x (k + 1) j (inner k) (ne-eqb k j (omega arith)) (above (omega arith)))) (λ j v w. clear-none j))) refl tt)
-        (bare-formed y refl .0)
-        (sits-undo z (k + 1 + size b + size f) refl refl (kn .noScope)
+        (sits x (k + 1) (inner k) n (focus-part (xi ∷ []) l [] c₂ (omega arith) (omega arith)
+        (λ j v w. o j (omega arith) (ne-eqb (k + 1 + size b + size f) j (omega arith)) (ne-eqb (k + 1 + size b) j (omega arith))) (λ j v w. clear-none j)) (kn .name) (omega arith)
+        (stood-body b f u k (bodyOf n m) d))
+        kf
+        (sits-remedy y (k + 1 + size b) (faultOf (inner k) n) refl refl
+        (none-some (byNumber (k + 1 + size b)) (scopesOf p) (c₁ .number (k + 1 + size b) (omega arith) (omega (arith, positive u)) ∙ rw (ne-eqb k (k + 1 + size b) (omega arith), free-in x (k + 1) (k + 1 + size b) (inner k) (above (omega arith)) .number)))
         (λ m q. focus-part (xi ∷ l) [] [] c₃ (omega arith) (omega arith)
-        (λ j v w. clear-append (xi ∷ []) l (clear-cons xi [] (ne-eqb k j (omega arith)) (ne-eqb (k + 1 + size b + size f) j (omega arith)) (before-other n k j h (omega arith)) (clear-none j))
-        (clear-in x (k + 1) j (inner k) (ne-eqb k j (omega arith)) (above (omega arith)))) (λ j v w. clear-none j)))
-
-    -- an undo part
-    sits-undo : {h r : Bool} {a : Act} → Formed h r a → (k : ℕ) → h ≡ true → r ≡ false → isName p (inner k) ≡ false
-        → ((m : ℕ) → 1 + m ≡ size a → Focus p [] (k + 1) m) → UndoPart p a k
-    sits-undo (formed-part {own = own} {within = within} s i g f) k e d z c =
-        undo-part s (i ∙ d) g z (sits-all f (k + 1) root (focus-same [] _ (sym (bare-formed-in f e .1 (k + 1) root)) (c (sizes within) refl)) refl tt) (bare-formed-in f e .0)
-    sits-undo (formed-scope x y z) k e d w c = absurd (false≢true e)
+        (λ j v w. clear-append (xi ∷ []) l (o j (omega arith) (ne-eqb (k + 1 + size b + size f) j (omega arith)) (ne-eqb (k + 1 + size b) j (omega arith)))
+        (clear-in x (k + 1) j (inner k) (ne-eqb k j (omega arith)) (above (omega arith)))) (λ j v w. clear-none j)) (kn .name) (omega arith) (stood-fault b f u k (bodyOf n m) d))
+        (sits-remedy z (k + 1 + size b + size f) (undoOf n m) refl refl (kn .noScope)
+        (λ m q. focus-part (xi ∷ l) [] [] c₃ (omega arith) (omega arith)
+        (λ j v w. clear-append (xi ∷ []) l (o j (omega arith) (ne-eqb (k + 1 + size b + size f) j (omega arith)) (ne-eqb (k + 1 + size b) j (omega arith)))
+        (clear-in x (k + 1) j (inner k) (ne-eqb k j (omega arith)) (above (omega arith)))) (λ j v w. clear-none j)) i (before-on n h (omega arith)) (stood-undo b f u k (bodyOf n m) d))
 
     -- a list
-    sits-all : {h r : Bool} {l : Acts} → FormedIn h r l → (c : ℕ) (n : Name) → Focus p (scopesAmong l c n) c (sizes l) → isName p n ≡ true
-        → Before n c → SitsIn p n l c
-    sits-all (formed-none) c n f i b = sits-none
-    sits-all (formed-more {a = a} {l = l} x y) c n f i b =
+    sits-all : {h r : Bool} {l : Acts} → FormedIn h r l → (c : ℕ) (n m : Name) → Focus p (scopesAmong l c n) c (sizes l) → isName p n ≡ true
+        → Before n c → StoodIn p l c (bodyOf n m) → SitsIn p (bodyOf n m) l c
+    sits-all (formed-none) c n m f i b d = sits-none
+    sits-all (formed-more {a = a} {l = l} x y) c n m f i b d =
         sits-more
-        (sits x c n (focus-part [] (scopesIn a c n) (scopesAmong l (c + size a) n) f (omega arith) (omega arith) (λ j u v. clear-none j)
-        (λ j u v. clear-among y (c + size a) j n (before-other n c j b (omega arith)) (below (omega arith)))) i b)
-        (sits-all y (c + size a) n (focus-part (scopesIn a c n) (scopesAmong l (c + size a) n) [] (focus-same _ _ (ap (λ (z : List Inner). scopesIn a c n ++ z) (sym (append-nil (scopesAmong l (c + size a) n)))) f) (omega arith) (omega arith)
-        (λ j u v. clear-in x c j n (before-other n c j b (omega arith)) (above (omega arith))) (λ j u v. clear-none j)) i (before-on n c (size a) b))
+        (sits x c n m (focus-part [] (scopesIn a c n) (scopesAmong l (c + size a) n) f (omega arith) (omega arith) (λ j u v. clear-none j)
+        (λ j u v. clear-among y (c + size a) j n (before-other n c j b (omega arith)) (below (omega arith)))) i b (stood-first a l c (bodyOf n m) d))
+        (sits-all y (c + size a) n m (focus-part (scopesIn a c n) (scopesAmong l (c + size a) n) [] (focus-same _ _ (ap (λ (z : List Inner). scopesIn a c n ++ z) (sym (append-nil (scopesAmong l (c + size a) n)))) f) (omega arith) (omega arith)
+        (λ j u v. clear-in x c j n (before-other n c j b (omega arith)) (above (omega arith))) (λ j u v. clear-none j)) i (before-on n b (omega arith)) (stood-later a l c (bodyOf n m) d))
 
 -- At most one scope has the number j.
 data Single (j : ℕ) (l : List Inner) : Type 0 where
@@ -518,6 +651,8 @@ pub record Promised (p : Plan) : Type 0 where
   pub seat : Seat p (rootOf p)
   pub distinct : Distinct p
   pub few : size (p .body) + size (p .fault) ≤ 256
+  pub body : Formed false false (p .body)
+  pub fault : Formed true false (p .fault)
 
 module _ (p : Plan) (x : Formed false false (p .body)) (y : Formed true false (p .fault)) where
   -- the scopes of the plan are those of its body
@@ -526,22 +661,46 @@ module _ (p : Plan) (x : Formed false false (p .body)) (y : Formed true false (p
   whole = rw (bare-formed y refl .1 (size (p .body)) root, append-nil)
 
   -- which has all that is to be found
-  all-focus : (k n : ℕ) → Focus p (scopesIn (p .body) 0 root) k n
-  all-focus k n =
-      record { number = λ j u v. ap (only (byNumber j)) whole; undo = λ j u v. ap (only (byUndo j)) whole; around = λ j u v. ap (only (byAround j)) whole }
+  all-focus : (k n : ℕ) → ((j : ℕ) → k ≤ j → j < k + n → eqb (size (p .body)) j ≡ false) → Focus p (scopesIn (p .body) 0 root) k n
+  all-focus k n h =
+      record {
+        number = λ j u v. ap (only (byNumber j)) whole;
+        undo = λ j u v. ap (only (byUndo j)) whole;
+        fault = λ j u v. ap (only (byFault j)) whole;
+        around = λ j u v. ap (only (byAround j)) whole;
+        rootless = h;
+      }
+
+  -- the fault part of the root
+  root-faulty : Faulty p root (size (p .body))
+  unfolding isFaultPart
+  root-faulty =
+      record {
+        noUndo = ap (only (byUndo (size (p .body)))) whole ∙ clear-in x 0 (size (p .body)) root refl (above (omega arith)) .undo;
+        own = theirs;
+      }
+    where
+      theirs : (s : Name) → isName p s ≡ true → isFaultPart p s (size (p .body)) ≡ same s root
+      theirs root i = eq-eqb (size (p .body)) (size (p .body)) refl
+      theirs (inner j) i = no-fault-in j (size (p .body)) (scopesOf p) (ap (only (byFault (size (p .body)))) whole ∙ clear-in x 0 (size (p .body)) root refl (above (omega arith)) .fault)
 
   -- the root in its plan
   root-seat : Seat p (rootOf p)
+  unfolding placeOf
   root-seat =
       record {
         name = refl;
         inside = root-inside;
-        body = sits p x 0 root (all-focus 0 (size (p .body))) refl tt;
-        fault = sits p y (size (p .body)) root
-            (focus-same [] _ (sym (bare-formed y refl .1 (size (p .body)) root))
-            (focus-part (scopesIn (p .body) 0 root) [] [] (focus-same _ _ (sym (append-nil (scopesIn (p .body) 0 root))) (all-focus 0 (size (p .body) + size (p .fault)))) (omega arith) (omega arith)
-            (λ j v w. clear-in x 0 j root refl (above (omega arith))) (λ j v w. clear-none j))) refl tt;
-        bareFault = bare-formed y refl .0;
+        around = root;
+        body = sits p x 0 root root (all-focus 0 (size (p .body)) (λ j u v. ne-eqb (size (p .body)) j (omega arith))) refl tt
+            (λ t u v. first-of (ltb t (size (p .body))) (placeIn (p .body) 0 t (bodyOf root root)) (placeIn (p .fault) (size (p .body)) t (faultOf root root)) (placeOf p t) refl (lt-ltb t (size (p .body)) (omega arith)));
+        faulty = root-faulty;
+        fault = sits-remedy p y (size (p .body)) (faultOf root root) refl refl
+            (none-some (byNumber (size (p .body))) (scopesOf p) (ap (only (byNumber (size (p .body)))) whole ∙ clear-in x 0 (size (p .body)) root refl (above (omega arith)) .number))
+            (λ m q. focus-part (scopesIn (p .body) 0 root) [] [] (focus-same _ _ (sym (append-nil (scopesIn (p .body) 0 root)))
+            (all-focus (size (p .body) + 1) m (λ j u v. ne-eqb (size (p .body)) j (omega arith)))) (omega arith) (omega arith)
+            (λ j v w. clear-in x 0 j root refl (above (omega arith))) (λ j v w. clear-none j)) refl tt
+            (λ t u v. second-of (ltb t (size (p .body))) (placeIn (p .body) 0 t (bodyOf root root)) (placeIn (p .fault) (size (p .body)) t (faultOf root root)) (placeOf p t) refl (le-ltb t (size (p .body)) u));
         after = omega arith;
         before = tt;
       }
@@ -564,4 +723,4 @@ promised p e =
     both (actWithin (p .variables) (p .correlation) true false (p .fault) 16) _ j (λ k l. both (leb (size (p .body) + size (p .fault)) 256) _ l (λ m n.
     let x = formed (p .variables) (p .correlation) false false (p .body) 16 i in
     let y = formed (p .variables) (p .correlation) true false (p .fault) 16 k in
-    record { seat = root-seat p x y; distinct = no-two p x y; few = leb-true (size (p .body) + size (p .fault)) 256 m }))))))
+    record { seat = root-seat p x y; distinct = no-two p x y; few = leb-true (size (p .body) + size (p .fault)) 256 m; body = x; fault = y }))))))

@@ -16,16 +16,16 @@ use Rattle.order.specs.declared.Way.{Way as Result}
 use Rattle.order.specs.declared.Way.the-variants.{Running as running, Over as over, Raising as raising, Leaving as leaving, Undone as undone, UndoRaising as undoRaising}
 use Rattle.order.specs.Scope.{Outcome, Scope, rootOf, fromBody, fromFault}
 use Rattle.order.specs.Acting.{stepIn, stepRoot, endOf, Moved, movedTo, stepOrder}
-use Rattle.machine.specs.Demand3.{rightAfter, noneNow, isOver}
+use Rattle.undoing.specs.Demand3.{noneNow, isOver}
 use Rattle.undoing.proofs.Accounts.{Phase, live, waits, heals, phase}
 use Rattle.undoing.proofs.Moves.{HoldsAt, root-well}
 use Rattle.undoing.proofs.Marks.{Quiet, turned-waits, turned-undoes, turned-heals}
-use Rattle.undoing.proofs.Orders.{momentOf, onto, Does, does-then}
+use Rattle.undoing.proofs.Orders.{momentOf, fairAfter, onto, Does, does-then}
 use Rattle.undoing.proofs.Seats.{Seat, inside-rest, quiet-inner}
 use Rattle.undoing.proofs.Waiting.{Waits, quiet-waits}
 use Rattle.undoing.proofs.Breaking.{Distinct}
-use Rattle.undoing.proofs.Scoping.{scope-live, scope-done, scope-turned, Turning, Running, StepsAs, Steps, Reach, from-live, from-stopped, from-undoing, from-heals}
-use Rattle.undoing.proofs.Stepping.{steps, steps-stopped, steps-undoing}
+use Rattle.undoing.proofs.Scoping.{scope-live, scope-done, scope-turned, Turning, Running, StepsAs, Steps, Reach, waits-mark, undoes-mark, from-live, from-stopped, from-undoing, from-heals}
+use Rattle.undoing.proofs.Stepping.{steps, steps-stopped, steps-undoing, steps-part}
 
 -- activity t of the root's body or fault part awaits its step
 pub data Awaited (p : Plan) (ms : List ℕ) (t : ℕ) : Type 0 where
@@ -70,15 +70,21 @@ module _ (p : Plan) (distinct : Distinct p) (h : Seat p (rootOf p)) where
       m : size (p .body) + size (p .fault) ≤ length (o .marks)
       m = st .many
 
+      no-stop : (a : Bool) → a ≡ false → phase (o .root) ≡ waits a → ⊥
+      no-stop a d q = x (eqb-true (o .root) halted (waits-mark (o .root) q .1 ∙ rw d))
+
+      no-withdrawal : (a : Bool) → a ≡ false → phase (o .root) ≡ Phase.undoes a → ⊥
+      no-withdrawal a d q = y (eqb-true (o .root) withdrawing (undoes-mark (o .root) q .1 ∙ rw d))
+
       go : Running (rootOf p) (o .marks) (o .root) → Steps p (rootOf p) (Running (rootOf p)) o (fromBody (rootOf p) (stepIn (p .body) 0 t o))
       go (scope-live d r q) =
-          from-live p distinct (rootOf p) t o (stepIn (p .body) 0 t o) h d q m (steps p distinct (h .body) t o false w refl r (λ z. ap phase d) (omega arith))
+          from-live p distinct (rootOf p) t o (stepIn (p .body) 0 t o) h d q m (steps p distinct (h .body) t o false w refl r (ap phase d) (omega arith))
       go (scope-done d q z) = absurd (st .going d)
-      go (scope-turned (turned-waits q z _ v)) =
-          weaker (from-stopped p distinct (rootOf p) o (stepIn (p .body) 0 t o) h (λ d. absurd (x d)) q v m (steps-stopped p distinct (h .body) t o false w refl z (omega arith)))
-      go (scope-turned (turned-undoes q z v)) =
-          weaker (from-undoing p distinct (rootOf p) t o (stepIn (p .body) 0 t o) h (root-reach p) (λ d. absurd (y d)) q v m (λ i a b. absurd (omega arith))
-          (steps-undoing p distinct (h .body) t o false w refl z (omega arith)))
+      go (scope-turned (turned-waits {w = a} q z _ v)) =
+          weaker (from-stopped p distinct a (rootOf p) o (stepIn (p .body) 0 t o) h (λ d. absurd (no-stop a d q)) q v m (steps-stopped p distinct (h .body) t o false w refl z (omega arith)))
+      go (scope-turned (turned-undoes {w = a} q z v)) =
+          weaker (from-undoing p distinct a (rootOf p) t o (stepIn (p .body) 0 t o) h (root-reach p) (λ d. absurd (no-withdrawal a d q)) q v m (λ i a b. absurd (omega arith))
+          (steps-undoing p distinct (h .body) t o false w refl z (a, q) (omega arith)))
       go (scope-turned (turned-heals q z v)) = absurd (quiet-waits w refl z)
   root-steps t o (in-fault e w) st x y =
       subst (λ (r : Outcome). Steps p (rootOf p) (Running (rootOf p)) o r) (sym (root-is p t o false (le-ltb t (size (p .body)) e))) (go (st .runs))
@@ -93,17 +99,17 @@ module _ (p : Plan) (distinct : Distinct p) (h : Seat p (rootOf p)) where
       go (scope-turned (turned-undoes q z v)) = absurd (quiet-waits w refl v)
       go (scope-turned (turned-heals q z v)) =
           weaker (from-heals p distinct (rootOf p) t o (stepIn (p .fault) (size (p .body)) t o) h (root-reach p) q z m (λ i a b. absurd (omega arith))
-          (steps p distinct (h .fault) t o false w refl v (λ d. absurd (false≢true (sym d ∙ h .bareFault))) (omega arith)))
+          (steps-part p distinct (h .fault) t o false w refl v q (omega arith)))
 
 -- what a step of an order leaves: an order that stands, or none
 pub data Passed (p : Plan) (past : List Event) (m : Moved) : Type 0 where
-  passes-on : rightAfter p past (m .log) ≡ true → Standing p (m .order) → HoldsAt p (momentOf p (m .order)) (onto (m .log) past) → Passed p past m
-  passes-end : rightAfter p past (m .log) ≡ true → m .order ≡ noOrder → noneNow (onto (m .log) past) ≡ true → Passed p past m
+  passes-on : fairAfter p past (m .log) ≡ true → Standing p (m .order) → HoldsAt p (momentOf p (m .order)) (onto (m .log) past) → Passed p past m
+  passes-end : fairAfter p past (m .log) ≡ true → m .order ≡ noOrder → noneNow (onto (m .log) past) ≡ true → Passed p past m
 
 module _ (p : Plan) (distinct : Distinct p) (h : Seat p (rootOf p)) where
   -- the root's body is done
   does-well : (o : Order) → o .root ≡ done → Quiet (o .marks) 0 (size (p .body)) → Does p true o (ended root ∷ []) noOrder
-  unfolding rightAfter noneNow isOver
+  unfolding fairAfter noneNow isOver
   does-well o e q =
       record { does = λ past x. (rw (root-well p (momentOf p o) (momentOf p o) past x (ap phase e) (inside-rest p (rootOf p) o h (quiet-inner (p .body) 0 q))), refl) }
 
@@ -111,8 +117,8 @@ module _ (p : Plan) (distinct : Distinct p) (h : Seat p (rootOf p)) where
   done-quiet : (ms : List ℕ) (m : ℕ) → m ≡ done → Running (rootOf p) ms m → Quiet ms 0 (size (p .body))
   done-quiet ms m e (scope-live d r q) = absurd (let z : _≡_ {A = ℕ} 1 3 = sym d ∙ e in omega arith)
   done-quiet ms m e (scope-done d r q) = r
-  done-quiet ms m e (scope-turned (turned-waits d r _ q)) = absurd (let z : live ≡ waits = sym (ap phase e) ∙ d in let x : _≡_ {A = ℕ} 0 1 = cc in omega arith)
-  done-quiet ms m e (scope-turned (turned-undoes d r q)) = absurd (let z : live ≡ Phase.undoes = sym (ap phase e) ∙ d in let x : _≡_ {A = ℕ} 0 1 = cc in omega arith)
+  done-quiet ms m e (scope-turned (turned-waits {w = a} d r _ q)) = absurd (let z : live ≡ waits a = sym (ap phase e) ∙ d in let x : _≡_ {A = ℕ} 0 1 = cc in omega arith)
+  done-quiet ms m e (scope-turned (turned-undoes {w = a} d r q)) = absurd (let z : live ≡ Phase.undoes a = sym (ap phase e) ∙ d in let x : _≡_ {A = ℕ} 0 1 = cc in omega arith)
   done-quiet ms m e (scope-turned (turned-heals d r q)) = absurd (let z : live ≡ heals = sym (ap phase e) ∙ d in let x : _≡_ {A = ℕ} 0 1 = cc in omega arith)
 
   -- a step of an order that stands

@@ -2,7 +2,7 @@
 use Prim.Native.Nat.{ℕ, _+_, _≤_, _<_}
 use native.Mathlib.Omega.{arith}
 use mathlib.Core.Path.{_≡_, refl, sym, ap, subst, _∙_}
-use mathlib.Core.Bool.{Bool, true, false, _||_, false≢true}
+use mathlib.Core.Bool.{Bool, true, false, not, _||_, false≢true}
 use mathlib.Core.List.{List, [], _∷_, _++_}
 use lib.ListN.{length, getD}
 use lib.Dec.{eqb, ltb}
@@ -15,13 +15,13 @@ use Rattle.order.specs.Begin.{cleared}
 use Rattle.order.specs.declared.Way.{Way as Result}
 use Rattle.order.specs.declared.Way.the-variants.{Running as running, Over as over, Raising as raising, Leaving as leaving, Undone as undone, UndoRaising as undoRaising}
 use Rattle.order.specs.Scope.{Outcome, runs, after, Scope, isOpen, innerRuns, ends, undoes, turns, stop, faults, breaks, looksAgain, bodyOver, bodyRaised, undoOver, undoRaised, fromBody, partOver, partRaised, fromFault, forgetting}
-use Rattle.machine.specs.Demand3.{isRoot, insideOf, isUndoRaise}
+use Rattle.undoing.specs.Demand3.{isRoot, insideOf, isUndoRaise}
 use Rattle.undoing.specs.Ties.{isName}
 use Rattle.undoing.proofs.Parts.{decide}
 use Rattle.undoing.proofs.Accounts.{Phase, rest, live, waits, heals, odd, phase, tied-as}
 use Rattle.undoing.proofs.Moves.{tied-from, move-fault}
 use Rattle.undoing.proofs.Marks.{Quiet, Kept, Run, Turned, turned-waits, turned-undoes, turned-heals, Stopped, Undoing, Stoppable, agree-part, quiet-part, quiet-agree, agree-below, agree-above, kept-itself, stoppable-agree, not-open}
-use Rattle.undoing.proofs.Orders.{listOf, momentOf, Does, does-then, does-nothing, does-one, bare, bare-names}
+use Rattle.undoing.proofs.Orders.{listOf, momentOf, Does, does-then, does-nothing, does-one, bare, remedy-names}
 use Rattle.undoing.proofs.Seats.{Seat, mark-kept, marking-mark, marking-elsewhere, marking-agree, marking-length, quiet-inner, inside-rest}
 use Rattle.undoing.proofs.Turning.{Apart, apart-then, apart-kept, apart-marking, TurnsAs, Turns, turns-after, does-phase, marking-list, does-healed, undoes-on, turns-on}
 use Rattle.undoing.proofs.Stopping.{stops}
@@ -125,52 +125,60 @@ raised-is : (s : Scope) (o : Order) (b : Bool) → isOpen (markOf (s .name) o) �
 unfolding bodyRaised
 raised-is s o b e = subst (λ (z : Bool). bodyRaised s o ≡ elim z [ true ↦ faults s o | false ↦ looksAgain s o ]) e refl
 
--- no mark but these has these phases
-no-undoes : (m : ℕ) → eqb m undoing ≡ false → eqb m withdrawing ≡ false → eqb m active ≡ false → eqb m done ≡ false → eqb m faulty ≡ false → eqb m halted ≡ false
-    → eqb m handling ≡ false → phase m ≡ Phase.undoes → ⊥
-no-undoes m a b c d e f g h =
-    decide (eqb m idle)
-    (λ t. let z : rest ≡ Phase.undoes = rw (a, b, c, d, e, f, g, t) at h in let x : _≡_ {A = ℕ} 0 1 = cc in omega arith)
-    (λ t. let z : odd ≡ Phase.undoes = rw (a, b, c, d, e, f, g, t) at h in let x : _≡_ {A = ℕ} 0 1 = cc in omega arith)
+-- a scope that waits is faulty or halted, by whether it faulted
+pub waits-mark : (m : ℕ) {w : Bool} → phase m ≡ waits w → (eqb m faulty ≡ w) × (eqb m halted ≡ not w)
+waits-mark m {w} h =
+    decide (eqb m faulty)
+    (λ t. let z : waits true ≡ waits w = sym (ap phase (eqb-true m faulty t)) ∙ h in let x : true ≡ w = cc in (t ∙ x, rw (eqb-true m faulty t, ← x)))
+    (λ t. decide (eqb m halted)
+    (λ u. let z : waits false ≡ waits w = sym (ap phase (eqb-true m halted u)) ∙ h in let x : false ≡ w = cc in (t ∙ x, u ∙ rw (← x)))
+    (λ u. absurd (no-waits m t u h)))
+  where
+    no-waits : (m : ℕ) → eqb m faulty ≡ false → eqb m halted ≡ false → {w : Bool} → phase m ≡ waits w → ⊥
+    no-waits m e f {w} h =
+        decide (eqb m active || eqb m done)
+        (λ t. let z : live ≡ waits w = rw t at h in let x : _≡_ {A = ℕ} 0 1 = cc in omega arith)
+        (λ t. decide (eqb m undoing || eqb m withdrawing)
+        (λ u. let z : Phase.undoes (eqb m undoing) ≡ waits w = rw (t, e, f, u) at h in let x : _≡_ {A = ℕ} 0 1 = cc in omega arith)
+        (λ u. decide (eqb m handling)
+        (λ v. let z : heals ≡ waits w = rw (t, e, f, u, v) at h in let x : _≡_ {A = ℕ} 0 1 = cc in omega arith)
+        (λ v. decide (eqb m idle)
+        (λ x. let z : rest ≡ waits w = rw (t, e, f, u, v, x) at h in let y : _≡_ {A = ℕ} 0 1 = cc in omega arith)
+        (λ x. let z : odd ≡ waits w = rw (t, e, f, u, v, x) at h in let y : _≡_ {A = ℕ} 0 1 = cc in omega arith))))
 
--- nor this one
-no-waits : (m : ℕ) → eqb m faulty ≡ false → eqb m halted ≡ false → phase m ≡ waits → ⊥
-no-waits m e f h =
-    decide (eqb m active || eqb m done)
-    (λ t. let z : live ≡ waits = rw t at h in let x : _≡_ {A = ℕ} 0 1 = cc in omega arith)
-    (λ t. decide (eqb m undoing || eqb m withdrawing)
-    (λ u. let z : Phase.undoes ≡ waits = rw (t, e, f, u) at h in let x : _≡_ {A = ℕ} 0 1 = cc in omega arith)
-    (λ u. decide (eqb m handling)
-    (λ v. let z : heals ≡ waits = rw (t, e, f, u, v) at h in let x : _≡_ {A = ℕ} 0 1 = cc in omega arith)
-    (λ v. decide (eqb m idle)
-    (λ w. let z : rest ≡ waits = rw (t, e, f, u, v, w) at h in let x : _≡_ {A = ℕ} 0 1 = cc in omega arith)
-    (λ w. let z : odd ≡ waits = rw (t, e, f, u, v, w) at h in let x : _≡_ {A = ℕ} 0 1 = cc in omega arith))))
-
--- nor this one
+-- no mark but that of handling has its phase
 pub no-heals : (m : ℕ) → eqb m handling ≡ false → phase m ≡ heals → ⊥
 no-heals m e h =
     decide (eqb m active || eqb m done)
     (λ t. let z : live ≡ heals = rw t at h in let x : _≡_ {A = ℕ} 0 1 = cc in omega arith)
     (λ t. decide (eqb m faulty || eqb m halted)
-    (λ u. let z : waits ≡ heals = rw (t, u) at h in let x : _≡_ {A = ℕ} 0 1 = cc in omega arith)
+    (λ u. let z : waits (eqb m faulty) ≡ heals = rw (t, u) at h in let x : _≡_ {A = ℕ} 0 1 = cc in omega arith)
     (λ u. decide (eqb m undoing || eqb m withdrawing)
-    (λ v. let z : Phase.undoes ≡ heals = rw (t, u, v) at h in let x : _≡_ {A = ℕ} 0 1 = cc in omega arith)
+    (λ v. let z : Phase.undoes (eqb m undoing) ≡ heals = rw (t, u, v) at h in let x : _≡_ {A = ℕ} 0 1 = cc in omega arith)
     (λ v. decide (eqb m idle)
     (λ w. let z : rest ≡ heals = rw (t, u, v, e, w) at h in let x : _≡_ {A = ℕ} 0 1 = cc in omega arith)
     (λ w. let z : odd ≡ heals = rw (t, u, v, e, w) at h in let x : _≡_ {A = ℕ} 0 1 = cc in omega arith))))
 
--- nor the phase of undoing, in the same way
-pub no-undoes-but : (m : ℕ) → (eqb m undoing || eqb m withdrawing) ≡ false → phase m ≡ Phase.undoes → ⊥
-no-undoes-but m e h =
-    decide (eqb m active || eqb m done)
-    (λ t. let z : live ≡ Phase.undoes = rw t at h in let x : _≡_ {A = ℕ} 0 1 = cc in omega arith)
-    (λ t. decide (eqb m faulty || eqb m halted)
-    (λ u. let z : waits ≡ Phase.undoes = rw (t, u) at h in let x : _≡_ {A = ℕ} 0 1 = cc in omega arith)
-    (λ u. decide (eqb m handling)
-    (λ v. let z : heals ≡ Phase.undoes = rw (t, u, e, v) at h in let x : _≡_ {A = ℕ} 0 1 = cc in omega arith)
-    (λ v. decide (eqb m idle)
-    (λ w. let z : rest ≡ Phase.undoes = rw (t, u, e, v, w) at h in let x : _≡_ {A = ℕ} 0 1 = cc in omega arith)
-    (λ w. let z : odd ≡ Phase.undoes = rw (t, u, e, v, w) at h in let x : _≡_ {A = ℕ} 0 1 = cc in omega arith))))
+-- a scope that undoes is undoing or withdrawing, by whether it faulted
+pub undoes-mark : (m : ℕ) {w : Bool} → phase m ≡ Phase.undoes w → (eqb m undoing ≡ w) × (eqb m withdrawing ≡ not w)
+undoes-mark m {w} h =
+    decide (eqb m undoing)
+    (λ t. let z : Phase.undoes true ≡ Phase.undoes w = sym (ap phase (eqb-true m undoing t)) ∙ h in let x : true ≡ w = cc in (t ∙ x, rw (eqb-true m undoing t, ← x)))
+    (λ t. decide (eqb m withdrawing)
+    (λ u. let z : Phase.undoes false ≡ Phase.undoes w = sym (ap phase (eqb-true m withdrawing u)) ∙ h in let x : false ≡ w = cc in (t ∙ x, u ∙ rw (← x)))
+    (λ u. absurd (no-undoes m t u h)))
+  where
+    no-undoes : (m : ℕ) → eqb m undoing ≡ false → eqb m withdrawing ≡ false → {w : Bool} → phase m ≡ Phase.undoes w → ⊥
+    no-undoes m e f {w} h =
+        decide (eqb m active || eqb m done)
+        (λ t. let z : live ≡ Phase.undoes w = rw t at h in let x : _≡_ {A = ℕ} 0 1 = cc in omega arith)
+        (λ t. decide (eqb m faulty || eqb m halted)
+        (λ u. let z : waits (eqb m faulty) ≡ Phase.undoes w = rw (t, u) at h in let x : _≡_ {A = ℕ} 0 1 = cc in omega arith)
+        (λ u. decide (eqb m handling)
+        (λ v. let z : heals ≡ Phase.undoes w = rw (t, u, e, f, v) at h in let x : _≡_ {A = ℕ} 0 1 = cc in omega arith)
+        (λ v. decide (eqb m idle)
+        (λ x. let z : rest ≡ Phase.undoes w = rw (t, u, e, f, v, x) at h in let y : _≡_ {A = ℕ} 0 1 = cc in omega arith)
+        (λ x. let z : odd ≡ Phase.undoes w = rw (t, u, e, f, v, x) at h in let y : _≡_ {A = ℕ} 0 1 = cc in omega arith))))
 
 -- the numbers of a scope: its own before its body, and no others before; its body, its fault part, and what is left of them
 pub record Reach (s : Scope) : Type 0 where
@@ -194,7 +202,7 @@ module _ (p : Plan) (distinct : Distinct p) where
       let k : markOf (s .name) o₁ ≡ faulty = marking-mark (s .name) (s .bodyAt) faulty o (h .before) (omega (arith, h .after)) in
       let y₁ : Quiet (o₁ .marks) (s .faultAt) (size (s .fault))
       = quiet-agree y (agree-part (marking-agree {c = s .bodyAt} {m = size (s .body) + size (s .fault)} (s .name) faulty o (h .before)) (omega (arith, h .after)) (omega (arith, h .after))) in
-      let r = stops p (h .body) o₁ (stoppable-agree t (marking-agree (s .name) faulty o (h .before))) (omega (arith, h .after, n)) in
+      let r = stops p (h .body) o₁ (ap phase k) (stoppable-agree t (marking-agree (s .name) faulty o (h .before))) (omega (arith, h .after, n)) in
       let o₂ = stop (s .body) (s .bodyAt) o₁ .order in
       let d : Does p false o (faulted (s .name) ∷ []) o₁
       = does-one (λ past x. move-fault p (momentOf p o) (momentOf p o₁) past x (s .name) (h .name) q (ap phase k) (marking-list p (s .name) (s .name) faulty o) (marking-elsewhere p (s .name) faulty o)) in
@@ -212,7 +220,7 @@ module _ (p : Plan) (distinct : Distinct p) where
       (λ u. decide (ltb j (s .faultAt))
       (λ v. r j i (ltb-false j (s .bodyAt) u) (omega (arith, ltb-true j (s .faultAt) v, h .after)))
       (λ v. decide (ltb j (s .faultAt + size (s .fault)))
-      (λ w. absurd (false≢true (sym (bare-names (h .fault) (h .bareFault) j (ltb-false j (s .faultAt) v) (ltb-true j (s .faultAt + size (s .fault)) w)) ∙ i)))
+      (λ w. absurd (false≢true (sym (remedy-names (h .fault) j (ltb-false j (s .faultAt) v) (ltb-true j (s .faultAt + size (s .fault)) w)) ∙ i)))
       (λ w. b j (ltb-false j (s .faultAt + size (s .fault)) w) y)))
     where
       lt-irrefl : {a b : ℕ} → a < b → b ≤ a → ⊥
@@ -284,7 +292,7 @@ module _ (p : Plan) (distinct : Distinct p) where
                   (quiet-agree y₁ (agree-part (marking-agree {c = s .bodyAt} {m = size (s .body) + size (s .fault)} (s .name) done o₁ (h .before)) (omega (arith, h .after)) (omega (arith, h .after)))),
               does-then (c .1) (does-phase p (s .name) done o₁ (λ a d.
                   let d₁ = tied-as live (listOf p (s .name) o₁) a (markOf (s .name) o₁) (ap phase e₁) d in
-                  tied-from live _ a (markOf (s .name) (marking (s .name) done o₁)) (ap phase k) (d₁ .0, d₁ .1, d₁ .2, d₁ .3 ∙ sym (marking-list p (s .name) (s .name) done o₁)))),
+                  tied-from live _ a (markOf (s .name) (marking (s .name) done o₁)) (ap phase k) (d₁ .0, d₁ .1, d₁ .2, d₁ .3 ∙ sym (marking-list p (s .name) (s .name) done o₁), d₁ .4, d₁ .5))),
             );
           })
       go raising c =
@@ -295,25 +303,24 @@ module _ (p : Plan) (distinct : Distinct p) where
       go undoRaising c = absurd c
 
   -- A step in the body of a scope that waits for its inner scopes: it looks again.
-  looks-on : (s : Scope) (o o₁ : Order) (l : List Event) → Seat p s → (markOf (s .name) o₁ ≡ halted → isRoot (s .name) ≡ false) → phase (markOf (s .name) o₁) ≡ waits
+  looks-on : (v : Bool) (s : Scope) (o o₁ : Order) (l : List Event) → Seat p s → (v ≡ false → isRoot (s .name) ≡ false) → phase (markOf (s .name) o₁) ≡ waits v
       → Stopped (o₁ .marks) (s .body) (s .bodyAt) → Quiet (o₁ .marks) (s .faultAt) (size (s .fault)) → s .faultAt + size (s .fault) ≤ length (o₁ .marks)
       → Apart s o o₁ → Does p false o l o₁ → Steps p s (Turning s) o (after l (looksAgain s o₁))
-  looks-on s o o₁ l h v q t y m a d =
-      subst (λ (z : Outcome). Steps p s (Turning s) o (after l z)) (sym (looks-is s o₁ (markOf (s .name) o₁) refl))
-      (by-mark (eqb (markOf (s .name) o₁) faulty) (eqb (markOf (s .name) o₁) halted) refl refl)
+  looks-on v s o o₁ l h x q t y m a d =
+      subst (λ (z : Outcome). Steps p s (Turning s) o (after l z))
+      (sym (looks-is s o₁ (markOf (s .name) o₁) refl ∙ by-mark v (eqb (markOf (s .name) o₁) faulty) (eqb (markOf (s .name) o₁) halted) (waits-mark (markOf (s .name) o₁) q .0) (waits-mark (markOf (s .name) o₁) q .1)))
+      (turns-steps (Turning s) (λ ms m z. z) a d (turns-on p v s o₁ h x q t y m))
     where
-      by-mark : (x z : Bool) → eqb (markOf (s .name) o₁) faulty ≡ x → eqb (markOf (s .name) o₁) halted ≡ z
-          → Steps p s (Turning s) o (after l (elim x [ true ↦ turns true s o₁ | false ↦ elim z [ true ↦ turns false s o₁ | false ↦ runs o₁ ] ]))
-      by-mark true z e d₁ = turns-steps (Turning s) (λ ms m x. x) a d (turns-on p true s o₁ h (λ c. absurd (false≢true (sym c))) q t y m)
-      by-mark false true e d₁ = turns-steps (Turning s) (λ ms m x. x) a d (turns-on p false s o₁ h (λ c. v (eqb-true (markOf (s .name) o₁) halted d₁)) q t y m)
-      by-mark false false e d₁ = absurd (no-waits (markOf (s .name) o₁) e d₁ q)
+      by-mark : (v x z : Bool) → x ≡ v → z ≡ not v → elim x [ true ↦ turns true s o₁ | false ↦ elim z [ true ↦ turns false s o₁ | false ↦ runs o₁ ] ] ≡ turns v s o₁
+      by-mark true x z e f = rw e
+      by-mark false x z e f = rw (e, f)
 
   -- a step in a stopped body
-  pub from-stopped : (s : Scope) (o : Order) (r : Outcome) → Seat p s → (markOf (s .name) o ≡ halted → isRoot (s .name) ≡ false) → phase (markOf (s .name) o) ≡ waits
+  pub from-stopped : (v : Bool) (s : Scope) (o : Order) (r : Outcome) → Seat p s → (v ≡ false → isRoot (s .name) ≡ false) → phase (markOf (s .name) o) ≡ waits v
       → Quiet (o .marks) (s .faultAt) (size (s .fault)) → s .faultAt + size (s .fault) ≤ length (o .marks)
       → Acted (s .bodyAt) (size (s .body)) o (StopAs p (s .body) (s .bodyAt) o) r → Steps p s (Turning s) o (fromBody s r)
   unfolding fromBody
-  from-stopped s o r h v q y m w = go (r .result) (w .comes)
+  from-stopped v s o r h x q y m w = go (r .result) (w .comes)
     where
       o₁ : Order
       o₁ = r .order
@@ -328,11 +335,11 @@ module _ (p : Plan) (distinct : Distinct p) where
       y₁ = quiet-agree y (agree-above (w .kept) (omega (arith, h .after)))
 
       looks : Stopped (o₁ .marks) (s .body) (s .bodyAt) → Does p false o (r .log) o₁ → Steps p s (Turning s) o (after (r .log) (looksAgain s o₁))
-      looks t d = looks-on s o o₁ (r .log) h (λ z. v (sym e₁ ∙ z)) (ap phase e₁ ∙ q) t y₁ (omega (arith, w .kept .many)) a₁ d
+      looks t d = looks-on v s o o₁ (r .log) h x (ap phase e₁ ∙ q) t y₁ (omega (arith, w .kept .many)) a₁ d
 
       not-active : eqb (markOf (s .name) o₁) active ≡ false
       not-active = decide (eqb (markOf (s .name) o₁) active)
-          (λ t. absurd (let z : live ≡ waits = sym (ap phase (eqb-true (markOf (s .name) o₁) active t)) ∙ (ap phase e₁ ∙ q) in let x : _≡_ {A = ℕ} 0 1 = cc in omega arith))
+          (λ t. absurd (let z : live ≡ waits v = sym (ap phase (eqb-true (markOf (s .name) o₁) active t)) ∙ (ap phase e₁ ∙ q) in let x : _≡_ {A = ℕ} 0 1 = cc in omega arith))
           (λ t. t)
 
       go : (x : Result) → StopAs p (s .body) (s .bodyAt) o (r .log) o₁ x → Steps p s (Turning s) o (fromBody s (record { result = x; order = o₁; log = r .log }))
@@ -343,18 +350,18 @@ module _ (p : Plan) (distinct : Distinct p) where
           (looks (c .0) (c .1))
       go raising c =
           subst (λ (z : Outcome). Steps p s (Turning s) o (after (r .log) z))
-          (sym (raised-is s o₁ false (not-open (markOf (s .name) o₁) waits (ap phase e₁ ∙ q) (λ d. let z : _≡_ {A = ℕ} 0 1 = cc in omega arith))))
+          (sym (raised-is s o₁ false (not-open (markOf (s .name) o₁) (waits v) (ap phase e₁ ∙ q) (λ d. let z : _≡_ {A = ℕ} 0 1 = cc in omega arith))))
           (looks (c .0) (c .1))
       go leaving c = record { apart = a₁; comes = c }
       go undone c = absurd c
       go undoRaising c = absurd c
 
   -- A step in an undo part that a scope is running.
-  pub from-undoing : (s : Scope) (t : ℕ) (o : Order) (r : Outcome) → Seat p s → Reach s → (markOf (s .name) o ≡ withdrawing → isRoot (s .name) ≡ false)
-      → phase (markOf (s .name) o) ≡ Phase.undoes → Quiet (o .marks) (s .faultAt) (size (s .fault)) → s .faultAt + size (s .fault) ≤ length (o .marks) → Beyond s o
+  pub from-undoing : (v : Bool) (s : Scope) (t : ℕ) (o : Order) (r : Outcome) → Seat p s → Reach s → (v ≡ false → isRoot (s .name) ≡ false)
+      → phase (markOf (s .name) o) ≡ Phase.undoes v → Quiet (o .marks) (s .faultAt) (size (s .fault)) → s .faultAt + size (s .fault) ≤ length (o .marks) → Beyond s o
       → Acted (s .bodyAt) (size (s .body)) o (UndoAs p (s .name) (s .body) (s .bodyAt) t o) r → Steps p s (Turning s) o (fromBody s r)
   unfolding fromBody undoOver undoRaised breaks
-  from-undoing s t o r h c v q y m b w = go (r .result) (w .comes)
+  from-undoing v s t o r h c x q y m b w = go (r .result) (w .comes)
     where
       o₁ : Order
       o₁ = r .order
@@ -368,13 +375,13 @@ module _ (p : Plan) (distinct : Distinct p) where
       e₁ : k ≡ markOf (s .name) o
       e₁ = mark-kept (s .name) (s .bodyAt) o o₁ (h .before) (omega arith) (w .rooted) (w .kept)
 
-      q₁ : phase k ≡ Phase.undoes
+      q₁ : phase k ≡ Phase.undoes v
       q₁ = ap phase e₁ ∙ q
 
       y₁ : Quiet (o₁ .marks) (s .faultAt) (size (s .fault))
       y₁ = quiet-agree y (agree-above (w .kept) (omega (arith, h .after)))
 
-      not-mark : (x : ℕ) → (phase x ≡ Phase.undoes → ⊥) → eqb k x ≡ false
+      not-mark : (x : ℕ) → (phase x ≡ Phase.undoes v → ⊥) → eqb k x ≡ false
       not-mark x f = decide (eqb k x) (λ z. absurd (f (sym (ap phase (eqb-true k x z)) ∙ q₁))) (λ z. z)
 
       looks : looksAgain s o₁ ≡ runs o₁
@@ -384,18 +391,22 @@ module _ (p : Plan) (distinct : Distinct p) where
           (not-mark faulty (λ d. let z : _≡_ {A = ℕ} 0 1 = cc in omega arith))
           ∙ ap (λ (x : Bool). elim x [ true ↦ turns false s o₁ | false ↦ runs o₁ ]) (not-mark halted (λ d. let z : _≡_ {A = ℕ} 0 1 = cc in omega arith)))
 
-      is-mark : (x z : Bool) → eqb k undoing ≡ x → eqb k withdrawing ≡ z → (x || z) ≡ true
-      is-mark true z d e = refl
-      is-mark false true d e = refl
-      is-mark false false d e = absurd (no-undoes k d e (not-mark active (λ d. let z : _≡_ {A = ℕ} 0 1 = cc in omega arith)) (not-mark done (λ d. let z : _≡_ {A = ℕ} 0 1 = cc in omega arith)) (not-mark faulty (λ d. let z : _≡_ {A = ℕ} 0 1 = cc in omega arith)) (not-mark halted (λ d. let z : _≡_ {A = ℕ} 0 1 = cc in omega arith)) (not-mark handling (λ d. let z : _≡_ {A = ℕ} 0 1 = cc in omega arith)) q₁)
+      is-mark : (eqb k undoing || eqb k withdrawing) ≡ true
+      is-mark = by-kind v (undoes-mark k q₁ .0) (undoes-mark k q₁ .1)
+        where
+          by-kind : (v : Bool) → eqb k undoing ≡ v → eqb k withdrawing ≡ not v → (eqb k undoing || eqb k withdrawing) ≡ true
+          by-kind true e d = rw e
+          by-kind false e d = rw (e, d)
 
-      next : Quiet (o₁ .marks) (s .bodyAt) (size (s .body)) → Does p false o (r .log) o₁ → (x z : Bool) → eqb k undoing ≡ x → eqb k withdrawing ≡ z
-          → Steps p s (Turning s) o (after (r .log) (elim x [ true ↦ undoes true s o₁ | false ↦ elim z [ true ↦ undoes false s o₁ | false ↦ runs o₁ ] ]))
-      next u d true z i j =
-          turns-steps (Turning s) (λ ms m x. x) a₁ d (undoes-on p true s o₁ h (λ n. absurd (false≢true (sym n))) (λ a g. tied-as Phase.undoes (listOf p (s .name) o₁) a k q₁ g) u y₁ (omega (arith, w .kept .many)))
-      next u d false true i j =
-          turns-steps (Turning s) (λ ms m x. x) a₁ d (undoes-on p false s o₁ h (λ n. v (sym e₁ ∙ eqb-true k withdrawing j)) (λ a g. tied-as Phase.undoes (listOf p (s .name) o₁) a k q₁ g) u y₁ (omega (arith, w .kept .many)))
-      next u d false false i j = absurd (false≢true (is-mark false false i j))
+      next-is : (v a b : Bool) → a ≡ v → b ≡ not v → elim a [ true ↦ undoes true s o₁ | false ↦ elim b [ true ↦ undoes false s o₁ | false ↦ runs o₁ ] ] ≡ undoes v s o₁
+      next-is true a b e d = rw e
+      next-is false a b e d = rw (e, d)
+
+      next : Quiet (o₁ .marks) (s .bodyAt) (size (s .body)) → Does p false o (r .log) o₁
+          → Steps p s (Turning s) o (after (r .log) (elim (eqb k undoing) [ true ↦ undoes true s o₁ | false ↦ elim (eqb k withdrawing) [ true ↦ undoes false s o₁ | false ↦ runs o₁ ] ]))
+      next u d =
+          subst (λ (z : Outcome). Steps p s (Turning s) o (after (r .log) z)) (sym (next-is v (eqb k undoing) (eqb k withdrawing) (undoes-mark k q₁ .0) (undoes-mark k q₁ .1)))
+          (turns-steps (Turning s) (λ ms m z. z) a₁ d (undoes-on p v s o₁ h x (λ a g. tied-as (Phase.undoes v) (listOf p (s .name) o₁) a k q₁ g) u y₁ (omega (arith, w .kept .many))))
 
       go : (x : Result) → UndoAs p (s .name) (s .body) (s .bodyAt) t o (r .log) o₁ x
           → Steps p s (Turning s) o (fromBody s (record { result = x; order = o₁; log = r .log }))
@@ -405,12 +416,12 @@ module _ (p : Plan) (distinct : Distinct p) where
       go over d = absurd d
       go raising d = absurd d
       go leaving d = record { apart = a₁; comes = d }
-      go undone d = next (d .0) (d .1) (eqb k undoing) (eqb k withdrawing) refl refl
+      go undone d = next (d .0) (d .1)
       go undoRaising d =
-          subst (λ (z : Bool). Steps p s (Turning s) o (after (r .log) (elim z [ true ↦ breaks s o₁ | false ↦ runs o₁ ]))) (sym (is-mark (eqb k undoing) (eqb k withdrawing) refl refl))
+          subst (λ (z : Bool). Steps p s (Turning s) o (after (r .log) (elim z [ true ↦ breaks s o₁ | false ↦ runs o₁ ]))) (sym is-mark)
           (steps-broken (Turning s) s o o₁ (r .log ++ (ended (s .name) ∷ [])) h c a₁ b₁
           (subst (λ (l : List Event). Does p (isRoot (s .name)) o (l ++ (ended (s .name) ∷ [])) (broken s o₁)) (sym (d .0))
-          (breaks-raised p distinct s t o o₁ h (c .owns) q₁ (inside-rest p s o₁ h (d .2)) (others-rest s o₁ h c (d .3) b₁) (d .1)
+          (breaks-raised p distinct v s t o o₁ h (c .owns) q₁ (inside-rest p s o₁ h (d .2)) (others-rest s o₁ h c (d .3) b₁) (d .1)
           (subst (λ (l : List Event). Does p false o l o₁) (d .0) (d .4)))))
         where
           b₁ : Beyond s o₁

@@ -14,27 +14,23 @@ use Rattle.order.specs.Lists.{every, some, only, withoutFirst, withoutLast}
 use Rattle.order.specs.State.{Name, root, inner, same, idle, closings, remembering, markOf, marking}
 use Rattle.order.specs.Event.{began}
 use Rattle.order.specs.Scope.{Scope, isScope, directly, directlyIn, innerRuns, innerRunsIn, rememberedFor}
-use Rattle.machine.specs.Demand3.{Inner, scopesOf, insideOf}
-use Rattle.undoing.specs.Ties.{isName}
+use Rattle.undoing.specs.Demand3.{Inner, scopesOf, insideOf}
+use Rattle.undoing.specs.Ties.{isName, bodyOf, faultOf, undoOf}
 use Rattle.undoing.proofs.Parts.{neither, decide, some-append, every-append, only-swap, only-without, only-without-other, only-reverse, none-some, same-swap}
 use Rattle.undoing.proofs.Accounts.{rest, waits, undoes, heals, phase, Known, Inside·rest}
-use Rattle.undoing.proofs.Moves.{Elsewhere, move-undo}
+use Rattle.undoing.proofs.Moves.{Elsewhere, Before, Spot, move-undo}
 use Rattle.undoing.proofs.Marks.{trio, Agree, Quiet, Kept, Stopped, stopped-part, stopped-quiet, stopped-scope, StoppedIn, stopped-none, stopped-more, Turned, turned-waits, turned-undoes, turned-heals, quiet-part, quiet-join}
-use Rattle.undoing.proofs.Orders.{isIn, listOf, momentOf, Does, does-one, directs, directsIn, bare, innerAt, Sits}
+use Rattle.undoing.proofs.Orders.{isIn, listOf, momentOf, Does, does-one, directs, directsIn, innerAt, Sits, Faulty, Remedy}
 use Rattle.undoing.proofs.Beginning.{quiet-cons}
 
--- a name whose mark stands before the place c, or that has none among the marks
-abbrev pub Before : Name → (c : ℕ) → Type 0
-Before root c = Unit {0}
-Before (inner k) c = k < c
-
--- What a plan says of one of its scopes. The marks from its first number on, `width` many, are its own, its body's and its fault part's.
+-- What a plan says of one of its scopes, which stands in the scope around it. The marks from its first number on, `width` many, are its own, its body's and its fault part's.
 pub record Seat (p : Plan) (s : Scope) : Type 0 where
   pub name : isName p (s .name) ≡ true
   pub inside : insideOf p (s .name) ≡ directs (s .body) (s .bodyAt) (s .name)
-  pub body : Sits p (s .name) (s .body) (s .bodyAt)
-  pub fault : Sits p root (s .fault) (s .faultAt)
-  pub bareFault : bare (s .fault) ≡ true
+  pub around : Name
+  pub body : Sits p (bodyOf (s .name) around) (s .body) (s .bodyAt)
+  pub faulty : Faulty p (s .name) (s .faultAt)
+  pub fault : Remedy p (faultOf (s .name) around) (s .fault) (s .faultAt)
   pub after : s .faultAt ≡ s .bodyAt + size (s .body)
   pub before : Before (s .name) (s .bodyAt)
 
@@ -170,8 +166,8 @@ mutual
       absurd (not-resting t (eqb-true (getD ms k 0) idle (not-false (eqb (getD ms k 0) idle) (sym (inner-is scope (trio b f u) k ms true refl) ∙ r))))
     where
       not-resting : {ms : List ℕ} {m kb kf : ℕ} {b f : Act} → Turned ms m b kb f kf → m ≡ idle → ⊥
-      not-resting (turned-waits e x _ y) d = let z : waits ≡ rest = sym e ∙ ap phase d in let w : _≡_ {A = ℕ} 0 1 = cc in omega arith
-      not-resting (turned-undoes e x y) d = let z : undoes ≡ rest = sym e ∙ ap phase d in let w : _≡_ {A = ℕ} 0 1 = cc in omega arith
+      not-resting (turned-waits {w = v} e x _ y) d = let z : waits v ≡ rest = sym e ∙ ap phase d in let w : _≡_ {A = ℕ} 0 1 = cc in omega arith
+      not-resting (turned-undoes {w = v} e x y) d = let z : undoes v ≡ rest = sym e ∙ ap phase d in let w : _≡_ {A = ℕ} 0 1 = cc in omega arith
       not-resting (turned-heals e x y) d = let z : heals ≡ rest = sym e ∙ ap phase d in let w : _≡_ {A = ℕ} 0 1 = cc in omega arith
 
   -- a list
@@ -229,11 +225,12 @@ module _ (p : Plan) where
       subst (λ (l : List Inner). every (λ x. eqb (getD (o .marks) (x .number) 0) idle) l ≡ true) (sym (h .inside)) (inner-rest (s .body) (s .bodyAt) (s .name) (o .marks) r)
 
   -- the undo part of x begins, and x is no longer remembered
-  pub does-undo : (s : Scope) (o : Order) (l : List ℕ) (x : Inner) → Seat p s → Known p x → x .around ≡ s .name → phase (markOf (s .name) o) ≡ undoes
+  pub does-undo : {c : Name} (v : Bool) (s : Scope) (o : Order) (l : List ℕ) (x : Inner) → Seat p s → Known p x → Spot p (undoOf (x .around) c) (x .undo)
+      → x .around ≡ s .name → phase (markOf (s .name) o) ≡ undoes v
       → innerRuns (s .body) (s .bodyAt) (o .marks) ≡ false → listOf p (s .name) o ≡ x .number ∷ l
       → Does p false o (began (x .undo) ∷ []) (remembering (withoutLast (x .number) (closings o)) o)
-  does-undo s o l x h kn a q r e =
+  does-undo v s o l x h kn u a q r e =
       let o′ = remembering (withoutLast (x .number) (closings o)) o in
-      does-one (λ past g. move-undo p (momentOf p o) (momentOf p o′) past g x kn (rw a q) (rw a (inside-rest s o h r)) (remembering-mark (x .around) (withoutLast (x .number) (closings o)) o)
+      does-one (λ past g. move-undo p (momentOf p o) (momentOf p o′) past g v x kn u (rw a q) (rw a (inside-rest s o h r)) (remembering-mark (x .around) (withoutLast (x .number) (closings o)) o)
       (subst (λ (n : Name). listOf p n o ≡ x .number ∷ listOf p n o′) (sym a) (e ∙ ap (λ (m : List ℕ). x .number ∷ m) (sym (removed-list (s .name) (x .number) l o e))))
       (λ n i t. (ap phase (remembering-mark n (withoutLast (x .number) (closings o)) o), removed-other n (x .number) o (not-in n x kn t))))

@@ -23,9 +23,11 @@ use Rattle.order.specs.Acting.{finishes, raises, orRaises, enters, again, repea
 use Rattle.undoing.specs.Ties.{isName, fits, Place, bodyOf, faultOf, undoOf, nameOf, aroundOf, placeIn, placeAmong, placeParts, placeOf}
 use Rattle.undoing.proofs.Parts.{decide, both as both-true}
 use Rattle.undoing.proofs.Marks.{trio}
-use Rattle.undoing.proofs.Orders.{bare, bareIn, Sits, sits-part, sits-scope, SitsIn, sits-none, sits-more, UndoPart, undo-part}
-use Rattle.undoing.proofs.Seats.{Before, Seat}
+use Rattle.undoing.proofs.Orders.{bare, bareIn, Sits, sits-part, sits-scope, SitsIn, sits-none, sits-more, Remedy, remedy, remedy-bare}
+use Rattle.undoing.proofs.Seats.{Seat}
+use Rattle.undoing.proofs.Moves.{Before}
 use Rattle.undoing.proofs.Breaking.{cleared-kept}
+use Rattle.undoing.proofs.Places.{first-of, second-of, parts, place-here, place-within, place-scope, place-first, place-later, parts-first, parts-later}
 use Rattle.undoing.proofs.Aside.{Aside, silent-append, begin-silent, after-silent, part-silent, runs-silent, begin-undo-silent, ends-silent, stop-silent}
 
 -- a raise or a fault
@@ -480,15 +482,6 @@ unfolding arms
 out-arms p t b q own within k o r e =
     decide (eqb (kind own) 10 && isPart within (k + 1) t) (λ d. rw d (out-marked p t b q k inside o r e)) (λ d. rw d (λ w. w))
 
--- the first of two, or the second
-pub first-of : {A : Type 0} (b : Bool) (x y z : A) → z ≡ elim b [ true ↦ x | false ↦ y ] → b ≡ true → z ≡ x
-first-of true x y z e d = e
-first-of false x y z e d = absurd (false≢true d)
-
-pub second-of : {A : Type 0} (b : Bool) (x y z : A) → z ≡ elim b [ true ↦ x | false ↦ y ] → b ≡ false → z ≡ y
-second-of true x y z e d = absurd (false≢true (sym d))
-second-of false x y z e d = e
-
 -- the definitions, by where the step is
 step-here : (own : Own) (within : Acts) (k t : ℕ) (o : Order) → eqb k t ≡ true → stepIn (act own within) k t o ≡ itself own within k o
 unfolding stepIn
@@ -508,41 +501,6 @@ among-first a l c t o e = first-of (ltb t (c + size a)) (stepIn a c t o) (stepAm
 among-later : (a : Act) (l : Acts) (c t : ℕ) (o : Order) → ltb t (c + size a) ≡ false → stepAmong (more a l) c t o ≡ stepAmong l (c + size a) t o
 unfolding stepIn
 among-later a l c t o e = second-of (ltb t (c + size a)) (stepIn a c t o) (stepAmong l (c + size a) t o) (stepAmong (more a l) c t o) refl e
-
--- where the parts of a scope stand
-abbrev pub parts : Acts → (k t : ℕ) → Place → Place
-parts within k t q = placeParts within (k + 1) t (bodyOf (inner k) (nameOf q)) (faultOf (inner k) (nameOf q)) (undoOf (nameOf q) (aroundOf q))
-
-pub place-here : (own : Own) (within : Acts) (k t : ℕ) (q : Place) → eqb k t ≡ true → placeIn (act own within) k t q ≡ q
-unfolding placeIn
-place-here own within k t q e =
-    first-of (eqb k t) q (elim (isScope own) [ true ↦ parts within k t q | false ↦ placeAmong within (k + 1) t q ]) (placeIn (act own within) k t q) refl e
-
-pub place-within : (own : Own) (within : Acts) (k t : ℕ) (q : Place) → eqb k t ≡ false → isScope own ≡ false → placeIn (act own within) k t q ≡ placeAmong within (k + 1) t q
-unfolding placeIn
-place-within own within k t q e s =
-    second-of (eqb k t) q (elim (isScope own) [ true ↦ parts within k t q | false ↦ placeAmong within (k + 1) t q ]) (placeIn (act own within) k t q) refl e
-    ∙ second-of (isScope own) (parts within k t q) (placeAmong within (k + 1) t q) (elim (isScope own) [ true ↦ parts within k t q | false ↦ placeAmong within (k + 1) t q ]) refl s
-
-pub place-scope : (within : Acts) (k t : ℕ) (q : Place) → eqb k t ≡ false → placeIn (act scope within) k t q ≡ parts within k t q
-unfolding placeIn kind
-place-scope within k t q e = second-of (eqb k t) q (parts within k t q) (placeIn (act scope within) k t q) refl e
-
-pub place-first : (a : Act) (l : Acts) (c t : ℕ) (q : Place) → ltb t (c + size a) ≡ true → placeAmong (more a l) c t q ≡ placeIn a c t q
-unfolding placeIn
-place-first a l c t q e = first-of (ltb t (c + size a)) (placeIn a c t q) (placeAmong l (c + size a) t q) (placeAmong (more a l) c t q) refl e
-
-pub place-later : (a : Act) (l : Acts) (c t : ℕ) (q : Place) → ltb t (c + size a) ≡ false → placeAmong (more a l) c t q ≡ placeAmong l (c + size a) t q
-unfolding placeIn
-place-later a l c t q e = second-of (ltb t (c + size a)) (placeIn a c t q) (placeAmong l (c + size a) t q) (placeAmong (more a l) c t q) refl e
-
-pub parts-first : (a : Act) (l : Acts) (c t : ℕ) (b f u : Place) → ltb t (c + size a) ≡ true → placeParts (more a l) c t b f u ≡ placeIn a c t b
-unfolding placeIn
-parts-first a l c t b f u e = first-of (ltb t (c + size a)) (placeIn a c t b) (placeParts l (c + size a) t f u u) (placeParts (more a l) c t b f u) refl e
-
-pub parts-later : (a : Act) (l : Acts) (c t : ℕ) (b f u : Place) → ltb t (c + size a) ≡ false → placeParts (more a l) c t b f u ≡ placeParts l (c + size a) t f u u
-unfolding placeIn
-parts-later a l c t b f u e = second-of (ltb t (c + size a)) (placeIn a c t b) (placeParts l (c + size a) t f u u) (placeParts (more a l) c t b f u) refl e
 
 -- an activity other than a scope
 part-out : (p : Plan) (t : ℕ) (q : Place) (own : Own) (within : Acts) (k : ℕ) (o : Order) → isScope own ≡ false → isName p (inner k) ≡ false
@@ -673,30 +631,25 @@ nothing-out : (p : Plan) (t : ℕ) (q : Place) (c : ℕ) (o : Order) → Out p t
 unfolding stepIn
 nothing-out p t q c o = out-mild p t _ q c o (runs o) (mild-runs o)
 
--- there is no scope in an undo part
-undo-bare : {p : Plan} {a : Act} {k : ℕ} → UndoPart p a k → bare a ≡ true
-unfolding bare
-undo-bare (undo-part s a g z l d) = rw (s, d)
-
 -- Every step in a tree.
 mutual
   unfolding bare
 
-  outs : {p : Plan} {n : Name} {a : Act} {k : ℕ} → Sits p n a k → (t : ℕ) (q : Place) (o : Order) → placeOf p t ≡ placeIn a k t q
+  outs : {p : Plan} {x : Place} {a : Act} {k : ℕ} → Sits p x a k → (t : ℕ) (q : Place) (o : Order) → placeOf p t ≡ placeIn a k t q
       → Out p t (bare a) q k o (stepIn a k t o)
-  outs {p} (sits-part {n} {own} {within} {k} s g y l) t q o e = part-out p t q own within k o s (y .noScope) e (λ o₁ d. outs-in l t q o₁ d)
-  outs {p} (sits-scope {n} {b} {f} {u} {k} kn i sb sf z su) t q o e =
-      scope-out p t q b f u k o (kn .name) z (undo-bare su) e
-      (λ d. outs sb t (bodyOf (inner k) (nameOf q)) o d) (λ d. outs sf t (faultOf (inner k) (nameOf q)) o d) (λ d. outs-undo su t (undoOf (nameOf q) (aroundOf q)) o d)
+  outs {p} (sits-part {own = own} {within = within} {k = k} s g v y l) t q o e = part-out p t q own within k o s (y .noScope) e (λ o₁ d. outs-in l t q o₁ d)
+  outs {p} (sits-scope {b = b} {f = f} {u = u} {k = k} kn v i sb z sf su) t q o e =
+      scope-out p t q b f u k o (kn .name) (remedy-bare sf) (remedy-bare su) e
+      (λ d. outs sb t (bodyOf (inner k) (nameOf q)) o d) (λ d. outs-remedy sf t (faultOf (inner k) (nameOf q)) o d) (λ d. outs-remedy su t (undoOf (nameOf q) (aroundOf q)) o d)
 
-  outs-in : {p : Plan} {n : Name} {l : Acts} {c : ℕ} → SitsIn p n l c → (t : ℕ) (q : Place) (o : Order) → placeOf p t ≡ placeAmong l c t q
+  outs-in : {p : Plan} {x : Place} {l : Acts} {c : ℕ} → SitsIn p x l c → (t : ℕ) (q : Place) (o : Order) → placeOf p t ≡ placeAmong l c t q
       → Out p t (bareIn l) q c o (stepAmong l c t o)
-  outs-in {p} (sits-none {n} {c}) t q o e = nothing-out p t q c o
-  outs-in {p} (sits-more {n} {a} {l} {c} s y) t q o e = among-out p t q a l c o e (λ d. outs s t q o d) (λ d. outs-in y t q o d)
+  outs-in {p} (sits-none {c = c}) t q o e = nothing-out p t q c o
+  outs-in {p} (sits-more {a = a} {l = l} {c = c} s y) t q o e = among-out p t q a l c o e (λ d. outs s t q o d) (λ d. outs-in y t q o d)
 
-  outs-undo : {p : Plan} {a : Act} {k : ℕ} → UndoPart p a k → (t : ℕ) (q : Place) (o : Order) → placeOf p t ≡ placeIn a k t q
+  outs-remedy : {p : Plan} {x : Place} {a : Act} {k : ℕ} → Remedy p x a k → (t : ℕ) (q : Place) (o : Order) → placeOf p t ≡ placeIn a k t q
       → Out p t (bare a) q k o (stepIn a k t o)
-  outs-undo {p} (undo-part {own} {within} {k} s a g z l d) t q o e = part-out p t q own within k o s z e (λ o₁ v. outs-in l t q o₁ v)
+  outs-remedy {p} (remedy {own = own} {within = within} {k = k} s a g v z l d) t q o e = part-out p t q own within k o s z e (λ o₁ v. outs-in l t q o₁ v)
 
 -- From the root.
 root-out : (p : Plan) → Seat p (rootOf p) → (t : ℕ) (o : Order) → ScopeOut p t (rootOf p) root o (stepRoot p t o)
@@ -705,8 +658,8 @@ root-out p h t o =
     decide (ltb t (size (p .body)))
     (λ e. rw (e, stepRoot) (body-out p t (rootOf p) root o w (bare (p .body)) (stepIn (p .body) 0 t o) (outs (h .body) t (bodyOf root root) o (rw (e, placeOf) refl))))
     (λ e. rw (e, stepRoot) (fault-out p t (rootOf p) root o w (stepIn (p .fault) (size (p .body)) t o) (omega arith)
-    (subst (λ (z : Bool). Out p t z (faultOf root root) (size (p .body)) o (stepIn (p .fault) (size (p .body)) t o)) (h .bareFault)
-    (outs (h .fault) t (faultOf root root) o (rw (e, placeOf) refl)))))
+    (subst (λ (z : Bool). Out p t z (faultOf root root) (size (p .body)) o (stepIn (p .fault) (size (p .body)) t o)) (remedy-bare (h .fault))
+    (outs-remedy (h .fault) t (faultOf root root) o (rw (e, placeOf) refl)))))
   where
     w : Scoped p (rootOf p)
     w = record { before = tt; name = refl }

@@ -21,9 +21,9 @@ use Rattle.machine.specs.Limits.{inLimits, by}
 use Rattle.order.specs.Event.{Event, started}
 use Rattle.order.specs.Acting.{stepOrder, begunOrder, startedOrder}
 use Rattle.machine.specs.Offer.{Offer, Offers, offersOf}
-use Rattle.machine.specs.Calls.{loadedAs, load, refusing, post, collect, Chosen, refusedChoice, chosen, nth, choosing, countStart, Stepped, doingAt, orderTaking, stepped, taken, stepChosen, stepBy, step}
-use Rattle.machine.specs.History.{Call, posting, collecting, stepping, logOf, history}
-use Rattle.machine.specs.Demand3.{noneNow}
+use Rattle.machine.specs.Calls.{loadedAs, load, refusing, post, collect, Chosen, refusedChoice, chosen, nth, choosing, countStart, Stepped, doingAt, orderTaking, stepped, taken, stepChosen, stepBy, step, Call, posting, collecting, stepping}
+use Rattle.undoing.specs.History.{logOf, history}
+use Rattle.undoing.specs.Demand3.{noneNow}
 use Rattle.undoing.specs.Ties.{isDeed, having, starting, deedBy, deedsTaken, StepsTold}
 use Rattle.undoing.proofs.Parts.{decide, only-append}
 use Rattle.undoing.proofs.Orders.{onto}

@@ -19,13 +19,13 @@ use Rattle.order.specs.declared.Way.the-variants.{Running as running, Over as o
 use Rattle.order.specs.Scope.{Outcome, runs, begunIn, Scope, scopeAt, isScope, forgetting, closing, innerRuns, innerRunsIn, fromBody, fromFault, fromUndo}
 use Rattle.order.specs.Acting.{itself, inScope, combines, arms, isPart, stepIn, stepAmong}
 use Rattle.machine.specs.Fit.{awaits}
-use Rattle.machine.specs.Demand3.{Inner, insideOf, isUndoRaise}
-use Rattle.undoing.specs.Ties.{isName}
+use Rattle.undoing.specs.Demand3.{Inner, insideOf, isUndoRaise}
+use Rattle.undoing.specs.Ties.{isName, Place, bodyOf, undoOf, nameOf, aroundOf}
 use Rattle.undoing.proofs.Parts.{both, decide, one-some, only-append, same-itself, same-swap}
-use Rattle.undoing.proofs.Accounts.{live, phase, Known}
-use Rattle.undoing.proofs.Moves.{move-close}
+use Rattle.undoing.proofs.Accounts.{Phase, live, heals, phase, Known}
+use Rattle.undoing.proofs.Moves.{Before, Spot, move-close}
 use Rattle.undoing.proofs.Marks.{run-loud, trio, spread, Agree, Quiet, Kept, holding, Run, run-awaits, run-one, run-all, run-body, run-done, run-turned, One, one-here, one-later, All, all-run, all-quiet, Turned, turned-waits, turned-undoes, turned-heals, turned-not-open, Stopped, stopped-part, stopped-quiet, stopped-scope, StoppedIn, stopped-more, Undoing, undoing-part, undoing-scope, UndoingIn, undoing-here, undoing-later, able-quiet, able-run, StoppableIn, able-more, quiet-part, quiet-agree, quiet-join, agree-below, agree-above, kept-wider, kept-set, run-agree, all-agree, stopped-agree, stopped-in-agree, quiet-stoppable, all-stoppable}
-use Rattle.undoing.proofs.Orders.{isIn, listOf, momentOf, Does, does-one, plain-marked, bare, bareIn, bare-names-in, innerAt, isArm, least, Sits, sits-part, sits-scope, SitsIn, sits-more, UndoPart, undo-part}
+use Rattle.undoing.proofs.Orders.{isIn, listOf, momentOf, Does, does-one, plain-marked, Fit, fit-marked, bare, bareIn, innerAt, isArm, least, Sits, sits-part, sits-scope, SitsIn, sits-more, Remedy, remedy, remedy-names, remedy-bare}
 use Rattle.undoing.proofs.Beginning.{Begins, quiet-set, quiet-cons}
 use Rattle.undoing.proofs.Seats.{Seat, not-in, number-inside, remembering-closings, inside-rest, quiet-inner, quiet-inner-in, inner-is}
 use Rattle.undoing.proofs.Turning.{Apart}
@@ -80,17 +80,17 @@ module _ (p : Plan) (distinct : Distinct p) where
   closed-mark (inner j) k l o t = getD-set-other (o .marks) k j idle 0 (eqb-false j k t)
 
   -- the close of a scope that is done is right
-  closes : {n : Name} (b f u : Act) (k : ℕ) (o : Order) → Known p (innerAt k n (trio b f u)) → Seat p (scopeAt k (trio b f u))
+  closes : {n c : Name} (b f u : Act) (k : ℕ) (o : Order) → Known p (innerAt k n (trio b f u)) → Spot p (bodyOf n c) k → Seat p (scopeAt k (trio b f u))
       → phase (markOf n o) ≡ live → getD (o .marks) k 0 ≡ done → Quiet (o .marks) (k + 1) (size b + (size f + size u)) → k < length (o .marks)
       → Acted k (spread b f u) o (RunAs p (act scope (trio b f u)) k k o) (closing k (scopeAt k (trio b f u)) o)
   unfolding closing size part partAt only
-  closes {n} b f u k o kn h v e q m =
+  closes {n} b f u k o kn g h v e q m =
       record {
         kept = kept-set k _ k idle (o .marks) (omega arith) (omega arith);
         rooted = refl;
         comes = (
           quiet-cons (getD-set-same (o .marks) k idle 0 m) (quiet-part (quiet-set idle q (omega arith)) (omega arith) (omega arith)),
-          does-one (λ past x. move-close p (momentOf p o) (momentOf p o₁) past x (innerAt k n (trio b f u)) kn (ap phase e)
+          does-one (λ past x. move-close p (momentOf p o) (momentOf p o₁) past x (innerAt k n (trio b f u)) kn g (ap phase e)
               (inside-rest p s o h (quiet-inner b (k + 1) (quiet-part q (omega arith) (omega arith)))) v
               (ap phase (getD-set-same (o .marks) k idle 0 m))
               (closed-list s (inner k) k o (not-in p (inner k) (innerAt k n (trio b f u)) kn (kn .apart)) ∙ forgotten-list p distinct s o h)
@@ -231,41 +231,41 @@ module _ (p : Plan) (distinct : Distinct p) where
       }
 
   -- where all is quiet, what has its step is an open arm
-  arm-steps : {n : Name} {a : Act} {k : ℕ} {ms : List ℕ} {b : Bool} → Sits p n a k → (t : ℕ) (o : Order) → Waits ms a k t b → Quiet ms k (size a)
+  arm-steps : {x : Place} {a : Act} {k : ℕ} {ms : List ℕ} {b : Bool} → Sits p x a k → (t : ℕ) (o : Order) → Waits ms a k t b → Quiet ms k (size a)
       → Quiet (o .marks) k (size a)
-      → k + size a ≤ length (o .marks) → (Acted k (size a) o (RunAs p a k t o) (stepIn a k t o)) × (k ≡ t) × (b ≡ true)
+      → k + size a ≤ length (o .marks) → Fit x o → (Acted k (size a) o (RunAs p a k t o) (stepIn a k t o)) × (k ≡ t) × (b ≡ true)
   unfolding size kind
-  arm-steps {ms = ms} (sits-part {n} {own} {within} {k} s g y l) t o (waits-itself {b = b} e d) q q₁ m =
+  arm-steps {ms = ms} (sits-part {q = x} {own} {within} {k} s g v y l) t o (waits-itself {b = b} e d) q q₁ m f =
       let i = idle-awaits own b (rw (q .at k (omega arith) (omega arith)) at d) in
       let j = arm-itself own within k o (i .0) in (
         subst (λ (r : Outcome). Acted k (1 + sizes within) o (RunAs p (act own within) k t o) r)
             (sym (step-is own within k t o true (eq-eqb k t e) ∙ j .0))
             (arm-begun own within k t o _ _ _ s (j .1) (q₁ .at k (omega arith) (omega arith))
-            (begins-at p l 0 (omega (arith, j .2)) o (quiet-part q₁ (omega arith) (omega arith)) (omega arith))),
+            (begins-at p l 0 (omega (arith, j .2)) o (quiet-part q₁ (omega arith) (omega arith)) (omega arith) f)),
         e,
         i .1,
       )
-  arm-steps {ms = ms} (sits-part {n} {own} {within} {k} s g y l) t o (waits-within h w) q q₁ m =
+  arm-steps {ms = ms} (sits-part {q = x} {own} {within} {k} s g v y l) t o (waits-within h w) q q₁ m f =
       absurd (quiet-waits-in w (opens-idle own (getD ms k 0) (q .at k (omega arith) (omega arith))) (quiet-part q (omega arith) (omega arith)))
-  arm-steps {ms = ms} (sits-scope {k = k} kn i sb sf z su) t o (waits-itself {b = b} e d) q q₁ m =
+  arm-steps {ms = ms} (sits-scope {k = k} kn v i sb z sf su) t o (waits-itself {b = b} e d) q q₁ m f =
       absurd (false≢true (idle-awaits scope b (rw (q .at k (omega arith) (omega arith)) at d) .0))
-  arm-steps {ms = ms} (sits-scope {k = k} kn i sb sf z su) t o (waits-within h w) q q₁ m =
+  arm-steps {ms = ms} (sits-scope {k = k} kn v i sb z sf su) t o (waits-within h w) q q₁ m f =
       absurd (quiet-waits-in w (opens-idle scope (getD ms k 0) (q .at k (omega arith) (omega arith))) (quiet-part q (omega arith) (omega arith)))
 
   -- in a list
-  arms-steps : {n : Name} {l : Acts} {c : ℕ} {ms : List ℕ} {b : Bool} → SitsIn p n l c → (t : ℕ) (o : Order) → WaitsIn ms l c t b
+  arms-steps : {x : Place} {l : Acts} {c : ℕ} {ms : List ℕ} {b : Bool} → SitsIn p x l c → (t : ℕ) (o : Order) → WaitsIn ms l c t b
       → Quiet ms c (sizes l) → Quiet (o .marks) c (sizes l)
-      → c + sizes l ≤ length (o .marks) → (Acted c (sizes l) o (OneAs p l c t o) (stepAmong l c t o)) × (isPart l c t ≡ true) × (b ≡ true)
+      → c + sizes l ≤ length (o .marks) → Fit x o → (Acted c (sizes l) o (OneAs p l c t o) (stepAmong l c t o)) × (isPart l c t ≡ true) × (b ≡ true)
   unfolding size isPart
-  arms-steps (sits-more {n} {a} {l} {c} s y) t o (waits-first h w) q q₁ m =
-      let r = arm-steps s t o w (quiet-part q (omega arith) (omega arith)) (quiet-part q₁ (omega arith) (omega arith)) (omega arith) in (
+  arms-steps (sits-more {q = x} {a} {l} {c} s y) t o (waits-first h w) q q₁ m f =
+      let r = arm-steps s t o w (quiet-part q (omega arith) (omega arith)) (quiet-part q₁ (omega arith) (omega arith)) (omega arith) f in (
         subst (λ (z : Outcome). Acted c (size a + sizes l) o (OneAs p (more a l) c t o) z) (sym (among-is a l c t o true (lt-ltb t (c + size a) h)))
             (first-one a l c t o (stepIn a c t o) (r .0) (quiet-part q₁ (omega arith) (omega arith))),
         rw (eq-eqb c t (r .1)),
         r .2,
       )
-  arms-steps (sits-more {n} {a} {l} {c} s y) t o (waits-later h w) q q₁ m =
-      let r = arms-steps y t o w (quiet-part q (omega arith) (omega arith)) (quiet-part q₁ (omega arith) (omega arith)) (omega arith) in (
+  arms-steps (sits-more {q = x} {a} {l} {c} s y) t o (waits-later h w) q q₁ m f =
+      let r = arms-steps y t o w (quiet-part q (omega arith) (omega arith)) (quiet-part q₁ (omega arith) (omega arith)) (omega arith) f in (
         subst (λ (z : Outcome). Acted c (size a + sizes l) o (OneAs p (more a l) c t o) z) (sym (among-is a l c t o false (le-ltb t (c + size a) h)))
             (later-one a l c t o (stepAmong l (c + size a) t o) (r .0) (quiet-part q₁ (omega arith) (omega arith))),
         rw (r .1, or-true),
@@ -295,8 +295,8 @@ module _ (p : Plan) (distinct : Distinct p) where
   not-arm own b m f h = decide (isArm own) (λ t. absurd (false≢true (sym f ∙ (rw t at h)))) (λ t. t)
 
   -- A step in an activity other than a scope that runs, by steps in what stands within it.
-  module _ {n : Name} (own : Own) (within : Acts) (k t : ℕ) (o : Order) (s : isScope own ≡ false) (g : least own ≤ count within) (z : isName p (inner k) ≡ false)
-      (l : SitsIn p n within (k + 1)) (m : k + (1 + sizes within) ≤ length (o .marks)) where
+  module _ {x : Place} (own : Own) (within : Acts) (k t : ℕ) (o : Order) (s : isScope own ≡ false) (g : least own ≤ count within) (z : isName p (inner k) ≡ false)
+      (u : Spot p x k) (i : Fit x o) (l : SitsIn p x within (k + 1)) (m : k + (1 + sizes within) ≤ length (o .marks)) where
     Here : Outcome → Type 0
     Here r = Acted k (1 + sizes within) o (RunAs p (act own within) k t o) r
 
@@ -322,10 +322,10 @@ module _ (p : Plan) (distinct : Distinct p) where
     unfolding Here
     part-pick h e q w f =
         let o₁ = marked k inside o in
-        let r = arms-steps l t o₁ w q (quiet-set inside q (omega arith)) (omega (arith, length-set (o .marks) k inside)) in
+        let r = arms-steps l t o₁ w q (quiet-set inside q (omega arith)) (omega (arith, length-set (o .marks) k inside)) (fit-marked x k inside o (u .before) i) in
         part-within h o₁ (taken-arm (f (r .2)) (r .1))
         (run-before (kept-set k (1 + sizes within) k inside (o .marks) (omega arith) (omega arith)) refl (plain-marked p k inside o z)
-        (combines-one p own within k t o₁ (stepAmong within (k + 1) t o₁) s z l
+        (combines-one p own within k t o₁ (stepAmong within (k + 1) t o₁) s z (u .before) (fit-marked x k inside o (u .before) i) l
         (getD-set-same (o .marks) k inside 0 (omega arith) ∙ sym (arms-holding own (f (r .2)))) (omega (arith, length-set (o .marks) k inside)) (r .0)))
       where
         taken-arm : eqb (kind own) 10 ≡ true → isPart within (k + 1) t ≡ true → arms own within k t o ≡ marked k inside o
@@ -335,7 +335,7 @@ module _ (p : Plan) (distinct : Distinct p) where
     part-one : k < t → getD (o .marks) k 0 ≡ holding own
         → Acted (k + 1) (sizes within) o (OneAs p within (k + 1) t o) (stepAmong within (k + 1) t o) → Here (stepIn (act own within) k t o)
     unfolding Here
-    part-one h e w = part-within h o (arms-held own within k t o e) (combines-one p own within k t o (stepAmong within (k + 1) t o) s z l e m w)
+    part-one h e w = part-within h o (arms-held own within k t o e) (combines-one p own within k t o (stepAmong within (k + 1) t o) s z (u .before) i l e m w)
 
   -- what has one running in it has no open arms
   opens-held : (own : Own) (m : ℕ) → m ≡ holding own → opens own m ≡ false
@@ -343,33 +343,33 @@ module _ (p : Plan) (distinct : Distinct p) where
       decide (eqb (kind own) 10) (λ t. rw (t, e, arms-holding own t)) (λ t. rw t)
 
   -- however it runs
-  part-steps : {n : Name} (own : Own) (within : Acts) (k t : ℕ) (o : Order) (b : Bool) → isScope own ≡ false → least own ≤ count within → isName p (inner k) ≡ false
-      → SitsIn p n within (k + 1) → k + (1 + sizes within) ≤ length (o .marks) → Waits (o .marks) (act own within) k t b → b ≡ false
+  part-steps : {x : Place} (own : Own) (within : Acts) (k t : ℕ) (o : Order) (b : Bool) → isScope own ≡ false → least own ≤ count within → isName p (inner k) ≡ false
+      → Spot p x k → Fit x o → SitsIn p x within (k + 1) → k + (1 + sizes within) ≤ length (o .marks) → Waits (o .marks) (act own within) k t b → b ≡ false
       → Run (o .marks) (act own within) k
       → ((c : Bool) → WaitsIn (o .marks) within (k + 1) t c → c ≡ false → One (o .marks) within (k + 1) → Acted (k + 1) (sizes within) o (OneAs p within (k + 1) t o) (stepAmong within (k + 1) t o))
       → ((c : Bool) → WaitsIn (o .marks) within (k + 1) t c → c ≡ false → All (o .marks) within (k + 1) → Acted (k + 1) (sizes within) o (AllAs p within (k + 1) t o) (stepAmong within (k + 1) t o))
       → Acted k (1 + sizes within) o (RunAs p (act own within) k t o) (stepIn (act own within) k t o)
   unfolding kind Here itself awaits
-  part-steps own within k t o b s g z l m (waits-itself e d) f (run-awaits s₁ y x q) i j =
-      part-itself own within k t o s g z l m e (acts-itself p own within k o s (not-arm own b (getD (o .marks) k 0) f d) y g z l x q m)
-  part-steps own within k t o b s g z l m (waits-itself e d) f (run-one s₁ x r) i j =
-      part-itself own within k t o s g z l m e
+  part-steps own within k t o b s g z u v l m (waits-itself e d) f (run-awaits s₁ y x q) i j =
+      part-itself own within k t o s g z u v l m e (acts-itself p own within k o s (not-arm own b (getD (o .marks) k 0) f d) y g z u v l x q m)
+  part-steps own within k t o b s g z u v l m (waits-itself e d) f (run-one s₁ x r) i j =
+      part-itself own within k t o s g z u v l m e
       (subst (λ (y : Outcome). Acted k (1 + sizes within) o (RunAs p (act own within) k k o) y) (sym (held-itself own within k o s (rw (x, f) at d))) (acts-runs p (act own within) k _ k o (run-one s₁ x r)))
-  part-steps flow within k t o b s g z l m (waits-itself e d) f (run-all x r v) i j =
-      part-itself flow within k t o s g z l m e (acts-runs p (act flow within) k _ k o (run-all x r v))
-  part-steps own within k t o b s g z l m (waits-itself e d) f (run-body x r q) i j = absurd (false≢true (sym s))
-  part-steps own within k t o b s g z l m (waits-itself e d) f (run-done x q) i j = absurd (false≢true (sym s))
-  part-steps own within k t o b s g z l m (waits-itself e d) f (run-turned x q) i j = absurd (false≢true (sym s))
-  part-steps own within k t o b s g z l m (waits-within h w) f (run-awaits s₁ _ x q) i j =
-      part-pick own within k t o s g z l m h x q w (λ y. both (eqb (kind own) 10) (eqb (getD (o .marks) k 0) active) y (λ u v. u))
-  part-steps own within k t o b s g z l m (waits-within h w) f (run-one s₁ x r) i j =
-      part-one own within k t o s g z l m h x (i (opens own (getD (o .marks) k 0)) w (opens-held own (getD (o .marks) k 0) x) r)
-  part-steps flow within k t o b s g z l m (waits-within h w) f (run-all x r v) i j =
-      part-within flow within k t o s g z l m h o (arms-held flow within k t o x)
+  part-steps flow within k t o b s g z u v l m (waits-itself e d) f (run-all x r a) i j =
+      part-itself flow within k t o s g z u v l m e (acts-runs p (act flow within) k _ k o (run-all x r a))
+  part-steps own within k t o b s g z u v l m (waits-itself e d) f (run-body x r q) i j = absurd (false≢true (sym s))
+  part-steps own within k t o b s g z u v l m (waits-itself e d) f (run-done x q) i j = absurd (false≢true (sym s))
+  part-steps own within k t o b s g z u v l m (waits-itself e d) f (run-turned x q) i j = absurd (false≢true (sym s))
+  part-steps own within k t o b s g z u v l m (waits-within h w) f (run-awaits s₁ _ x q) i j =
+      part-pick own within k t o s g z u v l m h x q w (λ y. both (eqb (kind own) 10) (eqb (getD (o .marks) k 0) active) y (λ a c. a))
+  part-steps own within k t o b s g z u v l m (waits-within h w) f (run-one s₁ x r) i j =
+      part-one own within k t o s g z u v l m h x (i (opens own (getD (o .marks) k 0)) w (opens-held own (getD (o .marks) k 0) x) r)
+  part-steps flow within k t o b s g z u v l m (waits-within h w) f (run-all x r a) i j =
+      part-within flow within k t o s g z u v l m h o (arms-held flow within k t o x)
       (combines-all p within k t o (stepAmong within (k + 1) t o) z x m (j (opens flow (getD (o .marks) k 0)) w refl r))
-  part-steps own within k t o b s g z l m (waits-within h w) f (run-body x r q) i j = absurd (false≢true (sym s))
-  part-steps own within k t o b s g z l m (waits-within h w) f (run-done x q) i j = absurd (false≢true (sym s))
-  part-steps own within k t o b s g z l m (waits-within h w) f (run-turned x q) i j = absurd (false≢true (sym s))
+  part-steps own within k t o b s g z u v l m (waits-within h w) f (run-body x r q) i j = absurd (false≢true (sym s))
+  part-steps own within k t o b s g z u v l m (waits-within h w) f (run-done x q) i j = absurd (false≢true (sym s))
+  part-steps own within k t o b s g z u v l m (waits-within h w) f (run-turned x q) i j = absurd (false≢true (sym s))
 
   -- Scopes.
 
@@ -488,24 +488,24 @@ module _ (p : Plan) (distinct : Distinct p) where
     turned-steps : {c : Bool} → k < t → WaitsIn (o .marks) (trio b f u) (k + 1) t c → c ≡ false
         → Turned (o .marks) (getD (o .marks) k 0) b (k + 1) f (k + 1 + size b) → Quiet (o .marks) (k + 1 + size b + size f) (size u)
         → ((x : Bool) → Waits (o .marks) b (k + 1) t x → x ≡ false → Stopped (o .marks) b (k + 1) → Acted (k + 1) (size b) o (StopAs p b (k + 1) o) (stepIn b (k + 1) t o))
-        → ((x : Bool) → Waits (o .marks) b (k + 1) t x → x ≡ false → Undoing (o .marks) b (k + 1) → Acted (k + 1) (size b) o (UndoAs p (inner k) b (k + 1) t o) (stepIn b (k + 1) t o))
-        → ((x : Bool) → Waits (o .marks) f (k + 1 + size b) t x → x ≡ false → Run (o .marks) f (k + 1 + size b) → Acted (k + 1 + size b) (size f) o (RunAs p f (k + 1 + size b) t o) (stepIn f (k + 1 + size b) t o))
+        → ((x : Bool) → Waits (o .marks) b (k + 1) t x → x ≡ false → Undoing (o .marks) b (k + 1) → (v : Bool) → phase (getD (o .marks) k 0) ≡ Phase.undoes v → Acted (k + 1) (size b) o (UndoAs p (inner k) b (k + 1) t o) (stepIn b (k + 1) t o))
+        → ((x : Bool) → Waits (o .marks) f (k + 1 + size b) t x → x ≡ false → Run (o .marks) f (k + 1 + size b) → phase (getD (o .marks) k 0) ≡ heals → Acted (k + 1 + size b) (size f) o (RunAs p f (k + 1 + size b) t o) (stepIn f (k + 1 + size b) t o))
         → Steps p (scopeAt k (trio b f u)) (Turning (scopeAt k (trio b f u))) o (stepIn (act scope (trio b f u)) k t o)
     unfolding Its Whole part partAt size
-    turned-steps lt (waits-first e w) d (turned-waits q st _ y) z i j l =
+    turned-steps lt (waits-first e w) d (turned-waits {w = v} q st _ y) z i j l =
         subst (λ (r : Outcome). Steps p (scopeAt k (trio b f u)) (Turning (scopeAt k (trio b f u))) o r) (sym (body-step b f u k t o lt e))
-        (from-stopped p distinct (scopeAt k (trio b f u)) o (stepIn b (k + 1) t o) h (λ x. refl) q y (omega arith) (i _ w d st))
-    turned-steps lt (waits-first e w) d (turned-undoes q st y) z i j l =
+        (from-stopped p distinct v (scopeAt k (trio b f u)) o (stepIn b (k + 1) t o) h (λ x. refl) q y (omega arith) (i _ w d st))
+    turned-steps lt (waits-first e w) d (turned-undoes {w = a} q st y) z i j l =
         subst (λ (r : Outcome). Steps p (scopeAt k (trio b f u)) (Turning (scopeAt k (trio b f u))) o r) (sym (body-step b f u k t o lt e))
-        (from-undoing p distinct (scopeAt k (trio b f u)) t o (stepIn b (k + 1) t o) h (its-reach b f u k) (λ x. refl) q y (omega arith)
-        (λ v x r. z .at v (omega arith) (omega arith)) (j _ w d st))
+        (from-undoing p distinct a (scopeAt k (trio b f u)) t o (stepIn b (k + 1) t o) h (its-reach b f u k) (λ x. refl) q y (omega arith)
+        (λ v x r. z .at v (omega arith) (omega arith)) (j _ w d st a q))
     turned-steps lt (waits-first e w) d (turned-heals q y r) z i j l = absurd (quiet-waits w d y)
     turned-steps lt (waits-later e (waits-first g w)) d (turned-waits q st _ y) z i j l = absurd (quiet-waits w d y)
     turned-steps lt (waits-later e (waits-first g w)) d (turned-undoes q st y) z i j l = absurd (quiet-waits w d y)
     turned-steps lt (waits-later e (waits-first g w)) d (turned-heals q y r) z i j l =
         subst (λ (r : Outcome). Steps p (scopeAt k (trio b f u)) (Turning (scopeAt k (trio b f u))) o r) (sym (fault-step b f u k t o e g))
         (from-heals p distinct (scopeAt k (trio b f u)) t o (stepIn f (k + 1 + size b) t o) h (its-reach b f u k) q y (omega arith)
-        (λ v x s. z .at v (omega arith) (omega arith)) (l _ w d r))
+        (λ v x s. z .at v (omega arith) (omega arith)) (l _ w d r q))
     turned-steps lt (waits-later e (waits-later g (waits-first v w))) d x z i j l = absurd (quiet-waits w d z)
 
   -- Lists in a stopped body, and in one of which an undo part runs.
@@ -674,16 +674,6 @@ module _ (p : Plan) (distinct : Distinct p) where
 
   -- An undo part that runs.
 
-  -- the numbers of an undo part are no scope's
-  part-names : {a : Act} {k : ℕ} → UndoPart p a k → (j : ℕ) → k ≤ j → j < k + size a → isName p (inner j) ≡ false
-  unfolding size
-  part-names (undo-part {own} {within} {k} s a g z l b) j x y =
-      decide (eqb j k) (λ t. subst (λ (i : ℕ). isName p (inner i) ≡ false) (sym (eqb-true j k t)) z) (λ t. bare-names-in l b j (omega (arith, eqb-false j k t)) (omega arith))
-
-  part-bare : {a : Act} {k : ℕ} → UndoPart p a k → bare a ≡ true
-  unfolding bare
-  part-bare (undo-part s a g z l b) = rw (s, b)
-
   -- a raise in it is one of the undo part of a scope directly inside n
   raise-inside : (n : Name) (x : Inner) (t : ℕ) → Known p x → x .around ≡ n → x .undo ≤ t → t < x .undo + x .count → isUndoRaise (insideOf p n) (raised t) ≡ true
   unfolding isUndoRaise only
@@ -691,7 +681,7 @@ module _ (p : Plan) (distinct : Distinct p) where
       one-some (λ (y : Inner). leb (y .undo) t && ltb t (y .undo + y .count)) (λ (y : Inner). eqb (y .number) (x .number)) x (insideOf p n)
       (number-inside p n x kn ∙ rw (a, same-itself n)) (rw (le-leb (x .undo) t h, lt-ltb t (x .undo + x .count) e))
 
-  undo-acts : {n : Name} (b f u : Act) (k t : ℕ) (o : Order) (r : Outcome) → Known p (innerAt k n (trio b f u)) → UndoPart p u (k + 1 + size b + size f)
+  undo-acts : {n c : Name} (b f u : Act) (k t : ℕ) (o : Order) (r : Outcome) → Known p (innerAt k n (trio b f u)) → Remedy p (undoOf n c) u (k + 1 + size b + size f)
       → getD (o .marks) k 0 ≡ idle → Quiet (o .marks) (k + 1) (size b + size f) → k + 1 + size b + size f ≤ t → t < k + 1 + size b + size f + size u
       → Acted (k + 1 + size b + size f) (size u) o (RunAs p u (k + 1 + size b + size f) t o) r
       → Acted k (spread b f u) o (UndoAs p n (act scope (trio b f u)) k t o) (fromUndo r)
@@ -713,12 +703,12 @@ module _ (p : Plan) (distinct : Distinct p) where
           let q₂ : Quiet (r .order .marks) (k + 1) (size b + size f + size u) = quiet-join q₁ (d .0) (omega arith) in
           (quiet-cons e₁ (quiet-part q₂ (omega arith) (omega arith)), d .1)
       go raising d = (
-        d .2 (part-bare su),
+        d .2 (remedy-bare su),
         raise-inside n (innerAt k n (trio b f u)) t kn refl h i,
         rw e₁,
         (λ j v x y. decide (eqb j k) (λ z. rw (eqb-true j k z) e₁) (λ z. decide (ltb j (k + 1 + size b + size f))
             (λ c. q₁ .at j (omega (arith, eqb-false j k z)) (omega (arith, ltb-true j (k + 1 + size b + size f) c)))
-            (λ c. absurd (false≢true (sym (part-names su j (ltb-false j (k + 1 + size b + size f) c) (omega arith)) ∙ v))))),
+            (λ c. absurd (false≢true (sym (remedy-names su j (ltb-false j (k + 1 + size b + size f) c) (omega arith)) ∙ v))))),
         d .1,
       )
       go leaving d = d
@@ -789,27 +779,27 @@ module _ (p : Plan) (distinct : Distinct p) where
   -- A step in a scope, as it stands.
   module _ (b f u : Act) (k t : ℕ) (o : Order) (h : Seat p (scopeAt k (trio b f u))) (m : k + (spread b f u) ≤ length (o .marks))
       (i : (x : Bool) → Waits (o .marks) b (k + 1) t x → x ≡ false → Stopped (o .marks) b (k + 1) → Acted (k + 1) (size b) o (StopAs p b (k + 1) o) (stepIn b (k + 1) t o))
-      (j : (x : Bool) → Waits (o .marks) b (k + 1) t x → x ≡ false → Undoing (o .marks) b (k + 1) → Acted (k + 1) (size b) o (UndoAs p (inner k) b (k + 1) t o) (stepIn b (k + 1) t o))
-      (l : (x : Bool) → Waits (o .marks) f (k + 1 + size b) t x → x ≡ false → Run (o .marks) f (k + 1 + size b)
+      (j : (x : Bool) → Waits (o .marks) b (k + 1) t x → x ≡ false → Undoing (o .marks) b (k + 1) → (v : Bool) → phase (getD (o .marks) k 0) ≡ Phase.undoes v → Acted (k + 1) (size b) o (UndoAs p (inner k) b (k + 1) t o) (stepIn b (k + 1) t o))
+      (l : (x : Bool) → Waits (o .marks) f (k + 1 + size b) t x → x ≡ false → Run (o .marks) f (k + 1 + size b) → phase (getD (o .marks) k 0) ≡ heals
       → Acted (k + 1 + size b) (size f) o (RunAs p f (k + 1 + size b) t o) (stepIn f (k + 1 + size b) t o)) where
-    scope-runs : {n : Name} {c : Bool} → Known p (innerAt k n (trio b f u)) → phase (markOf n o) ≡ live
+    scope-runs : {n a : Name} {c : Bool} → Known p (innerAt k n (trio b f u)) → Spot p (bodyOf n a) k → phase (markOf n o) ≡ live
         → Waits (o .marks) (act scope (trio b f u)) k t c → c ≡ false → Run (o .marks) (act scope (trio b f u)) k
         → ((x : Bool) → Waits (o .marks) b (k + 1) t x → x ≡ false → Run (o .marks) b (k + 1) → getD (o .marks) k 0 ≡ active → Acted (k + 1) (size b) o (RunAs p b (k + 1) t o) (stepIn b (k + 1) t o))
         → Acted k (spread b f u) o (RunAs p (act scope (trio b f u)) k t o) (stepIn (act scope (trio b f u)) k t o)
     unfolding awaits kind itself size Its Whole
-    scope-runs kn v (waits-itself e d) c (run-awaits s _ x q) g = absurd (false≢true (sym s))
-    scope-runs kn v (waits-itself e d) c (run-one s x r) g = absurd (false≢true (sym s))
-    scope-runs kn v (waits-itself e d) c (run-body x r q) g = absurd (false≢true (rw x at d))
-    scope-runs kn v (waits-itself e d) c (run-done x q) g =
+    scope-runs kn y v (waits-itself e d) c (run-awaits s _ x q) g = absurd (false≢true (sym s))
+    scope-runs kn y v (waits-itself e d) c (run-one s x r) g = absurd (false≢true (sym s))
+    scope-runs kn y v (waits-itself e d) c (run-body x r q) g = absurd (false≢true (rw x at d))
+    scope-runs kn y v (waits-itself e d) c (run-done x q) g =
         subst (λ (r : Outcome). Acted k (spread b f u) o (RunAs p (act scope (trio b f u)) k t o) r) (sym (step-is scope (trio b f u) k t o true (eq-eqb k t e)))
-        (subst (λ (z : ℕ). Acted k (spread b f u) o (RunAs p (act scope (trio b f u)) k z o) (closing k (scopeAt k (trio b f u)) o)) e (closes b f u k o kn h v x q (omega arith)))
-    scope-runs kn v (waits-itself e d) c (run-turned x q) g = absurd (false≢true (sym (turned-not-open x) ∙ rw (d, or-true)))
-    scope-runs kn v (waits-within e w) c (run-awaits s _ x q) g = absurd (false≢true (sym s))
-    scope-runs kn v (waits-within e w) c (run-one s x r) g = absurd (false≢true (sym s))
-    scope-runs kn v (waits-within e w) c (run-body x r q) g = live-steps b f u k t o h m e w refl x q (λ y z d. g y z d r x)
-    scope-runs kn v (waits-within e w) c (run-done x q) g = absurd (quiet-waits-in w refl (quiet-part q (omega arith) (omega arith)))
-    scope-runs kn v (waits-within e w) c (run-turned x q) g =
-        steps-run b f u k t o q (Turning (scopeAt k (trio b f u))) (λ ms y. scope-turned) (stepIn (act scope (trio b f u)) k t o) (turned-steps b f u k t o h m e w refl x q i j l)
+        (subst (λ (z : ℕ). Acted k (spread b f u) o (RunAs p (act scope (trio b f u)) k z o) (closing k (scopeAt k (trio b f u)) o)) e (closes b f u k o kn y h v x q (omega arith)))
+    scope-runs kn y v (waits-itself e d) c (run-turned x q) g = absurd (false≢true (sym (turned-not-open x) ∙ rw (d, or-true)))
+    scope-runs kn y v (waits-within e w) c (run-awaits s _ x q) g = absurd (false≢true (sym s))
+    scope-runs kn y v (waits-within e w) c (run-one s x r) g = absurd (false≢true (sym s))
+    scope-runs kn y v (waits-within e w) c (run-body x r q) g = live-steps b f u k t o h m e w refl x q (λ a z d. g a z d r x)
+    scope-runs kn y v (waits-within e w) c (run-done x q) g = absurd (quiet-waits-in w refl (quiet-part q (omega arith) (omega arith)))
+    scope-runs kn y v (waits-within e w) c (run-turned x q) g =
+        steps-run b f u k t o q (Turning (scopeAt k (trio b f u))) (λ ms a. scope-turned) (stepIn (act scope (trio b f u)) k t o) (turned-steps b f u k t o h m e w refl x q i j l)
 
     scope-stops : {c : Bool} → Waits (o .marks) (act scope (trio b f u)) k t c → c ≡ false → Stopped (o .marks) (act scope (trio b f u)) k
         → Acted k (spread b f u) o (StopAs p (act scope (trio b f u)) k o) (stepIn (act scope (trio b f u)) k t o)
@@ -822,7 +812,7 @@ module _ (p : Plan) (distinct : Distinct p) where
         no-less y z = omega arith
     scope-stops (waits-within e w) c (stopped-scope x q) = steps-stop b f u k t o q (stepIn (act scope (trio b f u)) k t o) (turned-steps b f u k t o h m e w refl x q i j l)
 
-  scope-undoes : {n : Name} {c : Bool} (b f u : Act) (k t : ℕ) (o : Order) → Known p (innerAt k n (trio b f u)) → UndoPart p u (k + 1 + size b + size f)
+  scope-undoes : {n a : Name} {c : Bool} (b f u : Act) (k t : ℕ) (o : Order) → Known p (innerAt k n (trio b f u)) → Remedy p (undoOf n a) u (k + 1 + size b + size f)
       → Waits (o .marks) (act scope (trio b f u)) k t c → c ≡ false → Undoing (o .marks) (act scope (trio b f u)) k
       → ((x : Bool) → Waits (o .marks) u (k + 1 + size b + size f) t x → x ≡ false → Run (o .marks) u (k + 1 + size b + size f)
       → Acted (k + 1 + size b + size f) (size u) o (RunAs p u (k + 1 + size b + size f) t o) (stepIn u (k + 1 + size b + size f) t o))
@@ -843,89 +833,89 @@ module _ (p : Plan) (distinct : Distinct p) where
   mutual
     unfolding size kind bare Here
 
-    pub steps : {n : Name} {a : Act} {k : ℕ} → Sits p n a k → (t : ℕ) (o : Order) (b : Bool) → Waits (o .marks) a k t b → b ≡ false → Run (o .marks) a k
-        → (bare a ≡ false → phase (markOf n o) ≡ live) → k + size a ≤ length (o .marks) → Acted k (size a) o (RunAs p a k t o) (stepIn a k t o)
-    steps (sits-part {n} {own} {within} {k} s g y l) t o b w e r v m =
-        part-steps own within k t o b s g (y .noScope) l m w e r
-        (λ c w₁ e₁ r₁. steps-one l t o c w₁ e₁ r₁ (λ x. v (rw (s, x))) (omega arith))
-        (λ c w₁ e₁ r₁. steps-all l t o c w₁ e₁ r₁ (λ x. v (rw (s, x))) (omega arith))
-    steps (sits-scope {n} {b} {f} {u} {k} kn i sb sf z su) t o c w e r v m =
-        scope-runs b f u k t o (seat-of u kn i sb sf z) m
+    pub steps : {x : Place} {a : Act} {k : ℕ} → Sits p x a k → (t : ℕ) (o : Order) (b : Bool) → Waits (o .marks) a k t b → b ≡ false → Run (o .marks) a k
+        → Fit x o → k + size a ≤ length (o .marks) → Acted k (size a) o (RunAs p a k t o) (stepIn a k t o)
+    steps (sits-part {q = x} {own} {within} {k} s g u y l) t o b w e r v m =
+        part-steps own within k t o b s g (y .noScope) u v l m w e r
+        (λ c w₁ e₁ r₁. steps-one l t o c w₁ e₁ r₁ v (omega arith))
+        (λ c w₁ e₁ r₁. steps-all l t o c w₁ e₁ r₁ v (omega arith))
+    steps (sits-scope {n} {c = a} {b} {f} {u} {k} kn d i sb z sf su) t o c w e r v m =
+        scope-runs b f u k t o (seat-of u kn i sb z sf) m
         (λ x w₁ e₁ r₁. steps-stopped sb t o x w₁ e₁ r₁ (omega arith))
-        (λ x w₁ e₁ r₁. steps-undoing sb t o x w₁ e₁ r₁ (omega arith))
-        (λ x w₁ e₁ r₁. steps sf t o x w₁ e₁ r₁ (λ y. absurd (false≢true (sym y ∙ z))) (omega arith))
-        kn (v refl) w e r
-        (λ x w₁ e₁ r₁ y. steps sb t o x w₁ e₁ r₁ (λ d. ap phase y) (omega arith))
+        (λ x w₁ e₁ r₁ v y. steps-undoing sb t o x w₁ e₁ r₁ (v, y) (omega arith))
+        (λ x w₁ e₁ r₁ y. steps-part sf t o x w₁ e₁ r₁ y (omega arith))
+        kn d v w e r
+        (λ x w₁ e₁ r₁ y. steps sb t o x w₁ e₁ r₁ (ap phase y) (omega arith))
 
-    pub steps-one : {n : Name} {l : Acts} {c : ℕ} → SitsIn p n l c → (t : ℕ) (o : Order) (b : Bool) → WaitsIn (o .marks) l c t b → b ≡ false → One (o .marks) l c
-        → (bareIn l ≡ false → phase (markOf n o) ≡ live) → c + sizes l ≤ length (o .marks) → Acted c (sizes l) o (OneAs p l c t o) (stepAmong l c t o)
-    steps-one (sits-more {n} {a} {l} {c} s y) t o b (waits-first h w) e (one-here r q) v m =
+    pub steps-one : {x : Place} {l : Acts} {c : ℕ} → SitsIn p x l c → (t : ℕ) (o : Order) (b : Bool) → WaitsIn (o .marks) l c t b → b ≡ false → One (o .marks) l c
+        → Fit x o → c + sizes l ≤ length (o .marks) → Acted c (sizes l) o (OneAs p l c t o) (stepAmong l c t o)
+    steps-one (sits-more {q = x} {a} {l} {c} s y) t o b (waits-first h w) e (one-here r q) v m =
         subst (λ (z : Outcome). Acted c (size a + sizes l) o (OneAs p (more a l) c t o) z) (sym (among-is a l c t o true (lt-ltb t (c + size a) h)))
-        (first-one a l c t o (stepIn a c t o) (steps s t o b w e r (λ x. v (rw x)) (omega arith)) q)
-    steps-one (sits-more {n} {a} {l} {c} s y) t o b (waits-later h w) e (one-here r q) v m = absurd (quiet-waits-in w e q)
-    steps-one (sits-more {n} {a} {l} {c} s y) t o b (waits-first h w) e (one-later q r) v m = absurd (quiet-waits w e q)
-    steps-one (sits-more {n} {a} {l} {c} s y) t o b (waits-later h w) e (one-later q r) v m =
+        (first-one a l c t o (stepIn a c t o) (steps s t o b w e r v (omega arith)) q)
+    steps-one (sits-more {q = x} {a} {l} {c} s y) t o b (waits-later h w) e (one-here r q) v m = absurd (quiet-waits-in w e q)
+    steps-one (sits-more {q = x} {a} {l} {c} s y) t o b (waits-first h w) e (one-later q r) v m = absurd (quiet-waits w e q)
+    steps-one (sits-more {q = x} {a} {l} {c} s y) t o b (waits-later h w) e (one-later q r) v m =
         subst (λ (z : Outcome). Acted c (size a + sizes l) o (OneAs p (more a l) c t o) z) (sym (among-is a l c t o false (le-ltb t (c + size a) h)))
-        (later-one a l c t o (stepAmong l (c + size a) t o) (steps-one y t o b w e r (λ x. v (rw (x, and-false))) (omega arith)) q)
+        (later-one a l c t o (stepAmong l (c + size a) t o) (steps-one y t o b w e r v (omega arith)) q)
 
-    pub steps-all : {n : Name} {l : Acts} {c : ℕ} → SitsIn p n l c → (t : ℕ) (o : Order) (b : Bool) → WaitsIn (o .marks) l c t b → b ≡ false → All (o .marks) l c
-        → (bareIn l ≡ false → phase (markOf n o) ≡ live) → c + sizes l ≤ length (o .marks) → Acted c (sizes l) o (AllAs p l c t o) (stepAmong l c t o)
-    steps-all (sits-more {n} {a} {l} {c} s y) t o b (waits-first h w) e (all-run r q) v m =
+    pub steps-all : {x : Place} {l : Acts} {c : ℕ} → SitsIn p x l c → (t : ℕ) (o : Order) (b : Bool) → WaitsIn (o .marks) l c t b → b ≡ false → All (o .marks) l c
+        → Fit x o → c + sizes l ≤ length (o .marks) → Acted c (sizes l) o (AllAs p l c t o) (stepAmong l c t o)
+    steps-all (sits-more {q = x} {a} {l} {c} s y) t o b (waits-first h w) e (all-run r q) v m =
         subst (λ (z : Outcome). Acted c (size a + sizes l) o (AllAs p (more a l) c t o) z) (sym (among-is a l c t o true (lt-ltb t (c + size a) h)))
-        (first-all a l c t o (stepIn a c t o) (steps s t o b w e r (λ x. v (rw x)) (omega arith)) q)
-    steps-all (sits-more {n} {a} {l} {c} s y) t o b (waits-first h w) e (all-quiet q r) v m = absurd (quiet-waits w e q)
-    steps-all (sits-more {n} {a} {l} {c} s y) t o b (waits-later h w) e (all-run r q) v m =
+        (first-all a l c t o (stepIn a c t o) (steps s t o b w e r v (omega arith)) q)
+    steps-all (sits-more {q = x} {a} {l} {c} s y) t o b (waits-first h w) e (all-quiet q r) v m = absurd (quiet-waits w e q)
+    steps-all (sits-more {q = x} {a} {l} {c} s y) t o b (waits-later h w) e (all-run r q) v m =
         subst (λ (z : Outcome). Acted c (size a + sizes l) o (AllAs p (more a l) c t o) z) (sym (among-is a l c t o false (le-ltb t (c + size a) h)))
-        (later-all a l c t o (stepAmong l (c + size a) t o) (steps-all y t o b w e q (λ x. v (rw (x, and-false))) (omega arith))
+        (later-all a l c t o (stepAmong l (c + size a) t o) (steps-all y t o b w e q v (omega arith))
         (λ ms g z. all-run (run-agree r g) z) (λ ms g z. able-more (able-run (run-agree r g)) z))
-    steps-all (sits-more {n} {a} {l} {c} s y) t o b (waits-later h w) e (all-quiet q r) v m =
+    steps-all (sits-more {q = x} {a} {l} {c} s y) t o b (waits-later h w) e (all-quiet q r) v m =
         subst (λ (z : Outcome). Acted c (size a + sizes l) o (AllAs p (more a l) c t o) z) (sym (among-is a l c t o false (le-ltb t (c + size a) h)))
-        (later-all a l c t o (stepAmong l (c + size a) t o) (steps-all y t o b w e r (λ x. v (rw (x, and-false))) (omega arith))
+        (later-all a l c t o (stepAmong l (c + size a) t o) (steps-all y t o b w e r v (omega arith))
         (λ ms g z. all-quiet (quiet-agree q g) z) (λ ms g z. able-more (able-quiet (quiet-agree q g)) z))
 
-    pub steps-stopped : {n : Name} {a : Act} {k : ℕ} → Sits p n a k → (t : ℕ) (o : Order) (b : Bool) → Waits (o .marks) a k t b → b ≡ false → Stopped (o .marks) a k
+    pub steps-stopped : {x : Place} {a : Act} {k : ℕ} → Sits p x a k → (t : ℕ) (o : Order) (b : Bool) → Waits (o .marks) a k t b → b ≡ false → Stopped (o .marks) a k
         → k + size a ≤ length (o .marks) → Acted k (size a) o (StopAs p a k o) (stepIn a k t o)
-    steps-stopped (sits-part {n} {own} {within} {k} s g y l) t o b w e r m =
+    steps-stopped (sits-part {q = x} {own} {within} {k} s g u y l) t o b w e r m =
         stopped-steps own within k t o b s w e r (λ c w₁ e₁ r₁. steps-stopped-in l t o c w₁ e₁ r₁ (omega arith))
-    steps-stopped (sits-scope {n} {b} {f} {u} {k} kn i sb sf z su) t o c w e r m =
-        scope-stops b f u k t o (seat-of u kn i sb sf z) m
+    steps-stopped (sits-scope {n} {c = a} {b} {f} {u} {k} kn d i sb z sf su) t o c w e r m =
+        scope-stops b f u k t o (seat-of u kn i sb z sf) m
         (λ x w₁ e₁ r₁. steps-stopped sb t o x w₁ e₁ r₁ (omega arith))
-        (λ x w₁ e₁ r₁. steps-undoing sb t o x w₁ e₁ r₁ (omega arith))
-        (λ x w₁ e₁ r₁. steps sf t o x w₁ e₁ r₁ (λ y. absurd (false≢true (sym y ∙ z))) (omega arith))
+        (λ x w₁ e₁ r₁ v y. steps-undoing sb t o x w₁ e₁ r₁ (v, y) (omega arith))
+        (λ x w₁ e₁ r₁ y. steps-part sf t o x w₁ e₁ r₁ y (omega arith))
         w e r
 
-    pub steps-stopped-in : {n : Name} {l : Acts} {c : ℕ} → SitsIn p n l c → (t : ℕ) (o : Order) (b : Bool) → WaitsIn (o .marks) l c t b → b ≡ false
+    pub steps-stopped-in : {x : Place} {l : Acts} {c : ℕ} → SitsIn p x l c → (t : ℕ) (o : Order) (b : Bool) → WaitsIn (o .marks) l c t b → b ≡ false
         → StoppedIn (o .marks) l c
         → c + sizes l ≤ length (o .marks) → Acted c (sizes l) o (StopInAs l c o) (stepAmong l c t o)
-    steps-stopped-in (sits-more {n} {a} {l} {c} s y) t o b (waits-first h w) e (stopped-more r q) m =
+    steps-stopped-in (sits-more {q = x} {a} {l} {c} s y) t o b (waits-first h w) e (stopped-more r q) m =
         subst (λ (z : Outcome). Acted c (size a + sizes l) o (StopInAs (more a l) c o) z) (sym (among-is a l c t o true (lt-ltb t (c + size a) h)))
         (first-stopped a l c o (stepIn a c t o) (steps-stopped s t o b w e r (omega arith)) q)
-    steps-stopped-in (sits-more {n} {a} {l} {c} s y) t o b (waits-later h w) e (stopped-more r q) m =
+    steps-stopped-in (sits-more {q = x} {a} {l} {c} s y) t o b (waits-later h w) e (stopped-more r q) m =
         subst (λ (z : Outcome). Acted c (size a + sizes l) o (StopInAs (more a l) c o) z) (sym (among-is a l c t o false (le-ltb t (c + size a) h)))
         (later-stopped a l c o (stepAmong l (c + size a) t o) (steps-stopped-in y t o b w e q (omega arith)) r)
 
-    pub steps-undoing : {n : Name} {a : Act} {k : ℕ} → Sits p n a k → (t : ℕ) (o : Order) (b : Bool) → Waits (o .marks) a k t b → b ≡ false → Undoing (o .marks) a k
-        → k + size a ≤ length (o .marks) → Acted k (size a) o (UndoAs p n a k t o) (stepIn a k t o)
-    steps-undoing (sits-part {n} {own} {within} {k} s g y l) t o b w e r m =
-        undoing-steps own within k t o b s (y .noScope) w e r (λ c w₁ e₁ r₁. steps-undoing-in l t o c w₁ e₁ r₁ (omega arith))
-    steps-undoing (sits-scope {n} {b} {f} {u} {k} kn i sb sf z su) t o c w e r m =
-        scope-undoes b f u k t o kn su w e r (λ x w₁ e₁ r₁. steps-part su t o x w₁ e₁ r₁ (omega arith))
+    pub steps-undoing : {x : Place} {a : Act} {k : ℕ} → Sits p x a k → (t : ℕ) (o : Order) (b : Bool) → Waits (o .marks) a k t b → b ≡ false → Undoing (o .marks) a k
+        → Fit (undoOf (nameOf x) (aroundOf x)) o → k + size a ≤ length (o .marks) → Acted k (size a) o (UndoAs p (nameOf x) a k t o) (stepIn a k t o)
+    steps-undoing (sits-part {q = x} {own} {within} {k} s g u y l) t o b w e r v m =
+        undoing-steps own within k t o b s (y .noScope) w e r (λ c w₁ e₁ r₁. steps-undoing-in l t o c w₁ e₁ r₁ v (omega arith))
+    steps-undoing (sits-scope {n} {c = a} {b} {f} {u} {k} kn d i sb z sf su) t o c w e r v m =
+        scope-undoes b f u k t o kn su w e r (λ x w₁ e₁ r₁. steps-part su t o x w₁ e₁ r₁ v (omega arith))
 
-    pub steps-undoing-in : {n : Name} {l : Acts} {c : ℕ} → SitsIn p n l c → (t : ℕ) (o : Order) (b : Bool) → WaitsIn (o .marks) l c t b → b ≡ false
+    pub steps-undoing-in : {x : Place} {l : Acts} {c : ℕ} → SitsIn p x l c → (t : ℕ) (o : Order) (b : Bool) → WaitsIn (o .marks) l c t b → b ≡ false
         → UndoingIn (o .marks) l c
-        → c + sizes l ≤ length (o .marks) → Acted c (sizes l) o (UndoInAs n l c t o) (stepAmong l c t o)
-    steps-undoing-in (sits-more {n} {a} {l} {c} s y) t o b (waits-first h w) e (undoing-here r q) m =
-        subst (λ (z : Outcome). Acted c (size a + sizes l) o (UndoInAs n (more a l) c t o) z) (sym (among-is a l c t o true (lt-ltb t (c + size a) h)))
-        (first-undoing a l c o (stepIn a c t o) n t (steps-undoing s t o b w e r (omega arith)) q)
-    steps-undoing-in (sits-more {n} {a} {l} {c} s y) t o b (waits-later h w) e (undoing-here r q) m = absurd (quiet-waits-in w e q)
-    steps-undoing-in (sits-more {n} {a} {l} {c} s y) t o b (waits-first h w) e (undoing-later q r) m = absurd (quiet-waits w e q)
-    steps-undoing-in (sits-more {n} {a} {l} {c} s y) t o b (waits-later h w) e (undoing-later q r) m =
-        subst (λ (z : Outcome). Acted c (size a + sizes l) o (UndoInAs n (more a l) c t o) z) (sym (among-is a l c t o false (le-ltb t (c + size a) h)))
-        (later-undoing a l c o (stepAmong l (c + size a) t o) n t (steps-undoing-in y t o b w e r (omega arith)) q)
+        → Fit (undoOf (nameOf x) (aroundOf x)) o → c + sizes l ≤ length (o .marks) → Acted c (sizes l) o (UndoInAs (nameOf x) l c t o) (stepAmong l c t o)
+    steps-undoing-in (sits-more {q = x} {a} {l} {c} s y) t o b (waits-first h w) e (undoing-here r q) v m =
+        subst (λ (z : Outcome). Acted c (size a + sizes l) o (UndoInAs (nameOf x) (more a l) c t o) z) (sym (among-is a l c t o true (lt-ltb t (c + size a) h)))
+        (first-undoing a l c o (stepIn a c t o) (nameOf x) t (steps-undoing s t o b w e r v (omega arith)) q)
+    steps-undoing-in (sits-more {q = x} {a} {l} {c} s y) t o b (waits-later h w) e (undoing-here r q) v m = absurd (quiet-waits-in w e q)
+    steps-undoing-in (sits-more {q = x} {a} {l} {c} s y) t o b (waits-first h w) e (undoing-later q r) v m = absurd (quiet-waits w e q)
+    steps-undoing-in (sits-more {q = x} {a} {l} {c} s y) t o b (waits-later h w) e (undoing-later q r) v m =
+        subst (λ (z : Outcome). Acted c (size a + sizes l) o (UndoInAs (nameOf x) (more a l) c t o) z) (sym (among-is a l c t o false (le-ltb t (c + size a) h)))
+        (later-undoing a l c o (stepAmong l (c + size a) t o) (nameOf x) t (steps-undoing-in y t o b w e r v (omega arith)) q)
 
-    steps-part : {a : Act} {k : ℕ} → UndoPart p a k → (t : ℕ) (o : Order) (b : Bool) → Waits (o .marks) a k t b → b ≡ false → Run (o .marks) a k
-        → k + size a ≤ length (o .marks) → Acted k (size a) o (RunAs p a k t o) (stepIn a k t o)
-    steps-part (undo-part {own} {within} {k} s a g z l d) t o b w e r m =
-        part-steps own within k t o b s g z l m w e r
-        (λ c w₁ e₁ r₁. steps-one l t o c w₁ e₁ r₁ (λ x. absurd (false≢true (sym x ∙ d))) (omega arith))
-        (λ c w₁ e₁ r₁. steps-all l t o c w₁ e₁ r₁ (λ x. absurd (false≢true (sym x ∙ d))) (omega arith))
+    pub steps-part : {x : Place} {a : Act} {k : ℕ} → Remedy p x a k → (t : ℕ) (o : Order) (b : Bool) → Waits (o .marks) a k t b → b ≡ false → Run (o .marks) a k
+        → Fit x o → k + size a ≤ length (o .marks) → Acted k (size a) o (RunAs p a k t o) (stepIn a k t o)
+    steps-part (remedy {q = x} {own} {within} {k} s a g u z l d) t o b w e r v m =
+        part-steps own within k t o b s g z u v l m w e r
+        (λ c w₁ e₁ r₁. steps-one l t o c w₁ e₁ r₁ v (omega arith))
+        (λ c w₁ e₁ r₁. steps-all l t o c w₁ e₁ r₁ v (omega arith))

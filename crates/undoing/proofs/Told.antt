@@ -19,9 +19,9 @@ use Rattle.order.specs.State.{idle, active, done, faulty, undoing, handling, ha
 use Rattle.machine.specs.State.{fresh}
 use Rattle.order.specs.Event.{Event}
 use Rattle.order.specs.Scope.{isOpen}
-use Rattle.machine.specs.Calls.{loadedAs, load, post, collect, step}
-use Rattle.machine.specs.History.{Call, posting, collecting, stepping, logOf, history}
-use Rattle.machine.specs.Demand3.{closingsOf, undoneOf, hasTurned, isLeft, mayTurn, noneNow}
+use Rattle.machine.specs.Calls.{loadedAs, load, post, collect, step, Call, posting, collecting, stepping}
+use Rattle.undoing.specs.History.{logOf, history}
+use Rattle.undoing.specs.Demand3.{closingsOf, undoneOf, hasTurned, isLeft, mayTurn, noneNow}
 use Rattle.plan.specs.Tree.{Plan}
 use Rattle.undoing.specs.Ties.{stateAfter, orderAfter, pastAfter, LiveTold, isTurned, MarksTold, remembered, ListsTold, fits, placeOf, PlacesTold}
 use Rattle.undoing.proofs.Parts.{decide}
@@ -68,8 +68,8 @@ told m l a f t =
 pub listed : (q : Phase) (l : List ℕ) (a : Account) → Tied q l a → (a .left ≡ true → a .closings ≡ a .undone ++ l) × (a .left ≡ false → l ≡ [])
 listed rest l a t = ((λ e. absurd (false≢true (sym (t .0) ∙ e))), λ e. t .1)
 listed live l a t = ((λ e. t .3 ∙ rw (t .2)), λ e. absurd (false≢true (sym e ∙ t .0)))
-listed waits l a t = ((λ e. t .3 ∙ rw (t .2)), λ e. absurd (false≢true (sym e ∙ t .0)))
-listed undoes l a t = ((λ e. t .2), λ e. absurd (false≢true (sym e ∙ t .0)))
+listed (waits w) l a t = ((λ e. t .3 ∙ rw (t .2)), λ e. absurd (false≢true (sym e ∙ t .0)))
+listed (undoes w) l a t = ((λ e. t .2), λ e. absurd (false≢true (sym e ∙ t .0)))
 listed heals l a t = ((λ e. t .2 ∙ rw (t .3, append-nil)), λ e. absurd (false≢true (sym e ∙ t .0)))
 listed odd l a t = absurd t
 

@@ -10,20 +10,20 @@ use borrow.Author.Tests.{eqb-false}
 use Rattle.plan.specs.Tree.{Plan, size}
 use Rattle.order.specs.declared.Order.{Order}
 use Rattle.order.specs.State.{Name, root, inner, same, idle, undoing, handling, withdrawing, withMarks, markOf, marking}
-use Rattle.order.specs.Event.{Event, ended}
+use Rattle.order.specs.Event.{Event, began, ended}
 use Rattle.order.specs.Begin.{begin}
 use Rattle.order.specs.declared.Way.{Way as Result}
 use Rattle.order.specs.declared.Way.the-variants.{Running as running, Over as over, Raising as raising, Leaving as leaving, Undone as undone, UndoRaising as undoRaising}
 use Rattle.order.specs.Scope.{Outcome, runs, after, begunIn, Scope, innerRuns, whereOver, undo, ends, handle, undoes, turns, rememberedFor}
-use Rattle.machine.specs.Demand3.{isRoot, rightAfter, noneNow, isOver}
+use Rattle.undoing.specs.Demand3.{isRoot, noneNow, isOver}
 use Rattle.undoing.specs.Ties.{isName}
 use Rattle.undoing.proofs.Parts.{decide, same-equal}
 use Rattle.undoing.proofs.Accounts.{Account, accountOf, Phase, waits, heals, phase, Tied, tied-as, Inside·rest}
-use Rattle.undoing.proofs.Moves.{tied-same, tied-from, tied-at, move-end-undone, move-end-healed, root-healed, settled}
+use Rattle.undoing.proofs.Moves.{Before, tied-same, tied-from, tied-at, move-handle, move-end-undone, move-end-healed, root-healed, settled}
 use Rattle.undoing.proofs.Marks.{Quiet, Kept, Run, Turned, turned-waits, turned-undoes, turned-heals, Stopped, agree-part, quiet-agree, agree-below, agree-above, kept-itself}
-use Rattle.undoing.proofs.Orders.{listOf, momentOf, Does, does-then, does-nothing, does-one}
-use Rattle.undoing.proofs.Beginning.{Begins, begins}
-use Rattle.undoing.proofs.Seats.{Before, Seat, mark-kept, marking-mark, marking-elsewhere, marking-agree, marking-length, quiet-inner, stopped-rests, remembered-list, inside-rest}
+use Rattle.undoing.proofs.Orders.{listOf, momentOf, fairAfter, Fit, Faulty, Remedy, remedy-spot, remedy-scope, Does, does-then, does-nothing, does-one}
+use Rattle.undoing.proofs.Beginning.{Begins, begins-remedy}
+use Rattle.undoing.proofs.Seats.{Seat, mark-kept, marking-mark, marking-elsewhere, marking-agree, marking-length, quiet-inner, stopped-rests, remembered-list, inside-rest}
 use Rattle.undoing.proofs.Undo.{UndoneAs, Undone, undoes-list}
 
 -- all marks but a scope's own, its body's and its fault part's are the same
@@ -97,7 +97,7 @@ module _ (p : Plan) where
   pub does-phase : (n : Name) (v : ℕ) (o : Order)
       → ((a : Account) → Tied (phase (markOf n o)) (listOf p n o) a → Tied (phase (markOf n (marking n v o))) (listOf p n (marking n v o)) a)
       → Does p false o [] (marking n v o)
-  unfolding rightAfter
+  unfolding fairAfter
   does-phase n v o f =
       record {
         does = λ past h. (
@@ -118,14 +118,14 @@ module _ (p : Plan) where
   pub does-healed : (n : Name) (c : ℕ) (o : Order) → isName p n ≡ true → Before n c → c ≤ length (o .marks) → phase (markOf n o) ≡ heals
       → Inside·rest p (λ z. markOf z o) n
       → Does p (isRoot n) o (ended n ∷ []) (marking n idle o)
-  unfolding rightAfter noneNow isOver
+  unfolding fairAfter noneNow isOver
   does-healed root c o i b m q r = record { does = λ past h. (rw (root-healed p (momentOf p o) (momentOf p o) past h q r), refl) }
   does-healed (inner k) c o i b m q r =
       does-one (λ past h. move-end-healed p (momentOf p o) (momentOf p (marking (inner k) idle o)) past h (inner k) i refl q r
       (ap phase (marking-mark (inner k) c idle o b m)) (tied-at p (momentOf p o) (momentOf p o) past h heals (inner k) i q .3) (marking-elsewhere p (inner k) idle o))
 
   -- it ends after its list
-  does-undone : (n : Name) (c : ℕ) (o : Order) → isName p n ≡ true → isRoot n ≡ false → Before n c → c ≤ length (o .marks) → phase (markOf n o) ≡ Phase.undoes
+  does-undone : (n : Name) (c : ℕ) (o : Order) → isName p n ≡ true → isRoot n ≡ false → Before n c → c ≤ length (o .marks) → phase (markOf n o) ≡ Phase.undoes false
       → listOf p n o ≡ [] → Inside·rest p (λ z. markOf z o) n → Does p (isRoot n) o (ended n ∷ []) (marking n idle o)
   does-undone root c o i z b m q l r = absurd (false≢true (sym z))
   does-undone (inner k) c o i z b m q l r =
@@ -133,16 +133,16 @@ module _ (p : Plan) where
       (ap phase (marking-mark (inner k) c idle o b m)) l (marking-elsewhere p (inner k) idle o))
 
   -- the fault part of a scope has begun, and the scope ends where that is over
-  handled-after : (s : Scope) (o : Order) → Seat p s → (ms : List ℕ) (v : Bool) (g : List Event) → phase (markOf (s .name) o) ≡ heals
+  handled-after : (s : Scope) (o₀ o : Order) → Seat p s → (ms : List ℕ) (v : Bool) (g : List Event) → Apart s o₀ o → phase (markOf (s .name) o) ≡ heals
       → Quiet (o .marks) (s .bodyAt) (size (s .body)) → s .faultAt + size (s .fault) ≤ length (o .marks)
-      → Begins p (λ ns. Run ns (s .fault) (s .faultAt)) (s .faultAt) (size (s .fault)) o o (record { marks = ms; over = v; log = g })
-      → Turns p s o (whereOver (ends s) (begunIn o (record { marks = ms; over = v; log = g })))
-  handled-after s o h ms true g q z m b =
+      → Begins p (λ ns. Run ns (s .fault) (s .faultAt)) (s .faultAt) (size (s .fault)) o₀ o (record { marks = ms; over = v; log = g })
+      → Turns p s o₀ (whereOver (ends s) (begunIn o (record { marks = ms; over = v; log = g })))
+  handled-after s o₀ o h ms true g a q z m b =
       let o₁ = withMarks ms o in
       let q₁ : phase (markOf (s .name) o₁) ≡ heals = ap phase (mark-kept (s .name) (s .bodyAt) o o₁ (h .before) (omega (arith, h .after)) refl (b .kept)) ∙ q in
       let z₁ : Quiet ms (s .bodyAt) (size (s .body)) = quiet-agree z (agree-below (b .kept) (omega (arith, h .after))) in
       record {
-        apart = apart-then (apart-kept s o o₁ (b .kept) (omega (arith, h .after)) (omega arith) refl) (apart-marking s idle o₁ (h .before) (omega (arith, h .after)));
+        apart = apart-then a (apart-then (apart-kept s o o₁ (b .kept) (omega (arith, h .after)) (omega arith) refl) (apart-marking s idle o₁ (h .before) (omega (arith, h .after))));
         comes = (
           marking-mark (s .name) (s .bodyAt) idle o₁ (h .before) (omega (arith, h .after, b .kept .many)),
           quiet-agree z₁ (marking-agree (s .name) idle o₁ (h .before)),
@@ -151,10 +151,10 @@ module _ (p : Plan) where
               (inside-rest p s o₁ h (quiet-inner (s .body) (s .bodyAt) z₁))),
         );
       }
-  handled-after s o h ms false g q z m b =
+  handled-after s o₀ o h ms false g a q z m b =
       let o₁ = withMarks ms o in
       record {
-        apart = apart-kept s o o₁ (b .kept) (omega (arith, h .after)) (omega arith) refl;
+        apart = apart-then a (apart-kept s o o₁ (b .kept) (omega (arith, h .after)) (omega arith) refl);
         comes = (
           turned-heals (ap phase (mark-kept (s .name) (s .bodyAt) o o₁ (h .before) (omega (arith, h .after)) refl (b .kept)) ∙ q)
               (quiet-agree z (agree-below (b .kept) (omega (arith, h .after)))) (b .runs refl),
@@ -163,7 +163,7 @@ module _ (p : Plan) where
       }
 
   -- "then the fault part": where its list is undone
-  handles : (s : Scope) (o : Order) → Seat p s → phase (markOf (s .name) o) ≡ Phase.undoes → listOf p (s .name) o ≡ []
+  handles : (s : Scope) (o : Order) → Seat p s → phase (markOf (s .name) o) ≡ Phase.undoes true → listOf p (s .name) o ≡ []
       → Quiet (o .marks) (s .bodyAt) (size (s .body))
       → Quiet (o .marks) (s .faultAt) (size (s .fault)) → s .faultAt + size (s .fault) ≤ length (o .marks) → Turns p s o (handle s o)
   unfolding handle
@@ -173,26 +173,25 @@ module _ (p : Plan) where
       let e : markOf (s .name) o₁ ≡ handling = marking-mark (s .name) (s .bodyAt) handling o (h .before) (omega (arith, h .after)) in
       let y₁ : Quiet (o₁ .marks) (s .faultAt) (size (s .fault))
       = quiet-agree y (agree-part (marking-agree {c = s .bodyAt} {m = size (s .body) + size (s .fault)} (s .name) handling o (h .before)) (omega (arith, h .after)) (omega (arith, h .after))) in
-      let t : Turns p s o₁ (whereOver (ends s) (begunIn o₁ (begin (s .fault) (s .faultAt) (o₁ .marks))))
-      = handled-after s o₁ h _ _ _ (ap phase e) (quiet-agree z (marking-agree (s .name) handling o (h .before))) (omega (arith, n)) (begins p (h .fault) o₁ y₁ (omega (arith, n))) in
-      turns-after {l = []} (apart-marking s handling o (h .before) (omega (arith, h .after)))
-      (does-phase (s .name) handling o (λ a d.
-      let d₁ = tied-as Phase.undoes (listOf p (s .name) o) a (markOf (s .name) o) q d in
-      tied-from heals _ a (markOf (s .name) o₁) (ap phase e) (d₁ .0, d₁ .1, d₁ .2 ∙ rw (l, append-nil), marking-list (s .name) (s .name) handling o ∙ l))) t
+      let d : Does p false o (began (s .faultAt) ∷ []) o₁
+      = does-one (λ past x. move-handle p (momentOf p o) (momentOf p o₁) past x (s .name) (s .faultAt) (remedy-spot (h .fault)) (h .faulty .noUndo) (remedy-scope (h .fault)) (h .faulty .own)
+      q l (inside-rest p s o h (quiet-inner (s .body) (s .bodyAt) z)) (ap phase e) (marking-list (s .name) (s .name) handling o ∙ l) (marking-elsewhere p (s .name) handling o)) in
+      handled-after s o o₁ h _ _ _ (apart-marking s handling o (h .before) (omega (arith, h .after))) (ap phase e) (quiet-agree z (marking-agree (s .name) handling o (h .before))) (omega (arith, n))
+      (begins-remedy p (h .fault) o o₁ d y₁ (omega (arith, n)) (ap phase e))
 
   -- its list is undone, or one of its undo parts runs; where it is undone the scope goes on so
-  undone-then : (s : Scope) (o : Order) → Seat p s → (f : Order → Outcome) (r : Outcome) → phase (markOf (s .name) o) ≡ Phase.undoes
+  undone-then : (w : Bool) (s : Scope) (o : Order) → Seat p s → (f : Order → Outcome) (r : Outcome) → phase (markOf (s .name) o) ≡ Phase.undoes w
       → Quiet (o .marks) (s .faultAt) (size (s .fault)) → Undone p s o r
-      → ((o : Order) → phase (markOf (s .name) o) ≡ Phase.undoes → listOf p (s .name) o ≡ [] → Quiet (o .marks) (s .bodyAt) (size (s .body))
+      → ((o : Order) → phase (markOf (s .name) o) ≡ Phase.undoes w → listOf p (s .name) o ≡ [] → Quiet (o .marks) (s .bodyAt) (size (s .body))
       → Quiet (o .marks) (s .faultAt) (size (s .fault)) → length (o .marks) ≡ length (r .order .marks) → Turns p s o (f o))
       → Turns p s o (whereOver f r)
-  undone-then s o h f r q y u g =
+  undone-then w s o h f r q y u g =
       go (r .result) (u .comes)
     where
       a₁ : Apart s o (r .order)
       a₁ = apart-kept s o (r .order) (u .kept) (omega arith) (omega (arith, h .after)) (u .rooted)
 
-      q₁ : phase (markOf (s .name) (r .order)) ≡ Phase.undoes
+      q₁ : phase (markOf (s .name) (r .order)) ≡ Phase.undoes w
       q₁ = ap phase (mark-kept (s .name) (s .bodyAt) o (r .order) (h .before) (omega arith) (u .rooted) (u .kept)) ∙ q
 
       y₁ : Quiet (r .order .marks) (s .faultAt) (size (s .fault))
@@ -207,7 +206,7 @@ module _ (p : Plan) where
       go undoRaising c = absurd c
 
   -- a scope ends after its list
-  ends-undone : (s : Scope) (o : Order) → Seat p s → isRoot (s .name) ≡ false → phase (markOf (s .name) o) ≡ Phase.undoes → listOf p (s .name) o ≡ []
+  ends-undone : (s : Scope) (o : Order) → Seat p s → isRoot (s .name) ≡ false → phase (markOf (s .name) o) ≡ Phase.undoes false → listOf p (s .name) o ≡ []
       → Quiet (o .marks) (s .bodyAt) (size (s .body)) → Quiet (o .marks) (s .faultAt) (size (s .fault)) → s .faultAt + size (s .fault) ≤ length (o .marks)
       → Turns p s o (ends s o)
   ends-undone s o h v q l z y m =
@@ -222,36 +221,36 @@ module _ (p : Plan) where
       }
 
   -- it undoes with a mark for that, and then goes on
-  undone-on : (v : ℕ) (then : Order → Outcome) (s : Scope) (o : Order) → Seat p s
-      → ((a : Account) → Tied (phase (markOf (s .name) o)) (listOf p (s .name) o) a → Tied Phase.undoes (listOf p (s .name) o) a)
-      → phase v ≡ Phase.undoes → Quiet (o .marks) (s .bodyAt) (size (s .body)) → Quiet (o .marks) (s .faultAt) (size (s .fault))
+  undone-on : (w : Bool) (v : ℕ) (then : Order → Outcome) (s : Scope) (o : Order) → Seat p s
+      → ((a : Account) → Tied (phase (markOf (s .name) o)) (listOf p (s .name) o) a → Tied (Phase.undoes w) (listOf p (s .name) o) a)
+      → phase v ≡ Phase.undoes w → Quiet (o .marks) (s .bodyAt) (size (s .body)) → Quiet (o .marks) (s .faultAt) (size (s .fault))
       → s .faultAt + size (s .fault) ≤ length (o .marks)
-      → ((o : Order) → phase (markOf (s .name) o) ≡ Phase.undoes → listOf p (s .name) o ≡ [] → Quiet (o .marks) (s .bodyAt) (size (s .body))
+      → ((o : Order) → phase (markOf (s .name) o) ≡ Phase.undoes w → listOf p (s .name) o ≡ [] → Quiet (o .marks) (s .bodyAt) (size (s .body))
       → Quiet (o .marks) (s .faultAt) (size (s .fault)) → s .faultAt + size (s .fault) ≤ length (o .marks) → Turns p s o (then o))
       → Turns p s o (whereOver then (undo (rememberedFor s (marking (s .name) v o)) s (marking (s .name) v o)))
-  undone-on v then s o h f e z y m g =
+  undone-on w v then s o h f e z y m g =
       let o₁ = marking (s .name) v o in
       let n = marking-length (s .name) v o in
       let k : markOf (s .name) o₁ ≡ v = marking-mark (s .name) (s .bodyAt) v o (h .before) (omega (arith, h .after)) in
       let y₁ : Quiet (o₁ .marks) (s .faultAt) (size (s .fault))
       = quiet-agree y (agree-part (marking-agree {c = s .bodyAt} {m = size (s .body) + size (s .fault)} (s .name) v o (h .before)) (omega (arith, h .after)) (omega (arith, h .after))) in
       let u : Undone p s o₁ (undo (rememberedFor s o₁) s o₁)
-      = undoes-list p s (rememberedFor s o₁) o₁ h (ap phase k ∙ e) (quiet-agree z (marking-agree (s .name) v o (h .before))) (omega (arith, h .after, n)) (sym (remembered-list p s o₁ h)) in
+      = undoes-list p w s (rememberedFor s o₁) o₁ h (ap phase k ∙ e) (quiet-agree z (marking-agree (s .name) v o (h .before))) (omega (arith, h .after, n)) (sym (remembered-list p s o₁ h)) in
       turns-after {l = []} (apart-marking s v o (h .before) (omega (arith, h .after)))
-      (does-phase (s .name) v o (λ a d. tied-from Phase.undoes _ a (markOf (s .name) o₁) (ap phase k ∙ e) (rw (marking-list (s .name) (s .name) v o) (f a d))))
-      (undone-then s o₁ h then (undo (rememberedFor s o₁) s o₁) (ap phase k ∙ e) y₁ u (λ o₂ q l z y i. g o₂ q l z y (omega (arith, i, u .kept .many, n))))
+      (does-phase (s .name) v o (λ a d. tied-from (Phase.undoes w) _ a (markOf (s .name) o₁) (ap phase k ∙ e) (rw (marking-list (s .name) (s .name) v o) (f a d))))
+      (undone-then w s o₁ h then (undo (rememberedFor s o₁) s o₁) (ap phase k ∙ e) y₁ u (λ o₂ q l z y i. g o₂ q l z y (omega (arith, i, u .kept .many, n))))
 
   -- A scope that waits goes on to undo, or that undoes to the next: with its fault part after that, or not.
   pub undoes-on : (w : Bool) (s : Scope) (o : Order) → Seat p s → (w ≡ false → isRoot (s .name) ≡ false)
-      → ((a : Account) → Tied (phase (markOf (s .name) o)) (listOf p (s .name) o) a → Tied Phase.undoes (listOf p (s .name) o) a)
+      → ((a : Account) → Tied (phase (markOf (s .name) o)) (listOf p (s .name) o) a → Tied (Phase.undoes w) (listOf p (s .name) o) a)
       → Quiet (o .marks) (s .bodyAt) (size (s .body)) → Quiet (o .marks) (s .faultAt) (size (s .fault)) → s .faultAt + size (s .fault) ≤ length (o .marks)
       → Turns p s o (undoes w s o)
   unfolding undoes
-  undoes-on true s o h v f z y m = undone-on undoing (handle s) s o h f refl z y m (λ o q l z y m. handles s o h q l z y m)
-  undoes-on false s o h v f z y m = undone-on withdrawing (ends s) s o h f refl z y m (λ o q l z y m. ends-undone s o h (v refl) q l z y m)
+  undoes-on true s o h v f z y m = undone-on true undoing (handle s) s o h f refl z y m (λ o q l z y m. handles s o h q l z y m)
+  undoes-on false s o h v f z y m = undone-on false withdrawing (ends s) s o h f refl z y m (λ o q l z y m. ends-undone s o h (v refl) q l z y m)
 
   -- A scope that waits looks whether it may undo.
-  pub turns-on : (w : Bool) (s : Scope) (o : Order) → Seat p s → (w ≡ false → isRoot (s .name) ≡ false) → phase (markOf (s .name) o) ≡ waits
+  pub turns-on : (w : Bool) (s : Scope) (o : Order) → Seat p s → (w ≡ false → isRoot (s .name) ≡ false) → phase (markOf (s .name) o) ≡ waits w
       → Stopped (o .marks) (s .body) (s .bodyAt) → Quiet (o .marks) (s .faultAt) (size (s .fault)) → s .faultAt + size (s .fault) ≤ length (o .marks)
       → Turns p s o (turns w s o)
   unfolding turns
@@ -259,4 +258,4 @@ module _ (p : Plan) where
     where
       go : (b : Bool) → innerRuns (s .body) (s .bodyAt) (o .marks) ≡ b → Turns p s o (elim b [ true ↦ runs o | false ↦ undoes w s o ])
       go true e = record { apart = apart-kept s o o (kept-itself (s .bodyAt) 0 (o .marks)) (omega arith) (omega (arith, h .after)) refl; comes = (turned-waits q t e y, does-nothing (λ n i. (refl, refl))) }
-      go false e = undoes-on w s o h v (λ a d. let d₁ = tied-as waits (listOf p (s .name) o) a (markOf (s .name) o) q d in (d₁ .0, d₁ .1, d₁ .3 ∙ rw (d₁ .2))) (stopped-rests t e) y m
+      go false e = undoes-on w s o h v (λ a d. let d₁ = tied-as (waits w) (listOf p (s .name) o) a (markOf (s .name) o) q d in (d₁ .0, d₁ .1, d₁ .3 ∙ rw (d₁ .2), d₁ .4, d₁ .5)) (stopped-rests t e) y m

@@ -1,1 +1,5 @@
+pub mod History
+pub mod Demand3
 pub mod Ties
+pub mod Orderly
+pub mod Computing

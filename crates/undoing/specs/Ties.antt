@@ -19,10 +19,10 @@ use Rattle.order.specs.Event.{Event, started, began, closed, faulted, stopped, 
 use Rattle.order.specs.Begin.{quiet}
 use Rattle.order.specs.Scope.{Scope, scopeAt, rootOf, isOpen, isScope, innerRuns}
 use Rattle.order.specs.Acting.{allBound, startedOrder}
-use Rattle.machine.specs.Fit.{readyOf}
-use Rattle.machine.specs.Calls.{loaded, post, collect, Stepped, step}
-use Rattle.machine.specs.History.{Call, posting, collecting, stepping, history}
-use Rattle.machine.specs.Demand3.{scopesOf, insideOf, closingsOf, undoneOf, hasTurned, isLeft, mayTurn, noneNow}
+use Rattle.machine.specs.Fit.{Doing, noStep, sends, takes, moves, cuts, closes, readyOf}
+use Rattle.machine.specs.Calls.{loaded, post, collect, Stepped, step, Call, posting, collecting, stepping}
+use Rattle.undoing.specs.History.{history}
+use Rattle.undoing.specs.Demand3.{scopesOf, insideOf, closingsOf, undoneOf, hasTurned, isLeft, mayTurn, noneNow}
 
 -- the state after these calls
 unfoldable pub stateAfter : List Call → State → Tally → State
@@ -289,41 +289,42 @@ fits (undoOf n m) o = eqb (markOf n o) undoing || eqb (markOf n o) withdrawing
 unfoldable pub PlacesTold : Type 0
 PlacesTold = Always (λ p o past. isLive o ≡ true → every (λ r. fits (placeOf p (r .activity)) o) (readyOf p o) ≡ true)
 
--- NEVER STUCK. A live order always has an activity that awaits its step; a pick awaits that of one of its arms.
-unfoldable pub isDoer : Own → Bool
-isDoer empty = false
-isDoer (send p op vs) = true
-isDoer (receive p op vs) = true
-isDoer (setting v e) = true
-isDoer raise = true
-isDoer leave = true
-isDoer (choose e) = true
-isDoer (repeat e) = true
-isDoer sequence = false
-isDoer flow = false
-isDoer pick = true
-isDoer scope = false
-isDoer (arm p op vs) = false
-
-unfoldable mutual
-  pub awaitsIn : Act → (k : ℕ) → (marks : List ℕ) → Bool
-  awaitsIn (act own within) k ms =
-      (isDoer own && eqb (getD ms k 0) active) || ((isScope own && eqb (getD ms k 0) done) || awaitsAmong within (k + 1) ms)
-
-  pub awaitsAmong : Acts → (c : ℕ) → (marks : List ℕ) → Bool
-  awaitsAmong none c ms = false
-  awaitsAmong (more a l) c ms = awaitsIn a c ms || awaitsAmong l (c + size a) ms
+-- NEVER STUCK. A live order always has an activity or an arm that awaits its step.
+unfoldable pub isStep : Doing → Bool
+isStep noStep = false
+isStep (sends partner operation vs) = true
+isStep (takes partner operation vs) = true
+isStep moves = true
+isStep cuts = true
+isStep (closes s) = true
 
 unfoldable pub NeverStuck : Type 0
-NeverStuck =
-    Always (λ p o past. isLive o ≡ true → (awaitsIn (p .body) 0 (o .marks) || awaitsIn (p .fault) (size (p .body)) (o .marks)) ≡ true)
+NeverStuck = Always (λ p o past. isLive o ≡ true → some (λ r. isStep (r .step)) (readyOf p o) ≡ true)
 
--- GOING ON. In a live order a scope that waits has one running directly inside it; where one undoes, something in its body runs; where one
--- handles, something in its fault part does.
+-- GOING ON. In a live order a scope that waits has one running directly inside it; one that undoes has the undo part of one directly inside it
+-- running, and never more than one, and no scope but one that undoes has any; one that handles has something running in its fault part.
+
+-- 1 where the third of these, the undo part of a scope, runs, and 0 where not
+unfoldable pub undoRuns : Acts → (c : ℕ) → (marks : List ℕ) → ℕ
+undoRuns none c ms = 0
+undoRuns (more b none) c ms = 0
+undoRuns (more b (more f none)) c ms = 0
+undoRuns (more b (more f (more u l))) c ms = cond (quiet (c + size b + size f) (size u) ms) 0 1
+
+-- how many undo parts run, of the scopes of activity k with no other scope around them there
+unfoldable mutual
+  pub undosIn : Act → (k : ℕ) → (marks : List ℕ) → ℕ
+  undosIn (act own within) k ms =
+      elim (isScope own) [ true ↦ undoRuns within (k + 1) ms | false ↦ undosAmong within (k + 1) ms ]
+
+  pub undosAmong : Acts → (c : ℕ) → (marks : List ℕ) → ℕ
+  undosAmong none c ms = 0
+  undosAmong (more a l) c ms = undosIn a c ms + undosAmong l (c + size a) ms
+
 unfoldable pub movesOn : Scope → (mark : ℕ) → (marks : List ℕ) → Bool
 movesOn s m ms =
     (not (eqb m faulty || eqb m halted) || innerRuns (s .body) (s .bodyAt) ms)
-    && ((not (eqb m undoing || eqb m withdrawing) || not (quiet (s .bodyAt) (size (s .body)) ms))
+    && (eqb (undosIn (s .body) (s .bodyAt) ms) (cond (eqb m undoing || eqb m withdrawing) 1 0)
     && (not (eqb m handling) || not (quiet (s .faultAt) (size (s .fault)) ms)))
 
 unfoldable mutual

@@ -3,17 +3,10 @@ use Prim.Native.Nat.{ℕ}
 use mathlib.Core.Bool.{Bool, true, false, cond}
 use mathlib.Core.List.{List, [], _∷_, _++_}
 use lib.Dec.{eqb}
-use Rattle.machine.specs.declared.Message.{Message}
 use Rattle.machine.specs.declared.State.{State}
 use Rattle.machine.specs.declared.Tally.{Tally}
 use Rattle.order.specs.Event.{Event}
-use Rattle.machine.specs.Calls.{post, collect, Stepped, step}
-
--- A call that may change a state. A run is its steps.
-pub data Call : Type 0 where
-  posting : Message → Call
-  collecting : Call
-  stepping : (choice : ℕ) → Call
+use Rattle.machine.specs.Calls.{post, collect, Stepped, step, Call, posting, collecting, stepping}
 
 -- the log of a step, where its slot is this one
 abbrev pub logOf : (slot : ℕ) → Stepped → List Event

@@ -6,13 +6,14 @@ use mathlib.Core.List.{List, [], _∷_, map}
 use Rattle.plan.specs.Read.{readPlan}
 use Rattle.order.specs.Lists.{every}
 use Rattle.order.specs.State.{root, inner}
 use Rattle.machine.specs.State.{noTally}
 use Rattle.machine.specs.Limits.{by}
 use Rattle.order.specs.Event.{Event, started, began, closed, faulted, ended, raised}
-use Rattle.machine.specs.Calls.{loaded}
+use Rattle.machine.specs.Calls.{loaded, Call, posting, stepping}
 use Rattle.machine.specs.Computing.{computing}
-use Rattle.machine.specs.History.{Call, posting, stepping, history}
-use Rattle.machine.specs.Demand3.{right}
+use Rattle.undoing.specs.Computing.{judging}
+use Rattle.undoing.specs.History.{history}
+use Rattle.undoing.specs.Demand3.{right}
 
 -- A plan, calls on a fresh state of it, what happens with them in slot 0, and what an engine that does wrong would do.
 record Example : Type 0 where
@@ -121,14 +122,14 @@ rightOf bytes l = by false (λ p. right p l) (readPlan bytes)
 
 -- it holds of each right history, and of none of the wrong ones
 judged : every (λ x. rightOf (x .bytes) (x .rightly)) examples ≡ true
-unfolding examples twoScopes threeClosings innerHandler handledScope rightOf computing
+unfolding examples twoScopes threeClosings innerHandler handledScope rightOf computing judging
 judged = refl
 
 refuted : every (λ x. every (λ l. not (rightOf (x .bytes) l)) (x .wrongly)) examples ≡ true
-unfolding examples twoScopes threeClosings innerHandler handledScope rightOf computing
+unfolding examples twoScopes threeClosings innerHandler handledScope rightOf computing judging
 refuted = refl
 
 -- and the right histories are those of the definitions
 logged : map (λ x. history (x .calls) 0 (loaded (x .bytes)) noTally) examples ≡ map (λ x. x .rightly) examples
-unfolding examples twoScopes threeClosings innerHandler handledScope computing
+unfolding examples twoScopes threeClosings innerHandler handledScope computing judging
 logged = refl
