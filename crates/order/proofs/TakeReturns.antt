@@ -22,7 +22,7 @@ use Rattle.order.proofs.ChildReturns.{yes, no}
 use Rattle.order.proofs.Owns.{Case, of-kind}
 use Rattle.order.proofs.PlanStands.{plan-stands}
 use Rattle.order.proofs.Standing.{size-pos, stands-inside}
-use Rattle.order.proofs.StepReturns.{variables-small}
+use Rattle.order.proofs.StepReturns.{line-names}
 
 -- `bind_row`
 bind-next : (v : ℕ) (l ys zs : List ℕ) (x : ℕ) (o p : Order) → drop 1 ys ≡ zs → getD ys 0 0 ≡ x → p ≡ binding v x o → bindAll (v ∷ l) ys o ≡ bindAll l zs p
@@ -62,34 +62,16 @@ module _ {t : List ℕ} {k : ℕ} {xs : List ℕ} {o₀ : Order} {i : ℕ} {o : 
 -- the variables of a receive and of an arm
 module _ (t : List ℕ) (k p q : ℕ) (vs : List ℕ) (l : Acts) where
   receive-names : Stands (act (receive p q vs) l) k t → Names t k vs
-  unfolding Stands variablesOf ownWithin exchangeWithin
+  unfolding Stands variablesOf ownWithin
   receive-names s =
       both (not (s .first .arms)) _ (s .first .limits) (λ a b.
-      both (eqb (count l) 0) _ b (λ c d.
-      both (ltb p 64) _ d (λ e f.
-      both (ltb q 64) _ f (λ g h.
-      both (leb 1 (length vs)) _ h (λ i j.
-      both (leb (length vs) 4) _ j (λ m n. record {
-        count = s .first .row .count;
-        variables = s .first .row .variables;
-        few = leb-true (length vs) 4 m;
-        small = variables-small (s .first .variables) true vs n (s .first .few);
-      }))))))
+      both (eqb (count l) 0) _ b (λ c d. line-names (s .first) true p q (omega arith) d))
 
   arm-names : Stands (act (arm p q vs) l) k t → Names t k vs
-  unfolding Stands variablesOf ownWithin exchangeWithin
+  unfolding Stands variablesOf ownWithin
   arm-names s =
       both (s .first .arms) _ (s .first .limits) (λ a b.
-      both (eqb (count l) 1) _ b (λ c d.
-      both (ltb p 64) _ d (λ e f.
-      both (ltb q 64) _ f (λ g h.
-      both (leb 1 (length vs)) _ h (λ i j.
-      both (leb (length vs) 4) _ j (λ m n. record {
-        count = s .first .row .count;
-        variables = s .first .row .variables;
-        few = leb-true (length vs) 4 m;
-        small = variables-small (s .first .variables) true vs n (s .first .few);
-      }))))))
+      both (eqb (count l) 1) _ b (λ c d. line-names (s .first) true p q (omega arith) d))
 
 -- the activity with a number stands in the row with that number
 mutual

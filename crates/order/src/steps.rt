@@ -78,11 +78,13 @@ fn is_bound(order: Order, v: u32) -> bool
     order.bound[i] == 1
 }
 
-// Whether all variables that row k names are bound.
+// Whether all variables that row k names are bound; false where there is no row k.
 pub(crate) fn all_bound(table: &[u32; 11584], k: usize, order: Order) -> bool
-    requires { ⌜ k < 256 ⌝ }
     ensures { λ r. ⌜ AllBound (now (table .entry)) k order r ⌝ }
 {
+    if 256 <= k {
+        return false;
+    }
     let count = table[k * 13 + 3];
     if 4 < count {
         return false;
