@@ -2,15 +2,12 @@
 -- Each part of such a number is taken within its own room, so that no part can reach into another. Places and lengths in a plan are at most
 -- 4,096 and refusals at most 17, far within it.
 use Prim.Native.Nat.{ℕ, _+_, _*_, _%_}
-use mathlib.Core.Bool.{cond}
 use mathlib.Core.List.{List}
-use lib.Dec.{eqb, ltb}
-use lib.ListN.{length, getD}
+use lib.ListN.{length}
 use Rattle.plan.specs.declared.Answer.{Answer}
 use Rattle.plan.specs.declared.Answer.the-variants.{Accepted}
-use Rattle.plan.specs.Answers.{tableFor}
 use Rattle.plan.specs.Found.{Found}
-use Rattle.plan.specs.Shown.{shownPart, shownRefusal}
+use Rattle.plan.specs.Shown.{shownPart, shownStart, shownRefusal}
 use Rattle.plan.specs.Tree.{Plan}
 
 -- a number and a place, which has 32 bits
@@ -26,11 +23,6 @@ unfoldable pub acceptNumber : Answer → ℕ
 acceptNumber (Answer.Refused number place) = pairOf number place
 acceptNumber (Accepted variables activities nodes) = activities
 
--- the place in row k of a plan's table, which has 256 rows
-unfoldable pub rowPlace : (table : List ℕ) → (k : ℕ) → ℕ
-rowPlace table k = cond (ltb k 256) (getD table (k * 13 + 10) 0) 0
-
--- showing: the refusal; where there is none, the start of activity k; and the length of the part shown, which is empty where it is refused
+-- showing: the refusal, where activity k starts, and the length of the part shown; the last two are 0 where it is refused
 unfoldable pub showNumber : Found Plan → List ℕ → (k : ℕ) → ℕ
-showNumber g s k =
-    tripleOf (shownRefusal g k) (cond (eqb (shownRefusal g k) 0) (rowPlace (tableFor g) k) 0) (length (shownPart g s k))
+showNumber g s k = tripleOf (shownRefusal g k) (shownStart g k) (length (shownPart g s k))

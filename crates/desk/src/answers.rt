@@ -83,8 +83,9 @@ fn put_shown(part: &[u8], refusal: u32, out: &mut [u8; 4096], used: usize) -> us
 }
 
 fn put_show(s: &[u8], k: u32, out: &mut [u8; 4096], used: usize) -> usize {
+    let mut start: usize = 0;
     let mut refusal = 0u32;
-    let part = plan::show(s, k as usize, &mut refusal);
+    let part = plan::show(s, k as usize, &mut start, &mut refusal);
     put_shown(part, refusal, out, used)
 }
 

@@ -23,7 +23,7 @@ use Rattle.order.specs.declared.Way.the-variants.{Running, Over, Raising
 use Rattle.order.specs.declared.Went.{Went}
 use Rattle.order.specs.declared.Worth.{Worth}
 use Rattle.order.specs.Acting.{finishes, raises, leaves, orRaises, enters, again, repeats, allBound, itself}
-use Rattle.order.specs.Answering.{entered, went, isOver, worthOf, Evaluates, begunOf, Begins, AfterRow, Forgets, Pushes, SpotAt, scopeAct, scopeOf, runsOf, finishesOf, raisesOf, leavesOf, Bound, Names, AllBound, Binds, Enters, StepOf, Roomy, Closes, StepsAt, Repeats, WorthAt}
+use Rattle.order.specs.Answering.{entered, went, isOver, worthOf, Evaluates, begunOf, Begins, AfterRow, Forgets, Pushes, SpotAt, scopeAct, scopeOf, runsOf, finishesOf, raisesOf, leavesOf, Bound, CountOf, Names, AllBound, Binds, Enters, StepOf, Roomy, Closes, StepsAt, Repeats, WorthAt}
 use Rattle.order.specs.Begin.{begin, part, partAt, beginPart, cleared}
 use Rattle.order.specs.Expression.{Value, fault, value, evaluate, isTrue}
 use Rattle.order.specs.Lists.{only, every}
@@ -83,6 +83,10 @@ module _ (t : List ℕ) (k c : ℕ) (o : Order) {o₁ : Order} (e : o₁ ≡ mar
     is = λ a s. stays (finishes k) (begunIn (marked k 2 o) (begin a c (marked k 2 o .marks))) (part-begun a s) q h;
   }
 
+-- the count of a row is that of the variables it names
+pub names-count : {t : List ℕ} {k n : ℕ} {vs : List ℕ} → CountOf t k n → Names t k vs → n ≡ length vs
+names-count c m = c .is (omega (arith, m .count, m .few)) ∙ m .count
+
 -- the loop of `all_bound`: those before are bound
 pub record Checking (t : List ℕ) (k : ℕ) (o : Order) (i : ℕ) : Type 0 where
   pub is : (vs : List ℕ) → Names t k vs → every (isBound o) vs ≡ every (isBound o) (drop i vs)
@@ -90,30 +94,31 @@ pub record Checking (t : List ℕ) (k : ℕ) (o : Order) (i : ℕ) : Type 0 wher
 pub checking-starts : (t : List ℕ) (k : ℕ) (o : Order) → Checking t k o 0
 checking-starts t k o = record { is = λ vs n. refl }
 
-pub bound-many : (t : List ℕ) (k : ℕ) (o : Order) {r : Bool} → 4 < getD t (k * 13 + 3) 0 → AllBound t k o r
-bound-many t k o h = record { is = λ vs n. absurd (omega (arith, n .count, n .few)) }
+pub bound-beyond : (t : List ℕ) (k : ℕ) (o : Order) → 256 ≤ k → AllBound t k o false
+bound-beyond t k o h = record { is = λ vs n. absurd (omega (arith, n .row)); beyond = λ g. refl }
 
-module _ {t : List ℕ} {k : ℕ} {o : Order} {i : ℕ} (w : Checking t k o i) where
-  pub checking-done : getD t (k * 13 + 3) 0 ≤ i → AllBound t k o true
+module _ {t : List ℕ} {k : ℕ} {o : Order} {i n : ℕ} (w : Checking t k o i) (c : CountOf t k n) where
+  pub checking-done : k < 256 → n ≤ i → AllBound t k o true
   unfolding every
-  checking-done h = record {
-    is = λ vs n. let g : length vs ≤ i = omega (arith, n .count) in sym (w .is vs n ∙ rw (drop-of-length-le vs g));
+  checking-done f h = record {
+    is = λ vs m. let g : length vs ≤ i = omega (arith, names-count c m) in sym (w .is vs m ∙ rw (drop-of-length-le vs g));
+    beyond = λ g. absurd (omega arith);
   }
 
-  module _ (h : i < getD t (k * 13 + 3) 0) {b : Bool} (x : Bound o (getD t (k * 13 + 4 + i) 0) b) where
+  module _ (h : i < n) {v : ℕ} (q : v ≡ getD t (k * 13 + 4 + i) 0) {b : Bool} (x : Bound o v b) where
     next-bound : (vs : List ℕ) → Names t k vs → every (isBound o) (drop i vs) ≡ (b && every (isBound o) (drop (i + 1) vs))
     unfolding every
-    next-bound vs n =
-        let g : i < length vs = omega (arith, n .count) in
-        let v : getD t (k * 13 + 4 + i) 0 ≡ getD vs i 0 = n .variables i (omega (arith, n .few)) in
-        let y : b ≡ isBound o (getD vs i 0) = rw v at (x .is (rw v (n .small i g))) in
+    next-bound vs m =
+        let g : i < length vs = omega (arith, names-count c m) in
+        let u : v ≡ getD vs i 0 = q ∙ m .variables i (omega (arith, m .few)) in
+        let y : b ≡ isBound o (getD vs i 0) = rw u at (x .is (rw u (m .small i g))) in
         rw (y, add-one, drop-cons vs i 0 g)
 
     pub checking-again : b ≡ true → Checking t k o (i + 1)
-    checking-again e = record { is = λ vs n. w .is vs n ∙ (rw e at (next-bound vs n)) }
+    checking-again e = record { is = λ vs m. w .is vs m ∙ (rw e at (next-bound vs m)) }
 
     pub checking-fails : b ≡ false → AllBound t k o false
-    checking-fails e = record { is = λ vs n. sym (w .is vs n ∙ (rw e at (next-bound vs n))) }
+    checking-fails e = record { is = λ vs m. sym (w .is vs m ∙ (rw e at (next-bound vs m))); beyond = λ g. refl }
 
 -- what the limits say of the variables of a tuple
 pub variables-small : (vars : ℕ) (once : Bool) (vs : List ℕ) → variablesWithin vars once vs ≡ true → vars ≤ 16 → (i : ℕ) → i < length vs → getD vs i 0 < 16
@@ -123,21 +128,28 @@ variables-small vars once (v ∷ l) h f zero g = both (ltb v vars) _ h (λ a b. 
 variables-small vars once (v ∷ l) h f (suc i) g =
     both (ltb v vars) _ h (λ a b. both (not (once && among v l)) _ b (λ c d. variables-small vars once l d f i (omega arith)))
 
+-- what the limits say of the tuple of a send, a receive or an arm
+pub line-names : {own : Own} {n k e : ℕ} {t : List ℕ} (w : Line own n k e t) (once : Bool) (p q : ℕ) → k < e
+    → exchangeWithin (w .variables) once p q (variablesOf own) ≡ true → Names t k (variablesOf own)
+unfolding exchangeWithin
+line-names {own} w once p q z h =
+    both (ltb p 64) _ h (λ a b.
+    both (ltb q 64) _ b (λ c d.
+    both (leb 1 (length (variablesOf own))) _ d (λ e f.
+    both (leb (length (variablesOf own)) 4) _ f (λ g i. record {
+      row = omega (arith, w .inside);
+      count = w .row .count;
+      variables = w .row .variables;
+      few = leb-true (length (variablesOf own)) 4 g;
+      small = variables-small (w .variables) once (variablesOf own) i (w .few);
+    }))))
+
 -- `sends`
 pub send-names : (t : List ℕ) (k p q : ℕ) (vs : List ℕ) (l : Acts) → Stands (act (send p q vs) l) k t → Names t k vs
-unfolding Stands variablesOf ownWithin exchangeWithin
+unfolding Stands variablesOf ownWithin
 send-names t k p q vs l s =
     both (not (s .first .arms)) _ (s .first .limits) (λ a b.
-    both (eqb (count l) 0) _ b (λ c d.
-    both (ltb p 64) _ d (λ e f.
-    both (ltb q 64) _ f (λ g h.
-    both (leb 1 (length vs)) _ h (λ i j.
-    both (leb (length vs) 4) _ j (λ m n. record {
-      count = s .first .row .count;
-      variables = s .first .row .variables;
-      few = leb-true (length vs) 4 m;
-      small = variables-small (s .first .variables) false vs n (s .first .few);
-    }))))))
+    both (eqb (count l) 0) _ b (λ c d. line-names (s .first) false p q (omega arith) d))
 
 module _ (t : List ℕ) (k : ℕ) (o : Order) {b : Bool} (x : AllBound t k o b) where
   pub send-sends : b ≡ true → {r : Went} → r ≡ finishesOf k o → StepOf 1 t k o r

@@ -14,7 +14,7 @@ use Rattle.plan.specs.Tree.{Own, empty, send, receive, set as setting, raise, l
 use Rattle.plan.specs.Within.{ownWithin, exchangeWithin, variablesWithin}
 use Rattle.plan.proofs.Accepts.{both}
 use Rattle.order.specs.declared.Order.{Order}
-use Rattle.order.specs.Answering.{Names, Binds, BindsRow, Spelled, TakesOrder}
+use Rattle.order.specs.Answering.{CountOf, Names, Binds, BindsRow, Spelled, TakesOrder}
 use Rattle.order.specs.Stands.{Stands, StandAll, PlanStands}
 use Rattle.order.specs.State.{binding}
 use Rattle.order.specs.Taking.{actIn, actAmong, actAt, bindAll, bindOwn, bindAct, taking}
@@ -22,7 +22,7 @@ use Rattle.order.proofs.ChildReturns.{yes, no}
 use Rattle.order.proofs.Owns.{Case, of-kind}
 use Rattle.order.proofs.PlanStands.{plan-stands}
 use Rattle.order.proofs.Standing.{size-pos, stands-inside}
-use Rattle.order.proofs.StepReturns.{variables-small}
+use Rattle.order.proofs.StepReturns.{line-names, names-count}
 
 -- `bind_row`
 bind-next : (v : ℕ) (l ys zs : List ℕ) (x : ℕ) (o p : Order) → drop 1 ys ≡ zs → getD ys 0 0 ≡ x → p ≡ binding v x o → bindAll (v ∷ l) ys o ≡ bindAll l zs p
@@ -35,61 +35,40 @@ pub record Taking (t : List ℕ) (k : ℕ) (xs : List ℕ) (o₀ : Order) (i : �
 pub taking-starts : (t : List ℕ) (k : ℕ) (xs : List ℕ) (o : Order) → Taking t k xs o 0 o
 taking-starts t k xs o = record { is = λ vs n. refl }
 
-pub taking-many : (t : List ℕ) (k : ℕ) (xs : List ℕ) (o : Order) {r : Order} → 4 < getD t (k * 13 + 3) 0 → BindsRow t k xs o r
-taking-many t k xs o h = record { is = λ vs n. absurd (omega (arith, n .count, n .few)) }
-
-module _ {t : List ℕ} {k : ℕ} {xs : List ℕ} {o₀ : Order} {i : ℕ} {o : Order} (w : Taking t k xs o₀ i o) where
-  pub taking-done : getD t (k * 13 + 3) 0 ≤ i → BindsRow t k xs o₀ o
+module _ {t : List ℕ} {k : ℕ} {xs : List ℕ} {o₀ : Order} {i : ℕ} {o : Order} (w : Taking t k xs o₀ i o) {n : ℕ} (c : CountOf t k n) where
+  pub taking-done : n ≤ i → BindsRow t k xs o₀ o
   unfolding bindAll
   taking-done h = record {
-    is = λ vs n. let g : length vs ≤ i = omega (arith, n .count) in sym (w .is vs n ∙ rw (drop-of-length-le vs g));
+    is = λ vs m. let g : length vs ≤ i = omega (arith, names-count c m) in sym (w .is vs m ∙ rw (drop-of-length-le vs g));
   }
 
-  pub taking-again : i < getD t (k * 13 + 3) 0 → {p : Order} → Binds (getD t (k * 13 + 4 + i) 0) (getD xs i 0) o p → Taking t k xs o₀ (i + 1) p
-  taking-again h {p} b = record {
-    is = λ vs n.
-        let g : i < length vs = omega (arith, n .count) in
-        let v : getD t (k * 13 + 4 + i) 0 ≡ getD vs i 0 = n .variables i (omega (arith, n .few)) in
-        let y : p ≡ binding (getD vs i 0) (getD xs i 0) o = rw v at (b .is (rw v (n .small i g))) in
+  pub taking-again : i < n → {v : ℕ} → v ≡ getD t (k * 13 + 4 + i) 0 → {p : Order} → Binds v (getD xs i 0) o p → Taking t k xs o₀ (i + 1) p
+  taking-again h {v} q {p} b = record {
+    is = λ vs m.
+        let g : i < length vs = omega (arith, names-count c m) in
+        let u : v ≡ getD vs i 0 = q ∙ m .variables i (omega (arith, m .few)) in
+        let y : p ≡ binding (getD vs i 0) (getD xs i 0) o = rw u at (b .is (rw u (m .small i g))) in
         let c : drop i vs ≡ getD vs i 0 ∷ drop (i + 1) vs = rw add-one (drop-cons vs i 0 g) in
         let d : drop 1 (drop i xs) ≡ drop (i + 1) xs = drop-drop 1 i xs in
         let e : i + 0 ≡ i = omega arith in
         let f : getD (drop i xs) 0 0 ≡ getD xs i 0 = rw e at (getD-drop i xs 0 0) in
-        w .is vs n
+        w .is vs m
         ∙ (ap (λ (l : List ℕ). bindAll l (drop i xs) o) c ∙ bind-next (getD vs i 0) (drop (i + 1) vs) (drop i xs) (drop (i + 1) xs) (getD xs i 0) o p d f y);
   }
 
 -- the variables of a receive and of an arm
 module _ (t : List ℕ) (k p q : ℕ) (vs : List ℕ) (l : Acts) where
   receive-names : Stands (act (receive p q vs) l) k t → Names t k vs
-  unfolding Stands variablesOf ownWithin exchangeWithin
+  unfolding Stands variablesOf ownWithin
   receive-names s =
       both (not (s .first .arms)) _ (s .first .limits) (λ a b.
-      both (eqb (count l) 0) _ b (λ c d.
-      both (ltb p 64) _ d (λ e f.
-      both (ltb q 64) _ f (λ g h.
-      both (leb 1 (length vs)) _ h (λ i j.
-      both (leb (length vs) 4) _ j (λ m n. record {
-        count = s .first .row .count;
-        variables = s .first .row .variables;
-        few = leb-true (length vs) 4 m;
-        small = variables-small (s .first .variables) true vs n (s .first .few);
-      }))))))
+      both (eqb (count l) 0) _ b (λ c d. line-names (s .first) true p q (omega arith) d))
 
   arm-names : Stands (act (arm p q vs) l) k t → Names t k vs
-  unfolding Stands variablesOf ownWithin exchangeWithin
+  unfolding Stands variablesOf ownWithin
   arm-names s =
       both (s .first .arms) _ (s .first .limits) (λ a b.
-      both (eqb (count l) 1) _ b (λ c d.
-      both (ltb p 64) _ d (λ e f.
-      both (ltb q 64) _ f (λ g h.
-      both (leb 1 (length vs)) _ h (λ i j.
-      both (leb (length vs) 4) _ j (λ m n. record {
-        count = s .first .row .count;
-        variables = s .first .row .variables;
-        few = leb-true (length vs) 4 m;
-        small = variables-small (s .first .variables) true vs n (s .first .few);
-      }))))))
+      both (eqb (count l) 1) _ b (λ c d. line-names (s .first) true p q (omega arith) d))
 
 -- the activity with a number stands in the row with that number
 mutual

@@ -14,7 +14,6 @@ mod stopping;
 mod taking;
 mod undoing;
 
-ghost use Prim.Native.Nat.{_<_};
 ghost use Rattle.order.specs.Answering.{StepsOrder, StartsOrder, TakesOrder, AllBound};
 
 // An order. Where `root` is 0 the slot is free; else `root` is the mark of the root, which counts as a scope and has no number.
@@ -116,9 +115,8 @@ pub fn taken_order(
     taking::taken_order(table, activities, order, t, values)
 }
 
-// Whether all variables that row k names are bound.
+// Whether all variables that row k names are bound; false where there is no row k.
 pub fn all_bound(table: &[u32; 11584], k: usize, order: Order) -> bool
-    requires { ⌜ k < 256 ⌝ }
     ensures { λ r. ⌜ AllBound (now (table .entry)) k order r ⌝ }
 {
     steps::all_bound(table, k, order)

@@ -11,8 +11,10 @@ use super::marks::marked;
 use super::marks::with_marks;
 use super::memory::forgetting;
 use super::memory::pushed;
+use super::rows::count_of;
 use super::rows::end_of;
 use super::rows::kind_of;
+use super::rows::variable_of;
 use super::scopes::spot_at;
 use super::undoing::after_row;
 use super::undoing::begin_row;
@@ -78,19 +80,17 @@ fn is_bound(order: Order, v: u32) -> bool
     order.bound[i] == 1
 }
 
-// Whether all variables that row k names are bound.
+// Whether all variables that row k names are bound; false where there is no row k.
 pub(crate) fn all_bound(table: &[u32; 11584], k: usize, order: Order) -> bool
-    requires { ⌜ k < 256 ⌝ }
     ensures { λ r. ⌜ AllBound (now (table .entry)) k order r ⌝ }
 {
-    let count = table[k * 13 + 3];
-    if 4 < count {
+    if 256 <= k {
         return false;
     }
-    let n = count as usize;
+    let n = count_of(table, k);
     let mut i: usize = 0;
     while i < n {
-        if is_bound(order, table[k * 13 + 4 + i]) {
+        if is_bound(order, variable_of(table, k, i)) {
             i += 1;
         } else {
             return false;

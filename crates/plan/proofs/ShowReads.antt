@@ -12,7 +12,7 @@ use Rattle.plan.specs.declared.Answer.the-variants.{Accepted}
 use Rattle.plan.specs.Answers.{answerOf, tableFor}
 use Rattle.plan.specs.Found.{Found, refused, found}
 use Rattle.plan.specs.Read.{readPlan}
-use Rattle.plan.specs.Shown.{bytesOf, shownPart, shownRefusal}
+use Rattle.plan.specs.Shown.{bytesOf, shownPart, shownStart, shownRefusal}
 use Rattle.plan.specs.Spell.{spell, actNumbers, planNumbers, spelling}
 use Rattle.plan.specs.Spells.{Part, partPlan, stopOf}
 use Rattle.plan.specs.Table.{tableOf}
@@ -53,6 +53,11 @@ bad-part : (g : Found Plan) (s : List ℕ) (k : ℕ) {r : Answer} {number place 
 unfolding answerOf shownPart
 bad-part (refused n p) s k e o = refl
 bad-part (found p n) s k e o = let z : _≡_ {A = ℕ} 0 1 = cc in absurd (omega arith)
+
+bad-place : (g : Found Plan) (k : ℕ) {r : Answer} {number place : ℕ} → r ≡ answerOf g → r ≡ Answer.Refused number place → 0 ≡ shownStart g k
+unfolding answerOf shownStart
+bad-place (refused n p) k e o = refl
+bad-place (found p n) k e o = let z : _≡_ {A = ℕ} 0 1 = cc in absurd (omega arith)
 
 -- where the part of activity k stands
 record Placed (s t : List ℕ) (k : ℕ) (q : Part) : Type 0 where
@@ -97,6 +102,10 @@ module _ (s : List ℕ) (k : ℕ) {r : Answer} {vars acts m : ℕ} {t : List ℕ
         let l : stop - start ≡ length (spell (actNumbers (partPlan (x .p) k .what))) = omega (arith, a .start, a .stop) in
         q ∙ same-part s l (i ∙ a .start) ∙ sym (ap (λ g. shownPart g s k) (x .is) ∙ rw (lt-ltb _ _ few))
 
+    pub show-place : start ≡ shownStart (readPlan s) k
+    unfolding shownStart
+    show-place = i ∙ placed .start ∙ sym (ap (λ g. shownStart g k) (x .is) ∙ rw (lt-ltb _ _ few))
+
   pub show-shown : 0 ≡ shownRefusal (readPlan s) k
   unfolding shownRefusal
   show-shown = sym (ap (λ g. shownRefusal g k) (x .is) ∙ rw (lt-ltb _ _ few))
@@ -109,6 +118,13 @@ module _ (s : List ℕ) (k : ℕ) {r : Answer} {vars acts m : ℕ} (e : r ≡ an
       let f : size (x .p .body) + size (x .p .fault) ≤ k = omega (arith, x .many) in
       sym (ap (λ g. shownRefusal g k) (x .is) ∙ rw (le-ltb _ _ f))
 
+  pub show-nowhere : 0 ≡ shownStart (readPlan s) k
+  unfolding shownStart
+  show-nowhere =
+      let x = accepted (readPlan s) e o refl in
+      let f : size (x .p .body) + size (x .p .fault) ≤ k = omega (arith, x .many) in
+      sym (ap (λ g. shownStart g k) (x .is) ∙ rw (le-ltb _ _ f))
+
   pub show-nothing : {part : List ℕ} → part ≡ take (0 - 0) (drop 0 s) → part ≡ shownPart (readPlan s) s k
   unfolding shownPart
   show-nothing q =
@@ -119,6 +135,9 @@ module _ (s : List ℕ) (k : ℕ) {r : Answer} {vars acts m : ℕ} (e : r ≡ an
 module _ (s : List ℕ) (k : ℕ) {r : Answer} {number place : ℕ} where
   pub show-bad : r ≡ answerOf (readPlan s) → r ≡ Answer.Refused number place → number ≡ shownRefusal (readPlan s) k
   show-bad e o = bad-number (readPlan s) k e o
+
+  pub show-unplaced : r ≡ answerOf (readPlan s) → r ≡ Answer.Refused number place → 0 ≡ shownStart (readPlan s) k
+  show-unplaced e o = bad-place (readPlan s) k e o
 
   pub show-empty : {part : List ℕ} → r ≡ answerOf (readPlan s) → r ≡ Answer.Refused number place → part ≡ take (0 - 0) (drop 0 s)
       → part ≡ shownPart (readPlan s) s k

@@ -1,4 +1,4 @@
--- The part of a plan's bytes that `show` gives, and its refusal. Assumes nothing: these are definitions.
+-- The part of a plan's bytes that `show` gives, where it starts, and the refusal. Assumes nothing: these are definitions.
 use Prim.Native.Nat.{ℕ, _+_}
 use mathlib.Core.Bool.{cond}
 use mathlib.Core.List.{List, []}
@@ -17,6 +17,11 @@ bytesOf q s = take (length (spell (actNumbers (q .what)))) (drop (q .start) s)
 unfoldable pub shownPart : Found Plan → List ℕ → (k : ℕ) → List ℕ
 shownPart (refused number place) s k = []
 shownPart (found p next) s k = cond (ltb k (size (p .body) + size (p .fault))) (bytesOf (partPlan p k) s) []
+
+-- where that part starts, 0 where it is empty
+unfoldable pub shownStart : Found Plan → (k : ℕ) → ℕ
+shownStart (refused number place) k = 0
+shownStart (found p next) k = cond (ltb k (size (p .body) + size (p .fault))) (partPlan p k .start) 0
 
 -- 16: "show: no activity k"; "a bad plan its own number"
 unfoldable pub shownRefusal : Found Plan → (k : ℕ) → ℕ

@@ -12,7 +12,7 @@ ghost use lib.ListN.{length, take, drop};
 ghost use mathlib.Core.Path.{_≡_};
 ghost use Rattle.plan.specs.Answers.{answerOf, tableFor, flagsFor};
 ghost use Rattle.plan.specs.Read.{readPlan};
-ghost use Rattle.plan.specs.Shown.{shownPart, shownRefusal};
+ghost use Rattle.plan.specs.Shown.{shownPart, shownStart, shownRefusal};
 
 // The reading head: the lent bytes and a place in them.
 pub struct Head<'a> {
@@ -90,9 +90,10 @@ fn between(s: &[u8], a: usize, e: usize) -> &[u8]
 }
 
 // Activity or arm k of the plan s, as the very part of s that spells it; 16 where there is no activity k, a bad plan's own number.
-// Where it refuses, the part is empty.
-pub fn show<'a>(s: &'a [u8], k: usize, refusal: &mut u32) -> &'a [u8]
+// Where it refuses, the part is empty. A contract knows a returned part by its bytes alone, so where the part starts is lent out beside it.
+pub fn show<'a>(s: &'a [u8], k: usize, start: &mut usize, refusal: &mut u32) -> &'a [u8]
     ensures part { λ r. ⌜ now r ≡ shownPart (readPlan (now (s .entry))) (now (s .entry)) k ⌝ }
+    ensures place { λ _. ⌜ now (start .exit) ≡ shownStart (readPlan (now (s .entry))) k ⌝ }
     ensures refused { λ _. ⌜ now (refusal .exit) ≡ shownRefusal (readPlan (now (s .entry))) k ⌝ }
 {
     let mut table = [0u32; 11584];
@@ -100,6 +101,7 @@ pub fn show<'a>(s: &'a [u8], k: usize, refusal: &mut u32) -> &'a [u8]
     let a = accept(s, &mut table, &mut correlation);
     match a {
         Answer::Refused { number, place: _ } => {
+            *start = 0;
             *refusal = number;
             between(s, 0, 0)
         }
@@ -109,11 +111,13 @@ pub fn show<'a>(s: &'a [u8], k: usize, refusal: &mut u32) -> &'a [u8]
             nodes: _,
         } => {
             if k < activities {
-                let start = table::column(&table, k, 10);
-                let stop = table::column(&table, k, 12);
+                let from = table::column(&table, k, 10);
+                let to = table::column(&table, k, 12);
+                *start = from;
                 *refusal = 0;
-                between(s, start, stop)
+                between(s, from, to)
             } else {
+                *start = 0;
                 *refusal = 16;
                 between(s, 0, 0)
             }

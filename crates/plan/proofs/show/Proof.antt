@@ -1,10 +1,10 @@
 -- `plan::show` meets its contract. Assumes nothing.
 use borrow.Author.Needs.{needs}
-use Rattle.plan.proofs.ShowReads.{show-row, show-ordered, show-inside, show-part, show-shown, show-beyond, show-nothing, show-bad, show-empty}
+use Rattle.plan.proofs.ShowReads.{show-row, show-ordered, show-inside, show-part, show-place, show-shown, show-beyond, show-nowhere, show-nothing, show-bad, show-unplaced, show-empty}
 use Rattle.plan.proofs.show.Statement.{statement}
 use Rattle.plan.proofs.show.Tie as tie
 
-ruleset cases = (show-row, show-ordered, show-inside, show-part, show-shown, show-beyond, show-nothing, show-bad, show-empty)
+ruleset cases = (show-row, show-ordered, show-inside, show-part, show-place, show-shown, show-beyond, show-nowhere, show-nothing, show-bad, show-unplaced, show-empty)
 
 pub show-spec : {M : Type 1} → statement M
 show-spec =
