@@ -10,6 +10,7 @@ use lib.Dec.{eqb}
 use borrow.Author.Tests.{eqb-true, eqb-false}
 use Rattle.plan.specs.Tree.{Own, empty, send, receive, set as setting, raise, leave, choose, repeat, sequence, flow, pick, scope, arm, kind, Act, act, Acts, none, more, Plan, size, sizes}
 use Rattle.order.specs.declared.Order.{Order}
+use Rattle.order.specs.declared.End.the-variants.{None}
 use Rattle.order.specs.State.{Name, inner, idle, active, done, withMarks, marked}
 use Rattle.order.specs.Event.{Event, began}
 use Rattle.order.specs.Begin.{Begun, nothingBegun, awaiting, throughout, around, itsBeginning, inTurn, sideBySide, begin, beginInTurn, beginAll}
@@ -26,7 +27,7 @@ pub record Begins (p : Plan) (S : List ℕ → Type 0) (k n : ℕ) (o₀ o : Ord
   pub kept : Kept k n (o .marks) (r .marks)
   pub quiet : r .over ≡ true → Quiet (r .marks) k n
   pub runs : r .over ≡ false → S (r .marks)
-  pub does : Does p false o₀ (r .log) (withMarks (r .marks) o)
+  pub does : Does p None o₀ (r .log) (withMarks (r .marks) o)
 
 -- a stretch of marks with another before it
 pub quiet-set : {k n j : ℕ} {ms : List ℕ} (v : ℕ) → Quiet ms k n → j < k → Quiet (set ms j v) k n
@@ -45,7 +46,7 @@ quiet-all (more a l) c q = all-quiet {a = a} {c = c} (quiet-part q (omega arith)
 
 module _ (p : Plan) where
   -- activity k begins, and awaits its step
-  begins-awaiting : (own : Own) (within : Acts) (k : ℕ) (o₀ o : Order) → isScope own ≡ false → isDoer own ≡ true → isName p (inner k) ≡ false → Does p false o₀ (began k ∷ []) o
+  begins-awaiting : (own : Own) (within : Acts) (k : ℕ) (o₀ o : Order) → isScope own ≡ false → isDoer own ≡ true → isName p (inner k) ≡ false → Does p None o₀ (began k ∷ []) o
       → Quiet (o .marks) k (1 + sizes within) → k < length (o .marks)
       → Begins p (λ ms. Run ms (act own within) k) k (1 + sizes within) o₀ o (awaiting k (o .marks))
   begins-awaiting own within k o₀ o s i z d q h =
@@ -57,7 +58,7 @@ module _ (p : Plan) where
       }
 
   -- a sequence or a flow k, within which these began
-  begins-throughout : (own : Own) (within : Acts) (S : List ℕ → Type 0) (k : ℕ) (o₀ o : Order) → isName p (inner k) ≡ false → Does p false o₀ (began k ∷ []) o
+  begins-throughout : (own : Own) (within : Acts) (S : List ℕ → Type 0) (k : ℕ) (o₀ o : Order) → isName p (inner k) ≡ false → Does p None o₀ (began k ∷ []) o
       → Quiet (o .marks) k (1 + sizes within) → k < length (o .marks)
       → ((ms : List ℕ) → getD ms k 0 ≡ active → S ms → Run ms (act own within) k)
       → (ms : List ℕ) (v : Bool) (l : List Event)
@@ -81,7 +82,7 @@ module _ (p : Plan) where
 
   -- what an activity other than a scope or an arm begins with, by its kind
   pub begins-own : (x : Place) (own : Own) (within : Acts) (k : ℕ) (o₀ o : Order) → isScope own ≡ false → isArm own ≡ false → Before (nameOf x) k → Fit x o → isName p (inner k) ≡ false
-      → Does p false o₀ (began k ∷ []) o → Quiet (o .marks) k (1 + sizes within) → k + (1 + sizes within) ≤ length (o .marks)
+      → Does p None o₀ (began k ∷ []) o → Quiet (o .marks) k (1 + sizes within) → k + (1 + sizes within) ≤ length (o .marks)
       → ((o : Order) → Quiet (o .marks) (k + 1) (sizes within) → k + 1 + sizes within ≤ length (o .marks) → Fit x o
       → Begins p (λ ms. One ms within (k + 1)) (k + 1) (sizes within) o o (beginInTurn within (k + 1) (o .marks)))
       → ((o : Order) → Quiet (o .marks) (k + 1) (sizes within) → k + 1 + sizes within ≤ length (o .marks) → Fit x o
@@ -194,7 +195,7 @@ module _ (p : Plan) where
       (itsBeginning k (around k (record { marks = ms; over = v; log = l })))
   begins-around {n} b f u k o kn y w q h ms v l r = go v r
     where
-      first : Does p false o (began k ∷ []) (marked k active o)
+      first : Does p None o (began k ∷ []) (marked k active o)
       first =
           does-one (λ past x. move-begin p (momentOf p o) (momentOf p (marked k active o)) past x (innerAt k n (trio b f u)) kn y w
           (ap phase (q .at k (omega arith) (omega arith))) (ap phase (getD-set-same (o .marks) k active 0 h)) refl (marked-elsewhere p k active o))
@@ -262,7 +263,7 @@ module _ (p : Plan) where
         (begins s o (quiet-part q (omega arith) (omega arith)) (omega arith) w) (λ o q h w. begins-all y o q h w)
 
   -- a fault part or an undo part begins, its own beginning being said
-  pub begins-remedy : {x : Place} {a : Act} {k : ℕ} → Remedy p x a k → (o₀ o : Order) → Does p false o₀ (began k ∷ []) o → Quiet (o .marks) k (size a)
+  pub begins-remedy : {x : Place} {a : Act} {k : ℕ} → Remedy p x a k → (o₀ o : Order) → Does p None o₀ (began k ∷ []) o → Quiet (o .marks) k (size a)
       → k + size a ≤ length (o .marks) → Fit x o
       → Begins p (λ ms. Run ms a k) k (size a) o₀ o (begin a k (o .marks))
   unfolding size

@@ -10,18 +10,19 @@ use lib.Dec.{eqb, ltb}
 use borrow.Author.Tests.{eqb-true, eqb-false, ltb-true, ltb-false}
 use Rattle.plan.specs.Tree.{Plan}
 use Rattle.order.specs.declared.Order.{Order}
+use Rattle.order.specs.declared.End.the-variants.{None}
 use Rattle.order.specs.Lists.{only, some}
 use Rattle.order.specs.State.{Name, root, inner, same, idle, withMarks, closings, markOf, marking}
 use Rattle.order.specs.Event.{ended, raised}
 use Rattle.order.specs.Begin.{cleared}
 use Rattle.order.specs.Scope.{Scope, isFor, forgetting}
-use Rattle.undoing.specs.Demand3.{Inner, insideOf, isRoot, noneNow, isOver, isUndoRaise}
+use Rattle.undoing.specs.Demand3.{Inner, insideOf, isUndoRaise}
 use Rattle.undoing.specs.Ties.{isName}
 use Rattle.undoing.proofs.Parts.{both, decide, only-not, only-within}
 use Rattle.undoing.proofs.Accounts.{Phase, heals, phase, Inside·rest}
-use Rattle.undoing.proofs.Moves.{Elsewhere, fair, move-end-healed, move-end-raised, root-healed, root-raised}
+use Rattle.undoing.proofs.Moves.{Elsewhere, fair, move-end-healed, move-end-raised, root-healed, root-turned, root-raised, root-undid}
 use Rattle.undoing.proofs.Marks.{Quiet, Kept, kept-then, kept-wider, kept-itself, kept-set}
-use Rattle.undoing.proofs.Orders.{isIn, listOf, momentOf, fairAfter, Does, does-one}
+use Rattle.undoing.proofs.Orders.{endAs, endsTurned, isIn, listOf, momentOf, fairAfter, Does, does-one}
 use Rattle.undoing.proofs.Seats.{Seat, remembering-closings, directly-directs}
 
 -- Cleared marks.
@@ -129,13 +130,13 @@ module _ (p : Plan) (distinct : Distinct p) where
 
   -- by a raise in its fault part
   pub breaks-healed : (s : Scope) (o : Order) → Seat p s → Owns (s .name) (s .first) (s .count) → phase (markOf (s .name) o) ≡ heals
-      → Inside·rest p (λ z. markOf z o) (s .name) → OthersRest s o → Does p (isRoot (s .name)) o (ended (s .name) ∷ []) (broken s o)
-  unfolding fairAfter noneNow isOver
+      → Inside·rest p (λ z. markOf z o) (s .name) → OthersRest s o → Does p (endAs (s .name)) o (ended (s .name) ∷ []) (broken s o)
+  unfolding fairAfter endsTurned
   breaks-healed s o h w q r f = go (s .name) refl
     where
-      go : (n : Name) → s .name ≡ n → Does p (isRoot n) o (ended n ∷ []) (broken s o)
+      go : (n : Name) → s .name ≡ n → Does p (endAs n) o (ended n ∷ []) (broken s o)
       go root e =
-          record { does = λ past x. (rw (root-healed p (momentOf p o) (momentOf p o) past x (subst (λ (z : Name). phase (markOf z o) ≡ heals) e q) (subst (λ (z : Name). Inside·rest p (λ y. markOf y o) z) e r)), refl) }
+          record { does = λ past x. (rw (root-healed p (momentOf p o) (momentOf p o) past x (subst (λ (z : Name). phase (markOf z o) ≡ heals) e q) (subst (λ (z : Name). Inside·rest p (λ y. markOf y o) z) e r)), root-turned p (momentOf p o) (momentOf p o) past x (subst (λ (z : Name). phase (markOf z o) ≡ heals) e q)) }
       go (inner k) e =
           does-one (λ past x. move-end-healed p (momentOf p o) (momentOf p (broken s o)) past x (inner k) (subst (λ (z : Name). isName p z ≡ true) e (h .name)) refl
           (subst (λ (z : Name). phase (markOf z o) ≡ heals) e q) (subst (λ (z : Name). Inside·rest p (λ y. markOf y o) z) e r)
@@ -145,12 +146,12 @@ module _ (p : Plan) (distinct : Distinct p) where
 
   -- by a raise in an undo part that it is running
   pub breaks-raised : (v : Bool) (s : Scope) (t : ℕ) (o₀ o : Order) → Seat p s → Owns (s .name) (s .first) (s .count) → phase (markOf (s .name) o) ≡ Phase.undoes v
-      → Inside·rest p (λ z. markOf z o) (s .name) → OthersRest s o → isUndoRaise (insideOf p (s .name)) (raised t) ≡ true → Does p false o₀ (raised t ∷ []) o
-      → Does p (isRoot (s .name)) o₀ (raised t ∷ ended (s .name) ∷ []) (broken s o)
-  unfolding fairAfter noneNow isOver
+      → Inside·rest p (λ z. markOf z o) (s .name) → OthersRest s o → isUndoRaise (insideOf p (s .name)) (raised t) ≡ true → Does p None o₀ (raised t ∷ []) o
+      → Does p (endAs (s .name)) o₀ (raised t ∷ ended (s .name) ∷ []) (broken s o)
+  unfolding fairAfter endsTurned
   breaks-raised v s t o₀ o h w q r f u d = go (s .name) refl
     where
-      go : (n : Name) → s .name ≡ n → Does p (isRoot n) o₀ (raised t ∷ ended n ∷ []) (broken s o)
+      go : (n : Name) → s .name ≡ n → Does p (endAs n) o₀ (raised t ∷ ended n ∷ []) (broken s o)
       go root e =
           record {
             does = λ past x.
@@ -161,7 +162,7 @@ module _ (p : Plan) (distinct : Distinct p) where
                     root-raised p (momentOf p o) (momentOf p o) past t (y .1) v (subst (λ (z : Name). phase (markOf z o) ≡ Phase.undoes v) e q)
                         (subst (λ (z : Name). isUndoRaise (insideOf p z) (raised t) ≡ true) e u) (subst (λ (z : Name). Inside·rest p (λ y. markOf y o) z) e r),
                   ),
-                  refl,
+                  root-undid p (momentOf p o) (momentOf p o) past t (y .1) v (subst (λ (z : Name). phase (markOf z o) ≡ Phase.undoes v) e q),
                 ));
           }
       go (inner k) e =

@@ -10,6 +10,7 @@ use lib.Dec.{eqb}
 use borrow.Author.Tests.{eqb-true, eq-eqb}
 use Rattle.plan.specs.Tree.{Own, empty, send, receive, set as setting, raise, leave, choose, repeat, sequence, flow, pick, scope, arm, kind, Act, act, Acts, Plan, size, sizes}
 use Rattle.order.specs.declared.Order.{Order}
+use Rattle.order.specs.declared.End.the-variants.{None, Left}
 use Rattle.order.specs.State.{Name, root, inner, idle, active, inside, withMarks, markAt}
 use Rattle.order.specs.Event.{Event, raised}
 use Rattle.order.specs.Begin.{beginAfter, quiet}
@@ -28,19 +29,19 @@ use Rattle.undoing.proofs.Goings.{GoAs, go-run, go-after, begins-after,
 
 -- What a step in a list comes to: where one runs, where each runs or is quiet.
 abbrev pub OneAs : Plan → Acts → (c t : ℕ) → Order → List Event → Order → Result → Type 0
-OneAs p l c t o g o′ running = One (o′ .marks) l c × Does p false o g o′
-OneAs p l c t o g o′ over = Quiet (o′ .marks) c (sizes l) × Does p false o g o′
-OneAs p l c t o g o′ raising = StoppableIn (o′ .marks) l c × Does p false o g o′ × (bareIn l ≡ true → g ≡ raised t ∷ [])
-OneAs p l c t o g o′ leaving = Does p true o g o′
+OneAs p l c t o g o′ running = One (o′ .marks) l c × Does p None o g o′
+OneAs p l c t o g o′ over = Quiet (o′ .marks) c (sizes l) × Does p None o g o′
+OneAs p l c t o g o′ raising = StoppableIn (o′ .marks) l c × Does p None o g o′ × (bareIn l ≡ true → g ≡ raised t ∷ [])
+OneAs p l c t o g o′ leaving = Does p Left o g o′
 OneAs p l c t o g o′ undone = ⊥
 OneAs p l c t o g o′ undoRaising = ⊥
 
 -- where each runs or is quiet
 abbrev pub AllAs : Plan → Acts → (c t : ℕ) → Order → List Event → Order → Result → Type 0
-AllAs p l c t o g o′ running = All (o′ .marks) l c × Does p false o g o′ × (Quiet (o′ .marks) c (sizes l) → ⊥)
-AllAs p l c t o g o′ over = All (o′ .marks) l c × Does p false o g o′
-AllAs p l c t o g o′ raising = StoppableIn (o′ .marks) l c × Does p false o g o′ × (bareIn l ≡ true → g ≡ raised t ∷ [])
-AllAs p l c t o g o′ leaving = Does p true o g o′
+AllAs p l c t o g o′ running = All (o′ .marks) l c × Does p None o g o′ × (Quiet (o′ .marks) c (sizes l) → ⊥)
+AllAs p l c t o g o′ over = All (o′ .marks) l c × Does p None o g o′
+AllAs p l c t o g o′ raising = StoppableIn (o′ .marks) l c × Does p None o g o′ × (bareIn l ≡ true → g ≡ raised t ∷ [])
+AllAs p l c t o g o′ leaving = Does p Left o g o′
 AllAs p l c t o g o′ undone = ⊥
 AllAs p l c t o g o′ undoRaising = ⊥
 
@@ -132,7 +133,7 @@ module _ (p : Plan) where
       mark₁ : getD (r .order .marks) k 0 ≡ active
       mark₁ = w .kept .below k (omega arith) ∙ e
 
-      joined : All (r .order .marks) within (k + 1) → Does p false o (r .log) (r .order) → (b : Bool) → quiet (k + 1) (sizes within) (r .order .marks) ≡ b
+      joined : All (r .order .marks) within (k + 1) → Does p None o (r .log) (r .order) → (b : Bool) → quiet (k + 1) (sizes within) (r .order .marks) ≡ b
           → Acted k (1 + sizes within) o (RunAs p (act flow within) k t o) (after (r .log) (elim b [ true ↦ finishes k (r .order) | false ↦ runs (r .order) ]))
       joined c d true h =
           go-run t (go-after kept₁ (w .rooted) d (go-finishes p flow within k (r .order) (r .order) refl refl (λ s j. (refl, refl)) z (quiet-found (sizes within) (k + 1) (r .order .marks) h) (omega (arith, w .kept .many))))

@@ -39,7 +39,7 @@ use Rattle.undoing.proofs.Orders.{momentOf, fairAfter, fair-right, onto
 use Rattle.undoing.proofs.Beginning.{Begins, begins}
 use Rattle.undoing.proofs.Waiting.{quiet-waits}
 use Rattle.undoing.proofs.Scoping.{scope-live, scope-done, scope-turned, Running}
-use Rattle.undoing.proofs.Roots.{Awaited, in-body, in-fault, Standing, Passed, passes-on, passes-end, order-steps}
+use Rattle.undoing.proofs.Roots.{Awaited, in-body, in-fault, Standing, Passed, passes-on, passes-end, ended-now, order-steps}
 use Rattle.undoing.proofs.Planning.{Promised, promised}
 use Rattle.undoing.proofs.Offered.{Good, good-live, good-start, chosen-good}
 
@@ -101,7 +101,7 @@ root-mild m e = ((λ d. false≢true (rw d at e)), (λ d. false≢true (rw d at 
 
 module _ (p : Plan) (h : Promised p) where
   -- a step of an order that stands and has taken its message
-  taken-step : (t : ℕ) (o o′ : Order) (past : List Event) → Alike p o o′ → Awaited p (o .marks) t → Standing p o → rootInLimits (o .root) ≡ true
+  pub taken-step : (t : ℕ) (o o′ : Order) (past : List Event) → Alike p o o′ → Awaited p (o .marks) t → Standing p o → rootInLimits (o .root) ≡ true
       → HoldsAt p (momentOf p o) past → Passed p past (stepOrder p t o′)
   unfolding fairAfter
   taken-step t o o′ past e w st l g =
@@ -117,8 +117,8 @@ module _ (p : Plan) (h : Promised p) where
   -- what stands in a slot after that
   passed-slot : (past : List Event) (m : Moved) → Passed p past m → (fairAfter p past (m .log) ≡ true) × Slot p (m .order) (onto (m .log) past)
   unfolding noOrder
-  passed-slot past m (passes-on r st g) = (r, slot-live st g)
-  passed-slot past m (passes-end r e n) = (r, slot-free (ap isLive e) n)
+  passed-slot past m (passes-on r z st g) = (r, slot-live st g)
+  passed-slot past m (passes-end r e n) = (r, slot-free (ap isLive e) (ended-now (m .end) (onto (m .log) past) n))
 
   -- An order starts.
   idle-marks : (k n : ℕ) → Quiet (noOrder .marks) k n
@@ -175,7 +175,7 @@ same-itself : (s : State) → Same s s
 same-itself s = record { plan = refl; long = refl; orders = refl }
 
 -- a step changes messages, and nothing else but its order
-messages-same : (d : Doing) (j : ℕ) (o : Order) (s : State) → Same s (messagesAfter d j o s)
+pub messages-same : (d : Doing) (j : ℕ) (o : Order) (s : State) → Same s (messagesAfter d j o s)
 unfolding messagesAfter
 messages-same noStep j o s = same-itself s
 messages-same (sends a b vs) j o s = decide (allBound o vs) (λ t. rw t (record { plan = refl; long = refl; orders = refl })) (λ t. rw t (same-itself s))
@@ -207,19 +207,19 @@ collect-same s = go (planIn s)
         decide (ltb (foreign (partnersOf p) 0 (letters s)) (s .waiting)) (λ t. rw t (record { plan = refl; long = refl; orders = refl })) (λ t. rw t (same-itself s))
 
 -- a test that holds of each holds of the i-th, and of what stands for it where there is none
-every-at : {A : Type 0} (f : A → Bool) (l : List A) (i : ℕ) (d : A) → f d ≡ true → every f l ≡ true → f (getD l i d) ≡ true
+pub every-at : {A : Type 0} (f : A → Bool) (l : List A) (i : ℕ) (d : A) → f d ≡ true → every f l ≡ true → f (getD l i d) ≡ true
 unfolding every
 every-at f [] i d e h = e
 every-at f (a ∷ l) zero d e h = both (f a) (every f l) h (λ x y. x)
 every-at f (a ∷ l) (suc i) d e h = both (f a) (every f l) h (λ x y. every-at f l i d e y)
 
 -- no order is within the limits
-no-order-limits : orderInLimits noOrder ≡ true
+pub no-order-limits : orderInLimits noOrder ≡ true
 unfolding orderInLimits noOrder rootInLimits every among
 no-order-limits = refl
 
 -- the root of an order that starts is within its limits
-started-in-limits : (p : Plan) → rootInLimits (startedOrder p .root) ≡ true
+pub started-in-limits : (p : Plan) → rootInLimits (startedOrder p .root) ≡ true
 unfolding startedOrder rootInLimits among
 started-in-limits p = refl
 
@@ -234,7 +234,7 @@ unfolding planIn
 plan-out s e = rw e
 
 -- the orders of a state within the limits are within theirs
-orders-within : (s : State) → inLimits s ≡ true → every orderInLimits (s .orders) ≡ true
+pub orders-within : (s : State) → inLimits s ≡ true → every orderInLimits (s .orders) ≡ true
 unfolding inLimits
 orders-within s e =
     both (leb (s .length) 4096) _ e (λ a b. both (leb (s .waiting) 64) _ b (λ c d. both (every orderInLimits (s .orders)) _ d (λ x y. x)))
@@ -308,7 +308,7 @@ module _ (p : Plan) (bytes : List ℕ) (next i : ℕ) (accepted : readPlan bytes
       m = stepOrder p (x .activity) (orderTaking (doingAt p (x .activity)) (getD (s .messages) (x .place) noMessage) o) .order
 
   -- a live order stands in one of the slots
-  live-within : (os : List Order) (k : ℕ) → isLive (getD os k noOrder) ≡ true → k < length os
+  pub live-within : (os : List Order) (k : ℕ) → isLive (getD os k noOrder) ≡ true → k < length os
   unfolding noOrder
   live-within os k e = decide (ltb k (length os)) (λ t. ltb-true k (length os) t) (λ t. absurd (false≢true (sym (ap isLive (List·getD-eq-default os noOrder {n = k} (ltb-false k (length os) t))) ∙ e)))
 

@@ -10,6 +10,7 @@ use lib.Dec.{ltb}
 use borrow.Author.Tests.{ltb-true, ltb-false}
 use Rattle.plan.specs.Tree.{Exp, Own, empty, send, receive, set as setting, raise, leave, choose, repeat, sequence, flow, pick, scope, arm, kind, Act, act, Acts, more, Plan, size, sizes, count}
 use Rattle.order.specs.declared.Order.{Order}
+use Rattle.order.specs.declared.End.the-variants.{None}
 use Rattle.order.specs.State.{Name, root, inner, idle, active, inside, withMarks, marked, binding}
 use Rattle.order.specs.Event.{Event}
 use Rattle.order.specs.Expression.{Value, fault, value, evaluate, isTrue}
@@ -18,8 +19,7 @@ use Rattle.order.specs.declared.Way.{Way as Result}
 use Rattle.order.specs.declared.Way.the-variants.{Running as running, Over as over, Raising as raising, Leaving as leaving, Undone as undone, UndoRaising as undoRaising}
 use Rattle.order.specs.Scope.{Outcome, runs, after, begunIn, whereOver, isScope}
 use Rattle.order.specs.Acting.{finishes, raises, leaves, orRaises, enters, again, repeats, allBound, itself}
-use Rattle.undoing.specs.Demand3.{noneNow, isOver}
-use Rattle.undoing.specs.Ties.{isName, Place, nameOf}
+use Rattle.undoing.specs.Ties.{isName, Place, nameOf, endTold}
 use Rattle.undoing.proofs.Parts.{decide}
 use Rattle.undoing.proofs.Accounts.{phase}
 use Rattle.undoing.proofs.Moves.{Everywhere, Before, Spot, move-raise, order-left}
@@ -31,8 +31,8 @@ use Rattle.undoing.proofs.Scoping.{Acted, RunAs}
 
 -- it runs on or is over
 abbrev pub GoAs : Plan → Act → (k : ℕ) → Order → List Event → Order → Result → Type 0
-GoAs p a k o l o′ running = Run (o′ .marks) a k × Does p false o l o′
-GoAs p a k o l o′ over = Quiet (o′ .marks) k (size a) × Does p false o l o′
+GoAs p a k o l o′ running = Run (o′ .marks) a k × Does p None o l o′
+GoAs p a k o l o′ over = Quiet (o′ .marks) k (size a) × Does p None o l o′
 GoAs p a k o l o′ raising = ⊥
 GoAs p a k o l o′ leaving = ⊥
 GoAs p a k o l o′ undone = ⊥
@@ -52,7 +52,7 @@ go-run {p} {a} {k} {n} t {o} {r} w = record { kept = w .kept; rooted = w .rooted
 
 -- after what led there
 pub go-after : {p : Plan} {a : Act} {k n : ℕ} {o o₁ : Order} {l : List Event} {r : Outcome} → Kept k n (o .marks) (o₁ .marks) → o₁ .root ≡ o .root
-    → Does p false o l o₁
+    → Does p None o l o₁
     → Acted k n o₁ (GoAs p a k o₁) r → Acted k n o (GoAs p a k o) (after l r)
 go-after {p} {a} {k} {n} {o} {o₁} {l} {r} v e d w =
     record { kept = kept-then v (w .kept); rooted = w .rooted ∙ e; comes = go (r .result) (w .comes) }
@@ -149,7 +149,7 @@ module _ (p : Plan) where
 
   -- it lets the order leave
   acts-leaves : (own : Own) (within : Acts) (k : ℕ) (o : Order) → Acted k (1 + sizes within) o (RunAs p (act own within) k k o) (leaves k o)
-  unfolding fairAfter noneNow isOver
+  unfolding fairAfter endTold
   acts-leaves own within k o =
       record {
         kept = kept-set k (1 + sizes within) k idle (o .marks) (omega arith) (omega arith);

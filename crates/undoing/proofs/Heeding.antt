@@ -13,10 +13,11 @@ use Rattle.plan.specs.Read.{readPlan}
 use Rattle.plan.specs.Tree.{Plan, size}
 use Rattle.plan.proofs.Limits.{accepted-is-within}
 use Rattle.order.specs.declared.Order.{Order}
+use Rattle.order.specs.declared.End.{End}
 use Rattle.machine.specs.declared.State.{State}
 use Rattle.machine.specs.declared.Tally.{Tally}
 use Rattle.order.specs.Lists.{only}
-use Rattle.order.specs.State.{Name, root, isLive, markOf, noOrder}
+use Rattle.order.specs.State.{Name, root, inner, isLive, markOf, noOrder}
 use Rattle.machine.specs.State.{noMessage, fresh}
 use Rattle.machine.specs.Limits.{inLimits, by}
 use Rattle.order.specs.Event.{Event, started, began, closed, faulted, stopped, ended, raised, left}
@@ -26,14 +27,14 @@ use Rattle.machine.specs.Offer.{Offer, offersOf}
 use Rattle.machine.specs.Calls.{loadedAs, load, refusing, post, collect, Chosen, refusedChoice, chosen, choosing, countStart, Stepped, doingAt, orderTaking, stepped, taken, stepChosen, stepBy, step, Call, posting, collecting, stepping}
 use Rattle.undoing.specs.History.{logOf, history}
 use Rattle.undoing.specs.Demand3.{mayTurn, noneNow}
-use Rattle.undoing.specs.Ties.{isName, fits, Place, bodyOf, faultOf, undoOf, placeOf, Due, nothing, fault, end, dueFirst, dueSecond, dueEnded, due, isFaultOf, isEndOf, heeds, isNothing, heedsAfter, FaultsTold}
+use Rattle.undoing.specs.Ties.{isName, fits, Place, bodyOf, faultOf, undoOf, placeOf, Due, nothing, fault, end, dueFirst, dueSecond, dueEnded, due, isFaultOf, isEndOf, heeds, isNothing, heedsAfter, FaultsTold, isRaised}
 use Rattle.undoing.proofs.Parts.{both, decide, same-itself}
 use Rattle.undoing.proofs.Accounts.{accountOf, left-unfinished}
 use Rattle.undoing.proofs.Moves.{HoldsAt}
 use Rattle.undoing.proofs.Orders.{listOf, momentOf, onto, does-nothing}
 use Rattle.undoing.proofs.Roots.{Awaited, Standing}
 use Rattle.undoing.proofs.Planning.{Promised, promised}
-use Rattle.undoing.proofs.Shapes.{isGrave, Calm, Handler, in-fault, in-undo, Shape, shape-calm, shape-fault, shape-end-fault, shape-end, shape-lost, order-shape, start-calm}
+use Rattle.undoing.proofs.Shapes.{isGrave, Calm, Handler, in-fault, in-undo, Shape, shape-calm, shape-fault, shape-end-fault, shape-end, shape-lost, OrderShape, shaped, out, order-shape, start-calm}
 use Rattle.undoing.proofs.Fitting.{standing-fits}
 use Rattle.undoing.proofs.Told.{told}
 use Rattle.undoing.proofs.Offered.{Good, good-live, good-start, chosen-good}
@@ -41,7 +42,7 @@ use Rattle.undoing.proofs.Scoping.{Running}
 use Rattle.undoing.proofs.Demanded.{Slot, slot-free, slot-live, standing-live, Alike, taking-alike, order-starts, post-same, collect-same, fresh-order, plan-in, plan-out, Sane, same-sane, step-after}
 
 -- nothing is due
-abbrev Clear : Plan → (past : List Event) → Type 0
+abbrev pub Clear : Plan → (past : List Event) → Type 0
 Clear p past = isNothing (due p past) ≡ true
 
 -- then it is not
@@ -56,7 +57,20 @@ first-due (bodyOf n m) = refl
 first-due (faultOf n m) = refl
 first-due (undoOf n m) = refl
 
--- so that where nothing is due, nothing is after an end either
+-- so that where nothing is due, the newest event is no raise
+pub clear-raised : (p : Plan) (past : List Event) → Clear p past → isRaised past ≡ false
+unfolding due isRaised
+clear-raised p [] h = refl
+clear-raised p (started ∷ past) h = refl
+clear-raised p (began k ∷ past) h = refl
+clear-raised p (closed k ∷ past) h = refl
+clear-raised p (faulted n ∷ past) h = refl
+clear-raised p (stopped k ∷ past) h = refl
+clear-raised p (ended n ∷ past) h = refl
+clear-raised p (raised k ∷ past) h = absurd (false≢true (sym (first-due (placeOf p k)) ∙ h))
+clear-raised p (left ∷ past) h = refl
+
+-- and nothing is due after an end either
 clear-ended : (p : Plan) (past : List Event) → Clear p past → isNothing (dueEnded p past) ≡ true
 unfolding due dueEnded
 clear-ended p [] h = refl
@@ -76,7 +90,7 @@ heeds-clear (fault s) e h f = absurd (false≢true h)
 heeds-clear (end s) e h f = absurd (false≢true h)
 
 -- a calm log
-calm-heeds : (p : Plan) (l past : List Event) → Calm l → Clear p past → heedsAfter p past l ≡ true
+pub calm-heeds : (p : Plan) (l past : List Event) → Calm l → Clear p past → heedsAfter p past l ≡ true
 unfolding heedsAfter only isGrave due isFaultOf
 calm-heeds p [] past c h = h
 calm-heeds p (started ∷ l) past c h = rw (heeds-clear (due p past) started h refl, calm-heeds p l (started ∷ past) c refl)
@@ -89,7 +103,7 @@ calm-heeds p (raised k ∷ l) past c h = absurd (let z : _≡_ {A = ℕ} 0 1 = c
 calm-heeds p (left ∷ l) past c h = rw (heeds-clear (due p past) left h refl, calm-heeds p l (left ∷ past) c refl)
 
 -- at its end nothing is due
-heeds-clears : (p : Plan) (l past : List Event) → heedsAfter p past l ≡ true → Clear p (onto l past)
+pub heeds-clears : (p : Plan) (l past : List Event) → heedsAfter p past l ≡ true → Clear p (onto l past)
 unfolding heedsAfter
 heeds-clears p [] past h = h
 heeds-clears p (e ∷ l) past h = both (heeds (due p past) e) _ h (λ x y. heeds-clears p l (e ∷ past) y)
@@ -131,17 +145,30 @@ shape-heeds p t o _ past h f c (shape-end-fault {n} {m} {l} x i z y) =
       same-itself m,
       calm-heeds p l (faulted m ∷ ended n ∷ raised t ∷ past) y refl,
     )
-shape-heeds p t o _ past h f c (shape-end {n} {m} {l} x i z y) =
+shape-heeds p t o _ past h f c (shape-end {k} {m} {l} x i z y) =
     rw (
       heeds-clear (due p past) (raised t) c refl,
-      handler-first p t n m x,
-      same-itself n,
-      calm-heeds p l (ended n ∷ raised t ∷ past) y (rw (handler-second p t n m past x, sym (may-turn p o past m h i) ∙ z) refl),
+      handler-first p t (inner k) m x,
+      same-itself (inner k),
+      calm-heeds p l (ended (inner k) ∷ raised t ∷ past) y (rw (handler-second p t (inner k) m past x, sym (may-turn p o past m h i) ∙ z) refl),
     )
 shape-heeds p t o _ past h f c (shape-lost {q} {l} x i z y) = absurd (false≢true (sym z ∙ (ap (λ (v : Place). fits v o) (sym x) ∙ f)))
 
+-- the log of a step of an order
+order-shape-heeds : (p : Plan) (t : ℕ) (o : Order) (e : End) (l past : List Event) → HoldsAt p (momentOf p o) past → fits (placeOf p t) o ≡ true → Clear p past
+    → OrderShape p t o e l → heedsAfter p past l ≡ true
+unfolding heedsAfter due dueEnded isFaultOf isEndOf
+order-shape-heeds p t o e l past h f c (shaped x y) = shape-heeds p t o l past h f c y
+order-shape-heeds p t o _ _ past h f c (out x z) =
+    rw (
+      heeds-clear (due p past) (raised t) c refl,
+      handler-first p t root root x,
+      handler-second p t root root past x,
+      sym (may-turn p o past root h refl) ∙ z,
+    )
+
 -- an order that has taken its message stands as it did
-alike-stands : (p : Plan) (o o′ : Order) → Alike p o o′ → Standing p o → Standing p o′
+pub alike-stands : (p : Plan) (o o′ : Order) → Alike p o o′ → Standing p o → Standing p o′
 alike-stands p o o′ e st =
     record {
       many = subst (λ (ms : List ℕ). size (p .body) + size (p .fault) ≤ length ms) (sym (e .marks)) (st .many);
@@ -154,7 +181,7 @@ module _ (p : Plan) (bytes : List ℕ) (next i : ℕ) (accepted : readPlan bytes
   order-heeds : (t : ℕ) (o o′ : Order) (past : List Event) → Alike p o o′ → Awaited p (o .marks) t → Standing p o → HoldsAt p (momentOf p o) past → Clear p past
       → heedsAfter p past (stepOrder p t o′ .log) ≡ true
   order-heeds t o o′ past e w st g c =
-      shape-heeds p t o′ (stepOrder p t o′ .log) past (does-nothing (e .everywhere) .does past g .1)
+      order-shape-heeds p t o′ (stepOrder p t o′ .end) (stepOrder p t o′ .log) past (does-nothing (e .everywhere) .does past g .1)
       (standing-fits p o′ t (alike-stands p o o′ e st) (subst (λ (ms : List ℕ). Awaited p ms t) (sym (e .marks)) w)) c (order-shape p (h .seat) t o′)
 
   abbrev Heeds : List Event → Stepped → Type 0
@@ -207,7 +234,7 @@ module _ (p : Plan) (bytes : List ℕ) (next i : ℕ) (accepted : readPlan bytes
           (order-heeds (x .activity) o o₁ (onto l past) (taking-alike p (doingAt p (x .activity)) (getD (s .messages) (x .place) noMessage) o) w (a .1) (a .2) (heeds-clears p l past z))
 
   -- a step, taken or refused
-  step-heeds : (c : ℕ) (s : State) (t : Tally) (past : List Event) → Sane p bytes next i accepted h s past → Clear p past → Heeds past (step c s t)
+  pub step-heeds : (c : ℕ) (s : State) (t : Tally) (past : List Event) → Sane p bytes next i accepted h s past → Clear p past → Heeds past (step c s t)
   unfolding step stepBy stepChosen
   step-heeds c s t past g z =
       decide (inLimits s)

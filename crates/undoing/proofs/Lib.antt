@@ -20,6 +20,7 @@ pub mod Places
 pub mod Planning
 pub mod Offered
 pub mod Demanded
+pub mod Happening
 pub mod Aside
 pub mod Deeds
 pub mod Shapes
@@ -27,6 +28,7 @@ pub mod Fitting
 pub mod Told
 pub mod Stepped
 pub mod Heeding
+pub mod Ending
 pub mod Awaiting
 pub mod Going
 pub mod Refused

@@ -364,6 +364,14 @@ module _ (p : Plan) (m m′ : Moment) (past : List Event) (h : HoldsAt p m past)
       let t = tied-at heals root refl q in
       rw (h .now, none-left p (m .mark) (m .list) past root h r, has-turned root (t .0) (t .1), t .2, alike-itself (undoneOf p root past), t .5, or-true)
 
+  -- a root that is live has not turned; one that heals has
+  pub root-unturned : phase (m .mark root) ≡ live → hasTurned root past ≡ false
+  unfolding hasTurned
+  root-unturned q = rw (tied-at live root refl q .1)
+
+  pub root-turned : phase (m .mark root) ≡ heals → hasTurned root past ≡ true
+  root-turned q = let t = tied-at heals root refl q in has-turned root (t .0) (t .1)
+
   -- the order leaves
   pub order-left : fair p past left ≡ true
   unfolding allowed orderly
@@ -386,6 +394,10 @@ module _ (p : Plan) (m m′ : Moment) (past : List Event) (t : ℕ) (h : HoldsAt
   move-end-raised n v i z q u r q′ c w =
       let t₁ = tied-at p m m′ (raised t ∷ past) h (undoes v) n i q in
       ended-at p m m′ (raised t ∷ past) h n i (t₁ .0) (t₁ .1) (all-but-raised n u) (mended-raised n u) r q′ c w z
+
+  -- the root has turned then
+  pub root-undid : (v : Bool) → phase (m .mark root) ≡ undoes v → hasTurned root (raised t ∷ past) ≡ true
+  root-undid v q = let t₁ = tied-at p m m′ (raised t ∷ past) h (undoes v) root refl q in has-turned p m m′ (raised t ∷ past) h root (t₁ .0) (t₁ .1)
 
   -- the root ends so
   pub root-raised : (v : Bool) → phase (m .mark root) ≡ undoes v → isUndoRaise (insideOf p root) (raised t) ≡ true → Inside·rest p (m .mark) root

@@ -10,13 +10,15 @@ use lib.Dec.{eqb, ltb}
 use borrow.Author.Tests.{eqb-true, eqb-false, ltb-true, ltb-false}
 use Rattle.plan.specs.Tree.{Own, kind, Act, act, Acts, none, more, Plan, size, sizes, count, scope}
 use Rattle.order.specs.declared.Order.{Order}
+use Rattle.order.specs.declared.End.{End}
+use Rattle.order.specs.declared.End.the-variants.{None, Well, Handled, Failed, Left}
 use Rattle.order.specs.Lists.{some, only}
 use Rattle.order.specs.State.{Name, root, inner, same, closings, markAt, marked, markOf}
-use Rattle.order.specs.Event.{Event}
+use Rattle.order.specs.Event.{Event, started, began, closed, faulted, stopped, ended, raised, left}
 use Rattle.order.specs.Begin.{part, partAt}
 use Rattle.order.specs.Scope.{isScope}
-use Rattle.undoing.specs.Demand3.{Inner, scopesOf, insideOf, allowed, rightAfter, noneNow}
-use Rattle.undoing.specs.Ties.{isName, Place, bodyOf, faultOf, undoOf, nameOf}
+use Rattle.undoing.specs.Demand3.{Inner, scopesOf, insideOf, hasTurned, allowed, rightAfter}
+use Rattle.undoing.specs.Ties.{isName, Place, bodyOf, faultOf, undoOf, nameOf, endTold}
 use Rattle.undoing.specs.Orderly.{isFaultPart, orderly, orderlyAfter}
 use Rattle.undoing.proofs.Marks.{trio, Kept, kept-set}
 use Rattle.undoing.proofs.Parts.{both, decide}
@@ -57,13 +59,34 @@ abbrev pub onto : List Event → (past : List Event) → List Event
 onto [] past = past
 onto (e ∷ l) past = onto l (e ∷ past)
 
--- after the last event the order lives on, or it is over
-abbrev pub Afterwards : (final : Bool) → Plan → Order → List Event → Type 0
-Afterwards false p o past = HoldsAt p (momentOf p o) past
-Afterwards true p o past = noneNow past ≡ true
+-- the newest event ends the root, which had turned
+unfoldable pub endsTurned : (past : List Event) → Bool
+endsTurned [] = false
+endsTurned (started ∷ past) = false
+endsTurned (began k ∷ past) = false
+endsTurned (closed k ∷ past) = false
+endsTurned (faulted n ∷ past) = false
+endsTurned (stopped k ∷ past) = false
+endsTurned (ended root ∷ past) = hasTurned root past
+endsTurned (ended (inner k) ∷ past) = false
+endsTurned (raised k ∷ past) = false
+endsTurned (left ∷ past) = false
+
+-- after the last event the order lives on, or it has ended so; whether a root that had turned was handled or failed is left open
+abbrev pub Afterwards : (final : End) → Plan → Order → List Event → Type 0
+Afterwards None p o past = HoldsAt p (momentOf p o) past
+Afterwards Well p o past = endTold past ≡ Well
+Afterwards Handled p o past = endsTurned past ≡ true
+Afterwards Failed p o past = ⊥
+Afterwards Left p o past = endTold past ≡ Left
+
+-- the end of a scope that turned is that of the order, where it is the root
+abbrev pub endAs : Name → End
+endAs root = Handled
+endAs (inner k) = None
 
 -- from one order these events, all right, lead to another, or to the end
-pub record Does (p : Plan) (final : Bool) (o : Order) (l : List Event) (o′ : Order) : Type 0 where
+pub record Does (p : Plan) (final : End) (o : Order) (l : List Event) (o′ : Order) : Type 0 where
   pub does : (past : List Event) → HoldsAt p (momentOf p o) past → (fairAfter p past l ≡ true) × Afterwards final p o′ (onto l past)
 
 -- some events and then others
@@ -78,7 +101,7 @@ onto-append past [] m = refl
 onto-append past (e ∷ l) m = onto-append (e ∷ past) l m
 
 -- one after the other
-pub does-then : {p : Plan} {final : Bool} {o o′ o″ : Order} {l m : List Event} → Does p false o l o′ → Does p final o′ m o″ → Does p final o (l ++ m) o″
+pub does-then : {p : Plan} {final : End} {o o′ o″ : Order} {l m : List Event} → Does p None o l o′ → Does p final o′ m o″ → Does p final o (l ++ m) o″
 does-then {p} {final} {o} {o′} {o″} {l} {m} f g =
     record {
       does = λ past h.
@@ -88,7 +111,7 @@ does-then {p} {final} {o} {o′} {o″} {l} {m} f g =
     }
 
 -- nothing happens, and no scope has a change
-pub does-nothing : {p : Plan} {o o′ : Order} → Everywhere p (momentOf p o) (momentOf p o′) → Does p false o [] o′
+pub does-nothing : {p : Plan} {o o′ : Order} → Everywhere p (momentOf p o) (momentOf p o′) → Does p None o [] o′
 unfolding fairAfter
 does-nothing {p} {o} {o′} w =
     record {
@@ -97,12 +120,12 @@ does-nothing {p} {o} {o′} w =
     }
 
 -- and after some events
-pub does-still : {p : Plan} {o o′ o″ : Order} {l : List Event} → Does p false o l o′ → Everywhere p (momentOf p o′) (momentOf p o″) → Does p false o l o″
-does-still {p} {o} {o′} {o″} {l} f w = subst (λ (z : List Event). Does p false o z o″) (append-nil l) (does-then f (does-nothing w))
+pub does-still : {p : Plan} {o o′ o″ : Order} {l : List Event} → Does p None o l o′ → Everywhere p (momentOf p o′) (momentOf p o″) → Does p None o l o″
+does-still {p} {o} {o′} {o″} {l} f w = subst (λ (z : List Event). Does p None o z o″) (append-nil l) (does-then f (does-nothing w))
 
 -- one event
 pub does-one : {p : Plan} {o o′ : Order} {e : Event}
-    → ((past : List Event) → HoldsAt p (momentOf p o) past → (fair p past e ≡ true) × HoldsAt p (momentOf p o′) (e ∷ past)) → Does p false o (e ∷ []) o′
+    → ((past : List Event) → HoldsAt p (momentOf p o) past → (fair p past e ≡ true) × HoldsAt p (momentOf p o′) (e ∷ past)) → Does p None o (e ∷ []) o′
 unfolding fairAfter
 does-one f = record { does = λ past h. (rw (f past h .0), f past h .1) }
 

@@ -9,18 +9,20 @@ use lib.Dec.{eqb, ltb}
 use borrow.Author.Tests.{eqb-true, eqb-false, lt-ltb, le-ltb}
 use Rattle.plan.specs.Tree.{Plan, size}
 use Rattle.order.specs.declared.Order.{Order}
-use Rattle.order.specs.declared.End.the-variants.{None, Well}
-use Rattle.order.specs.State.{root, done, halted, withdrawing, noOrder}
-use Rattle.order.specs.Event.{Event, ended}
+use Rattle.order.specs.declared.End.{End}
+use Rattle.order.specs.declared.End.the-variants.{None, Well, Handled, Failed, Left}
+use Rattle.order.specs.State.{root, inner, done, halted, withdrawing, noOrder}
+use Rattle.order.specs.Event.{Event, started, began, closed, faulted, stopped, ended, raised, left}
 use Rattle.order.specs.declared.Way.{Way as Result}
 use Rattle.order.specs.declared.Way.the-variants.{Running as running, Over as over, Raising as raising, Leaving as leaving, Undone as undone, UndoRaising as undoRaising}
 use Rattle.order.specs.Scope.{Outcome, Scope, rootOf, fromBody, fromFault}
 use Rattle.order.specs.Acting.{stepIn, stepRoot, endOf, Moved, movedTo, stepOrder}
 use Rattle.undoing.specs.Demand3.{noneNow, isOver}
+use Rattle.undoing.specs.Ties.{endTold}
 use Rattle.undoing.proofs.Accounts.{Phase, live, waits, heals, phase}
-use Rattle.undoing.proofs.Moves.{HoldsAt, root-well}
+use Rattle.undoing.proofs.Moves.{HoldsAt, root-well, root-unturned}
 use Rattle.undoing.proofs.Marks.{Quiet, turned-waits, turned-undoes, turned-heals}
-use Rattle.undoing.proofs.Orders.{momentOf, fairAfter, onto, Does, does-then}
+use Rattle.undoing.proofs.Orders.{endsTurned, momentOf, fairAfter, onto, Does, does-then}
 use Rattle.undoing.proofs.Seats.{Seat, inside-rest, quiet-inner}
 use Rattle.undoing.proofs.Waiting.{Waits, quiet-waits}
 use Rattle.undoing.proofs.Breaking.{Distinct}
@@ -101,17 +103,68 @@ module _ (p : Plan) (distinct : Distinct p) (h : Seat p (rootOf p)) where
           weaker (from-heals p distinct (rootOf p) t o (stepIn (p .fault) (size (p .body)) t o) h (root-reach p) q z m (λ i a b. absurd (omega arith))
           (steps-part p distinct (h .fault) t o false w refl v q (omega arith)))
 
+-- an end
+abbrev isSome : End → Bool
+isSome None = false
+isSome Well = true
+isSome Handled = true
+isSome Failed = true
+isSome Left = true
+
+-- the newest event, where the history tells of an end, ends the order
+told-over : (past : List Event) → isSome (endTold past) ≡ true → noneNow past ≡ true
+unfolding endTold noneNow isOver
+told-over [] h = absurd (false≢true h)
+told-over (started ∷ past) h = absurd (false≢true h)
+told-over (began k ∷ past) h = absurd (false≢true h)
+told-over (closed k ∷ past) h = absurd (false≢true h)
+told-over (faulted n ∷ past) h = absurd (false≢true h)
+told-over (stopped k ∷ past) h = absurd (false≢true h)
+told-over (ended root ∷ past) h = refl
+told-over (ended (inner k) ∷ past) h = absurd (false≢true h)
+told-over (raised k ∷ past) h = absurd (false≢true h)
+told-over (left ∷ past) h = refl
+
+turned-over : (past : List Event) → endsTurned past ≡ true → noneNow past ≡ true
+unfolding endsTurned noneNow isOver
+turned-over [] h = absurd (false≢true h)
+turned-over (started ∷ past) h = absurd (false≢true h)
+turned-over (began k ∷ past) h = absurd (false≢true h)
+turned-over (closed k ∷ past) h = absurd (false≢true h)
+turned-over (faulted n ∷ past) h = absurd (false≢true h)
+turned-over (stopped k ∷ past) h = absurd (false≢true h)
+turned-over (ended root ∷ past) h = refl
+turned-over (ended (inner k) ∷ past) h = absurd (false≢true h)
+turned-over (raised k ∷ past) h = absurd (false≢true h)
+turned-over (left ∷ past) h = absurd (false≢true h)
+
+-- what is known of the newest event where an order has ended so
+abbrev pub EndedAs : End → List Event → Type 0
+EndedAs None past = ⊥
+EndedAs Well past = endTold past ≡ Well
+EndedAs Handled past = endsTurned past ≡ true
+EndedAs Failed past = endsTurned past ≡ true
+EndedAs Left past = endTold past ≡ Left
+
+-- so that there is none now
+pub ended-now : (e : End) (past : List Event) → EndedAs e past → noneNow past ≡ true
+ended-now None past h = absurd h
+ended-now Well past h = told-over past (ap isSome h)
+ended-now Handled past h = turned-over past h
+ended-now Failed past h = turned-over past h
+ended-now Left past h = told-over past (ap isSome h)
+
 -- what a step of an order leaves: an order that stands, or none
 pub data Passed (p : Plan) (past : List Event) (m : Moved) : Type 0 where
-  passes-on : fairAfter p past (m .log) ≡ true → Standing p (m .order) → HoldsAt p (momentOf p (m .order)) (onto (m .log) past) → Passed p past m
-  passes-end : fairAfter p past (m .log) ≡ true → m .order ≡ noOrder → noneNow (onto (m .log) past) ≡ true → Passed p past m
+  passes-on : fairAfter p past (m .log) ≡ true → m .end ≡ None → Standing p (m .order) → HoldsAt p (momentOf p (m .order)) (onto (m .log) past) → Passed p past m
+  passes-end : fairAfter p past (m .log) ≡ true → m .order ≡ noOrder → EndedAs (m .end) (onto (m .log) past) → Passed p past m
 
 module _ (p : Plan) (distinct : Distinct p) (h : Seat p (rootOf p)) where
   -- the root's body is done
-  does-well : (o : Order) → o .root ≡ done → Quiet (o .marks) 0 (size (p .body)) → Does p true o (ended root ∷ []) noOrder
-  unfolding fairAfter noneNow isOver
+  does-well : (o : Order) → o .root ≡ done → Quiet (o .marks) 0 (size (p .body)) → Does p Well o (ended root ∷ []) noOrder
+  unfolding fairAfter endTold
   does-well o e q =
-      record { does = λ past x. (rw (root-well p (momentOf p o) (momentOf p o) past x (ap phase e) (inside-rest p (rootOf p) o h (quiet-inner (p .body) 0 q))), refl) }
+      record { does = λ past x. (rw (root-well p (momentOf p o) (momentOf p o) past x (ap phase e) (inside-rest p (rootOf p) o h (quiet-inner (p .body) 0 q))), rw (root-unturned p (momentOf p o) (momentOf p o) past x (ap phase e))) }
 
   -- a root that is done has a quiet body
   done-quiet : (ms : List ℕ) (m : ℕ) → m ≡ done → Running (rootOf p) ms m → Quiet ms 0 (size (p .body))
@@ -133,13 +186,13 @@ module _ (p : Plan) (distinct : Distinct p) (h : Seat p (rootOf p)) where
       v : Steps p (rootOf p) (Running (rootOf p)) o r
       v = root-steps p distinct h t o w st x y
 
-      by-done : Running (rootOf p) (r .order .marks) (r .order .root) → Does p false o (r .log) (r .order) → (b : Bool) → eqb (r .order .root) done ≡ b
+      by-done : Running (rootOf p) (r .order .marks) (r .order .root) → Does p None o (r .log) (r .order) → (b : Bool) → eqb (r .order .root) done ≡ b
           → Passed p past (movedTo (record { result = running; order = r .order; log = r .log }) (cond b Well None))
       by-done c d true e =
           let z = does-then d (does-well (r .order) (eqb-true (r .order .root) done e) (done-quiet (r .order .marks) (r .order .root) (eqb-true (r .order .root) done e) c)) in
           passes-end (z .does past g .0) refl (z .does past g .1)
       by-done c d false e =
-          passes-on (d .does past g .0) (record { many = omega (arith, st .many, v .apart .many); runs = c; going = eqb-false (r .order .root) done e }) (d .does past g .1)
+          passes-on (d .does past g .0) refl (record { many = omega (arith, st .many, v .apart .many); runs = c; going = eqb-false (r .order .root) done e }) (d .does past g .1)
 
       go : (z : Result) → StepsAs p (rootOf p) (Running (rootOf p)) o (r .log) (r .order) z
           → Passed p past (movedTo (record { result = z; order = r .order; log = r .log }) (endOf (record { result = z; order = r .order; log = r .log })))

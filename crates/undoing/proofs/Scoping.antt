@@ -9,6 +9,7 @@ use lib.Dec.{eqb, ltb}
 use borrow.Author.Tests.{eqb-true, ltb-true, ltb-false}
 use Rattle.plan.specs.Tree.{Act, Plan, size}
 use Rattle.order.specs.declared.Order.{Order}
+use Rattle.order.specs.declared.End.the-variants.{None, Left}
 use Rattle.order.specs.State.{Name, root, inner, same, idle, active, done, faulty, undoing, handling, halted, withdrawing, markOf, marking}
 use Rattle.order.specs.Event.{Event, ended, faulted, raised}
 use Rattle.order.specs.Begin.{cleared}
@@ -21,7 +22,7 @@ use Rattle.undoing.proofs.Parts.{decide}
 use Rattle.undoing.proofs.Accounts.{Phase, rest, live, waits, heals, odd, phase, tied-as}
 use Rattle.undoing.proofs.Moves.{tied-from, move-fault}
 use Rattle.undoing.proofs.Marks.{Quiet, Kept, Run, Turned, turned-waits, turned-undoes, turned-heals, Stopped, Undoing, Stoppable, agree-part, quiet-part, quiet-agree, agree-below, agree-above, kept-itself, stoppable-agree, not-open}
-use Rattle.undoing.proofs.Orders.{listOf, momentOf, Does, does-then, does-nothing, does-one, bare, remedy-names}
+use Rattle.undoing.proofs.Orders.{endAs, listOf, momentOf, Does, does-then, does-nothing, does-one, bare, remedy-names}
 use Rattle.undoing.proofs.Seats.{Seat, mark-kept, marking-mark, marking-elsewhere, marking-agree, marking-length, quiet-inner, inside-rest}
 use Rattle.undoing.proofs.Turning.{Apart, apart-then, apart-kept, apart-marking, TurnsAs, Turns, turns-after, does-phase, marking-list, does-healed, undoes-on, turns-on}
 use Rattle.undoing.proofs.Stopping.{stops}
@@ -35,19 +36,19 @@ pub record Acted (k n : ℕ) (o : Order) (C : List Event → Order → Result �
 
 -- in a tree that runs
 abbrev pub RunAs : Plan → Act → (k t : ℕ) → Order → List Event → Order → Result → Type 0
-RunAs p a k t o l o′ running = Run (o′ .marks) a k × Does p false o l o′
-RunAs p a k t o l o′ over = Quiet (o′ .marks) k (size a) × Does p false o l o′
-RunAs p a k t o l o′ raising = Stoppable (o′ .marks) a k × Does p false o l o′ × (bare a ≡ true → l ≡ raised t ∷ [])
-RunAs p a k t o l o′ leaving = Does p true o l o′
+RunAs p a k t o l o′ running = Run (o′ .marks) a k × Does p None o l o′
+RunAs p a k t o l o′ over = Quiet (o′ .marks) k (size a) × Does p None o l o′
+RunAs p a k t o l o′ raising = Stoppable (o′ .marks) a k × Does p None o l o′ × (bare a ≡ true → l ≡ raised t ∷ [])
+RunAs p a k t o l o′ leaving = Does p Left o l o′
 RunAs p a k t o l o′ undone = ⊥
 RunAs p a k t o l o′ undoRaising = ⊥
 
 -- in a stopped body
 abbrev pub StopAs : Plan → Act → (k : ℕ) → Order → List Event → Order → Result → Type 0
-StopAs p a k o l o′ running = Stopped (o′ .marks) a k × Does p false o l o′
-StopAs p a k o l o′ over = Stopped (o′ .marks) a k × Does p false o l o′
-StopAs p a k o l o′ raising = Stopped (o′ .marks) a k × Does p false o l o′
-StopAs p a k o l o′ leaving = Does p true o l o′
+StopAs p a k o l o′ running = Stopped (o′ .marks) a k × Does p None o l o′
+StopAs p a k o l o′ over = Stopped (o′ .marks) a k × Does p None o l o′
+StopAs p a k o l o′ raising = Stopped (o′ .marks) a k × Does p None o l o′
+StopAs p a k o l o′ leaving = Does p Left o l o′
 StopAs p a k o l o′ undone = ⊥
 StopAs p a k o l o′ undoRaising = ⊥
 
@@ -57,13 +58,13 @@ ScopesRest p o k n = (j : ℕ) → isName p (inner j) ≡ true → k ≤ j → j
 
 -- in a body of which an undo part runs
 abbrev pub UndoAs : Plan → Name → Act → (k t : ℕ) → Order → List Event → Order → Result → Type 0
-UndoAs p n a k t o l o′ running = Undoing (o′ .marks) a k × Does p false o l o′
+UndoAs p n a k t o l o′ running = Undoing (o′ .marks) a k × Does p None o l o′
 UndoAs p n a k t o l o′ over = ⊥
 UndoAs p n a k t o l o′ raising = ⊥
-UndoAs p n a k t o l o′ leaving = Does p true o l o′
-UndoAs p n a k t o l o′ undone = Quiet (o′ .marks) k (size a) × Does p false o l o′
+UndoAs p n a k t o l o′ leaving = Does p Left o l o′
+UndoAs p n a k t o l o′ undone = Quiet (o′ .marks) k (size a) × Does p None o l o′
 UndoAs p n a k t o l o′ undoRaising =
-    (l ≡ raised t ∷ []) × (isUndoRaise (insideOf p n) (raised t) ≡ true) × (innerRuns a k (o′ .marks) ≡ false) × ScopesRest p o′ k (size a) × Does p false o l o′
+    (l ≡ raised t ∷ []) × (isUndoRaise (insideOf p n) (raised t) ≡ true) × (innerRuns a k (o′ .marks) ≡ false) × ScopesRest p o′ k (size a) × Does p None o l o′
 
 -- a scope that runs
 pub data ScopeRun (ms : List ℕ) (m : ℕ) (b : Act) (kb : ℕ) (f : Act) (kf : ℕ) : Type 0 where
@@ -81,12 +82,12 @@ Running s ms m = ScopeRun ms m (s .body) (s .bodyAt) (s .fault) (s .faultAt)
 
 -- what a step in a scope comes to; R holds while it runs
 abbrev pub StepsAs : Plan → Scope → (List ℕ → ℕ → Type 0) → Order → List Event → Order → Result → Type 0
-StepsAs p s R o l o′ running = R (o′ .marks) (markOf (s .name) o′) × Does p false o l o′
+StepsAs p s R o l o′ running = R (o′ .marks) (markOf (s .name) o′) × Does p None o l o′
 StepsAs p s R o l o′ over =
-    (markOf (s .name) o′ ≡ idle) × Quiet (o′ .marks) (s .bodyAt) (size (s .body)) × Quiet (o′ .marks) (s .faultAt) (size (s .fault)) × Does p (isRoot (s .name)) o l o′
+    (markOf (s .name) o′ ≡ idle) × Quiet (o′ .marks) (s .bodyAt) (size (s .body)) × Quiet (o′ .marks) (s .faultAt) (size (s .fault)) × Does p (endAs (s .name)) o l o′
 StepsAs p s R o l o′ raising =
-    (markOf (s .name) o′ ≡ idle) × Quiet (o′ .marks) (s .bodyAt) (size (s .body)) × Quiet (o′ .marks) (s .faultAt) (size (s .fault)) × Does p (isRoot (s .name)) o l o′
-StepsAs p s R o l o′ leaving = Does p true o l o′
+    (markOf (s .name) o′ ≡ idle) × Quiet (o′ .marks) (s .bodyAt) (size (s .body)) × Quiet (o′ .marks) (s .faultAt) (size (s .fault)) × Does p (endAs (s .name)) o l o′
+StepsAs p s R o l o′ leaving = Does p Left o l o′
 StepsAs p s R o l o′ undone = ⊥
 StepsAs p s R o l o′ undoRaising = ⊥
 
@@ -96,7 +97,7 @@ pub record Steps (p : Plan) (s : Scope) (R : List ℕ → ℕ → Type 0) (o : O
 
 -- what turning comes to is a step
 pub turns-steps : {p : Plan} {s : Scope} {o o′ : Order} {l : List Event} {r : Outcome} (R : List ℕ → ℕ → Type 0)
-    → ((ms : List ℕ) (m : ℕ) → Turning s ms m → R ms m) → Apart s o o′ → Does p false o l o′ → Turns p s o′ r → Steps p s R o (after l r)
+    → ((ms : List ℕ) (m : ℕ) → Turning s ms m → R ms m) → Apart s o o′ → Does p None o l o′ → Turns p s o′ r → Steps p s R o (after l r)
 turns-steps {p} {s} {o} {o′} {l} {r} R f a d t = record { apart = apart-then a (t .apart); comes = go (r .result) (t .comes) }
   where
     go : (x : Result) → TurnsAs p s o′ (r .log) (r .order) x → StepsAs p s R o (l ++ r .log) (r .order) x
@@ -204,7 +205,7 @@ module _ (p : Plan) (distinct : Distinct p) where
       = quiet-agree y (agree-part (marking-agree {c = s .bodyAt} {m = size (s .body) + size (s .fault)} (s .name) faulty o (h .before)) (omega (arith, h .after)) (omega (arith, h .after))) in
       let r = stops p (h .body) o₁ (ap phase k) (stoppable-agree t (marking-agree (s .name) faulty o (h .before))) (omega (arith, h .after, n)) in
       let o₂ = stop (s .body) (s .bodyAt) o₁ .order in
-      let d : Does p false o (faulted (s .name) ∷ []) o₁
+      let d : Does p None o (faulted (s .name) ∷ []) o₁
       = does-one (λ past x. move-fault p (momentOf p o) (momentOf p o₁) past x (s .name) (h .name) q (ap phase k) (marking-list p (s .name) (s .name) faulty o) (marking-elsewhere p (s .name) faulty o)) in
       turns-after (apart-then (apart-marking s faulty o (h .before) (omega (arith, h .after))) (apart-kept s o₁ o₂ (r .kept) (omega arith) (omega (arith, h .after)) (r .rooted)))
       (does-then d (r .does))
@@ -228,7 +229,7 @@ module _ (p : Plan) (distinct : Distinct p) where
 
   -- what breaking leaves of a scope
   steps-broken : (R : List ℕ → ℕ → Type 0) (s : Scope) (o₀ o : Order) (l : List Event) → Seat p s → Reach s → Apart s o₀ o → Beyond s o
-      → Does p (isRoot (s .name)) o₀ l (broken s o)
+      → Does p (endAs (s .name)) o₀ l (broken s o)
       → Steps p s R o₀ (record { result = raising; order = broken s o; log = l })
   unfolding forgetting
   steps-broken R s o₀ o l h c a b d =
@@ -305,7 +306,7 @@ module _ (p : Plan) (distinct : Distinct p) where
   -- A step in the body of a scope that waits for its inner scopes: it looks again.
   looks-on : (v : Bool) (s : Scope) (o o₁ : Order) (l : List Event) → Seat p s → (v ≡ false → isRoot (s .name) ≡ false) → phase (markOf (s .name) o₁) ≡ waits v
       → Stopped (o₁ .marks) (s .body) (s .bodyAt) → Quiet (o₁ .marks) (s .faultAt) (size (s .fault)) → s .faultAt + size (s .fault) ≤ length (o₁ .marks)
-      → Apart s o o₁ → Does p false o l o₁ → Steps p s (Turning s) o (after l (looksAgain s o₁))
+      → Apart s o o₁ → Does p None o l o₁ → Steps p s (Turning s) o (after l (looksAgain s o₁))
   looks-on v s o o₁ l h x q t y m a d =
       subst (λ (z : Outcome). Steps p s (Turning s) o (after l z))
       (sym (looks-is s o₁ (markOf (s .name) o₁) refl ∙ by-mark v (eqb (markOf (s .name) o₁) faulty) (eqb (markOf (s .name) o₁) halted) (waits-mark (markOf (s .name) o₁) q .0) (waits-mark (markOf (s .name) o₁) q .1)))
@@ -334,7 +335,7 @@ module _ (p : Plan) (distinct : Distinct p) where
       y₁ : Quiet (o₁ .marks) (s .faultAt) (size (s .fault))
       y₁ = quiet-agree y (agree-above (w .kept) (omega (arith, h .after)))
 
-      looks : Stopped (o₁ .marks) (s .body) (s .bodyAt) → Does p false o (r .log) o₁ → Steps p s (Turning s) o (after (r .log) (looksAgain s o₁))
+      looks : Stopped (o₁ .marks) (s .body) (s .bodyAt) → Does p None o (r .log) o₁ → Steps p s (Turning s) o (after (r .log) (looksAgain s o₁))
       looks t d = looks-on v s o o₁ (r .log) h x (ap phase e₁ ∙ q) t y₁ (omega (arith, w .kept .many)) a₁ d
 
       not-active : eqb (markOf (s .name) o₁) active ≡ false
@@ -402,7 +403,7 @@ module _ (p : Plan) (distinct : Distinct p) where
       next-is true a b e d = rw e
       next-is false a b e d = rw (e, d)
 
-      next : Quiet (o₁ .marks) (s .bodyAt) (size (s .body)) → Does p false o (r .log) o₁
+      next : Quiet (o₁ .marks) (s .bodyAt) (size (s .body)) → Does p None o (r .log) o₁
           → Steps p s (Turning s) o (after (r .log) (elim (eqb k undoing) [ true ↦ undoes true s o₁ | false ↦ elim (eqb k withdrawing) [ true ↦ undoes false s o₁ | false ↦ runs o₁ ] ]))
       next u d =
           subst (λ (z : Outcome). Steps p s (Turning s) o (after (r .log) z)) (sym (next-is v (eqb k undoing) (eqb k withdrawing) (undoes-mark k q₁ .0) (undoes-mark k q₁ .1)))
@@ -420,9 +421,9 @@ module _ (p : Plan) (distinct : Distinct p) where
       go undoRaising d =
           subst (λ (z : Bool). Steps p s (Turning s) o (after (r .log) (elim z [ true ↦ breaks s o₁ | false ↦ runs o₁ ]))) (sym is-mark)
           (steps-broken (Turning s) s o o₁ (r .log ++ (ended (s .name) ∷ [])) h c a₁ b₁
-          (subst (λ (l : List Event). Does p (isRoot (s .name)) o (l ++ (ended (s .name) ∷ [])) (broken s o₁)) (sym (d .0))
+          (subst (λ (l : List Event). Does p (endAs (s .name)) o (l ++ (ended (s .name) ∷ [])) (broken s o₁)) (sym (d .0))
           (breaks-raised p distinct v s t o o₁ h (c .owns) q₁ (inside-rest p s o₁ h (d .2)) (others-rest s o₁ h c (d .3) b₁) (d .1)
-          (subst (λ (l : List Event). Does p false o l o₁) (d .0) (d .4)))))
+          (subst (λ (l : List Event). Does p None o l o₁) (d .0) (d .4)))))
         where
           b₁ : Beyond s o₁
           b₁ i x z = w .kept .above i (omega (arith, h .after)) ∙ b i x z

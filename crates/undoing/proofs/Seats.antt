@@ -10,6 +10,7 @@ use lib.Dec.{eqb}
 use borrow.Author.Tests.{eqb-true, eqb-false, not-false}
 use Rattle.plan.specs.Tree.{Own, kind, Act, act, Acts, none, more, Plan, size, sizes, scope}
 use Rattle.order.specs.declared.Order.{Order}
+use Rattle.order.specs.declared.End.the-variants.{None}
 use Rattle.order.specs.Lists.{every, some, only, withoutFirst, withoutLast}
 use Rattle.order.specs.State.{Name, root, inner, same, idle, closings, remembering, markOf, marking}
 use Rattle.order.specs.Event.{began}
@@ -228,7 +229,7 @@ module _ (p : Plan) where
   pub does-undo : {c : Name} (v : Bool) (s : Scope) (o : Order) (l : List ℕ) (x : Inner) → Seat p s → Known p x → Spot p (undoOf (x .around) c) (x .undo)
       → x .around ≡ s .name → phase (markOf (s .name) o) ≡ undoes v
       → innerRuns (s .body) (s .bodyAt) (o .marks) ≡ false → listOf p (s .name) o ≡ x .number ∷ l
-      → Does p false o (began (x .undo) ∷ []) (remembering (withoutLast (x .number) (closings o)) o)
+      → Does p None o (began (x .undo) ∷ []) (remembering (withoutLast (x .number) (closings o)) o)
   does-undo v s o l x h kn u a q r e =
       let o′ = remembering (withoutLast (x .number) (closings o)) o in
       does-one (λ past g. move-undo p (momentOf p o) (momentOf p o′) past g v x kn u (rw a q) (rw a (inside-rest s o h r)) (remembering-mark (x .around) (withoutLast (x .number) (closings o)) o)

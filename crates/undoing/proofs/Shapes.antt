@@ -10,7 +10,8 @@ use lib.Dec.{eqb, ltb}
 use borrow.Author.Tests.{eqb-true}
 use Rattle.plan.specs.Tree.{Own, empty, send, receive, set as setting, raise, leave, choose, repeat, sequence, flow, pick, scope, arm, kind, Act, act, Acts, none, more, Plan, size, sizes}
 use Rattle.order.specs.declared.Order.{Order}
-use Rattle.order.specs.declared.End.the-variants.{None, Well}
+use Rattle.order.specs.declared.End.{End}
+use Rattle.order.specs.declared.End.the-variants.{None, Well, Handled, Failed, Left}
 use Rattle.order.specs.Lists.{only, withoutLast}
 use Rattle.order.specs.State.{Name, root, inner, closings, remembering, idle, inside, binding, marked, markOf, marking, markAt, withMarks, faulty, halted, active, undoing, withdrawing, handling, done}
 use Rattle.order.specs.Expression.{Value, fault, value, evaluate, isTrue}
@@ -168,7 +169,7 @@ pub data Shape (p : Plan) (t : ℕ) (o : Order) : List Event → Type 0 where
   shape-calm : {l : List Event} → Calm l → Shape p t o l
   shape-fault : {n m : Name} {l : List Event} → placeOf p t ≡ bodyOf n m → Calm l → Shape p t o (raised t ∷ faulted n ∷ l)
   shape-end-fault : {n m : Name} {l : List Event} → Handler p t n m → isName p m ≡ true → isOpen (markOf m o) ≡ true → Calm l → Shape p t o (raised t ∷ ended n ∷ faulted m ∷ l)
-  shape-end : {n m : Name} {l : List Event} → Handler p t n m → isName p m ≡ true → isOpen (markOf m o) ≡ false → Calm l → Shape p t o (raised t ∷ ended n ∷ l)
+  shape-end : {k : ℕ} {m : Name} {l : List Event} → Handler p t (inner k) m → isName p m ≡ true → isOpen (markOf m o) ≡ false → Calm l → Shape p t o (raised t ∷ ended (inner k) ∷ l)
   shape-lost : {q : Place} {l : List Event} → placeOf p t ≡ q → isName p (nameOf q) ≡ true → fits q o ≡ false → Calm l → Shape p t o (raised t ∷ l)
 
 -- what is calm may follow
@@ -187,7 +188,7 @@ pub record Below (k : ℕ) (o o′ : Order) : Type 0 where
 -- a raise that comes out of an activity in a place
 pub data Raise (p : Plan) (t : ℕ) (q : Place) : List Event → Type 0 where
   raise-here : placeOf p t ≡ q → Raise p t q (raised t ∷ [])
-  raise-out : {j : Name} → Handler p t j (nameOf q) → Raise p t q (raised t ∷ ended j ∷ [])
+  raise-out : {k : ℕ} → Handler p t (inner k) (nameOf q) → Raise p t q (raised t ∷ ended (inner k) ∷ [])
 
 -- what a step in an activity in a place comes to
 abbrev pub OutAs : Plan → (t : ℕ) → (bare : Bool) → Place → (k : ℕ) → Order → List Event → Order → Result → Type 0
@@ -454,7 +455,7 @@ shape-marked : (p : Plan) (t k v : ℕ) (o : Order) {l : List Event} → isName 
 shape-marked p t k v o e (shape-calm c) = shape-calm c
 shape-marked p t k v o e (shape-fault x c) = shape-fault x c
 shape-marked p t k v o e (shape-end-fault {n} {m} x y z c) = shape-end-fault x y (ap isOpen (sym (mark-plain p m k v o e y)) ∙ z) c
-shape-marked p t k v o e (shape-end {n} {m} x y z c) = shape-end x y (ap isOpen (sym (mark-plain p m k v o e y)) ∙ z) c
+shape-marked p t k v o e (shape-end {m = m} x y z c) = shape-end x y (ap isOpen (sym (mark-plain p m k v o e y)) ∙ z) c
 shape-marked p t k v o e (shape-lost {q} x y z c) = shape-lost x y (fits-marked q y ∙ z) c
   where
     fits-marked : (q : Place) → isName p (nameOf q) ≡ true → fits q o ≡ fits q (marked k v o)
@@ -664,24 +665,38 @@ root-out p h t o =
     w : Scoped p (rootOf p)
     w = record { before = tt; name = refl }
 
--- The log of a step of an order has its shape.
-pub order-shape : (p : Plan) → Seat p (rootOf p) → (t : ℕ) (o : Order) → Shape p t o (stepOrder p t o .log)
+-- an order that failed
+abbrev pub isFailed : End → Bool
+isFailed None = false
+isFailed Well = false
+isFailed Handled = false
+isFailed Failed = true
+isFailed Left = false
+
+-- The log of a step of an order, by how the order ends: a raise out of the root and nothing else where it fails, and of its shape where not.
+pub data OrderShape (p : Plan) (t : ℕ) (o : Order) : End → List Event → Type 0 where
+  shaped : {e : End} {l : List Event} → isFailed e ≡ false → Shape p t o l → OrderShape p t o e l
+  out : Handler p t root root → isOpen (markOf root o) ≡ false → OrderShape p t o Failed (raised t ∷ ended root ∷ [])
+
+pub order-shape : (p : Plan) → Seat p (rootOf p) → (t : ℕ) (o : Order) → OrderShape p t o (stepOrder p t o .end) (stepOrder p t o .log)
 unfolding stepOrder endOf movedTo only isGrave
 order-shape p h t o = go (r .log) (r .order) (r .result) (root-out p h t o .comes)
   where
     r : Outcome
     r = stepRoot p t o
 
-    well : (l : List Event) (o′ : Order) (b : Bool) → Shape p t o l → Shape p t o (movedTo (record { result = running; order = o′; log = l }) (cond b Well None) .log)
-    well l o′ true g = shape-append (ended root ∷ []) g refl
-    well l o′ false g = g
+    well : (l : List Event) (o′ : Order) (b : Bool) → Shape p t o l
+        → OrderShape p t o (movedTo (record { result = running; order = o′; log = l }) (cond b Well None) .end) (movedTo (record { result = running; order = o′; log = l }) (cond b Well None) .log)
+    well l o′ true g = shaped refl (shape-append (ended root ∷ []) g refl)
+    well l o′ false g = shaped refl g
 
     go : (l : List Event) (o′ : Order) (x : Result) → ScopeAs p t (rootOf p) root o l o′ x
-        → Shape p t o (movedTo (record { result = x; order = o′; log = l }) (endOf (record { result = x; order = o′; log = l })) .log)
+        → OrderShape p t o (movedTo (record { result = x; order = o′; log = l }) (endOf (record { result = x; order = o′; log = l })) .end)
+        (movedTo (record { result = x; order = o′; log = l }) (endOf (record { result = x; order = o′; log = l })) .log)
     go l o′ running c = well l o′ (eqb (o′ .root) done) c
-    go l o′ over c = c
-    go _ _ raising (ended-so g n d) = shape-end g refl n refl
-    go l o′ leaving c = c
+    go l o′ over c = shaped refl c
+    go _ _ raising (ended-so g n d) = out g n
+    go l o′ leaving c = shaped refl c
     go l o′ undone c = absurd c
     go l o′ undoRaising c = absurd c
 

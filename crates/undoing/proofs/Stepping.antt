@@ -10,6 +10,7 @@ use lib.Dec.{eqb, ltb, leb}
 use borrow.Author.Tests.{eqb-true, eqb-false, eq-eqb, ne-eqb, ltb-true, ltb-false, lt-ltb, le-ltb, le-leb}
 use Rattle.plan.specs.Tree.{Own, empty, send, receive, set as setting, raise, leave, choose, repeat, sequence, flow, pick, scope, arm, kind, Act, act, Acts, none, more, Plan, size, sizes, count}
 use Rattle.order.specs.declared.Order.{Order}
+use Rattle.order.specs.declared.End.the-variants.{None, Left}
 use Rattle.order.specs.Lists.{only}
 use Rattle.order.specs.State.{Name, root, inner, same, idle, active, inside, done, closings, remembering, marked, markOf}
 use Rattle.order.specs.Event.{Event, raised}
@@ -510,21 +511,21 @@ module _ (p : Plan) (distinct : Distinct p) where
 
   -- Lists in a stopped body, and in one of which an undo part runs.
   abbrev StopInAs : Acts → (c : ℕ) → Order → List Event → Order → Result → Type 0
-  StopInAs l c o g o′ running = StoppedIn (o′ .marks) l c × Does p false o g o′
-  StopInAs l c o g o′ over = StoppedIn (o′ .marks) l c × Does p false o g o′
-  StopInAs l c o g o′ raising = StoppedIn (o′ .marks) l c × Does p false o g o′
-  StopInAs l c o g o′ leaving = Does p true o g o′
+  StopInAs l c o g o′ running = StoppedIn (o′ .marks) l c × Does p None o g o′
+  StopInAs l c o g o′ over = StoppedIn (o′ .marks) l c × Does p None o g o′
+  StopInAs l c o g o′ raising = StoppedIn (o′ .marks) l c × Does p None o g o′
+  StopInAs l c o g o′ leaving = Does p Left o g o′
   StopInAs l c o g o′ undone = ⊥
   StopInAs l c o g o′ undoRaising = ⊥
 
   abbrev UndoInAs : Name → Acts → (c t : ℕ) → Order → List Event → Order → Result → Type 0
-  UndoInAs n l c t o g o′ running = UndoingIn (o′ .marks) l c × Does p false o g o′
+  UndoInAs n l c t o g o′ running = UndoingIn (o′ .marks) l c × Does p None o g o′
   UndoInAs n l c t o g o′ over = ⊥
   UndoInAs n l c t o g o′ raising = ⊥
-  UndoInAs n l c t o g o′ leaving = Does p true o g o′
-  UndoInAs n l c t o g o′ undone = Quiet (o′ .marks) c (sizes l) × Does p false o g o′
+  UndoInAs n l c t o g o′ leaving = Does p Left o g o′
+  UndoInAs n l c t o g o′ undone = Quiet (o′ .marks) c (sizes l) × Does p None o g o′
   UndoInAs n l c t o g o′ undoRaising =
-      (g ≡ raised t ∷ []) × (isUndoRaise (insideOf p n) (raised t) ≡ true) × (innerRunsIn l c (o′ .marks) ≡ false) × ScopesRest p o′ c (sizes l) × Does p false o g o′
+      (g ≡ raised t ∷ []) × (isUndoRaise (insideOf p n) (raised t) ≡ true) × (innerRunsIn l c (o′ .marks) ≡ false) × ScopesRest p o′ c (sizes l) × Does p None o g o′
 
   module _ (a : Act) (l : Acts) (c : ℕ) (o : Order) (r : Outcome) where
     first-stopped : Acted c (size a) o (StopAs p a c o) r → StoppedIn (o .marks) l (c + size a) → Acted c (size a + sizes l) o (StopInAs (more a l) c o) r

@@ -9,6 +9,7 @@ use lib.Seq.{getD-set-same, getD-set-other}
 use borrow.Author.Tests.{ne-eqb}
 use Rattle.plan.specs.Tree.{Own, kind, Act, act, Acts, Plan, size, sizes, scope}
 use Rattle.order.specs.declared.Order.{Order}
+use Rattle.order.specs.declared.End.the-variants.{None}
 use Rattle.order.specs.State.{Name, root, inner, idle, halted, markAt, marked, markOf}
 use Rattle.order.specs.Event.{stopped}
 use Rattle.order.specs.Begin.{part, partAt}
@@ -30,7 +31,7 @@ pub record Stops (p : Plan) (S : List ℕ → Type 0) (k n : ℕ) (o : Order) (r
   pub kept : Kept k n (o .marks) (r .order .marks)
   pub rooted : r .order .root ≡ o .root
   pub stands : S (r .order .marks)
-  pub does : Does p false o (r .log) (r .order)
+  pub does : Does p None o (r .log) (r .order)
 
 -- an inner scope in its plan
 pub seat-of : {p : Plan} {n : Name} {b f : Act} (u : Act) {k : ℕ} → Known p (innerAt k n (trio b f u)) → insideOf p (inner k) ≡ directs b (k + 1) (inner k)
@@ -75,7 +76,7 @@ module _ (p : Plan) where
       t : Outcome
       t = turns false s₁ (r .order)
 
-      first : Does p false o (stopped k ∷ []) (marked k halted o)
+      first : Does p None o (stopped k ∷ []) (marked k halted o)
       first =
           does-one (λ past x. move-stop p (momentOf p o) (momentOf p (marked k halted o)) past x k (kn .name) y z (rw e)
           (ap phase (getD-set-same (o .marks) k halted 0 (omega arith))) refl (marked-elsewhere p k halted o))

@@ -9,19 +9,20 @@ use lib.Seq.{getD-set-other}
 use borrow.Author.Tests.{eqb-false}
 use Rattle.plan.specs.Tree.{Plan, size}
 use Rattle.order.specs.declared.Order.{Order}
+use Rattle.order.specs.declared.End.the-variants.{None}
 use Rattle.order.specs.State.{Name, root, inner, same, idle, undoing, handling, withdrawing, withMarks, markOf, marking}
 use Rattle.order.specs.Event.{Event, began, ended}
 use Rattle.order.specs.Begin.{begin}
 use Rattle.order.specs.declared.Way.{Way as Result}
 use Rattle.order.specs.declared.Way.the-variants.{Running as running, Over as over, Raising as raising, Leaving as leaving, Undone as undone, UndoRaising as undoRaising}
 use Rattle.order.specs.Scope.{Outcome, runs, after, begunIn, Scope, innerRuns, whereOver, undo, ends, handle, undoes, turns, rememberedFor}
-use Rattle.undoing.specs.Demand3.{isRoot, noneNow, isOver}
+use Rattle.undoing.specs.Demand3.{isRoot}
 use Rattle.undoing.specs.Ties.{isName}
 use Rattle.undoing.proofs.Parts.{decide, same-equal}
 use Rattle.undoing.proofs.Accounts.{Account, accountOf, Phase, waits, heals, phase, Tied, tied-as, Inside·rest}
-use Rattle.undoing.proofs.Moves.{Before, tied-same, tied-from, tied-at, move-handle, move-end-undone, move-end-healed, root-healed, settled}
+use Rattle.undoing.proofs.Moves.{Before, tied-same, tied-from, tied-at, move-handle, move-end-undone, move-end-healed, root-healed, root-turned, settled}
 use Rattle.undoing.proofs.Marks.{Quiet, Kept, Run, Turned, turned-waits, turned-undoes, turned-heals, Stopped, agree-part, quiet-agree, agree-below, agree-above, kept-itself}
-use Rattle.undoing.proofs.Orders.{listOf, momentOf, fairAfter, Fit, Faulty, Remedy, remedy-spot, remedy-scope, Does, does-then, does-nothing, does-one}
+use Rattle.undoing.proofs.Orders.{endAs, endsTurned, listOf, momentOf, fairAfter, Fit, Faulty, Remedy, remedy-spot, remedy-scope, Does, does-then, does-nothing, does-one}
 use Rattle.undoing.proofs.Beginning.{Begins, begins-remedy}
 use Rattle.undoing.proofs.Seats.{Seat, mark-kept, marking-mark, marking-elsewhere, marking-agree, marking-length, quiet-inner, stopped-rests, remembered-list, inside-rest}
 use Rattle.undoing.proofs.Undo.{UndoneAs, Undone, undoes-list}
@@ -67,9 +68,9 @@ apart-marking s v o b h = go (s .name) b
 -- how a scope stands after it turned: it runs on so, or it is over
 abbrev pub TurnsAs : Plan → Scope → Order → List Event → Order → Result → Type 0
 TurnsAs p s o l o′ running =
-    Turned (o′ .marks) (markOf (s .name) o′) (s .body) (s .bodyAt) (s .fault) (s .faultAt) × Does p false o l o′
+    Turned (o′ .marks) (markOf (s .name) o′) (s .body) (s .bodyAt) (s .fault) (s .faultAt) × Does p None o l o′
 TurnsAs p s o l o′ over =
-    (markOf (s .name) o′ ≡ idle) × Quiet (o′ .marks) (s .bodyAt) (size (s .body)) × Quiet (o′ .marks) (s .faultAt) (size (s .fault)) × Does p (isRoot (s .name)) o l o′
+    (markOf (s .name) o′ ≡ idle) × Quiet (o′ .marks) (s .bodyAt) (size (s .body)) × Quiet (o′ .marks) (s .faultAt) (size (s .fault)) × Does p (endAs (s .name)) o l o′
 TurnsAs p s o l o′ raising = ⊥
 TurnsAs p s o l o′ leaving = ⊥
 TurnsAs p s o l o′ undone = ⊥
@@ -80,7 +81,7 @@ pub record Turns (p : Plan) (s : Scope) (o : Order) (r : Outcome) : Type 0 where
   pub comes : TurnsAs p s o (r .log) (r .order) (r .result)
 
 -- after what led there
-pub turns-after : {p : Plan} {s : Scope} {o o′ : Order} {l : List Event} {r : Outcome} → Apart s o o′ → Does p false o l o′ → Turns p s o′ r
+pub turns-after : {p : Plan} {s : Scope} {o o′ : Order} {l : List Event} {r : Outcome} → Apart s o o′ → Does p None o l o′ → Turns p s o′ r
     → Turns p s o (after l r)
 turns-after {p} {s} {o} {o′} {l} {r} a d t = record { apart = apart-then a (t .apart); comes = go (r .result) (t .comes) }
   where
@@ -96,7 +97,7 @@ module _ (p : Plan) where
   -- a scope goes from one phase to another, with no event
   pub does-phase : (n : Name) (v : ℕ) (o : Order)
       → ((a : Account) → Tied (phase (markOf n o)) (listOf p n o) a → Tied (phase (markOf n (marking n v o))) (listOf p n (marking n v o)) a)
-      → Does p false o [] (marking n v o)
+      → Does p None o [] (marking n v o)
   unfolding fairAfter
   does-phase n v o f =
       record {
@@ -117,16 +118,16 @@ module _ (p : Plan) where
   -- it ends after its fault part
   pub does-healed : (n : Name) (c : ℕ) (o : Order) → isName p n ≡ true → Before n c → c ≤ length (o .marks) → phase (markOf n o) ≡ heals
       → Inside·rest p (λ z. markOf z o) n
-      → Does p (isRoot n) o (ended n ∷ []) (marking n idle o)
-  unfolding fairAfter noneNow isOver
-  does-healed root c o i b m q r = record { does = λ past h. (rw (root-healed p (momentOf p o) (momentOf p o) past h q r), refl) }
+      → Does p (endAs n) o (ended n ∷ []) (marking n idle o)
+  unfolding fairAfter endsTurned
+  does-healed root c o i b m q r = record { does = λ past h. (rw (root-healed p (momentOf p o) (momentOf p o) past h q r), root-turned p (momentOf p o) (momentOf p o) past h q) }
   does-healed (inner k) c o i b m q r =
       does-one (λ past h. move-end-healed p (momentOf p o) (momentOf p (marking (inner k) idle o)) past h (inner k) i refl q r
       (ap phase (marking-mark (inner k) c idle o b m)) (tied-at p (momentOf p o) (momentOf p o) past h heals (inner k) i q .3) (marking-elsewhere p (inner k) idle o))
 
   -- it ends after its list
   does-undone : (n : Name) (c : ℕ) (o : Order) → isName p n ≡ true → isRoot n ≡ false → Before n c → c ≤ length (o .marks) → phase (markOf n o) ≡ Phase.undoes false
-      → listOf p n o ≡ [] → Inside·rest p (λ z. markOf z o) n → Does p (isRoot n) o (ended n ∷ []) (marking n idle o)
+      → listOf p n o ≡ [] → Inside·rest p (λ z. markOf z o) n → Does p (endAs n) o (ended n ∷ []) (marking n idle o)
   does-undone root c o i z b m q l r = absurd (false≢true (sym z))
   does-undone (inner k) c o i z b m q l r =
       does-one (λ past h. move-end-undone p (momentOf p o) (momentOf p (marking (inner k) idle o)) past h (inner k) i refl q l r
@@ -173,7 +174,7 @@ module _ (p : Plan) where
       let e : markOf (s .name) o₁ ≡ handling = marking-mark (s .name) (s .bodyAt) handling o (h .before) (omega (arith, h .after)) in
       let y₁ : Quiet (o₁ .marks) (s .faultAt) (size (s .fault))
       = quiet-agree y (agree-part (marking-agree {c = s .bodyAt} {m = size (s .body) + size (s .fault)} (s .name) handling o (h .before)) (omega (arith, h .after)) (omega (arith, h .after))) in
-      let d : Does p false o (began (s .faultAt) ∷ []) o₁
+      let d : Does p None o (began (s .faultAt) ∷ []) o₁
       = does-one (λ past x. move-handle p (momentOf p o) (momentOf p o₁) past x (s .name) (s .faultAt) (remedy-spot (h .fault)) (h .faulty .noUndo) (remedy-scope (h .fault)) (h .faulty .own)
       q l (inside-rest p s o h (quiet-inner (s .body) (s .bodyAt) z)) (ap phase e) (marking-list (s .name) (s .name) handling o ∙ l) (marking-elsewhere p (s .name) handling o)) in
       handled-after s o o₁ h _ _ _ (apart-marking s handling o (h .before) (omega (arith, h .after))) (ap phase e) (quiet-agree z (marking-agree (s .name) handling o (h .before))) (omega (arith, n))

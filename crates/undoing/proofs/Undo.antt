@@ -9,6 +9,7 @@ use lib.Dec.{eqb, ltb}
 use borrow.Author.Tests.{eqb-true, lt-ltb, le-ltb}
 use Rattle.plan.specs.Tree.{Own, kind, Act, act, Acts, more, Plan, size, sizes, scope}
 use Rattle.order.specs.declared.Order.{Order}
+use Rattle.order.specs.declared.End.the-variants.{None}
 use Rattle.order.specs.Lists.{some, withoutLast}
 use Rattle.order.specs.State.{Name, root, inner, withMarks, closings, remembering, markOf}
 use Rattle.order.specs.Event.{Event, began}
@@ -38,7 +39,7 @@ UndoneAs p s o undoRaising = ⊥
 pub record Undone (p : Plan) (s : Scope) (o : Order) (r : Outcome) : Type 0 where
   pub kept : Kept (s .bodyAt) (size (s .body)) (o .marks) (r .order .marks)
   pub rooted : r .order .root ≡ o .root
-  pub does : Does p false o (r .log) (r .order)
+  pub does : Does p None o (r .log) (r .order)
   pub comes : UndoneAs p s (r .order) (r .result)
 
 -- the undo part of e begins, by whether an activity is e
@@ -69,7 +70,7 @@ module _ (p : Plan) where
 
     -- in an activity
     pub begins-undo : {x : Place} {a : Act} {k : ℕ} → Sits p x a k → (e : ℕ) → directly a k e ≡ true → (o₀ o : Order)
-        → ((y : Inner) → Known p y → Spot p (undoOf (nameOf x) (aroundOf x)) (y .undo) → y .number ≡ e → y .around ≡ nameOf x → Does p false o₀ (began (y .undo) ∷ []) o)
+        → ((y : Inner) → Known p y → Spot p (undoOf (nameOf x) (aroundOf x)) (y .undo) → y .number ≡ e → y .around ≡ nameOf x → Does p None o₀ (began (y .undo) ∷ []) o)
         → Quiet (o .marks) k (size a) → k + size a ≤ length (o .marks) → Fit (undoOf (nameOf x) (aroundOf x)) o
         → Begins p (λ ms. Undoing ms a k) k (size a) o₀ o (beginUndo a k e (o .marks))
     begins-undo (sits-part {q = x} {own} {within} {k} s g v y l) e d o₀ o f q h i =
@@ -90,7 +91,7 @@ module _ (p : Plan) where
 
     -- in a list
     pub begins-undo-in : {x : Place} {l : Acts} {c : ℕ} → SitsIn p x l c → (e : ℕ) → directlyIn l c e ≡ true → (o₀ o : Order)
-        → ((y : Inner) → Known p y → Spot p (undoOf (nameOf x) (aroundOf x)) (y .undo) → y .number ≡ e → y .around ≡ nameOf x → Does p false o₀ (began (y .undo) ∷ []) o)
+        → ((y : Inner) → Known p y → Spot p (undoOf (nameOf x) (aroundOf x)) (y .undo) → y .number ≡ e → y .around ≡ nameOf x → Does p None o₀ (began (y .undo) ∷ []) o)
         → Quiet (o .marks) c (sizes l) → c + sizes l ≤ length (o .marks) → Fit (undoOf (nameOf x) (aroundOf x)) o
         → Begins p (λ ms. UndoingIn ms l c) c (sizes l) o₀ o (beginUndoIn l c e (o .marks))
     begins-undo-in (sits-none {q = x} {c}) e d o₀ o f q h i = absurd (false≢true d)
@@ -146,7 +147,7 @@ module _ (p : Plan) where
   undoes-list v s (e ∷ l) o h q z m i =
       let o′ = remembering (withoutLast e (closings o)) o in
       let b = begins-undo (h .body) e (remembered-directly s o e l h i) o o′
-      (λ x kn xs xe xa. subst (λ (y : ℕ). Does p false o (began (x .undo) ∷ []) (remembering (withoutLast y (closings o)) o)) xe
+      (λ x kn xs xe xa. subst (λ (y : ℕ). Does p None o (began (x .undo) ∷ []) (remembering (withoutLast y (closings o)) o)) xe
       (does-undo p v s o l x h kn (subst (λ (n : Name). Spot p (undoOf n (h .around)) (x .undo)) (sym xa) xs) xa q
       (quiet-inner (s .body) (s .bodyAt) z) (i ∙ ap (λ (y : ℕ). y ∷ l) (sym xe)))) z m (v, remembering-phase v (s .name) q) in
       undone-after s l o o′ _ _ _ refl refl b

@@ -1,9 +1,9 @@
 -- The definitions of this crate that compute, beside those of the machine, under one name each. Assumes nothing.
 use Rattle.undoing.specs.History.{history}
 use Rattle.undoing.specs.Demand3.{scopesIn, scopesOf, insideOf, isBegin, since, isTurn, isFinish, closedBy, undoneBy, isUndoRaise, closingsOf, undoneOf, hasTurned, isLeft, noneLeft, mayTurn, noneNow, mayUndo, mayBegin, mayClose, startedAll, mayEnd, isOver, allowed, rightAfter, right}
-use Rattle.undoing.specs.Ties.{stateAfter, isDeed, deedOf, deedIn, deedAt, deedBy, deedsTaken, placeIn, placeOf, dueEnded, due, isFaultOf, isEndOf, heedsAfter, isStep, undoRuns, undosIn, movesOn, goIn}
+use Rattle.undoing.specs.Ties.{stateAfter, isDeed, deedOf, deedIn, deedAt, deedBy, deedsTaken, placeIn, placeOf, dueEnded, due, isFaultOf, isEndOf, heedsAfter, isRaised, endTold, endsIn, endsTaken, isStep, undoRuns, undosIn, movesOn, goIn}
 use Rattle.undoing.specs.Orderly.{isFaultPart, isBeganOf, hasFaulted, hasHandled, mayAct, mayHandle, notLeft, hasMended, orderly, orderlyAfter}
 
 unfoldable pub judging : Unit {0}
-unfolding history scopesIn scopesOf insideOf isBegin since isTurn isFinish closedBy undoneBy isUndoRaise closingsOf undoneOf hasTurned isLeft noneLeft mayTurn noneNow mayUndo mayBegin mayClose startedAll mayEnd isOver allowed rightAfter right stateAfter isDeed deedOf deedIn deedAt deedBy deedsTaken placeIn placeOf dueEnded due isFaultOf isEndOf heedsAfter isStep undoRuns undosIn movesOn goIn isFaultPart isBeganOf hasFaulted hasHandled mayAct mayHandle notLeft hasMended orderly orderlyAfter
+unfolding history scopesIn scopesOf insideOf isBegin since isTurn isFinish closedBy undoneBy isUndoRaise closingsOf undoneOf hasTurned isLeft noneLeft mayTurn noneNow mayUndo mayBegin mayClose startedAll mayEnd isOver allowed rightAfter right stateAfter isDeed deedOf deedIn deedAt deedBy deedsTaken placeIn placeOf dueEnded due isFaultOf isEndOf heedsAfter isRaised endTold endsIn endsTaken isStep undoRuns undosIn movesOn goIn isFaultPart isBeganOf hasFaulted hasHandled mayAct mayHandle notLeft hasMended orderly orderlyAfter
 judging = tt

@@ -10,6 +10,8 @@ use Rattle.plan.specs.Found.{found}
 use Rattle.plan.specs.Read.{readPlan}
 use Rattle.plan.specs.Tree.{Own, empty, send, receive, set as setting, raise, leave, choose, repeat, sequence, flow, pick, scope, arm, Act, act, Acts, none, more, Plan, size}
 use Rattle.order.specs.declared.Order.{Order}
+use Rattle.order.specs.declared.End.{End}
+use Rattle.order.specs.declared.End.the-variants.{None, Well, Handled, Failed, Left}
 use Rattle.machine.specs.declared.State.{State}
 use Rattle.machine.specs.declared.Tally.{Tally}
 use Rattle.order.specs.Lists.{every, some, only}
@@ -278,6 +280,62 @@ unfoldable pub FaultsTold : Type 0
 FaultsTold =
     (bytes : List ℕ) (p : Plan) (next : ℕ) → readPlan bytes ≡ found p next → (calls : List Call) (slot : ℕ) (t : Tally) →
     heedsAfter p [] (history calls slot (loaded bytes) t) ≡ true
+
+-- ENDS. "How an order ended is one of well, handled, failed or left: root body done; root fault part done; a fault out of the root; leave.": the ends
+-- that the steps in a slot answer are those of its history, no more, no fewer, and in their order.
+
+-- the newest event is a raise
+unfoldable pub isRaised : (past : List Event) → Bool
+isRaised [] = false
+isRaised (started ∷ past) = false
+isRaised (began k ∷ past) = false
+isRaised (closed k ∷ past) = false
+isRaised (faulted n ∷ past) = false
+isRaised (stopped k ∷ past) = false
+isRaised (ended n ∷ past) = false
+isRaised (raised k ∷ past) = true
+isRaised (left ∷ past) = false
+
+-- how an order ended, by its newest event: its root ended, which had not turned, or had turned and ended right after a raise or not; or it left
+unfoldable pub endTold : (past : List Event) → End
+endTold [] = None
+endTold (started ∷ past) = None
+endTold (began k ∷ past) = None
+endTold (closed k ∷ past) = None
+endTold (faulted n ∷ past) = None
+endTold (stopped k ∷ past) = None
+endTold (ended root ∷ past) = cond (hasTurned root past) (cond (isRaised past) Failed Handled) Well
+endTold (ended (inner k) ∷ past) = None
+endTold (raised k ∷ past) = None
+endTold (left ∷ past) = Left
+
+-- an end, where there is one
+abbrev pub endList : End → List End
+endList None = []
+endList Well = Well ∷ []
+endList Handled = Handled ∷ []
+endList Failed = Failed ∷ []
+endList Left = Left ∷ []
+
+-- the ends of a history, oldest first, after a past
+unfoldable pub endsIn : (past : List Event) → List Event → List End
+endsIn past [] = []
+endsIn past (e ∷ l) = endList (endTold (e ∷ past)) ++ endsIn (e ∷ past) l
+
+-- the end that a step answers, where its slot is this one
+abbrev pub endBy : (slot : ℕ) → Stepped → List End
+endBy i r = cond (eqb (r .answer .slot) i) (endList (r .answer .end)) []
+
+unfoldable pub endsTaken : List Call → (slot : ℕ) → State → Tally → List End
+endsTaken [] i s t = []
+endsTaken (posting m ∷ l) i s t = endsTaken l i (post m s .state) t
+endsTaken (collecting ∷ l) i s t = endsTaken l i (collect s .state) t
+endsTaken (stepping c ∷ l) i s t = let r = step c s t in endBy i r ++ endsTaken l i (r .state) (r .tally)
+
+unfoldable pub EndsTold : Type 0
+EndsTold =
+    (bytes : List ℕ) (p : Plan) (next : ℕ) → readPlan bytes ≡ found p next → (calls : List Call) (slot : ℕ) (t : Tally) →
+    endsIn [] (history calls slot (loaded bytes) t) ≡ endsTaken calls slot (loaded bytes) t
 
 -- PLACES. In a live order every activity that awaits its step stands where its scope is as it should be: in a body, that scope is open; in a
 -- fault part, it is handling (so that by the lists it has undone all); in an undo part, the scope around is undoing.

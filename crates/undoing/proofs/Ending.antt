@@ -1,0 +1,306 @@
+-- The ends that a history tells are those that its steps answered. Assumes nothing.
+use Prim.Native.Nat.{ℕ}
+use native.Mathlib.Omega.{arith}
+use mathlib.Core.Path.{_≡_, refl, sym, ap, subst, _∙_}
+use mathlib.Core.Bool.{Bool, true, false, cond, not, _||_, false≢true}
+use mathlib.Core.List.{List, [], _∷_, _++_, append-nil, append-assoc}
+use lib.ListN.{length-replicate}
+use lib.Seq.{take-append-seam}
+use lib.Dec.{eqb, ltb}
+use Rattle.plan.specs.Found.{Found, found}
+use Rattle.plan.specs.Read.{readPlan}
+use Rattle.plan.specs.Tree.{Own, empty, send, receive, set as setting, raise, leave, choose, repeat, sequence, flow, pick, scope, arm, Act, act, Acts, none, more, Plan, size}
+use Rattle.plan.proofs.Limits.{accepted-is-within}
+use Rattle.order.specs.declared.Order.{Order}
+use Rattle.order.specs.declared.End.{End}
+use Rattle.order.specs.declared.End.the-variants.{None, Well, Handled, Failed, Left}
+use Rattle.machine.specs.declared.State.{State}
+use Rattle.machine.specs.declared.Tally.{Tally}
+use Rattle.order.specs.Lists.{some, only}
+use Rattle.order.specs.Expression.{evaluate}
+use Rattle.order.specs.State.{root, inner, isLive, noOrder}
+use Rattle.machine.specs.State.{fresh}
+use Rattle.machine.specs.Limits.{rootInLimits}
+use Rattle.order.specs.Event.{Event, started, began, closed, faulted, stopped, ended, raised, left}
+use Rattle.order.specs.Acting.{allBound, Moved, stepOrder, begunOrder, startedOrder}
+use Rattle.machine.specs.Calls.{loadedAs, load, post, collect, Stepped, step, Call, posting, collecting, stepping}
+use Rattle.undoing.specs.History.{logOf, history}
+use Rattle.undoing.specs.Demand3.{noneNow, isOver, allowed, hasTurned}
+use Rattle.undoing.specs.Orderly.{orderly}
+use Rattle.undoing.specs.Ties.{isDeed, isFault, deedOf, deedIn, deedAmong, deedAt, placeOf, fits, due, dueFirst, isNothing, isRaised, endTold, endList, endsIn, endBy, endsTaken, EndsTold}
+use Rattle.undoing.proofs.Parts.{both, decide}
+use Rattle.undoing.proofs.Moves.{HoldsAt, fair}
+use Rattle.undoing.proofs.Orders.{endsTurned, momentOf, fairAfter, onto, onto-append, does-nothing}
+use Rattle.undoing.proofs.Roots.{Awaited, Standing, EndedAs, Passed, passes-on, passes-end, order-steps}
+use Rattle.undoing.proofs.Planning.{Promised, promised}
+use Rattle.undoing.proofs.Demanded.{Slot, slot-free, Alike, taken-step, started-in-limits, order-starts, post-same, collect-same, fresh-order, Sane, same-sane, step-after}
+use Rattle.undoing.proofs.Happening.{orderIn, Happens, nothing-here, goes-here, starts-here, step-happens}
+use Rattle.undoing.proofs.Deeds.{order-deeds, start-deed}
+use Rattle.undoing.proofs.Shapes.{isGrave, Calm, Shape, shape-calm, shape-fault, shape-end-fault, shape-end, shape-lost, isFailed, OrderShape, shaped, out, order-shape, start-calm}
+use Rattle.undoing.proofs.Fitting.{standing-fits}
+use Rattle.undoing.proofs.Heeding.{Clear, clear-raised, heeds-clears, step-heeds, calm-heeds, alike-stands}
+
+-- Starts.
+
+-- an order starts
+unfoldable isStart : Event → Bool
+isStart started = true
+isStart (began k) = false
+isStart (closed k) = false
+isStart (faulted n) = false
+isStart (stopped k) = false
+isStart (ended n) = false
+isStart (raised k) = false
+isStart left = false
+
+-- a start is a deed
+start-kept : (l : List Event) → some isStart l ≡ some isStart (only isDeed l)
+unfolding some only isStart isDeed
+start-kept [] = refl
+start-kept (started ∷ l) = refl
+start-kept (began k ∷ l) = start-kept l
+start-kept (closed k ∷ l) = start-kept l
+start-kept (faulted n ∷ l) = start-kept l
+start-kept (stopped k ∷ l) = start-kept l
+start-kept (ended n ∷ l) = start-kept l
+start-kept (raised k ∷ l) = start-kept l
+start-kept (left ∷ l) = start-kept l
+
+-- the step of no activity is a start
+if-starts : (k : ℕ) (b : Bool) → some isStart (cond b (raised k ∷ []) []) ≡ false
+unfolding some isStart
+if-starts k true = refl
+if-starts k false = refl
+
+deed-starts : (own : Own) (k : ℕ) (o : Order) → some isStart (deedOf own k o) ≡ false
+unfolding deedOf some isStart
+deed-starts empty k o = refl
+deed-starts (send x y vs) k o = if-starts k (not (allBound o vs))
+deed-starts (receive x y vs) k o = refl
+deed-starts (setting v e) k o = if-starts k (isFault (evaluate e o))
+deed-starts raise k o = refl
+deed-starts leave k o = refl
+deed-starts (choose e) k o = if-starts k (isFault (evaluate e o))
+deed-starts (repeat e) k o = if-starts k (isFault (evaluate e o))
+deed-starts sequence k o = refl
+deed-starts flow k o = refl
+deed-starts pick k o = refl
+deed-starts scope k o = refl
+deed-starts (arm x y vs) k o = refl
+
+either-starts : (b : Bool) (x y z : List Event) → z ≡ elim b [ true ↦ x | false ↦ y ] → some isStart x ≡ false → some isStart y ≡ false → some isStart z ≡ false
+either-starts true x y z e h g = ap (some isStart) e ∙ h
+either-starts false x y z e h g = ap (some isStart) e ∙ g
+
+mutual
+  unfolding deedIn some
+
+  deed-in-starts : (a : Act) (k t : ℕ) (o : Order) → some isStart (deedIn a k t o) ≡ false
+  deed-in-starts (act own within) k t o = either-starts (eqb k t) (deedOf own k o) (deedAmong within _ t o) _ refl (deed-starts own k o) (deed-among-starts within _ t o)
+
+  deed-among-starts : (l : Acts) (c t : ℕ) (o : Order) → some isStart (deedAmong l c t o) ≡ false
+  deed-among-starts none c t o = refl
+  deed-among-starts (more a l) c t o = either-starts (ltb t _) (deedIn a c t o) (deedAmong l _ t o) _ refl (deed-in-starts a c t o) (deed-among-starts l _ t o)
+
+-- nor has the log of a step one
+log-starts : (p : Plan) (t : ℕ) (o : Order) → some isStart (stepOrder p t o .log) ≡ false
+unfolding deedAt
+log-starts p t o =
+    start-kept (stepOrder p t o .log)
+    ∙ (ap (some isStart) (order-deeds p t o)
+    ∙ either-starts (ltb t (size (p .body))) (deedIn (p .body) 0 t o) (deedIn (p .fault) (size (p .body)) t o) (deedAt p t o) refl (deed-in-starts (p .body) 0 t o) (deed-in-starts (p .fault) (size (p .body)) t o))
+
+-- The ends of a log.
+
+-- where an order lives on, its newest event tells of no end
+now-none : (past : List Event) → noneNow past ≡ false → endTold past ≡ None
+unfolding endTold noneNow isOver
+now-none [] h = refl
+now-none (started ∷ past) h = refl
+now-none (began k ∷ past) h = refl
+now-none (closed k ∷ past) h = refl
+now-none (faulted n ∷ past) h = refl
+now-none (stopped k ∷ past) h = refl
+now-none (ended root ∷ past) h = absurd (false≢true (sym h))
+now-none (ended (inner k) ∷ past) h = refl
+now-none (raised k ∷ past) h = refl
+now-none (left ∷ past) h = absurd (false≢true (sym h))
+
+-- nothing but a start is allowed after an order's end
+after-none : (p : Plan) (past : List Event) (e : Event) → noneNow past ≡ true → allowed p past e ≡ true → isStart e ≡ true
+unfolding allowed isStart
+after-none p past started n h = refl
+after-none p past (began k) n h = absurd (false≢true (rw n at h))
+after-none p past (closed k) n h = absurd (false≢true (rw n at h))
+after-none p past (faulted m) n h = absurd (false≢true (rw n at h))
+after-none p past (stopped k) n h = absurd (false≢true (rw n at h))
+after-none p past (ended m) n h = absurd (false≢true (rw n at h))
+after-none p past (raised k) n h = absurd (false≢true (rw n at h))
+after-none p past left n h = absurd (false≢true (rw n at h))
+
+-- so that a fair log without a start has no end but at its end
+fair-ends : (p : Plan) (l past : List Event) → fairAfter p past l ≡ true → some isStart l ≡ false → noneNow past ≡ false → endsIn past l ≡ endList (endTold (onto l past))
+unfolding fairAfter some endsIn
+fair-ends p [] past h s n = sym (ap endList (now-none past n))
+fair-ends p (e ∷ l) past h s n =
+    both (fair p past e) _ h (λ a b. decide (isStart e)
+    (λ t. absurd (false≢true (sym (rw t at s))))
+    (λ t. decide (noneNow (e ∷ past))
+    (λ v. last l v b (rw t at s))
+    (λ v. ap (λ (x : End). endList x ++ endsIn (e ∷ past) l) (now-none (e ∷ past) v) ∙ fair-ends p l (e ∷ past) b (rw t at s) v)))
+  where
+    last : (l : List Event) → noneNow (e ∷ past) ≡ true → fairAfter p (e ∷ past) l ≡ true → some isStart l ≡ false
+        → endList (endTold (e ∷ past)) ++ endsIn (e ∷ past) l ≡ endList (endTold (onto l (e ∷ past)))
+    last [] v b s = append-nil (endList (endTold (e ∷ past)))
+    last (d ∷ l) v b s =
+        both (fair p (e ∷ past) d) _ b (λ x y. both (allowed p (e ∷ past) d) (orderly p (e ∷ past) d) x (λ z w.
+        let q = after-none p (e ∷ past) d v z in absurd (false≢true (sym (rw q at s)))))
+
+-- two logs, one after the other
+ends-append : (l m past : List Event) → endsIn past (l ++ m) ≡ endsIn past l ++ endsIn (onto l past) m
+unfolding endsIn
+ends-append [] m past = refl
+ends-append (e ∷ l) m past = rw (ends-append l m (e ∷ past), append-assoc)
+
+-- The root's end right after a raise.
+unfoldable rawEnd : (past : List Event) → Bool
+rawEnd [] = false
+rawEnd (started ∷ past) = false
+rawEnd (began k ∷ past) = false
+rawEnd (closed k ∷ past) = false
+rawEnd (faulted n ∷ past) = false
+rawEnd (stopped k ∷ past) = false
+rawEnd (ended root ∷ past) = isRaised past
+rawEnd (ended (inner k) ∷ past) = false
+rawEnd (raised k ∷ past) = false
+rawEnd (left ∷ past) = false
+
+-- an order that lives on has none
+now-cool : (past : List Event) → noneNow past ≡ false → rawEnd past ≡ false
+unfolding rawEnd noneNow isOver
+now-cool [] h = refl
+now-cool (started ∷ past) h = refl
+now-cool (began k ∷ past) h = refl
+now-cool (closed k ∷ past) h = refl
+now-cool (faulted n ∷ past) h = refl
+now-cool (stopped k ∷ past) h = refl
+now-cool (ended root ∷ past) h = absurd (false≢true (sym h))
+now-cool (ended (inner k) ∷ past) h = refl
+now-cool (raised k ∷ past) h = refl
+now-cool (left ∷ past) h = refl
+
+-- a calm log brings none
+calm-cool : (l past : List Event) → Calm l → isRaised past ≡ false → rawEnd past ≡ false → rawEnd (onto l past) ≡ false
+unfolding only isGrave isRaised rawEnd
+calm-cool [] past c h g = g
+calm-cool (started ∷ l) past c h g = calm-cool l (started ∷ past) c refl refl
+calm-cool (began k ∷ l) past c h g = calm-cool l (began k ∷ past) c refl refl
+calm-cool (closed k ∷ l) past c h g = calm-cool l (closed k ∷ past) c refl refl
+calm-cool (faulted n ∷ l) past c h g = absurd (let z : _≡_ {A = ℕ} 0 1 = cc in omega arith)
+calm-cool (stopped k ∷ l) past c h g = calm-cool l (stopped k ∷ past) c refl refl
+calm-cool (ended root ∷ l) past c h g = calm-cool l (ended root ∷ past) c refl h
+calm-cool (ended (inner k) ∷ l) past c h g = calm-cool l (ended (inner k) ∷ past) c refl refl
+calm-cool (raised k ∷ l) past c h g = absurd (let z : _≡_ {A = ℕ} 0 1 = cc in omega arith)
+calm-cool (left ∷ l) past c h g = calm-cool l (left ∷ past) c refl refl
+
+-- nor does one of its shape, where no raise is lost
+shape-cool : (p : Plan) (t : ℕ) (o : Order) (l past : List Event) → Shape p t o l → fits (placeOf p t) o ≡ true → isRaised past ≡ false → rawEnd past ≡ false → rawEnd (onto l past) ≡ false
+unfolding isRaised rawEnd
+shape-cool p t o l past (shape-calm c) f h g = calm-cool l past c h g
+shape-cool p t o _ past (shape-fault {n} {m} {l} x c) f h g = calm-cool l (faulted n ∷ raised t ∷ past) c refl refl
+shape-cool p t o _ past (shape-end-fault {n} {m} {l} x i z c) f h g = calm-cool l (faulted m ∷ ended n ∷ raised t ∷ past) c refl refl
+shape-cool p t o _ past (shape-end {k} {m} {l} x i z c) f h g = calm-cool l (ended (inner k) ∷ raised t ∷ past) c refl refl
+shape-cool p t o _ past (shape-lost {q} {l} x i z c) f h g = absurd (false≢true (sym z ∙ (ap (λ v. fits v o) (sym x) ∙ f)))
+
+-- How the newest event tells an end.
+told-turned : (past : List Event) (b : Bool) → endsTurned past ≡ true → rawEnd past ≡ b → endTold past ≡ cond b Failed Handled
+unfolding endsTurned rawEnd endTold
+told-turned [] b h g = absurd (false≢true h)
+told-turned (started ∷ past) b h g = absurd (false≢true h)
+told-turned (began k ∷ past) b h g = absurd (false≢true h)
+told-turned (closed k ∷ past) b h g = absurd (false≢true h)
+told-turned (faulted n ∷ past) b h g = absurd (false≢true h)
+told-turned (stopped k ∷ past) b h g = absurd (false≢true h)
+told-turned (ended root ∷ past) b h g = rw (h, g)
+told-turned (ended (inner k) ∷ past) b h g = absurd (false≢true h)
+told-turned (raised k ∷ past) b h g = absurd (false≢true h)
+told-turned (left ∷ past) b h g = absurd (false≢true h)
+
+-- the end of an order whose log is of its shape
+told-end : (p : Plan) (t : ℕ) (o : Order) (e : End) (l past : List Event) → EndedAs e (onto l past) → OrderShape p t o e l → fits (placeOf p t) o ≡ true
+    → isRaised past ≡ false → rawEnd past ≡ false → endTold (onto l past) ≡ e
+unfolding rawEnd isRaised
+told-end p t o None l past h s f c g = absurd h
+told-end p t o Well l past h s f c g = h
+told-end p t o Handled l past h (shaped x y) f c g = told-turned (onto l past) false h (shape-cool p t o l past y f c g)
+told-end p t o Failed l past h (shaped x y) f c g = absurd (false≢true (sym x))
+told-end p t o Failed _ past h (out x y) f c g = told-turned (ended root ∷ raised t ∷ past) true h refl
+told-end p t o Left l past h s f c g = h
+
+module _ (p : Plan) (h : Promised p) where
+  -- a step of an order that stands and has taken its message
+  order-ends : (t : ℕ) (o o′ : Order) (past : List Event) → Alike p o o′ → Awaited p (o .marks) t → Standing p o → rootInLimits (o .root) ≡ true → HoldsAt p (momentOf p o) past
+      → Clear p past → endsIn past (stepOrder p t o′ .log) ≡ endList (stepOrder p t o′ .end)
+  order-ends t o o′ past a w st m g c = go (taken-step p h t o o′ past a w st m g)
+    where
+      f : fits (placeOf p t) o′ ≡ true
+      f = standing-fits p o′ t (alike-stands p o o′ a st) (subst (λ (ms : List ℕ). Awaited p ms t) (sym (a .marks)) w)
+
+      go : Passed p past (stepOrder p t o′) → endsIn past (stepOrder p t o′ .log) ≡ endList (stepOrder p t o′ .end)
+      go (passes-on r e z y) =
+          fair-ends p (stepOrder p t o′ .log) past r (log-starts p t o′) (g .now) ∙ (ap endList (now-none (onto (stepOrder p t o′ .log) past) (y .now)) ∙ ap endList (sym e))
+      go (passes-end r e z) =
+          fair-ends p (stepOrder p t o′ .log) past r (log-starts p t o′) (g .now)
+          ∙ ap endList (told-end p t o′ (stepOrder p t o′ .end) (stepOrder p t o′ .log) past z (order-shape p (h .seat) t o′) f (clear-raised p past c) (now-cool past (g .now)))
+
+-- where an order starts it does not end
+started-ends : (p : Plan) (l past : List Event) → fairAfter p past (started ∷ l) ≡ true → only isDeed (started ∷ l) ≡ started ∷ [] → noneNow (onto l (started ∷ past)) ≡ false
+    → endsIn past (started ∷ l) ≡ []
+unfolding fairAfter endsIn endTold only isDeed noneNow isOver some
+started-ends p l past f d n =
+    both (fair p past started) _ f (λ x y.
+    fair-ends p l (started ∷ past) y (start-kept l ∙ ap (some isStart) (let z : only isDeed l ≡ [] = cc in z)) refl ∙ ap endList (now-none (onto l (started ∷ past)) n))
+
+module _ (p : Plan) (bytes : List ℕ) (next i : ℕ) (accepted : readPlan bytes ≡ found p next) (h : Promised p) where
+  -- a step, in this slot or elsewhere
+  step-ends : (s : State) (past : List Event) (r : Stepped) → Happens p i s past r → Clear p past → endsIn past (logOf i r) ≡ endBy i r
+  unfolding endsIn
+  step-ends s past r (nothing-here l e o) c = rw (l, e)
+  step-ends s past r (goes-here t o a w st m g l e d) c = ap (endsIn past) l ∙ (order-ends p h t (orderIn s i) o past a w st m g c ∙ sym e)
+  step-ends s past r (starts-here t o a w z n l e d) c =
+      let b = order-starts p h t past n w in
+      let l₀ = started ∷ begunOrder p .log in
+      ap (endsIn past) l
+      ∙ (ends-append l₀ (stepOrder p t o .log) past
+      ∙ (ap (λ x. x ++ endsIn (onto l₀ past) (stepOrder p t o .log)) (begun-ends b n)
+      ∙ (order-ends p h t (startedOrder p) o (onto l₀ past) a w (b .1) (started-in-limits p) (b .2) (heeds-clears p l₀ past (calm-heeds p l₀ past (start-calm p) c)) ∙ sym e)))
+    where
+      begun-ends : (fairAfter p past (started ∷ begunOrder p .log) ≡ true) × Standing p (startedOrder p) × HoldsAt p (momentOf p (startedOrder p)) (onto (started ∷ begunOrder p .log) past)
+          → noneNow past ≡ true → endsIn past (started ∷ begunOrder p .log) ≡ []
+      begun-ends b n = started-ends p (begunOrder p .log) past (b .0) (start-deed p) (b .2 .now)
+
+  -- over any calls
+  all-ends : (calls : List Call) (s : State) (t : Tally) (past : List Event) → Sane p bytes next i accepted h s past → Clear p past → endsIn past (history calls i s t) ≡ endsTaken calls i s t
+  unfolding history endsTaken endsIn
+  all-ends [] s t past g c = refl
+  all-ends (posting m ∷ l) s t past g c = all-ends l (post m s .state) t past (same-sane p bytes next i accepted h s (post m s .state) past (post-same m s) g) c
+  all-ends (collecting ∷ l) s t past g c = all-ends l (collect s .state) t past (same-sane p bytes next i accepted h s (collect s .state) past (collect-same s) g) c
+  all-ends (stepping v ∷ l) s t past g c =
+      let r = step v s t in
+      ends-append (logOf i r) (history l i (r .state) (r .tally)) past
+      ∙ rw (
+        step-ends s past r (step-happens p bytes next i accepted h v s t past g) c,
+        all-ends l (r .state) (r .tally) (onto (logOf i r) past) (step-after p bytes next i accepted h v s t past g .1) (heeds-clears p (logOf i r) past (step-heeds p bytes next i accepted h v s t past g c)),
+      )
+
+-- The ends of a history are those answered.
+pub ends-told : EndsTold
+unfolding EndsTold load fresh noneNow noOrder due
+ends-told bytes p next e calls slot t =
+    subst (λ (f : Found Plan). endsIn [] (history calls slot (loadedAs bytes f .state) t) ≡ endsTaken calls slot (loadedAs bytes f .state) t) (sym e)
+    (all-ends p bytes next slot e (promised p (accepted-is-within bytes e)) calls (fresh bytes) t []
+    (record {
+      plan = take-append-seam bytes _;
+      many = length-replicate 16 noOrder;
+      slot = slot-free (ap isLive (fresh-order slot)) refl;
+    }) refl)
