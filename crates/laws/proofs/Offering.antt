@@ -3,7 +3,8 @@ use Prim.Native.Nat.{ℕ, zero, suc, _+_, _<_, _≤_}
 use native.Mathlib.Omega.{arith}
 use mathlib.Core.Path.{_≡_, refl, sym, ap, subst, _∙_}
 use mathlib.Core.Bool.{Bool, true, false, cond, not, _&&_}
-use mathlib.Core.List.{List, [], _∷_, _++_, append-nil, map}
+use mathlib.Core.Logic.{⊎-elim}
+use mathlib.Core.List.{List, [], _∷_, _++_, append-nil, map, List·Memᴰ, List·Memᴰ·cases-cons, List·Memᴰ·not-nil}
 use lib.ListN.{length, getD, take, length-append, List·getD-eq-default}
 use lib.Seq.{getD-append-seam, append-snoc}
 use lib.Dec.{leb, ltb, eqb}
@@ -28,6 +29,10 @@ pub data Each {A : Type 0} (P : A → Type 0) : List A → Type 0 where
   each-more : {a : A} {l : List A} → P a → Each P l → Each P (a ∷ l)
 
 module _ {A : Type 0} where
+  pub each-in : {P : A → Type 0} {l : List A} {x : A} → Each P l → List·Memᴰ x l → P x
+  each-in each-none m = absurd (List·Memᴰ·not-nil m)
+  each-in {P} (each-more {a} h y) m = ⊎-elim (λ e. subst P (sym e) h) (λ n. each-in y n) (List·Memᴰ·cases-cons m)
+
   each-append : {P : A → Type 0} {l m : List A} → Each P l → Each P m → Each P (l ++ m)
   each-append each-none y = y
   each-append (each-more x l) y = each-more x (each-append l y)
@@ -77,10 +82,10 @@ pick-false false x y e = refl
 pick-false true x y e = let z : _≡_ {A = Bool} true false = e in absurd (let w : _≡_ {A = ℕ} 0 1 = cc in omega arith)
 
 -- what is ready has the step that its activity is there for
-record Does (f : ℕ → Doing) (from to : ℕ) (r : Ready) : Type 0 where
-  is : r .step ≡ f (r .activity)
-  low : from ≤ r .activity
-  high : r .activity < to
+pub record Does (f : ℕ → Doing) (from to : ℕ) (r : Ready) : Type 0 where
+  pub is : r .step ≡ f (r .activity)
+  pub low : from ≤ r .activity
+  pub high : r .activity < to
 
 mutual
   unfolding readyIn doingIn size
@@ -114,7 +119,7 @@ mutual
         high = omega (arith, w .high);
       }) (among-ready l (c + size a) b ms))
 
-plan-ready : (p : Plan) (o : Order) → Each (Does (doingAt p) 0 (size (p .body) + size (p .fault))) (readyOf p o)
+pub plan-ready : (p : Plan) (o : Order) → Each (Does (doingAt p) 0 (size (p .body) + size (p .fault))) (readyOf p o)
 unfolding readyOf doingAt
 plan-ready p o =
     each-append
@@ -207,7 +212,7 @@ fine-from p s b o i k d e st f h x y =
       heeds = rw (g, v, sym z) (y .heeds);
     }
 
-eager-each : {P : Ready → Type 0} {l : List Ready} → Each P l → Each P (eager l)
+pub eager-each : {P : Ready → Type 0} {l : List Ready} → Each P l → Each P (eager l)
 unfolding eager
 eager-each {P} {l} y = each-cond (some isCut l) (each-only isCut y) y
 
