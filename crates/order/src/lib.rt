@@ -3,6 +3,8 @@ mod acting;
 mod beginning;
 mod evaluation;
 mod inside;
+mod kind;
+mod mark;
 mod marks;
 mod memory;
 mod outcomes;

@@ -4,6 +4,8 @@ use super::Way;
 use super::Went;
 use super::Worth;
 use super::evaluation::evaluate_at;
+use super::kind;
+use super::mark;
 use super::marks::begun_in;
 use super::marks::cleared;
 use super::marks::is_over;
@@ -38,7 +40,7 @@ pub(crate) fn finishes(k: usize, order: Order) -> Went
     requires { ⌜ k < 256 ⌝ }
     ensures { λ r. ⌜ r ≡ finishesOf k order ⌝ }
 {
-    let o = marked(k, 0, order);
+    let o = marked(k, mark::IDLE, order);
     Went {
         way: Way::Over,
         order: o,
@@ -50,7 +52,7 @@ fn raises(k: usize, order: Order) -> Went
     requires { ⌜ k < 256 ⌝ }
     ensures { λ r. ⌜ r ≡ raisesOf k order ⌝ }
 {
-    let o = marked(k, 0, order);
+    let o = marked(k, mark::IDLE, order);
     Went {
         way: Way::Raising,
         order: o,
@@ -62,7 +64,7 @@ fn leaves(k: usize, order: Order) -> Went
     requires { ⌜ k < 256 ⌝ }
     ensures { λ r. ⌜ r ≡ leavesOf k order ⌝ }
 {
-    let o = marked(k, 0, order);
+    let o = marked(k, mark::IDLE, order);
     Went {
         way: Way::Leaving,
         order: o,
@@ -118,7 +120,7 @@ fn enters(table: &[u32; 11584], k: usize, c: usize, order: Order) -> Went
     requires { ⌜ k < 256 ⌝ }
     ensures { λ r. ⌜ Enters (now (table .entry)) k c order r ⌝ }
 {
-    let o = marked(k, 2, order);
+    let o = marked(k, mark::INSIDE, order);
     let m = o.marks;
     let r = begun_in(o, begin_row(table, c, m));
     let w = r.way;
@@ -134,7 +136,7 @@ pub(crate) fn again(k: usize, order: Order) -> Went
     requires { ⌜ k < 256 ⌝ }
     ensures { λ r. ⌜ r ≡ runsOf (markedOf k 1 order) ⌝ }
 {
-    let o = marked(k, 1, order);
+    let o = marked(k, mark::ACTIVE, order);
     runs(o)
 }
 
@@ -146,7 +148,7 @@ fn repeats(table: &[u32; 11584], k: usize, order: Order) -> Went
     let e = end_of(table, k);
     let m = order.marks;
     let n = cleared(k + 1, e, m);
-    let o = marked(k, 2, with_marks(n, order));
+    let o = marked(k, mark::INSIDE, with_marks(n, order));
     let q = o.marks;
     let r = begun_in(o, begin_row(table, k + 1, q));
     let w = r.way;
@@ -157,7 +159,7 @@ fn repeats(table: &[u32; 11584], k: usize, order: Order) -> Went
     r
 }
 
-// Scope k closes.
+// Scope k closes. Where it has no room, which no step that is offered leads to, the order stays as it is.
 fn closes(table: &[u32; 11584], k: usize, order: Order) -> Went
     requires { ⌜ k < 256 ⌝ }
     ensures { λ r. ⌜ Closes (now (table .entry)) k order r ⌝ }
@@ -169,7 +171,7 @@ fn closes(table: &[u32; 11584], k: usize, order: Order) -> Went
         let p = pushed(f, k);
         return finishes(k, p);
     }
-    finishes(k, f)
+    runs(order)
 }
 
 // A send.
@@ -266,15 +268,15 @@ pub(crate) fn itself(table: &[u32; 11584], k: usize, order: Order) -> Went
 {
     let kind = kind_of(table, k);
     match kind {
-        1 => sends(table, k, order),
-        2 => finishes(k, order),
-        3 => sets(table, k, order),
-        4 => raises(k, order),
-        5 => leaves(k, order),
-        6 => chooses(table, k, order),
-        7 => decides(table, k, order),
-        11 => closes(table, k, order),
-        12 => takes(table, k, order),
+        kind::SEND => sends(table, k, order),
+        kind::RECEIVE => finishes(k, order),
+        kind::SET => sets(table, k, order),
+        kind::RAISE => raises(k, order),
+        kind::LEAVE => leaves(k, order),
+        kind::CHOOSE => chooses(table, k, order),
+        kind::REPEAT => decides(table, k, order),
+        kind::SCOPE => closes(table, k, order),
+        kind::ARM => takes(table, k, order),
         _ => runs(order),
     }
 }
