@@ -2,4 +2,5 @@ pub mod History
 pub mod Demand3
 pub mod Ties
 pub mod Orderly
+pub mod UndoneRight
 pub mod Computing
