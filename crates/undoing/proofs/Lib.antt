@@ -31,4 +31,5 @@ pub mod Ending
 pub mod Awaiting
 pub mod Going
 pub mod AllTold
+pub mod Program
 pub mod Refused

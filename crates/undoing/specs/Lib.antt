@@ -3,4 +3,5 @@ pub mod Demand3
 pub mod Ties
 pub mod Orderly
 pub mod UndoneRight
+pub mod Compiled
 pub mod Computing
