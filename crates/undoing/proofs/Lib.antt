@@ -30,6 +30,7 @@ pub mod Heeding
 pub mod Ending
 pub mod Awaiting
 pub mod Going
+pub mod Bought
 pub mod AllTold
 pub mod Program
 pub mod Refused
