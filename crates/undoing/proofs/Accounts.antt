@@ -152,7 +152,7 @@ number-is-name l m h z =
     (λ x e. rw (e, or-true)) l h
 
 -- each number in a list is among the numbers of the list
-numbers-are-names : (l : List Inner) → every (λ x. some (λ y. eqb (y .number) (x .number)) l) l ≡ true
+pub numbers-are-names : (l : List Inner) → every (λ x. some (λ y. eqb (y .number) (x .number)) l) l ≡ true
 unfolding every some
 numbers-are-names [] = refl
 numbers-are-names (x ∷ l) = rw (eq-eqb (x .number) (x .number) refl, number-is-name l l (numbers-are-names l) x)

@@ -22,7 +22,7 @@ use Rattle.undoing.proofs.Parts.{both, decide, only-not, only-within}
 use Rattle.undoing.proofs.Accounts.{Phase, heals, phase, Inside·rest}
 use Rattle.undoing.proofs.Moves.{Elsewhere, fair, move-end-healed, move-end-raised, root-healed, root-turned, root-raised, root-undid}
 use Rattle.undoing.proofs.Marks.{Quiet, Kept, kept-then, kept-wider, kept-itself, kept-set}
-use Rattle.undoing.proofs.Orders.{endAs, endsTurned, isIn, listOf, momentOf, fairAfter, Does, does-one}
+use Rattle.undoing.proofs.Orders.{failAs, endsTurned, isIn, listOf, momentOf, fairAfter, Does, does-one}
 use Rattle.undoing.proofs.Seats.{Seat, remembering-closings, directly-directs}
 
 -- Cleared marks.
@@ -130,11 +130,11 @@ module _ (p : Plan) (distinct : Distinct p) where
 
   -- by a raise in its fault part
   pub breaks-healed : (s : Scope) (o : Order) → Seat p s → Owns (s .name) (s .first) (s .count) → phase (markOf (s .name) o) ≡ heals
-      → Inside·rest p (λ z. markOf z o) (s .name) → OthersRest s o → Does p (endAs (s .name)) o (ended (s .name) ∷ []) (broken s o)
+      → Inside·rest p (λ z. markOf z o) (s .name) → OthersRest s o → Does p (failAs (s .name)) o (ended (s .name) ∷ []) (broken s o)
   unfolding fairAfter endsTurned
   breaks-healed s o h w q r f = go (s .name) refl
     where
-      go : (n : Name) → s .name ≡ n → Does p (endAs n) o (ended n ∷ []) (broken s o)
+      go : (n : Name) → s .name ≡ n → Does p (failAs n) o (ended n ∷ []) (broken s o)
       go root e =
           record { does = λ past x. (rw (root-healed p (momentOf p o) (momentOf p o) past x (subst (λ (z : Name). phase (markOf z o) ≡ heals) e q) (subst (λ (z : Name). Inside·rest p (λ y. markOf y o) z) e r)), root-turned p (momentOf p o) (momentOf p o) past x (subst (λ (z : Name). phase (markOf z o) ≡ heals) e q)) }
       go (inner k) e =
@@ -147,11 +147,11 @@ module _ (p : Plan) (distinct : Distinct p) where
   -- by a raise in an undo part that it is running
   pub breaks-raised : (v : Bool) (s : Scope) (t : ℕ) (o₀ o : Order) → Seat p s → Owns (s .name) (s .first) (s .count) → phase (markOf (s .name) o) ≡ Phase.undoes v
       → Inside·rest p (λ z. markOf z o) (s .name) → OthersRest s o → isUndoRaise (insideOf p (s .name)) (raised t) ≡ true → Does p None o₀ (raised t ∷ []) o
-      → Does p (endAs (s .name)) o₀ (raised t ∷ ended (s .name) ∷ []) (broken s o)
+      → Does p (failAs (s .name)) o₀ (raised t ∷ ended (s .name) ∷ []) (broken s o)
   unfolding fairAfter endsTurned
   breaks-raised v s t o₀ o h w q r f u d = go (s .name) refl
     where
-      go : (n : Name) → s .name ≡ n → Does p (endAs n) o₀ (raised t ∷ ended n ∷ []) (broken s o)
+      go : (n : Name) → s .name ≡ n → Does p (failAs n) o₀ (raised t ∷ ended n ∷ []) (broken s o)
       go root e =
           record {
             does = λ past x.

@@ -118,7 +118,7 @@ module _ (p : Plan) (h : Promised p) where
   passed-slot : (past : List Event) (m : Moved) → Passed p past m → (fairAfter p past (m .log) ≡ true) × Slot p (m .order) (onto (m .log) past)
   unfolding noOrder
   passed-slot past m (passes-on r z st g) = (r, slot-live st g)
-  passed-slot past m (passes-end r e n) = (r, slot-free (ap isLive e) (ended-now (m .end) (onto (m .log) past) n))
+  passed-slot past m (passes-end r e n) = (r, slot-free (ap isLive e) (ended-now p (m .end) (onto (m .log) past) n))
 
   -- An order starts.
   idle-marks : (k n : ℕ) → Quiet (noOrder .marks) k n

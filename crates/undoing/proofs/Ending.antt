@@ -1,8 +1,8 @@
--- The ends that a history tells are those that its steps answered. Assumes nothing.
+-- The ends that a history tells are those that its steps answered, and what is promised at ends holds there. Assumes nothing.
 use Prim.Native.Nat.{ℕ}
 use native.Mathlib.Omega.{arith}
 use mathlib.Core.Path.{_≡_, refl, sym, ap, subst, _∙_}
-use mathlib.Core.Bool.{Bool, true, false, cond, not, _||_, false≢true}
+use mathlib.Core.Bool.{Bool, true, false, cond, not, _&&_, _||_, false≢true}
 use mathlib.Core.List.{List, [], _∷_, _++_, append-nil, append-assoc}
 use lib.ListN.{length-replicate}
 use lib.Seq.{take-append-seam}
@@ -25,12 +25,13 @@ use Rattle.order.specs.Event.{Event, started, began, closed, faulted, stopped, 
 use Rattle.order.specs.Acting.{allBound, Moved, stepOrder, begunOrder, startedOrder}
 use Rattle.machine.specs.Calls.{loadedAs, load, post, collect, Stepped, step, Call, posting, collecting, stepping}
 use Rattle.undoing.specs.History.{logOf, history}
-use Rattle.undoing.specs.Demand3.{noneNow, isOver, allowed, hasTurned}
+use Rattle.undoing.specs.Demand3.{closingsOf, noneNow, isOver, allowed, hasTurned}
 use Rattle.undoing.specs.Orderly.{orderly}
 use Rattle.undoing.specs.Ties.{isDeed, isFault, deedOf, deedIn, deedAmong, deedAt, placeOf, fits, due, dueFirst, isNothing, isRaised, endTold, endList, endsIn, endBy, endsTaken, EndsTold}
-use Rattle.undoing.proofs.Parts.{both, decide}
+use Rattle.undoing.specs.Buyer.{atEnds, allBack, HandledTakesAllBack, noneBack, WellTakesNothingBack}
+use Rattle.undoing.proofs.Parts.{both, decide, alike-itself}
 use Rattle.undoing.proofs.Moves.{HoldsAt, fair}
-use Rattle.undoing.proofs.Orders.{endsTurned, momentOf, fairAfter, onto, onto-append, does-nothing}
+use Rattle.undoing.proofs.Orders.{endsTurned, older, momentOf, fairAfter, onto, onto-append, does-nothing}
 use Rattle.undoing.proofs.Roots.{Awaited, Standing, EndedAs, Passed, passes-on, passes-end, order-steps}
 use Rattle.undoing.proofs.Planning.{Promised, promised}
 use Rattle.undoing.proofs.Demanded.{Slot, slot-free, Alike, taken-step, started-in-limits, order-starts, post-same, collect-same, fresh-order, Sane, same-sane, step-after}
@@ -156,7 +157,31 @@ fair-ends p (e ∷ l) past h s n =
         both (fair p (e ∷ past) d) _ b (λ x y. both (allowed p (e ∷ past) d) (orderly p (e ∷ past) d) x (λ z w.
         let q = after-none p (e ∷ past) d v z in absurd (false≢true (sym (rw q at s)))))
 
+-- and what holds at its end holds at its ends
+fair-at : (p : Plan) (f : End → List Event → Bool) → ((past : List Event) → f None past ≡ true) → (l past : List Event) → fairAfter p past l ≡ true → some isStart l ≡ false
+    → noneNow past ≡ false → f (endTold (onto l past)) (older (onto l past)) ≡ true → atEnds f past l ≡ true
+unfolding fairAfter some atEnds
+fair-at p f i [] past h s n g = refl
+fair-at p f i (e ∷ l) past h s n g =
+    both (fair p past e) _ h (λ a b. decide (isStart e)
+    (λ t. absurd (false≢true (sym (rw t at s))))
+    (λ t. decide (noneNow (e ∷ past))
+    (λ v. last l v b (rw t at s) g)
+    (λ v. rw (now-none (e ∷ past) v, i past, fair-at p f i l (e ∷ past) b (rw t at s) v g))))
+  where
+    last : (l : List Event) → noneNow (e ∷ past) ≡ true → fairAfter p (e ∷ past) l ≡ true → some isStart l ≡ false
+        → f (endTold (onto l (e ∷ past))) (older (onto l (e ∷ past))) ≡ true → (f (endTold (e ∷ past)) past && atEnds f (e ∷ past) l) ≡ true
+    last [] v b s g = rw g
+    last (d ∷ l) v b s g =
+        both (fair p (e ∷ past) d) _ b (λ x y. both (allowed p (e ∷ past) d) (orderly p (e ∷ past) d) x (λ z w.
+        let q = after-none p (e ∷ past) d v z in absurd (false≢true (sym (rw q at s)))))
+
 -- two logs, one after the other
+at-append : (f : End → List Event → Bool) (l m past : List Event) → atEnds f past l ≡ true → atEnds f (onto l past) m ≡ true → atEnds f past (l ++ m) ≡ true
+unfolding atEnds
+at-append f [] m past h g = g
+at-append f (e ∷ l) m past h g = both (f (endTold (e ∷ past)) past) _ h (λ x y. rw (x, at-append f l m (e ∷ past) y g))
+
 ends-append : (l m past : List Event) → endsIn past (l ++ m) ≡ endsIn past l ++ endsIn (onto l past) m
 unfolding endsIn
 ends-append [] m past = refl
@@ -227,80 +252,132 @@ told-turned (raised k ∷ past) b h g = absurd (false≢true h)
 told-turned (left ∷ past) b h g = absurd (false≢true h)
 
 -- the end of an order whose log is of its shape
-told-end : (p : Plan) (t : ℕ) (o : Order) (e : End) (l past : List Event) → EndedAs e (onto l past) → OrderShape p t o e l → fits (placeOf p t) o ≡ true
+told-end : (p : Plan) (t : ℕ) (o : Order) (e : End) (l past : List Event) → EndedAs p e (onto l past) → OrderShape p t o e l → fits (placeOf p t) o ≡ true
     → isRaised past ≡ false → rawEnd past ≡ false → endTold (onto l past) ≡ e
 unfolding rawEnd isRaised
 told-end p t o None l past h s f c g = absurd h
-told-end p t o Well l past h s f c g = h
-told-end p t o Handled l past h (shaped x y) f c g = told-turned (onto l past) false h (shape-cool p t o l past y f c g)
+told-end p t o Well l past h s f c g = h .0
+told-end p t o Handled l past h (shaped x y) f c g = told-turned (onto l past) false (h .0) (shape-cool p t o l past y f c g)
 told-end p t o Failed l past h (shaped x y) f c g = absurd (false≢true (sym x))
 told-end p t o Failed _ past h (out x y) f c g = told-turned (ended root ∷ raised t ∷ past) true h refl
 told-end p t o Left l past h s f c g = h
 
+-- What a promise at ends asks: nothing where there is none, and what is known of an order that ended so.
+pub record Kept (p : Plan) (f : End → List Event → Bool) : Type 0 where
+  pub none : (past : List Event) → f None past ≡ true
+  pub ended : (e : End) (past : List Event) → EndedAs p e past → f e (older past) ≡ true
+
 module _ (p : Plan) (h : Promised p) where
-  -- a step of an order that stands and has taken its message
+  -- a step of an order that stands and has taken its message: its ends, and what is promised there
   order-ends : (t : ℕ) (o o′ : Order) (past : List Event) → Alike p o o′ → Awaited p (o .marks) t → Standing p o → rootInLimits (o .root) ≡ true → HoldsAt p (momentOf p o) past
-      → Clear p past → endsIn past (stepOrder p t o′ .log) ≡ endList (stepOrder p t o′ .end)
+      → Clear p past
+      → (endsIn past (stepOrder p t o′ .log) ≡ endList (stepOrder p t o′ .end)) × ((f : End → List Event → Bool) → Kept p f → atEnds f past (stepOrder p t o′ .log) ≡ true)
   order-ends t o o′ past a w st m g c = go (taken-step p h t o o′ past a w st m g)
     where
-      f : fits (placeOf p t) o′ ≡ true
-      f = standing-fits p o′ t (alike-stands p o o′ a st) (subst (λ (ms : List ℕ). Awaited p ms t) (sym (a .marks)) w)
+      l : List Event
+      l = stepOrder p t o′ .log
 
-      go : Passed p past (stepOrder p t o′) → endsIn past (stepOrder p t o′ .log) ≡ endList (stepOrder p t o′ .end)
-      go (passes-on r e z y) =
-          fair-ends p (stepOrder p t o′ .log) past r (log-starts p t o′) (g .now) ∙ (ap endList (now-none (onto (stepOrder p t o′ .log) past) (y .now)) ∙ ap endList (sym e))
-      go (passes-end r e z) =
-          fair-ends p (stepOrder p t o′ .log) past r (log-starts p t o′) (g .now)
-          ∙ ap endList (told-end p t o′ (stepOrder p t o′ .end) (stepOrder p t o′ .log) past z (order-shape p (h .seat) t o′) f (clear-raised p past c) (now-cool past (g .now)))
+      e : End
+      e = stepOrder p t o′ .end
+
+      fit : fits (placeOf p t) o′ ≡ true
+      fit = standing-fits p o′ t (alike-stands p o o′ a st) (subst (λ (ms : List ℕ). Awaited p ms t) (sym (a .marks)) w)
+
+      go : Passed p past (stepOrder p t o′) → (endsIn past l ≡ endList e) × ((f : End → List Event → Bool) → Kept p f → atEnds f past l ≡ true)
+      go (passes-on r d z y) =
+          let q = now-none (onto l past) (y .now) in (
+            fair-ends p l past r (log-starts p t o′) (g .now) ∙ (ap endList q ∙ ap endList (sym d)),
+            λ f k. fair-at p f (k .none) l past r (log-starts p t o′) (g .now) (rw q (k .none (older (onto l past)))),
+          )
+      go (passes-end r d z) =
+          let q = told-end p t o′ e l past z (order-shape p (h .seat) t o′) fit (clear-raised p past c) (now-cool past (g .now)) in (
+            fair-ends p l past r (log-starts p t o′) (g .now) ∙ ap endList q,
+            λ f k. fair-at p f (k .none) l past r (log-starts p t o′) (g .now) (rw q (k .ended e (onto l past) z)),
+          )
 
 -- where an order starts it does not end
 started-ends : (p : Plan) (l past : List Event) → fairAfter p past (started ∷ l) ≡ true → only isDeed (started ∷ l) ≡ started ∷ [] → noneNow (onto l (started ∷ past)) ≡ false
-    → endsIn past (started ∷ l) ≡ []
-unfolding fairAfter endsIn endTold only isDeed noneNow isOver some
-started-ends p l past f d n =
-    both (fair p past started) _ f (λ x y.
-    fair-ends p l (started ∷ past) y (start-kept l ∙ ap (some isStart) (let z : only isDeed l ≡ [] = cc in z)) refl ∙ ap endList (now-none (onto l (started ∷ past)) n))
+    → (endsIn past (started ∷ l) ≡ []) × ((f : End → List Event → Bool) → Kept p f → atEnds f past (started ∷ l) ≡ true)
+unfolding fairAfter endsIn atEnds endTold only isDeed noneNow isOver some
+started-ends p l past h d n =
+    both (fair p past started) _ h (λ x y.
+    let s : some isStart l ≡ false = start-kept l ∙ ap (some isStart) (let z : only isDeed l ≡ [] = cc in z) in
+    let q = now-none (onto l (started ∷ past)) n in (
+      fair-ends p l (started ∷ past) y s refl ∙ ap endList q,
+      λ f k. rw (k .none past, fair-at p f (k .none) l (started ∷ past) y s refl (rw q (k .none (older (onto l (started ∷ past)))))),
+    ))
 
 module _ (p : Plan) (bytes : List ℕ) (next i : ℕ) (accepted : readPlan bytes ≡ found p next) (h : Promised p) where
   -- a step, in this slot or elsewhere
-  step-ends : (s : State) (past : List Event) (r : Stepped) → Happens p i s past r → Clear p past → endsIn past (logOf i r) ≡ endBy i r
-  unfolding endsIn
-  step-ends s past r (nothing-here l e o) c = rw (l, e)
-  step-ends s past r (goes-here t o a w st m g l e d) c = ap (endsIn past) l ∙ (order-ends p h t (orderIn s i) o past a w st m g c ∙ sym e)
+  step-ends : (s : State) (past : List Event) (r : Stepped) → Happens p i s past r → Clear p past
+      → (endsIn past (logOf i r) ≡ endBy i r) × ((f : End → List Event → Bool) → Kept p f → atEnds f past (logOf i r) ≡ true)
+  unfolding endsIn atEnds
+  step-ends s past r (nothing-here l e o) c = (rw (l, e), λ f k. rw l)
+  step-ends s past r (goes-here t o a w st m g l e d) c =
+      let x = order-ends p h t (orderIn s i) o past a w st m g c in (ap (endsIn past) l ∙ (x .0 ∙ sym e), λ f k. rw l (x .1 f k))
   step-ends s past r (starts-here t o a w z n l e d) c =
       let b = order-starts p h t past n w in
       let l₀ = started ∷ begunOrder p .log in
-      ap (endsIn past) l
-      ∙ (ends-append l₀ (stepOrder p t o .log) past
-      ∙ (ap (λ x. x ++ endsIn (onto l₀ past) (stepOrder p t o .log)) (begun-ends b n)
-      ∙ (order-ends p h t (startedOrder p) o (onto l₀ past) a w (b .1) (started-in-limits p) (b .2) (heeds-clears p l₀ past (calm-heeds p l₀ past (start-calm p) c)) ∙ sym e)))
-    where
-      begun-ends : (fairAfter p past (started ∷ begunOrder p .log) ≡ true) × Standing p (startedOrder p) × HoldsAt p (momentOf p (startedOrder p)) (onto (started ∷ begunOrder p .log) past)
-          → noneNow past ≡ true → endsIn past (started ∷ begunOrder p .log) ≡ []
-      begun-ends b n = started-ends p (begunOrder p .log) past (b .0) (start-deed p) (b .2 .now)
+      let y = started-ends p (begunOrder p .log) past (b .0) (start-deed p) (b .2 .now) in
+      let x = order-ends p h t (startedOrder p) o (onto l₀ past) a w (b .1) (started-in-limits p) (b .2) (heeds-clears p l₀ past (calm-heeds p l₀ past (start-calm p) c)) in (
+        ap (endsIn past) l ∙ (ends-append l₀ (stepOrder p t o .log) past ∙ (ap (λ z. z ++ endsIn (onto l₀ past) (stepOrder p t o .log)) (y .0) ∙ (x .0 ∙ sym e))),
+        λ f k. rw l (at-append f l₀ (stepOrder p t o .log) past (y .1 f k) (x .1 f k)),
+      )
 
   -- over any calls
-  all-ends : (calls : List Call) (s : State) (t : Tally) (past : List Event) → Sane p bytes next i accepted h s past → Clear p past → endsIn past (history calls i s t) ≡ endsTaken calls i s t
-  unfolding history endsTaken endsIn
-  all-ends [] s t past g c = refl
+  all-ends : (calls : List Call) (s : State) (t : Tally) (past : List Event) → Sane p bytes next i accepted h s past → Clear p past
+      → (endsIn past (history calls i s t) ≡ endsTaken calls i s t) × ((f : End → List Event → Bool) → Kept p f → atEnds f past (history calls i s t) ≡ true)
+  unfolding history endsTaken endsIn atEnds
+  all-ends [] s t past g c = (refl, λ f k. refl)
   all-ends (posting m ∷ l) s t past g c = all-ends l (post m s .state) t past (same-sane p bytes next i accepted h s (post m s .state) past (post-same m s) g) c
   all-ends (collecting ∷ l) s t past g c = all-ends l (collect s .state) t past (same-sane p bytes next i accepted h s (collect s .state) past (collect-same s) g) c
   all-ends (stepping v ∷ l) s t past g c =
       let r = step v s t in
-      ends-append (logOf i r) (history l i (r .state) (r .tally)) past
-      ∙ rw (
-        step-ends s past r (step-happens p bytes next i accepted h v s t past g) c,
-        all-ends l (r .state) (r .tally) (onto (logOf i r) past) (step-after p bytes next i accepted h v s t past g .1) (heeds-clears p (logOf i r) past (step-heeds p bytes next i accepted h v s t past g c)),
+      let x = step-ends s past r (step-happens p bytes next i accepted h v s t past g) c in
+      let y = all-ends l (r .state) (r .tally) (onto (logOf i r) past) (step-after p bytes next i accepted h v s t past g .1) (heeds-clears p (logOf i r) past (step-heeds p bytes next i accepted h v s t past g c)) in (
+        ends-append (logOf i r) (history l i (r .state) (r .tally)) past ∙ rw (x .0, y .0),
+        λ f k. at-append f (logOf i r) (history l i (r .state) (r .tally)) past (x .1 f k) (y .1 f k),
       )
 
--- The ends of a history are those answered.
-pub ends-told : EndsTold
-unfolding EndsTold load fresh noneNow noOrder due
-ends-told bytes p next e calls slot t =
-    subst (λ (f : Found Plan). endsIn [] (history calls slot (loadedAs bytes f .state) t) ≡ endsTaken calls slot (loadedAs bytes f .state) t) (sym e)
+-- from a fresh start
+from-fresh : (bytes : List ℕ) (p : Plan) (next : ℕ) → readPlan bytes ≡ found p next → (calls : List Call) (slot : ℕ) (t : Tally)
+    → (endsIn [] (history calls slot (load bytes .state) t) ≡ endsTaken calls slot (load bytes .state) t)
+    × ((f : End → List Event → Bool) → Kept p f → atEnds f [] (history calls slot (load bytes .state) t) ≡ true)
+unfolding load fresh noneNow noOrder due
+from-fresh bytes p next e calls slot t =
+    subst (λ (f : Found Plan). (endsIn [] (history calls slot (loadedAs bytes f .state) t) ≡ endsTaken calls slot (loadedAs bytes f .state) t)
+    × ((g : End → List Event → Bool) → Kept p g → atEnds g [] (history calls slot (loadedAs bytes f .state) t) ≡ true)) (sym e)
     (all-ends p bytes next slot e (promised p (accepted-is-within bytes e)) calls (fresh bytes) t []
     (record {
       plan = take-append-seam bytes _;
       many = length-replicate 16 noOrder;
       slot = slot-free (ap isLive (fresh-order slot)) refl;
     }) refl)
+
+-- The ends of a history are those answered.
+pub ends-told : EndsTold
+unfolding EndsTold
+ends-told bytes p next e calls slot t = from-fresh bytes p next e calls slot t .0
+
+-- An order that ended handled has taken all back, and one that ended well nothing.
+pub handled-takes-all-back : HandledTakesAllBack
+unfolding HandledTakesAllBack
+handled-takes-all-back bytes p next e calls slot t = from-fresh bytes p next e calls slot t .1 (allBack p) (record { none = λ past. refl; ended = kept })
+  where
+    kept : (e : End) (past : List Event) → EndedAs p e past → allBack p e (older past) ≡ true
+    kept None past h = refl
+    kept Well past h = refl
+    kept Handled past h = rw (h .1, alike-itself (closingsOf p root (older past)))
+    kept Failed past h = refl
+    kept Left past h = refl
+
+pub well-takes-nothing-back : WellTakesNothingBack
+unfolding WellTakesNothingBack
+well-takes-nothing-back bytes p next e calls slot t = from-fresh bytes p next e calls slot t .1 (noneBack p) (record { none = λ past. refl; ended = kept })
+  where
+    kept : (e : End) (past : List Event) → EndedAs p e past → noneBack p e (older past) ≡ true
+    kept None past h = refl
+    kept Well past h = rw (h .1)
+    kept Handled past h = refl
+    kept Failed past h = refl
+    kept Left past h = refl

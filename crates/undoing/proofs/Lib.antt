@@ -1,4 +1,3 @@
-mod Histories
 pub mod Parts
 pub mod Accounts
 pub mod Moves
@@ -31,4 +30,7 @@ pub mod Heeding
 pub mod Ending
 pub mod Awaiting
 pub mod Going
+pub mod Bought
+pub mod AllTold
+pub mod Program
 pub mod Refused

@@ -75,13 +75,13 @@ pub tied-from : (q : Phase) (l : List ℕ) (a : Account) (k : ℕ) → phase k �
 tied-from q l a k e t = rw e t
 
 -- whose undo part begins with j, of those directly inside s
-undone-inside : (p : Plan) (s : Name) (j : ℕ)
+pub undone-inside : (p : Plan) (s : Name) (j : ℕ)
     → undoneBy (insideOf p s) (began j) ≡ map (λ x. x .number) (only (λ x. same (x .around) s) (only (λ x. eqb (x .undo) j) (scopesOf p)))
 unfolding undoneBy insideOf
 undone-inside p s j = ap (map (λ x. x .number)) (only-swap (λ x. eqb (x .undo) j) (λ x. same (x .around) s) (scopesOf p))
 
 -- the scope with the number k, of those directly inside s
-closed-inside : (p : Plan) (s : Name) (k : ℕ)
+pub closed-inside : (p : Plan) (s : Name) (k : ℕ)
     → closedBy (insideOf p s) (closed k) ≡ map (λ x. x .number) (only (λ x. same (x .around) s) (only (λ x. eqb (x .number) k) (scopesOf p)))
 unfolding closedBy insideOf
 closed-inside p s k = ap (map (λ x. x .number)) (only-swap (λ x. eqb (x .number) k) (λ x. same (x .around) s) (scopesOf p))
@@ -93,7 +93,7 @@ pub record Plain (p : Plan) (j : ℕ) : Type 0 where
   pub noFault : NoFaultPart p j
 
 -- a scope that begins is none that does not
-not-begun : (p : Plan) (s : Name) (j : ℕ) → isName p s ≡ true → isName p (inner j) ≡ false → isBegin s (began j) ≡ false
+pub not-begun : (p : Plan) (s : Name) (j : ℕ) → isName p s ≡ true → isName p (inner j) ≡ false → isBegin s (began j) ≡ false
 unfolding isBegin
 not-begun p root j i e = refl
 not-begun p (inner k) j i e =

@@ -27,7 +27,7 @@ pub data Each {A : Type 0} (P : A → Type 0) : List A → Type 0 where
   each-more : {a : A} {l : List A} → P a → Each P l → Each P (a ∷ l)
 
 module _ {A : Type 0} where
-  each-append : {P : A → Type 0} {l m : List A} → Each P l → Each P m → Each P (l ++ m)
+  pub each-append : {P : A → Type 0} {l m : List A} → Each P l → Each P m → Each P (l ++ m)
   each-append each-none y = y
   each-append (each-more x l) y = each-more x (each-append l y)
 

@@ -17,7 +17,7 @@ use Rattle.order.specs.State.{Name, root, inner, same, closings, markAt, marked
 use Rattle.order.specs.Event.{Event, started, began, closed, faulted, stopped, ended, raised, left}
 use Rattle.order.specs.Begin.{part, partAt}
 use Rattle.order.specs.Scope.{isScope}
-use Rattle.undoing.specs.Demand3.{Inner, scopesOf, insideOf, hasTurned, allowed, rightAfter}
+use Rattle.undoing.specs.Demand3.{Inner, scopesOf, insideOf, closingsOf, undoneOf, hasTurned, allowed, rightAfter}
 use Rattle.undoing.specs.Ties.{isName, Place, bodyOf, faultOf, undoOf, nameOf, endTold}
 use Rattle.undoing.specs.Orderly.{isFaultPart, orderly, orderlyAfter}
 use Rattle.undoing.proofs.Marks.{trio, Kept, kept-set}
@@ -72,18 +72,27 @@ endsTurned (ended (inner k) ∷ past) = false
 endsTurned (raised k ∷ past) = false
 endsTurned (left ∷ past) = false
 
--- after the last event the order lives on, or it has ended so; whether a root that had turned was handled or failed is left open
+-- what happened before the newest event
+abbrev pub older : (past : List Event) → List Event
+older [] = []
+older (e ∷ past) = past
+
+-- after the last event the order lives on, or it has ended so: well, with nothing undone at its root; handled, with all undone; failed; or left
 abbrev pub Afterwards : (final : End) → Plan → Order → List Event → Type 0
 Afterwards None p o past = HoldsAt p (momentOf p o) past
-Afterwards Well p o past = endTold past ≡ Well
-Afterwards Handled p o past = endsTurned past ≡ true
-Afterwards Failed p o past = ⊥
+Afterwards Well p o past = (endTold past ≡ Well) × (undoneOf p root (older past) ≡ [])
+Afterwards Handled p o past = (endsTurned past ≡ true) × (undoneOf p root (older past) ≡ closingsOf p root (older past))
+Afterwards Failed p o past = endsTurned past ≡ true
 Afterwards Left p o past = endTold past ≡ Left
 
--- the end of a scope that turned is that of the order, where it is the root
+-- the end of a scope that turned is that of the order, where it is the root: after its fault part, and by a raise
 abbrev pub endAs : Name → End
 endAs root = Handled
 endAs (inner k) = None
+
+abbrev pub failAs : Name → End
+failAs root = Failed
+failAs (inner k) = None
 
 -- from one order these events, all right, lead to another, or to the end
 pub record Does (p : Plan) (final : End) (o : Order) (l : List Event) (o′ : Order) : Type 0 where

@@ -153,7 +153,7 @@ mutual
 -- The scopes of a tree, as lists.
 
 -- by whether an activity is one
-scopes-is : (own : Own) (within : Acts) (k : ℕ) (n : Name) (b : Bool) → isScope own ≡ b
+pub scopes-is : (own : Own) (within : Acts) (k : ℕ) (n : Name) (b : Bool) → isScope own ≡ b
     → scopesIn (act own within) k n ≡ elim b [ true ↦ innerAt k n within ∷ scopesAmong within (k + 1) (inner k) | false ↦ scopesAmong within (k + 1) n ]
 unfolding scopesIn
 scopes-is own within k n b t =

@@ -1,86 +1,172 @@
--- Histories of wrong engines, each right by demand 3 as it stands, and what refuses it: computed. Assumes nothing.
+-- Histories of engines that do wrong, on plans and calls, and which of the statements each breaks: computed. Assumes nothing.
 use Prim.Native.Nat.{ℕ}
 use mathlib.Core.Path.{_≡_, refl}
-use mathlib.Core.Bool.{Bool, true, false, not, _&&_}
-use mathlib.Core.List.{List, [], _∷_}
+use mathlib.Core.Bool.{Bool, true, false}
+use mathlib.Core.List.{List, [], _∷_, map}
 use Rattle.plan.specs.Read.{readPlan}
-use Rattle.order.specs.Lists.{only}
 use Rattle.order.specs.declared.Order.{Order}
-use Rattle.order.specs.State.{root, noOrder, binding}
+use Rattle.order.specs.State.{root, inner, faulty, noOrder, withRoot, remembering}
+use Rattle.order.specs.Event.{Event, started, began, closed, faulted, ended, raised, left}
+use Rattle.machine.specs.State.{noTally}
 use Rattle.machine.specs.Limits.{by}
-use Rattle.order.specs.Event.{Event, started, began, closed, faulted, ended, raised}
+use Rattle.machine.specs.Calls.{loaded, Call, posting, stepping}
 use Rattle.machine.specs.Computing.{computing}
 use Rattle.undoing.specs.Computing.{judging}
-use Rattle.undoing.specs.Demand3.{right}
-use Rattle.undoing.specs.Ties.{isDeed, deedOf, deedIn, deedAt, placeIn, placeOf, dueEnded, due, isFaultOf, isEndOf, heedsAfter}
+use Rattle.undoing.specs.History.{history}
+use Rattle.undoing.specs.Ties.{orderAfter, deedsTaken, endsTaken}
+use Rattle.undoing.specs.UndoneRight.{Named, demand3, orderly, faults, steps, ends, live, marks, lists, places, goingOn, neverStuck, broken}
 
--- The plan of document 01's example C: a receive 1; scopes 2 and 6 with undo parts 5 and 9; a raise 10; the root's fault part 11.
+-- A plan, calls on a fresh state of it, what happens with them in slot 0, and what an engine that does wrong would say had happened.
+record Wrong : Type 0 where
+  calls : List Call
+  order : Order
+  happened : List Event
+  breaks : List Named
+
+record Example : Type 0 where
+  bytes : List ℕ
+  calls : List Call
+  happened : List Event
+  wrongly : List Wrong
+
+-- the message that starts each of them
+abbrev first : Call
+first = posting (record { partner = 0; operation = 0; count = 1; values = 5 ∷ 0 ∷ 0 ∷ 0 ∷ [] })
+
+abbrev next : Call
+next = stepping 0
+
+-- that of an order that is over
+abbrev over : List Call → List Event → List Named → Wrong
+over cs l ns = record { calls = cs; order = noOrder; happened = l; breaks = ns }
+
+-- Document 01's plan C: a receive 1; two scopes 2 and 6, empty but for their undo parts 5 and 9, which send; a raise 10; the root's fault part 11.
 unfoldable planC : List ℕ
 planC = 1 ∷ 1 ∷ 0 ∷ 8 ∷ 4 ∷ 2 ∷ 0 ∷ 0 ∷ 1 ∷ 0 ∷ 11 ∷ 0 ∷ 0 ∷ 1 ∷ 2 ∷ 1 ∷ 1 ∷ 0 ∷ 11 ∷ 0 ∷ 0 ∷ 1 ∷ 2 ∷ 2 ∷ 1 ∷ 0 ∷ 4 ∷ 0 ∷ []
 
--- A receive 1; a scope 2 whose body is a raise 3, with an empty fault part 4 and an undo part 5; a raise 6; the root's fault part 7.
-unfoldable planD : List ℕ
-planD = 1 ∷ 1 ∷ 0 ∷ 8 ∷ 3 ∷ 2 ∷ 0 ∷ 0 ∷ 1 ∷ 0 ∷ 11 ∷ 4 ∷ 0 ∷ 1 ∷ 2 ∷ 1 ∷ 1 ∷ 0 ∷ 4 ∷ 0 ∷ []
+-- the calls up to the raise, and to the end
+abbrev raising : List Call
+raising = first ∷ next ∷ next ∷ next ∷ next ∷ []
+
+abbrev whole : List Call
+whole = first ∷ next ∷ next ∷ next ∷ next ∷ next ∷ next ∷ []
+
+-- an order that hangs after its fault, with both closings still remembered
+abbrev hanging : Order
+hanging = withRoot faulty (remembering (2 ∷ 6 ∷ []) noOrder)
+
+-- the calls of the other examples
+abbrev seventeen : List Call
+seventeen = first ∷ next ∷ next ∷ next ∷ next ∷ next ∷ next ∷ next ∷ next ∷ next ∷ next ∷ next ∷ next ∷ next ∷ next ∷ next ∷ next ∷ []
+
+abbrev beside : List Call
+beside = first ∷ next ∷ next ∷ stepping 1 ∷ next ∷ next ∷ next ∷ []
+
+abbrev four : List Call
+four = first ∷ next ∷ next ∷ next ∷ []
+
+-- Plan C.
+unfoldable twoScopes : Example
+twoScopes =
+    record {
+      bytes = planC;
+      calls = whole;
+      happened = started ∷ began 0 ∷ began 1 ∷ began 2 ∷ began 3 ∷ closed 2 ∷ began 6 ∷ began 7 ∷ closed 6 ∷ began 10 ∷ raised 10 ∷ faulted root ∷ began 9 ∷ began 5 ∷ began 11 ∷ ended root ∷ [];
+      wrongly =
+          -- a raise ends the order at once, without undo
+          over raising (started ∷ began 0 ∷ began 1 ∷ began 2 ∷ began 3 ∷ closed 2 ∷ began 6 ∷ began 7 ∷ closed 6 ∷ began 10 ∷ raised 10 ∷ ended root ∷ []) (faults ∷ ends ∷ [])
+          -- a raise starts the fault part without undo
+          ∷ over raising (started ∷ began 0 ∷ began 1 ∷ began 2 ∷ began 3 ∷ closed 2 ∷ began 6 ∷ began 7 ∷ closed 6 ∷ began 10 ∷ raised 10 ∷ began 11 ∷ ended root ∷ []) (orderly ∷ faults ∷ ends ∷ [])
+          -- scopes are neither logged nor undone
+          ∷ over whole (started ∷ began 0 ∷ began 1 ∷ began 3 ∷ began 7 ∷ began 10 ∷ raised 10 ∷ faulted root ∷ began 11 ∷ ended root ∷ []) (orderly ∷ steps ∷ [])
+          -- the order hangs after its fault
+          ∷ record { calls = raising; order = hanging; happened = started ∷ began 0 ∷ began 1 ∷ began 2 ∷ began 3 ∷ closed 2 ∷ began 6 ∷ began 7 ∷ closed 6 ∷ began 10 ∷ raised 10 ∷ faulted root ∷ []; breaks = goingOn ∷ neverStuck ∷ [] }
+          -- a raise is logged as a leave
+          ∷ over raising (started ∷ began 0 ∷ began 1 ∷ began 2 ∷ began 3 ∷ closed 2 ∷ began 6 ∷ began 7 ∷ closed 6 ∷ began 10 ∷ left ∷ []) (steps ∷ ends ∷ [])
+          -- a send in an undo part is logged as a raise, and the rest of the list is dropped
+          ∷ over (first ∷ next ∷ next ∷ next ∷ next ∷ next ∷ []) (started ∷ began 0 ∷ began 1 ∷ began 2 ∷ began 3 ∷ closed 2 ∷ began 6 ∷ began 7 ∷ closed 6 ∷ began 10 ∷ raised 10 ∷ faulted root ∷ began 9 ∷ raised 9 ∷ ended root ∷ []) (steps ∷ ends ∷ [])
+          -- a fault without a raise, and an undo part that nobody's raise asked for
+          ∷ over (first ∷ next ∷ next ∷ []) (started ∷ began 0 ∷ began 1 ∷ began 2 ∷ began 3 ∷ closed 2 ∷ faulted root ∷ began 5 ∷ began 11 ∷ ended root ∷ []) (faults ∷ ends ∷ [])
+          -- the fault part starts before the undo parts
+          ∷ over whole (started ∷ began 0 ∷ began 1 ∷ began 2 ∷ began 3 ∷ closed 2 ∷ began 6 ∷ began 7 ∷ closed 6 ∷ began 10 ∷ raised 10 ∷ faulted root ∷ began 11 ∷ began 9 ∷ began 5 ∷ ended root ∷ []) (orderly ∷ [])
+          -- undoing in file order, with the closings logged in the reverse order
+          ∷ over whole (started ∷ began 0 ∷ began 1 ∷ began 2 ∷ began 3 ∷ began 6 ∷ began 7 ∷ closed 6 ∷ closed 2 ∷ began 10 ∷ raised 10 ∷ faulted root ∷ began 5 ∷ began 9 ∷ began 11 ∷ ended root ∷ []) (steps ∷ [])
+          -- the newest undo part is started and the other is not
+          ∷ over whole (started ∷ began 0 ∷ began 1 ∷ began 2 ∷ began 3 ∷ closed 2 ∷ began 6 ∷ began 7 ∷ closed 6 ∷ began 10 ∷ raised 10 ∷ faulted root ∷ began 9 ∷ began 11 ∷ ended root ∷ []) (demand3 ∷ orderly ∷ [])
+          -- undoing in file order
+          ∷ over whole (started ∷ began 0 ∷ began 1 ∷ began 2 ∷ began 3 ∷ closed 2 ∷ began 6 ∷ began 7 ∷ closed 6 ∷ began 10 ∷ raised 10 ∷ faulted root ∷ began 5 ∷ began 9 ∷ began 11 ∷ ended root ∷ []) (demand3 ∷ orderly ∷ [])
+          -- one of them twice
+          ∷ over whole (started ∷ began 0 ∷ began 1 ∷ began 2 ∷ began 3 ∷ closed 2 ∷ began 6 ∷ began 7 ∷ closed 6 ∷ began 10 ∷ raised 10 ∷ faulted root ∷ began 9 ∷ began 9 ∷ began 5 ∷ began 11 ∷ ended root ∷ []) (demand3 ∷ orderly ∷ [])
+          -- the other without the newest
+          ∷ over whole (started ∷ began 0 ∷ began 1 ∷ began 2 ∷ began 3 ∷ closed 2 ∷ began 6 ∷ began 7 ∷ closed 6 ∷ began 10 ∷ raised 10 ∷ faulted root ∷ began 5 ∷ began 11 ∷ ended root ∷ []) (demand3 ∷ orderly ∷ [])
+          ∷ [];
+    }
 
 -- A receive 1; a set 2; a repeat 3 of a sequence 4 with a scope 5 (undo part 8) and a set 9, three times; a raise 10; the root's fault part 11.
-unfoldable planE : List ℕ
-planE = 1 ∷ 2 ∷ 0 ∷ 8 ∷ 4 ∷ 2 ∷ 0 ∷ 0 ∷ 1 ∷ 0 ∷ 3 ∷ 1 ∷ 0 ∷ 0 ∷ 7 ∷ 5 ∷ 1 ∷ 1 ∷ 0 ∷ 3 ∷ 8 ∷ 2 ∷ 11 ∷ 0 ∷ 0 ∷ 1 ∷ 2 ∷ 1 ∷ 1 ∷ 1 ∷ 3 ∷ 1 ∷ 2 ∷ 1 ∷ 1 ∷ 0 ∷ 1 ∷ 4 ∷ 0 ∷ []
+unfoldable threeClosings : Example
+threeClosings =
+    record {
+      bytes = 1 ∷ 2 ∷ 0 ∷ 8 ∷ 4 ∷ 2 ∷ 0 ∷ 0 ∷ 1 ∷ 0 ∷ 3 ∷ 1 ∷ 0 ∷ 0 ∷ 7 ∷ 5 ∷ 1 ∷ 1 ∷ 0 ∷ 3 ∷ 8 ∷ 2 ∷ 11 ∷ 0 ∷ 0 ∷ 1 ∷ 2 ∷ 1 ∷ 1 ∷ 1 ∷ 3 ∷ 1 ∷ 2 ∷ 1 ∷ 1 ∷ 0 ∷ 1 ∷ 4 ∷ 0 ∷ [];
+      calls = seventeen;
+      happened = started ∷ began 0 ∷ began 1 ∷ began 2 ∷ began 3 ∷ began 4 ∷ began 5 ∷ began 6 ∷ closed 5 ∷ began 9 ∷ began 4 ∷ began 5 ∷ began 6 ∷ closed 5 ∷ began 9 ∷ began 4 ∷ began 5 ∷ began 6 ∷ closed 5 ∷ began 9 ∷ began 10 ∷ raised 10 ∷ faulted root ∷ began 8 ∷ began 8 ∷ began 8 ∷ began 11 ∷ ended root ∷ [];
+      wrongly =
+          -- once per scope where a repeat closed it often
+          over seventeen (started ∷ began 0 ∷ began 1 ∷ began 2 ∷ began 3 ∷ began 4 ∷ began 5 ∷ began 6 ∷ closed 5 ∷ began 9 ∷ began 4 ∷ began 5 ∷ began 6 ∷ closed 5 ∷ began 9 ∷ began 4 ∷ began 5 ∷ began 6 ∷ closed 5 ∷ began 9 ∷ began 10 ∷ raised 10 ∷ faulted root ∷ began 8 ∷ began 11 ∷ ended root ∷ []) (demand3 ∷ orderly ∷ [])
+          -- the same, with only the last closing logged
+          ∷ over seventeen (started ∷ began 0 ∷ began 1 ∷ began 2 ∷ began 3 ∷ began 4 ∷ began 5 ∷ began 6 ∷ began 9 ∷ began 4 ∷ began 5 ∷ began 6 ∷ began 9 ∷ began 4 ∷ began 5 ∷ began 6 ∷ closed 5 ∷ began 9 ∷ began 10 ∷ raised 10 ∷ faulted root ∷ began 8 ∷ began 11 ∷ ended root ∷ []) (orderly ∷ steps ∷ [])
+          ∷ [];
+    }
 
--- right by demand 3, and what is due does not happen
-unfoldable unheeded : List ℕ → List Event → Bool
-unheeded bytes l = by false (λ p. right p l && not (heedsAfter p [] l)) (readPlan bytes)
+-- A receive 1; a flow 2 of a scope 3 (its body, a raise 4; its fault part, a send 5) and a sequence 7 of a scope 8 (undo part 11) and a raise 12; the
+-- root's fault part 13.
+unfoldable innerHandler : Example
+innerHandler =
+    record {
+      bytes = 1 ∷ 1 ∷ 0 ∷ 8 ∷ 2 ∷ 2 ∷ 0 ∷ 0 ∷ 1 ∷ 0 ∷ 9 ∷ 2 ∷ 11 ∷ 4 ∷ 1 ∷ 2 ∷ 3 ∷ 1 ∷ 0 ∷ 0 ∷ 8 ∷ 2 ∷ 11 ∷ 0 ∷ 0 ∷ 1 ∷ 2 ∷ 1 ∷ 1 ∷ 0 ∷ 4 ∷ 0 ∷ [];
+      calls = beside;
+      happened = started ∷ began 0 ∷ began 1 ∷ began 2 ∷ began 3 ∷ began 4 ∷ began 7 ∷ began 8 ∷ began 9 ∷ raised 4 ∷ faulted (inner 3) ∷ began 5 ∷ closed 8 ∷ began 12 ∷ raised 12 ∷ faulted root ∷ ended (inner 3) ∷ began 11 ∷ began 13 ∷ ended root ∷ [];
+      wrongly =
+          -- a scope's undo starts while an inner handler still runs
+          over beside (started ∷ began 0 ∷ began 1 ∷ began 2 ∷ began 3 ∷ began 4 ∷ began 7 ∷ began 8 ∷ began 9 ∷ raised 4 ∷ faulted (inner 3) ∷ began 5 ∷ closed 8 ∷ began 12 ∷ raised 12 ∷ faulted root ∷ began 11 ∷ ended (inner 3) ∷ began 13 ∷ ended root ∷ []) (demand3 ∷ [])
+          -- an undo part starts before anything around it faulted
+          ∷ over (first ∷ next ∷ next ∷ stepping 1 ∷ []) (started ∷ began 0 ∷ began 1 ∷ began 2 ∷ began 3 ∷ began 4 ∷ began 7 ∷ began 8 ∷ began 9 ∷ raised 4 ∷ faulted (inner 3) ∷ began 5 ∷ closed 8 ∷ began 11 ∷ []) (demand3 ∷ orderly ∷ live ∷ [])
+          -- the root ends and leaves scope 3 running
+          ∷ over beside (started ∷ began 0 ∷ began 1 ∷ began 2 ∷ began 3 ∷ began 4 ∷ began 7 ∷ began 8 ∷ began 9 ∷ raised 4 ∷ faulted (inner 3) ∷ began 5 ∷ closed 8 ∷ began 12 ∷ raised 12 ∷ faulted root ∷ began 13 ∷ ended root ∷ []) (demand3 ∷ orderly ∷ [])
+          ∷ [];
+    }
 
--- a raise ends the order at once, without undo
-h1 : unheeded planC (started ∷ began 0 ∷ began 1 ∷ began 2 ∷ began 3 ∷ closed 2 ∷ began 6 ∷ began 7 ∷ closed 6 ∷ began 10 ∷ raised 10 ∷ ended root ∷ []) ≡ true
-unfolding planC unheeded computing judging
-h1 = refl
+-- A receive 1; a scope 2 whose body is a raise 3, with an empty fault part 4 and an undo part 5; a raise 6; the root's fault part 7.
+unfoldable handledScope : Example
+handledScope =
+    record {
+      bytes = 1 ∷ 1 ∷ 0 ∷ 8 ∷ 3 ∷ 2 ∷ 0 ∷ 0 ∷ 1 ∷ 0 ∷ 11 ∷ 4 ∷ 0 ∷ 1 ∷ 2 ∷ 1 ∷ 1 ∷ 0 ∷ 4 ∷ 0 ∷ [];
+      calls = four;
+      happened = started ∷ began 0 ∷ began 1 ∷ began 2 ∷ began 3 ∷ raised 3 ∷ faulted (inner 2) ∷ began 4 ∷ ended (inner 2) ∷ began 6 ∷ raised 6 ∷ faulted root ∷ began 7 ∷ ended root ∷ [];
+      wrongly =
+          -- a scope that faulted and was handled is remembered and undone; its fault is not logged
+          over four (started ∷ began 0 ∷ began 1 ∷ began 2 ∷ began 3 ∷ raised 3 ∷ began 4 ∷ closed 2 ∷ began 6 ∷ raised 6 ∷ faulted root ∷ began 5 ∷ began 7 ∷ ended root ∷ []) (orderly ∷ faults ∷ steps ∷ [])
+          -- the fault part runs though nothing raised
+          ∷ over four (started ∷ began 0 ∷ began 1 ∷ began 2 ∷ began 3 ∷ began 4 ∷ closed 2 ∷ began 6 ∷ raised 6 ∷ ended root ∷ []) (orderly ∷ faults ∷ steps ∷ ends ∷ [])
+          -- a scope that faulted and was handled is undone
+          ∷ over four (started ∷ began 0 ∷ began 1 ∷ began 2 ∷ began 3 ∷ raised 3 ∷ faulted (inner 2) ∷ began 4 ∷ ended (inner 2) ∷ began 6 ∷ raised 6 ∷ faulted root ∷ began 5 ∷ began 7 ∷ ended root ∷ []) (demand3 ∷ orderly ∷ [])
+          -- the same, with a closing claimed for it
+          ∷ over four (started ∷ began 0 ∷ began 1 ∷ began 2 ∷ began 3 ∷ raised 3 ∷ faulted (inner 2) ∷ began 4 ∷ closed 2 ∷ began 6 ∷ raised 6 ∷ faulted root ∷ began 5 ∷ began 7 ∷ ended root ∷ []) (demand3 ∷ steps ∷ [])
+          ∷ [];
+    }
 
--- a raise starts the fault part without undo
-h2 : unheeded planC (started ∷ began 0 ∷ began 1 ∷ began 2 ∷ began 3 ∷ closed 2 ∷ began 6 ∷ began 7 ∷ closed 6 ∷ began 10 ∷ raised 10 ∷ began 11 ∷ ended root ∷ []) ≡ true
-unfolding planC unheeded computing judging
-h2 = refl
+unfoldable examples : List Example
+examples = twoScopes ∷ threeClosings ∷ innerHandler ∷ handledScope ∷ []
 
--- an undo part that nobody's fault asked for: a fault without any raise
-h7 : unheeded planC (started ∷ began 0 ∷ began 1 ∷ began 2 ∷ began 3 ∷ closed 2 ∷ faulted root ∷ began 5 ∷ began 11 ∷ ended root ∷ []) ≡ true
-unfolding planC unheeded computing judging
-h7 = refl
+-- the right histories are those of the definitions
+logged : map (λ x. history (x .calls) 0 (loaded (x .bytes)) noTally) examples ≡ map (λ x. x .happened) examples
+unfolding examples twoScopes threeClosings innerHandler handledScope planC computing judging
+logged = refl
 
--- document 01's shortcut: a scope that faulted and was handled is remembered and undone; the fault is not logged
-h9 : unheeded planD (started ∷ began 0 ∷ began 1 ∷ began 2 ∷ began 3 ∷ raised 3 ∷ began 4 ∷ closed 2 ∷ began 6 ∷ raised 6 ∷ faulted root ∷ began 5 ∷ began 7 ∷ ended root ∷ []) ≡ true
-unfolding planD unheeded computing judging
-h9 = refl
+-- what a wrong history breaks, on the plan that some bytes spell
+brokenBy : List ℕ → Wrong → List Named
+brokenBy bytes w =
+    by [] (λ p. broken p (deedsTaken p (w .calls) 0 (loaded bytes) noTally) (endsTaken (w .calls) 0 (loaded bytes) noTally) (w .order) (w .happened)) (readPlan bytes)
 
--- the fault part runs though nothing raised
-h10 : unheeded planD (started ∷ began 0 ∷ began 1 ∷ began 2 ∷ began 3 ∷ began 4 ∷ closed 2 ∷ began 6 ∷ raised 6 ∷ ended root ∷ []) ≡ true
-unfolding planD unheeded computing judging
-h10 = refl
-
--- What the steps taken are in the history: the step of a raise is no leave; the send of a bound variable is no raise; the close of a scope is its
--- closing, and closings stand in the order of the closes.
-unfoldable deed : List ℕ → ℕ → Order → List Event
-deed bytes t o = by [] (λ p. deedAt p t o) (readPlan bytes)
-
--- a raise is logged as a leave
-h5 : deed planC 10 noOrder ≡ raised 10 ∷ []
-unfolding planC deed computing judging
-h5 = refl
-
--- a send in an undo part is logged as a raise
-h6 : deed planC 9 (binding 0 7 noOrder) ≡ []
-unfolding planC deed computing judging
-h6 = refl
-
--- scopes are neither logged nor undone: a close is logged
-h3 : deed planC 2 noOrder ≡ closed 2 ∷ []
-unfolding planC deed computing judging
-h3 = refl
-
--- only the last closing is logged: each close is
-h11 : deed planE 5 noOrder ≡ closed 5 ∷ []
-unfolding planE deed computing judging
-h11 = refl
-
--- closings logged in another order than the steps': these are not closed 2 and then closed 6
-h12 : only isDeed (started ∷ began 0 ∷ began 1 ∷ began 2 ∷ began 3 ∷ began 6 ∷ began 7 ∷ closed 6 ∷ closed 2 ∷ began 10 ∷ raised 10 ∷ faulted root ∷ began 5 ∷ began 9 ∷ began 11 ∷ ended root ∷ []) ≡ started ∷ closed 6 ∷ closed 2 ∷ raised 10 ∷ []
-unfolding computing judging
-h12 = refl
+refused : map (λ x. map (brokenBy (x .bytes)) (x .wrongly)) examples ≡ map (λ x. map (λ w. w .breaks) (x .wrongly)) examples
+unfolding examples twoScopes threeClosings innerHandler handledScope planC brokenBy computing judging
+refused = refl

@@ -17,12 +17,12 @@ use Rattle.order.specs.declared.Way.{Way as Result}
 use Rattle.order.specs.declared.Way.the-variants.{Running as running, Over as over, Raising as raising, Leaving as leaving, Undone as undone, UndoRaising as undoRaising}
 use Rattle.order.specs.Scope.{Outcome, Scope, rootOf, fromBody, fromFault}
 use Rattle.order.specs.Acting.{stepIn, stepRoot, endOf, Moved, movedTo, stepOrder}
-use Rattle.undoing.specs.Demand3.{noneNow, isOver}
+use Rattle.undoing.specs.Demand3.{closingsOf, undoneOf, noneNow, isOver}
 use Rattle.undoing.specs.Ties.{endTold}
 use Rattle.undoing.proofs.Accounts.{Phase, live, waits, heals, phase}
-use Rattle.undoing.proofs.Moves.{HoldsAt, root-well, root-unturned}
+use Rattle.undoing.proofs.Moves.{HoldsAt, tied-at, root-well, root-unturned}
 use Rattle.undoing.proofs.Marks.{Quiet, turned-waits, turned-undoes, turned-heals}
-use Rattle.undoing.proofs.Orders.{endsTurned, momentOf, fairAfter, onto, Does, does-then}
+use Rattle.undoing.proofs.Orders.{endsTurned, older, momentOf, fairAfter, onto, Does, does-then}
 use Rattle.undoing.proofs.Seats.{Seat, inside-rest, quiet-inner}
 use Rattle.undoing.proofs.Waiting.{Waits, quiet-waits}
 use Rattle.undoing.proofs.Breaking.{Distinct}
@@ -139,32 +139,32 @@ turned-over (raised k ∷ past) h = absurd (false≢true h)
 turned-over (left ∷ past) h = absurd (false≢true h)
 
 -- what is known of the newest event where an order has ended so
-abbrev pub EndedAs : End → List Event → Type 0
-EndedAs None past = ⊥
-EndedAs Well past = endTold past ≡ Well
-EndedAs Handled past = endsTurned past ≡ true
-EndedAs Failed past = endsTurned past ≡ true
-EndedAs Left past = endTold past ≡ Left
+abbrev pub EndedAs : Plan → End → List Event → Type 0
+EndedAs p None past = ⊥
+EndedAs p Well past = (endTold past ≡ Well) × (undoneOf p root (older past) ≡ [])
+EndedAs p Handled past = (endsTurned past ≡ true) × (undoneOf p root (older past) ≡ closingsOf p root (older past))
+EndedAs p Failed past = endsTurned past ≡ true
+EndedAs p Left past = endTold past ≡ Left
 
 -- so that there is none now
-pub ended-now : (e : End) (past : List Event) → EndedAs e past → noneNow past ≡ true
-ended-now None past h = absurd h
-ended-now Well past h = told-over past (ap isSome h)
-ended-now Handled past h = turned-over past h
-ended-now Failed past h = turned-over past h
-ended-now Left past h = told-over past (ap isSome h)
+pub ended-now : (p : Plan) (e : End) (past : List Event) → EndedAs p e past → noneNow past ≡ true
+ended-now p None past h = absurd h
+ended-now p Well past h = told-over past (ap isSome (h .0))
+ended-now p Handled past h = turned-over past (h .0)
+ended-now p Failed past h = turned-over past h
+ended-now p Left past h = told-over past (ap isSome h)
 
 -- what a step of an order leaves: an order that stands, or none
 pub data Passed (p : Plan) (past : List Event) (m : Moved) : Type 0 where
   passes-on : fairAfter p past (m .log) ≡ true → m .end ≡ None → Standing p (m .order) → HoldsAt p (momentOf p (m .order)) (onto (m .log) past) → Passed p past m
-  passes-end : fairAfter p past (m .log) ≡ true → m .order ≡ noOrder → EndedAs (m .end) (onto (m .log) past) → Passed p past m
+  passes-end : fairAfter p past (m .log) ≡ true → m .order ≡ noOrder → EndedAs p (m .end) (onto (m .log) past) → Passed p past m
 
 module _ (p : Plan) (distinct : Distinct p) (h : Seat p (rootOf p)) where
   -- the root's body is done
   does-well : (o : Order) → o .root ≡ done → Quiet (o .marks) 0 (size (p .body)) → Does p Well o (ended root ∷ []) noOrder
   unfolding fairAfter endTold
   does-well o e q =
-      record { does = λ past x. (rw (root-well p (momentOf p o) (momentOf p o) past x (ap phase e) (inside-rest p (rootOf p) o h (quiet-inner (p .body) 0 q))), rw (root-unturned p (momentOf p o) (momentOf p o) past x (ap phase e))) }
+      record { does = λ past x. (rw (root-well p (momentOf p o) (momentOf p o) past x (ap phase e) (inside-rest p (rootOf p) o h (quiet-inner (p .body) 0 q))), (rw (root-unturned p (momentOf p o) (momentOf p o) past x (ap phase e)), tied-at p (momentOf p o) (momentOf p o) past x live root refl (ap phase e) .2)) }
 
   -- a root that is done has a quiet body
   done-quiet : (ms : List ℕ) (m : ℕ) → m ≡ done → Running (rootOf p) ms m → Quiet ms 0 (size (p .body))

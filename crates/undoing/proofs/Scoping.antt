@@ -22,7 +22,7 @@ use Rattle.undoing.proofs.Parts.{decide}
 use Rattle.undoing.proofs.Accounts.{Phase, rest, live, waits, heals, odd, phase, tied-as}
 use Rattle.undoing.proofs.Moves.{tied-from, move-fault}
 use Rattle.undoing.proofs.Marks.{Quiet, Kept, Run, Turned, turned-waits, turned-undoes, turned-heals, Stopped, Undoing, Stoppable, agree-part, quiet-part, quiet-agree, agree-below, agree-above, kept-itself, stoppable-agree, not-open}
-use Rattle.undoing.proofs.Orders.{endAs, listOf, momentOf, Does, does-then, does-nothing, does-one, bare, remedy-names}
+use Rattle.undoing.proofs.Orders.{endAs, failAs, listOf, momentOf, Does, does-then, does-nothing, does-one, bare, remedy-names}
 use Rattle.undoing.proofs.Seats.{Seat, mark-kept, marking-mark, marking-elsewhere, marking-agree, marking-length, quiet-inner, inside-rest}
 use Rattle.undoing.proofs.Turning.{Apart, apart-then, apart-kept, apart-marking, TurnsAs, Turns, turns-after, does-phase, marking-list, does-healed, undoes-on, turns-on}
 use Rattle.undoing.proofs.Stopping.{stops}
@@ -86,7 +86,7 @@ StepsAs p s R o l o′ running = R (o′ .marks) (markOf (s .name) o′) × Does
 StepsAs p s R o l o′ over =
     (markOf (s .name) o′ ≡ idle) × Quiet (o′ .marks) (s .bodyAt) (size (s .body)) × Quiet (o′ .marks) (s .faultAt) (size (s .fault)) × Does p (endAs (s .name)) o l o′
 StepsAs p s R o l o′ raising =
-    (markOf (s .name) o′ ≡ idle) × Quiet (o′ .marks) (s .bodyAt) (size (s .body)) × Quiet (o′ .marks) (s .faultAt) (size (s .fault)) × Does p (endAs (s .name)) o l o′
+    (markOf (s .name) o′ ≡ idle) × Quiet (o′ .marks) (s .bodyAt) (size (s .body)) × Quiet (o′ .marks) (s .faultAt) (size (s .fault)) × Does p (failAs (s .name)) o l o′
 StepsAs p s R o l o′ leaving = Does p Left o l o′
 StepsAs p s R o l o′ undone = ⊥
 StepsAs p s R o l o′ undoRaising = ⊥
@@ -229,7 +229,7 @@ module _ (p : Plan) (distinct : Distinct p) where
 
   -- what breaking leaves of a scope
   steps-broken : (R : List ℕ → ℕ → Type 0) (s : Scope) (o₀ o : Order) (l : List Event) → Seat p s → Reach s → Apart s o₀ o → Beyond s o
-      → Does p (endAs (s .name)) o₀ l (broken s o)
+      → Does p (failAs (s .name)) o₀ l (broken s o)
       → Steps p s R o₀ (record { result = raising; order = broken s o; log = l })
   unfolding forgetting
   steps-broken R s o₀ o l h c a b d =
@@ -421,7 +421,7 @@ module _ (p : Plan) (distinct : Distinct p) where
       go undoRaising d =
           subst (λ (z : Bool). Steps p s (Turning s) o (after (r .log) (elim z [ true ↦ breaks s o₁ | false ↦ runs o₁ ]))) (sym is-mark)
           (steps-broken (Turning s) s o o₁ (r .log ++ (ended (s .name) ∷ [])) h c a₁ b₁
-          (subst (λ (l : List Event). Does p (endAs (s .name)) o (l ++ (ended (s .name) ∷ [])) (broken s o₁)) (sym (d .0))
+          (subst (λ (l : List Event). Does p (failAs (s .name)) o (l ++ (ended (s .name) ∷ [])) (broken s o₁)) (sym (d .0))
           (breaks-raised p distinct v s t o o₁ h (c .owns) q₁ (inside-rest p s o₁ h (d .2)) (others-rest s o₁ h c (d .3) b₁) (d .1)
           (subst (λ (l : List Event). Does p None o l o₁) (d .0) (d .4)))))
         where

@@ -120,7 +120,7 @@ module _ (p : Plan) where
       → Inside·rest p (λ z. markOf z o) n
       → Does p (endAs n) o (ended n ∷ []) (marking n idle o)
   unfolding fairAfter endsTurned
-  does-healed root c o i b m q r = record { does = λ past h. (rw (root-healed p (momentOf p o) (momentOf p o) past h q r), root-turned p (momentOf p o) (momentOf p o) past h q) }
+  does-healed root c o i b m q r = record { does = λ past h. (rw (root-healed p (momentOf p o) (momentOf p o) past h q r), (root-turned p (momentOf p o) (momentOf p o) past h q, sym (tied-at p (momentOf p o) (momentOf p o) past h heals root refl q .2))) }
   does-healed (inner k) c o i b m q r =
       does-one (λ past h. move-end-healed p (momentOf p o) (momentOf p (marking (inner k) idle o)) past h (inner k) i refl q r
       (ap phase (marking-mark (inner k) c idle o b m)) (tied-at p (momentOf p o) (momentOf p o) past h heals (inner k) i q .3) (marking-elsewhere p (inner k) idle o))
