@@ -21,6 +21,7 @@ use Rattle.order.specs.Lists.{every}
 use Rattle.machine.specs.State.{noMessage, adding, removing, letters}
 use Rattle.machine.specs.Limits.{exchanged, messageInLimits, orderInLimits, inLimits}
 use Rattle.machine.specs.Calls.{trimmed, postBy, partnersOf, foreign, collectBy}
+use Rattle.machine.specs.Planned.{addedTo, takenFrom}
 
 -- A gap at k is closed in a list of 64: its elements up to i are those of the list without the one at k, and those from i on are where they were.
 abbrev without : {A : Type 0} → ℕ → List A → List A
@@ -222,3 +223,27 @@ module _ (t : List ℕ) (s : State) {i : ℕ} (f : (ps : List ℕ) → Heard t p
       → (p : Plan) → Heard t (partnersOf p) → _≡_ {A = Collected} (record { refusal = 0; message = m; state = u }) (collectBy p s)
   unfolding collectBy
   collect-one h z q p x = rw (sym (f (partnersOf p) x), lt-ltb _ _ h, q, z)
+
+-- `with_message`
+module _ (m : Message) (s : State) where
+  pub added-more : s .waiting < 64 → {u : State} → u ≡ adding m s → u ≡ addedTo m s
+  unfolding addedTo
+  added-more h e = rw (lt-ltb _ _ h) e
+
+  pub added-full : 64 ≤ s .waiting → s ≡ addedTo m s
+  unfolding addedTo
+  added-full h = rw (le-ltb _ _ h)
+
+-- `without_message`
+module _ (j : ℕ) (s : State) where
+  pub taken-beyond : 64 < s .waiting → s ≡ takenFrom j s
+  unfolding takenFrom
+  taken-beyond h = rw (lt-leb _ _ h)
+
+  pub taken-none : s .waiting ≤ 64 → s .waiting ≤ j → s ≡ takenFrom j s
+  unfolding takenFrom
+  taken-none g h = rw (le-leb _ _ g, le-ltb _ _ h)
+
+  pub taken-one : s .waiting ≤ 64 → j < s .waiting → {u : State} → u ≡ removing j s → u ≡ takenFrom j s
+  unfolding takenFrom
+  taken-one g h e = rw (le-leb _ _ g, lt-ltb _ _ h) e

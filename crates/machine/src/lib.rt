@@ -1,26 +1,14 @@
-// Runs orders by a plan: the state that it runs on, and what a step answers.
-mod counting;
-mod fitness;
-mod least;
-mod letters;
-mod limits;
-mod made;
-mod previews;
-mod rows;
-mod running;
-mod search;
-mod slots;
-mod stepping;
+// The state that orders run on, what a step answers, and the calls that take no step: load, post and collect.
+pub mod letters;
+pub mod limits;
+pub mod made;
 
 use order::End;
 use order::Order;
 use plan::Answer;
-ghost use Prim.Native.Nat.{_+_};
 ghost use mathlib.Core.Path.{_≡_};
 ghost use Rattle.machine.specs.Calls as calls;
-ghost use Rattle.machine.specs.Running.{ranOf};
 ghost use Rattle.machine.specs.State.{noTally};
-ghost use Rattle.machine.specs.Stepping.{bare};
 
 // A message: places beyond its count hold 0.
 pub struct Message {
@@ -75,60 +63,6 @@ pub struct Tally {
     pub handled: u32,
     pub failed: u32,
     pub left: u32,
-}
-
-// What a step gives: its answer, the state and the tally.
-pub struct Stepped {
-    pub answer: Step,
-    pub state: State,
-    pub tally: Tally,
-}
-
-// What a run gives: the steps taken, the refusal or 0, the state and the tally.
-pub struct Ran {
-    pub taken: usize,
-    pub refusal: u32,
-    pub state: State,
-    pub tally: Tally,
-}
-
-// An open receive, by the slot of its order and its activity, or none.
-pub enum Receiver {
-    At { slot: usize, activity: usize },
-    Nothing,
-}
-
-// A choice that is counted down over the offer: how much of it is left, and, once it is found, the slot, the activity and the message place.
-pub struct Pointer {
-    pub left: usize,
-    pub found: bool,
-    pub slot: usize,
-    pub activity: usize,
-    pub place: usize,
-}
-
-// What was seen of the offer: where the choice stands, and whether something is held.
-pub struct Sight {
-    pub pointer: Pointer,
-    pub held: bool,
-}
-
-// What a choice comes to: a refusal, or the step on offer, by its slot, its activity and its message place.
-pub enum Target {
-    Refused {
-        number: u32,
-    },
-    At {
-        slot: usize,
-        activity: usize,
-        place: usize,
-    },
-}
-
-// How many steps are on offer, and whether something is held.
-pub struct Amount {
-    pub many: usize,
-    pub held: bool,
 }
 
 // A tally with nothing counted.
@@ -220,64 +154,4 @@ pub fn collect(state: State) -> Collected
             nodes: _,
         } => letters::collect_by(state, &table),
     }
-}
-
-// Takes the step with a choice.
-pub fn take_step(state: State, choice: usize, tally: Tally) -> Stepped
-    ensures { λ r. ⌜ r ≡ bare (calls.step choice state tally) ⌝ }
-{
-    let mut table = [0u32; 11584];
-    let mut flags = [0u8; 16];
-    let messages = state.messages;
-    let places = running::message_places(messages);
-    let a = limits::planned(state, &mut table, &mut flags);
-    match a {
-        Answer::Refused {
-            number: _,
-            place: _,
-        } => running::refused(state, 17, tally),
-        Answer::Accepted {
-            variables: _,
-            activities,
-            nodes: _,
-        } => running::step_by(&table, &flags, activities, state, choice, tally),
-    }
-}
-
-// Takes the steps with these choices, one after the other, as far as the budget goes, which is left with what remains of it.
-pub fn run(state: State, choices: &[usize], budget: &mut usize, tally: Tally) -> Ran
-    ensures is { λ r. ⌜ r ≡ ranOf (calls.run (now (choices .entry)) (now (budget .entry)) state tally) ⌝ }
-    ensures left { λ r. ⌜ now (budget .exit) + r .taken ≡ now (budget .entry) ⌝ }
-{
-    let mut table = [0u32; 11584];
-    let mut flags = [0u8; 16];
-    let messages = state.messages;
-    let places = running::message_places(messages);
-    let a = limits::planned(state, &mut table, &mut flags);
-    match a {
-        Answer::Refused {
-            number: _,
-            place: _,
-        } => Ran {
-            taken: 0,
-            refusal: 17,
-            state,
-            tally,
-        },
-        Answer::Accepted {
-            variables: _,
-            activities,
-            nodes: _,
-        } => running::run_by(&table, &flags, activities, state, choices, budget, tally),
-    }
-}
-
-// Takes the step with a choice; the host's tally is lent, and is brought up to date on return.
-pub fn step_lent(state: State, choice: usize, tally: &mut Tally) -> Stepped
-    ensures { λ r. ⌜ (r ≡ bare (calls.step choice state (now (tally .entry)))) × (now (tally .exit) ≡ r .tally) ⌝ }
-{
-    let y = *tally;
-    let r = take_step(state, choice, y);
-    *tally = r.tally;
-    r
 }

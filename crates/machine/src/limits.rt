@@ -144,7 +144,7 @@ fn messages_ruled(messages: [Message; 64], waiting: usize) -> bool
 }
 
 // A state.
-pub(crate) fn state_ruled(state: State) -> bool
+pub fn state_ruled(state: State) -> bool
     ensures { λ r. ⌜ r ≡ inLimits state ⌝ }
 {
     let orders = state.orders;
@@ -172,7 +172,7 @@ fn accepted(bytes: [u8; 4096], n: usize, table: &mut [u32; 11584], flags: &mut [
 }
 
 // The plan that a state runs by: what accepting its bytes answers, with its table and flags; 17 where a number is outside its limit.
-pub(crate) fn planned(state: State, table: &mut [u32; 11584], flags: &mut [u8; 16]) -> Answer
+pub fn planned(state: State, table: &mut [u32; 11584], flags: &mut [u8; 16]) -> Answer
     ensures is { λ r. ⌜ r ≡ answerOf (planIn state) ⌝ }
     ensures rows { λ _. ⌜ now (table .exit) ≡ tableFor (planIn state) ⌝ }
     ensures flags { λ _. ⌜ now (flags .exit) ≡ flagsFor (planIn state) ⌝ }

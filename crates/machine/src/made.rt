@@ -10,7 +10,7 @@ ghost use Rattle.order.specs.State.{noOrder};
 ghost use Rattle.machine.specs.State.{noMessage, fresh};
 
 // What a free slot holds.
-pub(crate) fn no_order() -> Order
+pub fn no_order() -> Order
     ensures { λ r. ⌜ r ≡ noOrder ⌝ }
 {
     Order {
@@ -24,7 +24,7 @@ pub(crate) fn no_order() -> Order
 }
 
 // A message with nothing in it.
-pub(crate) fn no_message() -> Message
+pub fn no_message() -> Message
     ensures { λ r. ⌜ r ≡ noMessage ⌝ }
 {
     Message {
