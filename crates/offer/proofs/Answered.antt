@@ -15,7 +15,7 @@ use Rattle.order.specs.declared.Order.{Order}
 use Rattle.machine.specs.declared.State.{State}
 use Rattle.machine.specs.declared.Step.{Step}
 use Rattle.order.specs.Acting.{startedOrder}
-use Rattle.offer.specs.Answering.{Correlated}
+use Rattle.offer.specs.Answering.{Correlated, messageAt, Letters, Picks}
 use Rattle.machine.specs.Calls.{Chosen, refusedChoice, chosen, nth, choosing, previewed, previewBy}
 use Rattle.machine.specs.Fit.{Ready, readyOf, Live, liveFrom, Letter, lettersFrom, fittings}
 use Rattle.machine.specs.Limits.{messageInLimits, inLimits}
@@ -27,9 +27,8 @@ use Rattle.offer.specs.declared.Pointer.{Pointer}
 use Rattle.offer.specs.declared.Sight.{Sight}
 use Rattle.offer.specs.Folds.{folded, lesser}
 use Rattle.offer.specs.Lines.{Tabled}
-use Rattle.offer.specs.Sights.{pointed, seen, unseen, Unseen, Frees, chosenBy, answered, Across, Leasts, Tells, noLetter, Told, Informed, offerLive, Starts, SeesAll, Previews, amounted, amountOf, Amounts}
+use Rattle.offer.specs.Sights.{pointed, seen, unseen, Unseen, chosenBy, answered, Across, Leasts, Tells, noLetter, Told, Informed, offerLive, Mailed, StartsOrder, SeesBy, SeesAll, Previews, amounted, amountOf, Amounts}
 use Rattle.offer.proofs.Amounted.{offers-short}
-use Rattle.offer.proofs.Fewest.{getD-any}
 use Rattle.offer.proofs.Lines.{fold-same}
 use Rattle.offer.proofs.OrderSeen.{seen-together, seen-all}
 use Rattle.offer.proofs.Sighting.{pointed-found}
@@ -136,53 +135,64 @@ least-leb u [] c = by-test (leb u c)
     by-test false = refl
 least-leb u (x ∷ l) c = least-leb u l (lesser x c) ∙ (ap (λ b. b && every (leb u) l) (lesser-leb u x c) ∙ and-swap (leb u x) (leb u c) (every (leb u) l))
 
-module _ {t flags : List ℕ} {orders : List Order} {n : ℕ} {messages : List Message} {waiting : ℕ} {least : List ℕ} (w : Leasts t flags n orders messages waiting least)
-    (few : waiting ≤ 64) where
-  told : (p : Plan) → Correlated p flags → Tabled p t n → Told (lettersFrom p (liveFrom p 0 orders) 0 (take waiting messages)) messages waiting least
-  told p cor q =
-      let long : length (take waiting messages) ≡ waiting = length-take-le waiting messages (omega (arith, w .held)) in
+-- the messages that wait are those of their numbers
+mailed : {messages : List Message} {letters : List ℕ} → Letters messages letters → {waiting : ℕ} → waiting ≤ 64 → Mailed letters waiting (take waiting messages)
+mailed {messages} m {waiting} few = record {
+  long = length-take-le waiting messages (omega (arith, m .held));
+  is = λ j h. getD-take waiting messages j noMessage h ∙ m .is j (omega arith);
+}
+
+module _ {t flags picks : List ℕ} {orders : List Order} {n : ℕ} {letters : List ℕ} {waiting : ℕ} {least : List ℕ} (w : Leasts t flags picks orders n letters waiting least) where
+  told : (p : Plan) (ms : List Message) → Correlated p flags → Picks t picks → Tabled p t n → Mailed letters waiting ms
+      → Told (lettersFrom p (liveFrom p 0 orders) 0 ms) letters waiting least
+  told p ms cor u q m =
       record {
-        long = letters-long p (liveFrom p 0 orders) 0 (take waiting messages) ∙ long;
+        long = letters-long p (liveFrom p 0 orders) 0 ms ∙ m .long;
         tells = λ j h.
             let z : 0 + j ≡ j = omega arith in
-            let m : getD (take waiting messages) j noMessage ≡ getD messages j noMessage = getD-take waiting messages j noMessage h in
-            let v : getD (lettersFrom p (liveFrom p 0 orders) 0 (take waiting messages)) j noLetter
-            ≡ record { place = j; message = getD messages j noMessage; fitted = fittings p (liveFrom p 0 orders) (getD messages j noMessage) } =
-            letters-at p (liveFrom p 0 orders) 0 (take waiting messages) j noLetter noMessage (omega (arith, long)) ∙ rw (z, m) in
+            let v : getD (lettersFrom p (liveFrom p 0 orders) 0 ms) j noLetter
+            ≡ record { place = j; message = messageAt letters j; fitted = fittings p (liveFrom p 0 orders) (messageAt letters j) } =
+            letters-at p (liveFrom p 0 orders) 0 ms j noLetter noMessage (omega (arith, m .long)) ∙ rw (z, m .is j h) in
             record {
               place = ap (λ x. x .place) v;
               message = ap (λ x. x .message) v;
-              few = λ u g.
-                  ap (λ x. every (leb u) (x .fitted)) v
-                  ∙ sym (ap (leb u) (w .is j h .is p cor q) ∙ (least-leb u (fittings p (liveFrom p 0 orders) (getD messages j noMessage)) 5 ∙ rw (le-leb u 5 (omega arith))));
+              few = λ x g.
+                  ap (λ y. every (leb x) (y .fitted)) v
+                  ∙ sym (ap (leb x) (w .is j h u .is p cor q) ∙ (least-leb x (fittings p (liveFrom p 0 orders) (messageAt letters j)) 5 ∙ rw (le-leb x 5 (omega arith))));
             };
       }
 
--- `sight_of`
-pub sees-all : {t flags : List ℕ} {st : State} {o : Order} {n c free : ℕ} {least : List ℕ} {none part r : Sight}
-    → st .waiting ≤ 64
-    → Leasts t flags n (st .orders) (st .messages) (st .waiting) least
+-- `sight_in`
+pub sees-by : {t flags picks letters : List ℕ} {orders : List Order} {o : Order} {n waiting c : ℕ} {least : List ℕ} {none part r : Sight}
+    → Leasts t flags picks orders n letters waiting least
     → Unseen c none
-    → Across t n (Informed flags (st .messages) (st .waiting) least) (offerLive (st .waiting)) (st .orders) none part
-    → Frees (st .orders) free
-    → Starts t flags (st .orders) o free n (st .messages) (st .waiting) part r
-    → SeesAll t flags st o n c r
-unfolding offersOf offerLive
-sees-all {st = st} {o} {n} {c} {free} {least} {none} {part} {r} few w none-is slots free-is starts = record {
-  orders = slots .long;
-  messages = w .held;
-  few = few;
-  is = λ p cor q started.
-      let l = lettersFrom p (liveFrom p 0 (st .orders)) 0 (letters st) in
-      let live = liveFrom p 0 (st .orders) in
-      let a = allOf (orderOffers p (st .waiting) l) live in
+    → Across t n (Informed t picks flags letters waiting least) (offerLive waiting) orders none part
+    → StartsOrder t flags picks orders o n letters waiting part r
+    → SeesBy t flags picks orders o n letters waiting c r
+unfolding offerLive
+sees-by {orders = orders} {o} {n} {waiting} {c} {none = none} {part} {r} w none-is slots starts = record {
+  sixteen = slots .long;
+  is = λ p ms cor u q m.
+      let live = liveFrom p 0 orders in
+      let l = lettersFrom p live 0 ms in
+      let a = allOf (orderOffers p waiting l) live in
+      let b = allOf (startOffers p (freeFrom 0 orders) o (readyOf p o)) l in
       let e : part ≡ seen a (unseen c) =
-      slots .is p l (record { correlated = cor; told = told w few p cor q }) q
-      ∙ (ap (folded (λ x. seen (orderOffers p (st .waiting) l x)) live) (none-is .is) ∙ sym (seen-all (orderOffers p (st .waiting) l) live (unseen c))) in
-      let b = allOf (startOffers p free o (readyOf p o)) l in
-      let f : r ≡ seen b (seen a (unseen c)) =
-      starts .is p cor q ∙ (sym (seen-all (startOffers p free o (readyOf p o)) l part) ∙ ap (seen b) e) in
-      f ∙ (rw (free-is .is, started) (sym (seen-together a (allOf (startOffers p (freeFrom 0 (st .orders)) (startedOrder p) (readyOf p (startedOrder p))) l) (unseen c))));
+      slots .is p l (record { correlated = cor; picked = u; told = told w p ms cor u q m }) q
+      ∙ (ap (folded (λ x. seen (orderOffers p waiting l x)) live) (none-is .is) ∙ sym (seen-all (orderOffers p waiting l) live (unseen c))) in
+      starts .is p ms cor u q m
+      ∙ (sym (seen-all (startOffers p (freeFrom 0 orders) o (readyOf p o)) l part) ∙ (ap (seen b) e ∙ sym (seen-together a b (unseen c))));
+}
+
+-- `sight_of`
+pub sees-all : {t flags picks letters : List ℕ} {st : State} {o : Order} {n c : ℕ} {r : Sight} → st .waiting ≤ 64 → Letters (st .messages) letters → Picks t picks
+    → SeesBy t flags picks (st .orders) o n letters (st .waiting) c r → SeesAll t flags st o n c r
+unfolding offersOf
+sees-all {st = st} few m u w = record {
+  orders = w .sixteen;
+  messages = m .held;
+  few = few;
+  is = λ p cor q started. w .is p (letters st) cor u q (mailed m few) ∙ rw started;
 }
 
 -- `preview_by`, `amount_of`, `offered_by`

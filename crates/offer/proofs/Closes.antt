@@ -67,54 +67,52 @@ all-held : (l : List ℕ) → length l ≡ 32 → ltb 32 (length l + 1) ≡ true
 all-held l h = lt-ltb 32 (length l + 1) (omega arith)
 
 -- `close_held`
-pub close-room : (t : List ℕ) (o : Order) (k : ℕ) → o .kept < 32 → ClosesRow t o k false
-close-room t o k h = record {
-  is = λ x y z.
+pub close-room : (t remembered : List ℕ) (kept k : ℕ) → kept < 32 → ClosesRow t remembered kept k false
+close-room t remembered kept k h = record {
+  is = λ o x m u n y z.
       let s = scopeAt k (x .within) in
       let e = only-few (λ e. not (isFor s e)) (closings o) in
       let f = take-few (o .kept) (o .remembered) in
       sym (rw (closings-left s o) (few-held (only (λ e. not (isFor s e)) (closings o)) (omega (arith, e, f))));
 }
 
-pub record Forgets (t : List ℕ) (o : Order) (k i : ℕ) : Type 0 where
-  pub long : length (o .remembered) ≡ 32
-  pub full : 32 ≤ o .kept
+pub record Forgets (t remembered : List ℕ) (kept k i : ℕ) : Type 0 where
+  pub full : 32 ≤ kept
   pub within : i ≤ 32
-  pub none : (x : Line) → Stands t (o .marks) k x → kind (x .own) ≡ 11 → (j : ℕ) → j < i → isFor (scopeAt k (x .within)) (getD (o .remembered) j 0) ≡ false
+  pub none : (ms : List ℕ) (x : Line) → Stands t ms k x → kind (x .own) ≡ 11 → (j : ℕ) → j < i → isFor (scopeAt k (x .within)) (getD remembered j 0) ≡ false
 
-pub forgets-starts : (t : List ℕ) (o : Order) (k : ℕ) → length (o .remembered) ≡ 32 → 32 ≤ o .kept → Forgets t o k 0
-forgets-starts t o k e h = record { long = e; full = h; within = omega arith; none = λ x y z j g. absurd (omega arith) }
+pub forgets-starts : (t remembered : List ℕ) (kept k : ℕ) → 32 ≤ kept → Forgets t remembered kept k 0
+forgets-starts t remembered kept k h = record { full = h; within = omega arith; none = λ ms x y z j g. absurd (omega arith) }
 
-module _ {t : List ℕ} {o : Order} {k i : ℕ} (w : Forgets t o k i) where
-  all-closings : closings o ≡ o .remembered
-  all-closings = take-all (o .kept) (o .remembered) (omega (arith, w .long, w .full))
+module _ {t remembered : List ℕ} {kept k i : ℕ} (w : Forgets t remembered kept k i) where
+  all-closings : (o : Order) → o .remembered ≡ remembered → length remembered ≡ 32 → o .kept ≡ kept → closings o ≡ remembered
+  all-closings o m u n = rw (m, n) (take-all kept remembered (omega (arith, u, w .full)))
 
-  pub forgets-done : 32 ≤ i → ClosesRow t o k true
+  pub forgets-done : 32 ≤ i → ClosesRow t remembered kept k true
   forgets-done h = record {
-    is = λ x y z.
+    is = λ o x m u n y z.
         let s = scopeAt k (x .within) in
-        let e = only-all (λ e. not (isFor s e)) (o .remembered) (λ j g. rw (w .none x y z j (omega (arith, w .long)))) in
-        sym (rw (closings-left s o, all-closings) (all-held (only (λ e. not (isFor s e)) (o .remembered)) (omega (arith, e, w .long))));
+        let e = only-all (λ e. not (isFor s e)) remembered (λ j g. rw (w .none (o .marks) x y z j (omega (arith, u)))) in
+        sym (rw (closings-left s o, all-closings o m u n) (all-held (only (λ e. not (isFor s e)) remembered) (omega (arith, e, u))));
   }
 
-  module _ (h : i < 32) {b : Bool} (d : DirectRow t (k + 1) (getD (o .remembered) i 0) b) where
-    pub forgets-one : b ≡ true → ClosesRow t o k false
+  module _ (h : i < 32) {b : Bool} (d : DirectRow t (k + 1) (getD remembered i 0) b) where
+    pub forgets-one : b ≡ true → ClosesRow t remembered kept k false
     forgets-one v = record {
-      is = λ x y z.
+      is = λ o x m u n y z.
           let s = scopeAt k (x .within) in
-          let q : isFor s (getD (o .remembered) i 0) ≡ true = sym (for-parts k (x .own) (x .within) (y .place) (y .node) (y .spelled) (y .parts z) d) ∙ v in
-          let e = only-fewer (λ e. not (isFor s e)) (o .remembered) i (omega (arith, w .long)) (rw q) in
-          sym (rw (closings-left s o, all-closings) (few-held (only (λ e. not (isFor s e)) (o .remembered)) (omega (arith, e, w .long))));
+          let q : isFor s (getD remembered i 0) ≡ true = sym (for-parts k (x .own) (x .within) (y .place) (y .node) (y .spelled) (y .parts z) d) ∙ v in
+          let e = only-fewer (λ e. not (isFor s e)) remembered i (omega (arith, u)) (rw q) in
+          sym (rw (closings-left s o, all-closings o m u n) (few-held (only (λ e. not (isFor s e)) remembered) (omega (arith, e, u))));
     }
 
-    pub forgets-again : b ≡ false → Forgets t o k (i + 1)
+    pub forgets-again : b ≡ false → Forgets t remembered kept k (i + 1)
     forgets-again v = record {
-      long = w .long;
       full = w .full;
       within = omega arith;
-      none = λ x y z j g.
+      none = λ ms x y z j g.
           elim (decLt j i) [
-            | yes f ↦ w .none x y z j f
+            | yes f ↦ w .none ms x y z j f
             | no f ↦
                 let q : j ≡ i = omega (arith, f) in
                 rw q (sym (for-parts k (x .own) (x .within) (y .place) (y .node) (y .spelled) (y .parts z) d) ∙ v)

@@ -6,38 +6,25 @@ use Prim.Native.Nat.{ℕ, zero, suc, _+_, _*_, _-_, _<_, _≤_}
 use native.Mathlib.Decide.{ℕ-discrete, decLt}
 use native.Mathlib.Numerals.{add-one}
 use native.Mathlib.Omega.{arith}
-use borrow.Author.Tests.{eq-eqb, ne-eqb, lt-ltb, le-ltb, le-leb, lt-leb, leb-true}
+use borrow.Author.Tests.{eq-eqb, ne-eqb, lt-ltb, le-ltb}
 use lib.Dec.{eqb, ltb, leb}
-use lib.ListN.{length, getD, drop, take, set, length-set, drop-of-length-le}
-use lib.Seq.{drop-cons, getD-set-same, getD-set-other, getD-take, length-take-le}
-use Rattle.plan.specs.Spells.{Row, Spells, variablesOf}
-use Rattle.plan.specs.Table.{rowOf}
+use lib.ListN.{length, getD, drop, set, replicate, length-replicate, getD-replicate, length-set, drop-of-length-le}
+use lib.Seq.{drop-cons, getD-set-same, getD-set-other}
+use Rattle.plan.specs.Spells.{variablesOf}
 use Rattle.plan.specs.Tree.{Own, empty, send, receive, set as setting, raise, leave, choose, repeat, sequence, flow, pick, scope, arm, kind, Act, act, Acts, none, more, Plan, size}
-use Rattle.plan.proofs.Accepts.{both}
 use Rattle.machine.specs.declared.Message.{Message}
 use Rattle.order.specs.declared.Order.{Order}
-use Rattle.offer.specs.Answering.{Correlated, Exchange, UncheckedRow, TakesRow, fitsOwn, catches, armsFrom}
+use Rattle.offer.specs.Answering.{Exchange, Asking, AsksRow, FitsRow, UncheckedRow, KnowsOrder, messageAt, Picks, fitsOwn, catches}
 use Rattle.machine.specs.Fit.{doingOf, awaits, Ready, readyOf, Live, liveFrom, Letter, fits, unchecked, fitting, fittings}
-use Rattle.machine.specs.Limits.{exchanged, messageInLimits}
-use Rattle.order.specs.Lists.{every, each}
+use Rattle.order.specs.Lists.{each}
 use Rattle.order.specs.State.{isLive, markAt}
-use Rattle.machine.specs.State.{noMessage}
 use Rattle.offer.specs.Folds.{folded, lesser}
-use Rattle.offer.specs.Lines.{Line, linesOf, isReady, readyAt, Stands, Tabled, Does, Whole}
-use Rattle.offer.specs.Sights.{leastLine, leastLive, Slots, Across, Flagged, Least, Leasts}
-use Rattle.offer.proofs.Crossed.{Crossing, crossing-done}
-use Rattle.offer.proofs.Lines.{fold-append, fold-each, fold-same, fold-ready}
-
--- what a row says of the partner, the operation and the variables of any activity or arm
-pub row-exchange : (own : Own) (at k q e s : ℕ) (t : List ℕ) → Row own at k q e s t
-    → Exchange (getD (rowOf own q at) 1 0) (getD (rowOf own q at) 2 0) (variablesOf own) k t
-row-exchange own at k q e s t r =
-    record { partner = r .partner; operation = r .operation; count = r .count; variables = r .variables }
-
-pub stands-row : {t ms : List ℕ} {k : ℕ} {x : Line} → (y : Stands t ms k x) → (P : Type 0)
-    → ((e s : ℕ) → Row (x .own) (y .place) k (y .node) e s t → P) → P
-unfolding Spells
-stands-row y P f = f _ _ (y .spelled .row)
+use Rattle.offer.specs.Lines.{Line, linesOf, isReady, readyAt, Stands, Tabled, Rows, Wholes}
+use Rattle.offer.specs.Sights.{leastLine, leastLive, Slots, Across, Flagged, Lent, OpensRow, Least, LeastLetter, LeastLetters, LeastRow, LeastRows, LeastSlot, Leasts}
+use Rattle.offer.proofs.Crossed.{Crossing, crossing-starts, crossing-again, crossing-done, slot-free}
+use Rattle.offer.proofs.FitReturns.{asks-asking}
+use Rattle.offer.proofs.Lines.{fold-append, fold-each, fold-same, fold-ready, Rowing, rowing-starts, rowing-again, rowing-done}
+use Rattle.offer.proofs.SearchReturns.{stands-exchange, catch-open}
 
 one-fitting : (b : Bool) (u c : ℕ) → folded lesser (cond b (u ∷ []) []) c ≡ cond b (lesser u c) c
 unfolding folded
@@ -48,33 +35,87 @@ pub cond-and : {A : Type 0} (a b : Bool) (x y : A) → cond a (cond b x y) y ≡
 cond-and true b x y = refl
 cond-and false b x y = refl
 
+-- `least_letter`
+module _ (t : List ℕ) (k : ℕ) (asked letters : List ℕ) (j u c : ℕ) {b : Bool} (w : FitsRow t k asked letters j b) where
+  pub least-unfit : b ≡ false → LeastLetter t k asked letters j u c c
+  least-unfit e = record { is = λ p o a d vs v g x. rw (sym (w .is p o a d vs g x) ∙ e) }
+
+  module _ (e : b ≡ true) where
+    pub least-less : u < c → LeastLetter t k asked letters j u c u
+    unfolding lesser
+    least-less h = record { is = λ p o a d vs v g x. rw (sym (w .is p o a d vs g x) ∙ e, ← v .is p o a d vs g x, lt-ltb _ _ h) }
+
+    pub least-more : c ≤ u → LeastLetter t k asked letters j u c c
+    unfolding lesser
+    least-more h = record { is = λ p o a d vs v g x. rw (sym (w .is p o a d vs g x) ∙ e, ← v .is p o a d vs g x, le-ltb _ _ h) }
+
+-- the loop of `least_letters`
+pub record Lessening (t : List ℕ) (k : ℕ) (asked : List ℕ) (u : ℕ) (letters : List ℕ) (waiting : ℕ) (start : List ℕ) (j : ℕ) (out : List ℕ) : Type 0 where
+  pub long : length out ≡ length start
+  pub within : j ≤ waiting
+  pub passed : length start ≡ 64 → (i : ℕ) → i < j → LeastLetter t k asked letters i u (getD start i 0) (getD out i 0)
+  pub rest : (i : ℕ) → j ≤ i → getD out i 0 ≡ getD start i 0
+
+pub lessening-starts : (t : List ℕ) (k : ℕ) (asked : List ℕ) (u : ℕ) (letters : List ℕ) (waiting : ℕ) (start : List ℕ)
+    → Lessening t k asked u letters waiting start 0 start
+lessening-starts t k asked u letters waiting start =
+    record { long = refl; within = omega arith; passed = λ e i h. absurd (omega arith); rest = λ i h. refl }
+
+module _ {t : List ℕ} {k : ℕ} {asked : List ℕ} {u : ℕ} {letters : List ℕ} {waiting : ℕ} {start : List ℕ} {j : ℕ} {out : List ℕ}
+    (w : Lessening t k asked u letters waiting start j out) where
+  pub lessening-again : j < waiting → waiting ≤ 64 → {r : ℕ} → LeastLetter t k asked letters j u (getD out j 0) r
+      → Lessening t k asked u letters waiting start (j + 1) (set out j r)
+  lessening-again h few {r} y = record {
+    long = length-set out j r ∙ w .long;
+    within = omega arith;
+    passed = λ q i g.
+        elim (ℕ-discrete i j) [
+          | yes e ↦ rw (e, getD-set-same out j r 0 (omega (arith, w .long, q)), ← w .rest j (omega arith)) y
+          | no e ↦ rw (getD-set-other out j i r 0 e) (w .passed q i (omega (arith, e)))
+        ];
+    rest = λ i g. getD-set-other out j i r 0 (λ e. omega arith) ∙ w .rest i (omega arith);
+  }
+
+  pub lessening-done : {known : List ℕ} → waiting ≤ j → AsksRow t known k asked → UncheckedRow t k asked u → LeastLetters t known k letters waiting start out
+  lessening-done h a v = record { long = w .long; is = λ n i g p o x y vs q e few. w .passed n i (omega arith) .is p o x y vs v (asks-asking a q e few) e }
+
 -- `least_row`
-module _ (t flags : List ℕ) (o : Order) (k : ℕ) (m : Message) (c : ℕ) where
-  pub catch-says : {b : Bool} → TakesRow t flags o k m b → (p : Plan) → Correlated p flags → (x : Line) → Stands t (o .marks) k x
-      → b ≡ catches p o m (x .own) (x .arms) (x .activity)
-  catch-says {b} w p cor x y =
-      stands-row y (b ≡ catches p o m (x .own) (x .arms) (x .activity))
-      (λ e s r. w .is p (x .own) (y .place) (y .node) e s cor r ∙ rw (y .arms, y .activity))
+module _ {t picks marks : List ℕ} {k : ℕ} {b : Bool} (v : OpensRow t picks marks k b) where
+  pub least-shut : (known letters : List ℕ) (waiting : ℕ) (c : List ℕ) → b ≡ false → LeastRow t picks marks known k letters waiting c c
+  unfolding leastLine
+  least-shut known letters waiting c e = record {
+    long = refl;
+    is = λ n j h. record { is = λ o p l x g y. rw (catch-open v (g .picked) o (g .marked) y p (messageAt letters j), e) };
+  }
 
-  places-say : {u : ℕ} → UncheckedRow t flags o k u → (p : Plan) → Correlated p flags → (x : Line) → Stands t (o .marks) k x
-      → u ≡ unchecked p o (variablesOf (x .own))
-  places-say {u} w p cor x y =
-      stands-row y (u ≡ unchecked p o (variablesOf (x .own)))
-      (λ e s r. w .is p _ _ (variablesOf (x .own)) cor (row-exchange (x .own) (y .place) k (y .node) e s t r) (y .few))
+  pub least-open : {known letters : List ℕ} {waiting : ℕ} {c r : List ℕ} → b ≡ true → LeastLetters t known k letters waiting c r
+      → LeastRow t picks marks known k letters waiting c r
+  unfolding leastLine
+  least-open {letters = letters} e w = record {
+    long = w .long;
+    is = λ n j h. record {
+      is = λ o p l x g y.
+          w .is n j h p o _ _ (variablesOf (x .own)) (g .knows) (stands-exchange y) (y .few)
+          ∙ rw (catch-open v (g .picked) o (g .marked) y p (messageAt letters j), e);
+    };
+  }
 
-  module _ {b : Bool} (w : TakesRow t flags o k m b) where
-    pub least-none : b ≡ false → Does t o k (Flagged flags) (leastLine o m) c c
-    unfolding leastLine
-    least-none e = record { is = λ p l x g y. rw (sym (catch-says w p (g .correlated) x y) ∙ e) }
+-- `least_rows`
+pub record Leasting (t picks marks known : List ℕ) (n : ℕ) (letters : List ℕ) (waiting : ℕ) (start : List ℕ) (k : ℕ) (c : List ℕ) : Type 0 where
+  pub long : length c ≡ length start
+  pub is : length start ≡ 64 → (j : ℕ) → j < waiting → Rowing t n (Lent t picks marks known) (leastLine (messageAt letters j)) (getD start j 0) k (getD c j 0)
 
-    module _ (e : b ≡ true) {u : ℕ} (v : UncheckedRow t flags o k u) where
-      pub least-less : u < c → Does t o k (Flagged flags) (leastLine o m) c u
-      unfolding leastLine lesser
-      least-less h = record { is = λ p l x g y. rw (sym (catch-says w p (g .correlated) x y) ∙ e, ← places-say v p (g .correlated) x y, lt-ltb _ _ h) }
+pub leasting-starts : (t picks marks known : List ℕ) (n : ℕ) (letters : List ℕ) (waiting : ℕ) (start : List ℕ)
+    → Leasting t picks marks known n letters waiting start 0 start
+leasting-starts t picks marks known n letters waiting start = record { long = refl; is = λ n j h. rowing-starts _ _ _ _ _ }
 
-      pub least-more : c ≤ u → Does t o k (Flagged flags) (leastLine o m) c c
-      unfolding leastLine lesser
-      least-more h = record { is = λ p l x g y. rw (sym (catch-says w p (g .correlated) x y) ∙ e, ← places-say v p (g .correlated) x y, le-ltb _ _ h) }
+module _ {t picks marks known : List ℕ} {n : ℕ} {letters : List ℕ} {waiting : ℕ} {start : List ℕ} {k : ℕ} {c : List ℕ}
+    (w : Leasting t picks marks known n letters waiting start k c) where
+  pub leasting-again : k < n → {r : List ℕ} → LeastRow t picks marks known k letters waiting c r → Leasting t picks marks known n letters waiting start (k + 1) r
+  leasting-again h y = record { long = y .long ∙ w .long; is = λ q j g. rowing-again (w .is q j g) h (y .is (w .long ∙ q) j g) }
+
+  pub leasting-done : n ≤ k → LeastRows t picks marks known n letters waiting start c
+  leasting-done h = record { long = w .long; is = λ q j g. rowing-done (w .is q j g) h }
 
 -- what a line adds to the fewest is what its step adds
 fitting-line : (p : Plan) (o : Order) (m : Message) (own : Own) (w : Acts) (k c : ℕ)
@@ -95,97 +136,65 @@ fitting-line p o m scope w k c = refl
 fitting-line p o m (arm a b vs) w k c = one-fitting (fits p o a b vs m) (unchecked p o vs) c
 
 least-line : (p : Plan) (l : List Letter) (o : Order) (m : Message) (x : Line) (c : ℕ)
-    → cond (isReady (o .marks) x) (folded lesser (fitting p o m (readyAt x .step)) c) c ≡ leastLine o m p l x c
+    → cond (isReady (o .marks) x) (folded lesser (fitting p o m (readyAt x .step)) c) c ≡ leastLine m o p l x c
 unfolding leastLine catches
 least-line p l o m x c =
     rw (fitting-line p o m (x .own) (x .within) (x .activity) c)
     (cond-and (awaits (x .own) (x .arms) (markAt (x .activity) o)) (fitsOwn p o m (x .own)) (lesser (unchecked p o (variablesOf (x .own))) c) c)
 
 least-lines : (p : Plan) (l : List Letter) (o : Order) (m : Message) (i c : ℕ)
-    → leastLive m p l (record { slot = i; order = o; ready = readyOf p o }) c ≡ folded (leastLine o m p l) (linesOf p (o .marks)) c
+    → leastLive m p l (record { slot = i; order = o; ready = readyOf p o }) c ≡ folded (leastLine m o p l) (linesOf p (o .marks)) c
 unfolding leastLive
 least-lines p l o m i c =
     fold-ready (λ r. folded lesser (fitting p o m (r .step))) p o c
     ∙ fold-same _ _ (λ x s. least-line p l o m x s) (linesOf p (o .marks)) c
 
 -- `least_slot`
-pub least-live : {t flags : List ℕ} {n : ℕ} (m : Message) (i : ℕ) {o : Order} {c r : ℕ} → (o .root ≡ 0 → ⊥)
-    → Whole t o n (Flagged flags) (leastLine o m) c r → Slots t n (Flagged flags) (leastLive m) i o c r
-least-live m i {o} {c} h w = record {
-  is = λ p l g y. rw (ne-eqb _ _ h) (w .is p l g y ∙ sym (least-lines p l o m i c));
+pub least-free : (t flags picks : List ℕ) {o : Order} (n : ℕ) (letters : List ℕ) (waiting : ℕ) (c : List ℕ) → o .root ≡ 0
+    → LeastSlot t flags picks o n letters waiting c c
+least-free t flags picks n letters waiting c e =
+    record { long = refl; is = λ q j h i. slot-free t n (Flagged t picks flags) (leastLive (messageAt letters j)) i (getD c j 0) e }
+
+pub least-live : {t flags picks known : List ℕ} {o : Order} {n : ℕ} {letters : List ℕ} {waiting : ℕ} {c r : List ℕ} → (o .root ≡ 0 → ⊥) → KnowsOrder flags o known
+    → LeastRows t picks (o .marks) known n letters waiting c r → LeastSlot t flags picks o n letters waiting c r
+least-live {o = o} {letters = letters} {c = c} h v w = record {
+  long = w .long;
+  is = λ q j g i. record {
+    is = λ p l x y.
+        rw (ne-eqb _ _ h)
+        (w .is q j g .is o p l (record { picked = x .picked; marked = refl; knows = v .is p (x .correlated) }) y
+        ∙ sym (least-lines p l o (messageAt letters j) i (getD c j 0)));
+  };
 }
 
--- `least_of`
-pub least-all : {t flags : List ℕ} {n : ℕ} (m : Message) {orders : List Order} {i c : ℕ}
-    → Crossing t n (Flagged flags) (leastLive m) orders 5 i c → 16 ≤ i → Least t flags n orders m c
+-- `leasts`
+pub record Lowering (t flags picks : List ℕ) (orders : List Order) (n : ℕ) (letters : List ℕ) (waiting slot : ℕ) (c : List ℕ) : Type 0 where
+  pub long : length c ≡ 64
+  pub is : (j : ℕ) → j < waiting → Crossing t n (Flagged t picks flags) (leastLive (messageAt letters j)) orders 5 slot (getD c j 0)
+
+pub lowering-starts : (t flags picks : List ℕ) (orders : List Order) (n : ℕ) (letters : List ℕ) (waiting : ℕ) → waiting ≤ 64 → length orders ≡ 16
+    → Lowering t flags picks orders n letters waiting 0 (replicate 64 5)
+lowering-starts t flags picks orders n letters waiting few e = record {
+  long = length-replicate {A = ℕ} 64 5;
+  is = λ j h.
+      rw (getD-replicate {A = ℕ} 64 j 5 0 (omega arith)) (crossing-starts t n (Flagged t picks flags) (leastLive (messageAt letters j)) orders 5 e);
+}
+
+least-all : {t flags picks : List ℕ} {n : ℕ} (m : Message) {orders : List Order} {i c : ℕ}
+    → Crossing t n (Flagged t picks flags) (leastLive m) orders 5 i c → 16 ≤ i → Picks t picks → Least t flags n orders m c
 unfolding leastLive fittings
-least-all m {orders} w h = record {
+least-all m {orders} w h v = record {
   is = λ p cor y.
-      crossing-done w h .is p [] (record { correlated = cor }) y
+      crossing-done w h .is p [] (record { correlated = cor; picked = v }) y
       ∙ sym (fold-each lesser (λ x. each (λ r. fitting p (x .order) m (r .step)) (x .ready)) (liveFrom p 0 orders) 5
       ∙ fold-same _ _ (λ x s. fold-each lesser (λ r. fitting p (x .order) m (r .step)) (x .ready) s) (liveFrom p 0 orders) 5);
 }
 
--- `leasts`
-pub getD-any : {A : Type 0} (l : List A) (i : ℕ) (d e : A) → i < length l → getD l i d ≡ getD l i e
-getD-any [] i d e h = absurd (omega arith)
-getD-any (x ∷ l) zero d e h = refl
-getD-any (x ∷ l) (suc i) d e h = getD-any l i d e (omega arith)
+module _ {t flags picks : List ℕ} {orders : List Order} {n : ℕ} {letters : List ℕ} {waiting slot : ℕ} {c : List ℕ}
+    (w : Lowering t flags picks orders n letters waiting slot c) where
+  pub lowering-again : (d : Order) → slot < 16 → {r : List ℕ} → LeastSlot t flags picks (getD orders slot d) n letters waiting c r
+      → Lowering t flags picks orders n letters waiting (slot + 1) r
+  lowering-again d h y = record { long = y .long ∙ w .long; is = λ j g. crossing-again (w .is j g) d h (y .is (w .long) j g slot) }
 
-every-at : (f : Message → Bool) (l : List Message) (i : ℕ) (d : Message) → every f l ≡ true → i < length l → f (getD l i d) ≡ true
-unfolding every
-every-at f [] i d e h = absurd (omega arith)
-every-at f (m ∷ l) zero d e h = both (f m) (every f l) e (λ a b. a)
-every-at f (m ∷ l) (suc i) d e h = both (f m) (every f l) e (λ a b. every-at f l i d b (omega arith))
-
--- a message that waits has at most four values
-pub count-few : (l : List Message) (n i : ℕ) (d : Message) → length l ≡ 64 → n ≤ 64 → every messageInLimits (take n l) ≡ true → i < n → getD l i d .count ≤ 4
-unfolding messageInLimits exchanged
-count-few l n i d long few e h =
-    let m : length (take n l) ≡ n = length-take-le n l (omega arith) in
-    let q : messageInLimits (getD (take n l) i d) ≡ true = every-at messageInLimits (take n l) i d e (omega arith) in
-    let z : messageInLimits (getD l i d) ≡ true = ap messageInLimits (sym (getD-take n l i d h)) ∙ q in
-    both (exchanged (getD l i d .partner) (getD l i d .operation) (getD l i d .count)) _ z (λ a b.
-    both (ltb (getD l i d .partner) 64) _ a (λ x y.
-    both (ltb (getD l i d .operation) 64) _ y (λ v w.
-    both (leb 1 (getD l i d .count)) _ w (λ r s. leb-true _ _ s))))
-
-pub record Filling (t flags : List ℕ) (n : ℕ) (orders : List Order) (messages : List Message) (waiting : ℕ) (out : List ℕ) (j : ℕ) : Type 0 where
-  pub long : length out ≡ 64
-  pub held : length messages ≡ 64
-  pub few : waiting ≤ 64
-  pub within : j ≤ waiting
-  pub filled : Leasts t flags n orders messages j out
-
-pub filling-starts : (t flags : List ℕ) (n : ℕ) (orders : List Order) (messages : List Message) (waiting : ℕ) (out : List ℕ) → length out ≡ 64 → length messages ≡ 64
-    → waiting ≤ 64 → Filling t flags n orders messages waiting out 0
-filling-starts t flags n orders messages waiting out e g h =
-    record { long = e; held = g; few = h; within = omega arith; filled = record { held = g; is = λ j q. absurd (omega arith) } }
-
-module _ {t flags : List ℕ} {n : ℕ} {orders : List Order} {messages : List Message} {waiting : ℕ} {out : List ℕ} {j : ℕ}
-    (w : Filling t flags n orders messages waiting out j) where
-  pub filling-few : (d : Message) → every messageInLimits (take waiting messages) ≡ true → j < waiting → getD messages j d .count ≤ 4
-  filling-few d e h = count-few messages waiting j d (w .held) (w .few) e h
-
-  pub filling-again : (d : Message) → j < waiting → {r : ℕ} → Least t flags n orders (getD messages j d) r
-      → Filling t flags n orders messages waiting (set out j r) (j + 1)
-  filling-again d h {r} y =
-      let b : j < length out = omega (arith, w .long, w .few) in
-      let v : getD messages j d ≡ getD messages j noMessage = getD-any messages j d noMessage (omega (arith, w .held, w .few)) in
-      record {
-        long = length-set out j r ∙ w .long;
-        held = w .held;
-        few = w .few;
-        within = omega arith;
-        filled = record {
-          held = w .held;
-          is = λ i g.
-              elim (ℕ-discrete i j) [
-                | yes e ↦ rw (e, getD-set-same out j r 0 b) (rw v at y)
-                | no e ↦ rw (getD-set-other out j i r 0 e) (w .filled .is i (omega (arith, e)))
-              ];
-        };
-      }
-
-  pub filling-done : waiting ≤ j → Leasts t flags n orders messages waiting out
-  filling-done h = record { held = w .held; is = λ i g. w .filled .is i (omega (arith, w .within)) }
+  pub lowering-done : 16 ≤ slot → Leasts t flags picks orders n letters waiting c
+  lowering-done h = record { is = λ j g v. least-all (messageAt letters j) (w .is j g) h v }

@@ -1,5 +1,5 @@
--- The search finds a receive exactly where the message fits one; and what the contracts of the search and of fit ask of a plan's table and
--- flags holds of each accepted plan. Assumes nothing.
+-- The search finds a receive exactly where the message fits one; and what the contracts ask of a plan's flags holds of each accepted plan.
+-- Assumes nothing.
 use mathlib.Core.Path.{_≡_, refl, sym, ap, _∙_}
 use mathlib.Core.Bool.{Bool, true, false, cond, _&&_, _||_}
 use mathlib.Core.List.{List, [], _∷_, _++_}
@@ -7,21 +7,20 @@ use Prim.Native.Nat.{ℕ, _+_, _*_, _<_, _≤_}
 use native.Mathlib.Omega.{arith}
 use borrow.Author.Tests.{leb-true, ltb-true, ne-eqb}
 use lib.Dec.{eqb, leb, ltb}
-use lib.ListN.{length}
+use lib.ListN.{length, replicate, length-replicate}
 use Rattle.plan.specs.Found.{found, among}
 use Rattle.plan.specs.Read.{readPlan}
 use Rattle.plan.specs.Spell.{spelling}
-use Rattle.plan.specs.Table.{flagsOf, tableOf}
-use Rattle.plan.specs.Tree.{Plan, size}
+use Rattle.plan.specs.Table.{flagsOf}
+use Rattle.plan.specs.Tree.{Plan}
 use Rattle.plan.specs.Within.{from1, ascending, planWithin}
 use Rattle.plan.proofs.Accepts.{both}
 use Rattle.plan.proofs.Limits.{accepted-is-within}
 use Rattle.plan.proofs.Stores.{flagged-among}
-use Rattle.plan.proofs.TableSpells.{accepted-spells}
 use Rattle.machine.specs.declared.Message.{Message}
 use Rattle.order.specs.declared.Order.{Order}
 use Rattle.offer.specs.declared.Receiver.{Receiver}
-use Rattle.offer.specs.Answering.{Correlated, Receives}
+use Rattle.offer.specs.Answering.{Correlated}
 use Rattle.offer.specs.Finding.{firstOf, orElse, firstReceiver, isNothing}
 use Rattle.machine.specs.Fit.{Ready, Live, liveFrom, fitting, fittings}
 use Rattle.order.specs.Lists.{each, empties}
@@ -83,11 +82,3 @@ within-correlated p h =
 
 pub accepted-correlated : (s : List ℕ) {p : Plan} {next : ℕ} → readPlan s ≡ found p next → Correlated p (flagsOf p)
 accepted-correlated s {p} e = within-correlated p (accepted-is-within s e)
-
--- so of an accepted plan's table and flags the search answers the first open receive that the message fits, and nothing exactly where it fits none
-pub received : (s : List ℕ) {p : Plan} {next : ℕ} → readPlan s ≡ found p next → {orders : List Order} {m : Message} {r : Receiver}
-    → Receives (tableOf p) (flagsOf p) orders (size (p .body) + size (p .fault)) m r
-    → (r ≡ firstReceiver p (liveFrom p 0 orders) m) × (isNothing r ≡ empties (fittings p (liveFrom p 0 orders) m))
-received s {p} e {orders} {m} a =
-    let i = a .is p (accepted-correlated s e) (accepted-spells s e) refl in
-    (i, ap isNothing i ∙ first-exactly p (liveFrom p 0 orders) m)

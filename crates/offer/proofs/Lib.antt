@@ -1,5 +1,7 @@
+mod Filled
 mod FitReturns
 mod SearchReturns
+mod Searched
 mod Finds
 pub mod FirstFits
 mod Lines

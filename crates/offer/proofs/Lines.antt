@@ -24,7 +24,7 @@ use Rattle.order.specs.Lists.{each, only, some}
 use Rattle.order.specs.State.{active}
 use Rattle.offer.proofs.Finds.{ends-in, size-some}
 use Rattle.offer.specs.Folds.{folded}
-use Rattle.offer.specs.Lines.{Line, linesIn, linesAmong, linesOf, isReady, readyAt, readyLine, Stands, Tabled, Does, Whole}
+use Rattle.offer.specs.Lines.{Line, linesIn, linesAmong, linesOf, isReady, readyAt, readyLine, Stands, Tabled, Rows, Wholes}
 
 -- going through a list
 pub fold-append : {A S : Type 0} (f : A → S → S) (l k : List A) (s : S) → folded f (l ++ k) s ≡ folded f k (folded f l s)
@@ -293,34 +293,37 @@ line-stands {p} {t} {n} ms d y k h =
     let g : k < length (linesOf p ms) = omega (arith, plan-long p ms, y .many) in
     rw e at (standing-at t ms d (standing-plan t ms p (y .spells) (y .limited)) k g)
 
--- the loop over the rows of an order's table
-pub record Rowing {S : Type 0} (t : List ℕ) (o : Order) (activities : ℕ) (Given : Plan → List Letter → Type 0) (f : Plan → List Letter → Line → S → S) (start : S) (k : ℕ) (c : S) : Type 0 where
+-- the loop over the rows of the table, for any order that something is known of
+pub record Rowing {S : Type 0} (t : List ℕ) (activities : ℕ) (Given : Order → Plan → List Letter → Type 0) (f : Order → Plan → List Letter → Line → S → S) (start : S) (k : ℕ) (c : S) : Type 0 where
   pub within : k ≤ activities
-  pub same : (p : Plan) (l : List Letter) → Given p l → Tabled p t activities → folded (f p l) (linesOf p (o .marks)) start ≡ folded (f p l) (drop k (linesOf p (o .marks))) c
+  pub same : (o : Order) (p : Plan) (l : List Letter) → Given o p l → Tabled p t activities
+      → folded (f o p l) (linesOf p (o .marks)) start ≡ folded (f o p l) (drop k (linesOf p (o .marks))) c
 
-pub rowing-starts : {S : Type 0} (t : List ℕ) (o : Order) (activities : ℕ) (Given : Plan → List Letter → Type 0) (f : Plan → List Letter → Line → S → S) (start : S)
-    → Rowing t o activities Given f start 0 start
-rowing-starts t o n G f start = record { within = omega arith; same = λ p l g y. refl }
+pub rowing-starts : {S : Type 0} (t : List ℕ) (activities : ℕ) (Given : Order → Plan → List Letter → Type 0) (f : Order → Plan → List Letter → Line → S → S) (start : S)
+    → Rowing t activities Given f start 0 start
+rowing-starts t n G f start = record { within = omega arith; same = λ o p l g y. refl }
 
 noLine : Line
 noLine = record { activity = 0; own = empty; within = none; arms = false }
 
-module _ {S : Type 0} {t : List ℕ} {o : Order} {n : ℕ} {G : Plan → List Letter → Type 0} {f : Plan → List Letter → Line → S → S} {start : S} {k : ℕ} {c : S}
-    (w : Rowing t o n G f start k c) where
-  pub rowing-again : k < n → {r : S} → Does t o k G f c r → Rowing t o n G f start (k + 1) r
+module _ {S : Type 0} {t : List ℕ} {n : ℕ} {G : Order → Plan → List Letter → Type 0} {f : Order → Plan → List Letter → Line → S → S} {start : S} {k : ℕ} {c : S}
+    (w : Rowing t n G f start k c) where
+  pub rowing-again : k < n → {r : S} → Rows t k G f c r → Rowing t n G f start (k + 1) r
   unfolding folded
   rowing-again h {r} y = record {
     within = omega arith;
-    same = λ p l g q.
+    same = λ o p l g q.
         let long : k < length (linesOf p (o .marks)) = omega (arith, plan-long p (o .marks), q .many) in
-        let e = y .is p l (getD (linesOf p (o .marks)) k noLine) g (line-stands (o .marks) noLine q k h) in
-        w .same p l g q ∙ (ap (λ x. folded (f p l) x c) (drop-cons (linesOf p (o .marks)) k noLine long) ∙ (ap (folded (f p l) (drop (suc k) (linesOf p (o .marks)))) (sym e) ∙ rw add-one));
+        let e = y .is o p l (getD (linesOf p (o .marks)) k noLine) g (line-stands (o .marks) noLine q k h) in
+        w .same o p l g q
+        ∙ (ap (λ x. folded (f o p l) x c) (drop-cons (linesOf p (o .marks)) k noLine long)
+        ∙ (ap (folded (f o p l) (drop (suc k) (linesOf p (o .marks)))) (sym e) ∙ rw add-one));
   }
 
-  pub rowing-done : n ≤ k → Whole t o n G f start c
+  pub rowing-done : n ≤ k → Wholes t n G f start c
   unfolding folded
   rowing-done h = record {
-    is = λ p l g q.
+    is = λ o p l g q.
         let long : length (linesOf p (o .marks)) ≤ k = omega (arith, plan-long p (o .marks), q .many) in
-        sym (w .same p l g q ∙ ap (λ x. folded (f p l) x c) (drop-of-length-le (linesOf p (o .marks)) long));
+        sym (w .same o p l g q ∙ ap (λ x. folded (f o p l) x c) (drop-of-length-le (linesOf p (o .marks)) long));
   }

@@ -10,7 +10,6 @@ use lib.ListN.{length, getD}
 use Rattle.plan.specs.Spells.{Row, Spells, variablesOf}
 use Rattle.plan.specs.Table.{rowOf}
 use Rattle.plan.specs.Tree.{Own, empty, send, receive, set as setting, raise, leave, choose, repeat, sequence, flow, pick, scope, arm, kind, Act, act, Acts, none, more, Plan, size}
-use Rattle.machine.specs.declared.Message.{Message}
 use Rattle.order.specs.declared.Order.{Order}
 use Rattle.machine.specs.Fit.{Doing, noStep, sends, takes, moves, cuts, closes, doingOf, Ready, readyOf, Live, liveFrom, Letter, mayTake}
 use Rattle.order.specs.Lists.{every, some, only}
@@ -20,10 +19,11 @@ use Rattle.order.specs.State.{isLive}
 use Rattle.offer.specs.declared.Pointer.{Pointer}
 use Rattle.offer.specs.declared.Sight.{Sight}
 use Rattle.offer.specs.Folds.{folded}
-use Rattle.offer.specs.Lines.{Line, linesOf, isReady, readyAt, Stands, Tabled, Does, Whole}
-use Rattle.offer.specs.Sights.{pointed, seen, showing, withholding, Slots, Always, Informed, doingBy, AwaitsRow, CutRow, cutLine, BoundRow, ClosesRow, takeLetter, takeLine, doingLine, offerLine, offerLive}
+use Rattle.offer.specs.Answering.{KnowsOrder, Picks}
+use Rattle.offer.specs.Lines.{Line, linesOf, isReady, readyAt, Stands, Tabled, Rows, Wholes}
+use Rattle.offer.specs.Sights.{pointed, seen, showing, withholding, Slots, Marked, Informed, Heeding, Serving, Opening, doingBy, AwaitsRow, CutRow, cutLine, BoundRow, ClosesRow, takeLetter, takeLine, doingLine, offerLine, offerLive}
 use Rattle.offer.proofs.Lines.{fold-append, fold-same, fold-only, fold-ready}
-use Rattle.offer.proofs.Rowed.{stands-kind, stands-exchange}
+use Rattle.offer.proofs.SearchReturns.{stands-kind, stands-exchange}
 
 pub or-false : (b : Bool) → (b || false) ≡ b
 or-false true = refl
@@ -108,117 +108,127 @@ doing-nothing n a b vs s h x y =
     rw (ne-eqb n 1 (λ q. omega arith), ne-eqb n 2 (λ q. omega arith), ne-eqb n 12 x, ne-eqb n 11 y, le-leb 3 n (omega arith), lt-leb n 7 h)
 
 -- `doing_row`
-module _ (t flags : List ℕ) (o : Order) (i k : ℕ) (messages : List Message) (wait : ℕ) (least : List ℕ) (s : Sight) where
-  doing-says : (n : ℕ) → getD t (k * 13) 0 ≡ n → (p : Plan) (l : List Letter) (x : Line) → Stands t (o .marks) k x
+module _ (t known bound remembered : List ℕ) (kept i k : ℕ) (letters : List ℕ) (wait : ℕ) (least : List ℕ) (s : Sight) where
+  doing-says : (n : ℕ) → getD t (k * 13) 0 ≡ n → (o : Order) (p : Plan) (l : List Letter) (x : Line) → Stands t (o .marks) k x
       → doingLine wait i o p l x s
       ≡ seen (stepOffers p wait l i o k (doingBy n (getD t (k * 13 + 1) 0) (getD t (k * 13 + 2) 0) (variablesOf (x .own)) (scopeAt k (x .within)))) s
   unfolding doingLine
-  doing-says n z p l x y = rw (y .activity, stands-doing y, z)
+  doing-says n z o p l x y = rw (y .activity, stands-doing y, z)
 
   module _ (z : getD t (k * 13) 0 ≡ 1) where
-    pub send-room : {r : Sight} → wait < 64 → r ≡ showing i k 0 s → Does t o k (Informed flags messages wait least) (doingLine wait i o) s r
+    pub send-room : {r : Sight} → wait < 64 → r ≡ showing i k 0 s → Rows t k (Serving known bound remembered kept letters wait least) (doingLine wait i) s r
     unfolding stepOffers doingBy
-    send-room h q = record { is = λ p l x g y. q ∙ sym (doing-says 1 z p l x y ∙ rw (lt-leb 64 wait h) (seen-show i k 0 s)) }
+    send-room h q = record { is = λ o p l x g y. q ∙ sym (doing-says 1 z o p l x y ∙ rw (lt-leb 64 wait h) (seen-show i k 0 s)) }
 
-    module _ (h : 64 ≤ wait) {b : Bool} (v : BoundRow t o k b) where
-      pub send-held : {r : Sight} → b ≡ true → r ≡ withholding s → Does t o k (Informed flags messages wait least) (doingLine wait i o) s r
+    module _ (h : 64 ≤ wait) {b : Bool} (v : BoundRow t bound k b) where
+      pub send-held : {r : Sight} → b ≡ true → r ≡ withholding s → Rows t k (Serving known bound remembered kept letters wait least) (doingLine wait i) s r
       unfolding stepOffers doingBy
       send-held e q = record {
-        is = λ p l x g y.
-            q ∙ sym (doing-says 1 z p l x y
-            ∙ rw (le-leb 64 wait h, sym (v .is _ _ (variablesOf (x .own)) (stands-exchange y) (y .few)) ∙ e) (seen-hold (offering i k 0 ∷ []) s));
+        is = λ o p l x g y.
+            q ∙ sym (doing-says 1 z o p l x y
+            ∙ rw (le-leb 64 wait h, sym (v .is o _ _ (variablesOf (x .own)) (g .bindings) (g .sixteen) (stands-exchange y) (y .few)) ∙ e) (seen-hold (offering i k 0 ∷ []) s));
       }
 
-      pub send-raises : {r : Sight} → b ≡ false → r ≡ showing i k 0 s → Does t o k (Informed flags messages wait least) (doingLine wait i o) s r
+      pub send-raises : {r : Sight} → b ≡ false → r ≡ showing i k 0 s → Rows t k (Serving known bound remembered kept letters wait least) (doingLine wait i) s r
       unfolding stepOffers doingBy
       send-raises e q = record {
-        is = λ p l x g y.
-            q ∙ sym (doing-says 1 z p l x y
-            ∙ rw (le-leb 64 wait h, sym (v .is _ _ (variablesOf (x .own)) (stands-exchange y) (y .few)) ∙ e) (seen-show i k 0 s));
+        is = λ o p l x g y.
+            q ∙ sym (doing-says 1 z o p l x y
+            ∙ rw (le-leb 64 wait h, sym (v .is o _ _ (variablesOf (x .own)) (g .bindings) (g .sixteen) (stands-exchange y) (y .few)) ∙ e) (seen-show i k 0 s));
       }
 
-  seen-takes : (p : Plan) (l : List Letter) (x : Line) → Stands t (o .marks) k x
+  seen-takes : (o : Order) (p : Plan) (l : List Letter) (x : Line) → Stands t (o .marks) k x
       → seen (stepOffers p wait l i o k (takes (getD t (k * 13 + 1) 0) (getD t (k * 13 + 2) 0) (variablesOf (x .own)))) s
-      ≡ takeLine i o (getD t (k * 13 + 1) 0) (getD t (k * 13 + 2) 0) p l x s
+      ≡ takeLine i (getD t (k * 13 + 1) 0) (getD t (k * 13 + 2) 0) o p l x s
   unfolding stepOffers takeLine takeLetter
-  seen-takes p l x y =
+  seen-takes o p l x y =
       seen-map i k (only (mayTake p o (getD t (k * 13 + 1) 0) (getD t (k * 13 + 2) 0) (variablesOf (x .own))) l) s
       ∙ (fold-only (λ v. showing i k (v .place)) (mayTake p o (getD t (k * 13 + 1) 0) (getD t (k * 13 + 2) 0) (variablesOf (x .own))) l s ∙ rw (y .activity))
 
-  module _ {r : Sight} (w : Does t o k (Informed flags messages wait least) (takeLine i o (getD t (k * 13 + 1) 0) (getD t (k * 13 + 2) 0)) s r) where
-    pub receive-takes : getD t (k * 13) 0 ≡ 2 → Does t o k (Informed flags messages wait least) (doingLine wait i o) s r
+  module _ {r : Sight} (w : Rows t k (Heeding known letters wait least) (takeLine i (getD t (k * 13 + 1) 0) (getD t (k * 13 + 2) 0)) s r) where
+    pub receive-takes : getD t (k * 13) 0 ≡ 2 → Rows t k (Serving known bound remembered kept letters wait least) (doingLine wait i) s r
     unfolding doingBy
-    receive-takes z = record { is = λ p l x g y. w .is p l x g y ∙ sym (doing-says 2 z p l x y ∙ seen-takes p l x y) }
+    receive-takes z = record { is = λ o p l x g y. w .is o p l x (g .heeding) y ∙ sym (doing-says 2 z o p l x y ∙ seen-takes o p l x y) }
 
-    pub arm-takes : getD t (k * 13) 0 ≡ 12 → Does t o k (Informed flags messages wait least) (doingLine wait i o) s r
+    pub arm-takes : getD t (k * 13) 0 ≡ 12 → Rows t k (Serving known bound remembered kept letters wait least) (doingLine wait i) s r
     unfolding doingBy
-    arm-takes z = record { is = λ p l x g y. w .is p l x g y ∙ sym (doing-says 12 z p l x y ∙ seen-takes p l x y) }
+    arm-takes z = record { is = λ o p l x g y. w .is o p l x (g .heeding) y ∙ sym (doing-says 12 z o p l x y ∙ seen-takes o p l x y) }
 
-  module _ (z : getD t (k * 13) 0 ≡ 11) {b : Bool} (v : ClosesRow t o k b) where
-    pub close-held : {r : Sight} → b ≡ true → r ≡ withholding s → Does t o k (Informed flags messages wait least) (doingLine wait i o) s r
+  module _ (z : getD t (k * 13) 0 ≡ 11) {b : Bool} (v : ClosesRow t remembered kept k b) where
+    pub close-held : {r : Sight} → b ≡ true → r ≡ withholding s → Rows t k (Serving known bound remembered kept letters wait least) (doingLine wait i) s r
     unfolding stepOffers doingBy
     close-held e q = record {
-      is = λ p l x g y. q ∙ sym (doing-says 11 z p l x y ∙ rw (sym (v .is x y (sym (stands-kind y) ∙ z)) ∙ e) (seen-hold (offering i k 0 ∷ []) s));
+      is = λ o p l x g y. q ∙ sym (doing-says 11 z o p l x y ∙ rw (sym (v .is o x (g .memory) (g .places) (g .many) y (sym (stands-kind y) ∙ z)) ∙ e) (seen-hold (offering i k 0 ∷ []) s));
     }
 
-    pub close-shown : {r : Sight} → b ≡ false → r ≡ showing i k 0 s → Does t o k (Informed flags messages wait least) (doingLine wait i o) s r
+    pub close-shown : {r : Sight} → b ≡ false → r ≡ showing i k 0 s → Rows t k (Serving known bound remembered kept letters wait least) (doingLine wait i) s r
     unfolding stepOffers doingBy
     close-shown e q = record {
-      is = λ p l x g y. q ∙ sym (doing-says 11 z p l x y ∙ rw (sym (v .is x y (sym (stands-kind y) ∙ z)) ∙ e) (seen-show i k 0 s));
+      is = λ o p l x g y. q ∙ sym (doing-says 11 z o p l x y ∙ rw (sym (v .is o x (g .memory) (g .places) (g .many) y (sym (stands-kind y) ∙ z)) ∙ e) (seen-show i k 0 s));
     }
 
   pub doing-empty : (getD t (k * 13) 0 ≡ 1 → ⊥) → (getD t (k * 13) 0 ≡ 2 → ⊥) → getD t (k * 13) 0 < 3
-      → Does t o k (Informed flags messages wait least) (doingLine wait i o) s s
+      → Rows t k (Serving known bound remembered kept letters wait least) (doingLine wait i) s s
   unfolding stepOffers doingBy
   doing-empty x1 x2 h =
       let z : getD t (k * 13) 0 ≡ 0 = omega (arith, x1, x2) in
-      record { is = λ p l x g y. sym (doing-says 0 z p l x y ∙ seen-none s) }
+      record { is = λ o p l x g y. sym (doing-says 0 z o p l x y ∙ seen-none s) }
 
   pub doing-step : {r : Sight} → 3 ≤ getD t (k * 13) 0 → getD t (k * 13) 0 ≤ 7 → r ≡ showing i k 0 s
-      → Does t o k (Informed flags messages wait least) (doingLine wait i o) s r
+      → Rows t k (Serving known bound remembered kept letters wait least) (doingLine wait i) s r
   unfolding stepOffers
   doing-step h g q = record {
-    is = λ p l x v y.
-        q ∙ sym (doing-says (getD t (k * 13) 0) refl p l x y
+    is = λ o p l x v y.
+        q ∙ sym (doing-says (getD t (k * 13) 0) refl o p l x y
         ∙ (ap (λ d. seen (stepOffers p wait l i o k d) s) (doing-moves (getD t (k * 13) 0) _ _ (variablesOf (x .own)) (scopeAt k (x .within)) h g)
-        ∙ by-test p l (eqb (getD t (k * 13) 0) 4 || eqb (getD t (k * 13) 0) 5)));
+        ∙ by-test o p l (eqb (getD t (k * 13) 0) 4 || eqb (getD t (k * 13) 0) 5)));
   }
     where
-      by-test : (p : Plan) (l : List Letter) (b : Bool) → seen (stepOffers p wait l i o k (cond b cuts moves)) s ≡ showing i k 0 s
-      by-test p l true = seen-show i k 0 s
-      by-test p l false = seen-show i k 0 s
+      by-test : (o : Order) (p : Plan) (l : List Letter) (b : Bool) → seen (stepOffers p wait l i o k (cond b cuts moves)) s ≡ showing i k 0 s
+      by-test o p l true = seen-show i k 0 s
+      by-test o p l false = seen-show i k 0 s
 
   pub doing-none : 7 < getD t (k * 13) 0 → (getD t (k * 13) 0 ≡ 12 → ⊥) → (getD t (k * 13) 0 ≡ 11 → ⊥)
-      → Does t o k (Informed flags messages wait least) (doingLine wait i o) s s
+      → Rows t k (Serving known bound remembered kept letters wait least) (doingLine wait i) s s
   unfolding stepOffers
   doing-none h x1 x2 = record {
-    is = λ p l x v y.
-        sym (doing-says (getD t (k * 13) 0) refl p l x y
+    is = λ o p l x v y.
+        sym (doing-says (getD t (k * 13) 0) refl o p l x y
         ∙ (ap (λ d. seen (stepOffers p wait l i o k d) s) (doing-nothing (getD t (k * 13) 0) _ _ (variablesOf (x .own)) (scopeAt k (x .within)) h x1 x2)
         ∙ seen-none s));
   }
 
 -- `offer_row`
-module _ {t : List ℕ} (flags : List ℕ) (o : Order) (i : ℕ) {k : ℕ} (messages : List Message) (wait : ℕ) (least : List ℕ) (s : Sight) {b : Bool} (w : AwaitsRow t (o .marks) k b) where
-  pub offer-idle : (cutting : Bool) → b ≡ false → Does t o k (Informed flags messages wait least) (offerLine cutting wait i o) s s
+module _ {t picks marks : List ℕ} (known bound remembered : List ℕ) (kept i : ℕ) {k : ℕ} (letters : List ℕ) (wait : ℕ) (least : List ℕ) (s : Sight) {b : Bool}
+    (w : AwaitsRow t picks marks k b) where
+  ready-says : (o : Order) (x : Line) → Picks t picks → o .marks ≡ marks → Stands t (o .marks) k x → isReady (o .marks) x ≡ b
+  ready-says o x v e y = sym (rw (← e) at w .is x v y)
+
+  pub offer-idle : (cutting : Bool) → b ≡ false
+      → Rows t k (Opening t picks marks known bound remembered kept letters wait least) (offerLine cutting wait i) s s
   unfolding offerLine
-  offer-idle cutting e = record { is = λ p l x g y. rw (sym (w .is x y) ∙ e) }
+  offer-idle cutting e = record { is = λ o p l x g y. rw (ready-says o x (g .picked) (g .marked) y ∙ e) }
 
   module _ (e : b ≡ true) {cutting : Bool} where
-    pub offer-free : {r : Sight} → cutting ≡ false → Does t o k (Informed flags messages wait least) (doingLine wait i o) s r
-        → Does t o k (Informed flags messages wait least) (offerLine cutting wait i o) s r
+    pub offer-free : {r : Sight} → cutting ≡ false → Rows t k (Serving known bound remembered kept letters wait least) (doingLine wait i) s r
+        → Rows t k (Opening t picks marks known bound remembered kept letters wait least) (offerLine cutting wait i) s r
     unfolding offerLine
-    offer-free z d = record { is = λ p l x g y. rw (sym (w .is x y) ∙ e, z) (d .is p l x g y) }
+    offer-free z d = record { is = λ o p l x g y. rw (ready-says o x (g .picked) (g .marked) y ∙ e, z) (d .is o p l x (g .serving) y) }
 
     module _ (z : cutting ≡ true) {c : Bool} (v : CutRow t k c) where
-      pub offer-cut : {r : Sight} → c ≡ true → Does t o k (Informed flags messages wait least) (doingLine wait i o) s r
-          → Does t o k (Informed flags messages wait least) (offerLine cutting wait i o) s r
+      pub offer-cut : {r : Sight} → c ≡ true → Rows t k (Serving known bound remembered kept letters wait least) (doingLine wait i) s r
+          → Rows t k (Opening t picks marks known bound remembered kept letters wait least) (offerLine cutting wait i) s r
       unfolding offerLine
-      offer-cut q d = record { is = λ p l x g y. rw (sym (w .is x y) ∙ e, z, sym (v .is (o .marks) x y) ∙ q) (d .is p l x g y) }
+      offer-cut q d = record {
+        is = λ o p l x g y.
+            rw (ready-says o x (g .picked) (g .marked) y ∙ e, z, sym (v .is (o .marks) x y) ∙ q) (d .is o p l x (g .serving) y);
+      }
 
-      pub offer-aside : c ≡ false → Does t o k (Informed flags messages wait least) (offerLine cutting wait i o) s s
+      pub offer-aside : c ≡ false → Rows t k (Opening t picks marks known bound remembered kept letters wait least) (offerLine cutting wait i) s s
       unfolding offerLine
-      offer-aside q = record { is = λ p l x g y. rw (sym (w .is x y) ∙ e, z, sym (v .is (o .marks) x y) ∙ q) }
+      offer-aside q = record {
+        is = λ o p l x g y. rw (ready-says o x (g .picked) (g .marked) y ∙ e, z, sym (v .is (o .marks) x y) ∙ q);
+      }
 
 -- an order: eagerness as a test on each line
 some-fold : {A : Type 0} (g : A → Bool) (l : List A) (c : Bool) → folded (λ r b. g r || b) l c ≡ (some g l || c)
@@ -259,11 +269,24 @@ order-lines wait i o p l s =
     ∙ fold-ready (λ r c. cond (not (some isCut (readyOf p o)) || isCut r) (seen (stepOffers p wait l i o (r .activity) (r .step)) c) c) p o s))
 
 -- `offer_slot`
-pub offer-live : {t flags : List ℕ} {n : ℕ} (i : ℕ) {o : Order} {messages : List Message} {wait : ℕ} {least : List ℕ} {s r : Sight} {cutting : Bool} → (o .root ≡ 0 → ⊥)
-    → Whole t o n Always (cutLine o) false cutting → Whole t o n (Informed flags messages wait least) (offerLine cutting wait i o) s r
-    → Slots t n (Informed flags messages wait least) (offerLive wait) i o s r
-offer-live i {o} {wait = wait} {s = s} {cutting = cutting} h v w = record {
+pub offer-live : {t picks flags known : List ℕ} {n : ℕ} (i : ℕ) {o : Order} {letters : List ℕ} {wait : ℕ} {least : List ℕ} {s r : Sight} {cutting : Bool} → (o .root ≡ 0 → ⊥)
+    → KnowsOrder flags o known → Wholes t n (Marked (o .marks)) cutLine false cutting
+    → Wholes t n (Opening t picks (o .marks) known (o .bound) (o .remembered) (o .kept) letters wait least) (offerLine cutting wait i) s r
+    → Slots t n (Informed t picks flags letters wait least) (offerLive wait) i o s r
+offer-live i {o} {wait = wait} {s = s} {cutting = cutting} h k v w = record {
   is = λ p l g y.
-      let e : cutting ≡ some isCut (readyOf p o) = v .is p l (record { any = refl }) y ∙ cut-some o p l in
-      rw (ne-eqb _ _ h) (w .is p l g y ∙ (ap (λ b. folded (offerLine b wait i o p l) (linesOf p (o .marks)) s) e ∙ sym (order-lines wait i o p l s)));
+      let e : cutting ≡ some isCut (readyOf p o) = v .is o p l (record { same = refl }) y ∙ cut-some o p l in
+      let f : Opening _ _ (o .marks) _ (o .bound) (o .remembered) (o .kept) _ wait _ o p l = record {
+        picked = g .picked;
+        marked = refl;
+        serving = record {
+          heeding = record { knows = k .is p (g .correlated); told = g .told };
+          bindings = refl;
+          sixteen = k .bindings;
+          memory = refl;
+          places = k .memory;
+          many = refl;
+        };
+      } in
+      rw (ne-eqb _ _ h) (w .is o p l f y ∙ (ap (λ b. folded (offerLine b wait i o p l) (linesOf p (o .marks)) s) e ∙ sym (order-lines wait i o p l s)));
 }

@@ -1,6 +1,6 @@
 -- What may start: the lowest free slot, and the start receives that a message fits. Assumes nothing.
 use mathlib.Core.Path.{_≡_, refl, sym, ap, _∙_}
-use mathlib.Core.Bool.{Bool, true, false, cond, not, _&&_, _||_}
+use mathlib.Core.Bool.{Bool, true, false, false≢true, cond, not, _&&_, _||_}
 use mathlib.Core.List.{List, [], _∷_, _++_, map}
 use Prim.Native.Nat.{ℕ, zero, suc, _+_, _*_, _-_, _<_, _≤_}
 use native.Mathlib.Numerals.{add-one}
@@ -9,26 +9,25 @@ use native.Mathlib.Omega.{arith}
 use borrow.Author.Tests.{eq-eqb, ne-eqb, lt-ltb, le-ltb, le-leb, lt-leb, ltb-true, ltb-false}
 use lib.Dec.{eqb, ltb, leb}
 use lib.ListN.{length, getD, drop, take, drop-of-length-le}
-use lib.Seq.{drop-cons, length-take-le, getD-take}
+use lib.Seq.{drop-cons}
 use Rattle.plan.specs.Tree.{Own, empty, send, receive, set as setting, raise, leave, choose, repeat, sequence, flow, pick, scope, arm, kind, Act, act, Acts, none, more, Plan, size}
 use Rattle.machine.specs.declared.Message.{Message}
 use Rattle.order.specs.declared.Order.{Order}
 use Rattle.offer.specs.declared.Receiver.{Receiver}
-use Rattle.offer.specs.Answering.{Correlated, TakesRow, Receives, fitsOwn, catches}
+use Rattle.offer.specs.Answering.{Correlated, KnowsOrder, messageAt, Picks, fitsOwn, catches}
 use Rattle.offer.specs.Finding.{firstReceiver, isNothing}
 use Rattle.machine.specs.Fit.{Doing, noStep, sends, takes, moves, cuts, closes, doingOf, awaits, Ready, readyOf, Live, liveFrom, Letter, lettersFrom, fits, fittings}
-use Rattle.machine.specs.Limits.{messageInLimits}
-use Rattle.order.specs.Lists.{every, each, empties}
+use Rattle.order.specs.Lists.{each, empties}
 use Rattle.machine.specs.Offer.{Offer, offering, Offers, unlessHeld, startOf, startsOf, freeFrom, startOffers}
 use Rattle.order.specs.State.{isLive, markAt}
 use Rattle.machine.specs.State.{noMessage}
 use Rattle.offer.proofs.FirstFits.{first-exactly}
 use Rattle.offer.specs.declared.Sight.{Sight}
 use Rattle.offer.specs.Folds.{folded}
-use Rattle.offer.specs.Lines.{Line, linesOf, isReady, readyAt, Stands, Tabled, Does, Whole}
-use Rattle.offer.specs.Sights.{IsLive, Frees, pointed, seen, showing, withholding, Flagged, noLetter, startLine, StartsLetter, Starts}
-use Rattle.offer.proofs.Fewest.{catch-says, cond-and, getD-any, count-few}
-use Rattle.offer.proofs.Lines.{fold-each, fold-same, fold-ready}
+use Rattle.offer.specs.Lines.{Line, linesOf, isReady, readyAt, Stands, Tabled, Rows, Wholes}
+use Rattle.offer.specs.Sights.{IsLive, Frees, pointed, seen, showing, withholding, Lent, TakesRow, Receives, noLetter, startLine, Could, StartsLetter, Mailed, Starts, StartsOrder}
+use Rattle.offer.proofs.Fewest.{cond-and}
+use Rattle.offer.proofs.Lines.{fold-each, fold-same, fold-ready, Rowing, rowing-starts, rowing-again, rowing-done}
 use Rattle.offer.proofs.OrderSeen.{or-false, seen-none, seen-hold}
 
 -- `is_live`, `free_slot`
@@ -65,23 +64,36 @@ module _ {orders : List Order} {i : ℕ} (w : Freeing orders i) where
     freeing-again e = record { long = w .long; within = omega arith; same = free-step d h ∙ rw (sym (y .is) ∙ e) }
 
 -- `start_row`
-module _ (t flags : List ℕ) (o : Order) (free k j : ℕ) (m : Message) (s : Sight) {b : Bool} (w : TakesRow t flags o k m b) where
-  pub start-none : b ≡ false → Does t o k (Flagged flags) (startLine free o j m) s s
+module _ {t picks marks known : List ℕ} (free : ℕ) {k : ℕ} {letters : List ℕ} {j : ℕ} (s : Sight) {b : Bool} (w : TakesRow t picks marks known k letters j b) where
+  pub start-none : b ≡ false → Rows t k (Lent t picks marks known) (startLine free j (messageAt letters j)) s s
   unfolding startLine
-  start-none e = record { is = λ p l x g y. rw (sym (catch-says t flags o k m 0 w p (g .correlated) x y) ∙ e) }
+  start-none e = record { is = λ o p l x g y. rw (sym (w .is o p l x g y) ∙ e) }
 
   module _ (e : b ≡ true) {r : Sight} where
-    pub start-shown : free < 16 → r ≡ showing free k j s → Does t o k (Flagged flags) (startLine free o j m) s r
+    pub start-shown : free < 16 → r ≡ showing free k j s → Rows t k (Lent t picks marks known) (startLine free j (messageAt letters j)) s r
     unfolding startLine
-    start-shown h q = record {
-      is = λ p l x g y. q ∙ rw (sym (catch-says t flags o k m 0 w p (g .correlated) x y) ∙ e, lt-ltb _ _ h, y .activity);
-    }
+    start-shown h q = record { is = λ o p l x g y. q ∙ rw (sym (w .is o p l x g y) ∙ e, lt-ltb _ _ h, y .activity) }
 
-    pub start-held : 16 ≤ free → r ≡ withholding s → Does t o k (Flagged flags) (startLine free o j m) s r
+    pub start-held : 16 ≤ free → r ≡ withholding s → Rows t k (Lent t picks marks known) (startLine free j (messageAt letters j)) s r
     unfolding startLine
-    start-held h q = record {
-      is = λ p l x g y. q ∙ rw (sym (catch-says t flags o k m 0 w p (g .correlated) x y) ∙ e, le-ltb _ _ h);
-    }
+    start-held h q = record { is = λ o p l x g y. q ∙ rw (sym (w .is o p l x g y) ∙ e, le-ltb _ _ h) }
+
+-- `could_start`: no row passed takes the message
+pub record Passing (t picks marks known : List ℕ) (n : ℕ) (letters : List ℕ) (j k : ℕ) : Type 0 where
+  pub none : (free : ℕ) (s : Sight) → Rowing t n (Lent t picks marks known) (startLine free j (messageAt letters j)) s k s
+
+pub passing-starts : (t picks marks known : List ℕ) (n : ℕ) (letters : List ℕ) (j : ℕ) → Passing t picks marks known n letters j 0
+passing-starts t picks marks known n letters j = record { none = λ free s. rowing-starts _ _ _ _ _ }
+
+pub could-take : (t picks marks known : List ℕ) (n : ℕ) (letters : List ℕ) (j : ℕ) → Could t picks marks known n letters j true
+could-take t picks marks known n letters j = record { not = λ e. absurd (false≢true (sym e)) }
+
+module _ {t picks marks known : List ℕ} {n : ℕ} {letters : List ℕ} {j k : ℕ} (w : Passing t picks marks known n letters j k) where
+  pub passing-again : k < n → {b : Bool} → TakesRow t picks marks known k letters j b → b ≡ false → Passing t picks marks known n letters j (k + 1)
+  passing-again h y e = record { none = λ free s. rowing-again (w .none free s) h (start-none free s y e) }
+
+  pub passing-done : n ≤ k → Could t picks marks known n letters j false
+  passing-done h = record { not = λ e free s. rowing-done (w .none free s) h }
 
 -- what one start receive adds, and what some add
 unfoldable starting : (free j k : ℕ) → Sight → Sight
@@ -131,44 +143,70 @@ start-own free p o y scope w k c = refl
 start-own free p o y (arm a b vs) w k c = one-start free (y .place) (fits p o a b vs (y .message)) k c
 
 start-line : (free : ℕ) (p : Plan) (l : List Letter) (o : Order) (y : Letter) (x : Line) (c : Sight)
-    → cond (isReady (o .marks) x) (folded (starting free (y .place)) (startOf p o y (readyAt x)) c) c ≡ startLine free o (y .place) (y .message) p l x c
+    → cond (isReady (o .marks) x) (folded (starting free (y .place)) (startOf p o y (readyAt x)) c) c ≡ startLine free (y .place) (y .message) o p l x c
 unfolding startLine catches starting
 start-line free p l o y x c =
     ap (λ z. cond (isReady (o .marks) x) z c) (start-own free p o y (x .own) (x .within) (x .activity) c)
     ∙ cond-and (awaits (x .own) (x .arms) (markAt (x .activity) o)) (fitsOwn p o (y .message) (x .own)) (starting free (y .place) (x .activity) c) c
 
 start-lines : (free : ℕ) (p : Plan) (l : List Letter) (o : Order) (y : Letter) (s : Sight)
-    → folded (starting free (y .place)) (each (startOf p o y) (readyOf p o)) s ≡ folded (startLine free o (y .place) (y .message) p l) (linesOf p (o .marks)) s
+    → folded (starting free (y .place)) (each (startOf p o y) (readyOf p o)) s ≡ folded (startLine free (y .place) (y .message) o p l) (linesOf p (o .marks)) s
 start-lines free p l o y s =
     fold-each (starting free (y .place)) (startOf p o y) (readyOf p o) s
     ∙ (fold-ready (λ r. folded (starting free (y .place)) (startOf p o y r)) p o s
     ∙ fold-same _ _ (λ x c. start-line free p l o y x c) (linesOf p (o .marks)) s)
 
 -- `start_letter`
-module _ {t flags : List ℕ} {orders : List Order} {n : ℕ} {m : Message} {r : Receiver} (o : Order) (free j : ℕ) (s : Sight) (w : Receives t flags orders n m r) where
-  fits-none : (p : Plan) → Correlated p flags → Tabled p t n → isNothing r ≡ empties (fittings p (liveFrom p 0 orders) m)
-  fits-none p cor y = ap isNothing (w .is p cor (y .spells) (y .many)) ∙ first-exactly p (liveFrom p 0 orders) m
+starts-empty : (free : ℕ) (o : Order) (s : Sight) (p : Plan) (y : Letter) → seen (startOffers p free o (readyOf p o) y) s
+    ≡ folded (starting free (y .place)) (cond (empties (y .fitted)) (each (startOf p o y) (readyOf p o)) []) s
+unfolding startOffers startsOf
+starts-empty free o s p y = start-some free (y .place) (cond (empties (y .fitted)) (each (startOf p o y) (readyOf p o)) []) s
 
-  starts-empty : (p : Plan) (y : Letter) → seen (startOffers p free o (readyOf p o) y) s
-      ≡ folded (starting free (y .place)) (cond (empties (y .fitted)) (each (startOf p o y) (readyOf p o)) []) s
-  unfolding startOffers startsOf
-  starts-empty p y = start-some free (y .place) (cond (empties (y .fitted)) (each (startOf p o y) (readyOf p o)) []) s
+-- what all rows of the order as it starts add
+start-whole : {t picks marks known : List ℕ} {n : ℕ} (free : ℕ) (letters : List ℕ) (j : ℕ) {s v : Sight}
+    → Wholes t n (Lent t picks marks known) (startLine free j (messageAt letters j)) s v
+    → (o : Order) (p : Plan) (y : Letter) → Lent t picks marks known o p [] → Tabled p t n → y .place ≡ j → y .message ≡ messageAt letters j
+    → v ≡ folded (starting free (y .place)) (each (startOf p o y) (readyOf p o)) s
+start-whole free letters j {s} g o p y lent q place message =
+    g .is o p [] lent q ∙ rw (← message, ← place) (sym (start-lines free p [] o y s))
 
-  pub start-not : (i k : ℕ) → r ≡ Receiver.At i k → StartsLetter t flags orders o free n j m s s
+fits-none : {t flags picks : List ℕ} {orders : List Order} {n : ℕ} {letters : List ℕ} {j : ℕ} {r : Receiver} → Receives t flags picks orders n letters j r
+    → (p : Plan) → Correlated p flags → Picks t picks → Tabled p t n → isNothing r ≡ empties (fittings p (liveFrom p 0 orders) (messageAt letters j))
+fits-none {orders = orders} {letters = letters} {j} w p cor v y =
+    ap isNothing (w .is p cor v y) ∙ first-exactly p (liveFrom p 0 orders) (messageAt letters j)
+
+pub start-unlike : {t picks marks known : List ℕ} (flags : List ℕ) (orders : List Order) {n : ℕ} (free : ℕ) {letters : List ℕ} {j : ℕ} (s : Sight) {b : Bool}
+    → Could t picks marks known n letters j b → b ≡ false → StartsLetter t flags picks orders marks known free n letters j s s
+unfolding folded
+start-unlike flags orders free s w e = record {
+  is = λ o p y cor lent q place message fitted.
+      let u = start-whole free _ _ (w .not e free s) o p y lent q place message in
+      sym (starts-empty free o s p y ∙ by-test o p y (empties (y .fitted)) u);
+}
+  where
+    by-test : (o : Order) (p : Plan) (y : Letter) (b : Bool) → s ≡ folded (starting free (y .place)) (each (startOf p o y) (readyOf p o)) s
+        → folded (starting free (y .place)) (cond b (each (startOf p o y) (readyOf p o)) []) s ≡ s
+    by-test o p y true u = sym u
+    by-test o p y false u = refl
+
+module _ {t flags picks : List ℕ} {orders : List Order} {n : ℕ} {letters : List ℕ} {j : ℕ} {r : Receiver} (w : Receives t flags picks orders n letters j r) where
+  pub start-not : (marks known : List ℕ) (free : ℕ) (s : Sight) (i k : ℕ) → r ≡ Receiver.At i k
+      → StartsLetter t flags picks orders marks known free n letters j s s
   unfolding isNothing folded
-  start-not i k e = record {
-    is = λ p y cor q place message fitted.
-        let z : empties (y .fitted) ≡ false = ap empties fitted ∙ (sym (fits-none p cor q) ∙ rw e) in
-        sym (starts-empty p y ∙ rw z);
+  start-not marks known free s i k e = record {
+    is = λ o p y cor lent q place message fitted.
+        let z : empties (y .fitted) ≡ false = ap empties fitted ∙ (sym (fits-none w p cor (lent .picked) q) ∙ rw e) in
+        sym (starts-empty free o s p y ∙ rw z);
   }
 
-  pub start-may : {v : Sight} → r ≡ Receiver.Nothing → Whole t o n (Flagged flags) (startLine free o j m) s v → StartsLetter t flags orders o free n j m s v
+  pub start-may : {marks known : List ℕ} (free : ℕ) {s v : Sight} → r ≡ Receiver.Nothing
+      → Wholes t n (Lent t picks marks known) (startLine free j (messageAt letters j)) s v
+      → StartsLetter t flags picks orders marks known free n letters j s v
   unfolding isNothing
-  start-may {v} e g = record {
-    is = λ p y cor q place message fitted.
-        let z : empties (y .fitted) ≡ true = ap empties fitted ∙ (sym (fits-none p cor q) ∙ rw e) in
-        let u : v ≡ folded (startLine free o (y .place) (y .message) p []) (linesOf p (o .marks)) s = g .is p [] (record { correlated = cor }) q ∙ rw (place, message) in
-        u ∙ sym (starts-empty p y ∙ (rw z (start-lines free p [] o y s)));
+  start-may free {s} e g = record {
+    is = λ o p y cor lent q place message fitted.
+        let z : empties (y .fitted) ≡ true = ap empties fitted ∙ (sym (fits-none w p cor (lent .picked) q) ∙ rw e) in
+        start-whole free letters j g o p y lent q place message ∙ sym (starts-empty free o s p y ∙ rw z);
   }
 
 -- the letters are the messages that wait, each in its place
@@ -187,52 +225,51 @@ letters-at p live i (m ∷ ms) (suc j) d e h =
     letters-at p live (i + 1) ms j d e (omega arith) ∙ rw q
 
 -- `start_letters`
-pub record Starting (t flags : List ℕ) (orders : List Order) (o : Order) (free n : ℕ) (messages : List Message) (waiting : ℕ) (start : Sight) (j : ℕ) (c : Sight) : Type 0 where
-  pub held : length messages ≡ 64
-  pub few : waiting ≤ 64
+pub record Starting (t flags picks : List ℕ) (orders : List Order) (marks known : List ℕ) (free n : ℕ) (letters : List ℕ) (waiting : ℕ) (start : Sight) (j : ℕ) (c : Sight) : Type 0 where
   pub within : j ≤ waiting
-  pub same : (p : Plan) → Correlated p flags → Tabled p t n
-      → folded (λ y. seen (startOffers p free o (readyOf p o) y)) (lettersFrom p (liveFrom p 0 orders) 0 (take waiting messages)) start
-      ≡ folded (λ y. seen (startOffers p free o (readyOf p o) y)) (drop j (lettersFrom p (liveFrom p 0 orders) 0 (take waiting messages))) c
+  pub same : (o : Order) (p : Plan) (ms : List Message) → Correlated p flags → Lent t picks marks known o p [] → Tabled p t n → Mailed letters waiting ms
+      → folded (λ y. seen (startOffers p free o (readyOf p o) y)) (lettersFrom p (liveFrom p 0 orders) 0 ms) start
+      ≡ folded (λ y. seen (startOffers p free o (readyOf p o) y)) (drop j (lettersFrom p (liveFrom p 0 orders) 0 ms)) c
 
-pub starting-starts : (t flags : List ℕ) (orders : List Order) (o : Order) (free n : ℕ) (messages : List Message) (waiting : ℕ) (start : Sight)
-    → length messages ≡ 64 → waiting ≤ 64 → Starting t flags orders o free n messages waiting start 0 start
-starting-starts t flags orders o free n messages waiting start e h =
-    record { held = e; few = h; within = omega arith; same = λ p cor q. refl }
+pub starting-starts : (t flags picks : List ℕ) (orders : List Order) (marks known : List ℕ) (free n : ℕ) (letters : List ℕ) (waiting : ℕ) (start : Sight)
+    → Starting t flags picks orders marks known free n letters waiting start 0 start
+starting-starts t flags picks orders marks known free n letters waiting start = record { within = omega arith; same = λ o p ms cor v q m. refl }
 
-module _ {t flags : List ℕ} {orders : List Order} {o : Order} {free n : ℕ} {messages : List Message} {waiting : ℕ} {start : Sight} {j : ℕ} {c : Sight}
-    (w : Starting t flags orders o free n messages waiting start j c) where
-  pub starting-few : (d : Message) → every messageInLimits (take waiting messages) ≡ true → j < waiting → getD messages j d .count ≤ 4
-  starting-few d e h = count-few messages waiting j d (w .held) (w .few) e h
-
-  wait-long : length (take waiting messages) ≡ waiting
-  wait-long = length-take-le waiting messages (omega (arith, w .held, w .few))
-
-  pub starting-again : (d : Message) → j < waiting → {r : Sight} → StartsLetter t flags orders o free n j (getD messages j d) c r
-      → Starting t flags orders o free n messages waiting start (j + 1) r
+module _ {t flags picks : List ℕ} {orders : List Order} {marks known : List ℕ} {free n : ℕ} {letters : List ℕ} {waiting : ℕ} {start : Sight} {j : ℕ} {c : Sight}
+    (w : Starting t flags picks orders marks known free n letters waiting start j c) where
+  pub starting-again : j < waiting → {r : Sight}
+      → StartsLetter t flags picks orders marks known free n letters j c r
+      → Starting t flags picks orders marks known free n letters waiting start (j + 1) r
   unfolding folded
-  starting-again d h {r} y = record {
-    held = w .held;
-    few = w .few;
+  starting-again h {r} y = record {
     within = omega arith;
-    same = λ p cor q.
-        let l = lettersFrom p (liveFrom p 0 orders) 0 (take waiting messages) in
-        let g : j < length (take waiting messages) = omega (arith, wait-long) in
-        let long : j < length l = omega (arith, letters-long p (liveFrom p 0 orders) 0 (take waiting messages), g) in
+    same = λ o p ms cor u q m.
+        let l = lettersFrom p (liveFrom p 0 orders) 0 ms in
+        let g : j < length ms = omega (arith, m .long) in
+        let long : j < length l = omega (arith, letters-long p (liveFrom p 0 orders) 0 ms, g) in
         let z : 0 + j ≡ j = omega arith in
-        let m : getD (take waiting messages) j d ≡ getD messages j d = getD-take waiting messages j d h in
-        let v : getD l j noLetter ≡ record { place = j; message = getD messages j d; fitted = fittings p (liveFrom p 0 orders) (getD messages j d) } =
-        letters-at p (liveFrom p 0 orders) 0 (take waiting messages) j noLetter d g ∙ rw (z, m) in
+        let v : getD l j noLetter ≡ record { place = j; message = messageAt letters j; fitted = fittings p (liveFrom p 0 orders) (messageAt letters j) } =
+        letters-at p (liveFrom p 0 orders) 0 ms j noLetter noMessage g ∙ rw (z, m .is j h) in
         let f : Letter → Sight → Sight = λ x. seen (startOffers p free o (readyOf p o) x) in
-        let e : r ≡ f (getD l j noLetter) c = y .is p (getD l j noLetter) cor q (ap (λ x. x .place) v) (ap (λ x. x .message) v) (ap (λ x. x .fitted) v) in
-        w .same p cor q ∙ (ap (λ x. folded f x c) (drop-cons l j noLetter long) ∙ (ap (folded f (drop (suc j) l)) (sym e) ∙ rw (add-one j)));
+        let e : r ≡ f (getD l j noLetter) c =
+        y .is o p (getD l j noLetter) cor u q (ap (λ x. x .place) v) (ap (λ x. x .message) v) (ap (λ x. x .fitted) v) in
+        w .same o p ms cor u q m ∙ (ap (λ x. folded f x c) (drop-cons l j noLetter long) ∙ (ap (folded f (drop (suc j) l)) (sym e) ∙ rw (add-one j)));
   }
 
-  pub starting-done : waiting ≤ j → Starts t flags orders o free n messages waiting start c
+  pub starting-done : waiting ≤ j → Starts t flags picks orders marks known free n letters waiting start c
   unfolding folded
   starting-done h = record {
-    is = λ p cor q.
-        let l = lettersFrom p (liveFrom p 0 orders) 0 (take waiting messages) in
-        let long : length l ≤ j = omega (arith, letters-long p (liveFrom p 0 orders) 0 (take waiting messages), wait-long) in
-        sym (w .same p cor q ∙ rw (drop-of-length-le l long));
+    is = λ o p ms cor u q m.
+        let l = lettersFrom p (liveFrom p 0 orders) 0 ms in
+        let long : length l ≤ j = omega (arith, letters-long p (liveFrom p 0 orders) 0 ms, m .long) in
+        sym (w .same o p ms cor u q m ∙ rw (drop-of-length-le l long));
   }
+
+-- `starts`
+pub starts-all : {t flags picks : List ℕ} {orders : List Order} {o : Order} {free n : ℕ} {letters : List ℕ} {waiting : ℕ} {known : List ℕ} {s r : Sight}
+    → Frees orders free → KnowsOrder flags o known → Starts t flags picks orders (o .marks) known free n letters waiting s r
+    → StartsOrder t flags picks orders o n letters waiting s r
+starts-all {o = o} f k w = record {
+  is = λ p ms cor u q m.
+      w .is o p ms cor (record { picked = u; marked = refl; knows = k .is p cor }) q m ∙ rw (f .is);
+}

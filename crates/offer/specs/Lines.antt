@@ -62,14 +62,10 @@ pub record Tabled (p : Plan) (t : List ℕ) (activities : ℕ) : Type 0 where
   pub many : activities ≡ size (p .body) + size (p .fault)
   pub limited : planWithin p ≡ true
 
--- What is known beside the table, of a plan and some letters.
-abbrev pub Knowing : Type 1
-Knowing = Plan → List Letter → Type 0
+-- r is what f makes of the state c at row k, for any order that this is known of
+pub record Rows {S : Type 0} (t : List ℕ) (k : ℕ) (Given : Order → Plan → List Letter → Type 0) (f : Order → Plan → List Letter → Line → S → S) (c r : S) : Type 0 where
+  pub is : (o : Order) (p : Plan) (l : List Letter) (x : Line) → Given o p l → Stands t (o .marks) k x → r ≡ f o p l x c
 
--- r is what f makes of the state c at row k
-pub record Does {S : Type 0} (t : List ℕ) (o : Order) (k : ℕ) (Given : Plan → List Letter → Type 0) (f : Plan → List Letter → Line → S → S) (c r : S) : Type 0 where
-  pub is : (p : Plan) (l : List Letter) (x : Line) → Given p l → Stands t (o .marks) k x → r ≡ f p l x c
-
--- r is what f makes of the state c at all rows, ascending
-pub record Whole {S : Type 0} (t : List ℕ) (o : Order) (activities : ℕ) (Given : Plan → List Letter → Type 0) (f : Plan → List Letter → Line → S → S) (c r : S) : Type 0 where
-  pub is : (p : Plan) (l : List Letter) → Given p l → Tabled p t activities → r ≡ folded (f p l) (linesOf p (o .marks)) c
+-- at all rows, ascending
+pub record Wholes {S : Type 0} (t : List ℕ) (activities : ℕ) (Given : Order → Plan → List Letter → Type 0) (f : Order → Plan → List Letter → Line → S → S) (c r : S) : Type 0 where
+  pub is : (o : Order) (p : Plan) (l : List Letter) → Given o p l → Tabled p t activities → r ≡ folded (f o p l) (linesOf p (o .marks)) c

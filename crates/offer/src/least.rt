@@ -1,118 +1,156 @@
 // The fewest unchecked places of the open receives that a message fits.
+use super::fitness::asked_at;
+use super::fitness::fits_at;
+use super::fitness::known_of;
 use super::fitness::unchecked_at;
-use super::search::takes_at;
-use machine::Message;
+use super::search::open_at;
 use order::Order;
 ghost use Prim.Native.Nat.{_≤_, _<_};
-ghost use lib.ListN.{take};
-ghost use mathlib.Core.Bool.{true};
-ghost use mathlib.Core.Path.{_≡_};
-ghost use Rattle.machine.specs.Limits.{messageInLimits};
-ghost use Rattle.order.specs.Lists.{every};
-ghost use Rattle.offer.specs.Lines.{Does, Whole};
-ghost use Rattle.offer.specs.Sights.{Slots, Across, Flagged, Least, Leasts, leastLine, leastLive};
+ghost use Rattle.offer.specs.Sights.{LeastLetter, LeastLetters, LeastRow, LeastRows, LeastSlot, Leasts};
 
-// The fewest after row k.
-fn least_row(
+// The fewest for the message at place j, after the receive or arm in row k.
+fn least_letter(
     table: &[u32; 11584],
-    flags: &[u8; 16],
-    order: Order,
     k: usize,
-    message: Message,
+    asked: &[u64; 4],
+    unchecked: usize,
+    letters: &[u32; 448],
+    j: usize,
     least: usize,
 ) -> usize
-    requires { ⌜ (k < 256) × (message .count ≤ 4) ⌝ }
-    ensures { λ r. ⌜ Does (now (table .entry)) order k (Flagged (now (flags .entry))) (leastLine order message) least r ⌝ }
+    requires { ⌜ (k < 256) × (j < 64) ⌝ }
+    ensures { λ r. ⌜ LeastLetter (now (table .entry)) k (now (asked .entry)) (now (letters .entry)) j unchecked least r ⌝ }
 {
-    if takes_at(table, flags, order, k, message) {
-        let u = unchecked_at(table, flags, order, k);
-        if u < least {
-            return u;
+    if fits_at(table, k, asked, letters, j) {
+        if unchecked < least {
+            return unchecked;
         }
         return least;
     }
     least
 }
 
-// The fewest after all rows of an order.
-fn least_rows(
+// For each message that waits, after the receive or arm in row k.
+fn least_letters(
     table: &[u32; 11584],
-    flags: &[u8; 16],
-    order: Order,
-    activities: usize,
-    message: Message,
-    least: usize,
-) -> usize
-    requires { ⌜ (activities ≤ 256) × (message .count ≤ 4) ⌝ }
-    ensures { λ r. ⌜ Whole (now (table .entry)) order activities (Flagged (now (flags .entry))) (leastLine order message) least r ⌝ }
+    known: &[u64; 16],
+    k: usize,
+    letters: &[u32; 448],
+    waiting: usize,
+    least: &mut [usize; 64],
+)
+    requires { ⌜ (k < 256) × (waiting ≤ 64) ⌝ }
+    ensures { λ _. ⌜ LeastLetters (now (table .entry)) (now (known .entry)) k (now (letters .entry)) waiting (now (least .entry)) (now (least .exit)) ⌝ }
 {
-    let mut c = least;
-    let mut k: usize = 0;
-    while k < activities {
-        c = least_row(table, flags, order, k, message, c);
-        k += 1;
+    let asked = asked_at(table, known, k);
+    let unchecked = unchecked_at(table, k, &asked);
+    let mut j: usize = 0;
+    while j < waiting {
+        least[j] = least_letter(table, k, &asked, unchecked, letters, j, least[j]);
+        j += 1;
     }
-    c
 }
 
-// The fewest after the order in a slot.
+// After row k: whether it is open is asked before any message is looked at.
+fn least_row(
+    table: &[u32; 11584],
+    picks: &[usize; 256],
+    marks: &[u8; 256],
+    known: &[u64; 16],
+    k: usize,
+    letters: &[u32; 448],
+    waiting: usize,
+    least: &mut [usize; 64],
+)
+    requires { ⌜ (k < 256) × (waiting ≤ 64) ⌝ }
+    ensures { λ _. ⌜ LeastRow (now (table .entry)) (now (picks .entry)) (now (marks .entry)) (now (known .entry)) k (now (letters .entry)) waiting (now (least .entry)) (now (least .exit)) ⌝ }
+{
+    if open_at(table, picks, marks, k) {
+        least_letters(table, known, k, letters, waiting, least);
+        return;
+    }
+}
+
+// After all rows of an order.
+fn least_rows(
+    table: &[u32; 11584],
+    picks: &[usize; 256],
+    marks: &[u8; 256],
+    known: &[u64; 16],
+    activities: usize,
+    letters: &[u32; 448],
+    waiting: usize,
+    least: &mut [usize; 64],
+)
+    requires { ⌜ (activities ≤ 256) × (waiting ≤ 64) ⌝ }
+    ensures { λ _. ⌜ LeastRows (now (table .entry)) (now (picks .entry)) (now (marks .entry)) (now (known .entry)) activities (now (letters .entry)) waiting (now (least .entry)) (now (least .exit)) ⌝ }
+{
+    let mut k: usize = 0;
+    while k < activities {
+        least_row(table, picks, marks, known, k, letters, waiting, least);
+        k += 1;
+    }
+}
+
+// After the order in a slot.
 fn least_slot(
     table: &[u32; 11584],
     flags: &[u8; 16],
+    picks: &[usize; 256],
     order: Order,
-    slot: usize,
     activities: usize,
-    message: Message,
-    least: usize,
-) -> usize
-    requires { ⌜ (activities ≤ 256) × (message .count ≤ 4) ⌝ }
-    ensures { λ r. ⌜ Slots (now (table .entry)) activities (Flagged (now (flags .entry))) (leastLive message) slot order least r ⌝ }
+    letters: &[u32; 448],
+    waiting: usize,
+    least: &mut [usize; 64],
+)
+    requires { ⌜ (activities ≤ 256) × (waiting ≤ 64) ⌝ }
+    ensures { λ _. ⌜ LeastSlot (now (table .entry)) (now (flags .entry)) (now (picks .entry)) order activities (now (letters .entry)) waiting (now (least .entry)) (now (least .exit)) ⌝ }
 {
     if order.root == 0 {
-        return least;
+        return;
     }
-    least_rows(table, flags, order, activities, message, least)
+    let marks = order.marks;
+    let known = known_of(flags, order);
+    least_rows(
+        table,
+        picks,
+        &marks,
+        &known,
+        activities,
+        letters,
+        waiting,
+        least,
+    )
 }
 
-// The fewest of all live orders, 5 where the message fits none.
-fn least_of(
-    table: &[u32; 11584],
-    flags: &[u8; 16],
-    orders: [Order; 16],
-    activities: usize,
-    message: Message,
-) -> usize
-    requires { ⌜ (activities ≤ 256) × (message .count ≤ 4) ⌝ }
-    ensures { λ r. ⌜ Least (now (table .entry)) (now (flags .entry)) activities orders message r ⌝ }
-{
-    let mut c: usize = 5;
-    let mut slot: usize = 0;
-    while slot < 16 {
-        let order = orders[slot];
-        c = least_slot(table, flags, order, slot, activities, message, c);
-        slot += 1;
-    }
-    c
-}
-
-// The fewest for each message that waits.
+// The fewest of all live orders for each message that waits, 5 where it fits none.
 pub(crate) fn leasts(
     table: &[u32; 11584],
     flags: &[u8; 16],
+    picks: &[usize; 256],
     orders: [Order; 16],
     activities: usize,
-    messages: [Message; 64],
+    letters: &[u32; 448],
     waiting: usize,
 ) -> [usize; 64]
-    requires { ⌜ (activities ≤ 256) × ((waiting ≤ 64) × (every messageInLimits (take waiting messages) ≡ true)) ⌝ }
-    ensures { λ r. ⌜ Leasts (now (table .entry)) (now (flags .entry)) activities orders messages waiting r ⌝ }
+    requires { ⌜ (activities ≤ 256) × (waiting ≤ 64) ⌝ }
+    ensures { λ r. ⌜ Leasts (now (table .entry)) (now (flags .entry)) (now (picks .entry)) orders activities (now (letters .entry)) waiting r ⌝ }
 {
-    let mut out = [0usize; 64];
-    let mut j: usize = 0;
-    while j < waiting {
-        let m = messages[j];
-        out[j] = least_of(table, flags, orders, activities, m);
-        j += 1;
+    let mut c = [5usize; 64];
+    let mut slot: usize = 0;
+    while slot < 16 {
+        let order = orders[slot];
+        least_slot(
+            table,
+            flags,
+            picks,
+            order,
+            activities,
+            letters,
+            waiting,
+            &mut c,
+        );
+        slot += 1;
     }
-    out
+    c
 }

@@ -2,6 +2,7 @@
 mod counting;
 mod fitness;
 mod least;
+mod letters;
 mod previews;
 mod rows;
 mod search;
@@ -9,7 +10,7 @@ mod slots;
 
 use machine::State;
 use machine::Step;
-use machine::letters;
+use machine::letters as places;
 use machine::limits;
 use order::started_order;
 use plan::Answer;
@@ -78,7 +79,7 @@ pub fn offer(state: State, choice: usize) -> Step
     let mut table = [0u32; 11584];
     let mut flags = [0u8; 16];
     let messages = state.messages;
-    let places = letters::message_places(messages);
+    let places = places::message_places(messages);
     let a = limits::planned(state, &mut table, &mut flags);
     match a {
         Answer::Refused {
@@ -114,7 +115,7 @@ pub fn offers(state: State) -> Offered
     let mut table = [0u32; 11584];
     let mut flags = [0u8; 16];
     let messages = state.messages;
-    let places = letters::message_places(messages);
+    let places = places::message_places(messages);
     let a = limits::planned(state, &mut table, &mut flags);
     match a {
         Answer::Refused {

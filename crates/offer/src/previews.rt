@@ -4,9 +4,10 @@ use super::Sight;
 use super::counting::answer;
 use super::counting::nothing_seen;
 use super::least::leasts;
-use super::slots::free_slot;
+use super::letters::letters_of;
+use super::search::picks_of;
 use super::slots::offer_slots;
-use super::slots::start_letters;
+use super::slots::starts;
 use machine::State;
 use machine::Step;
 use order::Order;
@@ -14,7 +15,48 @@ ghost use Prim.Native.Nat.{_≤_};
 ghost use mathlib.Core.Bool.{true};
 ghost use mathlib.Core.Path.{_≡_};
 ghost use Rattle.machine.specs.Limits.{inLimits};
-ghost use Rattle.offer.specs.Sights.{SeesAll, Previews, amounted, Amounts};
+ghost use Rattle.offer.specs.Sights.{SeesBy, SeesAll, Previews, amounted, Amounts};
+
+// What is seen of the whole offer of some orders and letters, where `order` is an order as it starts.
+fn sight_in(
+    table: &[u32; 11584],
+    flags: &[u8; 16],
+    picks: &[usize; 256],
+    orders: [Order; 16],
+    order: Order,
+    activities: usize,
+    letters: &[u32; 448],
+    waiting: usize,
+    choice: usize,
+) -> Sight
+    requires { ⌜ (activities ≤ 256) × (waiting ≤ 64) ⌝ }
+    ensures { λ r. ⌜ SeesBy (now (table .entry)) (now (flags .entry)) (now (picks .entry)) orders order activities (now (letters .entry)) waiting choice r ⌝ }
+{
+    let least = leasts(table, flags, picks, orders, activities, letters, waiting);
+    let none = nothing_seen(choice);
+    let part = offer_slots(
+        table,
+        flags,
+        picks,
+        orders,
+        activities,
+        letters,
+        waiting,
+        &least,
+        none,
+    );
+    starts(
+        table,
+        flags,
+        picks,
+        orders,
+        order,
+        activities,
+        letters,
+        waiting,
+        part,
+    )
+}
 
 // What is seen of the whole offer, where `order` is an order as it starts.
 fn sight_of(
@@ -30,30 +72,18 @@ fn sight_of(
 {
     let orders = state.orders;
     let messages = state.messages;
-    let waiting = state.waiting;
-    let least = leasts(table, flags, orders, activities, messages, waiting);
-    let none = nothing_seen(choice);
-    let part = offer_slots(
+    let letters = letters_of(messages);
+    let picks = picks_of(table);
+    sight_in(
         table,
         flags,
-        orders,
-        activities,
-        messages,
-        waiting,
-        least,
-        none,
-    );
-    let free = free_slot(orders);
-    start_letters(
-        table,
-        flags,
+        &picks,
         orders,
         order,
-        free,
         activities,
-        messages,
-        waiting,
-        part,
+        &letters,
+        state.waiting,
+        choice,
     )
 }
 

@@ -2,34 +2,32 @@
 use super::Sight;
 use super::counting::shown;
 use super::counting::withheld;
+use super::fitness::asked_at;
 use super::fitness::fits_at;
 use super::fitness::unchecked_at;
 use super::search::arm_open;
-use machine::Message;
-use order::Order;
 ghost use Prim.Native.Nat.{_+_, _*_, _≤_, _<_};
 ghost use lib.Dec.{eqb};
-ghost use lib.ListN.{take, getD};
-ghost use mathlib.Core.Bool.{true, false};
+ghost use lib.ListN.{getD};
+ghost use mathlib.Core.Bool.{false};
 ghost use mathlib.Core.Path.{_≡_};
-ghost use Rattle.machine.specs.Limits.{messageInLimits};
-ghost use Rattle.order.specs.Lists.{every};
-ghost use Rattle.offer.specs.Lines.{Does, Whole};
-ghost use Rattle.offer.specs.Sights.{Always, Informed, AwaitsRow, CutRow, cutLine, BoundRow, Blocks, DirectRow, ClosesRow, TakesLetter, takeLine, doingLine, offerLine};
+ghost use Rattle.offer.specs.Answering.{sixteenth};
+ghost use Rattle.offer.specs.Lines.{Rows, Wholes};
+ghost use Rattle.offer.specs.Sights.{Marked, Heeding, Serving, Opening, AwaitsRow, CutRow, cutLine, BoundRow, Blocks, DirectRow, ClosesRow, TakesLetter, takeLine, doingLine, offerLine};
 
 // Whether row k awaits its step.
-fn awaits_at(table: &[u32; 11584], order: Order, k: usize) -> bool
+fn awaits_at(table: &[u32; 11584], picks: &[usize; 256], marks: &[u8; 256], k: usize) -> bool
     requires { ⌜ k < 256 ⌝ }
-    ensures { λ r. ⌜ AwaitsRow (now (table .entry)) (order .marks) k r ⌝ }
+    ensures { λ r. ⌜ AwaitsRow (now (table .entry)) (now (picks .entry)) (now (marks .entry)) k r ⌝ }
 {
     let kind = table[k * 13];
     if kind == 12 {
-        return arm_open(table, order, k);
+        return arm_open(table, picks, marks, k);
     }
     if kind == 11 {
-        return order.marks[k] == 3;
+        return marks[k] == 3;
     }
-    order.marks[k] == 1
+    marks[k] == 1
 }
 
 // Whether row k is a raise or a leave.
@@ -45,12 +43,12 @@ fn is_cut(table: &[u32; 11584], k: usize) -> bool
 }
 
 // Whether row k is an active raise or leave, or one was before.
-fn cut_row(table: &[u32; 11584], order: Order, k: usize, before: bool) -> bool
+fn cut_row(table: &[u32; 11584], marks: &[u8; 256], k: usize, before: bool) -> bool
     requires { ⌜ k < 256 ⌝ }
-    ensures { λ r. ⌜ Does (now (table .entry)) order k Always (cutLine order) before r ⌝ }
+    ensures { λ r. ⌜ Rows (now (table .entry)) k (Marked (now (marks .entry))) cutLine before r ⌝ }
 {
-    if awaits_at(table, order, k) {
-        if is_cut(table, k) {
+    if is_cut(table, k) {
+        if marks[k] == 1 {
             return true;
         }
         return before;
@@ -59,34 +57,34 @@ fn cut_row(table: &[u32; 11584], order: Order, k: usize, before: bool) -> bool
 }
 
 // Whether an order has an active raise or leave.
-pub(crate) fn cut_rows(table: &[u32; 11584], order: Order, activities: usize) -> bool
+pub(crate) fn cut_rows(table: &[u32; 11584], marks: &[u8; 256], activities: usize) -> bool
     requires { ⌜ activities ≤ 256 ⌝ }
-    ensures { λ r. ⌜ Whole (now (table .entry)) order activities Always (cutLine order) false r ⌝ }
+    ensures { λ r. ⌜ Wholes (now (table .entry)) activities (Marked (now (marks .entry))) cutLine false r ⌝ }
 {
     let mut c = false;
     let mut k: usize = 0;
     while k < activities {
-        c = cut_row(table, order, k, c);
+        c = cut_row(table, marks, k, c);
         k += 1;
     }
     c
 }
 
 // Whether variable v is bound.
-fn bound_at(order: Order, v: u32) -> bool
-    ensures { λ r. ⌜ r ≡ eqb (getD (order .bound) v 0) 1 ⌝ }
+fn bound_at(bound: &[u8; 16], v: u32) -> bool
+    ensures { λ r. ⌜ r ≡ eqb (sixteenth (now (bound .entry)) v) 1 ⌝ }
 {
     if 16 <= v {
         return false;
     }
     let i = v as usize;
-    order.bound[i] == 1
+    bound[i] == 1
 }
 
 // Whether all variables of row k are bound.
-fn bound_row(table: &[u32; 11584], order: Order, k: usize) -> bool
+fn bound_row(table: &[u32; 11584], bound: &[u8; 16], k: usize) -> bool
     requires { ⌜ k < 256 ⌝ }
-    ensures { λ r. ⌜ BoundRow (now (table .entry)) order k r ⌝ }
+    ensures { λ r. ⌜ BoundRow (now (table .entry)) (now (bound .entry)) k r ⌝ }
 {
     let count = table[k * 13 + 3];
     if 4 < count {
@@ -95,7 +93,7 @@ fn bound_row(table: &[u32; 11584], order: Order, k: usize) -> bool
     let many = count as usize;
     let mut i: usize = 0;
     while i < many {
-        if !bound_at(order, table[k * 13 + 4 + i]) {
+        if !bound_at(bound, table[k * 13 + 4 + i]) {
             return false;
         }
         i += 1;
@@ -106,24 +104,23 @@ fn bound_row(table: &[u32; 11584], order: Order, k: usize) -> bool
 // What the message at place j adds at the receive or arm in row k.
 fn take_letter(
     table: &[u32; 11584],
-    flags: &[u8; 16],
-    order: Order,
     slot: usize,
     k: usize,
+    asked: &[u64; 4],
+    unchecked: usize,
+    letters: &[u32; 448],
     j: usize,
-    message: Message,
     least: usize,
     s: Sight,
 ) -> Sight
-    requires { ⌜ (k < 256) × (message .count ≤ 4) ⌝ }
-    ensures { λ r. ⌜ TakesLetter (now (table .entry)) (now (flags .entry)) order slot k j message least s r ⌝ }
+    requires { ⌜ (k < 256) × (j < 64) ⌝ }
+    ensures { λ r. ⌜ TakesLetter (now (table .entry)) slot k (now (asked .entry)) unchecked (now (letters .entry)) j least s r ⌝ }
 {
-    if fits_at(table, flags, order, k, message) {
-        let u = unchecked_at(table, flags, order, k);
-        if u <= least {
-            return shown(s, slot, k, j);
-        }
+    if least < unchecked {
         return s;
+    }
+    if fits_at(table, k, asked, letters, j) {
+        return shown(s, slot, k, j);
     }
     s
 }
@@ -131,23 +128,23 @@ fn take_letter(
 // What the messages add at the receive or arm in row k.
 fn take_row(
     table: &[u32; 11584],
-    flags: &[u8; 16],
-    order: Order,
+    known: &[u64; 16],
     slot: usize,
     k: usize,
-    messages: [Message; 64],
+    letters: &[u32; 448],
     waiting: usize,
-    least: [usize; 64],
+    least: &[usize; 64],
     s: Sight,
 ) -> Sight
-    requires { ⌜ (k < 256) × ((waiting ≤ 64) × (every messageInLimits (take waiting messages) ≡ true)) ⌝ }
-    ensures { λ r. ⌜ Does (now (table .entry)) order k (Informed (now (flags .entry)) messages waiting least) (takeLine slot order (getD (now (table .entry)) (k * 13 + 1) 0) (getD (now (table .entry)) (k * 13 + 2) 0)) s r ⌝ }
+    requires { ⌜ (k < 256) × (waiting ≤ 64) ⌝ }
+    ensures { λ r. ⌜ Rows (now (table .entry)) k (Heeding (now (known .entry)) (now (letters .entry)) waiting (now (least .entry))) (takeLine slot (getD (now (table .entry)) (k * 13 + 1) 0) (getD (now (table .entry)) (k * 13 + 2) 0)) s r ⌝ }
 {
+    let asked = asked_at(table, known, k);
+    let unchecked = unchecked_at(table, k, &asked);
     let mut c = s;
     let mut j: usize = 0;
     while j < waiting {
-        let m = messages[j];
-        c = take_letter(table, flags, order, slot, k, j, m, least[j], c);
+        c = take_letter(table, slot, k, &asked, unchecked, letters, j, least[j], c);
         j += 1;
     }
     c
@@ -186,16 +183,16 @@ fn direct_in(table: &[u32; 11584], n: usize, number: u8) -> bool
 }
 
 // Whether the close in row k is held: all 32 places are taken, and it forgets nothing.
-fn close_held(table: &[u32; 11584], order: Order, k: usize) -> bool
+fn close_held(table: &[u32; 11584], remembered: &[u8; 32], kept: usize, k: usize) -> bool
     requires { ⌜ k < 256 ⌝ }
-    ensures { λ r. ⌜ ClosesRow (now (table .entry)) order k r ⌝ }
+    ensures { λ r. ⌜ ClosesRow (now (table .entry)) (now (remembered .entry)) kept k r ⌝ }
 {
-    if order.kept < 32 {
+    if kept < 32 {
         return false;
     }
     let mut i: usize = 0;
     while i < 32 {
-        if direct_in(table, k + 1, order.remembered[i]) {
+        if direct_in(table, k + 1, remembered[i]) {
             return false;
         }
         i += 1;
@@ -206,36 +203,38 @@ fn close_held(table: &[u32; 11584], order: Order, k: usize) -> bool
 // What row k has on offer, whether or not it awaits its step.
 fn doing_row(
     table: &[u32; 11584],
-    flags: &[u8; 16],
-    order: Order,
+    known: &[u64; 16],
+    bound: &[u8; 16],
+    remembered: &[u8; 32],
+    kept: usize,
     slot: usize,
     k: usize,
-    messages: [Message; 64],
+    letters: &[u32; 448],
     waiting: usize,
-    least: [usize; 64],
+    least: &[usize; 64],
     s: Sight,
 ) -> Sight
-    requires { ⌜ (k < 256) × ((waiting ≤ 64) × (every messageInLimits (take waiting messages) ≡ true)) ⌝ }
-    ensures { λ r. ⌜ Does (now (table .entry)) order k (Informed (now (flags .entry)) messages waiting least) (doingLine waiting slot order) s r ⌝ }
+    requires { ⌜ (k < 256) × (waiting ≤ 64) ⌝ }
+    ensures { λ r. ⌜ Rows (now (table .entry)) k (Serving (now (known .entry)) (now (bound .entry)) (now (remembered .entry)) kept (now (letters .entry)) waiting (now (least .entry))) (doingLine waiting slot) s r ⌝ }
 {
     let kind = table[k * 13];
     if kind == 1 {
         if waiting < 64 {
             return shown(s, slot, k, 0);
         }
-        if bound_row(table, order, k) {
+        if bound_row(table, bound, k) {
             return withheld(s);
         }
         return shown(s, slot, k, 0);
     }
     if kind == 2 {
-        return take_row(table, flags, order, slot, k, messages, waiting, least, s);
+        return take_row(table, known, slot, k, letters, waiting, least, s);
     }
     if kind == 12 {
-        return take_row(table, flags, order, slot, k, messages, waiting, least, s);
+        return take_row(table, known, slot, k, letters, waiting, least, s);
     }
     if kind == 11 {
-        if close_held(table, order, k) {
+        if close_held(table, remembered, kept, k) {
             return withheld(s);
         }
         return shown(s, slot, k, 0);
@@ -252,27 +251,55 @@ fn doing_row(
 // What row k has on offer.
 fn offer_row(
     table: &[u32; 11584],
-    flags: &[u8; 16],
-    order: Order,
+    picks: &[usize; 256],
+    marks: &[u8; 256],
+    known: &[u64; 16],
+    bound: &[u8; 16],
+    remembered: &[u8; 32],
+    kept: usize,
     slot: usize,
     k: usize,
     cutting: bool,
-    messages: [Message; 64],
+    letters: &[u32; 448],
     waiting: usize,
-    least: [usize; 64],
+    least: &[usize; 64],
     s: Sight,
 ) -> Sight
-    requires { ⌜ (k < 256) × ((waiting ≤ 64) × (every messageInLimits (take waiting messages) ≡ true)) ⌝ }
-    ensures { λ r. ⌜ Does (now (table .entry)) order k (Informed (now (flags .entry)) messages waiting least) (offerLine cutting waiting slot order) s r ⌝ }
+    requires { ⌜ (k < 256) × (waiting ≤ 64) ⌝ }
+    ensures { λ r. ⌜ Rows (now (table .entry)) k (Opening (now (table .entry)) (now (picks .entry)) (now (marks .entry)) (now (known .entry)) (now (bound .entry)) (now (remembered .entry)) kept (now (letters .entry)) waiting (now (least .entry))) (offerLine cutting waiting slot) s r ⌝ }
 {
-    if awaits_at(table, order, k) {
+    if awaits_at(table, picks, marks, k) {
         if cutting {
             if is_cut(table, k) {
-                return doing_row(table, flags, order, slot, k, messages, waiting, least, s);
+                return doing_row(
+                    table,
+                    known,
+                    bound,
+                    remembered,
+                    kept,
+                    slot,
+                    k,
+                    letters,
+                    waiting,
+                    least,
+                    s,
+                );
             }
             return s;
         }
-        return doing_row(table, flags, order, slot, k, messages, waiting, least, s);
+        return doing_row(
+            table,
+            known,
+            bound,
+            remembered,
+            kept,
+            slot,
+            k,
+            letters,
+            waiting,
+            least,
+            s,
+        );
     }
     s
 }
@@ -280,30 +307,38 @@ fn offer_row(
 // What all rows of an order have on offer.
 pub(crate) fn offer_rows(
     table: &[u32; 11584],
-    flags: &[u8; 16],
-    order: Order,
+    picks: &[usize; 256],
+    marks: &[u8; 256],
+    known: &[u64; 16],
+    bound: &[u8; 16],
+    remembered: &[u8; 32],
+    kept: usize,
     slot: usize,
     activities: usize,
     cutting: bool,
-    messages: [Message; 64],
+    letters: &[u32; 448],
     waiting: usize,
-    least: [usize; 64],
+    least: &[usize; 64],
     s: Sight,
 ) -> Sight
-    requires { ⌜ (activities ≤ 256) × ((waiting ≤ 64) × (every messageInLimits (take waiting messages) ≡ true)) ⌝ }
-    ensures { λ r. ⌜ Whole (now (table .entry)) order activities (Informed (now (flags .entry)) messages waiting least) (offerLine cutting waiting slot order) s r ⌝ }
+    requires { ⌜ (activities ≤ 256) × (waiting ≤ 64) ⌝ }
+    ensures { λ r. ⌜ Wholes (now (table .entry)) activities (Opening (now (table .entry)) (now (picks .entry)) (now (marks .entry)) (now (known .entry)) (now (bound .entry)) (now (remembered .entry)) kept (now (letters .entry)) waiting (now (least .entry))) (offerLine cutting waiting slot) s r ⌝ }
 {
     let mut c = s;
     let mut k: usize = 0;
     while k < activities {
         c = offer_row(
             table,
-            flags,
-            order,
+            picks,
+            marks,
+            known,
+            bound,
+            remembered,
+            kept,
             slot,
             k,
             cutting,
-            messages,
+            letters,
             waiting,
             least,
             c,

@@ -3,48 +3,53 @@ use super::Receiver;
 use super::Sight;
 use super::counting::shown;
 use super::counting::withheld;
+use super::fitness::known_of;
 use super::rows::cut_rows;
 use super::rows::offer_rows;
 use super::search::first_receiver;
 use super::search::takes_at;
-use machine::Message;
 use order::Order;
-ghost use Prim.Native.Nat.{_+_, _*_, _≤_, _<_};
-ghost use lib.ListN.{take, getD};
-ghost use mathlib.Core.Bool.{true, false};
-ghost use mathlib.Core.Path.{_≡_};
-ghost use Rattle.machine.specs.Limits.{messageInLimits};
-ghost use Rattle.order.specs.Lists.{every};
-ghost use Rattle.offer.specs.Lines.{Does, Whole};
-ghost use Rattle.offer.specs.Sights.{Frees, IsLive, Slots, Across, Flagged, Informed, offerLive, startLine, StartsLetter, Starts};
+ghost use Prim.Native.Nat.{_≤_, _<_};
+ghost use Rattle.offer.specs.Answering.{messageAt};
+ghost use Rattle.offer.specs.Lines.{Rows, Wholes};
+ghost use Rattle.offer.specs.Sights.{Frees, IsLive, Slots, Across, Informed, offerLive, Lent, startLine, Could, StartsLetter, Starts, StartsOrder};
 
 // What the order in a slot has on offer.
 fn offer_slot(
     table: &[u32; 11584],
     flags: &[u8; 16],
+    picks: &[usize; 256],
     order: Order,
     slot: usize,
     activities: usize,
-    messages: [Message; 64],
+    letters: &[u32; 448],
     waiting: usize,
-    least: [usize; 64],
+    least: &[usize; 64],
     s: Sight,
 ) -> Sight
-    requires { ⌜ (activities ≤ 256) × ((waiting ≤ 64) × (every messageInLimits (take waiting messages) ≡ true)) ⌝ }
-    ensures { λ r. ⌜ Slots (now (table .entry)) activities (Informed (now (flags .entry)) messages waiting least) (offerLive waiting) slot order s r ⌝ }
+    requires { ⌜ (activities ≤ 256) × (waiting ≤ 64) ⌝ }
+    ensures { λ r. ⌜ Slots (now (table .entry)) activities (Informed (now (table .entry)) (now (picks .entry)) (now (flags .entry)) (now (letters .entry)) waiting (now (least .entry))) (offerLive waiting) slot order s r ⌝ }
 {
     if order.root == 0 {
         return s;
     }
-    let cutting = cut_rows(table, order, activities);
+    let marks = order.marks;
+    let bound = order.bound;
+    let remembered = order.remembered;
+    let known = known_of(flags, order);
+    let cutting = cut_rows(table, &marks, activities);
     offer_rows(
         table,
-        flags,
-        order,
+        picks,
+        &marks,
+        &known,
+        &bound,
+        &remembered,
+        order.kept,
         slot,
         activities,
         cutting,
-        messages,
+        letters,
         waiting,
         least,
         s,
@@ -55,15 +60,16 @@ fn offer_slot(
 pub(crate) fn offer_slots(
     table: &[u32; 11584],
     flags: &[u8; 16],
+    picks: &[usize; 256],
     orders: [Order; 16],
     activities: usize,
-    messages: [Message; 64],
+    letters: &[u32; 448],
     waiting: usize,
-    least: [usize; 64],
+    least: &[usize; 64],
     s: Sight,
 ) -> Sight
-    requires { ⌜ (activities ≤ 256) × ((waiting ≤ 64) × (every messageInLimits (take waiting messages) ≡ true)) ⌝ }
-    ensures { λ r. ⌜ Across (now (table .entry)) activities (Informed (now (flags .entry)) messages waiting least) (offerLive waiting) orders s r ⌝ }
+    requires { ⌜ (activities ≤ 256) × (waiting ≤ 64) ⌝ }
+    ensures { λ r. ⌜ Across (now (table .entry)) activities (Informed (now (table .entry)) (now (picks .entry)) (now (flags .entry)) (now (letters .entry)) waiting (now (least .entry))) (offerLive waiting) orders s r ⌝ }
 {
     let mut c = s;
     let mut slot: usize = 0;
@@ -72,10 +78,11 @@ pub(crate) fn offer_slots(
         c = offer_slot(
             table,
             flags,
+            picks,
             order,
             slot,
             activities,
-            messages,
+            letters,
             waiting,
             least,
             c,
@@ -93,7 +100,7 @@ fn is_live(order: Order) -> bool
 }
 
 // The lowest free slot, 16 where there is none.
-pub(crate) fn free_slot(orders: [Order; 16]) -> usize
+fn free_slot(orders: [Order; 16]) -> usize
     ensures { λ r. ⌜ Frees orders r ⌝ }
 {
     let mut i: usize = 0;
@@ -111,18 +118,19 @@ pub(crate) fn free_slot(orders: [Order; 16]) -> usize
 // What a message adds at row k of an order as it starts.
 fn start_row(
     table: &[u32; 11584],
-    flags: &[u8; 16],
-    order: Order,
+    picks: &[usize; 256],
+    marks: &[u8; 256],
+    known: &[u64; 16],
     free: usize,
     k: usize,
+    letters: &[u32; 448],
     j: usize,
-    message: Message,
     s: Sight,
 ) -> Sight
-    requires { ⌜ (k < 256) × (message .count ≤ 4) ⌝ }
-    ensures { λ r. ⌜ Does (now (table .entry)) order k (Flagged (now (flags .entry))) (startLine free order j message) s r ⌝ }
+    requires { ⌜ (k < 256) × (j < 64) ⌝ }
+    ensures { λ r. ⌜ Rows (now (table .entry)) k (Lent (now (table .entry)) (now (picks .entry)) (now (marks .entry)) (now (known .entry))) (startLine free j (messageAt (now (letters .entry)) j)) s r ⌝ }
 {
-    if takes_at(table, flags, order, k, message) {
+    if takes_at(table, picks, marks, known, k, letters, j) {
         if free < 16 {
             return shown(s, free, k, j);
         }
@@ -134,72 +142,158 @@ fn start_row(
 // What a message adds at all rows of an order as it starts.
 fn start_rows(
     table: &[u32; 11584],
-    flags: &[u8; 16],
-    order: Order,
+    picks: &[usize; 256],
+    marks: &[u8; 256],
+    known: &[u64; 16],
     free: usize,
     activities: usize,
+    letters: &[u32; 448],
     j: usize,
-    message: Message,
     s: Sight,
 ) -> Sight
-    requires { ⌜ (activities ≤ 256) × (message .count ≤ 4) ⌝ }
-    ensures { λ r. ⌜ Whole (now (table .entry)) order activities (Flagged (now (flags .entry))) (startLine free order j message) s r ⌝ }
+    requires { ⌜ (activities ≤ 256) × (j < 64) ⌝ }
+    ensures { λ r. ⌜ Wholes (now (table .entry)) activities (Lent (now (table .entry)) (now (picks .entry)) (now (marks .entry)) (now (known .entry))) (startLine free j (messageAt (now (letters .entry)) j)) s r ⌝ }
 {
     let mut c = s;
     let mut k: usize = 0;
     while k < activities {
-        c = start_row(table, flags, order, free, k, j, message, c);
+        c = start_row(table, picks, marks, known, free, k, letters, j, c);
         k += 1;
     }
     c
 }
 
-// What the message at place j may start.
+// Whether a message would be taken by an order as it starts.
+fn could_start(
+    table: &[u32; 11584],
+    picks: &[usize; 256],
+    marks: &[u8; 256],
+    known: &[u64; 16],
+    activities: usize,
+    letters: &[u32; 448],
+    j: usize,
+) -> bool
+    requires { ⌜ (activities ≤ 256) × (j < 64) ⌝ }
+    ensures { λ r. ⌜ Could (now (table .entry)) (now (picks .entry)) (now (marks .entry)) (now (known .entry)) activities (now (letters .entry)) j r ⌝ }
+{
+    let mut k: usize = 0;
+    while k < activities {
+        if takes_at(table, picks, marks, known, k, letters, j) {
+            return true;
+        }
+        k += 1;
+    }
+    false
+}
+
+// What the message at place j may start: whether it fits an open receive is asked only where an order as it starts would take it.
 fn start_letter(
     table: &[u32; 11584],
     flags: &[u8; 16],
+    picks: &[usize; 256],
     orders: [Order; 16],
-    order: Order,
+    marks: &[u8; 256],
+    known: &[u64; 16],
     free: usize,
     activities: usize,
+    letters: &[u32; 448],
     j: usize,
-    message: Message,
     s: Sight,
 ) -> Sight
-    requires { ⌜ (activities ≤ 256) × (message .count ≤ 4) ⌝ }
-    ensures { λ r. ⌜ StartsLetter (now (table .entry)) (now (flags .entry)) orders order free activities j message s r ⌝ }
+    requires { ⌜ (activities ≤ 256) × (j < 64) ⌝ }
+    ensures { λ r. ⌜ StartsLetter (now (table .entry)) (now (flags .entry)) (now (picks .entry)) orders (now (marks .entry)) (now (known .entry)) free activities (now (letters .entry)) j s r ⌝ }
 {
-    let found = first_receiver(table, flags, orders, activities, message);
-    match found {
-        Receiver::At {
-            slot: _,
-            activity: _,
-        } => s,
-        Receiver::Nothing => start_rows(table, flags, order, free, activities, j, message, s),
+    if could_start(table, picks, marks, known, activities, letters, j) {
+        let found = first_receiver(table, flags, picks, orders, activities, letters, j);
+        match found {
+            Receiver::At {
+                slot: _,
+                activity: _,
+            } => s,
+            Receiver::Nothing => start_rows(
+                table,
+                picks,
+                marks,
+                known,
+                free,
+                activities,
+                letters,
+                j,
+                s,
+            ),
+        }
+    } else {
+        s
     }
 }
 
 // What the messages that wait may start.
-pub(crate) fn start_letters(
+fn start_letters(
     table: &[u32; 11584],
     flags: &[u8; 16],
+    picks: &[usize; 256],
     orders: [Order; 16],
-    order: Order,
+    marks: &[u8; 256],
+    known: &[u64; 16],
     free: usize,
     activities: usize,
-    messages: [Message; 64],
+    letters: &[u32; 448],
     waiting: usize,
     s: Sight,
 ) -> Sight
-    requires { ⌜ (activities ≤ 256) × ((waiting ≤ 64) × (every messageInLimits (take waiting messages) ≡ true)) ⌝ }
-    ensures { λ r. ⌜ Starts (now (table .entry)) (now (flags .entry)) orders order free activities messages waiting s r ⌝ }
+    requires { ⌜ (activities ≤ 256) × (waiting ≤ 64) ⌝ }
+    ensures { λ r. ⌜ Starts (now (table .entry)) (now (flags .entry)) (now (picks .entry)) orders (now (marks .entry)) (now (known .entry)) free activities (now (letters .entry)) waiting s r ⌝ }
 {
     let mut c = s;
     let mut j: usize = 0;
     while j < waiting {
-        let m = messages[j];
-        c = start_letter(table, flags, orders, order, free, activities, j, m, c);
+        c = start_letter(
+            table,
+            flags,
+            picks,
+            orders,
+            marks,
+            known,
+            free,
+            activities,
+            letters,
+            j,
+            c,
+        );
         j += 1;
     }
     c
+}
+
+// What may start in the lowest free slot, where `order` is an order as it starts.
+pub(crate) fn starts(
+    table: &[u32; 11584],
+    flags: &[u8; 16],
+    picks: &[usize; 256],
+    orders: [Order; 16],
+    order: Order,
+    activities: usize,
+    letters: &[u32; 448],
+    waiting: usize,
+    s: Sight,
+) -> Sight
+    requires { ⌜ (activities ≤ 256) × (waiting ≤ 64) ⌝ }
+    ensures { λ r. ⌜ StartsOrder (now (table .entry)) (now (flags .entry)) (now (picks .entry)) orders order activities (now (letters .entry)) waiting s r ⌝ }
+{
+    let free = free_slot(orders);
+    let marks = order.marks;
+    let known = known_of(flags, order);
+    start_letters(
+        table,
+        flags,
+        picks,
+        orders,
+        &marks,
+        &known,
+        free,
+        activities,
+        letters,
+        waiting,
+        s,
+    )
 }

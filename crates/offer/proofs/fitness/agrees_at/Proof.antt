@@ -8,10 +8,10 @@ use Rattle.offer.proofs.fitness.agrees_at.Tie as tie
 ruleset cases = (agreeing-starts, agreeing-done, agreeing-again, agreeing-stops)
 
 abbrev Inv-loop : tie.InvT-loop
-Inv-loop table flags order k count values i₀ i = Agreeing table flags order k count values i
+Inv-loop asked letters j count i₀ i = Agreeing asked letters j count i
 
 abbrev μ-loop : tie.MeasureT-loop
-μ-loop table flags order k count values i₀ i = count - i
+μ-loop asked letters j count i₀ i = count - i
 
 pub agrees-at-spec : {M : Type 1} → statement M
 agrees-at-spec =
@@ -20,17 +20,17 @@ agrees-at-spec =
     (λ c. search cases)
     -- mul-allows
     (λ c. search needs)
+    -- element-copy-out-allows
+    (λ c. search needs)
+    -- mul-allows-2
+    (λ c. search needs)
     -- add-allows
     (λ c. search needs)
     -- add-allows-2
     (λ c. search needs)
-    -- mul-allows-2
-    (λ c. search needs)
-    -- element-copy-out-allows
-    (λ c. search needs)
     -- mul-allows-3
     (λ c. search needs)
-    -- array-read-allows
+    -- element-copy-out-allows-2
     (λ c. search needs)
     -- allows-requires
     (λ c κs. search needs)

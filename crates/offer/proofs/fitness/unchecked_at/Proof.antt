@@ -1,8 +1,9 @@
 -- `offer::fitness::unchecked_at` meets its contract. Assumes nothing.
 use borrow.Author.Needs.{needs}
-use Prim.Native.Nat.{_+_, _*_, _-_}
+use Prim.Native.Nat.{_-_}
+use Prim.Native.Nat.{_+_, _*_}
 use lib.ListN.{getD}
-use Rattle.offer.proofs.FitReturns.{Counting, unchecked-many, counting-starts, counting-done, counting-again, counting-fits}
+use Rattle.offer.proofs.FitReturns.{Counting, counting-fits, unchecked-many, counting-starts, counting-done, counting-again}
 use Rattle.offer.proofs.fitness.unchecked_at.Statement.{statement}
 use Rattle.offer.proofs.fitness.unchecked_at.Tie as tie
 
@@ -11,10 +12,10 @@ ruleset cases = (unchecked-many, counting-starts, counting-done, counting-again)
 ruleset room = (counting-fits)
 
 abbrev Inv-loop : tie.InvT-loop
-Inv-loop table flags order k count many n₀ i₀ n i = Counting table flags order k (getD table (k * 13 + 3) 0) n i
+Inv-loop table k asked count many n₀ i₀ n i = Counting table k asked (getD table (k * 13 + 3) 0) n i
 
 abbrev μ-loop : tie.MeasureT-loop
-μ-loop table flags order k count many n₀ i₀ n i = many - i
+μ-loop table k asked count many n₀ i₀ n i = many - i
 
 pub unchecked-at-spec : {M : Type 1} → statement M
 unchecked-at-spec =
@@ -34,12 +35,6 @@ unchecked-at-spec =
     -- loop-holds
     (λ c. search cases)
     -- mul-unchecked-place
-    (λ c. search needs)
-    -- add-unchecked-place
-    (λ c. search needs)
-    -- add-unchecked-place-2
-    (λ c. search needs)
-    -- mul-unchecked-place-2
     (λ c. search needs)
     -- element-copy-out-unchecked-place
     (λ c. search needs)

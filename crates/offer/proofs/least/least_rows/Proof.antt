@@ -1,18 +1,17 @@
 -- `offer::least::least_rows` meets its contract. Assumes nothing.
 use borrow.Author.Needs.{needs}
 use Prim.Native.Nat.{_-_}
-use Rattle.offer.specs.Sights.{Flagged, leastLine}
-use Rattle.offer.proofs.Lines.{Rowing, rowing-starts, rowing-again, rowing-done}
+use Rattle.offer.proofs.Fewest.{Leasting, leasting-starts, leasting-again, leasting-done}
 use Rattle.offer.proofs.least.least_rows.Statement.{statement}
 use Rattle.offer.proofs.least.least_rows.Tie as tie
 
-ruleset cases = (rowing-starts, rowing-again, rowing-done)
+ruleset cases = (leasting-starts, leasting-again, leasting-done)
 
 abbrev Inv-loop : tie.InvT-loop
-Inv-loop table flags order activities message least c₀ k₀ c k = Rowing table order activities (Flagged flags) (leastLine order message) least k c
+Inv-loop table picks marks known activities letters waiting least₀ k₀ least k = Leasting table picks marks known activities letters waiting least₀ k least
 
 abbrev μ-loop : tie.MeasureT-loop
-μ-loop table flags order activities message least c₀ k₀ c k = activities - k
+μ-loop table picks marks known activities letters waiting least₀ k₀ least k = activities - k
 
 pub least-rows-spec : {M : Type 1} → statement M
 least-rows-spec =

@@ -1,15 +1,17 @@
 -- `offer::rows::bound_at` meets its contract. Assumes nothing.
 use borrow.Author.Needs.{needs}
-use Rattle.offer.proofs.Rowed.{bound-beyond}
+use Rattle.offer.proofs.Rowed.{bound-beyond, bound-here}
 use Rattle.offer.proofs.rows.bound_at.Statement.{statement}
 use Rattle.offer.proofs.rows.bound_at.Tie as tie
+
+ruleset cases = (bound-beyond, bound-here)
 
 pub bound-at-spec : {M : Type 1} → statement M
 bound-at-spec =
     tie.close (tie.spec
     -- returns
-    (λ c. search (bound-beyond, needs))
+    (λ c. search cases)
     -- element-copy-out-result
     (λ c. search needs)
     -- returns-2
-    (λ c. search needs))
+    (λ c. search cases))

@@ -8,10 +8,10 @@ use Rattle.offer.proofs.rows.bound_row.Tie as tie
 ruleset cases = (bound-many, binding-starts, binding-done, binding-again, binding-stops)
 
 abbrev Inv-loop : tie.InvT-loop
-Inv-loop table order k count many i₀ i = Binding table order k i
+Inv-loop table bound k count many i₀ i = Binding table bound k i
 
 abbrev μ-loop : tie.MeasureT-loop
-μ-loop table order k count many i₀ i = many - i
+μ-loop table bound k count many i₀ i = many - i
 
 pub bound-row-spec : {M : Type 1} → statement M
 bound-row-spec =

@@ -1,17 +1,17 @@
 -- `offer::rows::close_held` meets its contract. Assumes nothing.
 use borrow.Author.Needs.{needs}
 use Prim.Native.Nat.{_-_}
-use Rattle.offer.proofs.Closes.{Forgets, forgets-starts, close-room, forgets-done, forgets-one, forgets-again}
+use Rattle.offer.proofs.Closes.{Forgets, close-room, forgets-starts, forgets-done, forgets-one, forgets-again}
 use Rattle.offer.proofs.rows.close_held.Statement.{statement}
 use Rattle.offer.proofs.rows.close_held.Tie as tie
 
-ruleset cases = (close-room, forgets-done, forgets-one, forgets-again)
+ruleset cases = (close-room, forgets-starts, forgets-done, forgets-one, forgets-again)
 
 abbrev Inv-loop : tie.InvT-loop
-Inv-loop table k order i₀ i = Forgets table order k i
+Inv-loop table remembered kept k i₀ i = Forgets table remembered kept k i
 
 abbrev μ-loop : tie.MeasureT-loop
-μ-loop table k order i₀ i = 32 - i
+μ-loop table remembered kept k i₀ i = 32 - i
 
 pub close-held-spec : {M : Type 1} → statement M
 close-held-spec =
@@ -19,7 +19,7 @@ close-held-spec =
     -- returns
     (λ c. search cases)
     -- loop-holds
-    (λ c. search (forgets-starts, needs))
+    (λ c. search cases)
     -- add-direct-in
     (λ c. search needs)
     -- element-copy-out-direct-in

@@ -12,6 +12,8 @@ offer-slot-spec =
     tie.close (tie.spec
     -- returns
     (λ c. search cases)
+    -- known-of-requires
+    (λ c κs. search needs)
     -- cut-rows-requires
     (λ c κs. search needs)
     -- offer-rows-requires

@@ -9,10 +9,10 @@ use Rattle.offer.proofs.slots.offer_slots.Tie as tie
 ruleset cases = (crossing-again, crossing-done)
 
 abbrev Inv-loop : tie.InvT-loop
-Inv-loop table flags activities messages waiting least orders c₀ slot₀ c slot = Crossing table activities (Informed flags messages waiting least) (offerLive waiting) orders c₀ slot c
+Inv-loop table flags picks activities letters waiting least orders c₀ slot₀ c slot = Crossing table activities (Informed table picks flags letters waiting least) (offerLive waiting) orders c₀ slot c
 
 abbrev μ-loop : tie.MeasureT-loop
-μ-loop table flags activities messages waiting least orders c₀ slot₀ c slot = 16 - slot
+μ-loop table flags picks activities letters waiting least orders c₀ slot₀ c slot = 16 - slot
 
 pub offer-slots-spec : {M : Type 1} → statement M
 offer-slots-spec =

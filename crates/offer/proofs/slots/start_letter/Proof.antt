@@ -1,14 +1,16 @@
 -- `offer::slots::start_letter` meets its contract. Assumes nothing.
 use borrow.Author.Needs.{needs}
-use Rattle.offer.proofs.Starting.{start-not, start-may}
+use Rattle.offer.proofs.Starting.{start-unlike, start-not, start-may}
 use Rattle.offer.proofs.slots.start_letter.Statement.{statement}
 use Rattle.offer.proofs.slots.start_letter.Tie as tie
 
-ruleset cases = (start-not, start-may)
+ruleset cases = (start-unlike, start-not, start-may)
 
 pub start-letter-spec : {M : Type 1} → statement M
 start-letter-spec =
     tie.close (tie.spec
+    -- could-start-requires
+    (λ c κs. search needs)
     -- first-receiver-requires
     (λ c κs. search needs)
     -- enum-told
@@ -20,4 +22,6 @@ start-letter-spec =
     -- returns
     (λ c. search cases)
     -- returns-2
+    (λ c. search cases)
+    -- returns-3
     (λ c. search cases))

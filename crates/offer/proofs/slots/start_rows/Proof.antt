@@ -1,7 +1,8 @@
 -- `offer::slots::start_rows` meets its contract. Assumes nothing.
 use borrow.Author.Needs.{needs}
 use Prim.Native.Nat.{_-_}
-use Rattle.offer.specs.Sights.{Flagged, startLine}
+use Rattle.offer.specs.Answering.{messageAt}
+use Rattle.offer.specs.Sights.{Lent, startLine}
 use Rattle.offer.proofs.Lines.{Rowing, rowing-starts, rowing-again, rowing-done}
 use Rattle.offer.proofs.slots.start_rows.Statement.{statement}
 use Rattle.offer.proofs.slots.start_rows.Tie as tie
@@ -9,10 +10,10 @@ use Rattle.offer.proofs.slots.start_rows.Tie as tie
 ruleset cases = (rowing-starts, rowing-again, rowing-done)
 
 abbrev Inv-loop : tie.InvT-loop
-Inv-loop table flags order free activities j message c₀ k₀ c k = Rowing table order activities (Flagged flags) (startLine free order j message) c₀ k c
+Inv-loop table picks marks known free activities letters j c₀ k₀ c k = Rowing table activities (Lent table picks marks known) (startLine free j (messageAt letters j)) c₀ k c
 
 abbrev μ-loop : tie.MeasureT-loop
-μ-loop table flags order free activities j message c₀ k₀ c k = activities - k
+μ-loop table picks marks known free activities letters j c₀ k₀ c k = activities - k
 
 pub start-rows-spec : {M : Type 1} → statement M
 start-rows-spec =

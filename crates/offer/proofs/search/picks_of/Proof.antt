@@ -1,0 +1,36 @@
+-- `offer::search::picks_of` meets its contract. Assumes nothing.
+use borrow.Author.Needs.{needs}
+use Prim.Native.Nat.{_-_}
+use Rattle.offer.specs.Answering.{PicksRow}
+use Rattle.offer.proofs.Filled.{Filling, filling-starts, filling-again}
+use Rattle.offer.proofs.SearchReturns.{picking-done}
+use Rattle.offer.proofs.search.picks_of.Statement.{statement}
+use Rattle.offer.proofs.search.picks_of.Tie as tie
+
+ruleset cases = (filling-again, picking-done)
+
+abbrev Inv-loop : tie.InvT-loop
+Inv-loop table out₀ k₀ out k = Filling (PicksRow table) 256 out k
+
+abbrev μ-loop : tie.MeasureT-loop
+μ-loop table out₀ k₀ out k = 256 - k
+
+pub picks-of-spec : {M : Type 1} → statement M
+picks-of-spec =
+    tie.close (tie.spec Inv-loop μ-loop
+    -- loop-holds
+    (λ c. filling-starts _ _ _ (search needs))
+    -- pick-around-requires
+    (λ c κs. search needs)
+    -- mul-out
+    (λ c. search needs)
+    -- array-write-out
+    (λ c. search needs)
+    -- add-k
+    (λ c. search needs)
+    -- loop-less
+    (λ c. search needs)
+    -- loop-again
+    (λ c. search cases)
+    -- returns
+    (λ c. search cases))
