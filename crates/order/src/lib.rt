@@ -90,7 +90,11 @@ pub enum Found {
     Nothing,
 }
 
+// The calls below answer what the definitions say of the plan that the table spells. On a table that spells no plan they are safe and end, and
+// nothing more is said of their answers (docs/DECISIONS.md).
+
 // Step t of an order: how the order ended with it, if it did, and the order after it. `activities` is how many activities and arms the plan has.
+// Nothing is said of a close that has no room: it is held, and so not taken.
 pub fn step_order(table: &[u32; 11584], activities: usize, order: Order, t: usize) -> Next
     ensures { λ r. ⌜ StepsOrder (now (table .entry)) activities t order r ⌝ }
 {

@@ -10,6 +10,7 @@ use super::marks::begun_in;
 use super::marks::cleared;
 use super::marks::is_over;
 use super::marks::marked;
+use super::marks::runs;
 use super::marks::with_marks;
 use super::memory::forgetting;
 use super::memory::pushed;
@@ -24,16 +25,6 @@ ghost use Prim.Native.Nat.{_<_};
 ghost use mathlib.Core.Path.{_≡_};
 ghost use Rattle.order.specs.State.{marked as markedOf};
 ghost use Rattle.order.specs.Answering.{runsOf, finishesOf, raisesOf, leavesOf, Bound, AllBound, Binds, Enters, Repeats, StepOf, Closes, StepsAt, WorthAt};
-
-// The order runs on.
-pub(crate) fn runs(order: Order) -> Went
-    ensures { λ r. ⌜ r ≡ runsOf order ⌝ }
-{
-    Went {
-        way: Way::Running,
-        order,
-    }
-}
 
 // Activity k is over.
 pub(crate) fn finishes(k: usize, order: Order) -> Went
