@@ -30,6 +30,9 @@ pub mod Heeding
 pub mod Ending
 pub mod Awaiting
 pub mod Going
+pub mod Truly
+pub mod Lasting
+pub mod BegunTold
 pub mod Bought
 pub mod AllTold
 pub mod Program

@@ -75,7 +75,7 @@ listed odd l a t = absurd t
 
 module _ (p : Plan) (bytes : List ℕ) (next i : ℕ) (accepted : readPlan bytes ≡ found p next) (h : Promised p) where
   -- after any calls the slot is as it should be
-  sanely : (calls : List Call) (s : State) (t : Tally) (past : List Event) → Sane p bytes next i accepted h s past
+  pub sanely : (calls : List Call) (s : State) (t : Tally) (past : List Event) → Sane p bytes next i accepted h s past
       → Sane p bytes next i accepted h (stateAfter calls s t) (onto (history calls i s t) past)
   unfolding history stateAfter
   sanely [] s t past g = g

@@ -2,6 +2,7 @@ pub mod History
 pub mod Demand3
 pub mod Ties
 pub mod Orderly
+pub mod Begun
 pub mod Buyer
 pub mod UndoneRight
 pub mod Compiled

@@ -1,0 +1,205 @@
+-- What the definitions log as begun is marked after the step, where it lasts. Assumes nothing.
+use Prim.Native.Nat.{ℕ, zero, suc, _+_, _≤_, _<_}
+use native.Mathlib.Omega.{arith}
+use mathlib.Core.Path.{_≡_, refl, sym, ap, subst, _∙_}
+use mathlib.Core.Bool.{Bool, true, false, cond, not, _&&_, _||_, false≢true, or-true}
+use mathlib.Core.List.{List, [], _∷_, _++_}
+use lib.ListN.{length, getD, set, length-set}
+use lib.Seq.{getD-set-same, getD-set-other}
+use lib.Dec.{eqb, ltb}
+use borrow.Author.Tests.{eqb-true, eqb-false, eq-eqb}
+use Rattle.plan.specs.Tree.{Own, empty, send, receive, set as setting, raise, leave, choose, repeat, sequence, flow, pick, scope, arm, kind, Act, act, Acts, none, more, Plan, size, sizes, count}
+use Rattle.order.specs.declared.Order.{Order}
+use Rattle.order.specs.Lists.{some}
+use Rattle.order.specs.State.{idle, active, done}
+use Rattle.order.specs.Event.{Event, started, began, closed, faulted, stopped, ended, raised, left}
+use Rattle.order.specs.Begin.{Begun, nothingBegun, awaiting, throughout, around, itsBeginning, inTurn, sideBySide, begin, beginInTurn, beginAll, beginFirst, beginAfter, part, partAt, beginPart}
+use Rattle.order.specs.Scope.{isScope}
+use Rattle.undoing.specs.Orderly.{isBeganOf}
+use Rattle.undoing.specs.Begun.{lasts, hasBegan}
+use Rattle.undoing.proofs.Parts.{both, decide, some-append}
+use Rattle.undoing.proofs.Orders.{least}
+
+-- one of two tests holds
+pub or-case : {P : Type 0} (a b : Bool) → (a || b) ≡ true → (a ≡ true → P) → (b ≡ true → P) → P
+or-case true b h f g = f refl
+or-case false b h f g = g h
+
+-- a mark is set
+abbrev pub Up : List ℕ → ℕ → Type 0
+Up ms j = eqb (getD ms j 0) idle ≡ false
+
+-- one mark is set to what is not idle, and one that is not looked at to anything
+up-set : (ms : List ℕ) (k v j : ℕ) → eqb v idle ≡ false → k < length ms → (eqb j k ≡ false → Up ms j) → Up (set ms k v) j
+up-set ms k v j n h u =
+    decide (eqb j k)
+    (λ t. subst (λ (i : ℕ). Up (set ms k v) i) (sym (eqb-true j k t)) (ap (λ (m : ℕ). eqb m idle) (getD-set-same ms k v 0 h) ∙ n))
+    (λ t. ap (λ (m : ℕ). eqb m idle) (getD-set-other ms k j v 0 (eqb-false j k t)) ∙ u t)
+
+pub up-other : (ms : List ℕ) (k v j : ℕ) → (j ≡ k → ⊥) → Up ms j → Up (set ms k v) j
+up-other ms k v j n u = ap (λ (m : ℕ). eqb m idle) (getD-set-other ms k j v 0 n) ∙ u
+
+-- how many must stand within: a scope has its three parts
+unfoldable pub needs : Own → ℕ
+needs own = cond (isScope own) 3 (least own)
+
+module _ (f : ℕ → Bool) where
+  -- a tree whose numbers that last f knows
+  mutual
+    pub data Knows : Act → ℕ → Type 0 where
+      knows : {own : Own} {within : Acts} {k : ℕ} → f k ≡ lasts own → needs own ≤ count within → KnowsIn within (k + 1) → Knows (act own within) k
+
+    pub data KnowsIn : Acts → ℕ → Type 0 where
+      knows-none : {c : ℕ} → KnowsIn none c
+      knows-more : {a : Act} {l : Acts} {c : ℕ} → Knows a c → KnowsIn l (c + size a) → KnowsIn (more a l) c
+
+  -- Beginnings: no mark that lasts is cleared, and what is logged is marked, in its stretch.
+  pub record Began (k n : ℕ) (ms : List ℕ) (r : Begun) : Type 0 where
+    pub grows : (j : ℕ) → f j ≡ true → Up ms j → Up (r .marks) j
+    pub truly : (j : ℕ) → f j ≡ true → hasBegan j (r .log) ≡ true → Up (r .marks) j
+    pub range : (j : ℕ) → hasBegan j (r .log) ≡ true → (k ≤ j) × (j < k + n)
+    pub long : length (r .marks) ≡ length ms
+
+  pub nothing-began : (k n : ℕ) (ms : List ℕ) → Began k n ms (nothingBegun ms)
+  unfolding some
+  nothing-began k n ms = record { grows = λ j h u. u; truly = λ j h b. absurd (false≢true b); range = λ j b. absurd (false≢true b); long = refl }
+
+  -- in a wider stretch
+  pub began-wider : {k n c m : ℕ} {ms : List ℕ} {r : Begun} → Began c m ms r → k ≤ c → c + m ≤ k + n → Began k n ms r
+  began-wider b h e = record { grows = b .grows; truly = b .truly; range = λ j x. let y = b .range j x in omega arith; long = b .long }
+
+  awaiting-began : (k n : ℕ) (ms : List ℕ) → 1 ≤ n → k < length ms → Began k n ms (awaiting k ms)
+  unfolding some isBeganOf
+  awaiting-began k n ms o h =
+      record {
+        grows = λ j x u. up-set ms k active j refl h (λ t. u);
+        truly = λ j x b. or-case (eqb j k) false b (λ t. up-set ms k active j refl h (λ v. absurd (false≢true (sym v ∙ t)))) (λ t. absurd (false≢true t));
+        range = λ j b. or-case (eqb j k) false b (λ t. let z = eqb-true j k t in omega arith) (λ t. absurd (false≢true t));
+        long = length-set ms k active;
+      }
+
+  -- a sequence or a flow, which does not last
+  throughout-began : (k n : ℕ) (ms : List ℕ) (r : Begun) → f k ≡ false → k < length ms → Began (k + 1) n (set ms k active) r → Began k (1 + n) ms (itsBeginning k (throughout k r))
+  unfolding some isBeganOf
+  throughout-began k n ms r z h b = go (r .over) (r .marks) (r .log) b
+    where
+      not-k : (j : ℕ) → f j ≡ true → j ≡ k → ⊥
+      not-k j x e = false≢true (sym z ∙ subst (λ (i : ℕ). f i ≡ true) e x)
+
+      go : (v : Bool) (ns : List ℕ) (l : List Event) → Began (k + 1) n (set ms k active) (record { marks = ns; over = v; log = l })
+          → Began k (1 + n) ms (itsBeginning k (throughout k (record { marks = ns; over = v; log = l })))
+      go true ns l b =
+          record {
+            grows = λ j x u. up-other ns k idle j (not-k j x) (b .grows j x (up-other ms k active j (not-k j x) u));
+            truly = λ j x y. or-case (eqb j k) _ y (λ t. absurd (not-k j x (eqb-true j k t))) (λ t. up-other ns k idle j (not-k j x) (b .truly j x t));
+            range = λ j y. or-case (eqb j k) _ y (λ t. let w = eqb-true j k t in omega arith) (λ t. let w = b .range j t in omega arith);
+            long = length-set ns k idle ∙ (b .long ∙ length-set ms k active);
+          }
+      go false ns l b =
+          record {
+            grows = λ j x u. b .grows j x (up-other ms k active j (not-k j x) u);
+            truly = λ j x y. or-case (eqb j k) _ y (λ t. absurd (not-k j x (eqb-true j k t))) (λ t. b .truly j x t);
+            range = λ j y. or-case (eqb j k) _ y (λ t. let w = eqb-true j k t in omega arith) (λ t. let w = b .range j t in omega arith);
+            long = b .long ∙ length-set ms k active;
+          }
+
+  -- a scope, whose mark stays set
+  around-began : (k n : ℕ) (ms : List ℕ) (r : Begun) → f k ≡ true → k < length ms → Began (k + 1) n (set ms k active) r → Began k (1 + n) ms (itsBeginning k (around k r))
+  unfolding some isBeganOf
+  around-began k n ms r z h b = go (r .over) (r .marks) (r .log) b
+    where
+      its : (ns : List ℕ) (v : Bool) (l : List Event) → Began (k + 1) n (set ms k active) (record { marks = ns; over = v; log = l }) → Up ns k
+      its ns v l b = b .grows k z (up-set ms k active k refl h (λ t. absurd (false≢true (sym t ∙ eq-itself k))))
+        where
+          eq-itself : (k : ℕ) → eqb k k ≡ true
+          eq-itself k = eq-eqb k k refl
+
+      go : (v : Bool) (ns : List ℕ) (l : List Event) → Began (k + 1) n (set ms k active) (record { marks = ns; over = v; log = l })
+          → Began k (1 + n) ms (itsBeginning k (around k (record { marks = ns; over = v; log = l })))
+      go true ns l b =
+          record {
+            grows = λ j x u. up-set ns k done j refl (omega (arith, b .long, length-set ms k active)) (λ t. b .grows j x (up-set ms k active j refl h (λ v. u)));
+            truly = λ j x y. up-set ns k done j refl (omega (arith, b .long, length-set ms k active)) (λ t. or-case (eqb j k) _ y (λ v. absurd (false≢true (sym t ∙ v))) (λ v. b .truly j x v));
+            range = λ j y. or-case (eqb j k) _ y (λ t. let w = eqb-true j k t in omega arith) (λ t. let w = b .range j t in omega arith);
+            long = length-set ns k done ∙ (b .long ∙ length-set ms k active);
+          }
+      go false ns l b =
+          record {
+            grows = λ j x u. b .grows j x (up-set ms k active j refl h (λ v. u));
+            truly = λ j x y. or-case (eqb j k) _ y (λ t. subst (λ (i : ℕ). Up ns i) (sym (eqb-true j k t)) (its ns false l b)) (λ t. b .truly j x t);
+            range = λ j y. or-case (eqb j k) _ y (λ t. let w = eqb-true j k t in omega arith) (λ t. let w = b .range j t in omega arith);
+            long = b .long ∙ length-set ms k active;
+          }
+
+  -- an empty one, which does not last
+  empty-began : (k n : ℕ) (ms : List ℕ) → f k ≡ false → Began k (1 + n) ms (itsBeginning k (nothingBegun ms))
+  unfolding some isBeganOf
+  empty-began k n ms z =
+      record {
+        grows = λ j x u. u;
+        truly = λ j x y. or-case (eqb j k) false y (λ t. absurd (false≢true (sym z ∙ subst (λ (i : ℕ). f i ≡ true) (eqb-true j k t) x))) (λ t. absurd (false≢true t));
+        range = λ j y. or-case (eqb j k) false y (λ t. let w = eqb-true j k t in omega arith) (λ t. absurd (false≢true t));
+        long = refl;
+      }
+
+  -- one after the other
+  then-began : (c n m : ℕ) (ms : List ℕ) (r s : Begun) (v : Bool) → Began c n ms r → Began (c + n) m (r .marks) s
+      → Began c (n + m) ms (record { marks = s .marks; over = v; log = r .log ++ s .log })
+  then-began c n m ms r s v b d =
+      record {
+        grows = λ j x u. d .grows j x (b .grows j x u);
+        truly = λ j x y. or-case (hasBegan j (r .log)) (hasBegan j (s .log)) (sym (some-append (isBeganOf (eqb j)) (r .log) (s .log)) ∙ y) (λ t. d .grows j x (b .truly j x t)) (λ t. d .truly j x t);
+        range = λ j y. or-case (hasBegan j (r .log)) (hasBegan j (s .log)) (sym (some-append (isBeganOf (eqb j)) (r .log) (s .log)) ∙ y) (λ t. let w = b .range j t in omega arith) (λ t. let w = d .range j t in omega arith);
+        long = d .long ∙ b .long;
+      }
+
+  turn-began : (c n m : ℕ) (ms : List ℕ) (later : List ℕ → Begun) (r : Begun) → Began c n ms r → Began (c + n) m (r .marks) (later (r .marks)) → Began c (n + m) ms (inTurn later r)
+  turn-began c n m ms later r b d = go (r .over) refl
+    where
+      go : (v : Bool) → r .over ≡ v
+          → Began c (n + m) ms (elim v [ true ↦ (let s = later (r .marks) in record { marks = s .marks; over = s .over; log = r .log ++ s .log }) | false ↦ r ])
+      go true e = then-began c n m ms r (later (r .marks)) (later (r .marks) .over) b d
+      go false e = began-wider b (omega arith) (omega arith)
+
+  -- by its kind, where what stands within begins so
+  own-began : (own : Own) (within : Acts) (k : ℕ) → f k ≡ lasts own → (ms : List ℕ) → k + (1 + sizes within) ≤ length ms
+      → ((ns : List ℕ) → length ns ≡ length ms → Began (k + 1) (sizes within) ns (beginInTurn within (k + 1) ns))
+      → ((ns : List ℕ) → length ns ≡ length ms → Began (k + 1) (sizes within) ns (beginAll within (k + 1) ns))
+      → ((ns : List ℕ) → length ns ≡ length ms → Began (k + 1) (sizes within) ns (beginFirst within (k + 1) ns)) → Began k (1 + sizes within) ms (begin (act own within) k ms)
+  unfolding begin kind lasts
+  own-began empty within k e ms h t a i = empty-began k (sizes within) ms e
+  own-began (send p o vs) within k e ms h t a i = awaiting-began k _ ms (omega arith) (omega arith)
+  own-began (receive p o vs) within k e ms h t a i = awaiting-began k _ ms (omega arith) (omega arith)
+  own-began (setting v x) within k e ms h t a i = awaiting-began k _ ms (omega arith) (omega arith)
+  own-began raise within k e ms h t a i = awaiting-began k _ ms (omega arith) (omega arith)
+  own-began leave within k e ms h t a i = awaiting-began k _ ms (omega arith) (omega arith)
+  own-began (choose x) within k e ms h t a i = awaiting-began k _ ms (omega arith) (omega arith)
+  own-began (repeat x) within k e ms h t a i = awaiting-began k _ ms (omega arith) (omega arith)
+  own-began sequence within k e ms h t a i = throughout-began k (sizes within) ms _ e (omega arith) (t (set ms k active) (length-set ms k active))
+  own-began flow within k e ms h t a i = throughout-began k (sizes within) ms _ e (omega arith) (a (set ms k active) (length-set ms k active))
+  own-began pick within k e ms h t a i = awaiting-began k _ ms (omega arith) (omega arith)
+  own-began scope within k e ms h t a i = around-began k (sizes within) ms _ e (omega arith) (i (set ms k active) (length-set ms k active))
+  own-began (arm p o vs) within k e ms h t a i = nothing-began k _ ms
+
+  mutual
+    unfolding begin size
+
+    pub begin-began : {a : Act} {k : ℕ} → Knows a k → (ms : List ℕ) → k + size a ≤ length ms → Began k (size a) ms (begin a k ms)
+    begin-began (knows {own} {within} {k} e n y) ms h =
+        own-began own within k e ms h (λ ns d. turn-list y ns (omega arith)) (λ ns d. all-list y ns (omega arith)) (λ ns d. first-list y ns (omega arith))
+
+    pub turn-list : {l : Acts} {c : ℕ} → KnowsIn l c → (ms : List ℕ) → c + sizes l ≤ length ms → Began c (sizes l) ms (beginInTurn l c ms)
+    turn-list (knows-none {c}) ms h = nothing-began c 0 ms
+    turn-list (knows-more {a} {l} {c} x y) ms h =
+        let b = begin-began x ms (omega arith) in
+        turn-began c (size a) (sizes l) ms (beginInTurn l (c + size a)) (begin a c ms) b (turn-list y (begin a c ms .marks) (omega (arith, b .long)))
+
+    pub all-list : {l : Acts} {c : ℕ} → KnowsIn l c → (ms : List ℕ) → c + sizes l ≤ length ms → Began c (sizes l) ms (beginAll l c ms)
+    all-list (knows-none {c}) ms h = nothing-began c 0 ms
+    all-list (knows-more {a} {l} {c} x y) ms h =
+        let b = begin-began x ms (omega arith) in
+        then-began c (size a) (sizes l) ms (begin a c ms) (beginAll l (c + size a) (begin a c ms .marks)) _ b (all-list y (begin a c ms .marks) (omega (arith, b .long)))
+
+    pub first-list : {l : Acts} {c : ℕ} → KnowsIn l c → (ms : List ℕ) → c + sizes l ≤ length ms → Began c (sizes l) ms (beginFirst l c ms)
+    first-list (knows-none {c}) ms h = nothing-began c 0 ms
+    first-list (knows-more {a} {l} {c} x y) ms h = began-wider (begin-began x ms (omega arith)) (omega arith) (omega arith)
