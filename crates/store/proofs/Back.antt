@@ -5,6 +5,7 @@ use mathlib.Core.List.{List, [], _∷_, _++_, append-assoc, append-nil}
 use Prim.Native.Nat.{ℕ, zero, suc, _+_, _*_, _<_}
 use native.Mathlib.Nat.{suc-mul, zero-mul, add-comm}
 use native.Mathlib.Omega.{arith}
+use lib.Dec.{eqb}
 use lib.ListN.{length, getD, take, drop, length-append}
 use lib.Seq.{take-at, drop-at, drop-append-add, length-take-le}
 use borrow.Author.Tests.{eqb-true}
@@ -153,6 +154,10 @@ unfolding unpacked holds valued
 unpacked-packed s t v w =
     rw (packed-long s t v, packed-mark s t, packed-state s t, packed-tally s t, state-back s [] v, tally-back t (stateBytes s) w)
 
+first-valued : (s : List ℕ) → valued (take 8 s) ≡ numberIn 8 s
+unfolding numberIn
+first-valued s = refl
+
 mark-spelled : spelled 8 (valued mark) ≡ mark
 unfolding spelled valued
 mark-spelled = refl
@@ -167,9 +172,11 @@ and-right false b h = let z : _≡_ {A = Bool} false true = h in cc
 
 -- bytes that hold a state have the mark in front
 pub held-marked : (s : List ℕ) → Each (λ b. b < 256) (take 8 s) → holds s ≡ true → take 8 s ≡ mark
-unfolding holds numberIn
+unfolding holds
 held-marked s p h =
-    let l : length s ≡ 11964 = eqb-true (length s) 11964 (and-left _ _ h) in
-    let e : valued (take 8 s) ≡ valued mark = eqb-true _ _ (and-right _ _ h) in
+    let a = eqb (length s) 11964 in
+    let b = eqb (numberIn 8 s) (valued mark) in
+    let l : length s ≡ 11964 = eqb-true (length s) 11964 (and-left a b h) in
+    let e : numberIn 8 s ≡ valued mark = eqb-true (numberIn 8 s) (valued mark) (and-right a b h) in
     let n : length (take 8 s) ≡ 8 = length-take-le 8 s (omega arith) in
-    sym (spelled-valued (take 8 s) p) ∙ rw (n, e) mark-spelled
+    sym (spelled-valued (take 8 s) p) ∙ rw n (ap (spelled 8) (first-valued s ∙ e) ∙ mark-spelled)

@@ -1,17 +1,18 @@
 -- The parts of a state, each written as its parts are. Assumes nothing.
-use mathlib.Core.Path.{_≡_, refl}
+use mathlib.Core.Path.{_≡_, refl, _∙_}
 use mathlib.Core.List.{List, [], _∷_, _++_}
-use Prim.Native.Nat.{ℕ, _+_, _*_, _≤_}
+use Prim.Native.Nat.{ℕ, _+_, _*_, _≤_, _<_}
 use native.Mathlib.Omega.{arith}
-use borrow.Author.Tests.{ne-eqb}
+use borrow.Author.Tests.{ne-eqb, le-leb, lt-leb}
 use lib.ListN.{length}
+use lib.Seq.{sets-eq}
 use Rattle.order.specs.declared.Order.{Order}
 use Rattle.order.specs.Lists.{each}
 use Rattle.machine.specs.declared.Message.{Message}
 use Rattle.machine.specs.declared.State.{State}
 use Rattle.machine.specs.declared.Tally.{Tally}
 use Rattle.store.specs.Bytes.{spelled}
-use Rattle.store.specs.Packed.{tallyBytes, messageBytes, orderBytes, stateBytes, packed, packedInto}
+use Rattle.store.specs.Packed.{tallyBytes, messageBytes, orderBytes, stateBytes, packed, packedInto, messageInto}
 use Rattle.store.specs.Putting.{Put}
 use Rattle.store.proofs.Puts.{then, put-all}
 use Rattle.store.proofs.Whole.{WholeMessage, WholeOrder, WholeState}
@@ -67,3 +68,14 @@ module _ {l m n o : List ℕ} (s : State) (t : Tally) where
 pub pack-no : (s : State) (t : Tally) (l : List ℕ) → (length l ≡ 11964 → ⊥) → l ≡ packedInto s t l
 unfolding packedInto
 pack-no s t l e = rw (ne-eqb (length l) 11964 e)
+
+-- `write_message`
+pub message-fits : (m : Message) (l : List ℕ) {o : List ℕ} → 28 ≤ length l → Put l o 0 28 (messageBytes m) → o ≡ messageInto m l
+unfolding messageInto
+message-fits m l h p =
+    let z : 0 + length (messageBytes m) ≡ 28 = omega (arith, p .size) in
+    p .is ∙ sets-eq (messageBytes m) l 0 (omega (arith, p .size)) ∙ rw (z, le-leb 28 (length l) h)
+
+pub message-no : (m : Message) (l : List ℕ) → length l < 28 → l ≡ messageInto m l
+unfolding messageInto
+message-no m l h = rw (lt-leb 28 (length l) h)

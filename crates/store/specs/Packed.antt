@@ -2,7 +2,7 @@
 use Prim.Native.Nat.{ℕ}
 use mathlib.Core.Bool.{Bool, true, false, cond, _&&_}
 use mathlib.Core.List.{List, [], _∷_, _++_}
-use lib.Dec.{eqb}
+use lib.Dec.{eqb, leb}
 use lib.ListN.{length, getD, take, drop}
 use Rattle.order.specs.declared.Order.{Order}
 use Rattle.order.specs.Lists.{each}
@@ -95,3 +95,7 @@ unpacked s = cond (holds s) (keptAs false (stateIn (drop 28 s)) (tallyIn (drop 8
 -- a state with its tally is written where there is just room for it
 unfoldable pub packedInto : State → Tally → List ℕ → List ℕ
 packedInto s t l = cond (eqb (length l) 11964) (packed s t) l
+
+-- a message is written into the first 28 bytes, where there are as many
+unfoldable pub messageInto : Message → List ℕ → List ℕ
+messageInto m l = cond (leb 28 (length l)) (messageBytes m ++ drop 28 l) l

@@ -7,11 +7,11 @@ use machine::State;
 use machine::Tally;
 use order::Order;
 ghost use mathlib.Core.Path.{_≡_};
-ghost use lib.Dec.{eqb};
+ghost use lib.Dec.{eqb, leb};
 ghost use lib.ListN.{length};
 ghost use mathlib.Core.Bool.{true, false};
 ghost use Rattle.machine.specs.State.{unplanned, noTally};
-ghost use Rattle.store.specs.Packed.{packed, packedInto, unpacked, keptAs};
+ghost use Rattle.store.specs.Packed.{packed, packedInto, messageInto, unpacked, keptAs};
 
 // What bytes hold: where `refused` is false, a state with its tally; else the state with no plan, with nothing counted.
 pub struct Kept {
@@ -31,6 +31,18 @@ pub fn pack(state: State, tally: Tally, out: &mut [u8]) -> bool
         writing::put_number(out, 0, 8, 3552285984895749965);
         writing::put_tally(out, 8, tally);
         writing::put_state(out, 28, state);
+        return true;
+    }
+    false
+}
+
+// Writes a message into the first 28 of the caller's bytes, and says whether there are as many; it writes nothing where there are not.
+pub fn write_message(m: Message, out: &mut [u8]) -> bool
+    ensures fits { λ r. ⌜ r ≡ leb 28 (length (now (out .entry))) ⌝ }
+    ensures is { λ _. ⌜ now (out .exit) ≡ messageInto m (now (out .entry)) ⌝ }
+{
+    if 28 <= out.len() {
+        writing::put_message(out, 0, m);
         return true;
     }
     false

@@ -86,7 +86,7 @@ pub(crate) fn put_tally(out: &mut [u8], at: usize, tally: Tally)
 }
 
 // A message.
-fn put_message(out: &mut [u8], at: usize, m: Message)
+pub(crate) fn put_message(out: &mut [u8], at: usize, m: Message)
     requires { ⌜ at + 28 ≤ length (now out) ⌝ }
     ensures { λ _. ⌜ Put (now (out .entry)) (now (out .exit)) at 28 (messageBytes m) ⌝ }
 {
