@@ -41,7 +41,7 @@ use Rattle.machine.specs.Offer.{Offer, offering, sendHeld, closeHeld, offersOf}
 use Rattle.machine.specs.Planned.{addedTo, takenFrom}
 use Rattle.machine.specs.State.{noMessage, withOrder}
 use Rattle.laws.specs.Good.{Allowed, Good, actor}
-use Rattle.step.specs.Stepping.{bare, Worths, SentValues, SendRow, Sends, MovesMessages, StepsSlot, movedIn, TakesOffer}
+use Rattle.step.specs.Stepping.{bare, Worths, SentValues, SendRow, Sends, MovesMessages, StepsSlot, Nexts, Settles, movedIn, TakesOffer}
 use Rattle.machine.proofs.Copied.{stored-more}
 use Rattle.machine.proofs.Moved.{same-there, letter-there, limits-letters}
 use Rattle.laws.proofs.Offering.{pick-true, pick-false, chosen-fine}
@@ -238,20 +238,32 @@ pub moved-in-is : (s : State) (i k j : ℕ) (m : Next) (y : Tally) {u : State} {
     → _≡_ {A = Stepped} (record { answer = record { refusal = 0; slot = i; activity = k; place = j; end = m .end }; state = u; tally = z }) (movedIn s i k j m y)
 moved-in-is s i k j m y e f = rw (e, f)
 
--- `step_slot`
-pub slot-steps : (t : List ℕ) (n : ℕ) (s : State) (o : Order) (i k j : ℕ) (y : Tally) {xs : List ℕ} {q : Order} {m : Next} {u : State} {r : Stepped}
-    → xs ≡ getD (s .messages) j noMessage .values → TakesOrder t n k xs o q → StepsOrder t n k q m → MovesMessages t n s o k j u → r ≡ movedIn u i k j m y
-    → StepsSlot t n s o i k j y r
+-- `next_of`
+pub next-is : {t : List ℕ} {n : ℕ} {l : List Message} {o : Order} {k j : ℕ} {xs : List ℕ} {q : Order} {m : Next}
+    → xs ≡ getD l j noMessage .values → TakesOrder t n k xs o q → StepsOrder t n k q m → Nexts t n l o k j m
+next-is {xs = xs} {q} e a b = record { values = xs; between = q; read = e; takes = a; moves = b }
+
+-- `settled`
+pub settles : {t : List ℕ} {n : ℕ} {s : State} {o : Order} {m : Next} {i k j : ℕ} {y : Tally} {u : State} {r : Stepped}
+    → MovesMessages t n s o k j u → r ≡ movedIn u i k j m y → Settles t n s o m i k j y r
 unfolding calls.stepped
-slot-steps t n s o i k j y {xs} {q} {m} {u} {r} e a b c f = record {
-  is = λ p sp w g.
-      let l : Message = getD (s .messages) j noMessage in
-      let h : q ≡ orderTaking (doingAt p k) l o = a .is p sp ∙ ap (λ (z : List ℕ). taking p k z o) e ∙ takes-same p k (g .inside) l o in
-      let x : closings q ≡ closings o = ap closings h ∙ take-closings (doingAt p k) l o in
-      let v : m ≡ nextOf (stepOrder p k q) = b .is p sp (ap (roomPlan p k) x ∙ good-room g) in
-      let z : m ≡ nextOf (stepOrder p k (orderTaking (doingAt p k) l o)) = v ∙ ap (λ (d : Order). nextOf (stepOrder p k d)) h in
-      f ∙ rw (c .is p sp w g, z);
+settles {s = s} {o} {m} {k = k} {j} c f = record {
+  is = λ next. record {
+    is = λ p sp w g.
+        let q = next .between in
+        let l : Message = getD (s .messages) j noMessage in
+        let h : q ≡ orderTaking (doingAt p k) l o =
+        next .takes .is p sp ∙ ap (λ (z : List ℕ). taking p k z o) (next .read) ∙ takes-same p k (g .inside) l o in
+        let x : closings q ≡ closings o = ap closings h ∙ take-closings (doingAt p k) l o in
+        let v : m ≡ nextOf (stepOrder p k q) = next .moves .is p sp (ap (roomPlan p k) x ∙ good-room g) in
+        let z : m ≡ nextOf (stepOrder p k (orderTaking (doingAt p k) l o)) = v ∙ ap (λ (d : Order). nextOf (stepOrder p k d)) h in
+        f ∙ rw (c .is p sp w g, z);
+  };
 }
+
+pub settles-slot : {t : List ℕ} {n : ℕ} {s : State} {o : Order} {m : Next} {i k j : ℕ} {y : Tally} {r : Stepped}
+    → Settles t n s o m i k j y r → Nexts t n (s .messages) o k j m → StepsSlot t n s o i k j y r
+settles-slot w = w .is
 
 -- `take_offer`
 same-bare : (p : Plan) (x : Offer) (s : State) (y : Tally) (o : Order) (l k : List Event) → bare (calls.stepped p x s y o l) ≡ bare (calls.stepped p x s y o k)

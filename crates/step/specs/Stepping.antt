@@ -7,9 +7,10 @@ use lib.ListN.{getD}
 use Rattle.plan.specs.Tree.{Plan, size}
 use Rattle.order.specs.declared.Order.{Order}
 use Rattle.order.specs.declared.Next.{Next}
-use Rattle.order.specs.Answering.{Names, Spelled}
+use Rattle.order.specs.Answering.{Names, Spelled, TakesOrder, StepsOrder}
 use Rattle.order.specs.Lists.{stored}
 use Rattle.order.specs.State.{valueOf}
+use Rattle.machine.specs.declared.Message.{Message}
 use Rattle.machine.specs.declared.State.{State}
 use Rattle.step.specs.declared.Stepped.{Stepped}
 use Rattle.machine.specs.declared.Tally.{Tally}
@@ -18,7 +19,7 @@ use Rattle.machine.specs.Calls.{doingAt, valuesOf, messagesAfter, answering, co
 use Rattle.machine.specs.Fit.{sends}
 use Rattle.machine.specs.Limits.{inLimits}
 use Rattle.machine.specs.Offer.{offering, sendHeld, offersOf}
-use Rattle.machine.specs.State.{withOrder}
+use Rattle.machine.specs.State.{noMessage, withOrder}
 use Rattle.laws.specs.Good.{Good}
 use Rattle.offer.specs.Having.{Has}
 
@@ -51,6 +52,18 @@ pub record MovesMessages (t : List ℕ) (activities : ℕ) (s : State) (o : Orde
 -- r is what the step of activity k in an order leads to, its slot written back
 pub record StepsSlot (t : List ℕ) (activities : ℕ) (s : State) (o : Order) (i k j : ℕ) (y : Tally) (r : Stepped) : Type 0 where
   pub is : (p : Plan) → Spelled p activities t → s .waiting ≤ 64 → Good p (s .waiting) o k j → r ≡ bare (calls.stepped p (offering i k j) s y o [])
+
+-- m is what the step of activity k in an order leads to: the order takes the values of the message at place j, and moves on
+pub record Nexts (t : List ℕ) (activities : ℕ) (messages : List Message) (o : Order) (k j : ℕ) (m : Next) : Type 0 where
+  pub values : List ℕ
+  pub between : Order
+  pub read : values ≡ getD messages j noMessage .values
+  pub takes : TakesOrder t activities k values o between
+  pub moves : StepsOrder t activities k between m
+
+-- r is what it leads to, where that is known
+pub record Settles (t : List ℕ) (activities : ℕ) (s : State) (o : Order) (m : Next) (i k j : ℕ) (y : Tally) (r : Stepped) : Type 0 where
+  pub is : Nexts t activities (s .messages) o k j m → StepsSlot t activities s o i k j y r
 
 -- the answer, the state and the tally where an order moved to this
 abbrev pub movedIn : State → (slot activity place : ℕ) → Next → Tally → Stepped

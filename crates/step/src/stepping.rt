@@ -15,7 +15,7 @@ ghost use mathlib.Core.Path.{_≡_};
 ghost use Rattle.order.specs.State.{noOrder};
 ghost use Rattle.machine.specs.Calls.{counted as countedOf, countStart, countEnd};
 ghost use Rattle.machine.specs.State.{noMessage, withOrder};
-ghost use Rattle.step.specs.Stepping.{Worths, SentValues, Sends, MovesMessages, StepsSlot, movedIn, TakesOffer};
+ghost use Rattle.step.specs.Stepping.{Worths, SentValues, Sends, MovesMessages, Nexts, Settles, movedIn, TakesOffer};
 
 // The value of variable v.
 fn value_of(order: Order, v: u32) -> u32
@@ -245,28 +245,42 @@ fn moved_in(
     }
 }
 
-// An order has the step of an activity: it takes its message, moves on, and stands in its slot again.
-fn step_slot(
+// What an order moves to with the step of an activity: it takes the values of the message at a place, and moves on.
+fn next_of(
+    table: &[u32; 11584],
+    activities: usize,
+    messages: [Message; 64],
+    order: Order,
+    activity: usize,
+    place: usize,
+) -> Next
+    ensures { λ r. ⌜ Nexts (now (table .entry)) activities messages order activity place r ⌝ }
+{
+    let values = letter_values(messages, place);
+    let o = order::taken_order(table, activities, order, activity, values);
+    order::step_order(table, activities, o, activity)
+}
+
+// The step of an activity that moved its order to this: the messages move too, and the order stands in its slot again.
+fn settled(
     table: &[u32; 11584],
     activities: usize,
     state: State,
     order: Order,
+    next: Next,
     slot: usize,
     activity: usize,
     place: usize,
     tally: Tally,
 ) -> Stepped
-    ensures { λ r. ⌜ StepsSlot (now (table .entry)) activities state order slot activity place tally r ⌝ }
+    ensures { λ r. ⌜ Settles (now (table .entry)) activities state order next slot activity place tally r ⌝ }
 {
-    let messages = state.messages;
-    let values = letter_values(messages, place);
-    let o = order::taken_order(table, activities, order, activity, values);
-    let n = order::step_order(table, activities, o, activity);
     let s = messages_after(table, activities, state, order, activity, place);
-    moved_in(s, slot, activity, place, n, tally)
+    moved_in(s, slot, activity, place, next, tally)
 }
 
-// The offer with this slot, activity and place is taken: by the order in the slot, or by a new one where the slot is free.
+// The offer with this slot, activity and place is taken: by the order in the slot, or by a new one where the slot is free. The order moves
+// before the state is copied, so that the deepest calls do not stand on the copies.
 pub(crate) fn take_offer(
     table: &[u32; 11584],
     activities: usize,
@@ -279,11 +293,14 @@ pub(crate) fn take_offer(
     ensures { λ r. ⌜ TakesOffer (now (table .entry)) activities state slot activity place tally r ⌝ }
 {
     let orders = state.orders;
+    let messages = state.messages;
     let o = order_at(orders, slot);
     if o.root == 0 {
         let new = order::started_order(table);
         let y = count_start(tally);
-        return step_slot(table, activities, state, new, slot, activity, place, y);
+        let n = next_of(table, activities, messages, new, activity, place);
+        return settled(table, activities, state, new, n, slot, activity, place, y);
     }
-    step_slot(table, activities, state, o, slot, activity, place, tally)
+    let n = next_of(table, activities, messages, o, activity, place);
+    settled(table, activities, state, o, n, slot, activity, place, tally)
 }

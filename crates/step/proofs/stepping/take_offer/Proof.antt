@@ -1,10 +1,10 @@
 -- `step::stepping::take_offer` meets its contract. Assumes nothing.
 use borrow.Author.Needs.{needs}
-use Rattle.step.proofs.Taken.{take-starts, take-steps}
+use Rattle.step.proofs.Taken.{settles-slot, take-starts, take-steps}
 use Rattle.step.proofs.stepping.take_offer.Statement.{statement}
 use Rattle.step.proofs.stepping.take_offer.Tie as tie
 
-ruleset cases = (take-starts, take-steps)
+ruleset cases = (settles-slot, take-starts, take-steps)
 
 pub take-offer-spec : {M : Type 1} → statement M
 take-offer-spec =
@@ -15,11 +15,15 @@ take-offer-spec =
     (λ c κs. search needs)
     -- count-start-requires
     (λ c κs. search needs)
-    -- step-slot-requires
+    -- next-of-requires
+    (λ c κs. search needs)
+    -- settled-requires
     (λ c κs. search needs)
     -- returns
     (λ c. search cases)
-    -- step-slot-requires-2
+    -- next-of-requires-2
+    (λ c κs. search needs)
+    -- settled-requires-2
     (λ c κs. search needs)
     -- returns-2
     (λ c. search cases))
