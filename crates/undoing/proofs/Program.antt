@@ -10,7 +10,6 @@ use Rattle.machine.specs.declared.Posted.{Posted}
 use Rattle.machine.specs.declared.Collected.{Collected}
 use Rattle.machine.specs.declared.Stepped.{Stepped}
 use Rattle.machine.specs.Calls.{post, collect, step, Call, posting, collecting, stepping}
-use Rattle.machine.specs.Stepping.{bare}
 use Rattle.undoing.specs.Ties.{stateAfter}
 use Rattle.undoing.specs.Compiled.{Runs, ends, posts, collects, steps, OfTheProgram}
 
