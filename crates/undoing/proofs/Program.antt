@@ -8,7 +8,7 @@ use Rattle.machine.specs.declared.State.{State}
 use Rattle.machine.specs.declared.Tally.{Tally}
 use Rattle.machine.specs.declared.Posted.{Posted}
 use Rattle.machine.specs.declared.Collected.{Collected}
-use Rattle.machine.specs.declared.Stepped.{Stepped}
+use Rattle.step.specs.declared.Stepped.{Stepped}
 use Rattle.machine.specs.Calls.{post, collect, step, Call, posting, collecting, stepping}
 use Rattle.undoing.specs.Ties.{stateAfter}
 use Rattle.undoing.specs.Compiled.{Runs, ends, posts, collects, steps, OfTheProgram}

@@ -1,4 +1,4 @@
--- Runs of the compiled calls, as their contracts have them: the premises are the `ensures` of the machine's public functions. Assumes nothing: these are definitions.
+-- Runs of the compiled calls, as their contracts have them: the premises are the `ensures` of the public functions `load`, `post`, `collect` and `take_step`. Assumes nothing: these are definitions.
 use Prim.Native.Nat.{ℕ}
 use mathlib.Core.Path.{_≡_}
 use mathlib.Core.List.{List, [], _∷_}
@@ -10,21 +10,17 @@ use Rattle.machine.specs.declared.Tally.{Tally}
 use Rattle.machine.specs.declared.Loaded.{Loaded}
 use Rattle.machine.specs.declared.Posted.{Posted}
 use Rattle.machine.specs.declared.Collected.{Collected}
-use Rattle.machine.specs.declared.Stepped.{Stepped}
+use Rattle.step.specs.declared.Stepped.{Stepped}
 use Rattle.machine.specs.Calls.{load, post, collect, step, Call, posting, collecting, stepping}
-use Rattle.machine.specs.Calls as calls
+use Rattle.step.specs.Stepping.{bare}
 use Rattle.undoing.specs.Ties.{orderAfter}
-
--- a step without its log: what the code gives
-abbrev pub unlogged : calls.Stepped → Stepped
-unlogged r = record { answer = r .answer; state = r .state; tally = r .tally }
 
 -- a run from a state and a tally: the calls, each with what the compiled function gives, and the state that they lead to
 pub data Runs : State → Tally → List Call → State → Type 0 where
   ends : {s : State} {t : Tally} → Runs s t [] s
   posts : {s s′ : State} {t : Tally} {l : List Call} (m : Message) (r : Posted) → r ≡ post m s → Runs (r .state) t l s′ → Runs s t (posting m ∷ l) s′
   collects : {s s′ : State} {t : Tally} {l : List Call} (r : Collected) → r ≡ collect s → Runs (r .state) t l s′ → Runs s t (collecting ∷ l) s′
-  steps : {s s′ : State} {t : Tally} {l : List Call} (choice : ℕ) (r : Stepped) → r ≡ unlogged (step choice s t) → Runs (r .state) (r .tally) l s′
+  steps : {s s′ : State} {t : Tally} {l : List Call} (choice : ℕ) (r : Stepped) → r ≡ bare (step choice s t) → Runs (r .state) (r .tally) l s′
       → Runs s t (stepping choice ∷ l) s′
 
 -- What stands in every slot after a run of the compiled calls, from the state that the compiled load gives, is what the statements on histories are about.
