@@ -1,27 +1,20 @@
 -- The history of every slot over any run breaks none of the statements. Assumes nothing.
-use Prim.Native.Nat.{ℕ}
-use mathlib.Core.Path.{_≡_, refl, sym, ap, subst, _∙_}
-use mathlib.Core.Bool.{Bool, true, false, cond, not, _&&_, false≢true}
-use mathlib.Core.List.{List, [], _∷_, _++_, reverse, map}
+use mathlib.Core.Path.{_≡_, refl, sym, subst}
+use mathlib.Core.Bool.{Bool, true, false, not, false≢true}
+use mathlib.Core.List.{List, [], _∷_, _++_, map}
 use lib.Dec.{eqb}
-use borrow.Author.Tests.{eq-eqb}
-use Rattle.plan.specs.Found.{found}
-use Rattle.plan.specs.Read.{readPlan}
-use Rattle.plan.specs.Tree.{Plan, size}
+use Rattle.plan.specs.Tree.{Plan}
 use Rattle.order.specs.declared.Order.{Order}
 use Rattle.order.specs.declared.End.{End}
-use Rattle.machine.specs.declared.Tally.{Tally}
-use Rattle.order.specs.Lists.{every, some, only, each}
+use Rattle.order.specs.Lists.{every, each}
 use Rattle.order.specs.State.{idle, Name, root, inner, markOf, isLive}
 use Rattle.order.specs.Event.{Event}
-use Rattle.order.specs.Scope.{isOpen, rootOf}
-use Rattle.machine.specs.Fit.{readyOf}
-use Rattle.machine.specs.Calls.{endNumber, loaded, Call}
-use Rattle.undoing.specs.History.{history}
-use Rattle.undoing.specs.Demand3.{Inner, scopesOf, closingsOf, undoneOf, hasTurned, isLeft, mayTurn, noneNow, right, Demand3}
-use Rattle.undoing.specs.Ties.{orderAfter, pastAfter, isName, LiveTold, isTurned, MarksTold, remembered, ListsTold, isDeed, deedsTaken, StepsTold, placeOf, heedsAfter, FaultsTold, endsIn, endsTaken, EndsTold, fits, PlacesTold, isStep, NeverStuck, movesOn, goIn, GoingOn}
-use Rattle.undoing.specs.Orderly.{orderlyAfter, Orderly}
-use Rattle.undoing.specs.UndoneRight.{sameBool, eventCode, sameEvents, sameEnds, namesOf, markTold, listTold, unless, broken, UndoneRight}
+use Rattle.order.specs.Scope.{isOpen}
+use Rattle.machine.specs.Calls.{endNumber, loaded}
+use Rattle.undoing.specs.Demand3.{Inner, scopesOf, closingsOf, undoneOf, hasTurned, isLeft, mayTurn, Demand3}
+use Rattle.undoing.specs.Ties.{orderAfter, pastAfter, isName, LiveTold, isTurned, MarksTold, remembered, ListsTold, StepsTold, FaultsTold, EndsTold, PlacesTold, NeverStuck, GoingOn}
+use Rattle.undoing.specs.Orderly.{Orderly}
+use Rattle.undoing.specs.UndoneRight.{sameBool, eventCode, sameEvents, sameEnds, namesOf, markTold, listTold, broken, UndoneRight}
 use Rattle.undoing.proofs.Parts.{decide, every-so, alike-itself}
 use Rattle.undoing.proofs.Accounts.{numbers-are-names}
 use Rattle.undoing.proofs.Demanded as demanded

@@ -20,7 +20,7 @@ use Rattle.undoing.proofs.Parts.{both, decide}
 use Rattle.undoing.proofs.Accounts.{phase, Known}
 use Rattle.undoing.proofs.Moves.{Before, Spot, move-plain, move-begin}
 use Rattle.undoing.proofs.Marks.{isDoer, run-loud, trio, spread, Agree, Quiet, Kept, Run, run-awaits, run-one, run-all, run-body, run-done, One, one-here, one-later, All, all-none, all-run, all-quiet, quiet-part, quiet-agree, quiet-join, agree-below, agree-above, kept-wider, kept-then, kept-itself, kept-set, run-agree}
-use Rattle.undoing.proofs.Orders.{momentOf, Fit, fit-kept, fit-marked, before-of, before-on, Does, does-then, does-nothing, does-still, does-one, plain-marked, phase-marked, marked-elsewhere, innerAt, isArm, Sits, sits-part, sits-scope, SitsIn, sits-none, sits-more, Remedy, remedy}
+use Rattle.undoing.proofs.Orders.{momentOf, Fit, fit-kept, fit-marked, before-of, Does, does-then, does-nothing, does-still, does-one, plain-marked, phase-marked, marked-elsewhere, innerAt, isArm, Sits, sits-part, sits-scope, SitsIn, sits-none, sits-more, Remedy, remedy}
 
 -- what began in order o, where the events before led from o₀ to o: S holds of its marks while it runs
 pub record Begins (p : Plan) (S : List ℕ → Type 0) (k n : ℕ) (o₀ o : Order) (r : Begun) : Type 0 where

@@ -2,26 +2,23 @@
 use Prim.Native.Nat.{ℕ, _+_, _≤_, _<_}
 use native.Mathlib.Omega.{arith}
 use mathlib.Core.Path.{_≡_, refl, sym, ap, subst, _∙_}
-use mathlib.Core.Bool.{Bool, true, false, cond, not, false≢true}
+use mathlib.Core.Bool.{Bool, true, false, not, false≢true}
 use mathlib.Core.List.{List, []}
-use lib.ListN.{length, getD, length-replicate}
+use lib.ListN.{length, length-replicate}
 use lib.Seq.{take-append-seam}
 use lib.Dec.{eqb, ltb}
 use borrow.Author.Tests.{eq-eqb, ne-eqb, lt-ltb, le-ltb}
-use Rattle.plan.specs.Found.{Found, found}
-use Rattle.plan.specs.Read.{readPlan}
+use Rattle.plan.specs.Found.{Found}
 use Rattle.plan.specs.Tree.{Own, scope, kind, Act, act, Acts, none, more, Plan, size, sizes, count}
 use Rattle.plan.proofs.Limits.{accepted-is-within}
 use Rattle.order.specs.declared.Order.{Order}
 use Rattle.machine.specs.declared.State.{State}
-use Rattle.machine.specs.declared.Tally.{Tally}
 use Rattle.order.specs.State.{idle, markAt, isLive, noOrder}
 use Rattle.machine.specs.State.{fresh}
 use Rattle.order.specs.Lists.{some}
 use Rattle.order.specs.Event.{Event}
 use Rattle.order.specs.Scope.{isScope}
-use Rattle.order.specs.Acting.{stepOrder}
-use Rattle.machine.specs.Calls.{loadedAs, load, Stepped, step, Call}
+use Rattle.machine.specs.Calls.{loadedAs, load, Stepped, step}
 use Rattle.undoing.specs.History.{logOf, history}
 use Rattle.undoing.specs.Demand3.{noneNow}
 use Rattle.undoing.specs.Ties.{stateAfter}
@@ -30,10 +27,10 @@ use Rattle.undoing.proofs.Marks.{trio}
 use Rattle.undoing.proofs.Orders.{least, onto}
 use Rattle.undoing.proofs.Places.{first-of, second-of}
 use Rattle.undoing.proofs.Planning.{Formed, formed-part, formed-scope, FormedIn, formed-none, formed-more, Promised, promised}
-use Rattle.undoing.proofs.Demanded.{Slot, slot-free, fresh-order, Sane}
+use Rattle.undoing.proofs.Demanded.{slot-free, fresh-order}
 use Rattle.undoing.proofs.Told.{sanely}
 use Rattle.undoing.proofs.Happening.{orderIn, Happens, nothing-here, goes-here, starts-here, step-happens}
-use Rattle.undoing.proofs.Truly.{Up, needs, Knows, knows, KnowsIn, knows-none, knows-more}
+use Rattle.undoing.proofs.Truly.{needs, Knows, knows, KnowsIn, knows-none, knows-more}
 use Rattle.undoing.proofs.Lasting.{order-truly}
 
 -- A tree of its form, whose numbers f knows as the tree does.

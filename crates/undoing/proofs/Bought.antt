@@ -2,32 +2,29 @@
 use Prim.Native.Nat.{ℕ, suc, _+_, _≤_}
 use native.Mathlib.Omega.{arith}
 use mathlib.Core.Path.{_≡_, refl, sym, ap, subst, _∙_}
-use mathlib.Core.Bool.{Bool, true, false, cond, not, _&&_, _||_, false≢true, or-true}
-use mathlib.Core.List.{List, [], _∷_, _++_, reverse, map, append-nil}
+use mathlib.Core.Bool.{Bool, true, false, not, _||_, false≢true, or-true}
+use mathlib.Core.List.{List, [], _∷_, _++_, reverse, map}
 use lib.ListN.{length, take, drop, length-append, length-reverse, take-append-drop}
 use native.Mathlib.Nat.{add-zero, zero-add, add-suc, suc-add}
 use lib.Dec.{eqb, leb}
 use borrow.Author.Tests.{eqb-true, eqb-false, eq-eqb, ne-eqb, le-leb, not-true}
-use Rattle.plan.specs.Found.{found}
-use Rattle.plan.specs.Read.{readPlan}
-use Rattle.plan.specs.Tree.{Own, scope, kind, Act, act, Acts, none, more, Plan, size}
+use Rattle.plan.specs.Tree.{kind, Act, act, Acts, none, more, Plan, size}
 use Rattle.plan.proofs.Limits.{accepted-is-within}
-use Rattle.machine.specs.declared.Tally.{Tally}
 use Rattle.order.specs.Lists.{every, some, only, each, alike}
 use Rattle.order.specs.State.{Name, root, inner, same}
 use Rattle.order.specs.Event.{Event, started, began, closed, faulted, stopped, ended, raised, left}
-use Rattle.order.specs.Scope.{isScope, rootOf}
-use Rattle.machine.specs.Calls.{loaded, Call}
+use Rattle.order.specs.Scope.{isScope}
+use Rattle.machine.specs.Calls.{loaded}
 use Rattle.undoing.specs.History.{history}
 use Rattle.undoing.specs.Demand3.{Inner, scopesIn, scopesAmong, scopesOf, insideOf, isBegin, since, closedBy, undoneBy, closingsOf, undoneOf, hasTurned, noneLeft, noneNow, mayUndo, mayBegin, allowed, rightAfter, right, Demand3}
 use Rattle.undoing.specs.Orderly.{isBeganOf}
 use Rattle.undoing.specs.Ties.{Place, nameOf}
 use Rattle.undoing.specs.Buyer.{howMany, isClosedOf, AtMostOnce, wasClosed, closedFirst, closedFirstAfter, TakenBackWasClosed}
-use Rattle.undoing.proofs.Parts.{both, decide, only-append, only-swap, only-reverse, every-so, some-append, same-itself}
-use Rattle.undoing.proofs.Accounts.{Account, accountOf, next, account-next, Known}
+use Rattle.undoing.proofs.Parts.{both, decide, only-append, only-swap, only-reverse, every-so, same-itself}
+use Rattle.undoing.proofs.Accounts.{Account, next, account-next, Known}
 use Rattle.undoing.proofs.Marks.{trio}
 use Rattle.undoing.proofs.Moves.{undone-inside, closed-inside, not-begun}
-use Rattle.undoing.proofs.Orders.{bare, bareIn, innerAt, onto, Sits, sits-part, sits-scope, SitsIn, sits-none, sits-more, Remedy, remedy-bare}
+use Rattle.undoing.proofs.Orders.{bare, bareIn, innerAt, onto, Sits, sits-part, sits-scope, SitsIn, sits-none, sits-more, remedy-bare}
 use Rattle.undoing.proofs.Planning.{Promised, promised, scopes-is}
 use Rattle.undoing.proofs.Offered.{Each, each-none, each-more, each-append}
 use Rattle.undoing.proofs.Demanded as demanded

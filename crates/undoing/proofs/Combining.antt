@@ -11,7 +11,7 @@ use borrow.Author.Tests.{eqb-true, eq-eqb}
 use Rattle.plan.specs.Tree.{Own, empty, send, receive, set as setting, raise, leave, choose, repeat, sequence, flow, pick, scope, arm, kind, Act, act, Acts, Plan, size, sizes}
 use Rattle.order.specs.declared.Order.{Order}
 use Rattle.order.specs.declared.End.the-variants.{None, Left}
-use Rattle.order.specs.State.{Name, root, inner, idle, active, inside, withMarks, markAt}
+use Rattle.order.specs.State.{root, inner, idle, active, inside, withMarks, markAt}
 use Rattle.order.specs.Event.{Event, raised}
 use Rattle.order.specs.Begin.{beginAfter, quiet}
 use Rattle.order.specs.declared.Way.{Way as Result}

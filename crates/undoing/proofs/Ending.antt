@@ -22,22 +22,22 @@ use Rattle.order.specs.State.{root, inner, isLive, noOrder}
 use Rattle.machine.specs.State.{fresh}
 use Rattle.machine.specs.Limits.{rootInLimits}
 use Rattle.order.specs.Event.{Event, started, began, closed, faulted, stopped, ended, raised, left}
-use Rattle.order.specs.Acting.{allBound, Moved, stepOrder, begunOrder, startedOrder}
+use Rattle.order.specs.Acting.{allBound, stepOrder, begunOrder, startedOrder}
 use Rattle.machine.specs.Calls.{loadedAs, load, post, collect, Stepped, step, Call, posting, collecting, stepping}
 use Rattle.undoing.specs.History.{logOf, history}
-use Rattle.undoing.specs.Demand3.{closingsOf, noneNow, isOver, allowed, hasTurned}
+use Rattle.undoing.specs.Demand3.{closingsOf, noneNow, isOver, allowed}
 use Rattle.undoing.specs.Orderly.{orderly}
-use Rattle.undoing.specs.Ties.{isDeed, isFault, deedOf, deedIn, deedAmong, deedAt, placeOf, fits, due, dueFirst, isNothing, isRaised, endTold, endList, endsIn, endBy, endsTaken, EndsTold}
+use Rattle.undoing.specs.Ties.{isDeed, isFault, deedOf, deedIn, deedAmong, deedAt, placeOf, fits, due, isRaised, endTold, endList, endsIn, endBy, endsTaken, EndsTold}
 use Rattle.undoing.specs.Buyer.{atEnds, allBack, HandledTakesAllBack, noneBack, WellTakesNothingBack}
 use Rattle.undoing.proofs.Parts.{both, decide, alike-itself}
 use Rattle.undoing.proofs.Moves.{HoldsAt, fair}
-use Rattle.undoing.proofs.Orders.{endsTurned, older, momentOf, fairAfter, onto, onto-append, does-nothing}
-use Rattle.undoing.proofs.Roots.{Awaited, Standing, EndedAs, Passed, passes-on, passes-end, order-steps}
+use Rattle.undoing.proofs.Orders.{endsTurned, older, momentOf, fairAfter, onto}
+use Rattle.undoing.proofs.Roots.{Awaited, Standing, EndedAs, Passed, passes-on, passes-end}
 use Rattle.undoing.proofs.Planning.{Promised, promised}
-use Rattle.undoing.proofs.Demanded.{Slot, slot-free, Alike, taken-step, started-in-limits, order-starts, post-same, collect-same, fresh-order, Sane, same-sane, step-after}
+use Rattle.undoing.proofs.Demanded.{slot-free, Alike, taken-step, started-in-limits, order-starts, post-same, collect-same, fresh-order, Sane, same-sane, step-after}
 use Rattle.undoing.proofs.Happening.{orderIn, Happens, nothing-here, goes-here, starts-here, step-happens}
 use Rattle.undoing.proofs.Deeds.{order-deeds, start-deed}
-use Rattle.undoing.proofs.Shapes.{isGrave, Calm, Shape, shape-calm, shape-fault, shape-end-fault, shape-end, shape-lost, isFailed, OrderShape, shaped, out, order-shape, start-calm}
+use Rattle.undoing.proofs.Shapes.{isGrave, Calm, Shape, shape-calm, shape-fault, shape-end-fault, shape-end, shape-lost, OrderShape, shaped, out, order-shape, start-calm}
 use Rattle.undoing.proofs.Fitting.{standing-fits}
 use Rattle.undoing.proofs.Heeding.{Clear, clear-raised, heeds-clears, step-heeds, calm-heeds, alike-stands}
 

@@ -11,7 +11,7 @@ use borrow.Author.Tests.{ltb-true, ltb-false}
 use Rattle.plan.specs.Tree.{Exp, Own, empty, send, receive, set as setting, raise, leave, choose, repeat, sequence, flow, pick, scope, arm, kind, Act, act, Acts, more, Plan, size, sizes, count}
 use Rattle.order.specs.declared.Order.{Order}
 use Rattle.order.specs.declared.End.the-variants.{None}
-use Rattle.order.specs.State.{Name, root, inner, idle, active, inside, withMarks, marked, binding}
+use Rattle.order.specs.State.{root, inner, idle, active, inside, withMarks, marked, binding}
 use Rattle.order.specs.Event.{Event}
 use Rattle.order.specs.Expression.{Value, fault, value, evaluate, isTrue}
 use Rattle.order.specs.Begin.{Begun, begin, beginInTurn, beginAfter, part, partAt, beginPart, cleared, quiet}
@@ -24,7 +24,7 @@ use Rattle.undoing.proofs.Parts.{decide}
 use Rattle.undoing.proofs.Accounts.{phase}
 use Rattle.undoing.proofs.Moves.{Everywhere, Before, Spot, move-raise, order-left}
 use Rattle.undoing.proofs.Marks.{isDoer, Quiet, Kept, holding, Run, run-awaits, run-one, One, one-here, one-later, able-part, quiet-part, quiet-agree, quiet-join, agree-below, agree-above, kept-wider, kept-then, kept-itself, kept-set, quiet-stoppable}
-use Rattle.undoing.proofs.Orders.{momentOf, fairAfter, Fit, fit-kept, fit-marked, before-on, Does, does-then, does-nothing, does-still, does-one, plain-marked, isArm, least, SitsIn, sits-none, sits-more}
+use Rattle.undoing.proofs.Orders.{momentOf, fairAfter, Fit, fit-kept, fit-marked, Does, does-then, does-nothing, does-still, does-one, plain-marked, isArm, least, SitsIn, sits-none, sits-more}
 use Rattle.undoing.proofs.Beginning.{Begins, begins, begins-in-turn, begins-nothing, quiet-set, quiet-cons}
 use Rattle.undoing.proofs.Breaking.{cleared-kept, cleared-quiet}
 use Rattle.undoing.proofs.Scoping.{Acted, RunAs}

@@ -2,7 +2,7 @@
 use Prim.Native.Nat.{ℕ, _<_}
 use native.Mathlib.Omega.{arith}
 use mathlib.Core.Path.{_≡_, refl, sym, ap, subst, _∙_}
-use mathlib.Core.Bool.{Bool, true, false, not, false≢true}
+use mathlib.Core.Bool.{Bool, true, false, false≢true}
 use mathlib.Core.List.{List, [], _∷_, _++_}
 use lib.ListN.{length, getD, set}
 use lib.Seq.{getD-set-same, getD-set-other}
@@ -12,7 +12,6 @@ use Rattle.plan.specs.Found.{Found, found}
 use Rattle.plan.specs.Read.{readPlan}
 use Rattle.plan.specs.Tree.{Plan}
 use Rattle.order.specs.declared.Order.{Order}
-use Rattle.order.specs.declared.End.{End}
 use Rattle.machine.specs.declared.State.{State}
 use Rattle.machine.specs.declared.Tally.{Tally}
 use Rattle.order.specs.Lists.{every}
@@ -20,7 +19,7 @@ use Rattle.order.specs.State.{isLive, noOrder}
 use Rattle.machine.specs.State.{noMessage}
 use Rattle.machine.specs.Limits.{rootInLimits, orderInLimits, inLimits, by}
 use Rattle.order.specs.Event.{Event, started}
-use Rattle.order.specs.Acting.{Moved, stepOrder, begunOrder, startedOrder}
+use Rattle.order.specs.Acting.{stepOrder, begunOrder, startedOrder}
 use Rattle.machine.specs.Offer.{Offer, offersOf}
 use Rattle.machine.specs.Calls.{refusing, Chosen, refusedChoice, chosen, choosing, countStart, Stepped, doingAt, messagesAfter, orderTaking, stepped, taken, stepChosen, stepBy, step}
 use Rattle.undoing.specs.History.{logOf}

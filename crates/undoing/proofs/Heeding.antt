@@ -1,13 +1,11 @@
 -- What is due happens next, and nothing faults but where that is due. Assumes nothing.
-use Prim.Native.Nat.{ℕ, _+_, _≤_, _<_}
+use Prim.Native.Nat.{ℕ, _+_, _≤_}
 use native.Mathlib.Omega.{arith}
 use mathlib.Core.Path.{_≡_, refl, sym, ap, subst, _∙_}
-use mathlib.Core.Bool.{Bool, true, false, cond, _&&_, false≢true}
+use mathlib.Core.Bool.{true, false, cond, false≢true}
 use mathlib.Core.List.{List, [], _∷_, _++_}
-use lib.ListN.{length, getD, length-replicate}
+use lib.ListN.{length, length-replicate}
 use lib.Seq.{take-append-seam}
-use lib.Dec.{eqb}
-use borrow.Author.Tests.{eqb-true}
 use Rattle.plan.specs.Found.{Found, found}
 use Rattle.plan.specs.Read.{readPlan}
 use Rattle.plan.specs.Tree.{Plan, size}
@@ -18,17 +16,15 @@ use Rattle.machine.specs.declared.State.{State}
 use Rattle.machine.specs.declared.Tally.{Tally}
 use Rattle.order.specs.Lists.{only}
 use Rattle.order.specs.State.{Name, root, inner, isLive, markOf, noOrder}
-use Rattle.machine.specs.State.{noMessage, fresh}
-use Rattle.machine.specs.Limits.{inLimits, by}
+use Rattle.machine.specs.State.{fresh}
 use Rattle.order.specs.Event.{Event, started, began, closed, faulted, stopped, ended, raised, left}
 use Rattle.order.specs.Scope.{isOpen, rootOf}
 use Rattle.order.specs.Acting.{stepOrder, begunOrder, startedOrder}
-use Rattle.machine.specs.Offer.{Offer, offersOf}
-use Rattle.machine.specs.Calls.{loadedAs, load, refusing, post, collect, Chosen, refusedChoice, chosen, choosing, countStart, Stepped, doingAt, orderTaking, stepped, taken, stepChosen, stepBy, step, Call, posting, collecting, stepping}
+use Rattle.machine.specs.Calls.{loadedAs, load, post, collect, Stepped, step, Call, posting, collecting, stepping}
 use Rattle.undoing.specs.History.{logOf, history}
 use Rattle.undoing.specs.Demand3.{mayTurn, noneNow}
 use Rattle.undoing.specs.Ties.{isName, fits, Place, bodyOf, faultOf, undoOf, placeOf, Due, nothing, fault, end, dueFirst, dueSecond, dueEnded, due, isFaultOf, isEndOf, heeds, isNothing, heedsAfter, FaultsTold, isRaised}
-use Rattle.undoing.proofs.Parts.{both, decide, same-itself}
+use Rattle.undoing.proofs.Parts.{both, same-itself}
 use Rattle.undoing.proofs.Accounts.{accountOf, left-unfinished}
 use Rattle.undoing.proofs.Moves.{HoldsAt}
 use Rattle.undoing.proofs.Orders.{listOf, momentOf, onto, does-nothing}
@@ -37,9 +33,9 @@ use Rattle.undoing.proofs.Planning.{Promised, promised}
 use Rattle.undoing.proofs.Shapes.{isGrave, Calm, Handler, in-fault, in-undo, Shape, shape-calm, shape-fault, shape-end-fault, shape-end, shape-lost, OrderShape, shaped, out, order-shape, start-calm}
 use Rattle.undoing.proofs.Fitting.{standing-fits}
 use Rattle.undoing.proofs.Told.{told}
-use Rattle.undoing.proofs.Offered.{Good, good-live, good-start, chosen-good}
+use Rattle.undoing.proofs.Happening.{orderIn, Happens, nothing-here, goes-here, starts-here, step-happens}
 use Rattle.undoing.proofs.Scoping.{Running}
-use Rattle.undoing.proofs.Demanded.{Slot, slot-free, slot-live, standing-live, Alike, taking-alike, order-starts, post-same, collect-same, fresh-order, plan-in, plan-out, Sane, same-sane, step-after}
+use Rattle.undoing.proofs.Demanded.{slot-free, Alike, order-starts, post-same, collect-same, fresh-order, Sane, same-sane, step-after}
 
 -- nothing is due
 abbrev pub Clear : Plan → (past : List Event) → Type 0
@@ -187,65 +183,22 @@ module _ (p : Plan) (bytes : List ℕ) (next i : ℕ) (accepted : readPlan bytes
   abbrev Heeds : List Event → Stepped → Type 0
   Heeds past r = heedsAfter p past (logOf i r) ≡ true
 
-  -- nothing happens in the slot
-  refused-heeds : (past : List Event) (r : Stepped) → r .log ≡ [] → Clear p past → Heeds past r
-  unfolding heedsAfter
-  refused-heeds past r d c = decide (eqb (r .answer .slot) i) (λ t. rw (t, d) c) (λ t. rw t c)
-
-  -- a step taken, in this slot or in another
-  stepped-heeds : (x : Offer) (s : State) (t : Tally) (o : Order) (l past : List Event) → Clear p past
-      → (x .slot ≡ i → heedsAfter p past (stepped p x s t o l .log) ≡ true) → Heeds past (stepped p x s t o l)
-  unfolding stepped heedsAfter
-  stepped-heeds x s t o l past c f = decide (eqb (x .slot) i) (λ e. rw e (f (eqb-true (x .slot) i e))) (λ e. rw e c)
-
-  taken-heeds : (x : Offer) (s : State) (t : Tally) (past : List Event) → Sane p bytes next i accepted h s past → Clear p past → Good p (s .orders) x → Heeds past (taken p x s t)
-  unfolding taken stepped
-  taken-heeds x s t past g c (good-live e w) =
-      subst (λ (b : Bool). Heeds past (elim b [ true ↦ stepped p x s t o [] | false ↦ stepped p x s (countStart t) (startedOrder p) (started ∷ begunOrder p .log) ])) (sym e)
-      (stepped-heeds x s t o [] past c (λ d. goes (subst (λ (k : ℕ). Slot p (getD (s .orders) k noOrder) past) (sym d) (g .slot))))
-    where
-      o : Order
-      o = getD (s .orders) (x .slot) noOrder
-
-      o₁ : Order
-      o₁ = orderTaking (doingAt p (x .activity)) (getD (s .messages) (x .place) noMessage) o
-
-      goes : Slot p o past → heedsAfter p past (stepOrder p (x .activity) o₁ .log) ≡ true
-      goes (slot-free n y) = absurd (false≢true (sym n ∙ e))
-      goes (slot-live st y) =
-          order-heeds (x .activity) o o₁ past (taking-alike p (doingAt p (x .activity)) (getD (s .messages) (x .place) noMessage) o) w st y c
-  taken-heeds x s t past g c (good-start e b w) =
-      subst (λ (z : Bool). Heeds past (elim z [ true ↦ stepped p x s t (getD (s .orders) (x .slot) noOrder) [] | false ↦ stepped p x s (countStart t) o (started ∷ begunOrder p .log) ])) (sym e)
-      (stepped-heeds x s (countStart t) o (started ∷ begunOrder p .log) past c (λ d. goes (subst (λ (k : ℕ). Slot p (getD (s .orders) k noOrder) past) (sym d) (g .slot))))
-    where
-      o : Order
-      o = startedOrder p
-
-      o₁ : Order
-      o₁ = orderTaking (doingAt p (x .activity)) (getD (s .messages) (x .place) noMessage) o
-
-      goes : Slot p (getD (s .orders) (x .slot) noOrder) past → heedsAfter p past ((started ∷ begunOrder p .log) ++ stepOrder p (x .activity) o₁ .log) ≡ true
-      goes (slot-live st y) = absurd (false≢true (sym e ∙ standing-live p (getD (s .orders) (x .slot) noOrder) st))
-      goes (slot-free n y) =
-          let a = order-starts p h (x .activity) past y w in
-          let l = started ∷ begunOrder p .log in
-          let z = calm-heeds p l past (start-calm p) c in
-          heeds-append p l (stepOrder p (x .activity) o₁ .log) past z
-          (order-heeds (x .activity) o o₁ (onto l past) (taking-alike p (doingAt p (x .activity)) (getD (s .messages) (x .place) noMessage) o) w (a .1) (a .2) (heeds-clears p l past z))
-
-  -- a step, taken or refused
+  -- a step, in this slot or elsewhere
   pub step-heeds : (c : ℕ) (s : State) (t : Tally) (past : List Event) → Sane p bytes next i accepted h s past → Clear p past → Heeds past (step c s t)
-  unfolding step stepBy stepChosen
-  step-heeds c s t past g z =
-      decide (inLimits s)
-      (λ e. subst (λ (f : Found Plan). Heeds past (by (record { answer = refusing 17; state = s; tally = t; log = [] }) (λ p. stepBy p c s t) f))
-      (sym (plan-in s e ∙ (ap readPlan (g .plan) ∙ accepted))) (choice (choosing (offersOf p s) c) refl))
-      (λ e. subst (λ (f : Found Plan). Heeds past (by (record { answer = refusing 17; state = s; tally = t; log = [] }) (λ p. stepBy p c s t) f))
-      (sym (plan-out s e)) (refused-heeds past (record { answer = refusing 17; state = s; tally = t; log = [] }) refl z))
+  unfolding heedsAfter
+  step-heeds c s t past g z = go (step-happens p bytes next i accepted h c s t past g)
     where
-      choice : (y : Chosen) → choosing (offersOf p s) c ≡ y → Heeds past (stepChosen p s t y)
-      choice (refusedChoice n) e = refused-heeds past (record { answer = refusing n; state = s; tally = t; log = [] }) refl z
-      choice (chosen x) e = taken-heeds x s t past g z (chosen-good p s c x e)
+      r : Stepped
+      r = step c s t
+
+      go : Happens p i s past r → Heeds past r
+      go (nothing-here l e o) = rw l z
+      go (goes-here t o a w st m y l e d) = rw l (order-heeds t (orderIn s i) o past a w st y z)
+      go (starts-here t o a w n y l e d) =
+          let b = order-starts p h t past y w in
+          let l₀ = started ∷ begunOrder p .log in
+          let x = calm-heeds p l₀ past (start-calm p) z in
+          rw l (heeds-append p l₀ (stepOrder p t o .log) past x (order-heeds t (startedOrder p) o (onto l₀ past) a w (b .1) (b .2) (heeds-clears p l₀ past x)))
 
   -- over any calls
   heeding : (calls : List Call) (s : State) (t : Tally) (past : List Event) → Sane p bytes next i accepted h s past → Clear p past → heedsAfter p past (history calls i s t) ≡ true

@@ -1,7 +1,6 @@
 -- The states that the compiled calls give are those of the history, by their contracts. Assumes nothing.
-use Prim.Native.Nat.{ℕ}
-use mathlib.Core.Path.{_≡_, refl, sym, ap, subst, _∙_}
-use mathlib.Core.List.{List, [], _∷_}
+use mathlib.Core.Path.{_≡_, refl, ap, _∙_}
+use mathlib.Core.List.{List, []}
 use lib.ListN.{getD}
 use Rattle.order.specs.State.{noOrder}
 use Rattle.machine.specs.declared.State.{State}
@@ -9,7 +8,7 @@ use Rattle.machine.specs.declared.Tally.{Tally}
 use Rattle.machine.specs.declared.Posted.{Posted}
 use Rattle.machine.specs.declared.Collected.{Collected}
 use Rattle.step.specs.declared.Stepped.{Stepped}
-use Rattle.machine.specs.Calls.{post, collect, step, Call, posting, collecting, stepping}
+use Rattle.machine.specs.Calls.{Call}
 use Rattle.undoing.specs.Ties.{stateAfter}
 use Rattle.undoing.specs.Compiled.{Runs, ends, posts, collects, steps, OfTheProgram}
 

@@ -1,7 +1,6 @@
 -- Histories of engines that do wrong, on plans and calls, and which of the statements each breaks: computed. Assumes nothing.
 use Prim.Native.Nat.{ℕ}
 use mathlib.Core.Path.{_≡_, refl}
-use mathlib.Core.Bool.{Bool, true, false}
 use mathlib.Core.List.{List, [], _∷_, map}
 use Rattle.plan.specs.Read.{readPlan}
 use Rattle.order.specs.declared.Order.{Order}
@@ -13,8 +12,8 @@ use Rattle.machine.specs.Calls.{loaded, Call, posting, stepping}
 use Rattle.machine.specs.Computing.{computing}
 use Rattle.undoing.specs.Computing.{judging}
 use Rattle.undoing.specs.History.{history}
-use Rattle.undoing.specs.Ties.{orderAfter, deedsTaken, endsTaken}
-use Rattle.undoing.specs.UndoneRight.{Named, demand3, orderly, faults, steps, ends, live, marks, lists, places, goingOn, neverStuck, broken}
+use Rattle.undoing.specs.Ties.{deedsTaken, endsTaken}
+use Rattle.undoing.specs.UndoneRight.{Named, demand3, orderly, faults, steps, ends, live, goingOn, neverStuck, broken}
 
 -- A plan, calls on a fresh state of it, what happens with them in slot 0, and what an engine that does wrong would say had happened.
 record Wrong : Type 0 where

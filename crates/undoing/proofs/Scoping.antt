@@ -21,7 +21,7 @@ use Rattle.undoing.specs.Ties.{isName}
 use Rattle.undoing.proofs.Parts.{decide}
 use Rattle.undoing.proofs.Accounts.{Phase, rest, live, waits, heals, odd, phase, tied-as}
 use Rattle.undoing.proofs.Moves.{tied-from, move-fault}
-use Rattle.undoing.proofs.Marks.{Quiet, Kept, Run, Turned, turned-waits, turned-undoes, turned-heals, Stopped, Undoing, Stoppable, agree-part, quiet-part, quiet-agree, agree-below, agree-above, kept-itself, stoppable-agree, not-open}
+use Rattle.undoing.proofs.Marks.{Quiet, Kept, Run, Turned, turned-undoes, turned-heals, Stopped, Undoing, Stoppable, agree-part, quiet-part, quiet-agree, agree-below, agree-above, stoppable-agree, not-open}
 use Rattle.undoing.proofs.Orders.{endAs, failAs, listOf, momentOf, Does, does-then, does-nothing, does-one, bare, remedy-names}
 use Rattle.undoing.proofs.Seats.{Seat, mark-kept, marking-mark, marking-elsewhere, marking-agree, marking-length, quiet-inner, inside-rest}
 use Rattle.undoing.proofs.Turning.{Apart, apart-then, apart-kept, apart-marking, TurnsAs, Turns, turns-after, does-phase, marking-list, does-healed, undoes-on, turns-on}

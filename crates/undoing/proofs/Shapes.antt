@@ -21,7 +21,7 @@ use Rattle.order.specs.declared.Way.{Way as Result}
 use Rattle.order.specs.declared.Way.the-variants.{Running as running, Over as over, Raising as raising, Leaving as leaving, Undone as undone, UndoRaising as undoRaising}
 use Rattle.order.specs.Scope.{Outcome, runs, after, begunIn, whereOver, Scope, scopeAt, rootOf, isScope, isOpen, innerRuns, closing, beginUndo, startUndo, undo, ends, handle, undoes, turns, stop, faults, breaks, looksAgain, bodyOver, bodyRaised, undoOver, undoRaised, fromBody, partOver, partRaised, fromFault, fromUndo, rememberedFor, forgetting}
 use Rattle.order.specs.Acting.{finishes, raises, orRaises, enters, again, repeats, allBound, itself, isPart, arms, goesOn, joins, inScope, combines, stepIn, stepAmong, stepRoot, endOf, movedTo, stepOrder, begunOrder}
-use Rattle.undoing.specs.Ties.{isName, fits, Place, bodyOf, faultOf, undoOf, nameOf, aroundOf, placeIn, placeAmong, placeParts, placeOf}
+use Rattle.undoing.specs.Ties.{isName, fits, Place, bodyOf, faultOf, undoOf, nameOf, aroundOf, placeIn, placeAmong, placeOf}
 use Rattle.undoing.proofs.Parts.{decide, both as both-true}
 use Rattle.undoing.proofs.Marks.{trio}
 use Rattle.undoing.proofs.Orders.{bare, bareIn, Sits, sits-part, sits-scope, SitsIn, sits-none, sits-more, Remedy, remedy, remedy-bare}

@@ -2,7 +2,7 @@
 use Prim.Native.Nat.{ℕ, _+_, _≤_, _<_}
 use native.Mathlib.Omega.{arith}
 use mathlib.Core.Path.{_≡_, refl, sym, ap, subst, _∙_}
-use mathlib.Core.Bool.{Bool, true, false, _&&_, false≢true, or-true, and-false}
+use mathlib.Core.Bool.{Bool, true, false, _&&_, false≢true, or-true}
 use mathlib.Core.List.{List, [], _∷_, _++_, reverse, reverse-append, append-nil}
 use lib.ListN.{length, getD, length-set}
 use lib.Seq.{getD-set-same, getD-set-other}
@@ -24,7 +24,7 @@ use Rattle.undoing.specs.Demand3.{Inner, insideOf, isUndoRaise}
 use Rattle.undoing.specs.Ties.{isName, Place, bodyOf, undoOf, nameOf, aroundOf}
 use Rattle.undoing.proofs.Parts.{both, decide, one-some, only-append, same-itself, same-swap}
 use Rattle.undoing.proofs.Accounts.{Phase, live, heals, phase, Known}
-use Rattle.undoing.proofs.Moves.{Before, Spot, move-close}
+use Rattle.undoing.proofs.Moves.{Spot, move-close}
 use Rattle.undoing.proofs.Marks.{run-loud, trio, spread, Agree, Quiet, Kept, holding, Run, run-awaits, run-one, run-all, run-body, run-done, run-turned, One, one-here, one-later, All, all-run, all-quiet, Turned, turned-waits, turned-undoes, turned-heals, turned-not-open, Stopped, stopped-part, stopped-quiet, stopped-scope, StoppedIn, stopped-more, Undoing, undoing-part, undoing-scope, UndoingIn, undoing-here, undoing-later, able-quiet, able-run, StoppableIn, able-more, quiet-part, quiet-agree, quiet-join, agree-below, agree-above, kept-wider, kept-set, run-agree, all-agree, stopped-agree, stopped-in-agree, quiet-stoppable, all-stoppable}
 use Rattle.undoing.proofs.Orders.{isIn, listOf, momentOf, Does, does-one, plain-marked, Fit, fit-marked, bare, bareIn, innerAt, isArm, least, Sits, sits-part, sits-scope, SitsIn, sits-more, Remedy, remedy, remedy-names, remedy-bare}
 use Rattle.undoing.proofs.Beginning.{Begins, quiet-set, quiet-cons}

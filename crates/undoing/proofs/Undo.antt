@@ -22,7 +22,7 @@ use Rattle.undoing.specs.Ties.{Place, undoOf, nameOf, aroundOf}
 use Rattle.undoing.proofs.Parts.{decide, only-first, only-reverse}
 use Rattle.undoing.proofs.Accounts.{Phase, phase, Known}
 use Rattle.undoing.proofs.Moves.{Spot}
-use Rattle.undoing.proofs.Marks.{trio, spread, Quiet, Kept, Run, Undoing, undoing-part, undoing-scope, UndoingIn, undoing-here, undoing-later, quiet-part, quiet-agree, quiet-join, agree-below, agree-above, kept-wider, kept-then, kept-itself}
+use Rattle.undoing.proofs.Marks.{trio, spread, Quiet, Kept, Undoing, undoing-part, undoing-scope, UndoingIn, undoing-here, undoing-later, quiet-part, quiet-agree, quiet-join, agree-below, agree-above, kept-wider, kept-then, kept-itself}
 use Rattle.undoing.proofs.Orders.{isIn, listOf, Does, does-then, does-nothing, Fit, Sits, sits-part, sits-scope, SitsIn, sits-none, sits-more, remedy-spot}
 use Rattle.undoing.proofs.Beginning.{quiet-cons, Begins, begins-remedy}
 use Rattle.undoing.proofs.Seats.{Seat, mark-kept, directly-directs, directly-range, directly-range-in, directly-is, quiet-inner, removed-list, does-undo}

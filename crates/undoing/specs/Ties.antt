@@ -15,7 +15,7 @@ use Rattle.order.specs.declared.End.the-variants.{None, Well, Handled, Failed, 
 use Rattle.machine.specs.declared.State.{State}
 use Rattle.machine.specs.declared.Tally.{Tally}
 use Rattle.order.specs.Lists.{every, some, only}
-use Rattle.order.specs.State.{idle, active, done, faulty, undoing, handling, halted, withdrawing, Name, root, inner, same, closings, markOf, isLive, noOrder}
+use Rattle.order.specs.State.{idle, faulty, undoing, handling, halted, withdrawing, Name, root, inner, same, closings, markOf, isLive, noOrder}
 use Rattle.order.specs.Expression.{Value, fault as faulting, value, evaluate}
 use Rattle.order.specs.Event.{Event, started, began, closed, faulted, stopped, ended, raised, left}
 use Rattle.order.specs.Begin.{quiet}
