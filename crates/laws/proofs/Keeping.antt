@@ -70,7 +70,7 @@ unfolding inLimits
 passed {s} f = rw (le-leb (s .length) 4096 (f .short), le-leb (s .waiting) 64 (f .waiting), f .orders, f .messages)
 
 -- an order in a slot is within its limits
-order-limits : (l : List Order) (i : ℕ) → every orderInLimits l ≡ true → orderInLimits (getD l i noOrder) ≡ true
+pub order-limits : (l : List Order) (i : ℕ) → every orderInLimits l ≡ true → orderInLimits (getD l i noOrder) ≡ true
 unfolding every
 order-limits [] i e = none-limits
 order-limits (o ∷ l) zero e = both (orderInLimits o) (every orderInLimits l) e (λ a b. a)
