@@ -4,6 +4,7 @@
 //!
 //! - `cargo test --offline` checks the model by itself; no library is needed.
 //! - `model/run compare [SEED] [COUNT]` asks the library in a process of its own.
+//! - `model/run writing [SEED] [COUNT]` does so for the writer.
 //! - `model/run bench` links `libboundary.a`, on x86-64.
 
 #![deny(unsafe_code)]
@@ -13,6 +14,7 @@ pub mod edges;
 pub mod full;
 pub mod generate;
 pub mod reader;
+pub mod rows;
 pub mod vectors;
 
 #[cfg(feature = "library")]

@@ -1,0 +1,35 @@
+-- `sheet::table::begin` is safe and ends. Assumes nothing.
+use borrow.Author.Needs.{needs}
+use Prim.Native.Nat.{_-_}
+use lib.ListN.{length}
+use mathlib.Core.Path.{_≡_}
+use Rattle.sheet.proofs.table.begin.Statement.{statement}
+use Rattle.sheet.proofs.table.begin.Tie as tie
+
+abbrev Inv-loop : tie.InvT-loop
+Inv-loop rows₀ lines r line c₀ rows c = length rows ≡ length rows₀
+
+abbrev μ-loop : tie.MeasureT-loop
+μ-loop rows₀ lines r line c₀ rows c = 20 - c
+
+pub begin-spec : {M : Type 1} → statement M
+begin-spec =
+    tie.close (tie.spec Inv-loop μ-loop
+    -- loop-holds
+    (λ c. search needs)
+    -- put-requires
+    (λ c κs. search needs)
+    -- add-c
+    (λ c. search needs)
+    -- loop-less
+    (λ c. search needs)
+    -- loop-again
+    (λ c. search needs)
+    -- put-line-requires
+    (λ c κs. search needs)
+    -- same-length
+    (λ c. search needs)
+    -- same-length-2
+    (λ c. search needs)
+    -- returns
+    (λ c. search needs))

@@ -1,0 +1,387 @@
+//! The model of the plan writer, written from document 02's first request and from what a row is
+//! (docs/DECISIONS.md): 20 places, the first of which says how many numbers the row has; then
+//! these numbers as the file has them; then 0.
+
+use crate::reader::{
+    MAX_ACTIVITIES, MAX_BYTES, MAX_DEPTH, MAX_EXPRESSION_DEPTH, Refusal, read, read_number,
+};
+
+/// The places of a row.
+pub const PLACES: usize = 20;
+
+/// Writes the plan of a table into `out`: how many bytes, or why none. Refused, `out` is as it was.
+pub fn write(table: &[u32], out: &mut [u8]) -> Result<usize, Refusal> {
+    let bytes = spelled(table)?;
+    if out.len() < bytes.len() {
+        return refuse(18, 0);
+    }
+    out[..bytes.len()].copy_from_slice(&bytes);
+    Ok(bytes.len())
+}
+
+/// Gives the table of a plan into `out`: how many numbers, or why none. Refused, `out` is as it was.
+pub fn give(bytes: &[u8], out: &mut [u32]) -> Result<usize, Refusal> {
+    let table = table_of(bytes)?;
+    if out.len() < table.len() {
+        return refuse(18, 0);
+    }
+    out[..table.len()].copy_from_slice(&table);
+    Ok(table.len())
+}
+
+/// The table of a plan.
+pub fn table_of(bytes: &[u8]) -> Result<Vec<u32>, Refusal> {
+    read(bytes)?;
+    let mut cutting = Cutting {
+        bytes,
+        place: 0,
+        table: Vec::new(),
+    };
+    let head = cutting.numbers(2);
+    cutting.counted(head);
+    cutting.activity();
+    cutting.activity();
+    Ok(cutting.table)
+}
+
+/// A row of these numbers.
+pub fn row(numbers: &[u32]) -> [u32; PLACES] {
+    let mut row = [0; PLACES];
+    row[0] = numbers.len() as u32;
+    row[1..=numbers.len()].copy_from_slice(numbers);
+    row
+}
+
+/// An accepted plan, cut into rows from the left.
+struct Cutting<'a> {
+    bytes: &'a [u8],
+    place: usize,
+    table: Vec<u32>,
+}
+
+impl Cutting<'_> {
+    fn number(&mut self) -> u32 {
+        let (value, next) = read_number(self.bytes, self.place).expect("an accepted plan");
+        self.place = next;
+        value
+    }
+
+    fn numbers(&mut self, count: usize) -> Vec<u32> {
+        (0..count).map(|_| self.number()).collect()
+    }
+
+    fn put(&mut self, numbers: &[u32]) {
+        self.table.extend(row(numbers));
+    }
+
+    /// A row of these numbers, a count and that many more.
+    fn counted(&mut self, mut numbers: Vec<u32>) {
+        let count = self.number();
+        numbers.push(count);
+        numbers.extend(self.numbers(count as usize));
+        self.put(&numbers);
+    }
+
+    fn expression(&mut self) {
+        let code = self.number();
+        if code < 2 {
+            let value = self.number();
+            self.put(&[code, value]);
+        } else {
+            self.put(&[code]);
+            self.expression();
+            self.expression();
+        }
+    }
+
+    fn activity(&mut self) {
+        let code = self.number();
+        match code {
+            1 | 2 => {
+                let mut message = vec![code];
+                message.extend(self.numbers(2));
+                self.counted(message);
+            }
+            3 => {
+                let variable = self.number();
+                self.put(&[code, variable]);
+                self.expression();
+            }
+            6 | 7 => {
+                self.put(&[code]);
+                self.expression();
+                for _ in code..8 {
+                    self.activity();
+                }
+            }
+            8..=10 => {
+                let count = self.number();
+                self.put(&[code, count]);
+                for _ in 0..count {
+                    if code == 10 {
+                        let arm = self.numbers(2);
+                        self.counted(arm);
+                    }
+                    self.activity();
+                }
+            }
+            _ => {
+                self.put(&[code]);
+                if code == 11 {
+                    (0..3).for_each(|_| self.activity());
+                }
+            }
+        }
+    }
+}
+
+/// The bytes of a table's plan, at most 4,096.
+fn spelled(table: &[u32]) -> Result<Vec<u8>, Refusal> {
+    let mut rows = Rows {
+        table,
+        at: 0,
+        variables: 0,
+        correlation: Vec::new(),
+        count: 0,
+        bytes: Vec::new(),
+    };
+    rows.head()?;
+    let starts = rows.activity(1, false)?;
+    rows.activity(1, true)?;
+    if rows.at * PLACES < table.len() {
+        return refuse(9, rows.at);
+    }
+    if !starts {
+        return refuse(7, 1);
+    }
+    if rows.bytes.len() > MAX_BYTES {
+        return refuse(1, 0);
+    }
+    Ok(rows.bytes)
+}
+
+/// The reading of a table: the next row, and what the rows before it said.
+struct Rows<'a> {
+    table: &'a [u32],
+    at: usize,
+    variables: u32,
+    correlation: Vec<u32>,
+    /// Activities and arms so far.
+    count: usize,
+    bytes: Vec<u8>,
+}
+
+impl<'a> Rows<'a> {
+    /// The next row and its number.
+    fn row(&mut self) -> Result<(usize, &'a [u32]), Refusal> {
+        let at = self.at;
+        match self.table.get(at * PLACES..(at + 1) * PLACES) {
+            Some(row) => {
+                self.at += 1;
+                Ok((at, row))
+            }
+            None => refuse(2, self.table.len() / PLACES),
+        }
+    }
+
+    /// Whether the row has `count` numbers and 0 behind them; then they are written.
+    fn spell(&mut self, row: &[u32], count: usize) -> bool {
+        let whole = row[0] as usize == count && row[1 + count..].iter().all(|&place| place == 0);
+        if whole {
+            for &value in &row[1..=count] {
+                spell(value, &mut self.bytes);
+            }
+        }
+        whole
+    }
+
+    fn head(&mut self) -> Result<(), Refusal> {
+        let (at, row) = self.row()?;
+        if row[1] != 1 {
+            return refuse(4, at);
+        }
+        let (variables, count) = (row[2], row[3]);
+        let legal = (1..=16).contains(&variables) && count <= variables && {
+            let some = &row[4..4 + count as usize];
+            some.iter().all(|&v| v < variables) && some.windows(2).all(|two| two[0] < two[1])
+        };
+        if !legal || !self.spell(row, 3 + count as usize) {
+            return refuse(5, at);
+        }
+        self.variables = variables;
+        self.correlation = row[4..4 + count as usize].to_vec();
+        Ok(())
+    }
+
+    /// Whether operation, count and variables from place `c` on keep their rules; then the row is written.
+    fn exchange(&mut self, row: &[u32], c: usize, once: bool) -> bool {
+        let count = row[c + 1] as usize;
+        if row[c] > 63 || !(1..=4).contains(&count) {
+            return false;
+        }
+        let some = &row[c + 2..c + 2 + count];
+        let twice = (1..count).any(|i| some[..i].contains(&some[i]));
+        some.iter().all(|&v| v < self.variables)
+            && !(once && twice)
+            && self.spell(row, c + 1 + count)
+    }
+
+    fn expression(&mut self, level: u32) -> Result<(), Refusal> {
+        let (at, row) = self.row()?;
+        let code = row[1];
+        if code > 5 {
+            return refuse(4, at);
+        }
+        if level > MAX_EXPRESSION_DEPTH {
+            return refuse(6, at);
+        }
+        let legal = match code {
+            0 => self.spell(row, 2),
+            1 => row[2] < self.variables && self.spell(row, 2),
+            _ => self.spell(row, 1),
+        };
+        if !legal {
+            return refuse(5, at);
+        }
+        if code > 1 {
+            self.expression(level + 1)?;
+            self.expression(level + 1)?;
+        }
+        Ok(())
+    }
+
+    /// An activity, in a fault or undo part where `handler` holds: whether it is a start form.
+    fn activity(&mut self, level: u32, handler: bool) -> Result<bool, Refusal> {
+        let (at, row) = self.row()?;
+        let code = row[1];
+        if code > 11 {
+            return refuse(4, at);
+        }
+        if code == 11 && handler {
+            return refuse(8, at);
+        }
+        if level > MAX_DEPTH || self.count == MAX_ACTIVITIES {
+            return refuse(6, at);
+        }
+        self.count += 1;
+        let most = if code == 10 { 8 } else { 32 };
+        let legal = match code {
+            1 | 2 => row[2] < 64 && self.exchange(row, 3, code == 2),
+            3 => {
+                row[2] < self.variables && !self.correlation.contains(&row[2]) && self.spell(row, 2)
+            }
+            8..=10 => (1..=most).contains(&row[2]) && self.spell(row, 2),
+            _ => self.spell(row, 1),
+        };
+        if !legal {
+            return refuse(5, at);
+        }
+        if let 3 | 6 | 7 = code {
+            self.expression(1)?;
+        }
+        let within = match code {
+            6 => 2,
+            7 => 1,
+            8..=10 => row[2],
+            11 => 3,
+            _ => 0,
+        };
+        let mut starts = Vec::new();
+        for order in 0..within {
+            if code == 10 {
+                self.arm()?;
+            }
+            starts.push(self.activity(level + 1, handler || code == 11 && order > 0)?);
+        }
+        Ok(match code {
+            2 | 10 => true,
+            8 | 11 => starts[0],
+            9 => starts.iter().all(|&start| start),
+            _ => false,
+        })
+    }
+
+    fn arm(&mut self) -> Result<(), Refusal> {
+        let (at, row) = self.row()?;
+        if row[1] > 63 {
+            return refuse(5, at);
+        }
+        if self.count == MAX_ACTIVITIES {
+            return refuse(6, at);
+        }
+        self.count += 1;
+        if !self.exchange(row, 2, true) {
+            return refuse(5, at);
+        }
+        Ok(())
+    }
+}
+
+fn spell(mut value: u32, bytes: &mut Vec<u8>) {
+    while value >= 128 {
+        bytes.push(value as u8 | 0x80);
+        value >>= 7;
+    }
+    bytes.push(value as u8);
+}
+
+fn refuse<T>(number: u32, place: usize) -> Result<T, Refusal> {
+    Err(Refusal {
+        number,
+        place: place as u32,
+    })
+}
+
+#[cfg(test)]
+mod tests {
+    use super::*;
+
+    const PLAN_A: [u8; 11] = [1, 2, 1, 0, 2, 3, 5, 2, 0, 1, 0];
+
+    #[test]
+    fn plan_a_both_ways() {
+        let table = table_of(&PLAN_A).unwrap();
+        let rows: [&[u32]; 3] = [&[1, 2, 1, 0], &[2, 3, 5, 2, 0, 1], &[0]];
+        assert_eq!(
+            table,
+            rows.iter()
+                .flat_map(|numbers| row(numbers))
+                .collect::<Vec<u32>>()
+        );
+        let mut out = [9; 12];
+        assert_eq!(write(&table, &mut out), Ok(11));
+        assert_eq!((&out[..11], out[11]), (&PLAN_A[..], 9));
+    }
+
+    #[test]
+    fn refusals_of_plan_a() {
+        let table = table_of(&PLAN_A).unwrap();
+        let mut out = [9; 11];
+        let mut tried = |table: &[u32], room: usize, number, place| {
+            assert_eq!(
+                write(table, &mut out[..room]),
+                Err(Refusal { number, place })
+            );
+            assert_eq!(out, [9; 11]);
+        };
+        tried(&table, 10, 18, 0);
+        tried(&table[..40], 11, 2, 2);
+        tried(&[], 11, 2, 0);
+        tried(&[&table[..], &[0]].concat(), 11, 9, 3);
+        let changes = [
+            (1, 2, 4, 0),
+            (59, 7, 5, 2),
+            (40, 2, 5, 2),
+            (41, 11, 8, 2),
+            (26, 0, 5, 1),
+        ];
+        for (place, value, number, row) in changes {
+            let mut other = table.clone();
+            other[place] = value;
+            tried(&other, 11, number, row);
+        }
+        let mut other = table.clone();
+        other[20..40].copy_from_slice(&row(&[0]));
+        tried(&other, 0, 7, 1);
+    }
+}
