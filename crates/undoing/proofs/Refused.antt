@@ -55,6 +55,9 @@ abbrev hanging : Order
 hanging = withRoot faulty (remembering (2 ∷ 6 ∷ []) noOrder)
 
 -- the calls of the other examples
+abbrev thirteen : List Call
+thirteen = first ∷ next ∷ next ∷ next ∷ next ∷ next ∷ next ∷ next ∷ next ∷ next ∷ next ∷ next ∷ next ∷ []
+
 abbrev seventeen : List Call
 seventeen = first ∷ next ∷ next ∷ next ∷ next ∷ next ∷ next ∷ next ∷ next ∷ next ∷ next ∷ next ∷ next ∷ next ∷ next ∷ next ∷ next ∷ []
 
@@ -153,12 +156,27 @@ handledScope =
           ∷ [];
     }
 
+-- A receive 1; a set 2; a repeat 3 of a scope 4, whose body is a choose 5 of a sequence 6, with an inner scope 7 (undo part 10) and a set 11, and a
+-- raise 12; its fault part is a set 13; the root's fault part 15. The first time the inner scope closes and then the outer one; the second time the
+-- outer scope faults before the inner one begins.
+unfoldable closedOuter : Example
+closedOuter =
+    record {
+      bytes = 1 ∷ 2 ∷ 0 ∷ 8 ∷ 3 ∷ 2 ∷ 0 ∷ 0 ∷ 1 ∷ 0 ∷ 3 ∷ 1 ∷ 0 ∷ 0 ∷ 7 ∷ 5 ∷ 1 ∷ 1 ∷ 0 ∷ 2 ∷ 11 ∷ 6 ∷ 4 ∷ 1 ∷ 1 ∷ 0 ∷ 0 ∷ 8 ∷ 2 ∷ 11 ∷ 0 ∷ 0 ∷ 1 ∷ 2 ∷ 1 ∷ 1 ∷ 0 ∷ 3 ∷ 1 ∷ 0 ∷ 1 ∷ 4 ∷ 3 ∷ 1 ∷ 0 ∷ 2 ∷ 0 ∷ 0 ∷ [];
+      calls = thirteen;
+      happened = started ∷ began 0 ∷ began 1 ∷ began 2 ∷ began 3 ∷ began 4 ∷ began 5 ∷ began 6 ∷ began 7 ∷ began 8 ∷ closed 7 ∷ began 11 ∷ closed 4 ∷ began 4 ∷ began 5 ∷ began 12 ∷ raised 12 ∷ faulted (inner 4) ∷ began 13 ∷ ended (inner 4) ∷ ended root ∷ [];
+      wrongly =
+          -- the close of the outer scope kept its list, and what closed in it the first time is undone the second time
+          over thirteen (started ∷ began 0 ∷ began 1 ∷ began 2 ∷ began 3 ∷ began 4 ∷ began 5 ∷ began 6 ∷ began 7 ∷ began 8 ∷ closed 7 ∷ began 11 ∷ closed 4 ∷ began 4 ∷ began 5 ∷ began 12 ∷ raised 12 ∷ faulted (inner 4) ∷ began 10 ∷ began 13 ∷ ended (inner 4) ∷ ended root ∷ []) (demand3 ∷ orderly ∷ [])
+          ∷ [];
+    }
+
 unfoldable examples : List Example
-examples = twoScopes ∷ threeClosings ∷ innerHandler ∷ handledScope ∷ []
+examples = twoScopes ∷ threeClosings ∷ innerHandler ∷ handledScope ∷ closedOuter ∷ []
 
 -- the right histories are those of the definitions
 logged : map (λ x. history (x .calls) 0 (loaded (x .bytes)) noTally) examples ≡ map (λ x. x .happened) examples
-unfolding examples twoScopes threeClosings innerHandler handledScope planC computing judging
+unfolding examples twoScopes threeClosings innerHandler handledScope closedOuter planC computing judging
 logged = refl
 
 -- what a wrong history breaks, on the plan that some bytes spell
@@ -167,5 +185,5 @@ brokenBy bytes w =
     by [] (λ p. broken p (deedsTaken p (w .calls) 0 (loaded bytes) noTally) (endsTaken (w .calls) 0 (loaded bytes) noTally) (w .order) (w .happened)) (readPlan bytes)
 
 refused : map (λ x. map (brokenBy (x .bytes)) (x .wrongly)) examples ≡ map (λ x. map (λ w. w .breaks) (x .wrongly)) examples
-unfolding examples twoScopes threeClosings innerHandler handledScope planC brokenBy computing judging
+unfolding examples twoScopes threeClosings innerHandler handledScope closedOuter planC brokenBy computing judging
 refused = refl

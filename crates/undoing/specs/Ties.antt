@@ -1,5 +1,5 @@
--- What ties the history of a slot to what stands in it and to the steps taken, stated beside demand 3, which judges the history by itself: marks,
--- lists, steps, faults, places, and that nothing is stuck. Assumes nothing: these are definitions.
+-- What ties the history of a slot to what stands in it, to the steps taken and to their answers, stated beside demand 3, which judges the history by
+-- itself: marks, lists, steps, faults, ends, places, and that nothing is stuck. Assumes nothing: these are definitions.
 use Prim.Native.Nat.{ℕ, _+_}
 use mathlib.Core.Path.{_≡_}
 use mathlib.Core.Bool.{Bool, true, false, cond, not, _&&_, _||_}

@@ -1,1 +1,1 @@
-// Holds no code: the proofs of demand 3 and of what ties its history to states and steps, over the definitions of the machine.
+// Holds no code: demand 3, what ties its history to the plan, the steps, their answers and the states, and the proofs, over the machine's definitions.
