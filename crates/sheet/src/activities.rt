@@ -239,16 +239,7 @@ fn set(
     }
     add(rows, r, 3);
     add(rows, r, narrow(v));
-    with_expression(
-        s,
-        stop,
-        after_word(s, to, b"to"),
-        3,
-        rows,
-        lines,
-        r,
-        line,
-    )
+    with_expression(s, stop, after_word(s, to, b"to"), 3, rows, lines, r, line)
 }
 
 // An activity that is its word alone, or has a list, whose count is filled in as it is read.

@@ -62,7 +62,15 @@ fn operation(mark: u8) -> u32 {
 }
 
 // A constant or a variable, as row `row`.
-fn operand(s: &[u8], stop: usize, at: usize, rows: &mut [u32], lines: &mut [u32], row: usize, line: u32) -> Read {
+fn operand(
+    s: &[u8],
+    stop: usize,
+    at: usize,
+    rows: &mut [u32],
+    lines: &mut [u32],
+    row: usize,
+    line: u32,
+) -> Read {
     let to = word_end(s, at);
     if to <= at {
         return wrong(9);

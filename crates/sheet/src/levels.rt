@@ -19,7 +19,13 @@ fn set_field(levels: &mut [usize; 512], level: usize, f: usize, value: usize) {
     }
 }
 
-pub(crate) fn open(levels: &mut [usize; 512], level: usize, column: usize, kind: usize, row: usize) {
+pub(crate) fn open(
+    levels: &mut [usize; 512],
+    level: usize,
+    column: usize,
+    kind: usize,
+    row: usize,
+) {
     set_field(levels, level, 0, column);
     set_field(levels, level, 1, kind);
     set_field(levels, level, 2, row);
@@ -125,7 +131,13 @@ fn is_aligned(levels: &[usize; 512], level: usize, column: usize) -> bool {
 }
 
 // One more stands in an open activity: what is wrong with it, by its reason, or 0. A list's count goes into its row.
-pub(crate) fn enter(levels: &mut [usize; 512], level: usize, column: usize, kind: usize, rows: &mut [u32]) -> usize {
+pub(crate) fn enter(
+    levels: &mut [usize; 512],
+    level: usize,
+    column: usize,
+    kind: usize,
+    rows: &mut [u32],
+) -> usize {
     let outer = field(levels, level, 1);
     let order = field(levels, level, 3);
     if is_aligned(levels, level, column) {

@@ -174,7 +174,14 @@ fn put_head(s: &[u8], stop: usize, variables: u64, rows: &mut [u32], lines: &mut
 }
 
 // The first line of the drawing: the head's row stands before it.
-fn started(s: &[u8], at: usize, rows: &mut [u32], lines: &mut [u32], levels: &mut [usize; 512], st: State) -> State {
+fn started(
+    s: &[u8],
+    at: usize,
+    rows: &mut [u32],
+    lines: &mut [u32],
+    levels: &mut [usize; 512],
+    st: State,
+) -> State {
     if st.drawing {
         return st;
     }
@@ -351,7 +358,14 @@ fn distance(from: usize, to: usize) -> usize {
 }
 
 // A line, which starts at `at`.
-fn read_line(s: &[u8], at: usize, rows: &mut [u32], lines: &mut [u32], levels: &mut [usize; 512], before: State) -> State {
+fn read_line(
+    s: &[u8],
+    at: usize,
+    rows: &mut [u32],
+    lines: &mut [u32],
+    levels: &mut [usize; 512],
+    before: State,
+) -> State {
     let st = counted(before);
     if is_over(s, at) {
         return st;

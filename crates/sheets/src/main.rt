@@ -70,22 +70,34 @@ fn show(text: &[u8]) {
 
 // Plan A of document 01, as it is drawn, with no numbers, and with names.
 fn plan_a() {
-    show(b"variable v0 (correlation)\nvariable v1\n  0  root body: receive from partner 3, operation 5: v0 (correlation), v1\n  1  root fault part: empty\n");
-    show(b"variable v0 (correlation)\nvariable v1\nreceive from partner 3, operation 5: v0, v1\nempty");
-    show(b"# the same, by names\nvariable stepping (correlation)  # what is asked for\nvariable quantity\npartner 3 maker\noperation 5 ask\n\nroot body: receive from partner maker, operation ask: stepping, quantity\nroot fault part: empty # nothing\n");
+    show(
+        b"variable v0 (correlation)\nvariable v1\n  0  root body: receive from partner 3, operation 5: v0 (correlation), v1\n  1  root fault part: empty\n",
+    );
+    show(
+        b"variable v0 (correlation)\nvariable v1\nreceive from partner 3, operation 5: v0, v1\nempty",
+    );
+    show(
+        b"# the same, by names\nvariable stepping (correlation)  # what is asked for\nvariable quantity\npartner 3 maker\noperation 5 ask\n\nroot body: receive from partner maker, operation ask: stepping, quantity\nroot fault part: empty # nothing\n",
+    );
 }
 
 // A plan with most of what a plan can hold.
 fn most() {
-    show(b"variable v0 (correlation)\nvariable v1\nvariable v2\n  0  root body: sequence\n  1    receive from partner 0, operation 0: v0 (correlation), v1\n  2    repeat while 0 < v1\n  3      sequence\n  4        send to partner 1, operation 1: v0 (correlation), v1\n  5        set v1 to v1 - 1\n  6    scope\n  7      body: send to partner 2, operation 2: v0 (correlation)\n  8      fault part: raise\n  9      undo part: send to partner 2, operation 3: v0 (correlation)\n 10    pick\n 11      arm: receive from partner 3, operation 4: v0 (correlation)\n 12        empty\n 13      arm: receive from partner 3, operation 5: v0 (correlation), v2\n 14        choose by (v1 + v2) = 300\n 15          then: raise\n 16          else: leave\n 17  root fault part: empty\n");
-    show(b"variable v0\nvariable v1\nsequence\n    receive from partner 0, operation 0: v0\n    set v1 to ((v0 + 1) - (v1 = 2)) < 4294967295\nempty\n");
+    show(
+        b"variable v0 (correlation)\nvariable v1\nvariable v2\n  0  root body: sequence\n  1    receive from partner 0, operation 0: v0 (correlation), v1\n  2    repeat while 0 < v1\n  3      sequence\n  4        send to partner 1, operation 1: v0 (correlation), v1\n  5        set v1 to v1 - 1\n  6    scope\n  7      body: send to partner 2, operation 2: v0 (correlation)\n  8      fault part: raise\n  9      undo part: send to partner 2, operation 3: v0 (correlation)\n 10    pick\n 11      arm: receive from partner 3, operation 4: v0 (correlation)\n 12        empty\n 13      arm: receive from partner 3, operation 5: v0 (correlation), v2\n 14        choose by (v1 + v2) = 300\n 15          then: raise\n 16          else: leave\n 17  root fault part: empty\n",
+    );
+    show(
+        b"variable v0\nvariable v1\nsequence\n    receive from partner 0, operation 0: v0\n    set v1 to ((v0 + 1) - (v1 = 2)) < 4294967295\nempty\n",
+    );
 }
 
 // Texts that are refused: by the writer, with its number and the line, or before.
 fn wrong() {
     show(b"variable v0\nempty\nempty\n");
     show(b"variable v0\nreceive from partner 64, operation 0: v0\nempty\n");
-    show(b"variable v0 (correlation)\nsequence\n  receive from partner 0, operation 0: v0\n  set v0 to 1\nempty\n");
+    show(
+        b"variable v0 (correlation)\nsequence\n  receive from partner 0, operation 0: v0\n  set v0 to 1\nempty\n",
+    );
     show(b"");
     show(b"variable v0\nvariable v0\n");
     show(b"variable v1\n");
@@ -96,9 +108,15 @@ fn wrong() {
     show(b"variable v0\nsequence\n  receive from partner 0, operation 0: v0\n   empty\nempty\n");
     show(b"variable v0\nsequence\n receive from partner 0, operation 0: v0\nempty\n");
     show(b"variable v0\npick\n  empty\nempty\n");
-    show(b"variable v0\nsequence\n  receive from partner 0, operation 0: v0\n  scope\n    empty\n    empty\nempty\n");
-    show(b"variable v0\nsequence\n  receive from partner 0, operation 0: v0\n  choose by v0 < \n    empty\n    empty\nempty\n");
-    show(b"variable v0\nsequence\n  receive from partner 0, operation 0: v0\n  choose by v0\n    else: empty\n    empty\nempty\n");
+    show(
+        b"variable v0\nsequence\n  receive from partner 0, operation 0: v0\n  scope\n    empty\n    empty\nempty\n",
+    );
+    show(
+        b"variable v0\nsequence\n  receive from partner 0, operation 0: v0\n  choose by v0 < \n    empty\n    empty\nempty\n",
+    );
+    show(
+        b"variable v0\nsequence\n  receive from partner 0, operation 0: v0\n  choose by v0\n    else: empty\n    empty\nempty\n",
+    );
     show(b"variable v0\nreceive from partner 0, operation 0: v0\nempty\nempty\n");
     show(b"variable v0\nreceive from partner 0, operation 0: v0, v1\n  empty\nempty\n");
     show(b"variable v0\nrecieve from partner 0, operation 0: v0\nempty\n");

@@ -8,10 +8,10 @@ use Rattle.numbers.proofs.put.Tie as tie
 ruleset cases = (writing-starts, writing-again, writing-inside, writing-next, writing-done, writing-long)
 
 abbrev Inv-loop : tie.InvT-loop
-Inv-loop value out₀ at v₀ p₀ out v p = Writing value at out₀ v p out
+Inv-loop value out₀ at v₀ q₀ out v q = Writing value at out₀ v q out
 
 abbrev μ-loop : tie.MeasureT-loop
-μ-loop value out₀ at v₀ p₀ out v p = v
+μ-loop value out₀ at v₀ q₀ out v q = v
 
 pub put-spec : {M : Type 1} → statement M
 put-spec =
@@ -24,7 +24,7 @@ put-spec =
     (λ c. search needs)
     -- slice-write-out
     (λ c. search cases)
-    -- add-p
+    -- add-q
     (λ c. search needs)
     -- loop-less
     (λ c. search needs)
