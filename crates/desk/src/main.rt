@@ -1,21 +1,16 @@
-// The desk: a console for plans. It reads commands from standard input, one a line, and answers each on standard output (docs/DESK.md).
-mod answers;
-mod drawing;
-mod output;
-
-use answers::answer;
-use answers::put_error;
+// The desk: the console of the engine. It reads commands from standard input, one a line, and answers each on standard output (docs/DESK.md).
+use console::Desk;
 use libc::STDIN_FILENO;
-use output::flush;
+use text::Command;
 use text::Line;
 
-// The number of lines ended so far; how many bytes of the present line are kept, of the last plan, and of what waits to be written; and
-// whether input may follow.
+// The console; the number of lines ended so far; how many bytes of the present line are kept; whether each line is repeated before its answer;
+// and whether input may follow.
 struct Session {
+    desk: Desk,
     lines: u64,
     length: usize,
-    plan: usize,
-    used: usize,
+    echo: bool,
     open: bool,
 }
 
@@ -26,73 +21,91 @@ fn more(n: u64) -> u64 {
     n
 }
 
+// A line as it was read: after a prompt, where it is no comment and not blank.
+fn put_echo(out: &mut [u8; 4096], used: usize, line: &[u8]) -> usize {
+    let mut at = used;
+    let c = text::command_of(line);
+    if let Command::Nothing = c {
+        at = wording::put(out, at, line);
+    } else {
+        at = wording::put(out, at, b"> ");
+        at = wording::put(out, at, line);
+    }
+    wording::put_byte(out, at, 10)
+}
+
+fn echoed(desk: Desk, echo: bool, line: &[u8], out: &mut [u8; 4096]) -> Desk {
+    let mut d = desk;
+    if echo {
+        d.used = put_echo(out, desk.used, line);
+    }
+    d
+}
+
+// A line without its end, whose number is `number`.
+fn answered(
+    desk: Desk,
+    echo: bool,
+    line: &[u8],
+    number: u64,
+    bytes: &mut [u8; 8000],
+    out: &mut [u8; 4096],
+) -> Desk {
+    let d = echoed(desk, echo, line, out);
+    console::answer(d, line, number, bytes, out)
+}
+
+fn too_long(desk: Desk, number: u64, out: &mut [u8; 4096]) -> Desk {
+    let mut d = desk;
+    d.used = wording::put_error(
+        out,
+        desk.used,
+        number,
+        b"the line has more than 16000 characters",
+    );
+    d
+}
+
 // The bytes kept of a line that has ended.
-fn ended_at(s: Session, kept: &[u8], bytes: &mut [u8; 8000], out: &mut [u8; 4096]) -> Session {
-    let lines = more(s.lines);
+fn ended_at(
+    desk: Desk,
+    echo: bool,
+    kept: &[u8],
+    number: u64,
+    bytes: &mut [u8; 8000],
+    out: &mut [u8; 4096],
+) -> Desk {
     let l = text::line_of(kept);
     match l {
-        Line::Long => {
-            let used = put_error(
-                out,
-                s.used,
-                lines,
-                b"the line has more than 16000 characters",
-            );
-            Session {
-                lines,
-                length: 0,
-                plan: s.plan,
-                used,
-                open: s.open,
-            }
-        }
+        Line::Long => too_long(desk, number, out),
         Line::Text { length } => {
             if length <= kept.len() {
-                let mut plan = s.plan;
-                let used = answer(&kept[0..length], lines, bytes, &mut plan, out, s.used);
-                return Session {
-                    lines,
-                    length: 0,
-                    plan,
-                    used,
-                    open: s.open,
-                };
+                return answered(desk, echo, &kept[0..length], number, bytes, out);
             }
-            s
+            desk
         }
     }
 }
 
 fn ended_of(s: Session, line: &[u8], bytes: &mut [u8; 8000], out: &mut [u8; 4096]) -> Session {
     let length = s.length;
+    let lines = more(s.lines);
+    let before = s.desk;
     if length <= line.len() {
-        return ended_at(s, &line[0..length], bytes, out);
+        let desk = ended_at(before, s.echo, &line[0..length], lines, bytes, out);
+        return Session {
+            desk,
+            lines,
+            length: 0,
+            echo: s.echo,
+            open: s.open,
+        };
     }
     s
 }
 
 fn ended(s: Session, line: &[u8; 16002], bytes: &mut [u8; 8000], out: &mut [u8; 4096]) -> Session {
     ended_of(s, line, bytes, out)
-}
-
-fn byte(
-    s: Session,
-    b: u8,
-    line: &mut [u8; 16002],
-    bytes: &mut [u8; 8000],
-    out: &mut [u8; 4096],
-) -> Session {
-    if b == 10 {
-        return ended(s, line, bytes, out);
-    }
-    let length = text::keep(line, s.length, b);
-    Session {
-        lines: s.lines,
-        length,
-        plan: s.plan,
-        used: s.used,
-        open: s.open,
-    }
 }
 
 fn feed(
@@ -102,13 +115,17 @@ fn feed(
     bytes: &mut [u8; 8000],
     out: &mut [u8; 4096],
 ) -> Session {
-    let mut state = s;
+    let mut session = s;
     let mut i = 0;
     while i < chunk.len() {
-        state = byte(state, chunk[i], line, bytes, out);
+        if chunk[i] == 10 {
+            session = ended(session, line, bytes, out);
+        } else {
+            session.length = text::keep(line, session.length, chunk[i]);
+        }
         i += 1;
     }
-    state
+    session
 }
 
 // At the end of the input a last line may have no line end.
@@ -122,12 +139,14 @@ fn closed(s: Session, line: &[u8; 16002], bytes: &mut [u8; 8000], out: &mut [u8;
 }
 
 fn failed(s: Session, out: &mut [u8; 4096]) -> Session {
-    let used = put_error(out, s.used, more(s.lines), b"the input cannot be read");
+    let mut desk = s.desk;
+    let number = more(s.lines);
+    desk.used = wording::put_error(out, desk.used, number, b"the input cannot be read");
     Session {
+        desk,
         lines: s.lines,
         length: 0,
-        plan: s.plan,
-        used,
+        echo: s.echo,
         open: false,
     }
 }
@@ -151,36 +170,72 @@ fn turn(
     feed(s, &chunk[..n], line, bytes, out)
 }
 
+// Writes what waits.
+fn written(s: Session, out: &[u8; 4096]) -> Session {
+    let mut desk = s.desk;
+    desk.used = wording::flush(out, desk.used);
+    Session {
+        desk,
+        lines: s.lines,
+        length: s.length,
+        echo: s.echo,
+        open: s.open,
+    }
+}
+
 fn run(
     s: Session,
     line: &mut [u8; 16002],
     bytes: &mut [u8; 8000],
     out: &mut [u8; 4096],
 ) -> Session {
-    let mut state = s;
+    let mut session = s;
     // nothing says that the input ends, so the turns are counted down from a number that no run uses up
     let mut turns = u64::MAX;
     while turns > 0 {
-        if !state.open {
-            return state;
+        if !session.open {
+            return session;
         }
-        state = turn(state, line, bytes, out);
+        session = turn(session, line, bytes, out);
         // who types the commands sees each answer at once
-        state.used = flush(out, state.used);
+        session = written(session, out);
         turns -= 1;
     }
-    state
+    session
+}
+
+// Whether the desk is asked to repeat what it reads: its argument is `echo`.
+fn wants_echo() -> bool {
+    let mut word = [0u8; 5];
+    let n = os::arg(1, &mut word);
+    if n == 4 {
+        return is_echo(&word);
+    }
+    false
+}
+
+fn is_echo(word: &[u8; 5]) -> bool {
+    if word[0] == 101 {
+        if word[1] == 99 {
+            if word[2] == 104 {
+                return word[3] == 111;
+            }
+        }
+    }
+    false
 }
 
 fn main() {
     let mut line = [0u8; 16002];
     let mut bytes = [0u8; 8000];
     let mut out = [0u8; 4096];
+    let desk = console::new();
+    let echo = wants_echo();
     let start = Session {
+        desk,
         lines: 0,
         length: 0,
-        plan: 0,
-        used: 0,
+        echo,
         open: true,
     };
     run(start, &mut line, &mut bytes, &mut out);

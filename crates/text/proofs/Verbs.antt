@@ -1,13 +1,64 @@
 -- What a first word asks for, by what it is found to be. Assumes nothing.
 use borrow.Author.Tests.{eq-eqb, ne-eqb}
 use mathlib.Core.Path.{_≡_, sym, _∙_}
-use mathlib.Core.Bool.{Bool, true, false}
+use mathlib.Core.Bool.{Bool, true, false, cond}
 use mathlib.Core.List.{List}
 use Prim.Native.Nat.{ℕ}
 use lib.ListN.{length, getD}
+use Rattle.text.specs.declared.Alone.{Alone}
+use Rattle.text.specs.declared.Worded.{Worded}
+use Rattle.text.specs.declared.Numbered.{Numbered}
+use Rattle.text.specs.declared.Listed.{Listed}
 use Rattle.text.specs.declared.Verb.{Verb}
 use Rattle.text.specs.Words.{sameText}
-use Rattle.text.specs.Commands.{planWord, showWord, drawWord, verbOf}
+use Rattle.text.specs.Commands.{planWord, showWord, drawWord, postWord, offerWord, stepWord, runWord, collectWord, waitingWord, tallyWord, ordersWord, orderWord, offersWord, saveWord, openWord, aloneOf, wordedOf, numberedOf, listedOf, verbOf}
+
+module _ (w t : List ℕ) {b : Bool} (e : b ≡ sameText w t) (v o : Verb) where
+  pub this-word : b ≡ true → v ≡ cond (sameText w t) v o
+  this-word h = rw (sym e ∙ h)
+
+  pub other-word : b ≡ false → o ≡ cond (sameText w t) v o
+  other-word h = rw (sym e ∙ h)
+
+pub ruleset words = (this-word, other-word)
+
+module _ (w : List ℕ) (o : Verb) where
+  pub alone-words : {r1 r2 r3 r4 r5 r6 r7 : Verb}
+      → r1 ≡ cond (sameText w offersWord) (Verb.Alone Alone.Offers) o
+      → r2 ≡ cond (sameText w ordersWord) (Verb.Alone Alone.Orders) r1
+      → r3 ≡ cond (sameText w tallyWord) (Verb.Alone Alone.Tally) r2
+      → r4 ≡ cond (sameText w waitingWord) (Verb.Alone Alone.Waiting) r3
+      → r5 ≡ cond (sameText w collectWord) (Verb.Alone Alone.Collect) r4
+      → r6 ≡ cond (sameText w offerWord) (Verb.Alone Alone.Offer) r5
+      → r7 ≡ cond (sameText w drawWord) (Verb.Alone Alone.Draw) r6
+      → r7 ≡ aloneOf w o
+  unfolding aloneOf
+  alone-words e1 e2 e3 e4 e5 e6 e7 = rw (e7, e6, e5, e4, e3, e2, e1)
+
+  pub worded-words : {r1 r2 r3 : Verb}
+      → r1 ≡ cond (sameText w openWord) (Verb.Worded Worded.Open) o
+      → r2 ≡ cond (sameText w saveWord) (Verb.Worded Worded.Save) r1
+      → r3 ≡ cond (sameText w planWord) (Verb.Worded Worded.Plan) r2
+      → r3 ≡ wordedOf w o
+  unfolding wordedOf
+  worded-words e1 e2 e3 = rw (e3, e2, e1)
+
+  pub numbered-words : {r1 r2 r3 : Verb}
+      → r1 ≡ cond (sameText w orderWord) (Verb.Numbered Numbered.Order) o
+      → r2 ≡ cond (sameText w stepWord) (Verb.Numbered Numbered.Step) r1
+      → r3 ≡ cond (sameText w showWord) (Verb.Numbered Numbered.Show) r2
+      → r3 ≡ numberedOf w o
+  unfolding numberedOf
+  numbered-words e1 e2 e3 = rw (e3, e2, e1)
+
+  pub listed-words : {r1 r2 : Verb}
+      → r1 ≡ cond (sameText w runWord) (Verb.Listed Listed.Run) o
+      → r2 ≡ cond (sameText w postWord) (Verb.Listed Listed.Post) r1
+      → r2 ≡ listedOf w o
+  unfolding listedOf
+  listed-words e1 e2 = rw (e2, e1)
+
+pub ruleset chains = (alone-words, worded-words, numbered-words, listed-words)
 
 module _ (w : List ℕ) where
   pub verb-none : length w ≡ 0 → Verb.Nothing ≡ verbOf w
@@ -19,21 +70,9 @@ module _ (w : List ℕ) where
     unfolding verbOf
     verb-comment e = simp (ne-eqb (length w) 0 some, eq-eqb (getD w 0 0) 35 e)
 
-    module _ (word : getD w 0 0 ≡ 35 → ⊥) {p : Bool} (e : p ≡ sameText w planWord) where
-      pub verb-plan : p ≡ true → Verb.Plan ≡ verbOf w
+    module _ (word : getD w 0 0 ≡ 35 → ⊥) {p q r v : Verb} where
+      pub verb-known : p ≡ listedOf w Verb.Unknown → q ≡ numberedOf w p → r ≡ wordedOf w q → v ≡ aloneOf w r → v ≡ verbOf w
       unfolding verbOf
-      verb-plan t = simp (ne-eqb (length w) 0 some, ne-eqb (getD w 0 0) 35 word, sym e ∙ t)
+      verb-known e f g h = rw (h, g, f, e) (simp (ne-eqb (length w) 0 some, ne-eqb (getD w 0 0) 35 word))
 
-      module _ (other : p ≡ false) {q : Bool} (f : q ≡ sameText w showWord) where
-        pub verb-show : q ≡ true → Verb.Show ≡ verbOf w
-        unfolding verbOf
-        verb-show t = simp (ne-eqb (length w) 0 some, ne-eqb (getD w 0 0) 35 word, sym e ∙ other, sym f ∙ t)
-
-        module _ (another : q ≡ false) {r : Bool} (g : r ≡ sameText w drawWord) where
-          pub verb-draw : r ≡ true → Verb.Draw ≡ verbOf w
-          unfolding verbOf
-          verb-draw t = simp (ne-eqb (length w) 0 some, ne-eqb (getD w 0 0) 35 word, sym e ∙ other, sym f ∙ another, sym g ∙ t)
-
-          pub verb-unknown : r ≡ false → Verb.Unknown ≡ verbOf w
-          unfolding verbOf
-          verb-unknown t = simp (ne-eqb (length w) 0 some, ne-eqb (getD w 0 0) 35 word, sym e ∙ other, sym f ∙ another, sym g ∙ t)
+pub ruleset verbs = (verb-none, verb-comment, verb-known)

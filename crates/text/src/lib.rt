@@ -38,27 +38,79 @@ pub enum Hex {
     Bad,
 }
 
-// What the first word of a line asks for.
-pub enum Verb {
-    Nothing,
-    Plan,
-    Show,
+// The command words that stand alone.
+pub enum Alone {
     Draw,
-    Unknown,
+    Offer,
+    Collect,
+    Waiting,
+    Tally,
+    Orders,
+    Offers,
 }
 
-// A line of the desk: a command with what it takes, or what is wrong with it.
-pub enum Command {
-    // a comment, or a blank line
+// Those that take one word: bytes in hexadecimal, or the name of a file.
+pub enum Worded {
+    Plan,
+    Save,
+    Open,
+}
+
+// Those that take one number.
+pub enum Numbered {
+    Show,
+    Step,
+    Order,
+}
+
+// Those that take numbers, as many as there are.
+pub enum Listed {
+    Post,
+    Run,
+}
+
+// What the first word of a line asks for: nothing where there is none, or where it begins a comment.
+pub enum Verb {
     Nothing,
-    Plan { from: usize, to: usize },
-    Show { k: u32 },
-    Draw,
+    Unknown,
+    Alone { what: Alone },
+    Worded { what: Worded },
+    Numbered { what: Numbered },
+    Listed { what: Listed },
+}
+
+// What is wrong with a line.
+pub enum Trouble {
     Unknown,
     // it lacks a word, or has one too many
     Missing,
     Extra,
-    // its number is none, or is too large
+    // a number is none, or is too large
     Unnumbered,
     Large,
+}
+
+// A line of the desk: a command with what it takes, or what is wrong with it. The numbers of a list are still to be read, from `from` on.
+pub enum Command {
+    // a comment, or a blank line
+    Nothing,
+    Wrong {
+        why: Trouble,
+    },
+    Alone {
+        what: Alone,
+    },
+    Worded {
+        what: Worded,
+        from: usize,
+        to: usize,
+    },
+    Numbered {
+        what: Numbered,
+        k: u32,
+    },
+    Listed {
+        what: Listed,
+        from: usize,
+    },
 }

@@ -7,10 +7,10 @@ use Rattle.desk.proofs.feed.Statement.{statement}
 use Rattle.desk.proofs.feed.Tie as tie
 
 abbrev Inv-loop : tie.InvT-loop
-Inv-loop chunk line₀ bytes₀ out₀ state₀ i₀ line bytes out state i = Unit {0}
+Inv-loop chunk line₀ bytes₀ out₀ session₀ i₀ line bytes out session i = Unit {0}
 
 abbrev μ-loop : tie.MeasureT-loop
-μ-loop chunk line₀ bytes₀ out₀ state₀ i₀ line bytes out state i = length chunk - i
+μ-loop chunk line₀ bytes₀ out₀ session₀ i₀ line bytes out session i = length chunk - i
 
 pub feed-spec : {M : Type 1} → statement M
 feed-spec =
@@ -19,6 +19,8 @@ feed-spec =
     Inv-loop
     μ-loop
     (λ c. tt)
+    (λ c. omega arith)
+    (λ c κs. search needs)
     (λ c. omega arith)
     (λ c κs. search needs)
     (λ c. omega arith)

@@ -5,10 +5,10 @@ use Rattle.desk.proofs.run.Statement.{statement}
 use Rattle.desk.proofs.run.Tie as tie
 
 abbrev Inv-loop : tie.InvT-loop
-Inv-loop line₀ bytes₀ out₀ state₀ turns₀ line bytes out state turns = Unit {0}
+Inv-loop line₀ bytes₀ out₀ session₀ turns₀ line bytes out session turns = Unit {0}
 
 abbrev μ-loop : tie.MeasureT-loop
-μ-loop line₀ bytes₀ out₀ state₀ turns₀ line bytes out state turns = turns
+μ-loop line₀ bytes₀ out₀ session₀ turns₀ line bytes out session turns = turns
 
 pub run-spec : {M : Type 1} → statement M
 run-spec =

@@ -1,0 +1,194 @@
+// The commands that change a state: post, step, run and collect.
+use super::Desk;
+use super::answering::wrong;
+use super::lists::Numbers;
+use super::lists::numbers_of;
+use super::lists::rest_of;
+use machine::Collected;
+use machine::Message;
+use machine::State;
+use machine::Step;
+use machine::Tally;
+use order::End;
+use run::Ran;
+use text::Trouble;
+use wording::put;
+use wording::put_byte;
+use wording::put_message;
+use wording::put_next;
+use wording::put_pair;
+use wording::put_refusal;
+
+// A count as a message has it.
+fn narrow(count: usize) -> u32 {
+    if count < 1000 {
+        return count as u32;
+    }
+    1000
+}
+
+// Partner, operation and values. Those beyond the fourth only count.
+fn message_of(numbers: &[u32; 1001], count: usize) -> Message {
+    Message {
+        partner: numbers[0],
+        operation: numbers[1],
+        count: narrow(count),
+        values: [numbers[2], numbers[3], numbers[4], numbers[5]],
+    }
+}
+
+fn posted(desk: Desk, m: Message, out: &mut [u8; 4096]) -> Desk {
+    let before = desk.state;
+    let p = machine::post(before, m);
+    let used = put_refusal(out, desk.used, b"post", p.refusal);
+    let state = p.state;
+    let tally = desk.tally;
+    Desk {
+        state,
+        tally,
+        plan: desk.plan,
+        used,
+    }
+}
+
+// Posts a message: a partner, an operation, and up to eight values.
+pub(crate) fn post(
+    desk: Desk,
+    line: &[u8],
+    from: usize,
+    number: u64,
+    out: &mut [u8; 4096],
+) -> Desk {
+    let mut numbers = [0u32; 1001];
+    let n = numbers_of(line, from, 11, &mut numbers);
+    match n {
+        Numbers::Wrong { why } => wrong(desk, number, why, out),
+        Numbers::All { count } => {
+            if count < 2 {
+                return wrong(desk, number, Trouble::Missing, out);
+            }
+            let m = message_of(&numbers, count - 2);
+            posted(desk, m, out)
+        }
+    }
+}
+
+fn number_of(end: End) -> u64 {
+    match end {
+        End::None => 0,
+        End::Well => 1,
+        End::Handled => 2,
+        End::Failed => 3,
+        End::Left => 4,
+    }
+}
+
+// What a step answers.
+fn put_step(out: &mut [u8; 4096], used: usize, x: Step) -> usize {
+    if x.refusal != 0 {
+        return put_refusal(out, used, b"step", x.refusal);
+    }
+    let end = x.end;
+    let mut at = put(out, used, b"step 0");
+    at = put_next(out, at, x.slot as u64);
+    at = put_next(out, at, x.activity as u64);
+    at = put_next(out, at, x.place as u64);
+    at = put_next(out, at, number_of(end));
+    put_byte(out, at, 10)
+}
+
+pub(crate) fn step(desk: Desk, choice: u32, out: &mut [u8; 4096]) -> Desk {
+    let before = desk.state;
+    let counted = desk.tally;
+    let r = step::take_step(before, choice as usize, counted);
+    let x = r.answer;
+    let state = r.state;
+    let tally = r.tally;
+    let used = put_step(out, desk.used, x);
+    Desk {
+        state,
+        tally,
+        plan: desk.plan,
+        used,
+    }
+}
+
+fn ran_of(state: State, tally: Tally, choices: &[usize], n: usize, budget: u32) -> Ran {
+    let mut left = budget as usize;
+    if n <= choices.len() {
+        return run::run(state, &choices[0..n], &mut left, tally);
+    }
+    run::run(state, choices, &mut left, tally)
+}
+
+fn ran_by(
+    desk: Desk,
+    choices: &[usize; 1000],
+    n: usize,
+    budget: u32,
+    out: &mut [u8; 4096],
+) -> Desk {
+    let before = desk.state;
+    let counted = desk.tally;
+    let r = ran_of(before, counted, choices, n, budget);
+    let state = r.state;
+    let tally = r.tally;
+    let used = put_pair(out, desk.used, b"run", r.taken as u64, r.refusal as u64);
+    Desk {
+        state,
+        tally,
+        plan: desk.plan,
+        used,
+    }
+}
+
+// Takes steps by a budget and up to 1,000 choices.
+pub(crate) fn run(desk: Desk, line: &[u8], from: usize, number: u64, out: &mut [u8; 4096]) -> Desk {
+    let mut numbers = [0u32; 1001];
+    let n = numbers_of(line, from, 1002, &mut numbers);
+    match n {
+        Numbers::Wrong { why } => wrong(desk, number, why, out),
+        Numbers::All { count } => {
+            if count < 1 {
+                return wrong(desk, number, Trouble::Missing, out);
+            }
+            let choices = rest_of(&numbers);
+            ran_by(desk, &choices, count - 1, numbers[0], out)
+        }
+    }
+}
+
+fn put_collected(out: &mut [u8; 4096], used: usize, c: Collected) -> usize {
+    if c.refusal != 0 {
+        return put_refusal(out, used, b"collect", c.refusal);
+    }
+    let m = c.message;
+    let mut at = put(out, used, b"collect 0");
+    at = put_message(out, at, m);
+    put_byte(out, at, 10)
+}
+
+pub(crate) fn collect(desk: Desk, out: &mut [u8; 4096]) -> Desk {
+    let before = desk.state;
+    let c = machine::collect(before);
+    let used = put_collected(out, desk.used, c);
+    let state = c.state;
+    let tally = desk.tally;
+    Desk {
+        state,
+        tally,
+        plan: desk.plan,
+        used,
+    }
+}
+
+// The five counts.
+pub(crate) fn put_tally(out: &mut [u8; 4096], used: usize, tally: Tally) -> usize {
+    let mut at = put(out, used, b"tally");
+    at = put_next(out, at, tally.started as u64);
+    at = put_next(out, at, tally.well as u64);
+    at = put_next(out, at, tally.handled as u64);
+    at = put_next(out, at, tally.failed as u64);
+    at = put_next(out, at, tally.left as u64);
+    put_byte(out, at, 10)
+}

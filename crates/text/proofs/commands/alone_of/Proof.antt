@@ -1,0 +1,25 @@
+-- `text::commands::alone_of` meets its contract. Assumes nothing.
+use borrow.Author.Needs.{needs}
+use Rattle.text.proofs.Verbs.{chains}
+use Rattle.text.proofs.commands.alone_of.Statement.{statement}
+use Rattle.text.proofs.commands.alone_of.Tie as tie
+
+pub alone-of-spec : {M : Type 1} → statement M
+alone-of-spec =
+    tie.close
+    (tie.spec
+    (λ c. search needs)
+    (λ c κs. search needs)
+    (λ c. search needs)
+    (λ c κs. search needs)
+    (λ c. search needs)
+    (λ c κs. search needs)
+    (λ c. search needs)
+    (λ c κs. search needs)
+    (λ c. search needs)
+    (λ c κs. search needs)
+    (λ c. search needs)
+    (λ c κs. search needs)
+    (λ c. search needs)
+    (λ c κs. search needs)
+    (λ c. search chains))

@@ -1,0 +1,15 @@
+-- `text::commands::listed_of` meets its contract. Assumes nothing.
+use borrow.Author.Needs.{needs}
+use Rattle.text.proofs.Verbs.{chains}
+use Rattle.text.proofs.commands.listed_of.Statement.{statement}
+use Rattle.text.proofs.commands.listed_of.Tie as tie
+
+pub listed-of-spec : {M : Type 1} → statement M
+listed-of-spec =
+    tie.close
+    (tie.spec
+    (λ c. search needs)
+    (λ c κs. search needs)
+    (λ c. search needs)
+    (λ c κs. search needs)
+    (λ c. search chains))

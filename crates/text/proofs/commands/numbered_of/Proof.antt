@@ -1,0 +1,17 @@
+-- `text::commands::numbered_of` meets its contract. Assumes nothing.
+use borrow.Author.Needs.{needs}
+use Rattle.text.proofs.Verbs.{chains}
+use Rattle.text.proofs.commands.numbered_of.Statement.{statement}
+use Rattle.text.proofs.commands.numbered_of.Tie as tie
+
+pub numbered-of-spec : {M : Type 1} → statement M
+numbered-of-spec =
+    tie.close
+    (tie.spec
+    (λ c. search needs)
+    (λ c κs. search needs)
+    (λ c. search needs)
+    (λ c κs. search needs)
+    (λ c. search needs)
+    (λ c κs. search needs)
+    (λ c. search chains))

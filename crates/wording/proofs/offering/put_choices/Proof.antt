@@ -1,0 +1,27 @@
+-- `wording::offering::put_choices` is safe and ends. The measure is what is left of the offer. Assumes nothing.
+use borrow.Author.Needs.{needs}
+use native.Mathlib.Omega.{arith}
+use Prim.Native.Nat.{_-_}
+use Rattle.wording.proofs.offering.put_choices.Statement.{statement}
+use Rattle.wording.proofs.offering.put_choices.Tie as tie
+
+abbrev Inv-loop : tie.InvT-loop
+Inv-loop out₀ used table flags activities state many at₀ choice₀ out at choice = Unit {0}
+
+abbrev μ-loop : tie.MeasureT-loop
+μ-loop out₀ used table flags activities state many at₀ choice₀ out at choice = many - choice
+
+pub put-choices-spec : {M : Type 1} → statement M
+put-choices-spec =
+    tie.close
+    (tie.spec
+    Inv-loop
+    μ-loop
+    (λ c. tt)
+    (λ c κs. search needs)
+    (λ c κs. search needs)
+    (λ c. omega arith)
+    (λ c. omega arith)
+    (λ c. tt)
+    (λ c κs. search needs)
+    (λ c. tt))

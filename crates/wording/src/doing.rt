@@ -1,0 +1,198 @@
+// What an activity is doing in an order, by the order's marks. (What each mark means: crates/order/specs/State.antt.)
+use super::output::put_column;
+use super::table::after;
+use super::table::end_of;
+use super::table::entry;
+use super::table::parent_of;
+use super::table::wide;
+use order::Order;
+
+fn mark_at(marks: &[u8; 256], n: usize) -> u8 {
+    if n < 256 {
+        return marks[n];
+    }
+    0
+}
+
+// Whether anything runs from activity `from` to the one before `to`.
+fn is_running(marks: &[u8; 256], from: usize, to: usize) -> bool {
+    let mut n = from;
+    while n < to {
+        if mark_at(marks, n) != 0 {
+            return true;
+        }
+        n += 1;
+    }
+    false
+}
+
+// What has begun and is not over yet: its step, where it awaits one; else that something within it runs.
+fn put_active(out: &mut [u8; 4096], used: usize, kind: u32) -> usize {
+    match kind {
+        1 => put_column(out, used, b"ready to send"),
+        2 | 10 => put_column(out, used, b"waiting for a message"),
+        3 => put_column(out, used, b"ready to set"),
+        4 => put_column(out, used, b"ready to raise"),
+        5 => put_column(out, used, b"ready to leave"),
+        6 | 7 => put_column(out, used, b"ready to decide"),
+        _ => put_column(out, used, b"running"),
+    }
+}
+
+// What a mark beyond `active` says.
+fn put_mark(out: &mut [u8; 4096], used: usize, mark: u8) -> usize {
+    match mark {
+        2 => put_column(out, used, b"running"),
+        3 => put_column(out, used, b"done, ready to close"),
+        4 => put_column(out, used, b"faulted"),
+        5 => put_column(out, used, b"undoing"),
+        6 => put_column(out, used, b"handling"),
+        7 => put_column(out, used, b"stopped"),
+        _ => put_column(out, used, b"stopped, undoing"),
+    }
+}
+
+// An arm has no mark: it is open while its pick is active, and runs where what stands within it runs.
+fn put_arm(
+    out: &mut [u8; 4096],
+    used: usize,
+    table: &[u32; 11584],
+    marks: &[u8; 256],
+    n: usize,
+) -> usize {
+    if mark_at(marks, parent_of(table, n)) == 1 {
+        return put_column(out, used, b"waiting for a message");
+    }
+    if is_running(marks, n, end_of(table, n)) {
+        return put_column(out, used, b"running");
+    }
+    put_column(out, used, b"")
+}
+
+// Of a sequence that runs, those that stand before what runs are done.
+fn put_in_sequence(
+    out: &mut [u8; 4096],
+    used: usize,
+    table: &[u32; 11584],
+    marks: &[u8; 256],
+    parent: usize,
+    n: usize,
+) -> usize {
+    if mark_at(marks, parent) == 1 {
+        if is_running(marks, end_of(table, n), end_of(table, parent)) {
+            return put_column(out, used, b"done");
+        }
+    }
+    put_column(out, used, b"")
+}
+
+// Of a flow that runs, those that do not run are done.
+fn put_in_flow(out: &mut [u8; 4096], used: usize, mark: u8) -> usize {
+    if mark == 1 {
+        return put_column(out, used, b"done");
+    }
+    put_column(out, used, b"")
+}
+
+// The body of a scope with this mark.
+fn put_body(out: &mut [u8; 4096], used: usize, mark: u8) -> usize {
+    if mark == 3 {
+        return put_column(out, used, b"done");
+    }
+    if 3 < mark {
+        return put_column(out, used, b"stopped");
+    }
+    put_column(out, used, b"")
+}
+
+// What is idle: done, stopped, or neither begun nor known to be over.
+fn put_idle(
+    out: &mut [u8; 4096],
+    used: usize,
+    table: &[u32; 11584],
+    marks: &[u8; 256],
+    root: u8,
+    n: usize,
+) -> usize {
+    if n == 0 {
+        return put_body(out, used, root);
+    }
+    let parent = parent_of(table, n);
+    match entry(table, parent, 0) {
+        8 => put_in_sequence(out, used, table, marks, parent, n),
+        9 => put_in_flow(out, used, mark_at(marks, parent)),
+        11 => put_part_idle(out, used, mark_at(marks, parent), after(parent) == n),
+        _ => put_column(out, used, b""),
+    }
+}
+
+// A part of a scope with this mark.
+fn put_part_idle(out: &mut [u8; 4096], used: usize, mark: u8, body: bool) -> usize {
+    if body {
+        return put_body(out, used, mark);
+    }
+    put_column(out, used, b"")
+}
+
+// Whether the scope n is remembered.
+fn is_remembered(remembered: &[u8; 32], kept: usize, n: usize) -> bool {
+    let mut i = 0;
+    while i < 32 {
+        if i < kept {
+            if wide(remembered[i]) == n {
+                return true;
+            }
+        }
+        i += 1;
+    }
+    false
+}
+
+// Whether the undo part of scope n runs: it stands after the body and the fault part.
+fn is_undone(table: &[u32; 11584], marks: &[u8; 256], n: usize) -> bool {
+    if entry(table, n, 0) == 11 {
+        let fault = end_of(table, after(n));
+        return is_running(marks, end_of(table, fault), end_of(table, n));
+    }
+    false
+}
+
+fn put_resting(
+    out: &mut [u8; 4096],
+    used: usize,
+    table: &[u32; 11584],
+    marks: &[u8; 256],
+    order: Order,
+    n: usize,
+) -> usize {
+    let remembered = order.remembered;
+    if is_undone(table, marks, n) {
+        return put_column(out, used, b"being undone");
+    }
+    if is_remembered(&remembered, order.kept, n) {
+        return put_column(out, used, b"closed, remembered");
+    }
+    if 11 < entry(table, n, 0) {
+        return put_arm(out, used, table, marks, n);
+    }
+    put_idle(out, used, table, marks, order.root, n)
+}
+
+// What activity or arm n is doing, in a column.
+pub(crate) fn put_doing(
+    out: &mut [u8; 4096],
+    used: usize,
+    table: &[u32; 11584],
+    order: Order,
+    n: usize,
+) -> usize {
+    let marks = order.marks;
+    let mark = mark_at(&marks, n);
+    if mark == 0 {
+        return put_resting(out, used, table, &marks, order, n);
+    }
+    if mark == 1 {
+        return put_active(out, used, entry(table, n, 0));
+    }
+    put_mark(out, used, mark)
+}

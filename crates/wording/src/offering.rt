@@ -1,0 +1,188 @@
+// What is offered: as numbers, and in words.
+use super::drawing::put_activity;
+use super::messages::put_taken;
+use super::output::put;
+use super::output::put_aligned;
+use super::output::put_byte;
+use super::output::put_next;
+use super::output::put_number;
+use super::output::put_refusal;
+use super::table::entry;
+use machine::Message;
+use machine::State;
+use machine::Step;
+use offer::Offered;
+use order::Order;
+use plan::Answer;
+
+// A command word, how much is offered, and whether something is held.
+fn put_count(out: &mut [u8; 4096], used: usize, word: &[u8], o: Offered) -> usize {
+    let mut at = put(out, used, word);
+    at = put_next(out, at, o.many as u64);
+    if o.held {
+        return put(out, at, b" held");
+    }
+    put(out, at, b" free")
+}
+
+// A step as numbers.
+fn put_step(out: &mut [u8; 4096], used: usize, x: Step) -> usize {
+    let mut at = put_next(out, used, x.slot as u64);
+    at = put_byte(out, at, 58);
+    at = put_number(out, at, x.activity as u64);
+    at = put_byte(out, at, 58);
+    put_number(out, at, x.place as u64)
+}
+
+fn put_steps(
+    out: &mut [u8; 4096],
+    used: usize,
+    table: &[u32; 11584],
+    flags: &[u8; 16],
+    activities: usize,
+    state: State,
+    many: usize,
+) -> usize {
+    let mut at = used;
+    let mut choice = 0;
+    while choice < many {
+        let x = offer::offer_by(table, flags, activities, state, choice);
+        at = put_step(out, at, x);
+        choice += 1;
+    }
+    at
+}
+
+// All that is offered, as numbers.
+pub fn put_offer(out: &mut [u8; 4096], used: usize, state: State) -> usize {
+    let mut table = [0u32; 11584];
+    let mut flags = [0u8; 16];
+    let o = offer::offers(state);
+    let a = machine::limits::planned(state, &mut table, &mut flags);
+    match a {
+        Answer::Refused {
+            number: _,
+            place: _,
+        } => put_refusal(out, used, b"offer", 17),
+        Answer::Accepted {
+            variables: _,
+            activities,
+            nodes: _,
+        } => {
+            let mut at = put_count(out, used, b"offer", o);
+            at = put_steps(out, at, &table, &flags, activities, state, o.many);
+            put_byte(out, at, 10)
+        }
+    }
+}
+
+fn is_live(orders: [Order; 16], slot: usize) -> bool {
+    if slot < 16 {
+        let order = orders[slot];
+        return order.root != 0;
+    }
+    false
+}
+
+// Which order a step is of; one that it starts is new.
+fn put_whose(out: &mut [u8; 4096], used: usize, orders: [Order; 16], slot: usize) -> usize {
+    if is_live(orders, slot) {
+        let at = put(out, used, b"order");
+        return put_next(out, at, slot as u64);
+    }
+    let at = put(out, used, b"new order");
+    put_next(out, at, slot as u64)
+}
+
+// The activity of a step, as the drawing says it. A scope's step is to close.
+fn put_what(
+    out: &mut [u8; 4096],
+    used: usize,
+    table: &[u32; 11584],
+    flags: &[u8; 16],
+    n: usize,
+) -> usize {
+    let mut at = put(out, used, b", activity");
+    at = put_next(out, at, n as u64);
+    at = put(out, at, b": ");
+    if entry(table, n, 0) == 11 {
+        at = put(out, at, b"close ");
+    }
+    put_activity(out, at, table, flags, n)
+}
+
+// The message that a step takes, if it takes one.
+fn put_which(
+    out: &mut [u8; 4096],
+    used: usize,
+    kind: u32,
+    messages: [Message; 64],
+    place: usize,
+) -> usize {
+    match kind {
+        2 | 12 => put_taken(out, used, messages, place),
+        _ => used,
+    }
+}
+
+// A step in words.
+fn put_choice(
+    out: &mut [u8; 4096],
+    used: usize,
+    table: &[u32; 11584],
+    flags: &[u8; 16],
+    state: State,
+    choice: usize,
+    x: Step,
+) -> usize {
+    let orders = state.orders;
+    let messages = state.messages;
+    let mut at = put_aligned(out, used, choice as u64);
+    at = put(out, at, b"  ");
+    at = put_whose(out, at, orders, x.slot);
+    at = put_what(out, at, table, flags, x.activity);
+    at = put_which(out, at, entry(table, x.activity, 0), messages, x.place);
+    put_byte(out, at, 10)
+}
+
+fn put_choices(
+    out: &mut [u8; 4096],
+    used: usize,
+    table: &[u32; 11584],
+    flags: &[u8; 16],
+    activities: usize,
+    state: State,
+    many: usize,
+) -> usize {
+    let mut at = used;
+    let mut choice = 0;
+    while choice < many {
+        let x = offer::offer_by(table, flags, activities, state, choice);
+        at = put_choice(out, at, table, flags, state, choice, x);
+        choice += 1;
+    }
+    put_byte(out, at, 10)
+}
+
+// All that is offered, in words, and a blank line.
+pub fn put_offers(out: &mut [u8; 4096], used: usize, state: State) -> usize {
+    let mut table = [0u32; 11584];
+    let mut flags = [0u8; 16];
+    let o = offer::offers(state);
+    let a = machine::limits::planned(state, &mut table, &mut flags);
+    match a {
+        Answer::Refused {
+            number: _,
+            place: _,
+        } => put_refusal(out, used, b"offers", 17),
+        Answer::Accepted {
+            variables: _,
+            activities,
+            nodes: _,
+        } => {
+            let mut at = put_count(out, used, b"offers", o);
+            at = put_byte(out, at, 10);
+            put_choices(out, at, &table, &flags, activities, state, o.many)
+        }
+    }
+}

@@ -1,0 +1,322 @@
+// The live orders in words, and one order on the drawing of its plan.
+use super::doing::put_doing;
+use super::drawing::put_drawn;
+use super::drawing::put_member;
+use super::output::put;
+use super::output::put_aligned;
+use super::output::put_byte;
+use super::output::put_next;
+use super::output::put_number;
+use super::output::put_refusal;
+use super::table::scope_of;
+use super::table::wide;
+use machine::State;
+use order::Order;
+use plan::Answer;
+
+// The order in a slot; what a free slot holds where there is no such slot.
+fn order_in(orders: [Order; 16], slot: usize) -> Order {
+    if slot < 16 {
+        return orders[slot];
+    }
+    machine::made::no_order()
+}
+
+// How an order stands, by the mark of its root.
+fn put_root(out: &mut [u8; 4096], used: usize, root: u8) -> usize {
+    match root {
+        0 => put(out, used, b"free"),
+        1 => put(out, used, b"running"),
+        4 => put(out, used, b"faulted"),
+        5 => put(out, used, b"undoing"),
+        _ => put(out, used, b"handling"),
+    }
+}
+
+// What stands between two of a list.
+fn put_between(out: &mut [u8; 4096], used: usize, i: usize) -> usize {
+    if i == 0 {
+        return used;
+    }
+    put(out, used, b", ")
+}
+
+// A variable with its value.
+fn put_variable(
+    out: &mut [u8; 4096],
+    used: usize,
+    correlation: &[u8; 16],
+    i: usize,
+    bound: u8,
+    value: u32,
+) -> usize {
+    let mut at = put_between(out, used, i);
+    if i < 16 {
+        at = put_member(out, at, correlation, i as u32);
+    }
+    if bound == 1 {
+        at = put(out, at, b" =");
+        return put_next(out, at, value as u64);
+    }
+    put(out, at, b" unbound")
+}
+
+fn put_values(
+    out: &mut [u8; 4096],
+    used: usize,
+    correlation: &[u8; 16],
+    variables: u32,
+    bound: &[u8; 16],
+    values: &[u32; 16],
+) -> usize {
+    let few = variables as usize;
+    let mut at = used;
+    let mut i = 0;
+    while i < 16 {
+        if i < few {
+            at = put_variable(out, at, correlation, i, bound[i], values[i]);
+        }
+        i += 1;
+    }
+    at
+}
+
+// An order's variables.
+fn put_variables(
+    out: &mut [u8; 4096],
+    used: usize,
+    correlation: &[u8; 16],
+    variables: u32,
+    order: Order,
+) -> usize {
+    let bound = order.bound;
+    let values = order.values;
+    put_values(out, used, correlation, variables, &bound, &values)
+}
+
+// A scope that closed, and for what it is remembered.
+fn put_closing(out: &mut [u8; 4096], used: usize, table: &[u32; 11584], n: usize) -> usize {
+    let scope = scope_of(table, n);
+    let mut at = put(out, used, b"scope");
+    at = put_next(out, at, n as u64);
+    if scope == n {
+        return put(out, at, b" for the root");
+    }
+    at = put(out, at, b" for scope");
+    put_next(out, at, scope as u64)
+}
+
+fn put_remembered(
+    out: &mut [u8; 4096],
+    used: usize,
+    table: &[u32; 11584],
+    kept: usize,
+    remembered: &[u8; 32],
+) -> usize {
+    if kept == 0 {
+        return put(out, used, b"none");
+    }
+    let mut at = used;
+    let mut i = 0;
+    while i < 32 {
+        if i < kept {
+            at = put_between(out, at, i);
+            at = put_closing(out, at, table, wide(remembered[i]));
+        }
+        i += 1;
+    }
+    at
+}
+
+// An order's closings, oldest first.
+fn put_closings(out: &mut [u8; 4096], used: usize, table: &[u32; 11584], order: Order) -> usize {
+    let remembered = order.remembered;
+    put_remembered(out, used, table, order.kept, &remembered)
+}
+
+// The slot of an order, and how it stands.
+fn put_head(out: &mut [u8; 4096], used: usize, slot: usize, order: Order) -> usize {
+    let mut at = put(out, used, b"order");
+    at = put_next(out, at, slot as u64);
+    at = put_byte(out, at, 32);
+    put_root(out, at, order.root)
+}
+
+// A line for a live order.
+fn put_order_line(
+    out: &mut [u8; 4096],
+    used: usize,
+    table: &[u32; 11584],
+    correlation: &[u8; 16],
+    variables: u32,
+    slot: usize,
+    order: Order,
+) -> usize {
+    if order.root == 0 {
+        return used;
+    }
+    let mut at = put_head(out, used, slot, order);
+    at = put(out, at, b"; ");
+    at = put_variables(out, at, correlation, variables, order);
+    at = put(out, at, b"; remembered: ");
+    at = put_closings(out, at, table, order);
+    put_byte(out, at, 10)
+}
+
+fn with_live(live: u64, root: u8) -> u64 {
+    if root == 0 {
+        return live;
+    }
+    if live < 16 {
+        return live + 1;
+    }
+    live
+}
+
+// How many orders are live.
+fn live_of(orders: [Order; 16]) -> u64 {
+    let mut live = 0;
+    let mut slot = 0;
+    while slot < 16 {
+        let order = orders[slot];
+        live = with_live(live, order.root);
+        slot += 1;
+    }
+    live
+}
+
+fn put_order_lines(
+    out: &mut [u8; 4096],
+    used: usize,
+    table: &[u32; 11584],
+    correlation: &[u8; 16],
+    variables: u32,
+    orders: [Order; 16],
+) -> usize {
+    let mut at = put(out, used, b"orders");
+    at = put_next(out, at, live_of(orders));
+    at = put_byte(out, at, 10);
+    let mut slot = 0;
+    while slot < 16 {
+        let order = orders[slot];
+        at = put_order_line(out, at, table, correlation, variables, slot, order);
+        slot += 1;
+    }
+    put_byte(out, at, 10)
+}
+
+// How many orders are live, each of them, and a blank line.
+pub fn put_orders(out: &mut [u8; 4096], used: usize, state: State) -> usize {
+    let mut table = [0u32; 11584];
+    let mut correlation = [0u8; 16];
+    let orders = state.orders;
+    let a = machine::limits::planned(state, &mut table, &mut correlation);
+    match a {
+        Answer::Refused {
+            number: _,
+            place: _,
+        } => put_refusal(out, used, b"orders", 17),
+        Answer::Accepted {
+            variables,
+            activities: _,
+            nodes: _,
+        } => put_order_lines(out, used, &table, &correlation, variables, orders),
+    }
+}
+
+// A line of the drawing, with what that activity is doing.
+fn put_doing_line(
+    out: &mut [u8; 4096],
+    used: usize,
+    table: &[u32; 11584],
+    correlation: &[u8; 16],
+    order: Order,
+    n: usize,
+) -> usize {
+    let mut at = put_aligned(out, used, n as u64);
+    at = put(out, at, b"  ");
+    at = put_doing(out, at, table, order, n);
+    put_drawn(out, at, table, correlation, n)
+}
+
+fn put_doing_lines(
+    out: &mut [u8; 4096],
+    used: usize,
+    table: &[u32; 11584],
+    correlation: &[u8; 16],
+    activities: usize,
+    order: Order,
+) -> usize {
+    let mut at = used;
+    let mut n = 0;
+    while n < activities {
+        at = put_doing_line(out, at, table, correlation, order, n);
+        n += 1;
+    }
+    at
+}
+
+// What stands under the drawing of an order.
+fn put_foot(
+    out: &mut [u8; 4096],
+    used: usize,
+    table: &[u32; 11584],
+    correlation: &[u8; 16],
+    variables: u32,
+    order: Order,
+) -> usize {
+    let mut at = put(out, used, b"variables: ");
+    at = put_variables(out, at, correlation, variables, order);
+    at = put(out, at, b"\nremembered, oldest first: ");
+    at = put_closings(out, at, table, order);
+    put(out, at, b"\n\n")
+}
+
+// The order in a slot on the drawing of its plan.
+fn put_drawn_order(
+    out: &mut [u8; 4096],
+    used: usize,
+    table: &[u32; 11584],
+    correlation: &[u8; 16],
+    variables: u32,
+    activities: usize,
+    slot: usize,
+    order: Order,
+) -> usize {
+    let mut at = put_head(out, used, slot, order);
+    at = put_byte(out, at, 10);
+    if order.root == 0 {
+        return at;
+    }
+    at = put_doing_lines(out, at, table, correlation, activities, order);
+    put_foot(out, at, table, correlation, variables, order)
+}
+
+// The order in a slot.
+pub fn put_order(out: &mut [u8; 4096], used: usize, state: State, slot: usize) -> usize {
+    let mut table = [0u32; 11584];
+    let mut correlation = [0u8; 16];
+    let orders = state.orders;
+    let order = order_in(orders, slot);
+    let a = machine::limits::planned(state, &mut table, &mut correlation);
+    match a {
+        Answer::Refused {
+            number: _,
+            place: _,
+        } => put_refusal(out, used, b"order", 17),
+        Answer::Accepted {
+            variables,
+            activities,
+            nodes: _,
+        } => put_drawn_order(
+            out,
+            used,
+            &table,
+            &correlation,
+            variables,
+            activities,
+            slot,
+            order,
+        ),
+    }
+}
