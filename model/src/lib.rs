@@ -1,4 +1,4 @@
-//! The independent model of the plan reader, and what compares it with the proved reader.
+//! The independent model of the plan reader and of the engine, and what compares it with the proved library.
 //!
 //! The model is written from document 01 alone and shares no code with the proved crates.
 //!
@@ -10,9 +10,15 @@
 
 pub mod answers;
 pub mod edges;
+pub mod engine;
 pub mod full;
 pub mod generate;
+pub mod order;
+pub mod packed;
+pub mod plan;
 pub mod reader;
+pub mod scenarios;
+pub mod state;
 pub mod vectors;
 
 #[cfg(feature = "library")]
