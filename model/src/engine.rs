@@ -15,6 +15,14 @@ pub struct Step {
     pub starts: bool,
 }
 
+/// A step that was taken, how it ended its order if it did, and how many undo parts it started.
+#[derive(Clone, Copy, Debug, PartialEq, Eq)]
+pub struct Taken {
+    pub step: Step,
+    pub end: Option<End>,
+    pub undone: usize,
+}
+
 /// All that is offered, in order, and what is held.
 #[derive(Clone, Debug, Default, PartialEq, Eq)]
 pub struct Offer {
@@ -73,10 +81,10 @@ pub fn offer(state: &State, choice: u64) -> Result<Step, u32> {
     chosen(&state.passes().ok_or(17u32)?, state, choice)
 }
 
-pub fn step(state: &mut State, choice: u64, tally: &mut Tally) -> Result<(Step, Option<End>), u32> {
+pub fn step(state: &mut State, choice: u64, tally: &mut Tally) -> Result<Taken, u32> {
     let plan = state.passes().ok_or(17u32)?;
     let step = chosen(&plan, state, choice)?;
-    Ok((step, take(&plan, state, step, tally)))
+    Ok(take(&plan, state, step, tally))
 }
 
 /// Takes steps up to the end of the choices or of the budget, or to the first refusal. Answers how many, and that refusal.
@@ -142,12 +150,7 @@ fn fits(plan: &Plan, order: &Order, tuple: &Tuple, message: &Message) -> Option<
 fn fresh(plan: &Plan) -> Order {
     let mut order = NO_ORDER;
     order.root = ACTIVE;
-    Running {
-        plan,
-        order: &mut order,
-        end: None,
-    }
-    .begin(plan.body(None));
+    Running::new(plan, &mut order).begin(plan.body(None));
     order
 }
 
@@ -257,8 +260,8 @@ fn starts(plan: &Plan, state: &State, fewest: &[Option<usize>], offer: &mut Offe
     }
 }
 
-/// Takes a step that is offered. Answers how its order ended, if it did.
-fn take(plan: &Plan, state: &mut State, step: Step, tally: &mut Tally) -> Option<End> {
+/// Takes a step that is offered.
+fn take(plan: &Plan, state: &mut State, step: Step, tally: &mut Tally) -> Taken {
     let k = step.activity;
     if step.starts {
         state.orders[step.slot] = fresh(plan);
@@ -277,11 +280,7 @@ fn take(plan: &Plan, state: &mut State, step: Step, tally: &mut Tally) -> Option
     }
     // And to its order.
     let order = &mut state.orders[step.slot];
-    let mut running = Running {
-        plan,
-        order,
-        end: None,
-    };
+    let mut running = Running::new(plan, order);
     match plan.kind(k) {
         Kind::Receive(tuple) | Kind::Arm(tuple) => {
             for (&variable, &value) in tuple.variables().iter().zip(&message.values) {
@@ -293,12 +292,12 @@ fn take(plan: &Plan, state: &mut State, step: Step, tally: &mut Tally) -> Option
         Kind::Send(_) => running.over(k),
         _ => running.act(k),
     }
-    let end = running.end;
+    let Running { end, undone, .. } = running;
     if let Some(end) = end {
         *order = NO_ORDER;
         tally.ended(end);
     }
-    end
+    Taken { step, end, undone }
 }
 
 /// The message that a send adds, where all its variables are bound.

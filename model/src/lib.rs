@@ -9,17 +9,23 @@
 #![deny(unsafe_code)]
 
 pub mod answers;
+pub mod calls;
+pub mod comparison;
+pub mod describe;
 pub mod edges;
 pub mod engine;
 pub mod full;
 pub mod generate;
+pub mod lively;
 pub mod order;
 pub mod packed;
 pub mod plan;
 pub mod reader;
 pub mod scenarios;
+pub mod scramble;
 pub mod state;
 pub mod vectors;
+pub mod wander;
 
 #[cfg(feature = "library")]
 #[allow(unsafe_code)]

@@ -8,9 +8,20 @@ pub struct Running<'a> {
     pub plan: &'a Plan,
     pub order: &'a mut Order,
     pub end: Option<End>,
+    /// How many undo parts were started.
+    pub undone: usize,
 }
 
 impl Running<'_> {
+    pub fn new<'a>(plan: &'a Plan, order: &'a mut Order) -> Running<'a> {
+        Running {
+            plan,
+            order,
+            end: None,
+            undone: 0,
+        }
+    }
+
     fn mark(&self, scope: Scope) -> u8 {
         scope.map_or(self.order.root, |s| self.order.marks[s])
     }
@@ -94,10 +105,8 @@ impl Running<'_> {
                 }
             }
             Kind::Flow if mark == ACTIVE => {
-                if plan
-                    .within(around)
-                    .all(|each| self.order.marks[each] == IDLE)
-                {
+                let runs = |each: usize| self.order.marks[each] != IDLE;
+                if !plan.within(around).any(runs) {
                     self.over(around);
                 }
             }
@@ -251,6 +260,7 @@ impl Running<'_> {
     /// Starts undo parts up to the first that isn't over at once. Answers whether the list came to its end.
     fn undo(&mut self, scope: Scope) -> bool {
         while let Some(closed) = self.remove_last(scope) {
+            self.undone += 1;
             if !self.begin(self.plan.undo(closed)) {
                 return false;
             }

@@ -1,7 +1,7 @@
 //! The engine over packed states: a state with its tally as 11,964 bytes, and each call as the library's C function of that name answers it.
 
-use crate::engine::{self, Step};
-use crate::reader::Refusal;
+use crate::engine::{self, Step, Taken};
+use crate::reader::{self, Refusal};
 use crate::state::*;
 
 pub const SIZE: usize = 11_964;
@@ -29,7 +29,7 @@ fn put_numbers(bytes: &mut [u8], numbers: &[u32]) {
     }
 }
 
-fn unpack_message(bytes: &[u8]) -> Message {
+pub fn unpack_message(bytes: &[u8]) -> Message {
     let [partner, operation, count, a, b, c, d] = numbers(bytes);
     Message {
         partner,
@@ -77,6 +77,11 @@ pub fn unpack(bytes: &[u8]) -> Option<(State, Tally)> {
         orders: std::array::from_fn(|at| unpack_order(&bytes[AT_ORDERS + ORDER * at..])),
     };
     Some((state, Tally(numbers(&bytes[8..]))))
+}
+
+/// The marks of an order in a packed state.
+pub fn marks(bytes: &[u8], slot: usize) -> &[u8] {
+    &bytes[AT_ORDERS + ORDER * slot + 1..][..MARKS]
 }
 
 pub fn pack(state: &State, tally: &Tally, bytes: &mut [u8]) {
@@ -164,17 +169,19 @@ pub fn offers(state: &[u8]) -> u64 {
     }
 }
 
+/// Takes a step of a packed state.
+pub fn stepped(state: &mut [u8], choice: u64) -> Result<Taken, u32> {
+    let (mut now, mut tally) = unpack(state).ok_or(17u32)?;
+    engine::step(&mut now, choice, &mut tally).inspect(|_| pack(&now, &tally, state))
+}
+
+/// The answer of `step`, in one number.
+pub fn told(stepped: Result<Taken, u32>) -> u64 {
+    stepped.map_or_else(refused, |taken| answer(&taken.step, taken.end))
+}
+
 pub fn step(state: &mut [u8], choice: u64) -> u64 {
-    let Some((mut now, mut tally)) = unpack(state) else {
-        return refused(17);
-    };
-    match engine::step(&mut now, choice, &mut tally) {
-        Err(refusal) => refused(refusal),
-        Ok((step, end)) => {
-            pack(&now, &tally, state);
-            answer(&step, end)
-        }
-    }
+    told(stepped(state, choice))
 }
 
 pub fn run(state: &mut [u8], choices: &[u64], budget: &mut u64) -> u32 {
@@ -186,4 +193,14 @@ pub fn run(state: &mut [u8], choices: &[u64], budget: &mut u64) -> u32 {
         pack(&now, &tally, state);
     }
     refusal
+}
+
+/// Shows activity k of a plan: refusal * 2^48 + start * 2^24 + length.
+pub fn show(plan: &[u8], k: u32) -> u64 {
+    match reader::read(plan) {
+        Err(refusal) => u64::from(refusal.number) << 48,
+        Ok(plan) => plan.parts.get(k as usize).map_or(16 << 48, |part| {
+            u64::from(part.start) << 24 | u64::from(part.end - part.start)
+        }),
+    }
 }

@@ -1,6 +1,6 @@
 //! The scenarios of data/scenarios.txt and data/held.txt: calls on one engine from a fresh state, each with its answer.
 
-use crate::engine;
+use crate::engine::{self, Taken};
 use crate::state::{Message, State, Tally};
 use crate::vectors;
 
@@ -94,7 +94,7 @@ fn call_of(words: &[&str], state: &mut State, tally: &mut Tally) -> String {
         },
         "step" => match engine::step(state, number(1), tally) {
             Err(refusal) => refusal.to_string(),
-            Ok((step, end)) => {
+            Ok(Taken { step, end, .. }) => {
                 let end = end.map_or(0, |end| end as usize);
                 joined([0, step.slot, step.activity, step.place, end])
             }

@@ -1,0 +1,218 @@
+//! The model's engine and the library side by side: every call made on both, every answer and the whole desk after it compared, by batches.
+
+use crate::calls::{Call, Desk, Library, STATE, Told, tell};
+use crate::packed::{self, SIZE};
+use crate::state::{NO_ORDER, State};
+
+const BATCH: usize = 1 << 19;
+const CALLS: usize = 2_000;
+
+/// A call that was made by the model and is still to be compared.
+struct Made {
+    before: Desk,
+    size: usize,
+    call: Call,
+    answer: u64,
+    digest: u64,
+}
+
+/// A call on which the two differ.
+pub struct Difference {
+    pub before: Desk,
+    pub size: usize,
+    pub call: Call,
+}
+
+pub struct Comparison {
+    library: Library,
+    pub desk: Desk,
+    batch: Vec<u8>,
+    made: Vec<Made>,
+    /// Asked, and not yet answered.
+    asked: Vec<Made>,
+    /// The two differed, and have not been brought together since.
+    apart: bool,
+    pub calls: u64,
+    pub differences: usize,
+    pub smallest: Option<Difference>,
+}
+
+impl Comparison {
+    pub fn new(library: Library) -> Comparison {
+        Comparison {
+            library,
+            desk: Desk::new(),
+            batch: Vec::new(),
+            made: Vec::new(),
+            asked: Vec::new(),
+            apart: false,
+            calls: 0,
+            differences: 0,
+            smallest: None,
+        }
+    }
+
+    pub fn make(&mut self, call: Call) -> Told {
+        self.make_sized(SIZE, call)
+    }
+
+    /// Makes a call that is told another size of the state.
+    pub fn make_sized(&mut self, size: usize, call: Call) -> Told {
+        if self.batch.len() > BATCH || self.made.len() >= CALLS {
+            self.flush();
+        }
+        self.calls += u64::from(!matches!(call, Call::Put(_)));
+        tell(&call, size, &mut self.batch);
+        let before = self.desk.clone();
+        let told = self.desk.call(size, &call);
+        self.made.push(Made {
+            before,
+            size,
+            call,
+            answer: told.answer,
+            digest: self.desk.digest(),
+        });
+        told
+    }
+
+    /// Asks the library for what was made, and compares what was asked before: so that both work at once.
+    fn flush(&mut self) {
+        self.library.ask(&self.batch);
+        self.batch.clear();
+        self.compare();
+        self.asked = std::mem::take(&mut self.made);
+    }
+
+    /// Compares all that was made.
+    pub fn finish(&mut self) {
+        self.flush();
+        self.compare();
+    }
+
+    fn compare(&mut self) {
+        let answers = self.library.answers(self.asked.len());
+        for (made, (answer, digest)) in std::mem::take(&mut self.asked).into_iter().zip(answers) {
+            if matches!(made.call, Call::Put(_) | Call::Load(_)) {
+                self.apart = false;
+            }
+            if self.apart || (made.answer, made.digest) == (answer, digest) {
+                continue;
+            }
+            self.apart = true;
+            self.differences += 1;
+            let smaller = |other: &Difference| weight(&made.before) < weight(&other.before);
+            if self.smallest.as_ref().is_none_or(smaller) {
+                self.smallest = Some(Difference {
+                    before: made.before,
+                    size: made.size,
+                    call: made.call,
+                });
+            }
+        }
+    }
+
+    /// What the model and the library give on one call, each with its desk after it.
+    pub fn both(&mut self, difference: &Difference) -> [(u64, Desk); 2] {
+        let mut desk = Desk::new();
+        desk.bytes[..SIZE].copy_from_slice(difference.before.state());
+        let answer = desk.call(difference.size, &difference.call).answer;
+        let Difference { before, size, call } = difference;
+        [(answer, desk), self.library.alone(before, *size, call)]
+    }
+
+    /// Makes the state of a difference as bare as it stays one.
+    pub fn shrink(&mut self, mut difference: Difference) -> Difference {
+        loop {
+            let before = difference.before.state().to_vec();
+            for bytes in bare(&before) {
+                let mut desk = Desk::new();
+                desk.bytes[..SIZE].copy_from_slice(&bytes);
+                let barer = Difference {
+                    before: desk,
+                    size: difference.size,
+                    call: difference.call.clone(),
+                };
+                if self.differs(&barer) {
+                    difference = barer;
+                    break;
+                }
+            }
+            if difference.before.state() == before {
+                return difference;
+            }
+        }
+    }
+
+    fn differs(&mut self, difference: &Difference) -> bool {
+        let [(a, one), (b, other)] = self.both(difference);
+        let same = match difference.call {
+            Call::Collect(room) if room >= packed::MESSAGE => one.message() == other.message(),
+            Call::Run(..) => one.budget() == other.budget(),
+            _ => true,
+        };
+        a != b || !same || one.bytes[..STATE] != other.bytes[..STATE]
+    }
+}
+
+/// How large the state of a difference is: its plan first.
+fn weight(desk: &Desk) -> (u64, usize) {
+    let length = packed::unpack(desk.state()).map_or(u64::MAX, |(state, _)| state.length);
+    let used = desk.state()[36 + 4096..].iter().filter(|&&byte| byte != 0);
+    (length, used.count())
+}
+
+/// Barer states: with an order, a message or one number of an order gone.
+fn bare(bytes: &[u8]) -> Vec<Vec<u8>> {
+    let Some((state, tally)) = packed::unpack(bytes) else {
+        return Vec::new();
+    };
+    let mut barer = Vec::new();
+    let mut add = |state: &State| {
+        let mut bytes = vec![0; SIZE];
+        packed::pack(state, &tally, &mut bytes);
+        barer.push(bytes);
+    };
+    for slot in 0..state.orders.len() {
+        if state.orders[slot] != NO_ORDER {
+            let mut less = state.clone();
+            less.orders[slot] = NO_ORDER;
+            add(&less);
+        }
+    }
+    if state.waiting <= 64 {
+        for place in 0..state.waiting as usize {
+            let mut less = state.clone();
+            less.remove(place);
+            add(&less);
+        }
+    }
+    for slot in 0..state.orders.len() {
+        let order = &state.orders[slot];
+        for k in 0..256 {
+            if order.marks[k] != 0 {
+                let mut less = state.clone();
+                less.orders[slot].marks[k] = 0;
+                add(&less);
+            }
+        }
+        for variable in 0..16 {
+            if (order.bound[variable], order.values[variable]) != (0, 0) {
+                let mut less = state.clone();
+                less.orders[slot].bound[variable] = 0;
+                less.orders[slot].values[variable] = 0;
+                add(&less);
+            }
+        }
+        if (1..=32).contains(&order.kept) {
+            for at in 0..order.kept as usize {
+                let mut less = state.clone();
+                let order = &mut less.orders[slot];
+                order.remembered.copy_within(at + 1.., at);
+                order.remembered[31] = 0;
+                order.kept -= 1;
+                add(&less);
+            }
+        }
+    }
+    barer
+}
