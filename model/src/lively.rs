@@ -52,10 +52,16 @@ fn write(random: &mut Random) -> Vec<u8> {
         free,
     };
     writer.sheet.header(variables as u32, &correlation);
-    if writer.random.percent(12) {
-        writer.closings();
-    } else {
-        writer.body(size);
+    match writer.random.below(100) {
+        0..=11 => writer.closings(),
+        12..=41 => {
+            writer.list(8, 3);
+            writer.start(1, 2);
+            let levels = writer.random.from_to(1, 3);
+            writer.storm(levels, 2);
+            writer.ending();
+        }
+        _ => writer.body(size),
     }
     let fault = writer.random.from_to(1, 4);
     writer.activity(fault, 1, true);
@@ -110,6 +116,55 @@ impl Writer<'_> {
         self.activity(3, 2, false);
     }
 
+    /// A scope with scopes side by side in it, some of which close and some of which fault.
+    fn storm(&mut self, levels: usize, depth: u32) {
+        self.code(11);
+        let count = self.random.from_to(2, 3);
+        let code = if self.random.percent(75) { 9 } else { 8 };
+        self.list(code, count);
+        for _ in 0..count {
+            match self.random.below(10) {
+                0..=4 if levels > 0 => self.storm(levels - 1, depth + 2),
+                0..=6 => {
+                    self.list(8, 2);
+                    self.small_scope(depth + 3);
+                    if self.random.percent(50) {
+                        self.small_scope(depth + 3);
+                    } else {
+                        self.chores(25);
+                    }
+                }
+                _ => self.ending(),
+            }
+        }
+        self.chores(15);
+        self.chores(15);
+    }
+
+    /// Something that most often raises after a while.
+    fn ending(&mut self) {
+        self.chores(70);
+    }
+
+    /// A few steps, with a chance of a raise after them.
+    fn chores(&mut self, raises: usize) {
+        let count = self.random.from_to(0, 3);
+        self.list(8, count + 1);
+        for _ in 0..count {
+            if self.free.is_empty() || self.random.percent(50) {
+                self.message(Some(1), false);
+            } else {
+                self.code(3);
+                let variable = self.free[self.random.below(self.free.len())];
+                self.sheet.put(Kind::Variable, variable);
+                self.sheet.put(Kind::Form, 0);
+                self.sheet.put(Kind::Constant, count as u32);
+            }
+        }
+        let last = if self.random.percent(raises) { 4 } else { 0 };
+        self.code(last);
+    }
+
     fn small_scope(&mut self, depth: u32) {
         self.code(11);
         let body = if self.random.percent(50) { 1 } else { 3 };
@@ -119,7 +174,11 @@ impl Writer<'_> {
             self.activity(body, depth + 1, false);
         }
         self.activity(1, depth + 1, true);
-        self.activity(2, depth + 1, true);
+        if self.random.percent(50) {
+            self.chores(10);
+        } else {
+            self.activity(2, depth + 1, true);
+        }
     }
 
     /// A start form of about this size.

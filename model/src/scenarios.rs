@@ -8,18 +8,22 @@ use crate::vectors;
 pub const TEXT: &str = include_str!("../../data/scenarios.txt");
 pub const HELD: &str = include_str!("../../data/held.txt");
 
-/// What a file came to: its scenarios and lines, and each line whose answer differs.
-#[derive(Debug, Default)]
+/// What a file came to: its scenarios and lines, each line whose answer differs, and the state at the end.
 pub struct Played {
     pub scenarios: usize,
     pub lines: usize,
     pub wrong: Vec<String>,
+    pub state: State,
 }
 
 /// Plays all scenarios of a file.
 pub fn play(text: &str) -> Played {
-    let mut played = Played::default();
-    let mut state = State::without_plan();
+    let mut played = Played {
+        scenarios: 0,
+        lines: 0,
+        wrong: Vec::new(),
+        state: State::without_plan(),
+    };
     let mut tally = Tally::default();
     for (at, line) in text.lines().enumerate() {
         if line.starts_with("# scenario") {
@@ -32,7 +36,7 @@ pub fn play(text: &str) -> Played {
         let (call, expected) = line.split_once('=').expect("an answer behind '='");
         let expected = expected.trim();
         let words: Vec<&str> = call.split_whitespace().collect();
-        let answer = call_of(&words, &mut state, &mut tally);
+        let answer = call_of(&words, &mut played.state, &mut tally);
         if answer != expected {
             played.wrong.push(format!(
                 "line {}: {} = {answer}, not {expected}",
