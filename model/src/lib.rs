@@ -15,6 +15,7 @@ pub mod describe;
 pub mod edges;
 pub mod engine;
 pub mod full;
+pub mod fullest;
 pub mod generate;
 pub mod lively;
 pub mod order;

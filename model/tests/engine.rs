@@ -117,3 +117,11 @@ fn sixty_four_wait() {
     let played = play(&format!("{plan}{post}post 3 5 7 9 = 14"));
     assert!(played.wrong.is_empty(), "{:?}", played.wrong);
 }
+
+#[test]
+fn the_states_of_the_benchmark() {
+    let full = model::fullest::fullest(64);
+    assert_eq!(packed::offers(&full), 64 * 244);
+    assert_eq!(model::fullest::sample().len(), 13);
+    assert_eq!(packed::offers(&model::fullest::repeating()), 1);
+}
