@@ -173,8 +173,11 @@ fn offered(plan: &Plan, state: &State) -> Offer {
                 continue;
             };
             for (place, message) in messages.iter().enumerate() {
-                let unchecked = fits(plan, order, &tuple, message);
-                fewest[place] = fewest[place].into_iter().chain(unchecked).min();
+                if let Some(unchecked) = fits(plan, order, &tuple, message)
+                    && fewest[place].is_none_or(|least| unchecked < least)
+                {
+                    fewest[place] = Some(unchecked);
+                }
             }
         }
     }

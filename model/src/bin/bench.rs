@@ -132,7 +132,8 @@ fn stack() {
     for (name, work) in works {
         let mut most = (0, "");
         for (plan, bytes) in &all {
-            let (answer, used) = painted.run(&mut || work(bytes, last(bytes)));
+            let k = last(bytes);
+            let (answer, used) = painted.run(&mut || work(bytes, k));
             black_box(answer);
             if used > most.0 {
                 most = (used, plan);
