@@ -12,12 +12,14 @@ struct Made {
     before: Desk,
     size: usize,
     call: Call,
+    reached: bool,
     answer: u64,
     digest: u64,
 }
 
-/// A call on which the two differ.
+/// A call on which the two differ, and whether a run reaches the state.
 pub struct Difference {
+    pub reached: bool,
     pub before: Desk,
     pub size: usize,
     pub call: Call,
@@ -33,7 +35,10 @@ pub struct Comparison {
     /// The two differed, and have not been brought together since.
     apart: bool,
     pub calls: u64,
-    pub differences: usize,
+    /// The state on the desk is one that a run reaches.
+    pub reached: bool,
+    /// How many differences there were in runs, and on states that no run reaches.
+    pub differences: [usize; 2],
     pub smallest: Option<Difference>,
 }
 
@@ -47,7 +52,8 @@ impl Comparison {
             asked: Vec::new(),
             apart: false,
             calls: 0,
-            differences: 0,
+            reached: true,
+            differences: [0; 2],
             smallest: None,
         }
     }
@@ -69,6 +75,7 @@ impl Comparison {
             before,
             size,
             call,
+            reached: self.reached,
             answer: told.answer,
             digest: self.desk.digest(),
         });
@@ -99,14 +106,16 @@ impl Comparison {
                 continue;
             }
             self.apart = true;
-            self.differences += 1;
-            let smaller = |other: &Difference| weight(&made.before) < weight(&other.before);
+            self.differences[usize::from(!made.reached)] += 1;
+            let difference = Difference {
+                reached: made.reached,
+                before: made.before,
+                size: made.size,
+                call: made.call,
+            };
+            let smaller = |other: &Difference| difference.weight() < other.weight();
             if self.smallest.as_ref().is_none_or(smaller) {
-                self.smallest = Some(Difference {
-                    before: made.before,
-                    size: made.size,
-                    call: made.call,
-                });
+                self.smallest = Some(difference);
             }
         }
     }
@@ -116,7 +125,9 @@ impl Comparison {
         let mut desk = Desk::new();
         desk.bytes[..SIZE].copy_from_slice(difference.before.state());
         let answer = desk.call(difference.size, &difference.call).answer;
-        let Difference { before, size, call } = difference;
+        let Difference {
+            before, size, call, ..
+        } = difference;
         [(answer, desk), self.library.alone(before, *size, call)]
     }
 
@@ -129,8 +140,8 @@ impl Comparison {
                 desk.bytes[..SIZE].copy_from_slice(&bytes);
                 let barer = Difference {
                     before: desk,
-                    size: difference.size,
                     call: difference.call.clone(),
+                    ..difference
                 };
                 if self.differs(&barer) {
                     difference = barer;
@@ -154,11 +165,14 @@ impl Comparison {
     }
 }
 
-/// How large the state of a difference is: its plan first.
-fn weight(desk: &Desk) -> (u64, usize) {
-    let length = packed::unpack(desk.state()).map_or(u64::MAX, |(state, _)| state.length);
-    let used = desk.state()[36 + 4096..].iter().filter(|&&byte| byte != 0);
-    (length, used.count())
+impl Difference {
+    /// How small it is: in a run first, then by its plan, then by what stands in the state.
+    fn weight(&self) -> (bool, u64, usize) {
+        let state = self.before.state();
+        let length = packed::unpack(state).map_or(u64::MAX, |(state, _)| state.length);
+        let used = state[36 + 4096..].iter().filter(|&&byte| byte != 0);
+        (!self.reached, length, used.count())
+    }
 }
 
 /// Barer states: with an order, a message or one number of an order gone.

@@ -51,8 +51,6 @@ pub struct Wander {
     /// The receives and arms.
     received: Vec<Tuple>,
     lean: Lean,
-    /// The state on the desk is one that a run reaches.
-    reached: bool,
 }
 
 impl Wander {
@@ -65,18 +63,17 @@ impl Wander {
             plan: Plan::of(&[1, 1, 0, 2, 0, 0, 1, 0, 0]),
             received: Vec::new(),
             lean: Lean::Usual,
-            reached: true,
         }
     }
 
     /// One plan and about so many calls on it; then some on states that no run reaches.
     pub fn run(&mut self, calls: usize) {
         self.seen.runs += 1;
+        self.comparison.reached = true;
         if self.random.percent(2) {
             self.without_plan();
         }
         self.load();
-        self.reached = true;
         self.lean = match self.random.below(100) {
             0..=7 => Lean::Messages,
             8..=15 => Lean::Orders,
@@ -93,7 +90,7 @@ impl Wander {
         for _ in 0..left {
             self.any_call();
         }
-        self.reached = false;
+        self.comparison.reached = false;
         for _ in 0..3 {
             self.unreached();
         }
@@ -115,12 +112,13 @@ impl Wander {
     /// A plan that may be refused, and calls on what it leaves.
     fn without_plan(&mut self) {
         let bytes = generate::mixed(&mut self.random);
-        let refused = self.comparison.make(Call::Load(bytes)).answer >> 32;
-        for _ in 0..3 {
-            self.any_call();
-        }
-        if refused != 0 {
-            self.seen.beyond += 3;
+        self.comparison.make(Call::Load(bytes));
+        self.comparison.make(Call::Offers);
+        for _ in 0..2 {
+            self.step();
+            self.post();
+            self.collect();
+            self.run_of_steps();
         }
     }
 
@@ -211,7 +209,7 @@ impl Wander {
     fn scopes(&mut self, slot: usize) {
         let marks = packed::marks(self.comparison.desk.state(), slot);
         for (k, &mark) in marks.iter().enumerate() {
-            if self.reached && self.plan.is_scope(k) {
+            if self.comparison.reached && self.plan.is_scope(k) {
                 self.seen.scopes[mark as usize] += 1;
             }
         }

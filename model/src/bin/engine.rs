@@ -45,9 +45,10 @@ fn main() {
     } = wander;
     if let Some(difference) = comparison.smallest.take() {
         differ(&mut comparison, difference);
+        let [reached, beyond] = comparison.differences;
         println!(
-            "DIFFERENT: {} of {} calls, of seed {seed}",
-            comparison.differences, comparison.calls
+            "DIFFERENT: {reached} calls in runs and {beyond} on states that no run reaches, of {} calls of seed {seed}",
+            comparison.calls
         );
         exit(1);
     }
@@ -121,6 +122,10 @@ fn told(seen: &Seen, full: bool) {
 /// Shows the smallest difference, on a state as bare as it stays one.
 fn differ(comparison: &mut Comparison, difference: Difference) {
     let difference = comparison.shrink(difference);
+    println!(
+        "The smallest difference, on a state that {} run reaches but for what was taken away:",
+        if difference.reached { "a" } else { "no" }
+    );
     println!("{}", describe::described(&difference.before));
     println!(
         "call    {:?} (state of {} bytes)",
