@@ -14,17 +14,17 @@ struct Writer<'a> {
     most_places: usize,
 }
 
-/// A legal plan.
-pub fn plan(random: &mut Random) -> Vec<u8> {
+/// A legal plan; with a body that closes scopes again and again, if asked.
+pub fn plan(random: &mut Random, closes: bool) -> Vec<u8> {
     loop {
-        let bytes = write(random);
+        let bytes = write(random, closes);
         if reader::read(&bytes).is_ok() {
             return bytes;
         }
     }
 }
 
-fn write(random: &mut Random) -> Vec<u8> {
+fn write(random: &mut Random, closes: bool) -> Vec<u8> {
     let variables = match random.below(12) {
         0 => 16,
         1 => random.from_to(5, 15),
@@ -53,8 +53,9 @@ fn write(random: &mut Random) -> Vec<u8> {
     };
     writer.sheet.header(variables as u32, &correlation);
     match writer.random.below(100) {
-        0..=11 => writer.closings(),
-        12..=41 => {
+        _ if closes => writer.closings(),
+        0..=7 => writer.closings(),
+        8..=39 => {
             writer.list(8, 3);
             writer.start(1, 2);
             let levels = writer.random.from_to(1, 3);

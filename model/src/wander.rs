@@ -73,13 +73,13 @@ impl Wander {
         if self.random.percent(2) {
             self.without_plan();
         }
-        self.load();
         self.lean = match self.random.below(100) {
             0..=7 => Lean::Messages,
             8..=15 => Lean::Orders,
             16..=25 => Lean::Long,
             _ => Lean::Usual,
         };
+        self.load();
         let mut left = calls;
         if matches!(self.lean, Lean::Messages | Lean::Orders) {
             left += 30;
@@ -97,7 +97,8 @@ impl Wander {
     }
 
     fn load(&mut self) {
-        let bytes = lively::plan(&mut self.random);
+        let closes = self.lean == Lean::Long && self.random.percent(50);
+        let bytes = lively::plan(&mut self.random, closes);
         self.plan = Plan::of(&bytes);
         self.received.clear();
         for activity in &self.plan.activities {
@@ -123,15 +124,17 @@ impl Wander {
     }
 
     fn any_call(&mut self) {
-        let step = match self.lean {
-            Lean::Orders => 75,
-            _ => 55,
+        // Steps, then posts, then runs of steps.
+        let (step, post) = match self.lean {
+            Lean::Orders => (75, 80),
+            Lean::Long => (60, 62),
+            _ => (55, 80),
         };
         match self.random.below(100) {
             at if at < step => self.step(),
-            at if at < 80 => self.post(),
-            80..=86 => self.run_of_steps(),
-            87..=90 => self.collect(),
+            at if at < post => self.post(),
+            at if at < 87 => self.run_of_steps(),
+            at if at < 91 => self.collect(),
             91..=93 => {
                 let choice = self.choice(&self.offered());
                 let answer = self.comparison.make(Call::Offer(choice)).answer;
@@ -192,7 +195,7 @@ impl Wander {
         self.seen.held_sends += u64::from(offer.held.sends > 0);
         self.seen.held_closes += u64::from(offer.held.closes > 0);
         self.seen.held_starts += u64::from(offer.held.starts > 0);
-        if offer.steps.is_empty() && self.random.percent(60) {
+        if offer.steps.is_empty() && !offer.held.any() && self.random.percent(60) {
             return self.post();
         }
         let choice = self.choice(&offer);
@@ -218,7 +221,7 @@ impl Wander {
     fn run_of_steps(&mut self) {
         let most = if self.lean == Lean::Long { 150 } else { 12 };
         let many = self.random.below(most);
-        let high = self.random.from_to(1, 4);
+        let high = self.random.from_to(1, 3);
         let choices = (0..many).map(|_| self.random.below(high) as u64).collect();
         let budget = match self.random.below(5) {
             0 => self.random.below(4) as u64,
