@@ -126,14 +126,11 @@ impl Writer<'_> {
         for _ in 0..count {
             match self.random.below(10) {
                 0..=4 if levels > 0 => self.storm(levels - 1, depth + 2),
-                0..=6 => {
-                    self.list(8, 2);
+                0..=7 => {
+                    self.list(8, 3);
                     self.small_scope(depth + 3);
-                    if self.random.percent(50) {
-                        self.small_scope(depth + 3);
-                    } else {
-                        self.chores(25);
-                    }
+                    self.small_scope(depth + 3);
+                    self.ending();
                 }
                 _ => self.ending(),
             }
@@ -168,11 +165,11 @@ impl Writer<'_> {
 
     fn small_scope(&mut self, depth: u32) {
         self.code(11);
-        let body = if self.random.percent(50) { 1 } else { 3 };
-        if body == 1 && self.random.percent(60) {
-            self.code(0);
+        if self.random.percent(60) {
+            self.chores(0);
         } else {
-            self.activity(body, depth + 1, false);
+            let size = self.random.from_to(1, 3);
+            self.activity(size, depth + 1, false);
         }
         self.activity(1, depth + 1, true);
         if self.random.percent(50) {

@@ -198,7 +198,7 @@ impl Running<'_> {
 
     /// A fault reaches a scope. One already stopped or faulted absorbs it, and may have waited for what just ended.
     fn fault(&mut self, scope: Scope) {
-        if self.mark(scope) == ACTIVE {
+        if matches!(self.mark(scope), ACTIVE | DONE) {
             self.stop(self.plan.body(scope));
             self.set_mark(scope, FAULTED);
         }
@@ -217,22 +217,26 @@ impl Running<'_> {
         }
     }
 
-    /// Stops an activity of a body.
+    /// Stops an activity of a body. An inner scope that faulted or was stopped before is left to finish.
     fn stop(&mut self, k: usize) {
         let plan = self.plan;
-        if plan.kind(k) != Kind::Scope {
-            self.order.marks[k] = IDLE;
-            for each in plan.within(k) {
-                self.stop(each);
-            }
-        } else if matches!(self.order.marks[k], ACTIVE | DONE) {
+        match (plan.kind(k), self.order.marks[k]) {
+            (Kind::Scope, FAULTED..) => {}
             // Begun and not yet closed: it turns to undoing, without a fault part.
-            self.stop(plan.body(Some(k)));
-            self.order.marks[k] = STOPPED;
-            if !self.inner_runs(Some(k)) {
-                self.order.marks[k] = STOPPED_UNDOING;
-                if self.undo(Some(k)) {
-                    self.order.marks[k] = IDLE;
+            (Kind::Scope, ACTIVE | DONE) => {
+                self.stop(plan.body(Some(k)));
+                self.order.marks[k] = STOPPED;
+                if !self.inner_runs(Some(k)) {
+                    self.order.marks[k] = STOPPED_UNDOING;
+                    if self.undo(Some(k)) {
+                        self.order.marks[k] = IDLE;
+                    }
+                }
+            }
+            _ => {
+                self.order.marks[k] = IDLE;
+                for each in plan.within(k) {
+                    self.stop(each);
                 }
             }
         }
