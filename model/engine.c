@@ -74,6 +74,10 @@ static u64 called(void)
     u64 size = number(4), n;
     u32 m[7];
     u8 *from;
+    if (call == PUT || call == LOAD) {
+        __builtin_memset(desk.message, 0, MESSAGE);
+        desk.budget = 0;
+    }
     switch (call) {
     case PUT:
         __builtin_memcpy(desk.state, at, size);

@@ -63,6 +63,9 @@ impl Desk {
     /// Makes a call by the model, told that the state has `size` bytes.
     pub fn call(&mut self, size: usize, call: &Call) -> Told {
         let (state, rest) = self.bytes.split_at_mut(STATE);
+        if matches!(call, Call::Put(_) | Call::Load(_)) {
+            rest.fill(0);
+        }
         let (message, budget) = rest.split_at_mut(MESSAGE);
         let state = &mut state[..size];
         let mut taken = None;
