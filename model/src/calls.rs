@@ -50,6 +50,11 @@ impl Desk {
         &self.bytes[..SIZE]
     }
 
+    /// The call that lays this state on a desk.
+    pub fn put(&self) -> Call {
+        Call::Put(Box::new(self.state().try_into().expect("a state")))
+    }
+
     /// The message that a collect wrote.
     pub fn message(&self) -> &[u8] {
         &self.bytes[STATE..STATE + packed::MESSAGE]
@@ -256,8 +261,7 @@ impl Library {
     /// The answer to one call on a desk, and the desk after it.
     pub fn alone(&mut self, before: &Desk, size: usize, call: &Call) -> (u64, Desk) {
         let mut batch = Vec::new();
-        let state = Box::new(before.state().try_into().expect("a state"));
-        tell(&Call::Put(state), SIZE, &mut batch);
+        tell(&before.put(), SIZE, &mut batch);
         tell(call, size, &mut batch);
         batch.extend(GET);
         self.ask(&batch);

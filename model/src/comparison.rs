@@ -1,6 +1,6 @@
 //! The model's engine and the library side by side: every call made on both, every answer and the whole desk after it compared, by batches.
 
-use crate::calls::{Call, Desk, Library, STATE, Told, tell};
+use crate::calls::{Call, Desk, Library, Told, tell};
 use crate::packed::{self, SIZE};
 use crate::state::{NO_ORDER, State};
 
@@ -123,7 +123,7 @@ impl Comparison {
     /// What the model and the library give on one call, each with its desk after it.
     pub fn both(&mut self, difference: &Difference) -> [(u64, Desk); 2] {
         let mut desk = Desk::new();
-        desk.bytes[..SIZE].copy_from_slice(difference.before.state());
+        desk.call(SIZE, &difference.before.put());
         let answer = desk.call(difference.size, &difference.call).answer;
         let Difference {
             before, size, call, ..
@@ -156,12 +156,7 @@ impl Comparison {
 
     fn differs(&mut self, difference: &Difference) -> bool {
         let [(a, one), (b, other)] = self.both(difference);
-        let same = match difference.call {
-            Call::Collect(room) if room >= packed::MESSAGE => one.message() == other.message(),
-            Call::Run(..) => one.budget() == other.budget(),
-            _ => true,
-        };
-        a != b || !same || one.bytes[..STATE] != other.bytes[..STATE]
+        a != b || one.bytes != other.bytes
     }
 }
 
