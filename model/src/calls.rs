@@ -3,7 +3,7 @@
 use crate::engine::Taken;
 use crate::packed::{self, SIZE};
 use crate::state::Message;
-use std::io::{Read, Write};
+use std::io::{self, Read, Write};
 use std::process::{Child, ChildStdin, ChildStdout, Command, Stdio};
 
 /// All that a call may write: a state with some bytes after it, a message with some after it, a budget.
@@ -218,6 +218,7 @@ fn number(bytes: &mut &[u8], length: usize) -> u64 {
 
 /// A process that answers for the library. It ends with this value.
 pub struct Library {
+    command: String,
     child: Child,
     ask: Option<ChildStdin>,
     told: ChildStdout,
@@ -235,46 +236,46 @@ impl Library {
             .spawn()
             .unwrap_or_else(|error| panic!("{program}: {error}"));
         Library {
+            command: command.to_string(),
             ask: child.stdin.take(),
             told: child.stdout.take().expect("a pipe"),
             child,
         }
     }
 
-    pub fn ask(&mut self, batch: &[u8]) {
+    /// Asks; an error where the process has ended.
+    pub fn ask(&mut self, batch: &[u8]) -> io::Result<()> {
         let length = u32::try_from(batch.len()).expect("a short batch");
         let ask = self.ask.as_mut().expect("an open pipe");
-        ask.write_all(&length.to_le_bytes())
-            .and_then(|()| ask.write_all(batch))
-            .expect("the library listens: it ended, or its stack did");
+        ask.write_all(&length.to_le_bytes())?;
+        ask.write_all(batch)
     }
 
     /// Answer and digest of so many calls.
-    pub fn answers(&mut self, many: usize) -> Vec<(u64, u64)> {
+    pub fn answers(&mut self, many: usize) -> io::Result<Vec<(u64, u64)>> {
         let mut bytes = vec![0; 16 * many];
-        self.read(&mut bytes);
+        self.told.read_exact(&mut bytes)?;
         let long = |eight: &[u8]| u64::from_le_bytes(eight.try_into().expect("eight bytes"));
         let both = |both: &[u8]| (long(&both[..8]), long(&both[8..]));
-        bytes.chunks_exact(16).map(both).collect()
+        Ok(bytes.chunks_exact(16).map(both).collect())
     }
 
     /// The answer to one call on a desk, and the desk after it.
-    pub fn alone(&mut self, before: &Desk, size: usize, call: &Call) -> (u64, Desk) {
+    pub fn alone(&mut self, before: &Desk, size: usize, call: &Call) -> io::Result<(u64, Desk)> {
         let mut batch = Vec::new();
         tell(&before.put(), SIZE, &mut batch);
         tell(call, size, &mut batch);
         batch.extend(GET);
-        self.ask(&batch);
-        let answer = self.answers(2)[1].0;
+        self.ask(&batch)?;
+        let answer = self.answers(2)?[1].0;
         let mut desk = Desk::new();
-        self.read(&mut desk.bytes[..]);
-        (answer, desk)
+        self.told.read_exact(&mut desk.bytes[..])?;
+        Ok((answer, desk))
     }
 
-    fn read(&mut self, bytes: &mut [u8]) {
-        self.told
-            .read_exact(bytes)
-            .expect("the library answers: it ended, or its stack did");
+    /// Another process in its place.
+    pub fn again(&self) -> Library {
+        Library::start(&self.command)
     }
 }
 

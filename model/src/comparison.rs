@@ -1,8 +1,10 @@
 //! The model's engine and the library side by side: every call made on both, every answer and the whole desk after it compared, by batches.
 
 use crate::calls::{Call, Desk, Library, Told, tell};
+use crate::describe;
 use crate::packed::{self, SIZE};
 use crate::state::{NO_ORDER, State};
+use std::process::exit;
 
 const BATCH: usize = 1 << 19;
 const CALLS: usize = 2_000;
@@ -84,10 +86,34 @@ impl Comparison {
 
     /// Asks the library for what was made, and compares what was asked before: so that both work at once.
     fn flush(&mut self) {
-        self.library.ask(&self.batch);
+        let asked = self.library.ask(&self.batch);
         self.batch.clear();
         self.compare();
         self.asked = std::mem::take(&mut self.made);
+        if asked.is_err() {
+            self.ended();
+        }
+    }
+
+    /// The library's process ended: shows the call that ends it.
+    fn ended(&mut self) -> ! {
+        println!("FAILED: the library ended, or its stack did");
+        for made in &self.asked {
+            self.library = self.library.again();
+            if self
+                .library
+                .alone(&made.before, made.size, &made.call)
+                .is_err()
+            {
+                println!(
+                    "{}\ncall {:?}",
+                    describe::described(&made.before),
+                    made.call
+                );
+                break;
+            }
+        }
+        exit(1);
     }
 
     /// Compares all that was made.
@@ -97,7 +123,9 @@ impl Comparison {
     }
 
     fn compare(&mut self) {
-        let answers = self.library.answers(self.asked.len());
+        let Ok(answers) = self.library.answers(self.asked.len()) else {
+            self.ended();
+        };
         for (made, (answer, digest)) in std::mem::take(&mut self.asked).into_iter().zip(answers) {
             if matches!(made.call, Call::Put(_) | Call::Load(_)) {
                 self.apart = false;
@@ -128,7 +156,8 @@ impl Comparison {
         let Difference {
             before, size, call, ..
         } = difference;
-        [(answer, desk), self.library.alone(before, *size, call)]
+        let library = self.library.alone(before, *size, call);
+        [(answer, desk), library.expect("an answer of the library")]
     }
 
     /// Makes the state of a difference as bare as it stays one.
