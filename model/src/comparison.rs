@@ -164,17 +164,20 @@ impl Comparison {
     pub fn shrink(&mut self, mut difference: Difference) -> Difference {
         loop {
             let before = difference.before.state().to_vec();
-            for bytes in bare(&before) {
-                let mut desk = Desk::new();
-                desk.bytes[..SIZE].copy_from_slice(&bytes);
-                let barer = Difference {
-                    before: desk,
-                    call: difference.call.clone(),
-                    ..difference
-                };
-                if self.differs(&barer) {
-                    difference = barer;
-                    break;
+            'barer: for bytes in bare(&before) {
+                // With less before it, the same step may have another choice.
+                for call in calls_like(&difference.call) {
+                    let mut before = Desk::new();
+                    before.bytes[..SIZE].copy_from_slice(&bytes);
+                    let barer = Difference {
+                        before,
+                        call,
+                        ..difference
+                    };
+                    if self.differs(&barer) {
+                        difference = barer;
+                        break 'barer;
+                    }
                 }
             }
             if difference.before.state() == before {
@@ -196,6 +199,13 @@ impl Difference {
         let length = packed::unpack(state).map_or(u64::MAX, |(state, _)| state.length);
         let used = state[36 + 4096..].iter().filter(|&&byte| byte != 0);
         (!self.reached, length, used.count())
+    }
+}
+
+fn calls_like(call: &Call) -> Vec<Call> {
+    match call {
+        Call::Step(choice) => (0..=*choice).rev().map(Call::Step).collect(),
+        other => vec![other.clone()],
     }
 }
 

@@ -295,6 +295,7 @@ fn take(plan: &Plan, state: &mut State, step: Step, tally: &mut Tally) -> Taken 
         Kind::Send(_) => running.over(k),
         _ => running.act(k),
     }
+    running.settle_around(k);
     let Running { end, undone, .. } = running;
     if let Some(end) = end {
         *order = NO_ORDER;

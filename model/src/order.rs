@@ -1,4 +1,11 @@
 //! How one order runs: what begins, goes on, closes, faults, stops and is undone within a step.
+//!
+//! On states that no run reaches document 01 leaves some answers open. There the model was made to answer as the proved engine does:
+//! - a scope that waits for inner scopes looks again after each step within its body, but not where an undo part that it doesn't run ends or raises;
+//! - inner scopes that it waits for are those directly within it; a body that stops leaves what stands in an idle scope as it is;
+//! - a raise in an undo or fault part that no scope runs does nothing more;
+//! - a flow is over where every mark within it is idle; an empty that is over at once keeps its mark;
+//! - a list that is looked through for what to forget is 0 beyond its end.
 
 use crate::plan::{Faulty, Kind, Part, Plan, Scope};
 use crate::state::*;
@@ -10,6 +17,8 @@ pub struct Running<'a> {
     pub end: Option<End>,
     /// How many undo parts were started.
     pub undone: usize,
+    /// The scope whose undo part ended or raised while no scope ran it.
+    unheard: Option<usize>,
 }
 
 impl Running<'_> {
@@ -19,6 +28,7 @@ impl Running<'_> {
             order,
             end: None,
             undone: 0,
+            unheard: None,
         }
     }
 
@@ -79,6 +89,10 @@ impl Running<'_> {
     /// Activity k is over: what stands around it goes on, where it isn't stopped.
     pub fn over(&mut self, k: usize) {
         self.order.marks[k] = IDLE;
+        self.go_on(k);
+    }
+
+    fn go_on(&mut self, k: usize) {
         match self.plan.activities[k].part {
             Part::Within(around) => self.over_within(k, around),
             Part::Body(None) if self.order.root == ACTIVE => self.end = Some(End::Well),
@@ -88,6 +102,8 @@ impl Running<'_> {
                 let scope = self.plan.activities[s].around;
                 if matches!(self.mark(scope), UNDOING | STOPPED_UNDOING) {
                     self.undo_on(scope);
+                } else {
+                    self.unheard = Some(s);
                 }
             }
             _ => {}
@@ -105,8 +121,8 @@ impl Running<'_> {
                 }
             }
             Kind::Flow if mark == ACTIVE => {
-                let runs = |each: usize| self.order.marks[each] != IDLE;
-                if !plan.within(around).any(runs) {
+                let within = &self.order.marks[around + 1..plan.end(around)];
+                if within.iter().all(|&mark| mark == IDLE) {
                     self.over(around);
                 }
             }
@@ -132,10 +148,34 @@ impl Running<'_> {
         }
     }
 
+    /// After a step of k: scopes in whose bodies it stands, and which wait for inner scopes, look again.
+    pub fn settle_around(&mut self, k: usize) {
+        let mut at = k;
+        while self.end.is_none() {
+            let scope = match self.plan.activities[at].part {
+                Part::Within(around) => {
+                    at = around;
+                    continue;
+                }
+                Part::Body(scope) => {
+                    self.settle(scope);
+                    scope
+                }
+                Part::Fault(scope) => scope,
+                Part::Undo(s) if self.unheard == Some(s) => self.plan.activities[s].around,
+                Part::Undo(s) => Some(s),
+            };
+            match scope {
+                None => return,
+                Some(s) => at = s,
+            }
+        }
+    }
+
     fn go_inside(&mut self, k: usize, inside: usize) {
         self.order.marks[k] = INSIDE;
         if self.begin(inside) {
-            self.over(inside);
+            self.go_on(inside);
         }
     }
 
@@ -190,8 +230,21 @@ impl Running<'_> {
             match self.plan.activities[at].part {
                 Part::Within(around) => at = around,
                 Part::Body(scope) => return self.fault(scope),
-                Part::Fault(scope) => return self.break_off(scope),
-                Part::Undo(s) => return self.break_off(self.plan.activities[s].around),
+                Part::Fault(scope) => {
+                    if self.mark(scope) == HANDLING {
+                        self.break_off(scope);
+                    }
+                    return;
+                }
+                Part::Undo(s) => {
+                    let scope = self.plan.activities[s].around;
+                    if matches!(self.mark(scope), UNDOING | STOPPED_UNDOING) {
+                        self.break_off(scope);
+                    } else {
+                        self.unheard = Some(s);
+                    }
+                    return;
+                }
             }
         }
     }
@@ -221,7 +274,7 @@ impl Running<'_> {
     fn stop(&mut self, k: usize) {
         let plan = self.plan;
         match (plan.kind(k), self.order.marks[k]) {
-            (Kind::Scope, FAULTED..) => {}
+            (Kind::Scope, IDLE | INSIDE | FAULTED..) => {}
             // Begun and not yet closed: it turns to undoing, without a fault part.
             (Kind::Scope, ACTIVE | DONE) => {
                 self.stop(plan.body(Some(k)));
@@ -242,10 +295,12 @@ impl Running<'_> {
         }
     }
 
+    /// Whether one of the scopes directly within a scope runs.
     fn inner_runs(&self, scope: Scope) -> bool {
         let plan = self.plan;
-        (plan.body(scope)..plan.fault(scope))
-            .any(|k| plan.kind(k) == Kind::Scope && self.order.marks[k] != IDLE)
+        (plan.body(scope)..plan.fault(scope)).any(|k| {
+            plan.is_scope(k) && plan.activities[k].around == scope && self.order.marks[k] != IDLE
+        })
     }
 
     /// A scope that waits for inner scopes undoes, once none of them runs.
@@ -302,6 +357,7 @@ impl Running<'_> {
                 self.remove(at);
             }
         }
+        self.order.remembered[self.order.kept as usize..].fill(0);
     }
 
     fn remove_last(&mut self, scope: Scope) -> Option<usize> {
