@@ -1,10 +1,18 @@
-// The plan reader for callers in other languages: bytes and numbers go in, one number comes out. Built as a static library.
+// The engine for callers in other languages: bytes and numbers go in, one number comes out. A state is the caller's bytes, which each call that
+// changes it brings up to date. Built as a static library.
 ghost use Prim.Native.Nat.{_+_, _*_};
+ghost use mathlib.Core.List.{[], _∷_};
 ghost use lib.ListN.{length};
 ghost use mathlib.Core.Path.{_≡_};
 ghost use Rattle.boundary.specs.Packed.{pairOf, tripleOf, acceptNumber, rowPlace, showNumber};
+ghost use Rattle.boundary.specs.Engine as engine;
+ghost use Rattle.machine.specs.Calls.{endNumber};
 ghost use Rattle.plan.specs.Answers.{answerOf, tableFor};
 ghost use Rattle.plan.specs.Read.{readPlan};
+use machine::Message;
+use machine::Step;
+use offer::Offered;
+use order::End;
 use plan::Answer;
 
 fn pair_of(number: u32, place: usize) -> u64
@@ -78,4 +86,176 @@ pub extern "C" fn moonhalyard_show(s: &[u8], k: u32) -> u64
         return triple_of(refusal, place_of(s, k), length);
     }
     triple_of(refusal, 0, length)
+}
+
+// The number of an end.
+fn end_of(end: End) -> u64
+    ensures { λ r. ⌜ r ≡ endNumber end ⌝ }
+{
+    match end {
+        End::None => 0,
+        End::Well => 1,
+        End::Handled => 2,
+        End::Failed => 3,
+        End::Left => 4,
+    }
+}
+
+// A step as one number.
+fn step_number(x: Step) -> u64
+    ensures { λ r. ⌜ r ≡ engine.stepNumber x ⌝ }
+{
+    let end = x.end;
+    let e = end_of(end);
+    (x.refusal as u64) * 4294967296
+        + (x.slot as u64) % 256 * 16777216
+        + (x.activity as u64) % 256 * 65536
+        + (x.place as u64) % 256 * 256
+        + e % 256
+}
+
+// How much is offered, as one number.
+fn offers_number(x: Offered) -> u64
+    ensures { λ r. ⌜ r ≡ engine.offersNumber x ⌝ }
+{
+    let n = (x.refusal as u64) % 16777216 * 1099511627776 + (x.many as u64) % 4294967296;
+    let held = x.held;
+    if held {
+        return n + 4294967296;
+    }
+    n
+}
+
+// Loads the plan that some bytes spell. The refusal's number times 2^32, and its place; 18 times 2^32 where `state` has not 11,964 bytes.
+#[no_mangle]
+pub extern "C" fn moonhalyard_load(plan: &[u8], state: &mut [u8]) -> u64
+    ensures is { λ r. ⌜ r ≡ engine.loadNumber (now (plan .entry)) (now (state .entry)) ⌝ }
+    ensures bytes { λ _. ⌜ now (state .exit) ≡ engine.loadBytes (now (plan .entry)) (now (state .entry)) ⌝ }
+{
+    let r = machine::load(plan);
+    let s = r.state;
+    let none = machine::no_tally();
+    if store::pack(s, none, state) {
+        return pair_of(r.refusal, r.place);
+    }
+    pair_of(18, 0)
+}
+
+// Posts a message. The refusal or 0.
+#[no_mangle]
+pub extern "C" fn moonhalyard_post(
+    state: &mut [u8],
+    partner: u32,
+    operation: u32,
+    count: u32,
+    v0: u32,
+    v1: u32,
+    v2: u32,
+    v3: u32,
+) -> u32
+    ensures is { λ r. ⌜ r ≡ engine.postNumber (record { partner = partner; operation = operation; count = count; values = v0 ∷ v1 ∷ v2 ∷ v3 ∷ [] }) (now (state .entry)) ⌝ }
+    ensures bytes { λ _. ⌜ now (state .exit) ≡ engine.postBytes (record { partner = partner; operation = operation; count = count; values = v0 ∷ v1 ∷ v2 ∷ v3 ∷ [] }) (now (state .entry)) ⌝ }
+{
+    let k = store::unpack(&state[..]);
+    let s = k.state;
+    let y = k.tally;
+    let values = [v0, v1, v2, v3];
+    let m = Message {
+        partner,
+        operation,
+        count,
+        values,
+    };
+    let r = machine::post(s, m);
+    let t = r.state;
+    if r.refusal == 0 {
+        store::pack(t, y, state);
+        return 0;
+    }
+    r.refusal
+}
+
+// Collects a message into the first 28 bytes of `message`. The refusal or 0; 18 where `message` has fewer.
+#[no_mangle]
+pub extern "C" fn moonhalyard_collect(state: &mut [u8], message: &mut [u8]) -> u32
+    ensures is { λ r. ⌜ r ≡ engine.collectNumber (now (state .entry)) (now (message .entry)) ⌝ }
+    ensures bytes { λ _. ⌜ now (state .exit) ≡ engine.collectBytes (now (state .entry)) (now (message .entry)) ⌝ }
+    ensures message { λ _. ⌜ now (message .exit) ≡ engine.collectMessage (now (state .entry)) (now (message .entry)) ⌝ }
+{
+    if message.len() < 28 {
+        return 18;
+    }
+    let k = store::unpack(&state[..]);
+    let s = k.state;
+    let y = k.tally;
+    let r = machine::collect(s);
+    let m = r.message;
+    let t = r.state;
+    store::write_message(m, message);
+    if r.refusal == 0 {
+        store::pack(t, y, state);
+        return 0;
+    }
+    r.refusal
+}
+
+// The step that a choice would take, not taken: the refusal's number times 2^32, the slot times 2^24, the activity times 2^16, the message place
+// times 2^8.
+#[no_mangle]
+pub extern "C" fn moonhalyard_offer(state: &[u8], choice: usize) -> u64
+    ensures { λ r. ⌜ r ≡ engine.offerNumber choice (now (state .entry)) ⌝ }
+{
+    let k = store::unpack(state);
+    let s = k.state;
+    step_number(offer::offer(s, choice))
+}
+
+// How much is offered: the refusal's number times 2^40, 2^32 where something is held, and how many steps.
+#[no_mangle]
+pub extern "C" fn moonhalyard_offers(state: &[u8]) -> u64
+    ensures { λ r. ⌜ r ≡ engine.offersOf (now (state .entry)) ⌝ }
+{
+    let k = store::unpack(state);
+    let s = k.state;
+    offers_number(offer::offers(s))
+}
+
+// Takes the step with a choice: as `moonhalyard_offer` answers, with the number of the order's end, if any.
+#[no_mangle]
+pub extern "C" fn moonhalyard_step(state: &mut [u8], choice: usize) -> u64
+    ensures is { λ r. ⌜ r ≡ engine.stepOf choice (now (state .entry)) ⌝ }
+    ensures bytes { λ _. ⌜ now (state .exit) ≡ engine.stepBytes choice (now (state .entry)) ⌝ }
+{
+    let k = store::unpack(&state[..]);
+    let s = k.state;
+    let y = k.tally;
+    let r = step::take_step(s, choice, y);
+    let x = r.answer;
+    let t = r.state;
+    let z = r.tally;
+    if x.refusal == 0 {
+        store::pack(t, z, state);
+        return step_number(x);
+    }
+    step_number(x)
+}
+
+// Takes the steps with these choices, as far as the budget goes, which is left with what remains of it. The refusal or 0.
+#[no_mangle]
+pub extern "C" fn moonhalyard_run(state: &mut [u8], choices: &[usize], budget: &mut usize) -> u32
+    ensures is { λ r. ⌜ r ≡ engine.ranIn (now (choices .entry)) (now (budget .entry)) (now (state .entry)) .refusal ⌝ }
+    ensures bytes { λ _. ⌜ now (state .exit) ≡ engine.runBytes (now (choices .entry)) (now (budget .entry)) (now (state .entry)) ⌝ }
+    ensures left { λ _. ⌜ now (budget .exit) + engine.ranIn (now (choices .entry)) (now (budget .entry)) (now (state .entry)) .taken ≡ now (budget .entry) ⌝ }
+{
+    let k = store::unpack(&state[..]);
+    let s = k.state;
+    let y = k.tally;
+    let r = run::run(s, choices, budget, y);
+    let t = r.state;
+    let z = r.tally;
+    if r.taken == 0 {
+        return r.refusal;
+    }
+    store::pack(t, z, state);
+    r.refusal
 }

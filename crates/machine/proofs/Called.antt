@@ -27,17 +27,17 @@ use Rattle.machine.specs.Calls.{load, loadedAs, postBy, post, partnersOf
 use Rattle.machine.proofs.Partners.{accepted-heard}
 
 -- what was found, where the answer is known
-answer-no : (g : Found Plan) {a : Answer} {number place : ℕ} → a ≡ answerOf g → a ≡ Answer.Refused number place → g ≡ refused number place
+pub answer-no : (g : Found Plan) {a : Answer} {number place : ℕ} → a ≡ answerOf g → a ≡ Answer.Refused number place → g ≡ refused number place
 unfolding answerOf
 answer-no (refused n p) e o = cc
 answer-no (found p n) e o = let z : _≡_ {A = ℕ} 0 1 = cc in absurd (omega arith)
 
-record Got (g : Found Plan) : Type 0 where
-  plan : Plan
-  next : ℕ
-  is : g ≡ found plan next
+pub record Got (g : Found Plan) : Type 0 where
+  pub plan : Plan
+  pub next : ℕ
+  pub is : g ≡ found plan next
 
-answer-got : (g : Found Plan) {a : Answer} {v k n : ℕ} → a ≡ answerOf g → a ≡ Accepted v k n → Got g
+pub answer-got : (g : Found Plan) {a : Answer} {v k n : ℕ} → a ≡ answerOf g → a ≡ Accepted v k n → Got g
 unfolding answerOf
 answer-got (refused n p) e o = let z : _≡_ {A = ℕ} 0 1 = cc in absurd (omega arith)
 answer-got (found p n) e o = record { plan = p; next = n; is = refl }
@@ -84,7 +84,7 @@ unfolding inLimits
 ruled-length s {b} e t = both (leb (s .length) 4096) _ (sym e ∙ not-false b t) (λ a c. leb-true _ _ a)
 
 -- `load`
-short-found : (s : List ℕ) {p : Plan} {next : ℕ} → readPlan s ≡ found p next → length s ≤ 4096
+pub short-found : (s : List ℕ) {p : Plan} {next : ℕ} → readPlan s ≡ found p next → length s ≤ 4096
 unfolding readPlan
 short-found s {p} {next} q = ltb-false 4096 (length s) (go (ltb 4096 (length s)) _ q)
   where
@@ -106,7 +106,7 @@ module _ (s : List ℕ) {a : Answer} (e : a ≡ answerOf (readPlan s)) where
   load-short o = short-found s (answer-got (readPlan s) e o .is)
 
 -- a state that has a plan
-plan-found : (s : State) {p : Plan} {next : ℕ} → planIn s ≡ found p next → (inLimits s ≡ true) × (readPlan (take (s .length) (s .plan)) ≡ found p next)
+pub plan-found : (s : State) {p : Plan} {next : ℕ} → planIn s ≡ found p next → (inLimits s ≡ true) × (readPlan (take (s .length) (s .plan)) ≡ found p next)
 unfolding planIn
 plan-found s {p} {next} q = go (inLimits s) q
   where

@@ -7,14 +7,15 @@ use native.Mathlib.Omega.{arith}
 use lib.ListN.{length, getD, take, drop, set, replicate, length-append}
 use lib.Seq.{take-suc, take-all, length-take-le, set-at}
 use Rattle.machine.specs.declared.Message.{Message}
-use Rattle.machine.specs.declared.Order.{Order}
+use Rattle.order.specs.declared.Order.{Order}
 use Rattle.machine.specs.declared.State.{State}
-use Rattle.machine.specs.Lists.{stored}
-use Rattle.machine.specs.State.{noOrder, noMessage, fresh}
+use Rattle.order.specs.Lists.{stored}
+use Rattle.order.specs.State.{noOrder}
+use Rattle.machine.specs.State.{noMessage, fresh}
 use Rattle.machine.specs.Calls.{trimmed}
 
 -- one more number
-stored-more : (n : ℕ) (l : List ℕ) (i : ℕ) → i < length l → i < n → set (stored n (take i l)) i (getD l i 0) ≡ stored n (take (i + 1) l)
+pub stored-more : (n : ℕ) (l : List ℕ) (i : ℕ) → i < length l → i < n → set (stored n (take i l)) i (getD l i 0) ≡ stored n (take (i + 1) l)
 stored-more n l i h k =
     let m : length (take i l) ≡ i = length-take-le i l (omega arith) in
     let z : n - length (take i l) ≡ suc (n - suc i) = omega arith in

@@ -4,10 +4,11 @@ use mathlib.Core.Path.{_≡_, refl}
 use mathlib.Core.Bool.{Bool, true, false, not}
 use mathlib.Core.List.{List, [], _∷_, map}
 use Rattle.plan.specs.Read.{readPlan}
-use Rattle.machine.specs.Lists.{every}
-use Rattle.machine.specs.State.{root, inner, noTally}
+use Rattle.order.specs.Lists.{every}
+use Rattle.order.specs.State.{root, inner}
+use Rattle.machine.specs.State.{noTally}
 use Rattle.machine.specs.Limits.{by}
-use Rattle.machine.specs.Event.{Event, started, began, closed, faulted, ended, raised}
+use Rattle.order.specs.Event.{Event, started, began, closed, faulted, ended, raised}
 use Rattle.machine.specs.Calls.{loaded}
 use Rattle.machine.specs.Computing.{computing}
 use Rattle.machine.specs.History.{Call, posting, stepping, history}

@@ -1,12 +1,6 @@
-mod Called
-mod Copied
+pub mod Called
+pub mod Copied
 mod Histories
-mod Moved
+pub mod Moved
 mod Partners
 mod Ruled
-mod EvaluationReturns
-mod FitReturns
-mod SearchReturns
-mod Finds
-pub mod FirstFits
-mod Seventeen

@@ -17,10 +17,11 @@ use Rattle.machine.specs.declared.State.{State}
 use Rattle.machine.specs.declared.Posted.{Posted}
 use Rattle.machine.specs.declared.Collected.{Collected}
 use Rattle.machine.specs.Heard.{Heard}
-use Rattle.machine.specs.Lists.{every}
+use Rattle.order.specs.Lists.{every}
 use Rattle.machine.specs.State.{noMessage, adding, removing, letters}
 use Rattle.machine.specs.Limits.{exchanged, messageInLimits, orderInLimits, inLimits}
 use Rattle.machine.specs.Calls.{trimmed, postBy, partnersOf, foreign, collectBy}
+use Rattle.machine.specs.Planned.{addedTo, takenFrom}
 
 -- A gap at k is closed in a list of 64: its elements up to i are those of the list without the one at k, and those from i on are where they were.
 abbrev without : {A : Type 0} → ℕ → List A → List A
@@ -143,7 +144,7 @@ pub seeking-starts : (t : List ℕ) (l : List Message) (n : ℕ) → n ≤ 64 �
 seeking-starts t l n h e = record { long = length-take-le n l (omega arith); within = omega arith; same = λ ps x. refl }
 
 -- a message among those within their limits has a partner below 64
-every-at : (f : Message → Bool) (l : List Message) (i : ℕ) (d : Message) → every f l ≡ true → i < length l → f (getD l i d) ≡ true
+pub every-at : (f : Message → Bool) (l : List Message) (i : ℕ) (d : Message) → every f l ≡ true → i < length l → f (getD l i d) ≡ true
 unfolding every
 every-at f [] i d e h = absurd (omega arith)
 every-at f (m ∷ l) zero d e h = both (f m) (every f l) e (λ a b. a)
@@ -185,7 +186,7 @@ module _ (t : List ℕ) (l : List Message) (n : ℕ) {i : ℕ} (a : Seeking t (t
     seeking-on q = record { long = a .long; within = omega arith; same = λ ps x. one-more ps x ∙ rw (not-false b q) }
 
 -- `collect_by`
-limits-letters : (s : State) → inLimits s ≡ true → (s .waiting ≤ 64) × (every messageInLimits (take (s .waiting) (s .messages)) ≡ true)
+pub limits-letters : (s : State) → inLimits s ≡ true → (s .waiting ≤ 64) × (every messageInLimits (take (s .waiting) (s .messages)) ≡ true)
 unfolding inLimits
 limits-letters s e =
     both (leb (s .length) 4096) _ e (λ a b.
@@ -203,7 +204,7 @@ module _ (s : State) (e : inLimits s ≡ true) where
   limits-place h = omega (arith, limits-letters s e .0)
 
 -- `letter_at`: an element that stands in a list does not hang on what else would be read
-same-there : {A : Type 0} (l : List A) (i : ℕ) (d e : A) → i < length l → getD l i d ≡ getD l i e
+pub same-there : {A : Type 0} (l : List A) (i : ℕ) (d e : A) → i < length l → getD l i d ≡ getD l i e
 same-there [] i d e h = absurd (omega arith)
 same-there (x ∷ l) zero d e h = refl
 same-there (x ∷ l) (suc i) d e h = same-there l i d e (omega arith)
@@ -222,3 +223,27 @@ module _ (t : List ℕ) (s : State) {i : ℕ} (f : (ps : List ℕ) → Heard t p
       → (p : Plan) → Heard t (partnersOf p) → _≡_ {A = Collected} (record { refusal = 0; message = m; state = u }) (collectBy p s)
   unfolding collectBy
   collect-one h z q p x = rw (sym (f (partnersOf p) x), lt-ltb _ _ h, q, z)
+
+-- `with_message`
+module _ (m : Message) (s : State) where
+  pub added-more : s .waiting < 64 → {u : State} → u ≡ adding m s → u ≡ addedTo m s
+  unfolding addedTo
+  added-more h e = rw (lt-ltb _ _ h) e
+
+  pub added-full : 64 ≤ s .waiting → s ≡ addedTo m s
+  unfolding addedTo
+  added-full h = rw (le-ltb _ _ h)
+
+-- `without_message`
+module _ (j : ℕ) (s : State) where
+  pub taken-beyond : 64 < s .waiting → s ≡ takenFrom j s
+  unfolding takenFrom
+  taken-beyond h = rw (lt-leb _ _ h)
+
+  pub taken-none : s .waiting ≤ 64 → s .waiting ≤ j → s ≡ takenFrom j s
+  unfolding takenFrom
+  taken-none g h = rw (le-leb _ _ g, le-ltb _ _ h)
+
+  pub taken-one : s .waiting ≤ 64 → j < s .waiting → {u : State} → u ≡ removing j s → u ≡ takenFrom j s
+  unfolding takenFrom
+  taken-one g h e = rw (le-leb _ _ g, lt-ltb _ _ h) e

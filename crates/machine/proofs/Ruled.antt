@@ -11,10 +11,11 @@ use lib.ListN.{length, getD, take, drop, drop-of-length-le, length-take}
 use lib.Seq.{drop-cons, getD-take, length-take-le}
 use Rattle.plan.specs.Found.{among}
 use Rattle.machine.specs.declared.Message.{Message}
-use Rattle.machine.specs.declared.Order.{Order}
+use Rattle.order.specs.declared.Order.{Order}
 use Rattle.machine.specs.declared.State.{State}
-use Rattle.machine.specs.Lists.{every}
-use Rattle.machine.specs.State.{idle, active, faulty, undoing, handling, withdrawing, letters}
+use Rattle.order.specs.Lists.{every}
+use Rattle.order.specs.State.{idle, active, faulty, undoing, handling, withdrawing}
+use Rattle.machine.specs.State.{letters}
 use Rattle.machine.specs.Limits.{exchanged, messageInLimits, rootInLimits, orderInLimits, inLimits}
 
 -- `exchange_ruled`

@@ -8,21 +8,23 @@ use Rattle.plan.specs.Found.{Found, refused, found, among}
 use Rattle.plan.specs.Read.{readPlan}
 use Rattle.plan.specs.Tree.{Act, act, Acts, none, more, Plan, size}
 use Rattle.machine.specs.declared.Message.{Message}
-use Rattle.machine.specs.declared.Order.{Order}
+use Rattle.order.specs.declared.Order.{Order}
 use Rattle.machine.specs.declared.State.{State}
 use Rattle.machine.specs.declared.Loaded.{Loaded}
 use Rattle.machine.specs.declared.Posted.{Posted}
 use Rattle.machine.specs.declared.Collected.{Collected}
 use Rattle.machine.specs.declared.Step.{Step}
 use Rattle.machine.specs.declared.Tally.{Tally}
-use Rattle.machine.specs.declared.End.{End}
-use Rattle.machine.specs.declared.End.the-variants.{None, Well, Handled, Failed, Left}
-use Rattle.machine.specs.Lists.{stored, empties}
-use Rattle.machine.specs.State.{isLive, noOrder, noMessage, fresh, unplanned, letters, withOrder, adding, removing, binding, valueOf}
+use Rattle.order.specs.declared.End.{End}
+use Rattle.order.specs.declared.End.the-variants.{None, Well, Handled, Failed, Left}
+use Rattle.order.specs.Lists.{stored, empties}
+use Rattle.order.specs.Taking.{bindAll}
+use Rattle.order.specs.State.{isLive, noOrder, binding, valueOf}
+use Rattle.machine.specs.State.{noMessage, fresh, unplanned, letters, withOrder, adding, removing}
 use Rattle.machine.specs.Limits.{exchanged, planIn, by}
-use Rattle.machine.specs.Event.{Event, started}
-use Rattle.machine.specs.Begin.{Begun}
-use Rattle.machine.specs.Acting.{allBound, Moved, stepOrder, begunOrder, startedOrder}
+use Rattle.order.specs.Event.{Event, started}
+use Rattle.order.specs.Begin.{Begun}
+use Rattle.order.specs.Acting.{allBound, Moved, stepOrder, begunOrder, startedOrder}
 use Rattle.machine.specs.Fit.{Doing, noStep, sends, takes, moves, cuts, closes, doingOf}
 use Rattle.machine.specs.Offer.{Offer, Offers, offersOf}
 
@@ -164,11 +166,6 @@ unfoldable mutual
 unfoldable pub doingAt : Plan → (t : ℕ) → Doing
 doingAt p t =
     elim (ltb t (size (p .body))) [ true ↦ doingIn (p .body) 0 t | false ↦ doingIn (p .fault) (size (p .body)) t ]
-
--- the variables of a receive "get bound or overwritten"
-unfoldable pub bindAll : (variables values : List ℕ) → Order → Order
-bindAll [] xs o = o
-bindAll (v ∷ vs) xs o = bindAll vs (drop 1 xs) (binding v (getD xs 0 0) o)
 
 -- the values of some variables
 unfoldable pub valuesOf : Order → List ℕ → List ℕ

@@ -3,16 +3,18 @@ use Rattle.numbers.specs.Number.{lastGroup, groups, numberAt}
 use Rattle.plan.specs.Found.{numberIn, fieldIn, among}
 use Rattle.plan.specs.Tree.{kind, size, count}
 use Rattle.plan.specs.Read.{expressionCodeIn, leafIn, expressionIn, variablesIn, tupleIn, exchangeIn, armIn, partnerIn, withExpressionIn, setIn, listIn, codeIn, partsIn, headIn, manyIn, readArm, readAct, starts, startForm, correlationIn, versionIn, rootIn, readPlan}
-use Rattle.machine.specs.Lists.{every, some, only, each, alike, withoutFirst}
-use Rattle.machine.specs.State.{noOrder, noMessage, fresh}
+use Rattle.order.specs.Lists.{every, some, only, each, alike, withoutFirst}
+use Rattle.order.specs.Taking.{bindAll}
+use Rattle.order.specs.State.{noOrder}
+use Rattle.machine.specs.State.{noMessage, fresh}
 use Rattle.machine.specs.Limits.{exchanged, messageInLimits, rootInLimits, orderInLimits, inLimits, planIn}
-use Rattle.machine.specs.Expression.{applied, evaluate}
-use Rattle.machine.specs.Begin.{begin, beginAfter, part, partAt, beginPart, cleared, quiet}
-use Rattle.machine.specs.Scope.{directly, rememberedFor, forgetting, closing, innerRuns, beginUndo, startUndo, undo, handle, undoes, turns, withdraws, stop, faults, breaks, looksAgain, bodyOver, bodyRaised, undoOver, undoRaised, fromBody, partOver, partRaised, fromFault, fromUndo}
-use Rattle.machine.specs.Acting.{repeats, itself, isPart, arms, goesOn, joins, inScope, combines, stepIn, stepRoot, endOf, movedTo, stepOrder, begunOrder, startedOrder}
+use Rattle.order.specs.Expression.{applied, evaluate}
+use Rattle.order.specs.Begin.{begin, beginAfter, part, partAt, beginPart, cleared, quiet}
+use Rattle.order.specs.Scope.{directly, rememberedFor, forgetting, closing, innerRuns, beginUndo, startUndo, undo, handle, undoes, turns, withdraws, stop, faults, breaks, looksAgain, bodyOver, bodyRaised, undoOver, undoRaised, fromBody, partOver, partRaised, fromFault, fromUndo}
+use Rattle.order.specs.Acting.{repeats, itself, isPart, arms, goesOn, joins, inScope, combines, stepIn, stepRoot, endOf, movedTo, stepOrder, begunOrder, startedOrder}
 use Rattle.machine.specs.Fit.{doingOf, awaits, readyIn, readyOf, liveFrom, agrees, fits, unchecked, fitting, fittings, lettersFrom, mayTake}
 use Rattle.machine.specs.Offer.{allOf, eager, stepOffers, orderOffers, startOf, startsOf, freeFrom, startOffers, offersOf}
-use Rattle.machine.specs.Calls.{load, postBy, post, partnerOf, partnersIn, partnersOf, foreign, collectBy, collect, endNumber, nth, choosing, previewBy, preview, countEnd, doingIn, doingAt, bindAll, valuesOf, messagesAfter, orderTaking, stepped, taken, stepChosen, stepBy, step, runBy, run}
+use Rattle.machine.specs.Calls.{load, postBy, post, partnerOf, partnersIn, partnersOf, foreign, collectBy, collect, endNumber, nth, choosing, previewBy, preview, countEnd, doingIn, doingAt, valuesOf, messagesAfter, orderTaking, stepped, taken, stepChosen, stepBy, step, runBy, run}
 use Rattle.machine.specs.History.{history}
 use Rattle.machine.specs.Demand3.{scopesIn, scopesOf, insideOf, isBegin, since, isTurn, isFinish, closedBy, undoneBy, isUndoRaise, closingsOf, undoneOf, hasTurned, isLeft, noneLeft, mayTurn, noneNow, mayUndo, mayBegin, mayClose, startedAll, mayEnd, isOver, allowed, rightAfter, right}
 

@@ -9,11 +9,11 @@ use Rattle.plan.specs.Found.{Found, found}
 use Rattle.plan.specs.Read.{readPlan}
 use Rattle.plan.specs.Tree.{Act, act, Acts, none, more, Plan, size}
 use Rattle.machine.specs.declared.Tally.{Tally}
-use Rattle.machine.specs.Lists.{every, some, only, each, alike}
-use Rattle.machine.specs.State.{Name, root, inner, same}
-use Rattle.machine.specs.Event.{Event, started, began, closed, faulted, stopped, ended, raised, left}
-use Rattle.machine.specs.Begin.{part, partAt}
-use Rattle.machine.specs.Scope.{isScope}
+use Rattle.order.specs.Lists.{every, some, only, each, alike}
+use Rattle.order.specs.State.{Name, root, inner, same}
+use Rattle.order.specs.Event.{Event, started, began, closed, faulted, stopped, ended, raised, left}
+use Rattle.order.specs.Begin.{part, partAt}
+use Rattle.order.specs.Scope.{isScope}
 use Rattle.machine.specs.Calls.{loaded}
 use Rattle.machine.specs.History.{Call, history}
 

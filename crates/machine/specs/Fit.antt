@@ -7,11 +7,11 @@ use lib.Dec.{leb, ltb, eqb}
 use Rattle.plan.specs.Found.{among}
 use Rattle.plan.specs.Tree.{Exp, Own, empty, send, receive, set as setting, raise, leave, choose, repeat, sequence, flow, pick, scope, arm, kind, Act, act, Acts, none, more, Plan, size}
 use Rattle.machine.specs.declared.Message.{Message}
-use Rattle.machine.specs.declared.Order.{Order}
+use Rattle.order.specs.declared.Order.{Order}
 use Rattle.machine.specs.declared.State.{State}
-use Rattle.machine.specs.Lists.{every, each}
-use Rattle.machine.specs.State.{idle, active, done, isBound, valueOf, isLive}
-use Rattle.machine.specs.Scope.{Scope, scopeAt, isScope}
+use Rattle.order.specs.Lists.{every, each}
+use Rattle.order.specs.State.{idle, active, done, isBound, valueOf, isLive}
+use Rattle.order.specs.Scope.{Scope, scopeAt, isScope}
 
 -- "Steps. Send, take, set, decide (choose or repeat), raise, leave, close": the step that activity k is there for. To move is to set or to
 -- decide, to cut off is to raise or to leave.

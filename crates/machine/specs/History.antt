@@ -6,7 +6,7 @@ use lib.Dec.{eqb}
 use Rattle.machine.specs.declared.Message.{Message}
 use Rattle.machine.specs.declared.State.{State}
 use Rattle.machine.specs.declared.Tally.{Tally}
-use Rattle.machine.specs.Event.{Event}
+use Rattle.order.specs.Event.{Event}
 use Rattle.machine.specs.Calls.{post, collect, Stepped, step}
 
 -- A call that may change a state. A run is its steps.

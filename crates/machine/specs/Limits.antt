@@ -8,10 +8,11 @@ use Rattle.plan.specs.Found.{Found, refused, found, among}
 use Rattle.plan.specs.Read.{readPlan}
 use Rattle.plan.specs.Tree.{Plan}
 use Rattle.machine.specs.declared.Message.{Message}
-use Rattle.machine.specs.declared.Order.{Order}
+use Rattle.order.specs.declared.Order.{Order}
 use Rattle.machine.specs.declared.State.{State}
-use Rattle.machine.specs.Lists.{every}
-use Rattle.machine.specs.State.{idle, active, faulty, undoing, handling, withdrawing, letters}
+use Rattle.order.specs.Lists.{every}
+use Rattle.order.specs.State.{idle, active, faulty, undoing, handling, withdrawing}
+use Rattle.machine.specs.State.{letters}
 
 -- "partner, operation or count outside its rule": "Partners and operations are 0 to 63, tuples 1 to 4 variables"
 unfoldable pub exchanged : (partner operation count : ℕ) → Bool

@@ -5,12 +5,13 @@ use mathlib.Core.List.{List, [], _∷_, _++_, map}
 use lib.ListN.{length}
 use lib.Dec.{leb, ltb, eqb}
 use Rattle.plan.specs.Tree.{Plan}
-use Rattle.machine.specs.declared.Order.{Order}
+use Rattle.order.specs.declared.Order.{Order}
 use Rattle.machine.specs.declared.State.{State}
-use Rattle.machine.specs.Lists.{every, some, only, each, empties}
-use Rattle.machine.specs.State.{isLive, closings, letters}
-use Rattle.machine.specs.Scope.{Scope, forgetting}
-use Rattle.machine.specs.Acting.{allBound, startedOrder}
+use Rattle.order.specs.Lists.{every, some, only, each, empties}
+use Rattle.order.specs.State.{isLive, closings}
+use Rattle.machine.specs.State.{letters}
+use Rattle.order.specs.Scope.{Scope, forgetting}
+use Rattle.order.specs.Acting.{allBound, startedOrder}
 use Rattle.machine.specs.Fit.{Doing, noStep, sends, takes, moves, cuts, closes, Ready, readyOf, Live, liveFrom, Letter, lettersFrom, fits, mayTake}
 
 -- one step on offer: its slot, its activity and the place of its message (0 where none)

@@ -7,15 +7,16 @@ use super::limits;
 use super::made;
 ghost use Prim.Native.Nat.{ℕ, _+_, _<_, _≤_};
 ghost use lib.Dec.{eqb};
-ghost use lib.ListN.{take, drop, getD};
+ghost use lib.ListN.{length, take, drop, getD};
 ghost use mathlib.Core.Bool.{true};
 ghost use mathlib.Core.List.{List, _++_, _∷_, []};
 ghost use mathlib.Core.Path.{_≡_};
 ghost use Rattle.plan.specs.Tree.{Plan};
 ghost use Rattle.machine.specs.Heard.{Heard};
 ghost use Rattle.machine.specs.Limits.{messageInLimits, inLimits};
-ghost use Rattle.machine.specs.Lists.{every, stored};
+ghost use Rattle.order.specs.Lists.{every, stored};
 ghost use Rattle.machine.specs.State.{noMessage, adding, removing};
+ghost use Rattle.machine.specs.Planned.{addedTo, takenFrom};
 ghost use Rattle.machine.specs.Calls.{trimmed, postBy, partnersOf, foreign, collectBy};
 
 // The first `count` values, with zeros behind them.
@@ -64,6 +65,16 @@ pub(crate) fn arrived(state: State, m: Message) -> State
         messages,
         waiting: n + 1,
     }
+}
+
+// A message arrives where one more has a place; else nothing changes.
+pub fn with_message(state: State, m: Message) -> State
+    ensures { λ r. ⌜ r ≡ addedTo m state ⌝ }
+{
+    if state.waiting < 64 {
+        return arrived(state, m);
+    }
+    state
 }
 
 // A message is posted to a state that has a plan.
@@ -117,6 +128,26 @@ pub(crate) fn left(state: State, place: usize) -> State
         messages: rest,
         waiting: state.waiting - 1,
     }
+}
+
+// The message at `place` leaves where one waits there; else nothing changes.
+pub fn without_message(state: State, place: usize) -> State
+    ensures { λ r. ⌜ r ≡ takenFrom place state ⌝ }
+{
+    if 64 < state.waiting {
+        return state;
+    }
+    if place < state.waiting {
+        return left(state, place);
+    }
+    state
+}
+
+// The messages have their 64 places.
+pub fn message_places(messages: [Message; 64]) -> usize
+    ensures { λ r. ⌜ (r ≡ 64) × (length messages ≡ 64) ⌝ }
+{
+    64
 }
 
 // Whether the plan with this table receives on a partner.

@@ -1,11 +1,10 @@
-// Runs orders by a plan: the state that it runs on, and what a step answers.
-mod evaluation;
-mod fitness;
-mod letters;
-mod limits;
-mod made;
-mod search;
+// The state that orders run on, what a step answers, and the calls that take no step: load, post and collect.
+pub mod letters;
+pub mod limits;
+pub mod made;
 
+use order::End;
+use order::Order;
 use plan::Answer;
 ghost use mathlib.Core.Path.{_≡_};
 ghost use Rattle.machine.specs.Calls as calls;
@@ -19,18 +18,6 @@ pub struct Message {
     pub values: [u32; 4],
 }
 
-// An order. Where `root` is 0 the slot is free; else `root` is the mark of the root, which counts as a scope and has no number.
-// `marks` has the mark of each activity by its number. `bound` is 1 where the variable of that number is bound and 0 where it is not.
-// The first `kept` places of `remembered` are the numbers of scopes that closed, oldest first, and the places beyond hold 0.
-pub struct Order {
-    pub root: u8,
-    pub marks: [u8; 256],
-    pub values: [u32; 16],
-    pub bound: [u8; 16],
-    pub remembered: [u8; 32],
-    pub kept: usize,
-}
-
 // The first `length` bytes of `plan` are the plan. The first `waiting` places of `messages` wait, in order of arrival.
 pub struct State {
     pub plan: [u8; 4096],
@@ -38,15 +25,6 @@ pub struct State {
     pub orders: [Order; 16],
     pub messages: [Message; 64],
     pub waiting: usize,
-}
-
-// How an order ended with a step, if it did.
-pub enum End {
-    None,
-    Well,
-    Handled,
-    Failed,
-    Left,
 }
 
 // What a step answers: where `refusal` is 0, the slot, the activity and the message place (0 where none) of the step taken, and the end.
@@ -85,18 +63,6 @@ pub struct Tally {
     pub handled: u32,
     pub failed: u32,
     pub left: u32,
-}
-
-// What an expression comes to.
-pub enum Worth {
-    Fault,
-    Value { value: u32 },
-}
-
-// An open receive, by the slot of its order and its activity, or none.
-pub enum Receiver {
-    At { slot: usize, activity: usize },
-    Nothing,
 }
 
 // A tally with nothing counted.

@@ -1,7 +1,7 @@
 // Refusal 17: which numbers of a state are within their limits, decided from the state alone.
 use super::Message;
-use super::Order;
 use super::State;
+use order::Order;
 use plan::Answer;
 ghost use Prim.Native.Nat.{_≤_};
 ghost use lib.Dec.{eqb, leb};
@@ -9,7 +9,7 @@ ghost use lib.ListN.{drop, take};
 ghost use mathlib.Core.Path.{_≡_};
 ghost use Rattle.plan.specs.Answers.{answerOf, tableFor, flagsFor};
 ghost use Rattle.plan.specs.Read.{readPlan};
-ghost use Rattle.machine.specs.Lists.{every};
+ghost use Rattle.order.specs.Lists.{every};
 ghost use Rattle.machine.specs.Limits.{exchanged, messageInLimits, rootInLimits, orderInLimits, inLimits, planIn};
 
 // Whether a partner, an operation and a count of values are within their rules.
@@ -144,7 +144,7 @@ fn messages_ruled(messages: [Message; 64], waiting: usize) -> bool
 }
 
 // A state.
-pub(crate) fn state_ruled(state: State) -> bool
+pub fn state_ruled(state: State) -> bool
     ensures { λ r. ⌜ r ≡ inLimits state ⌝ }
 {
     let orders = state.orders;
@@ -172,7 +172,7 @@ fn accepted(bytes: [u8; 4096], n: usize, table: &mut [u32; 11584], flags: &mut [
 }
 
 // The plan that a state runs by: what accepting its bytes answers, with its table and flags; 17 where a number is outside its limit.
-pub(crate) fn planned(state: State, table: &mut [u32; 11584], flags: &mut [u8; 16]) -> Answer
+pub fn planned(state: State, table: &mut [u32; 11584], flags: &mut [u8; 16]) -> Answer
     ensures is { λ r. ⌜ r ≡ answerOf (planIn state) ⌝ }
     ensures rows { λ _. ⌜ now (table .exit) ≡ tableFor (planIn state) ⌝ }
     ensures flags { λ _. ⌜ now (flags .exit) ≡ flagsFor (planIn state) ⌝ }

@@ -1,15 +1,16 @@
 // What a state is made of: no order, no message, the bytes of a plan, and a fresh state.
 use super::Message;
-use super::Order;
 use super::State;
+use order::Order;
 ghost use Prim.Native.Nat.{_≤_};
 ghost use lib.ListN.{length};
 ghost use mathlib.Core.Path.{_≡_};
-ghost use Rattle.machine.specs.Lists.{stored};
-ghost use Rattle.machine.specs.State.{noOrder, noMessage, fresh};
+ghost use Rattle.order.specs.Lists.{stored};
+ghost use Rattle.order.specs.State.{noOrder};
+ghost use Rattle.machine.specs.State.{noMessage, fresh};
 
 // What a free slot holds.
-pub(crate) fn no_order() -> Order
+pub fn no_order() -> Order
     ensures { λ r. ⌜ r ≡ noOrder ⌝ }
 {
     Order {
@@ -23,7 +24,7 @@ pub(crate) fn no_order() -> Order
 }
 
 // A message with nothing in it.
-pub(crate) fn no_message() -> Message
+pub fn no_message() -> Message
     ensures { λ r. ⌜ r ≡ noMessage ⌝ }
 {
     Message {

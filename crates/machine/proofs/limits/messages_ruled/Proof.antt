@@ -4,7 +4,7 @@ use Prim.Native.Nat.{_-_}
 use lib.Dec.{leb, eqb}
 use lib.ListN.{take}
 use mathlib.Core.Path.{refl}
-use Rattle.machine.specs.Lists.{every}
+use Rattle.order.specs.Lists.{every}
 use Rattle.machine.specs.Limits.{messageInLimits}
 use Rattle.machine.proofs.Ruled.{Tested, tested-done, take-tested, take-fails, take-holds}
 use Rattle.machine.proofs.limits.messages_ruled.Statement.{statement}

@@ -4,7 +4,7 @@ use Prim.Native.Nat.{_-_}
 use lib.Dec.{leb, eqb}
 use lib.ListN.{drop}
 use mathlib.Core.Path.{refl}
-use Rattle.machine.specs.Lists.{every}
+use Rattle.order.specs.Lists.{every}
 use Rattle.machine.specs.Limits.{orderInLimits}
 use Rattle.machine.proofs.Ruled.{Tested, tested-done, call-fails, call-holds}
 use Rattle.machine.proofs.limits.orders_ruled.Statement.{statement}

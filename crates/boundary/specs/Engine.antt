@@ -1,0 +1,93 @@
+-- The engine over the caller's bytes: what each call answers, and what it leaves in them. Assumes nothing: these are definitions.
+-- Bytes that hold no state stand for the state with no plan, which earns 17 in every call.
+use Prim.Native.Nat.{ℕ, _+_, _*_, _%_}
+use mathlib.Core.Bool.{cond}
+use mathlib.Core.List.{List}
+use lib.Dec.{eqb, ltb}
+use lib.ListN.{length}
+use Rattle.machine.specs.declared.Collected.{Collected}
+use Rattle.machine.specs.declared.Message.{Message}
+use Rattle.machine.specs.declared.Posted.{Posted}
+use Rattle.machine.specs.declared.State.{State}
+use Rattle.machine.specs.declared.Step.{Step}
+use Rattle.machine.specs.declared.Tally.{Tally}
+use Rattle.machine.specs.Calls as calls
+use Rattle.machine.specs.Calls.{endNumber, preview}
+use Rattle.machine.specs.State.{noTally}
+use Rattle.offer.specs.declared.Offered.{Offered}
+use Rattle.offer.specs.Having.{offeredIn}
+use Rattle.store.specs.Packed.{packedInto, messageInto, unpacked}
+use Rattle.boundary.specs.Packed.{pairOf}
+
+-- the state and the tally that bytes hold
+abbrev pub stateOf : List ℕ → State
+stateOf l = unpacked l .state
+
+abbrev pub tallyOf : List ℕ → Tally
+tallyOf l = unpacked l .tally
+
+-- the bytes after a call: unchanged where it was refused
+unfoldable pub updated : (refusal : ℕ) → State → Tally → List ℕ → List ℕ
+updated n s t l = cond (eqb n 0) (packedInto s t l) l
+
+-- load: the refusal and its place; 18 where there is no room for a state. A fresh state, or one with no plan, with nothing counted
+unfoldable pub loadNumber : (plan : List ℕ) → List ℕ → ℕ
+loadNumber s l = cond (eqb (length l) 11964) (pairOf (calls.load s .refusal) (calls.load s .place)) (pairOf 18 0)
+
+unfoldable pub loadBytes : (plan : List ℕ) → List ℕ → List ℕ
+loadBytes s l = packedInto (calls.load s .state) noTally l
+
+-- post
+abbrev pub postedIn : Message → List ℕ → Posted
+postedIn m l = calls.post m (stateOf l)
+
+unfoldable pub postNumber : Message → List ℕ → ℕ
+postNumber m l = postedIn m l .refusal
+
+unfoldable pub postBytes : Message → List ℕ → List ℕ
+postBytes m l = updated (postedIn m l .refusal) (postedIn m l .state) (tallyOf l) l
+
+-- collect: 18, and nothing changed, where there is no room for a message
+abbrev pub collectedIn : List ℕ → Collected
+collectedIn l = calls.collect (stateOf l)
+
+unfoldable pub collectNumber : List ℕ → (message : List ℕ) → ℕ
+collectNumber l m = cond (ltb (length m) 28) 18 (collectedIn l .refusal)
+
+unfoldable pub collectBytes : List ℕ → (message : List ℕ) → List ℕ
+collectBytes l m = cond (ltb (length m) 28) l (updated (collectedIn l .refusal) (collectedIn l .state) (tallyOf l) l)
+
+unfoldable pub collectMessage : List ℕ → (message : List ℕ) → List ℕ
+collectMessage l m = cond (ltb (length m) 28) m (messageInto (collectedIn l .message) m)
+
+-- a step as one number; each part but the refusal within a byte
+unfoldable pub stepNumber : Step → ℕ
+stepNumber x =
+    x .refusal * 4294967296 + x .slot % 256 * 16777216 + x .activity % 256 * 65536 + x .place % 256 * 256 + endNumber (x .end) % 256
+
+-- how much is offered as one number: the refusal from bit 40 on, whether something is held at bit 32, how many
+unfoldable pub offersNumber : Offered → ℕ
+offersNumber x = x .refusal % 16777216 * 1099511627776 + x .many % 4294967296 + cond (x .held) 4294967296 0
+
+unfoldable pub offerNumber : (choice : ℕ) → List ℕ → ℕ
+offerNumber c l = stepNumber (preview c (stateOf l))
+
+unfoldable pub offersOf : List ℕ → ℕ
+offersOf l = offersNumber (offeredIn (stateOf l))
+
+-- step
+abbrev pub steppedIn : (choice : ℕ) → List ℕ → calls.Stepped
+steppedIn c l = calls.step c (stateOf l) (tallyOf l)
+
+unfoldable pub stepOf : (choice : ℕ) → List ℕ → ℕ
+stepOf c l = stepNumber (steppedIn c l .answer)
+
+unfoldable pub stepBytes : (choice : ℕ) → List ℕ → List ℕ
+stepBytes c l = updated (steppedIn c l .answer .refusal) (steppedIn c l .state) (steppedIn c l .tally) l
+
+-- run: the bytes are as the last step taken left them
+unfoldable pub ranIn : (choices : List ℕ) → (budget : ℕ) → List ℕ → calls.Ran
+ranIn cs n l = calls.run cs n (stateOf l) (tallyOf l)
+
+unfoldable pub runBytes : (choices : List ℕ) → (budget : ℕ) → List ℕ → List ℕ
+runBytes cs n l = cond (eqb (ranIn cs n l .taken) 0) l (packedInto (ranIn cs n l .state) (ranIn cs n l .tally) l)

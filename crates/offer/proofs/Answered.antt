@@ -1,0 +1,221 @@
+-- What a choice comes to is what counting it down over the offer comes to. Assumes nothing.
+use mathlib.Core.Path.{_≡_, refl, sym, ap, _∙_}
+use mathlib.Core.Bool.{Bool, true, false, false≢true, cond, not, _&&_, _||_}
+use mathlib.Core.List.{List, [], _∷_, _++_}
+use Prim.Native.Nat.{ℕ, zero, suc, _+_, _*_, _-_, _<_, _≤_}
+use native.Mathlib.Omega.{arith}
+use borrow.Author.Tests.{eq-eqb, ne-eqb, le-leb, lt-leb, leb-true, leb-false, ltb-true, ltb-false}
+use lib.Dec.{eqb, ltb, leb}
+use lib.ListN.{length, getD, take}
+use lib.Seq.{length-take-le, getD-take}
+use Rattle.plan.specs.Tree.{Plan}
+use Rattle.order.specs.declared.End.{End}
+use Rattle.machine.specs.declared.Message.{Message}
+use Rattle.order.specs.declared.Order.{Order}
+use Rattle.machine.specs.declared.State.{State}
+use Rattle.machine.specs.declared.Step.{Step}
+use Rattle.order.specs.Acting.{startedOrder}
+use Rattle.offer.specs.Answering.{Correlated}
+use Rattle.machine.specs.Calls.{Chosen, refusedChoice, chosen, nth, choosing, previewed, previewBy}
+use Rattle.machine.specs.Fit.{Ready, readyOf, Live, liveFrom, Letter, lettersFrom, fittings}
+use Rattle.machine.specs.Limits.{messageInLimits, inLimits}
+use Rattle.order.specs.Lists.{every, empties}
+use Rattle.machine.specs.Offer.{Offer, offering, Offers, together, allOf, orderOffers, freeFrom, startOffers, offersOf}
+use Rattle.machine.specs.State.{noMessage, letters}
+use Rattle.offer.specs.declared.Amount.{Amount}
+use Rattle.offer.specs.declared.Pointer.{Pointer}
+use Rattle.offer.specs.declared.Sight.{Sight}
+use Rattle.offer.specs.Folds.{folded, lesser}
+use Rattle.offer.specs.Lines.{Tabled}
+use Rattle.offer.specs.Sights.{pointed, seen, unseen, Unseen, Frees, chosenBy, answered, Across, Leasts, Tells, noLetter, Told, Informed, offerLive, Starts, SeesAll, Previews, amounted, amountOf, Amounts}
+use Rattle.offer.proofs.Amounted.{offers-short}
+use Rattle.offer.proofs.Fewest.{getD-any}
+use Rattle.offer.proofs.Lines.{fold-same}
+use Rattle.offer.proofs.OrderSeen.{seen-together, seen-all}
+use Rattle.offer.proofs.Sighting.{pointed-found}
+use Rattle.offer.proofs.Starting.{letters-long, letters-at}
+
+-- a choice that is counted down
+unfoldable pointing : (c i k j : ℕ) → Pointer
+pointing c i k j = record { left = c; found = false; slot = i; activity = k; place = j }
+
+found-stays : (l : List Offer) (c : Pointer) → c .found ≡ true → folded pointed l c ≡ c
+unfolding folded
+found-stays [] c e = refl
+found-stays (x ∷ l) c e = ap (folded pointed l) (sym (pointed-found (x .slot) (x .activity) (x .place) c e)) ∙ found-stays l c e
+
+unfoldable chosenAs : (number : ℕ) → Pointer → Chosen
+chosenAs n c = cond (c .found) (chosen (offering (c .slot) (c .activity) (c .place))) (refusedChoice n)
+
+unfoldable at : Offer → Pointer
+at x = record { left = 0; found = true; slot = x .slot; activity = x .activity; place = x .place }
+
+point-here : (x : Offer) (i k j : ℕ) → pointed x (pointing 0 i k j) ≡ at x
+unfolding pointed pointing at
+point-here x i k j = refl
+
+point-next : (x : Offer) (c i k j : ℕ) → pointed x (pointing (suc c) i k j) ≡ pointing c i k j
+unfolding pointed pointing
+point-next x c i k j =
+    let e : suc c - 1 ≡ c = omega arith in
+    rw (ne-eqb (suc c) 0 (λ q. omega arith), e)
+
+here-stays : (x : Offer) (l : List Offer) (i k j : ℕ) → folded pointed l (pointed x (pointing 0 i k j)) ≡ at x
+unfolding at
+here-stays x l i k j = ap (folded pointed l) (point-here x i k j) ∙ found-stays l (at x) refl
+
+answer-nth : (n : ℕ) (l : List Offer) (c i k j : ℕ) → chosenAs n (folded pointed l (pointing c i k j)) ≡ nth n l c
+unfolding folded nth pointing chosenAs at
+answer-nth n [] c i k j = refl
+answer-nth n (x ∷ l) zero i k j = ap (chosenAs n) (here-stays x l i k j)
+answer-nth n (x ∷ l) (suc c) i k j = ap (λ z. chosenAs n (folded pointed l z)) (point-next x c i k j) ∙ answer-nth n l c i k j
+
+left-says : (l : List Offer) (c i k j : ℕ) → folded pointed l (pointing c i k j) .found ≡ false → folded pointed l (pointing c i k j) .left + length l ≡ c
+unfolding folded pointing at
+left-says [] c i k j e = omega arith
+left-says (x ∷ l) zero i k j e = absurd (false≢true (sym e ∙ ap (λ c. c .found) (here-stays x l i k j)))
+left-says (x ∷ l) (suc c) i k j e =
+    let z : folded pointed l (pointed x (pointing (suc c) i k j)) ≡ folded pointed l (pointing c i k j) = ap (folded pointed l) (point-next x c i k j) in
+    let q = left-says l c i k j (sym (ap (λ c. c .found) z) ∙ e) in
+    omega (arith, q, ap (λ c. c .left) z)
+
+found-says : (l : List Offer) (c i k j : ℕ) → folded pointed l (pointing c i k j) .found ≡ true → (folded pointed l (pointing c i k j) .left ≡ 0) × (c < length l)
+unfolding folded pointing at
+found-says [] c i k j e = absurd (false≢true e)
+found-says (x ∷ l) zero i k j e = (ap (λ c. c .left) (here-stays x l i k j), omega arith)
+found-says (x ∷ l) (suc c) i k j e =
+    let z : folded pointed l (pointed x (pointing (suc c) i k j)) ≡ folded pointed l (pointing c i k j) = ap (folded pointed l) (point-next x c i k j) in
+    let q = found-says l c i k j (sym (ap (λ c. c .found) z) ∙ e) in
+    (ap (λ c. c .left) z ∙ q .0, omega (arith, q .1))
+
+left-empties : (l : List Offer) (x c : ℕ) → x + length l ≡ c → eqb x c ≡ empties l
+left-empties [] x c e = eq-eqb x c (omega arith)
+left-empties (y ∷ l) x c e = ne-eqb x c (λ q. omega arith)
+
+pub chosen-all : (a : Offers) (c : ℕ) → chosenBy c (seen a (unseen c)) ≡ choosing a c
+unfolding chosenBy seen unseen choosing chosenAs pointing
+chosen-all a c =
+    by-test (folded pointed (a .offered) (pointing c 0 0 0)) (left-says (a .offered) c 0 0 0) (folded pointed (a .offered) (pointing c 0 0 0) .found) refl
+    ∙ answer-nth (cond (empties (a .offered)) (cond (a .held) 11 10) 12) (a .offered) c 0 0 0
+  where
+    by-test : (s : Pointer) → (s .found ≡ false → s .left + length (a .offered) ≡ c) → (b : Bool) → s .found ≡ b
+        → chosenAs (cond (eqb (s .left) c) (cond (a .held) 11 10) 12) s ≡ chosenAs (cond (empties (a .offered)) (cond (a .held) 11 10) 12) s
+    by-test s f true e = rw e
+    by-test s f false e = rw (left-empties (a .offered) (s .left) c (f e))
+
+pub answer-chosen : (a : Offers) (c : ℕ) → answered c (seen a (unseen c)) ≡ previewed (choosing a c)
+unfolding answered
+answer-chosen a c = ap previewed (chosen-all a c)
+
+-- the letters of the fewest
+and-swap : (x y z : Bool) → ((x && y) && z) ≡ (y && (x && z))
+and-swap true y z = refl
+and-swap false true z = refl
+and-swap false false z = refl
+
+lesser-leb : (u x c : ℕ) → leb u (lesser x c) ≡ (leb u x && leb u c)
+unfolding lesser
+lesser-leb u x c = by-test (ltb x c) refl (leb u x) refl (leb u c) refl
+  where
+    by-test : (b : Bool) → ltb x c ≡ b → (d : Bool) → leb u x ≡ d → (e : Bool) → leb u c ≡ e → leb u (cond b x c) ≡ (d && e)
+    by-test true p true q true r = q
+    by-test true p true q false r =
+        let f = ltb-true x c p in let g = leb-true u x q in let h = leb-false u c r in absurd (omega (arith, f, g, h))
+    by-test true p false q e r = q
+    by-test false p true q e r = r
+    by-test false p false q true r =
+        let f = ltb-false x c p in let g = leb-false u x q in let h = leb-true u c r in absurd (omega (arith, f, g, h))
+    by-test false p false q false r = r
+
+least-leb : (u : ℕ) (l : List ℕ) (c : ℕ) → leb u (folded lesser l c) ≡ (leb u c && every (leb u) l)
+unfolding folded every
+least-leb u [] c = by-test (leb u c)
+  where
+    by-test : (b : Bool) → b ≡ (b && true)
+    by-test true = refl
+    by-test false = refl
+least-leb u (x ∷ l) c = least-leb u l (lesser x c) ∙ (ap (λ b. b && every (leb u) l) (lesser-leb u x c) ∙ and-swap (leb u x) (leb u c) (every (leb u) l))
+
+module _ {t flags : List ℕ} {orders : List Order} {n : ℕ} {messages : List Message} {waiting : ℕ} {least : List ℕ} (w : Leasts t flags n orders messages waiting least)
+    (few : waiting ≤ 64) where
+  told : (p : Plan) → Correlated p flags → Tabled p t n → Told (lettersFrom p (liveFrom p 0 orders) 0 (take waiting messages)) messages waiting least
+  told p cor q =
+      let long : length (take waiting messages) ≡ waiting = length-take-le waiting messages (omega (arith, w .held)) in
+      record {
+        long = letters-long p (liveFrom p 0 orders) 0 (take waiting messages) ∙ long;
+        tells = λ j h.
+            let z : 0 + j ≡ j = omega arith in
+            let m : getD (take waiting messages) j noMessage ≡ getD messages j noMessage = getD-take waiting messages j noMessage h in
+            let v : getD (lettersFrom p (liveFrom p 0 orders) 0 (take waiting messages)) j noLetter
+            ≡ record { place = j; message = getD messages j noMessage; fitted = fittings p (liveFrom p 0 orders) (getD messages j noMessage) } =
+            letters-at p (liveFrom p 0 orders) 0 (take waiting messages) j noLetter noMessage (omega (arith, long)) ∙ rw (z, m) in
+            record {
+              place = ap (λ x. x .place) v;
+              message = ap (λ x. x .message) v;
+              few = λ u g.
+                  ap (λ x. every (leb u) (x .fitted)) v
+                  ∙ sym (ap (leb u) (w .is j h .is p cor q) ∙ (least-leb u (fittings p (liveFrom p 0 orders) (getD messages j noMessage)) 5 ∙ rw (le-leb u 5 (omega arith))));
+            };
+      }
+
+-- `sight_of`
+pub sees-all : {t flags : List ℕ} {st : State} {o : Order} {n c free : ℕ} {least : List ℕ} {none part r : Sight}
+    → st .waiting ≤ 64
+    → Leasts t flags n (st .orders) (st .messages) (st .waiting) least
+    → Unseen c none
+    → Across t n (Informed flags (st .messages) (st .waiting) least) (offerLive (st .waiting)) (st .orders) none part
+    → Frees (st .orders) free
+    → Starts t flags (st .orders) o free n (st .messages) (st .waiting) part r
+    → SeesAll t flags st o n c r
+unfolding offersOf offerLive
+sees-all {st = st} {o} {n} {c} {free} {least} {none} {part} {r} few w none-is slots free-is starts = record {
+  orders = slots .long;
+  messages = w .held;
+  few = few;
+  is = λ p cor q started.
+      let l = lettersFrom p (liveFrom p 0 (st .orders)) 0 (letters st) in
+      let live = liveFrom p 0 (st .orders) in
+      let a = allOf (orderOffers p (st .waiting) l) live in
+      let e : part ≡ seen a (unseen c) =
+      slots .is p l (record { correlated = cor; told = told w few p cor q }) q
+      ∙ (ap (folded (λ x. seen (orderOffers p (st .waiting) l x)) live) (none-is .is) ∙ sym (seen-all (orderOffers p (st .waiting) l) live (unseen c))) in
+      let b = allOf (startOffers p free o (readyOf p o)) l in
+      let f : r ≡ seen b (seen a (unseen c)) =
+      starts .is p cor q ∙ (sym (seen-all (startOffers p free o (readyOf p o)) l part) ∙ ap (seen b) e) in
+      f ∙ (rw (free-is .is, started) (sym (seen-together a (allOf (startOffers p (freeFrom 0 (st .orders)) (startedOrder p) (readyOf p (startedOrder p))) l) (unseen c))));
+}
+
+-- `preview_by`, `amount_of`, `offered_by`
+pub previews-all : {t flags : List ℕ} {st : State} {o : Order} {n : ℕ} (c : ℕ) {s : Sight} {r : Step} → SeesAll t flags st o n c s → r ≡ answered c s
+    → Previews t flags st o n c r
+unfolding previewBy
+previews-all {st = st} c w e = record {
+  is = λ p cor q started. e ∙ (ap (answered c) (w .is p cor q started) ∙ answer-chosen (offersOf p st) c);
+}
+
+pub amount-none : (s : Sight) → 4294967295 < s .pointer .left → _≡_ {A = Amount} (record { many = 0; held = s .held }) (amounted s)
+unfolding amounted
+amount-none s h = let e : 4294967295 - s .pointer .left ≡ 0 = omega arith in rw e
+
+pub amount-some : (s : Sight) → _≡_ {A = Amount} (record { many = 4294967295 - s .pointer .left; held = s .held }) (amounted s)
+unfolding amounted
+amount-some s = refl
+
+many-seen : (a : Offers) → length (a .offered) ≤ 4294967295 → amounted (seen a (unseen 4294967295)) ≡ amountOf a
+unfolding amounted seen unseen pointing
+many-seen a h = by-test (folded pointed (a .offered) (pointing 4294967295 0 0 0) .found) refl
+  where
+    by-test : (b : Bool) → folded pointed (a .offered) (pointing 4294967295 0 0 0) .found ≡ b
+        → _≡_ {A = Amount} (record { many = 4294967295 - folded pointed (a .offered) (pointing 4294967295 0 0 0) .left; held = a .held }) (amountOf a)
+    by-test true e = let q = found-says (a .offered) 4294967295 0 0 0 e in absurd (omega (arith, q .1))
+    by-test false e =
+        let q = left-says (a .offered) 4294967295 0 0 0 e in
+        let z : 4294967295 - folded pointed (a .offered) (pointing 4294967295 0 0 0) .left ≡ length (a .offered) = omega (arith, q) in
+        rw z
+
+pub amounts-all : {t flags : List ℕ} {st : State} {o : Order} {n : ℕ} {s : Sight} {r : Amount} → SeesAll t flags st o n 4294967295 s → r ≡ amounted s
+    → Amounts t flags st o n r
+amounts-all {st = st} w e = record {
+  is = λ p cor q started.
+      e ∙ (ap amounted (w .is p cor q started) ∙ many-seen (offersOf p st) (offers-short p (q .limited) st (w .orders) (w .messages) (w .few)));
+}

@@ -1,0 +1,27 @@
+-- `offer::offer` meets its contract. Assumes nothing.
+use borrow.Author.Needs.{needs}
+use Rattle.offer.proofs.Having.{offer-unplanned, offer-planned}
+use Rattle.offer.proofs.offer.Statement.{statement}
+use Rattle.offer.proofs.offer.Tie as tie
+
+ruleset cases = (offer-unplanned, offer-planned)
+
+pub offer-spec : {M : Type 1} → statement M
+offer-spec =
+    tie.close (tie.spec
+    -- message-places-requires
+    (λ c κs. search needs)
+    -- planned-requires
+    (λ c κs. search needs)
+    -- enum-told
+    (λ c. search needs)
+    -- refused-requires
+    (λ c κs. search needs)
+    -- enum-known-a
+    (λ c. search needs)
+    -- offer-by-requires
+    (λ c κs. search needs)
+    -- returns
+    (λ c. search cases)
+    -- returns-2
+    (λ c. search cases))

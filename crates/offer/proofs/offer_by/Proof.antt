@@ -1,0 +1,29 @@
+-- `offer::offer_by` meets its contract. Assumes nothing.
+use borrow.Author.Needs.{needs}
+use Rattle.offer.proofs.Having.{offer-beyond, offer-unruled, offer-ruled, offer-found}
+use Rattle.offer.proofs.offer_by.Statement.{statement}
+use Rattle.offer.proofs.offer_by.Tie as tie
+
+ruleset cases = (offer-beyond, offer-unruled, offer-found)
+
+ruleset ruled = (offer-ruled)
+
+pub offer-by-spec : {M : Type 1} → statement M
+offer-by-spec =
+    tie.close (tie.spec
+    -- refused-requires
+    (λ c κs. search needs)
+    -- returns
+    (λ c. search cases)
+    -- state-ruled-requires
+    (λ c κs. search needs)
+    -- started-order-requires
+    (λ c κs. search needs)
+    -- preview-by-requires
+    (λ c κs. (search needs, search ruled))
+    -- returns-2
+    (λ c. search cases)
+    -- refused-requires-2
+    (λ c κs. search needs)
+    -- returns-3
+    (λ c. search cases))

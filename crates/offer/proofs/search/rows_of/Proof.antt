@@ -1,0 +1,14 @@
+-- `offer::search::rows_of` meets its contract. Assumes nothing.
+use Rattle.offer.proofs.SearchReturns.{rows-free, rows-live}
+use Rattle.offer.proofs.search.rows_of.Statement.{statement}
+use Rattle.offer.proofs.search.rows_of.Tie as tie
+
+ruleset cases = (rows-free, rows-live)
+
+pub rows-of-spec : {M : Type 1} → statement M
+rows-of-spec =
+    tie.close (tie.spec
+    -- returns
+    (λ c. search cases)
+    -- returns-2
+    (λ c. search cases))

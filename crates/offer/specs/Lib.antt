@@ -1,0 +1,6 @@
+pub mod Finding
+pub mod Answering
+pub mod Folds
+pub mod Lines
+pub mod Sights
+pub mod Having

@@ -1,0 +1,134 @@
+// What is offered in a state: the step that a choice would take, and how many steps there are. No list is built: a choice is counted down.
+mod counting;
+mod fitness;
+mod least;
+mod previews;
+mod rows;
+mod search;
+mod slots;
+
+use machine::State;
+use machine::Step;
+use machine::letters;
+use machine::limits;
+use order::started_order;
+use plan::Answer;
+ghost use mathlib.Core.Path.{_≡_};
+ghost use Rattle.machine.specs.Calls.{preview};
+ghost use Rattle.offer.specs.Having.{Has, OffersBy, offeredIn};
+
+// An open receive, by the slot of its order and its activity, or none.
+pub enum Receiver {
+    At { slot: usize, activity: usize },
+    Nothing,
+}
+
+// A choice that is counted down over the offer: how much of it is left, and, once it is found, the slot, the activity and the message place.
+pub struct Pointer {
+    pub left: usize,
+    pub found: bool,
+    pub slot: usize,
+    pub activity: usize,
+    pub place: usize,
+}
+
+// What was seen of the offer: where the choice stands, and whether something is held.
+pub struct Sight {
+    pub pointer: Pointer,
+    pub held: bool,
+}
+
+// How many steps are on offer, and whether something is held.
+pub struct Amount {
+    pub many: usize,
+    pub held: bool,
+}
+
+// How many steps are offered, and whether something is held; or a refusal.
+pub struct Offered {
+    pub refusal: u32,
+    pub many: usize,
+    pub held: bool,
+}
+
+// What a choice comes to in a state that has the plan with this table and these flags.
+pub fn offer_by(
+    table: &[u32; 11584],
+    flags: &[u8; 16],
+    activities: usize,
+    state: State,
+    choice: usize,
+) -> Step
+    ensures { λ r. ⌜ OffersBy (now (table .entry)) (now (flags .entry)) activities state choice r ⌝ }
+{
+    if 256 < activities {
+        return counting::refused(17);
+    }
+    if limits::state_ruled(state) {
+        let new = started_order(table);
+        return previews::preview_by(table, flags, state, new, activities, choice);
+    }
+    counting::refused(17)
+}
+
+// The step that a choice would take, not taken.
+pub fn offer(state: State, choice: usize) -> Step
+    ensures { λ r. ⌜ r ≡ preview choice state ⌝ }
+{
+    let mut table = [0u32; 11584];
+    let mut flags = [0u8; 16];
+    let messages = state.messages;
+    let places = letters::message_places(messages);
+    let a = limits::planned(state, &mut table, &mut flags);
+    match a {
+        Answer::Refused {
+            number: _,
+            place: _,
+        } => counting::refused(17),
+        Answer::Accepted {
+            variables: _,
+            activities,
+            nodes: _,
+        } => offer_by(&table, &flags, activities, state, choice),
+    }
+}
+
+// How many steps are offered in a state that has the plan with this table and these flags.
+fn count_by(table: &[u32; 11584], flags: &[u8; 16], activities: usize, state: State) -> Offered
+    requires { ⌜ Has (now table) (now flags) activities state ⌝ }
+    ensures { λ r. ⌜ r ≡ offeredIn state ⌝ }
+{
+    let new = started_order(table);
+    let a = previews::offered_by(table, flags, state, new, activities);
+    Offered {
+        refusal: 0,
+        many: a.many,
+        held: a.held,
+    }
+}
+
+// How many steps are offered, and whether something is held.
+pub fn offers(state: State) -> Offered
+    ensures { λ r. ⌜ r ≡ offeredIn state ⌝ }
+{
+    let mut table = [0u32; 11584];
+    let mut flags = [0u8; 16];
+    let messages = state.messages;
+    let places = letters::message_places(messages);
+    let a = limits::planned(state, &mut table, &mut flags);
+    match a {
+        Answer::Refused {
+            number: _,
+            place: _,
+        } => Offered {
+            refusal: 17,
+            many: 0,
+            held: false,
+        },
+        Answer::Accepted {
+            variables: _,
+            activities,
+            nodes: _,
+        } => count_by(&table, &flags, activities, state),
+    }
+}

@@ -1,0 +1,41 @@
+-- `run::run_by` meets its contract. Assumes nothing.
+use borrow.Author.Needs.{needs}
+use Rattle.run.proofs.RunReturns.{Going, going-starts, going-empty, going-spent, going-refused, going-on}
+use Prim.Native.Nat.{_-_}
+use lib.ListN.{length}
+use Rattle.run.proofs.run_by.Statement.{statement}
+use Rattle.run.proofs.run_by.Tie as tie
+
+ruleset cases = (going-starts, going-empty, going-spent, going-refused, going-on)
+
+abbrev Inv-loop : tie.InvT-loop
+Inv-loop table flags activities choices budget₀ s₀ y₀ i₀ budget s y i = Going table flags activities choices budget₀ s₀ y₀ i budget s y
+
+abbrev μ-loop : tie.MeasureT-loop
+μ-loop table flags activities choices budget₀ s₀ y₀ i₀ budget s y i = length choices - i
+
+pub run-by-spec : {M : Type 1} → statement M
+run-by-spec =
+    tie.close (tie.spec Inv-loop μ-loop
+    -- loop-holds
+    (λ c. search cases)
+    -- add-next
+    (λ c. search needs)
+    -- returns
+    (λ c. search cases)
+    -- mul-step-by
+    (λ c. search needs)
+    -- shared-slice-read-step-by
+    (λ c. search needs)
+    -- step-by-requires
+    (λ c κs. search needs)
+    -- sub-budget
+    (λ c. search needs)
+    -- loop-less
+    (λ c. search needs)
+    -- loop-again
+    (λ c. search cases)
+    -- returns-2
+    (λ c. search cases)
+    -- returns-3
+    (λ c. search cases))

@@ -1,0 +1,101 @@
+// A run: steps by a list of choices, under a budget that is lent.
+use machine::State;
+use machine::Tally;
+use machine::letters;
+use machine::limits;
+use plan::Answer;
+ghost use Prim.Native.Nat.{_+_};
+ghost use mathlib.Core.Path.{_≡_};
+ghost use Rattle.machine.specs.Calls as calls;
+ghost use Rattle.machine.specs.Calls.{runBy};
+ghost use Rattle.offer.specs.Having.{Has};
+ghost use Rattle.run.specs.Running.{ranOf};
+
+// What a run gives: the steps taken, the refusal or 0, the state and the tally.
+pub struct Ran {
+    pub taken: usize,
+    pub refusal: u32,
+    pub state: State,
+    pub tally: Tally,
+}
+
+// Takes the steps with these choices, as far as the budget goes.
+fn run_by(
+    table: &[u32; 11584],
+    flags: &[u8; 16],
+    activities: usize,
+    state: State,
+    choices: &[usize],
+    budget: &mut usize,
+    tally: Tally,
+) -> Ran
+    requires { ⌜ Has (now table) (now flags) activities state ⌝ }
+    ensures is { λ r. ⌜ r ≡ ranOf (runBy calls.step (now (choices .entry)) (now (budget .entry)) state tally) ⌝ }
+    ensures left { λ r. ⌜ now (budget .exit) + r .taken ≡ now (budget .entry) ⌝ }
+{
+    let mut s = state;
+    let mut y = tally;
+    let mut i: usize = 0;
+    while i < choices.len() {
+        let next = i + 1;
+        if *budget == 0 {
+            return Ran {
+                taken: i,
+                refusal: 0,
+                state: s,
+                tally: y,
+            };
+        }
+        let r = step::step_by(table, flags, activities, s, choices[i], y);
+        let a = r.answer;
+        let t = r.state;
+        let z = r.tally;
+        if a.refusal == 0 {
+            s = t;
+            y = z;
+            *budget -= 1;
+            i = next;
+        } else {
+            return Ran {
+                taken: i,
+                refusal: a.refusal,
+                state: t,
+                tally: z,
+            };
+        }
+    }
+    Ran {
+        taken: i,
+        refusal: 0,
+        state: s,
+        tally: y,
+    }
+}
+
+// Takes the steps with these choices, one after the other, as far as the budget goes, which is left with what remains of it.
+pub fn run(state: State, choices: &[usize], budget: &mut usize, tally: Tally) -> Ran
+    ensures is { λ r. ⌜ r ≡ ranOf (calls.run (now (choices .entry)) (now (budget .entry)) state tally) ⌝ }
+    ensures left { λ r. ⌜ now (budget .exit) + r .taken ≡ now (budget .entry) ⌝ }
+{
+    let mut table = [0u32; 11584];
+    let mut flags = [0u8; 16];
+    let messages = state.messages;
+    let places = letters::message_places(messages);
+    let a = limits::planned(state, &mut table, &mut flags);
+    match a {
+        Answer::Refused {
+            number: _,
+            place: _,
+        } => Ran {
+            taken: 0,
+            refusal: 17,
+            state,
+            tally,
+        },
+        Answer::Accepted {
+            variables: _,
+            activities,
+            nodes: _,
+        } => run_by(&table, &flags, activities, state, choices, budget, tally),
+    }
+}

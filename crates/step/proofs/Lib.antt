@@ -1,0 +1,2 @@
+mod Taken
+mod StepReturns

@@ -1,0 +1,102 @@
+-- The returns of a step. Assumes nothing.
+use mathlib.Core.Path.{_≡_, refl, sym, ap, _∙_, subst}
+use mathlib.Core.Bool.{Bool, true, false, cond}
+use mathlib.Core.List.{List, [], _∷_}
+use Prim.Native.Nat.{ℕ, zero, suc, _+_, _-_, _<_, _≤_}
+use native.Mathlib.Numerals.{add-one}
+use native.Mathlib.Omega.{arith}
+use borrow.Author.Tests.{eq-eqb, ne-eqb}
+use lib.Dec.{eqb}
+use lib.ListN.{length, getD, take, drop, drop-of-length-le}
+use lib.Seq.{drop-cons}
+use Rattle.plan.specs.declared.Answer.{Answer}
+use Rattle.plan.specs.declared.Answer.the-variants.{Accepted}
+use Rattle.plan.specs.Answers.{answerOf, tableFor, flagsFor}
+use Rattle.plan.specs.Found.{Found, refused, found}
+use Rattle.plan.specs.Table.{tableOf, flagsOf}
+use Rattle.plan.specs.Tree.{Plan, size}
+use Rattle.order.specs.Answering.{Spelled, StartsOrder}
+use Rattle.order.specs.Lists.{empties}
+use Rattle.order.specs.declared.End.the-variants.{None}
+use Rattle.order.specs.declared.Order.{Order}
+use Rattle.order.proofs.Accepted.{accepted-spelled}
+use Rattle.order.proofs.PlanStands.{plan-stands}
+use Rattle.order.proofs.Standing.{stands-inside}
+use Rattle.machine.specs.declared.State.{State}
+use Rattle.machine.specs.declared.Step.{Step}
+use Rattle.step.specs.declared.Stepped.{Stepped}
+use Rattle.machine.specs.declared.Tally.{Tally}
+use Rattle.machine.specs.Calls as calls
+use Rattle.machine.specs.Calls.{Chosen, refusedChoice, chosen, nth, choosing, previewed, previewBy, preview, refusing, answering, stepChosen, stepBy, step, runBy, ranOn, oneMore, run}
+use Rattle.machine.specs.Limits.{inLimits, planIn, by}
+use Rattle.machine.specs.Offer.{Offer, Offers, offering, offersOf}
+use Rattle.offer.specs.Having.{Has, OffersBy}
+use Rattle.offer.proofs.Having.{has-limits, has-from}
+use Rattle.step.specs.Stepping.{bare, TakesOffer, StepsBy}
+use Rattle.machine.proofs.Called.{answer-no, answer-got, plan-found}
+use Rattle.laws.proofs.Offering.{pick-true, pick-false}
+use Rattle.laws.proofs.Keeping.{step-by-keeps, step-is-by, step-keeps}
+
+-- a refused choice has a number
+nth-number : (m : ℕ) (l : List Offer) (c n : ℕ) → nth m l c ≡ refusedChoice n → m ≡ n
+unfolding nth
+nth-number m [] c n e = cc
+nth-number m (x ∷ l) zero n e = absurd (let z : _≡_ {A = ℕ} 0 1 = cc in omega arith)
+nth-number m (x ∷ l) (suc c) n e = nth-number m l c n e
+
+refusal-some : (a : Offers) (c n : ℕ) → choosing a c ≡ refusedChoice n → n ≡ 0 → ⊥
+unfolding choosing
+refusal-some a c n e z = go (empties (a .offered)) (a .held) (nth-number _ (a .offered) c n e)
+  where
+    go : (x y : Bool) → cond x (cond y 11 10) 12 ≡ n → ⊥
+    go true true q = omega arith
+    go true false q = omega arith
+    go false y q = omega arith
+
+-- `step_by`
+module _ {t flags : List ℕ} {n : ℕ} {s : State} (h : Has t flags n s) (c : ℕ) (y : Tally) {x : Step} (e : x ≡ preview c s) where
+  seen : x ≡ previewed (choosing (offersOf (h .plan) s) c)
+  unfolding preview previewBy
+  seen = e ∙ rw (h .planned .is)
+
+  step-shown : step c s y ≡ stepChosen (h .plan) s y (choosing (offersOf (h .plan) s) c)
+  unfolding stepBy
+  step-shown = step-is-by (h .planned) c y
+
+  step-takes : x .refusal ≡ 0 → {r : Stepped} → TakesOffer t n s (x .slot) (x .activity) (x .place) y r → r ≡ bare (step c s y)
+  unfolding stepChosen
+  step-takes q {r} a = go (choosing (offersOf (h .plan) s) c) refl seen ∙ ap bare (sym step-shown)
+    where
+      go : (w : Chosen) → choosing (offersOf (h .plan) s) c ≡ w → x ≡ previewed w → r ≡ bare (stepChosen (h .plan) s y (choosing (offersOf (h .plan) s) c))
+      go (refusedChoice m) f g = absurd (refusal-some (offersOf (h .plan) s) c m f (sym (ap (λ (v : Step). v .refusal) g) ∙ q))
+      go (chosen o) f g =
+          let d : offering (x .slot) (x .activity) (x .place) ≡ o = ap (λ (v : Step). offering (v .slot) (v .activity) (v .place)) g in
+          let k : choosing (offersOf (h .plan) s) c ≡ chosen (offering (x .slot) (x .activity) (x .place)) = f ∙ ap chosen (sym d) in
+          a .is (h .plan) c (h .spelled) (has-limits h) k ∙ ap (λ (w : Chosen). bare (stepChosen (h .plan) s y w)) (sym k)
+
+  step-stays : (x .refusal ≡ 0 → ⊥) → _≡_ {A = Stepped} (record { answer = x; state = s; tally = y }) (bare (step c s y))
+  unfolding stepChosen
+  step-stays q = go (choosing (offersOf (h .plan) s) c) refl seen ∙ ap bare (sym step-shown)
+    where
+      go : (w : Chosen) → choosing (offersOf (h .plan) s) c ≡ w → x ≡ previewed w
+          → _≡_ {A = Stepped} (record { answer = x; state = s; tally = y }) (bare (stepChosen (h .plan) s y (choosing (offersOf (h .plan) s) c)))
+      go (refusedChoice m) f g = ap (λ (v : Step). record { answer = v; state = s; tally = y }) g ∙ ap (λ (w : Chosen). bare (stepChosen (h .plan) s y w)) (sym f)
+      go (chosen o) f g = absurd (q (ap (λ (v : Step). v .refusal) g))
+
+module _ {t flags : List ℕ} {n : ℕ} {s : State} {c : ℕ} (y : Tally) {x : Step} (a : OffersBy t flags n s c x) where
+  pub step-taken : x .refusal ≡ 0 → {r : Stepped} → TakesOffer t n s (x .slot) (x .activity) (x .place) y r → StepsBy t flags n s c y r
+  step-taken q w = record { is = λ h. step-takes h c y (a .is h) q w }
+
+  pub step-refused : (x .refusal ≡ 0 → ⊥) → StepsBy t flags n s c y (record { answer = x; state = s; tally = y })
+  step-refused q = record { is = λ h. step-stays h c y (a .is h) q }
+
+-- `take_step`: a state that earns 17, and one that has a plan
+module _ (s : State) {a : Answer} (e : a ≡ answerOf (planIn s)) where
+  pub step-unplanned : (c : ℕ) (y : Tally) {number place : ℕ} → a ≡ Answer.Refused number place → {r : Stepped}
+      → r ≡ bare (record { answer = refusing 17; state = s; tally = y; log = [] }) → r ≡ bare (step c s y)
+  unfolding step
+  step-unplanned c y o q = q ∙ rw (answer-no (planIn s) e o)
+
+  pub step-planned : (c : ℕ) (y : Tally) {v k n : ℕ} {t flags : List ℕ} {r : Stepped} → a ≡ Accepted v k n → t ≡ tableFor (planIn s) → flags ≡ flagsFor (planIn s)
+      → length (s .messages) ≡ 64 → StepsBy t flags k s c y r → r ≡ bare (step c s y)
+  step-planned c y o q f l x = x .is (has-from s e o q f l)

@@ -1,0 +1,298 @@
+-- The returns of the functions that take a step on offer. Assumes nothing.
+use mathlib.Core.Path.{_≡_, refl, sym, ap, _∙_, subst}
+use mathlib.Core.Bool.{Bool, true, false, cond, not, _&&_}
+use mathlib.Core.List.{List, [], _∷_}
+use Prim.Native.Nat.{ℕ, zero, suc, _+_, _*_, _<_, _≤_}
+use native.Mathlib.Omega.{arith}
+use borrow.Author.Tests.{lt-ltb, le-ltb, le-leb, leb-false, eq-eqb, ne-eqb}
+use lib.Dec.{eqb, ltb, leb}
+use lib.ListN.{length, getD, set, take, replicate, List·getD-eq-default}
+use lib.Seq.{set-out, take-all}
+use Rattle.plan.specs.Spells.{Row}
+use Rattle.plan.specs.Table.{rowOf}
+use Rattle.plan.specs.Tree.{Exp, Own, empty, send, receive, set as setting, raise, leave, choose, repeat, sequence, flow, pick, scope, arm, kind, Act, act, Acts, none, more, Plan, size}
+use Rattle.order.specs.declared.Order.{Order}
+use Rattle.order.specs.declared.Next.{Next}
+use Rattle.order.specs.declared.End.{End}
+use Rattle.order.specs.declared.End.the-variants.{None, Well, Handled, Failed, Left}
+use Rattle.order.specs.Acting.{startedOrder, stepOrder, begunOrder}
+use Rattle.order.specs.Answering.{Names, AllBound, Spelled, StepsOrder, StartsOrder, TakesOrder, nextOf}
+use Rattle.order.specs.Event.{Event, started}
+use Rattle.order.specs.Lists.{every, stored}
+use Rattle.order.specs.Room.{roomPlan}
+use Rattle.order.specs.Stands.{Stands}
+use Rattle.order.specs.State.{isLive, isBound, noOrder, closings, valueOf}
+use Rattle.order.specs.Taking.{actIn, actAmong, actAt, taking}
+use Rattle.order.proofs.Owns.{of-kind}
+use Rattle.order.proofs.PlanStands.{plan-stands}
+use Rattle.order.proofs.Standing.{size-pos, stands-inside}
+use Rattle.order.proofs.StepReturns.{send-names}
+use Rattle.order.proofs.TakeReturns.{plan-at}
+use Rattle.machine.specs.declared.Message.{Message}
+use Rattle.machine.specs.declared.State.{State}
+use Rattle.machine.specs.declared.Step.{Step}
+use Rattle.step.specs.declared.Stepped.{Stepped}
+use Rattle.machine.specs.declared.Tally.{Tally}
+use Rattle.machine.specs.Calls as calls
+use Rattle.machine.specs.Calls.{doingIn, doingAmong, doingAt, valuesOf, messagesAfter, orderTaking, counted, countStart, countEnd, choosing, chosen, answering}
+use Rattle.machine.specs.Fit.{Doing, noStep, sends, takes, moves, cuts, closes, doingOf}
+use Rattle.machine.specs.Limits.{inLimits}
+use Rattle.machine.specs.Offer.{Offer, offering, sendHeld, closeHeld, offersOf}
+use Rattle.machine.specs.Planned.{addedTo, takenFrom}
+use Rattle.machine.specs.State.{noMessage, withOrder}
+use Rattle.laws.specs.Good.{Allowed, Good, actor}
+use Rattle.step.specs.Stepping.{bare, Worths, SentValues, SendRow, Sends, MovesMessages, StepsSlot, movedIn, TakesOffer}
+use Rattle.machine.proofs.Copied.{stored-more}
+use Rattle.machine.proofs.Moved.{same-there, letter-there, limits-letters}
+use Rattle.laws.proofs.Offering.{pick-true, pick-false, chosen-fine}
+use Rattle.laws.proofs.Roomy.{takes-same, take-closings}
+use Rattle.laws.proofs.Doing.{actDoing, plan-doing, good-room}
+
+-- `value_of`
+pub value-far : (o : Order) (v : ℕ) → 16 ≤ v → Worths o v 0
+value-far o v h = record { is = λ g. absurd (omega arith) }
+
+pub value-near : (o : Order) (v : ℕ) → v < 16 → Worths o v (getD (o .values) v 0)
+value-near o v h = record { is = λ g. refl }
+
+-- `sent_values`
+values-length : (o : Order) (vs : List ℕ) → length (valuesOf o vs) ≡ length vs
+unfolding valuesOf
+values-length o [] = refl
+values-length o (v ∷ vs) = ap suc (values-length o vs)
+
+values-at : (o : Order) (vs : List ℕ) (i : ℕ) → i < length vs → getD (valuesOf o vs) i 0 ≡ valueOf o (getD vs i 0)
+unfolding valuesOf
+values-at o [] i h = absurd (omega arith)
+values-at o (v ∷ vs) zero h = refl
+values-at o (v ∷ vs) (suc i) h = values-at o vs i (omega arith)
+
+pub record Sending (t : List ℕ) (k : ℕ) (o : Order) (out : List ℕ) (i : ℕ) : Type 0 where
+  pub is : (vs : List ℕ) → Names t k vs → out ≡ stored 4 (take i (valuesOf o vs))
+
+module _ (t : List ℕ) (k : ℕ) (o : Order) where
+  pub sending-starts : Sending t k o (replicate 4 0) 0
+  sending-starts = record { is = λ vs n. refl }
+
+  pub sending-many : 4 < getD t (k * 13 + 3) 0 → SentValues t k o (replicate 4 0)
+  sending-many h = record { is = λ vs n. absurd (omega (arith, n .count, n .few)) }
+
+module _ {t : List ℕ} {k : ℕ} {o : Order} {out : List ℕ} {i : ℕ} (a : Sending t k o out i) where
+  pub sending-more : {x : ℕ} → i < getD t (k * 13 + 3) 0 → Worths o (getD t (k * 13 + 4 + i) 0) x → Sending t k o (set out i x) (i + 1)
+  sending-more {x} h w = record {
+    is = λ vs n.
+        let g : i < length vs = omega (arith, n .count) in
+        let f : i < 4 = omega (arith, n .few) in
+        let v : getD t (k * 13 + 4 + i) 0 ≡ getD vs i 0 = n .variables i f in
+        let y : x ≡ valueOf o (getD vs i 0) = rw v at (w .is (rw v (n .small i g))) in
+        let z : x ≡ getD (valuesOf o vs) i 0 = y ∙ sym (values-at o vs i g) in
+        rw (a .is vs n, z) (stored-more 4 (valuesOf o vs) i (omega (arith, values-length o vs)) f);
+  }
+
+  pub sending-done : getD t (k * 13 + 3) 0 ≤ i → SentValues t k o out
+  sending-done h = record {
+    is = λ vs n. a .is vs n ∙ ap (stored 4) (take-all i (valuesOf o vs) (omega (arith, values-length o vs, n .count)));
+  }
+
+-- `sent`
+module _ {t : List ℕ} {k : ℕ} {o : Order} {b : Bool} (a : AllBound t k o b) (s : State) where
+  pub send-adds : b ≡ true → {xs : List ℕ} {u : State} → SentValues t k o xs
+      → u ≡ addedTo (record { partner = getD t (k * 13 + 1) 0; operation = getD t (k * 13 + 2) 0; count = getD t (k * 13 + 3) 0; values = xs }) s → Sends t k o s u
+  unfolding messagesAfter addedTo
+  send-adds e v q = record {
+    is = λ x y vs j r h.
+        let f : every (isBound o) vs ≡ true = sym (a .is vs (r .names)) ∙ e in
+        q ∙ rw (lt-ltb _ _ (room (s .waiting) vs h f), f, v .is vs (r .names), r .partner, r .operation, r .names .count);
+  }
+    where
+      room : (n : ℕ) (vs : List ℕ) → sendHeld n o vs ≡ false → every (isBound o) vs ≡ true → n < 64
+      room n vs h f = go (leb 64 n) refl (subst (λ (z : Bool). (leb 64 n && z) ≡ false) f h)
+        where
+          go : (z : Bool) → leb 64 n ≡ z → (z && true) ≡ false → n < 64
+          go true w g = absurd (let c : _≡_ {A = ℕ} 0 1 = cc in omega arith)
+          go false w g = leb-false 64 n w
+
+  pub send-raises : b ≡ false → Sends t k o s s
+  unfolding messagesAfter
+  send-raises e = record {
+    is = λ x y vs j r h.
+        let f : every (isBound o) vs ≡ false = sym (a .is vs (r .names)) ∙ e in
+        rw f;
+  }
+
+-- `messages_after`
+module _ (t : List ℕ) (n : ℕ) (s : State) (o : Order) (x j : ℕ) where
+  row-there : {p : Plan} → Spelled p n t → x < size (p .body) + size (p .fault) → Stands (actAt p x) x t
+  row-there {p} sp h = plan-at p n t (plan-stands sp) x (omega (arith, sp .many))
+
+  by-row : {r : State}
+      → ((own : Own) (l : Acts) → kind own ≡ getD t (x * 13) 0 → Stands (act own l) x t → s .waiting ≤ 64 → Allowed (doingOf own l x) (s .waiting) o j
+      → r ≡ messagesAfter (doingOf own l x) j o s)
+      → MovesMessages t n s o x j r
+  unfolding actDoing Stands
+  by-row {r} f = record {
+    is = λ p sp w g.
+        let e = plan-doing p x (g .inside) in
+        rw e (go w (actAt p x) (row-there sp (g .inside)) (subst (λ (d : Doing). Allowed d (s .waiting) o j) e (g .allowed)));
+  }
+    where
+      go : s .waiting ≤ 64 → (a : Act) → Stands a x t → Allowed (actDoing a x) (s .waiting) o j → r ≡ messagesAfter (actDoing a x) j o s
+      go w (act own l) st al = f own l (sym (st .first .row .kind)) st w al
+
+  pub after-far : 256 ≤ x → MovesMessages t n s o x j s
+  after-far h = record {
+    is = λ p sp w g. let a = row-there sp (g .inside) in absurd (omega (arith, stands-inside (actAt p x) x t a, size-pos (actAt p x)));
+  }
+
+  pub after-send : {r : State} → getD t (x * 13) 0 ≡ 1 → Sends t x o s r → MovesMessages t n s o x j r
+  unfolding doingOf Allowed Stands rowOf
+  after-send {r} h y = by-row (λ own l e st w al.
+      of-kind 1 (λ (v : Own). Stands (act v l) x t → Allowed (doingOf v l x) (s .waiting) o j → r ≡ messagesAfter (doingOf v l x) j o s)
+      (λ a b vs st al. y .is a b vs j (record { partner = st .first .row .partner; operation = st .first .row .operation; names = send-names t x a b vs l st }) al)
+      own (e ∙ h) st al)
+
+  pub after-receive : {r : State} → getD t (x * 13) 0 ≡ 2 → r ≡ takenFrom j s → MovesMessages t n s o x j r
+  unfolding doingOf Allowed messagesAfter takenFrom
+  after-receive {r} h y = by-row (λ own l e st w al.
+      of-kind 2 (λ (v : Own). Allowed (doingOf v l x) (s .waiting) o j → r ≡ messagesAfter (doingOf v l x) j o s)
+      (λ a b vs al. y ∙ rw (le-leb _ _ w, lt-ltb _ _ al)) own (e ∙ h) al)
+
+  pub after-arm : {r : State} → getD t (x * 13) 0 ≡ 12 → r ≡ takenFrom j s → MovesMessages t n s o x j r
+  unfolding doingOf Allowed messagesAfter takenFrom
+  after-arm {r} h y = by-row (λ own l e st w al.
+      of-kind 12 (λ (v : Own). Allowed (doingOf v l x) (s .waiting) o j → r ≡ messagesAfter (doingOf v l x) j o s)
+      (λ a b vs al. y ∙ rw (le-leb _ _ w, lt-ltb _ _ al)) own (e ∙ h) al)
+
+  pub after-none : (getD t (x * 13) 0 ≡ 1 → ⊥) → (getD t (x * 13) 0 ≡ 2 → ⊥) → (getD t (x * 13) 0 ≡ 12 → ⊥) → MovesMessages t n s o x j s
+  unfolding doingOf messagesAfter kind
+  after-none f g h = by-row (λ own l e st w al. go own l e)
+    where
+      go : (own : Own) (l : Acts) → kind own ≡ getD t (x * 13) 0 → s ≡ messagesAfter (doingOf own l x) j o s
+      go empty l e = refl
+      go (send a b vs) l e = absurd (f (sym e))
+      go (receive a b vs) l e = absurd (g (sym e))
+      go (setting v d) l e = refl
+      go raise l e = refl
+      go leave l e = refl
+      go (choose d) l e = refl
+      go (repeat d) l e = refl
+      go sequence l e = refl
+      go flow l e = refl
+      go pick l e = refl
+      go scope l e = refl
+      go (arm a b vs) l e = absurd (h (sym e))
+
+-- `letter_values`, `order_at`, `put_order`, `with_order`
+pub values-there : (l : List Message) (i : ℕ) → i < 64 → length l ≡ 64
+    → getD l i (record { partner = 0; operation = 0; count = 0; values = [] }) .values ≡ getD l i noMessage .values
+values-there l i h e = ap (λ (m : Message). m .values) (letter-there l i h e)
+
+pub values-none : (l : List Message) (i : ℕ) → 64 ≤ i → length l ≡ 64 → {m : Message} → m ≡ noMessage → m .values ≡ getD l i noMessage .values
+values-none l i h e q = ap (λ (m : Message). m .values) (q ∙ sym (List·getD-eq-default l noMessage (omega arith)))
+
+pub order-there : (l : List Order) (i : ℕ) → i < 16 → length l ≡ 16
+    → getD l i (record { root = 0; marks = []; values = []; bound = []; remembered = []; kept = 0 }) ≡ getD l i noOrder
+order-there l i h e = same-there l i _ noOrder (omega arith)
+
+pub order-none : (l : List Order) (i : ℕ) → 16 ≤ i → length l ≡ 16 → {o : Order} → o ≡ noOrder → o ≡ getD l i noOrder
+order-none l i h e q = q ∙ sym (List·getD-eq-default l noOrder (omega arith))
+
+pub put-out : (l : List Order) (i : ℕ) (o : Order) → 16 ≤ i → length l ≡ 16 → l ≡ set l i o
+put-out l i o h e = sym (set-out l i o (omega arith))
+
+pub with-is : (s : State) (i : ℕ) (o : Order) {l : List Order} → l ≡ set (s .orders) i o
+    → _≡_ {A = State} (record { plan = s .plan; length = s .length; orders = l; messages = s .messages; waiting = s .waiting }) (withOrder i o s)
+with-is s i o e = rw e
+
+-- `counted`, `count_start`, `count_end`
+pub counted-more : (n : ℕ) → n < 4294967295 → n + 1 ≡ counted n
+counted-more n h = rw (lt-ltb _ _ h)
+
+pub counted-full : (n : ℕ) → 4294967295 ≤ n → n ≡ counted n
+counted-full n h = rw (le-ltb _ _ h)
+
+module _ (y : Tally) where
+  pub start-is : {n : ℕ} → n ≡ counted (y .started)
+      → _≡_ {A = Tally} (record { started = n; well = y .well; handled = y .handled; failed = y .failed; left = y .left }) (countStart y)
+  start-is e = rw e
+
+  pub none-is : {e : End} → e ≡ None → y ≡ countEnd e y
+  unfolding countEnd
+  none-is q = rw q
+
+  pub well-is : {e : End} → e ≡ Well → {n : ℕ} → n ≡ counted (y .well)
+      → _≡_ {A = Tally} (record { started = y .started; well = n; handled = y .handled; failed = y .failed; left = y .left }) (countEnd e y)
+  unfolding countEnd
+  well-is q e = rw (q, e)
+
+  pub handled-is : {e : End} → e ≡ Handled → {n : ℕ} → n ≡ counted (y .handled)
+      → _≡_ {A = Tally} (record { started = y .started; well = y .well; handled = n; failed = y .failed; left = y .left }) (countEnd e y)
+  unfolding countEnd
+  handled-is q e = rw (q, e)
+
+  pub failed-is : {e : End} → e ≡ Failed → {n : ℕ} → n ≡ counted (y .failed)
+      → _≡_ {A = Tally} (record { started = y .started; well = y .well; handled = y .handled; failed = n; left = y .left }) (countEnd e y)
+  unfolding countEnd
+  failed-is q e = rw (q, e)
+
+  pub left-is : {e : End} → e ≡ Left → {n : ℕ} → n ≡ counted (y .left)
+      → _≡_ {A = Tally} (record { started = y .started; well = y .well; handled = y .handled; failed = y .failed; left = n }) (countEnd e y)
+  unfolding countEnd
+  left-is q e = rw (q, e)
+
+-- `moved_in`
+pub moved-in-is : (s : State) (i k j : ℕ) (m : Next) (y : Tally) {u : State} {z : Tally} → u ≡ withOrder i (m .order) s → z ≡ countEnd (m .end) y
+    → _≡_ {A = Stepped} (record { answer = record { refusal = 0; slot = i; activity = k; place = j; end = m .end }; state = u; tally = z }) (movedIn s i k j m y)
+moved-in-is s i k j m y e f = rw (e, f)
+
+-- `step_slot`
+pub slot-steps : (t : List ℕ) (n : ℕ) (s : State) (o : Order) (i k j : ℕ) (y : Tally) {xs : List ℕ} {q : Order} {m : Next} {u : State} {r : Stepped}
+    → xs ≡ getD (s .messages) j noMessage .values → TakesOrder t n k xs o q → StepsOrder t n k q m → MovesMessages t n s o k j u → r ≡ movedIn u i k j m y
+    → StepsSlot t n s o i k j y r
+unfolding calls.stepped
+slot-steps t n s o i k j y {xs} {q} {m} {u} {r} e a b c f = record {
+  is = λ p sp w g.
+      let l : Message = getD (s .messages) j noMessage in
+      let h : q ≡ orderTaking (doingAt p k) l o = a .is p sp ∙ ap (λ (z : List ℕ). taking p k z o) e ∙ takes-same p k (g .inside) l o in
+      let x : closings q ≡ closings o = ap closings h ∙ take-closings (doingAt p k) l o in
+      let v : m ≡ nextOf (stepOrder p k q) = b .is p sp (ap (roomPlan p k) x ∙ good-room g) in
+      let z : m ≡ nextOf (stepOrder p k (orderTaking (doingAt p k) l o)) = v ∙ ap (λ (d : Order). nextOf (stepOrder p k d)) h in
+      f ∙ rw (c .is p sp w g, z);
+}
+
+-- `take_offer`
+same-bare : (p : Plan) (x : Offer) (s : State) (y : Tally) (o : Order) (l k : List Event) → bare (calls.stepped p x s y o l) ≡ bare (calls.stepped p x s y o k)
+unfolding calls.stepped
+same-bare p x s y o l k = refl
+
+module _ (t : List ℕ) (n : ℕ) (s : State) (i k j : ℕ) (y : Tally) {o : Order} (e : o ≡ getD (s .orders) i noOrder) where
+  fine : (p : Plan) (c : ℕ) → choosing (offersOf p s) c ≡ chosen (offering i k j) → Good p (s .waiting) (actor p (s .orders) i) k j
+  fine p c h = chosen-fine p s c (offering i k j) h .good
+
+  pub take-starts : o .root ≡ 0 → {new : Order} {z : Tally} {r : Stepped} → StartsOrder t new → z ≡ countStart y → StepsSlot t n s new i k j z r
+      → TakesOffer t n s i k j y r
+  unfolding calls.taken
+  take-starts h {new} {z} {r} a b c = record {
+    is = λ p d sp lim f.
+        let v : isLive (getD (s .orders) i noOrder) ≡ false = ap isLive (sym e) ∙ ap not (eq-eqb (o .root) 0 h) in
+        let w : actor p (s .orders) i ≡ new = pick-false (isLive (getD (s .orders) i noOrder)) _ _ v ∙ sym (a .is p n sp) in
+        let g : Good p (s .waiting) new k j = subst (λ (q : Order). Good p (s .waiting) q k j) w (fine p d f) in
+        let u : r ≡ bare (calls.stepped p (offering i k j) s (countStart y) (startedOrder p) []) =
+        c .is p sp (limits-letters s lim .0) g
+        ∙ ap (λ (q : Tally). bare (calls.stepped p (offering i k j) s q new [])) b
+        ∙ ap (λ (q : Order). bare (calls.stepped p (offering i k j) s (countStart y) q [])) (a .is p n sp) in
+        u ∙ same-bare p (offering i k j) s (countStart y) (startedOrder p) [] (started ∷ begunOrder p .log)
+        ∙ sym (ap bare (pick-false (isLive (getD (s .orders) i noOrder)) _ _ v));
+  }
+
+  pub take-steps : (o .root ≡ 0 → ⊥) → {r : Stepped} → StepsSlot t n s o i k j y r → TakesOffer t n s i k j y r
+  unfolding calls.taken
+  take-steps h {r} c = record {
+    is = λ p d sp lim f.
+        let v : isLive (getD (s .orders) i noOrder) ≡ true = ap isLive (sym e) ∙ ap not (ne-eqb (o .root) 0 h) in
+        let w : actor p (s .orders) i ≡ o = pick-true (isLive (getD (s .orders) i noOrder)) _ _ v ∙ sym e in
+        let g : Good p (s .waiting) o k j = subst (λ (q : Order). Good p (s .waiting) q k j) w (fine p d f) in
+        c .is p sp (limits-letters s lim .0) g
+        ∙ ap (λ (q : Order). bare (calls.stepped p (offering i k j) s y q [])) e
+        ∙ sym (ap bare (pick-true (isLive (getD (s .orders) i noOrder)) _ _ v));
+  }

@@ -1,0 +1,71 @@
+-- The code's answers for a step, by what the definitions say. Assumes nothing: these are definitions.
+use Prim.Native.Nat.{ℕ, _+_, _*_, _<_, _≤_}
+use mathlib.Core.Bool.{Bool, true, false}
+use mathlib.Core.List.{List, []}
+use mathlib.Core.Path.{_≡_}
+use lib.ListN.{getD}
+use Rattle.plan.specs.Tree.{Plan, size}
+use Rattle.order.specs.declared.Order.{Order}
+use Rattle.order.specs.declared.Next.{Next}
+use Rattle.order.specs.Answering.{Names, Spelled}
+use Rattle.order.specs.Lists.{stored}
+use Rattle.order.specs.State.{valueOf}
+use Rattle.machine.specs.declared.State.{State}
+use Rattle.step.specs.declared.Stepped.{Stepped}
+use Rattle.machine.specs.declared.Tally.{Tally}
+use Rattle.machine.specs.Calls as calls
+use Rattle.machine.specs.Calls.{doingAt, valuesOf, messagesAfter, answering, countEnd, choosing, chosen}
+use Rattle.machine.specs.Fit.{sends}
+use Rattle.machine.specs.Limits.{inLimits}
+use Rattle.machine.specs.Offer.{offering, sendHeld, offersOf}
+use Rattle.machine.specs.State.{withOrder}
+use Rattle.laws.specs.Good.{Good}
+use Rattle.offer.specs.Having.{Has}
+
+-- a step without its log
+abbrev pub bare : calls.Stepped → Stepped
+bare r = record { answer = r .answer; state = r .state; tally = r .tally }
+
+-- r is the value of variable v
+pub record Worths (o : Order) (v r : ℕ) : Type 0 where
+  pub is : v < 16 → r ≡ valueOf o v
+
+-- r are the values of the variables that row k names
+pub record SentValues (t : List ℕ) (k : ℕ) (o : Order) (r : List ℕ) : Type 0 where
+  pub is : (vs : List ℕ) → Names t k vs → r ≡ stored 4 (valuesOf o vs)
+
+-- row k sends this
+pub record SendRow (a b : ℕ) (vs : List ℕ) (k : ℕ) (t : List ℕ) : Type 0 where
+  pub partner : getD t (k * 13 + 1) 0 ≡ a
+  pub operation : getD t (k * 13 + 2) 0 ≡ b
+  pub names : Names t k vs
+
+-- r is the state after the send in row k
+pub record Sends (t : List ℕ) (k : ℕ) (o : Order) (s r : State) : Type 0 where
+  pub is : (a b : ℕ) (vs : List ℕ) (j : ℕ) → SendRow a b vs k t → sendHeld (s .waiting) o vs ≡ false → r ≡ messagesAfter (sends a b vs) j o s
+
+-- r is the state after what the step of activity k does to the messages
+pub record MovesMessages (t : List ℕ) (activities : ℕ) (s : State) (o : Order) (k j : ℕ) (r : State) : Type 0 where
+  pub is : (p : Plan) → Spelled p activities t → s .waiting ≤ 64 → Good p (s .waiting) o k j → r ≡ messagesAfter (doingAt p k) j o s
+
+-- r is what the step of activity k in an order leads to, its slot written back
+pub record StepsSlot (t : List ℕ) (activities : ℕ) (s : State) (o : Order) (i k j : ℕ) (y : Tally) (r : Stepped) : Type 0 where
+  pub is : (p : Plan) → Spelled p activities t → s .waiting ≤ 64 → Good p (s .waiting) o k j → r ≡ bare (calls.stepped p (offering i k j) s y o [])
+
+-- the answer, the state and the tally where an order moved to this
+abbrev pub movedIn : State → (slot activity place : ℕ) → Next → Tally → Stepped
+movedIn s i k j m y =
+    record {
+      answer = answering (offering i k j) (m .end);
+      state = withOrder i (m .order) s;
+      tally = countEnd (m .end) y;
+    }
+
+-- r is what the offer with this slot, activity and place leads to
+pub record TakesOffer (t : List ℕ) (activities : ℕ) (s : State) (i k j : ℕ) (y : Tally) (r : Stepped) : Type 0 where
+  pub is : (p : Plan) (c : ℕ) → Spelled p activities t → inLimits s ≡ true → choosing (offersOf p s) c ≡ chosen (offering i k j)
+      → r ≡ bare (calls.taken p (offering i k j) s y)
+
+-- r is what the step with a choice gives in a state that has the plan with this table and these flags
+pub record StepsBy (t flags : List ℕ) (activities : ℕ) (s : State) (c : ℕ) (y : Tally) (r : Stepped) : Type 0 where
+  pub is : Has t flags activities s → r ≡ bare (calls.step c s y)

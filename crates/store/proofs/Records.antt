@@ -1,0 +1,60 @@
+-- The parts of a state, each read as its parts are. Assumes nothing.
+use mathlib.Core.Path.{_≡_, refl, _∙_, sym}
+use mathlib.Core.Bool.{true, false}
+use mathlib.Core.List.{List}
+use Prim.Native.Nat.{ℕ, _+_}
+use native.Mathlib.Nat.{add-zero}
+use borrow.Author.Tests.{ne-eqb}
+use lib.ListN.{length, getD, take, drop}
+use lib.Seq.{drop-drop, getD-drop}
+use Rattle.order.specs.declared.Order.{Order}
+use Rattle.machine.specs.declared.Message.{Message}
+use Rattle.machine.specs.declared.State.{State}
+use Rattle.machine.specs.declared.Tally.{Tally}
+use Rattle.machine.specs.State.{unplanned, noTally}
+use Rattle.store.specs.declared.Kept.{Kept}
+use Rattle.store.specs.Bytes.{valued, numberIn, manyIn}
+use Rattle.store.specs.Packed.{tallyIn, messageIn, orderIn, stateIn, holds, keptAs, unpacked}
+
+module _ (s : List ℕ) (at : ℕ) where
+  pub tally-is : {a b c d e : ℕ} → a ≡ numberIn 4 (drop at s) → b ≡ numberIn 4 (drop (at + 4) s) → c ≡ numberIn 4 (drop (at + 8) s)
+      → d ≡ numberIn 4 (drop (at + 12) s) → e ≡ numberIn 4 (drop (at + 16) s)
+      → _≡_ {A = Tally} (record { started = a; well = b; handled = c; failed = d; left = e }) (tallyIn (drop at s))
+  unfolding tallyIn
+  tally-is f g h i j = simp (drop-drop, f, g, h, i, j)
+
+  pub message-is : {a b c : ℕ} {v : List ℕ} → a ≡ numberIn 4 (drop at s) → b ≡ numberIn 4 (drop (at + 4) s) → c ≡ numberIn 4 (drop (at + 8) s)
+      → v ≡ manyIn (numberIn 4) 4 4 (drop (at + 12) s)
+      → _≡_ {A = Message} (record { partner = a; operation = b; count = c; values = v }) (messageIn (drop at s))
+  unfolding messageIn
+  message-is f g h i = simp (drop-drop, f, g, h, i)
+
+  pub order-is : {m v b r : List ℕ} {k : ℕ} → m ≡ take 256 (drop (at + 1) s) → v ≡ manyIn (numberIn 4) 4 16 (drop (at + 257) s)
+      → b ≡ take 16 (drop (at + 321) s) → r ≡ take 32 (drop (at + 337) s) → k ≡ numberIn 8 (drop (at + 369) s)
+      → _≡_ {A = Order} (record { root = getD s at 0; marks = m; values = v; bound = b; remembered = r; kept = k }) (orderIn (drop at s))
+  unfolding orderIn
+  order-is f g h i j = simp (drop-drop, getD-drop, add-zero, f, g, h, i, j)
+
+  pub state-is : {p : List ℕ} {n w : ℕ} {o : List Order} {m : List Message} → p ≡ take 4096 (drop (at + 8) s) → n ≡ numberIn 8 (drop at s)
+      → w ≡ numberIn 8 (drop (at + 4104) s) → m ≡ manyIn messageIn 28 64 (drop (at + 4112) s) → o ≡ manyIn orderIn 377 16 (drop (at + 5904) s)
+      → _≡_ {A = State} (record { plan = p; length = n; orders = o; messages = m; waiting = w }) (stateIn (drop at s))
+  unfolding stateIn
+  state-is f g h i j = simp (drop-drop, f, g, h, i, j)
+
+-- `nothing`, `unpack`
+pub nothing-is : {s : State} {t : Tally} → s ≡ unplanned → t ≡ noTally → keptAs true s t ≡ keptAs true unplanned noTally
+nothing-is e f = rw (e, f)
+
+module _ (s : List ℕ) where
+  pub unpack-is : {x : State} {t : Tally} → length s ≡ 11964 → numberIn 8 s ≡ 3552285984895749965 → t ≡ tallyIn (drop 8 s) → x ≡ stateIn (drop 28 s)
+      → keptAs false x t ≡ unpacked s
+  unfolding unpacked holds valued
+  unpack-is e f g h = rw (e, f, g, h)
+
+  pub unpack-mark : {k : Kept} → length s ≡ 11964 → (numberIn 8 s ≡ 3552285984895749965 → ⊥) → k ≡ keptAs true unplanned noTally → k ≡ unpacked s
+  unfolding unpacked holds valued
+  unpack-mark e f g = rw (e, ne-eqb (numberIn 8 s) 3552285984895749965 f, g)
+
+  pub unpack-size : {k : Kept} → (length s ≡ 11964 → ⊥) → k ≡ keptAs true unplanned noTally → k ≡ unpacked s
+  unfolding unpacked holds
+  unpack-size e g = rw (ne-eqb (length s) 11964 e, g)

@@ -1,0 +1,48 @@
+-- `store::writing::put_order` meets its contract. Assumes nothing.
+use borrow.Author.Needs.{needs}
+use Rattle.store.proofs.Parts.{room-bytes, room-fours, order-put}
+use mathlib.Core.Path.{sym}
+use native.Mathlib.Omega.{arith}
+use Rattle.store.proofs.Whole.{order-whole}
+use Rattle.store.proofs.writing.put_order.Statement.{statement}
+use Rattle.store.proofs.writing.put_order.Tie as tie
+
+ruleset cases = (order-put)
+
+pub put-order-spec : {M : Type 1} → statement M
+put-order-spec =
+    tie.close (tie.spec
+    -- put-byte-requires
+    (λ c κs. search needs)
+    -- add-put-bytes
+    (λ c. search needs)
+    -- slice-aggregate-put-bytes
+    (λ c. search needs)
+    -- put-bytes-requires
+    (λ c κs. let a = c .before .before .before .before .before in let b = a .before .before .before in let w = order-whole (b .args .o) _ (b .good .1 .1 .0) in room-bytes 256 _ (b .args .o .marks) (w .marks-long) (omega (arith, b .pre, a .put-byte .kept)))
+    -- add-put-fours
+    (λ c. search needs)
+    -- slice-aggregate-put-fours
+    (λ c. search needs)
+    -- put-fours-requires
+    (λ c κs. let a = c .before .before .before .before .before in let b = a .before .before .before .before .before .before in let d = b .before .before .before in let w = order-whole (d .args .o) _ (d .good .1 .1 .0) in room-fours 16 _ (d .args .o .values) (w .values-long) (omega (arith, d .pre, b .put-byte .kept, a .put-bytes .kept)))
+    -- add-put-bytes-2
+    (λ c. search needs)
+    -- slice-aggregate-put-bytes-2
+    (λ c. search needs)
+    -- put-bytes-requires-2
+    (λ c κs. let a = c .before .before .before .before .before in let b = a .before .before .before .before .before .before in let d = b .before .before .before .before .before .before in let e = d .before .before .before in let w = order-whole (e .args .o) _ (e .good .1 .1 .0) in room-bytes 16 _ (e .args .o .bound) (w .bound-long) (omega (arith, e .pre, d .put-byte .kept, b .put-bytes .kept, a .put-fours .kept)))
+    -- add-put-bytes-3
+    (λ c. search needs)
+    -- slice-aggregate-put-bytes-3
+    (λ c. let a = c .before .before .before .before .before .before .before .before .before .before .before .before .before .before .before .before .before .before .before .before .before .before .before .before .before .before in sym (order-whole (a .args .o) _ (a .good .1 .1 .0) .remembered-long))
+    -- put-bytes-requires-3
+    (λ c κs. let a = c .before .before .before .before .before in let b = a .before .before .before .before .before .before in let d = b .before .before .before .before .before .before in let e = d .before .before .before .before .before .before in let f = e .before .before .before in let w = order-whole (f .args .o) _ (f .good .1 .1 .0) in room-bytes 32 _ (f .args .o .remembered) (w .remembered-long) (omega (arith, f .pre, e .put-byte .kept, d .put-bytes .kept, b .put-fours .kept, a .put-bytes2 .kept)))
+    -- add-put-eight
+    (λ c. search needs)
+    -- put-eight-requires
+    (λ c κs. let a = c .before .before .before in let b = a .before .before .before .before .before .before in let d = b .before .before .before .before .before .before in let e = d .before .before .before .before .before .before in let f = e .before .before .before .before .before .before in let g = f .before .before .before in omega (arith, g .pre, f .put-byte .kept, e .put-bytes .kept, d .put-fours .kept, b .put-bytes2 .kept, a .put-bytes3 .kept))
+    -- same-length
+    (λ c. let a = c .before .before in let b = a .before .before .before .before in let d = b .before .before .before .before .before .before in let e = d .before .before .before .before .before .before in let f = e .before .before .before .before .before .before in let g = f .before .before .before .before .before .before in omega (arith, g .put-byte .kept, f .put-bytes .kept, e .put-fours .kept, d .put-bytes2 .kept, b .put-bytes3 .kept, a .put-eight .kept))
+    -- returns
+    (λ c. let a = c .before .before in let b = a .before .before .before .before in let d = b .before .before .before .before .before .before in let e = d .before .before .before .before .before .before in let f = e .before .before .before .before .before .before in let g = f .before .before .before .before .before .before in let h = g .before .before .before in order-put (h .args .o) (order-whole (h .args .o) _ (h .good .1 .1 .0)) (g .put-byte .ensures) (f .put-bytes .ensures) (e .put-fours .ensures) (d .put-bytes2 .ensures) (b .put-bytes3 .ensures) (a .put-eight .ensures)))

@@ -1,0 +1,344 @@
+-- The starts, closings, raises and leaves that a step logs: its own, and no others. Assumes nothing.
+use Prim.Native.Nat.{ℕ, _+_}
+use mathlib.Core.Path.{_≡_, refl, sym, ap, _∙_}
+use mathlib.Core.Bool.{Bool, true, false, cond, _&&_, _||_}
+use mathlib.Core.List.{List, [], _∷_, _++_}
+use lib.Dec.{eqb, ltb}
+use Rattle.plan.specs.Tree.{Exp, constant, variable, binary, Own, empty, send, receive, set as setting, raise, leave, choose, repeat, sequence, flow, pick, scope, arm, kind, Act, act, Acts, none, more, Plan, size, sizes}
+use Rattle.order.specs.declared.Order.{Order}
+use Rattle.order.specs.declared.End.{End}
+use Rattle.order.specs.declared.End.the-variants.{None, Well, Handled, Failed, Left}
+use Rattle.machine.specs.declared.Message.{Message}
+use Rattle.order.specs.Lists.{only}
+use Rattle.order.specs.State.{root, inside, binding, noOrder, marked, markOf, marking, markAt, withMarks, faulty, halted, active, undoing, withdrawing, handling, done}
+use Rattle.order.specs.Expression.{Value, fault, value, evaluate, isTrue}
+use Rattle.order.specs.Event.{Event, started, faulted, ended, raised}
+use Rattle.order.specs.Begin.{Begun, beginAfter, beginPart, partAt, quiet, cleared}
+use Rattle.order.specs.declared.Way.{Way as Result}
+use Rattle.order.specs.declared.Way.the-variants.{Running as running, Over as over, Raising as raising, Leaving as leaving, Undone as undone, UndoRaising as undoRaising}
+use Rattle.order.specs.Scope.{Outcome, runs, begunIn, whereOver, Scope, scopeAt, rootOf, isOpen, closing, ends, undoes, turns, stop, faults, breaks, looksAgain, bodyOver, bodyRaised, undoOver, undoRaised, fromBody, partOver, partRaised, fromFault, fromUndo}
+use Rattle.order.specs.Acting.{finishes, orRaises, enters, again, repeats, allBound, itself, isPart, arms, goesOn, joins, inScope, combines, stepIn, stepAmong, stepRoot, endOf, movedTo, stepOrder, begunOrder}
+use Rattle.machine.specs.Fit.{Doing, doingOf}
+use Rattle.machine.specs.Calls.{doingIn, doingAmong, doingAt, orderTaking}
+use Rattle.undoing.specs.Ties.{isDeed, isFault, deedOf, deedIn, deedAmong, deedAt}
+use Rattle.undoing.proofs.Parts.{decide}
+use Rattle.undoing.proofs.Aside.{Aside, silent-append, silent-after, begin-silent, after-silent, part-silent, where-silent, outcome-either, runs-silent, ends-silent, undoes-silent, turns-on-silent, stop-silent}
+
+-- nothing but a step's own event is a deed
+deeds-aside : Aside isDeed
+unfolding isDeed
+deeds-aside = record { begins = λ k. refl; stops = λ k. refl; ends = λ n. refl }
+
+-- no deed in a log
+abbrev Still : List Event → Type 0
+Still l = only isDeed l ≡ []
+
+-- what a scope does of itself
+faults-still : (s : Scope) (o : Order) → Still (faults s o .log)
+unfolding faults only isDeed
+faults-still s o =
+    let r = stop (s .body) (s .bodyAt) (marking (s .name) faulty o) in
+    silent-append isDeed deeds-aside (faulted (s .name) ∷ r .log) (turns true s (r .order) .log)
+    (stop-silent isDeed deeds-aside (s .body) (s .bodyAt) (marking (s .name) faulty o)) (turns-on-silent isDeed deeds-aside true s (r .order))
+
+breaks-still : (s : Scope) (o : Order) → Still (breaks s o .log)
+unfolding breaks only isDeed
+breaks-still s o = refl
+
+-- one of two
+either : (b : Bool) (x y z : Outcome) → z ≡ elim b [ true ↦ x | false ↦ y ] → Still (x .log) → Still (y .log) → Still (z .log)
+either b x y z e h g = outcome-either isDeed deeds-aside b x y h g z e
+
+looks-still : (s : Scope) (o : Order) → Still (looksAgain s o .log)
+unfolding looksAgain
+looks-still s o =
+    either (eqb (markOf (s .name) o) faulty) (turns true s o) (elim (eqb (markOf (s .name) o) halted) [ true ↦ turns false s o | false ↦ runs o ]) (looksAgain s o) refl
+    (turns-on-silent isDeed deeds-aside true s o)
+    (either (eqb (markOf (s .name) o) halted) (turns false s o) (runs o) (elim (eqb (markOf (s .name) o) halted) [ true ↦ turns false s o | false ↦ runs o ]) refl
+    (turns-on-silent isDeed deeds-aside false s o) (runs-silent isDeed deeds-aside o))
+
+over-still : (s : Scope) (o : Order) → Still (bodyOver s o .log)
+unfolding bodyOver
+over-still s o =
+    either (eqb (markOf (s .name) o) active) (runs (marking (s .name) done o)) (looksAgain s o) (bodyOver s o) refl
+    (runs-silent isDeed deeds-aside (marking (s .name) done o)) (looks-still s o)
+
+raised-still : (s : Scope) (o : Order) → Still (bodyRaised s o .log)
+unfolding bodyRaised
+raised-still s o = either (isOpen (markOf (s .name) o)) (faults s o) (looksAgain s o) (bodyRaised s o) refl (faults-still s o) (looks-still s o)
+
+undo-over-still : (s : Scope) (o : Order) → Still (undoOver s o .log)
+unfolding undoOver
+undo-over-still s o =
+    either (eqb (markOf (s .name) o) undoing) (undoes true s o) (elim (eqb (markOf (s .name) o) withdrawing) [ true ↦ undoes false s o | false ↦ runs o ]) (undoOver s o) refl
+    (undoes-silent isDeed deeds-aside true s o)
+    (either (eqb (markOf (s .name) o) withdrawing) (undoes false s o) (runs o) (elim (eqb (markOf (s .name) o) withdrawing) [ true ↦ undoes false s o | false ↦ runs o ]) refl
+    (undoes-silent isDeed deeds-aside false s o) (runs-silent isDeed deeds-aside o))
+
+undo-raised-still : (s : Scope) (o : Order) → Still (undoRaised s o .log)
+unfolding undoRaised
+undo-raised-still s o =
+    either (eqb (markOf (s .name) o) undoing || eqb (markOf (s .name) o) withdrawing) (breaks s o) (runs o) (undoRaised s o) refl (breaks-still s o) (runs-silent isDeed deeds-aside o)
+
+-- what it makes of a step in it
+pub body-deeds : (s : Scope) (r : Outcome) → only isDeed (fromBody s r .log) ≡ only isDeed (r .log)
+unfolding fromBody
+body-deeds s r = go (r .result)
+  where
+    go : (x : Result) → only isDeed (fromBody s (record { result = x; order = r .order; log = r .log }) .log) ≡ only isDeed (r .log)
+    go running = silent-after isDeed deeds-aside (r .log) (looksAgain s (r .order) .log) (looks-still s (r .order))
+    go over = silent-after isDeed deeds-aside (r .log) (bodyOver s (r .order) .log) (over-still s (r .order))
+    go raising = silent-after isDeed deeds-aside (r .log) (bodyRaised s (r .order) .log) (raised-still s (r .order))
+    go leaving = refl
+    go undone = silent-after isDeed deeds-aside (r .log) (undoOver s (r .order) .log) (undo-over-still s (r .order))
+    go undoRaising = silent-after isDeed deeds-aside (r .log) (undoRaised s (r .order) .log) (undo-raised-still s (r .order))
+
+part-over-still : (s : Scope) (o : Order) → Still (partOver s o .log)
+unfolding partOver
+part-over-still s o = either (eqb (markOf (s .name) o) handling) (ends s o) (runs o) (partOver s o) refl (ends-silent isDeed deeds-aside s o) (runs-silent isDeed deeds-aside o)
+
+part-raised-still : (s : Scope) (o : Order) → Still (partRaised s o .log)
+unfolding partRaised
+part-raised-still s o = either (eqb (markOf (s .name) o) handling) (breaks s o) (runs o) (partRaised s o) refl (breaks-still s o) (runs-silent isDeed deeds-aside o)
+
+pub fault-deeds : (s : Scope) (r : Outcome) → only isDeed (fromFault s r .log) ≡ only isDeed (r .log)
+unfolding fromFault
+fault-deeds s r = go (r .result)
+  where
+    go : (x : Result) → only isDeed (fromFault s (record { result = x; order = r .order; log = r .log }) .log) ≡ only isDeed (r .log)
+    go running = refl
+    go over = silent-after isDeed deeds-aside (r .log) (partOver s (r .order) .log) (part-over-still s (r .order))
+    go raising = silent-after isDeed deeds-aside (r .log) (partRaised s (r .order) .log) (part-raised-still s (r .order))
+    go leaving = refl
+    go undone = refl
+    go undoRaising = refl
+
+-- what follows a step where that is over
+where-deeds : (g : Order → Outcome) (r : Outcome) → ((o : Order) → Still (g o .log)) → only isDeed (whereOver g r .log) ≡ only isDeed (r .log)
+where-deeds g r e = go (r .result)
+  where
+    go : (x : Result) → only isDeed (whereOver g (record { result = x; order = r .order; log = r .log }) .log) ≡ only isDeed (r .log)
+    go running = refl
+    go over = silent-after isDeed deeds-aside (r .log) (g (r .order) .log) (e (r .order))
+    go raising = refl
+    go leaving = refl
+    go undone = refl
+    go undoRaising = refl
+
+goes-deeds : (k m : ℕ) (g : Order → Outcome) (r : Outcome) → ((o : Order) → Still (g o .log)) → only isDeed (goesOn k m g r .log) ≡ only isDeed (r .log)
+unfolding goesOn
+goes-deeds k m g r e =
+    where-deeds (λ o. elim (eqb (markAt k o) m) [ true ↦ g o | false ↦ runs o ]) r
+    (λ o. either (eqb (markAt k o) m) (g o) (runs o) (elim (eqb (markAt k o) m) [ true ↦ g o | false ↦ runs o ]) refl (e o) (runs-silent isDeed deeds-aside o))
+
+finishes-still : (k : ℕ) (o : Order) → Still (finishes k o .log)
+unfolding only
+finishes-still k o = refl
+
+joins-still : (k : ℕ) (within : Acts) (o : Order) → Still (joins k within o .log)
+unfolding joins
+joins-still k within o =
+    either (quiet (k + 1) (sizes within) (o .marks)) (finishes k o) (runs o) (joins k within o) refl (finishes-still k o) (runs-silent isDeed deeds-aside o)
+
+scope-deeds : (k t : ℕ) (within : Acts) (r : Outcome) → only isDeed (inScope k t within r .log) ≡ only isDeed (r .log)
+unfolding inScope fromUndo
+scope-deeds k t within r =
+    decide (ltb t (partAt 1 within (k + 1)))
+    (λ e. rw (e, inScope) (body-deeds (scopeAt k within) r))
+    (λ e. decide (ltb t (partAt 2 within (k + 1))) (λ d. rw (e, d, inScope) (fault-deeds (scopeAt k within) r)) (λ d. rw (e, d, inScope) refl))
+
+combines-deeds : (own : Own) (within : Acts) (k t : ℕ) (r : Outcome) → only isDeed (combines own within k t r .log) ≡ only isDeed (r .log)
+unfolding combines only
+combines-deeds empty within k t r = refl
+combines-deeds (send p op vs) within k t r = refl
+combines-deeds (receive p op vs) within k t r = refl
+combines-deeds (setting v e) within k t r = refl
+combines-deeds raise within k t r = refl
+combines-deeds leave within k t r = refl
+combines-deeds (choose e) within k t r = goes-deeds k inside (finishes k) r (finishes-still k)
+combines-deeds (repeat e) within k t r = goes-deeds k inside (again k) r (λ o. refl)
+combines-deeds sequence within k t r =
+    goes-deeds k active (λ o. whereOver (finishes k) (begunIn o (beginAfter within (k + 1) t (o .marks)))) r
+    (λ o. where-silent isDeed deeds-aside (finishes k) (begunIn o (beginAfter within (k + 1) t (o .marks))) (after-silent isDeed deeds-aside within (k + 1) t (o .marks)) (finishes-still k))
+combines-deeds flow within k t r = goes-deeds k active (joins k within) r (joins-still k within)
+combines-deeds pick within k t r = goes-deeds k inside (finishes k) r (finishes-still k)
+combines-deeds scope within k t r = scope-deeds k t within r
+combines-deeds (arm p op vs) within k t r = refl
+
+-- The step of an activity.
+enters-still : (k : ℕ) (o : Order) (b : Begun) → Still (b .log) → Still (enters k o b .log)
+enters-still k o b h = where-silent isDeed deeds-aside (finishes k) (begunIn (marked k inside o) b) h (finishes-still k)
+
+repeats-still : (k : ℕ) (within : Acts) (o : Order) → Still (repeats k within o .log)
+unfolding repeats only
+repeats-still k within o =
+    let o₁ = marked k inside (withMarks (cleared (k + 1) (sizes within) (o .marks)) o) in
+    where-silent isDeed deeds-aside (again k) (begunIn o₁ (beginPart 0 within (k + 1) (o₁ .marks))) (part-silent isDeed deeds-aside 0 within (k + 1) (o₁ .marks)) (λ o₂. refl)
+
+-- an expression that faults, or the step itself
+or-raises : (k : ℕ) (o : Order) (g : ℕ → Outcome) (v : Value) → ((n : ℕ) → Still (g n .log))
+    → only isDeed (orRaises k o g v .log) ≡ cond (isFault v) (raised k ∷ []) []
+unfolding only isDeed
+or-raises k o g fault h = refl
+or-raises k o g (value n) h = h n
+
+itself-deeds : (own : Own) (within : Acts) (k : ℕ) (o : Order) → only isDeed (itself own within k o .log) ≡ deedOf own k o
+unfolding itself closing deedOf only isDeed
+itself-deeds empty within k o = refl
+itself-deeds (send p op vs) within k o = decide (allBound o vs) (λ e. rw e) (λ e. rw e)
+itself-deeds (receive p op vs) within k o = refl
+itself-deeds (setting v e) within k o = or-raises k o (λ n. finishes k (binding v n o)) (evaluate e o) (λ n. refl)
+itself-deeds raise within k o = refl
+itself-deeds leave within k o = refl
+itself-deeds (choose e) within k o =
+    or-raises k o (λ n. enters k o (beginPart (cond (isTrue n) 0 1) within (k + 1) (marked k inside o .marks))) (evaluate e o)
+    (λ n. enters-still k o (beginPart (cond (isTrue n) 0 1) within (k + 1) (marked k inside o .marks)) (part-silent isDeed deeds-aside (cond (isTrue n) 0 1) within (k + 1) (marked k inside o .marks)))
+itself-deeds (repeat e) within k o =
+    or-raises k o (λ n. elim (isTrue n) [ true ↦ repeats k within o | false ↦ finishes k o ]) (evaluate e o)
+    (λ n. either (isTrue n) (repeats k within o) (finishes k o) (elim (isTrue n) [ true ↦ repeats k within o | false ↦ finishes k o ]) refl (repeats-still k within o) (finishes-still k o))
+itself-deeds sequence within k o = refl
+itself-deeds flow within k o = refl
+itself-deeds pick within k o = refl
+itself-deeds scope within k o = refl
+itself-deeds (arm p op vs) within k o = part-silent isDeed deeds-aside 0 within (k + 1) (o .marks)
+
+-- Marks say nothing of a deed.
+evaluate-marked : (e : Exp) (k m : ℕ) (o : Order) → evaluate e (marked k m o) ≡ evaluate e o
+unfolding evaluate
+evaluate-marked (constant n) k m o = refl
+evaluate-marked (variable v) k m o = refl
+evaluate-marked (binary op l r) k m o = rw (evaluate-marked l k m o, evaluate-marked r k m o)
+
+deed-marked : (own : Own) (j k m : ℕ) (o : Order) → deedOf own j (marked k m o) ≡ deedOf own j o
+unfolding deedOf
+deed-marked empty j k m o = refl
+deed-marked (send p op vs) j k m o = refl
+deed-marked (receive p op vs) j k m o = refl
+deed-marked (setting v e) j k m o = rw (evaluate-marked e k m o)
+deed-marked raise j k m o = refl
+deed-marked leave j k m o = refl
+deed-marked (choose e) j k m o = rw (evaluate-marked e k m o)
+deed-marked (repeat e) j k m o = rw (evaluate-marked e k m o)
+deed-marked sequence j k m o = refl
+deed-marked flow j k m o = refl
+deed-marked pick j k m o = refl
+deed-marked scope j k m o = refl
+deed-marked (arm p op vs) j k m o = refl
+
+-- the same choice of two that are the same
+alike-either : (b : Bool) (x y x′ y′ : List Event) → x ≡ x′ → y ≡ y′ → (z z′ : List Event) → z ≡ elim b [ true ↦ x | false ↦ y ]
+    → z′ ≡ elim b [ true ↦ x′ | false ↦ y′ ] → z ≡ z′
+alike-either true x y x′ y′ e d z z′ h g = h ∙ (e ∙ sym g)
+alike-either false x y x′ y′ e d z z′ h g = h ∙ (d ∙ sym g)
+
+mutual
+  unfolding deedIn
+
+  deeds-marked : (a : Act) (j t k m : ℕ) (o : Order) → deedIn a j t (marked k m o) ≡ deedIn a j t o
+  deeds-marked (act own within) j t k m o =
+      alike-either (eqb j t) _ _ _ _ (deed-marked own j k m o) (deeds-among-marked within (j + 1) t k m o) _ _ refl refl
+
+  deeds-among-marked : (l : Acts) (c t k m : ℕ) (o : Order) → deedAmong l c t (marked k m o) ≡ deedAmong l c t o
+  deeds-among-marked none c t k m o = refl
+  deeds-among-marked (more a l) c t k m o =
+      alike-either (ltb t (c + size a)) _ _ _ _ (deeds-marked a c t k m o) (deeds-among-marked l (c + size a) t k m o) _ _ refl refl
+
+arms-marked : (own : Own) (within : Acts) (k t : ℕ) (o : Order) → deedAmong within (k + 1) t (arms own within k t o) ≡ deedAmong within (k + 1) t o
+unfolding arms
+arms-marked own within k t o =
+    decide (eqb (kind own) 10 && isPart within (k + 1) t) (λ e. rw e (deeds-among-marked within (k + 1) t k inside o)) (λ e. rw e)
+
+-- the logs of the same choice
+log-either : (b : Bool) (x y : Outcome) (x′ y′ : List Event) → only isDeed (x .log) ≡ x′ → only isDeed (y .log) ≡ y′ → (z : Outcome) (z′ : List Event)
+    → z ≡ elim b [ true ↦ x | false ↦ y ] → z′ ≡ elim b [ true ↦ x′ | false ↦ y′ ] → only isDeed (z .log) ≡ z′
+log-either true x y x′ y′ e d z z′ h g = ap (λ (r : Outcome). only isDeed (r .log)) h ∙ (e ∙ sym g)
+log-either false x y x′ y′ e d z z′ h g = ap (λ (r : Outcome). only isDeed (r .log)) h ∙ (d ∙ sym g)
+
+mutual
+  unfolding stepIn deedIn only
+
+  -- a step in a tree logs its deed
+  pub step-deeds : (a : Act) (k t : ℕ) (o : Order) → only isDeed (stepIn a k t o .log) ≡ deedIn a k t o
+  step-deeds (act own within) k t o =
+      log-either (eqb k t) (itself own within k o) (combines own within k t (stepAmong within (k + 1) t (arms own within k t o)))
+      (deedOf own k o) (deedAmong within (k + 1) t o) (itself-deeds own within k o)
+      (combines-deeds own within k t (stepAmong within (k + 1) t (arms own within k t o)) ∙ (among-deeds within (k + 1) t (arms own within k t o) ∙ arms-marked own within k t o))
+      (stepIn (act own within) k t o) (deedIn (act own within) k t o) refl refl
+
+  -- in a list
+  among-deeds : (l : Acts) (c t : ℕ) (o : Order) → only isDeed (stepAmong l c t o .log) ≡ deedAmong l c t o
+  among-deeds none c t o = refl
+  among-deeds (more a l) c t o =
+      log-either (ltb t (c + size a)) (stepIn a c t o) (stepAmong l (c + size a) t o) (deedIn a c t o) (deedAmong l (c + size a) t o)
+      (step-deeds a c t o) (among-deeds l (c + size a) t o) (stepAmong (more a l) c t o) (deedAmong (more a l) c t o) refl refl
+
+-- from the root
+root-deeds : (p : Plan) (t : ℕ) (o : Order) → only isDeed (stepRoot p t o .log) ≡ deedAt p t o
+unfolding stepRoot deedAt
+root-deeds p t o =
+    log-either (ltb t (size (p .body))) (fromBody (rootOf p) (stepIn (p .body) 0 t o)) (fromFault (rootOf p) (stepIn (p .fault) (size (p .body)) t o))
+    (deedIn (p .body) 0 t o) (deedIn (p .fault) (size (p .body)) t o)
+    (body-deeds (rootOf p) (stepIn (p .body) 0 t o) ∙ step-deeds (p .body) 0 t o)
+    (fault-deeds (rootOf p) (stepIn (p .fault) (size (p .body)) t o) ∙ step-deeds (p .fault) (size (p .body)) t o) (stepRoot p t o) (deedAt p t o) refl refl
+
+moved-deeds : (r : Outcome) (e : End) → only isDeed (movedTo r e .log) ≡ only isDeed (r .log)
+unfolding movedTo only isDeed
+moved-deeds r None = refl
+moved-deeds r Well = silent-after isDeed deeds-aside (r .log) (ended root ∷ []) refl
+moved-deeds r Handled = refl
+moved-deeds r Failed = refl
+moved-deeds r Left = refl
+
+-- A step of an order logs its deed.
+pub order-deeds : (p : Plan) (t : ℕ) (o : Order) → only isDeed (stepOrder p t o .log) ≡ deedAt p t o
+unfolding stepOrder
+order-deeds p t o = moved-deeds (stepRoot p t o) (endOf (stepRoot p t o)) ∙ root-deeds p t o
+
+-- what an order that starts logs before its step
+pub start-deed : (p : Plan) → only isDeed (started ∷ begunOrder p .log) ≡ started ∷ []
+unfolding begunOrder only isDeed noOrder
+start-deed p = ap (λ (l : List Event). started ∷ l) (begin-silent isDeed deeds-aside (p .body) 0 (noOrder .marks))
+
+-- Taking a message says nothing of a deed: what takes one has none.
+deed-taking : (own : Own) (within : Acts) (k : ℕ) (m : Message) (o : Order) → deedOf own k (orderTaking (doingOf own within k) m o) ≡ deedOf own k o
+unfolding deedOf orderTaking doingOf
+deed-taking empty within k m o = refl
+deed-taking (send p op vs) within k m o = refl
+deed-taking (receive p op vs) within k m o = refl
+deed-taking (setting v e) within k m o = refl
+deed-taking raise within k m o = refl
+deed-taking leave within k m o = refl
+deed-taking (choose e) within k m o = refl
+deed-taking (repeat e) within k m o = refl
+deed-taking sequence within k m o = refl
+deed-taking flow within k m o = refl
+deed-taking pick within k m o = refl
+deed-taking scope within k m o = refl
+deed-taking (arm p op vs) within k m o = refl
+
+-- by the same choice of what is done and what is logged
+taking-either : (b : Bool) (d d′ : Doing) (g g′ : Order → List Event) (m : Message) (o : Order) → g (orderTaking d m o) ≡ g o → g′ (orderTaking d′ m o) ≡ g′ o
+    → (z : Doing) (h : Order → List Event) → z ≡ elim b [ true ↦ d | false ↦ d′ ] → ((o : Order) → h o ≡ elim b [ true ↦ g o | false ↦ g′ o ]) → h (orderTaking z m o) ≡ h o
+taking-either true d d′ g g′ m o x y z h e f = ap (λ (v : Doing). h (orderTaking v m o)) e ∙ (f (orderTaking d m o) ∙ (x ∙ sym (f o)))
+taking-either false d d′ g g′ m o x y z h e f = ap (λ (v : Doing). h (orderTaking v m o)) e ∙ (f (orderTaking d′ m o) ∙ (y ∙ sym (f o)))
+
+mutual
+  unfolding deedIn doingIn
+
+  deeds-taking : (a : Act) (k t : ℕ) (m : Message) (o : Order) → deedIn a k t (orderTaking (doingIn a k t) m o) ≡ deedIn a k t o
+  deeds-taking (act own within) k t m o =
+      taking-either (eqb k t) (doingOf own within k) (doingAmong within (k + 1) t) (deedOf own k) (deedAmong within (k + 1) t) m o
+      (deed-taking own within k m o) (deeds-among-taking within (k + 1) t m o) (doingIn (act own within) k t) (deedIn (act own within) k t) refl (λ o₁. refl)
+
+  deeds-among-taking : (l : Acts) (c t : ℕ) (m : Message) (o : Order) → deedAmong l c t (orderTaking (doingAmong l c t) m o) ≡ deedAmong l c t o
+  deeds-among-taking none c t m o = refl
+  deeds-among-taking (more a l) c t m o =
+      taking-either (ltb t (c + size a)) (doingIn a c t) (doingAmong l (c + size a) t) (deedIn a c t) (deedAmong l (c + size a) t) m o
+      (deeds-taking a c t m o) (deeds-among-taking l (c + size a) t m o) (doingAmong (more a l) c t) (deedAmong (more a l) c t) refl (λ o₁. refl)
+
+-- in a plan
+pub plan-taking : (p : Plan) (t : ℕ) (m : Message) (o : Order) → deedAt p t (orderTaking (doingAt p t) m o) ≡ deedAt p t o
+unfolding deedAt doingAt
+plan-taking p t m o =
+    taking-either (ltb t (size (p .body))) (doingIn (p .body) 0 t) (doingIn (p .fault) (size (p .body)) t) (deedIn (p .body) 0 t) (deedIn (p .fault) (size (p .body)) t) m o
+    (deeds-taking (p .body) 0 t m o) (deeds-taking (p .fault) (size (p .body)) t m o) (doingAt p t) (deedAt p t) refl (λ o₁. refl)

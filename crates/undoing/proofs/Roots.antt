@@ -1,0 +1,145 @@
+-- A step of one order, from the root: what it logs is right, and the order stands after it or is over. Assumes nothing.
+use Prim.Native.Nat.{ℕ, _+_, _≤_, _<_}
+use native.Mathlib.Omega.{arith}
+use mathlib.Core.Path.{_≡_, refl, sym, ap, subst, _∙_}
+use mathlib.Core.Bool.{Bool, true, false, cond, false≢true}
+use mathlib.Core.List.{List, [], _∷_}
+use lib.ListN.{length}
+use lib.Dec.{eqb, ltb}
+use borrow.Author.Tests.{eqb-true, eqb-false, lt-ltb, le-ltb}
+use Rattle.plan.specs.Tree.{Plan, size}
+use Rattle.order.specs.declared.Order.{Order}
+use Rattle.order.specs.declared.End.the-variants.{None, Well}
+use Rattle.order.specs.State.{root, done, halted, withdrawing, noOrder}
+use Rattle.order.specs.Event.{Event, ended}
+use Rattle.order.specs.declared.Way.{Way as Result}
+use Rattle.order.specs.declared.Way.the-variants.{Running as running, Over as over, Raising as raising, Leaving as leaving, Undone as undone, UndoRaising as undoRaising}
+use Rattle.order.specs.Scope.{Outcome, Scope, rootOf, fromBody, fromFault}
+use Rattle.order.specs.Acting.{stepIn, stepRoot, endOf, Moved, movedTo, stepOrder}
+use Rattle.machine.specs.Demand3.{rightAfter, noneNow, isOver}
+use Rattle.undoing.proofs.Accounts.{Phase, live, waits, heals, phase}
+use Rattle.undoing.proofs.Moves.{HoldsAt, root-well}
+use Rattle.undoing.proofs.Marks.{Quiet, turned-waits, turned-undoes, turned-heals}
+use Rattle.undoing.proofs.Orders.{momentOf, onto, Does, does-then}
+use Rattle.undoing.proofs.Seats.{Seat, inside-rest, quiet-inner}
+use Rattle.undoing.proofs.Waiting.{Waits, quiet-waits}
+use Rattle.undoing.proofs.Breaking.{Distinct}
+use Rattle.undoing.proofs.Scoping.{scope-live, scope-done, scope-turned, Turning, Running, StepsAs, Steps, Reach, from-live, from-stopped, from-undoing, from-heals}
+use Rattle.undoing.proofs.Stepping.{steps, steps-stopped, steps-undoing}
+
+-- activity t of the root's body or fault part awaits its step
+pub data Awaited (p : Plan) (ms : List ℕ) (t : ℕ) : Type 0 where
+  in-body : t < size (p .body) → Waits ms (p .body) 0 t false → Awaited p ms t
+  in-fault : size (p .body) ≤ t → Waits ms (p .fault) (size (p .body)) t false → Awaited p ms t
+
+-- an order that runs
+pub record Standing (p : Plan) (o : Order) : Type 0 where
+  pub many : size (p .body) + size (p .fault) ≤ length (o .marks)
+  pub runs : Running (rootOf p) (o .marks) (o .root)
+  pub going : o .root ≡ done → ⊥
+
+-- the definition, by where the step is
+root-is : (p : Plan) (t : ℕ) (o : Order) (b : Bool) → ltb t (size (p .body)) ≡ b
+    → stepRoot p t o ≡ elim b [ true ↦ fromBody (rootOf p) (stepIn (p .body) 0 t o) | false ↦ fromFault (rootOf p) (stepIn (p .fault) (size (p .body)) t o) ]
+unfolding stepRoot
+root-is p t o b e =
+    subst (λ (z : Bool). stepRoot p t o ≡ elim z [ true ↦ fromBody (rootOf p) (stepIn (p .body) 0 t o) | false ↦ fromFault (rootOf p) (stepIn (p .fault) (size (p .body)) t o) ]) e refl
+
+-- the numbers of the root
+root-reach : (p : Plan) → Reach (rootOf p)
+root-reach p = record { start = omega arith; lone = λ i x y. absurd (omega arith); end = omega arith; owns = tt }
+
+-- weaker: what turned runs
+weaker : {p : Plan} {s : Scope} {o : Order} {r : Outcome} → Steps p s (Turning s) o r → Steps p s (Running s) o r
+weaker {p} {s} {o} {r} v = record { apart = v .apart; comes = go (r .result) (v .comes) }
+  where
+    go : (x : Result) → StepsAs p s (Turning s) o (r .log) (r .order) x → StepsAs p s (Running s) o (r .log) (r .order) x
+    go running c = (scope-turned (c .0), c .1)
+    go over c = c
+    go raising c = c
+    go leaving c = c
+    go undone c = c
+    go undoRaising c = c
+
+module _ (p : Plan) (distinct : Distinct p) (h : Seat p (rootOf p)) where
+  root-steps : (t : ℕ) (o : Order) → Awaited p (o .marks) t → Standing p o → (o .root ≡ halted → ⊥) → (o .root ≡ withdrawing → ⊥)
+      → Steps p (rootOf p) (Running (rootOf p)) o (stepRoot p t o)
+  root-steps t o (in-body e w) st x y =
+      subst (λ (r : Outcome). Steps p (rootOf p) (Running (rootOf p)) o r) (sym (root-is p t o true (lt-ltb t (size (p .body)) e))) (go (st .runs))
+    where
+      m : size (p .body) + size (p .fault) ≤ length (o .marks)
+      m = st .many
+
+      go : Running (rootOf p) (o .marks) (o .root) → Steps p (rootOf p) (Running (rootOf p)) o (fromBody (rootOf p) (stepIn (p .body) 0 t o))
+      go (scope-live d r q) =
+          from-live p distinct (rootOf p) t o (stepIn (p .body) 0 t o) h d q m (steps p distinct (h .body) t o false w refl r (λ z. ap phase d) (omega arith))
+      go (scope-done d q z) = absurd (st .going d)
+      go (scope-turned (turned-waits q z _ v)) =
+          weaker (from-stopped p distinct (rootOf p) o (stepIn (p .body) 0 t o) h (λ d. absurd (x d)) q v m (steps-stopped p distinct (h .body) t o false w refl z (omega arith)))
+      go (scope-turned (turned-undoes q z v)) =
+          weaker (from-undoing p distinct (rootOf p) t o (stepIn (p .body) 0 t o) h (root-reach p) (λ d. absurd (y d)) q v m (λ i a b. absurd (omega arith))
+          (steps-undoing p distinct (h .body) t o false w refl z (omega arith)))
+      go (scope-turned (turned-heals q z v)) = absurd (quiet-waits w refl z)
+  root-steps t o (in-fault e w) st x y =
+      subst (λ (r : Outcome). Steps p (rootOf p) (Running (rootOf p)) o r) (sym (root-is p t o false (le-ltb t (size (p .body)) e))) (go (st .runs))
+    where
+      m : size (p .body) + size (p .fault) ≤ length (o .marks)
+      m = st .many
+
+      go : Running (rootOf p) (o .marks) (o .root) → Steps p (rootOf p) (Running (rootOf p)) o (fromFault (rootOf p) (stepIn (p .fault) (size (p .body)) t o))
+      go (scope-live d r q) = absurd (quiet-waits w refl q)
+      go (scope-done d q z) = absurd (st .going d)
+      go (scope-turned (turned-waits q z _ v)) = absurd (quiet-waits w refl v)
+      go (scope-turned (turned-undoes q z v)) = absurd (quiet-waits w refl v)
+      go (scope-turned (turned-heals q z v)) =
+          weaker (from-heals p distinct (rootOf p) t o (stepIn (p .fault) (size (p .body)) t o) h (root-reach p) q z m (λ i a b. absurd (omega arith))
+          (steps p distinct (h .fault) t o false w refl v (λ d. absurd (false≢true (sym d ∙ h .bareFault))) (omega arith)))
+
+-- what a step of an order leaves: an order that stands, or none
+pub data Passed (p : Plan) (past : List Event) (m : Moved) : Type 0 where
+  passes-on : rightAfter p past (m .log) ≡ true → Standing p (m .order) → HoldsAt p (momentOf p (m .order)) (onto (m .log) past) → Passed p past m
+  passes-end : rightAfter p past (m .log) ≡ true → m .order ≡ noOrder → noneNow (onto (m .log) past) ≡ true → Passed p past m
+
+module _ (p : Plan) (distinct : Distinct p) (h : Seat p (rootOf p)) where
+  -- the root's body is done
+  does-well : (o : Order) → o .root ≡ done → Quiet (o .marks) 0 (size (p .body)) → Does p true o (ended root ∷ []) noOrder
+  unfolding rightAfter noneNow isOver
+  does-well o e q =
+      record { does = λ past x. (rw (root-well p (momentOf p o) (momentOf p o) past x (ap phase e) (inside-rest p (rootOf p) o h (quiet-inner (p .body) 0 q))), refl) }
+
+  -- a root that is done has a quiet body
+  done-quiet : (ms : List ℕ) (m : ℕ) → m ≡ done → Running (rootOf p) ms m → Quiet ms 0 (size (p .body))
+  done-quiet ms m e (scope-live d r q) = absurd (let z : _≡_ {A = ℕ} 1 3 = sym d ∙ e in omega arith)
+  done-quiet ms m e (scope-done d r q) = r
+  done-quiet ms m e (scope-turned (turned-waits d r _ q)) = absurd (let z : live ≡ waits = sym (ap phase e) ∙ d in let x : _≡_ {A = ℕ} 0 1 = cc in omega arith)
+  done-quiet ms m e (scope-turned (turned-undoes d r q)) = absurd (let z : live ≡ Phase.undoes = sym (ap phase e) ∙ d in let x : _≡_ {A = ℕ} 0 1 = cc in omega arith)
+  done-quiet ms m e (scope-turned (turned-heals d r q)) = absurd (let z : live ≡ heals = sym (ap phase e) ∙ d in let x : _≡_ {A = ℕ} 0 1 = cc in omega arith)
+
+  -- a step of an order that stands
+  pub order-steps : (t : ℕ) (o : Order) (past : List Event) → Awaited p (o .marks) t → Standing p o → (o .root ≡ halted → ⊥) → (o .root ≡ withdrawing → ⊥)
+      → HoldsAt p (momentOf p o) past → Passed p past (stepOrder p t o)
+  unfolding stepOrder endOf movedTo
+  order-steps t o past w st x y g = go (r .result) (v .comes)
+    where
+      r : Outcome
+      r = stepRoot p t o
+
+      v : Steps p (rootOf p) (Running (rootOf p)) o r
+      v = root-steps p distinct h t o w st x y
+
+      by-done : Running (rootOf p) (r .order .marks) (r .order .root) → Does p false o (r .log) (r .order) → (b : Bool) → eqb (r .order .root) done ≡ b
+          → Passed p past (movedTo (record { result = running; order = r .order; log = r .log }) (cond b Well None))
+      by-done c d true e =
+          let z = does-then d (does-well (r .order) (eqb-true (r .order .root) done e) (done-quiet (r .order .marks) (r .order .root) (eqb-true (r .order .root) done e) c)) in
+          passes-end (z .does past g .0) refl (z .does past g .1)
+      by-done c d false e =
+          passes-on (d .does past g .0) (record { many = omega (arith, st .many, v .apart .many); runs = c; going = eqb-false (r .order .root) done e }) (d .does past g .1)
+
+      go : (z : Result) → StepsAs p (rootOf p) (Running (rootOf p)) o (r .log) (r .order) z
+          → Passed p past (movedTo (record { result = z; order = r .order; log = r .log }) (endOf (record { result = z; order = r .order; log = r .log })))
+      go running c = by-done (c .0) (c .1) (eqb (r .order .root) done) refl
+      go over c = passes-end (c .3 .does past g .0) refl (c .3 .does past g .1)
+      go raising c = passes-end (c .3 .does past g .0) refl (c .3 .does past g .1)
+      go leaving c = passes-end (c .does past g .0) refl (c .does past g .1)
+      go undone c = absurd c
+      go undoRaising c = absurd c

@@ -1,0 +1,468 @@
+-- What a scope, the root or an inner one, makes of a step in its body or in its fault part. Assumes nothing.
+use Prim.Native.Nat.{ℕ, _+_, _≤_, _<_}
+use native.Mathlib.Omega.{arith}
+use mathlib.Core.Path.{_≡_, refl, sym, ap, subst, _∙_}
+use mathlib.Core.Bool.{Bool, true, false, _||_, false≢true}
+use mathlib.Core.List.{List, [], _∷_, _++_}
+use lib.ListN.{length, getD}
+use lib.Dec.{eqb, ltb}
+use borrow.Author.Tests.{eqb-true, ltb-true, ltb-false}
+use Rattle.plan.specs.Tree.{Act, Plan, size}
+use Rattle.order.specs.declared.Order.{Order}
+use Rattle.order.specs.State.{Name, root, inner, same, idle, active, done, faulty, undoing, handling, halted, withdrawing, markOf, marking}
+use Rattle.order.specs.Event.{Event, ended, faulted, raised}
+use Rattle.order.specs.Begin.{cleared}
+use Rattle.order.specs.declared.Way.{Way as Result}
+use Rattle.order.specs.declared.Way.the-variants.{Running as running, Over as over, Raising as raising, Leaving as leaving, Undone as undone, UndoRaising as undoRaising}
+use Rattle.order.specs.Scope.{Outcome, runs, after, Scope, isOpen, innerRuns, ends, undoes, turns, stop, faults, breaks, looksAgain, bodyOver, bodyRaised, undoOver, undoRaised, fromBody, partOver, partRaised, fromFault, forgetting}
+use Rattle.machine.specs.Demand3.{isRoot, insideOf, isUndoRaise}
+use Rattle.undoing.specs.Ties.{isName}
+use Rattle.undoing.proofs.Parts.{decide}
+use Rattle.undoing.proofs.Accounts.{Phase, rest, live, waits, heals, odd, phase, tied-as}
+use Rattle.undoing.proofs.Moves.{tied-from, move-fault}
+use Rattle.undoing.proofs.Marks.{Quiet, Kept, Run, Turned, turned-waits, turned-undoes, turned-heals, Stopped, Undoing, Stoppable, agree-part, quiet-part, quiet-agree, agree-below, agree-above, kept-itself, stoppable-agree, not-open}
+use Rattle.undoing.proofs.Orders.{listOf, momentOf, Does, does-then, does-nothing, does-one, bare, bare-names}
+use Rattle.undoing.proofs.Seats.{Seat, mark-kept, marking-mark, marking-elsewhere, marking-agree, marking-length, quiet-inner, inside-rest}
+use Rattle.undoing.proofs.Turning.{Apart, apart-then, apart-kept, apart-marking, TurnsAs, Turns, turns-after, does-phase, marking-list, does-healed, undoes-on, turns-on}
+use Rattle.undoing.proofs.Stopping.{stops}
+use Rattle.undoing.proofs.Breaking.{Distinct, Owns, broken, OthersRest, broken-mark, cleared-kept, cleared-quiet, breaks-healed, breaks-raised}
+
+-- What a step in a tree comes to: its marks, and how the tree stands after it.
+pub record Acted (k n : ℕ) (o : Order) (C : List Event → Order → Result → Type 0) (r : Outcome) : Type 0 where
+  pub kept : Kept k n (o .marks) (r .order .marks)
+  pub rooted : r .order .root ≡ o .root
+  pub comes : C (r .log) (r .order) (r .result)
+
+-- in a tree that runs
+abbrev pub RunAs : Plan → Act → (k t : ℕ) → Order → List Event → Order → Result → Type 0
+RunAs p a k t o l o′ running = Run (o′ .marks) a k × Does p false o l o′
+RunAs p a k t o l o′ over = Quiet (o′ .marks) k (size a) × Does p false o l o′
+RunAs p a k t o l o′ raising = Stoppable (o′ .marks) a k × Does p false o l o′ × (bare a ≡ true → l ≡ raised t ∷ [])
+RunAs p a k t o l o′ leaving = Does p true o l o′
+RunAs p a k t o l o′ undone = ⊥
+RunAs p a k t o l o′ undoRaising = ⊥
+
+-- in a stopped body
+abbrev pub StopAs : Plan → Act → (k : ℕ) → Order → List Event → Order → Result → Type 0
+StopAs p a k o l o′ running = Stopped (o′ .marks) a k × Does p false o l o′
+StopAs p a k o l o′ over = Stopped (o′ .marks) a k × Does p false o l o′
+StopAs p a k o l o′ raising = Stopped (o′ .marks) a k × Does p false o l o′
+StopAs p a k o l o′ leaving = Does p true o l o′
+StopAs p a k o l o′ undone = ⊥
+StopAs p a k o l o′ undoRaising = ⊥
+
+-- every scope in a stretch is at rest
+abbrev pub ScopesRest : Plan → Order → (k n : ℕ) → Type 0
+ScopesRest p o k n = (j : ℕ) → isName p (inner j) ≡ true → k ≤ j → j < k + n → getD (o .marks) j 0 ≡ idle
+
+-- in a body of which an undo part runs
+abbrev pub UndoAs : Plan → Name → Act → (k t : ℕ) → Order → List Event → Order → Result → Type 0
+UndoAs p n a k t o l o′ running = Undoing (o′ .marks) a k × Does p false o l o′
+UndoAs p n a k t o l o′ over = ⊥
+UndoAs p n a k t o l o′ raising = ⊥
+UndoAs p n a k t o l o′ leaving = Does p true o l o′
+UndoAs p n a k t o l o′ undone = Quiet (o′ .marks) k (size a) × Does p false o l o′
+UndoAs p n a k t o l o′ undoRaising =
+    (l ≡ raised t ∷ []) × (isUndoRaise (insideOf p n) (raised t) ≡ true) × (innerRuns a k (o′ .marks) ≡ false) × ScopesRest p o′ k (size a) × Does p false o l o′
+
+-- a scope that runs
+pub data ScopeRun (ms : List ℕ) (m : ℕ) (b : Act) (kb : ℕ) (f : Act) (kf : ℕ) : Type 0 where
+  scope-live : m ≡ active → Run ms b kb → Quiet ms kf (size f) → ScopeRun ms m b kb f kf
+  scope-done : m ≡ done → Quiet ms kb (size b) → Quiet ms kf (size f) → ScopeRun ms m b kb f kf
+  scope-turned : Turned ms m b kb f kf → ScopeRun ms m b kb f kf
+
+-- it has turned
+abbrev pub Turning : Scope → List ℕ → ℕ → Type 0
+Turning s ms m = Turned ms m (s .body) (s .bodyAt) (s .fault) (s .faultAt)
+
+-- it runs
+abbrev pub Running : Scope → List ℕ → ℕ → Type 0
+Running s ms m = ScopeRun ms m (s .body) (s .bodyAt) (s .fault) (s .faultAt)
+
+-- what a step in a scope comes to; R holds while it runs
+abbrev pub StepsAs : Plan → Scope → (List ℕ → ℕ → Type 0) → Order → List Event → Order → Result → Type 0
+StepsAs p s R o l o′ running = R (o′ .marks) (markOf (s .name) o′) × Does p false o l o′
+StepsAs p s R o l o′ over =
+    (markOf (s .name) o′ ≡ idle) × Quiet (o′ .marks) (s .bodyAt) (size (s .body)) × Quiet (o′ .marks) (s .faultAt) (size (s .fault)) × Does p (isRoot (s .name)) o l o′
+StepsAs p s R o l o′ raising =
+    (markOf (s .name) o′ ≡ idle) × Quiet (o′ .marks) (s .bodyAt) (size (s .body)) × Quiet (o′ .marks) (s .faultAt) (size (s .fault)) × Does p (isRoot (s .name)) o l o′
+StepsAs p s R o l o′ leaving = Does p true o l o′
+StepsAs p s R o l o′ undone = ⊥
+StepsAs p s R o l o′ undoRaising = ⊥
+
+pub record Steps (p : Plan) (s : Scope) (R : List ℕ → ℕ → Type 0) (o : Order) (r : Outcome) : Type 0 where
+  pub apart : Apart s o (r .order)
+  pub comes : StepsAs p s R o (r .log) (r .order) (r .result)
+
+-- what turning comes to is a step
+pub turns-steps : {p : Plan} {s : Scope} {o o′ : Order} {l : List Event} {r : Outcome} (R : List ℕ → ℕ → Type 0)
+    → ((ms : List ℕ) (m : ℕ) → Turning s ms m → R ms m) → Apart s o o′ → Does p false o l o′ → Turns p s o′ r → Steps p s R o (after l r)
+turns-steps {p} {s} {o} {o′} {l} {r} R f a d t = record { apart = apart-then a (t .apart); comes = go (r .result) (t .comes) }
+  where
+    go : (x : Result) → TurnsAs p s o′ (r .log) (r .order) x → StepsAs p s R o (l ++ r .log) (r .order) x
+    go running c = (f (r .order .marks) (markOf (s .name) (r .order)) (c .0), does-then d (c .1))
+    go over c = (c .0, c .1, c .2, does-then d (c .3))
+    go raising c = absurd c
+    go leaving c = absurd c
+    go undone c = absurd c
+    go undoRaising c = absurd c
+
+-- the definitions, by a scope's mark
+looks-is : (s : Scope) (o : Order) (m : ℕ) → markOf (s .name) o ≡ m
+    → looksAgain s o ≡ elim (eqb m faulty) [ true ↦ turns true s o | false ↦ elim (eqb m halted) [ true ↦ turns false s o | false ↦ runs o ] ]
+unfolding looksAgain
+looks-is s o m e =
+    subst (λ (z : ℕ). looksAgain s o ≡ elim (eqb z faulty) [ true ↦ turns true s o | false ↦ elim (eqb z halted) [ true ↦ turns false s o | false ↦ runs o ] ]) e refl
+
+-- where the body is over
+over-is : (s : Scope) (o : Order) (m : ℕ) → markOf (s .name) o ≡ m
+    → bodyOver s o ≡ elim (eqb m active) [ true ↦ runs (marking (s .name) done o) | false ↦ looksAgain s o ]
+unfolding bodyOver
+over-is s o m e = subst (λ (z : ℕ). bodyOver s o ≡ elim (eqb z active) [ true ↦ runs (marking (s .name) done o) | false ↦ looksAgain s o ]) e refl
+
+-- where a fault came out of the body
+raised-is : (s : Scope) (o : Order) (b : Bool) → isOpen (markOf (s .name) o) ≡ b → bodyRaised s o ≡ elim b [ true ↦ faults s o | false ↦ looksAgain s o ]
+unfolding bodyRaised
+raised-is s o b e = subst (λ (z : Bool). bodyRaised s o ≡ elim z [ true ↦ faults s o | false ↦ looksAgain s o ]) e refl
+
+-- no mark but these has these phases
+no-undoes : (m : ℕ) → eqb m undoing ≡ false → eqb m withdrawing ≡ false → eqb m active ≡ false → eqb m done ≡ false → eqb m faulty ≡ false → eqb m halted ≡ false
+    → eqb m handling ≡ false → phase m ≡ Phase.undoes → ⊥
+no-undoes m a b c d e f g h =
+    decide (eqb m idle)
+    (λ t. let z : rest ≡ Phase.undoes = rw (a, b, c, d, e, f, g, t) at h in let x : _≡_ {A = ℕ} 0 1 = cc in omega arith)
+    (λ t. let z : odd ≡ Phase.undoes = rw (a, b, c, d, e, f, g, t) at h in let x : _≡_ {A = ℕ} 0 1 = cc in omega arith)
+
+-- nor this one
+no-waits : (m : ℕ) → eqb m faulty ≡ false → eqb m halted ≡ false → phase m ≡ waits → ⊥
+no-waits m e f h =
+    decide (eqb m active || eqb m done)
+    (λ t. let z : live ≡ waits = rw t at h in let x : _≡_ {A = ℕ} 0 1 = cc in omega arith)
+    (λ t. decide (eqb m undoing || eqb m withdrawing)
+    (λ u. let z : Phase.undoes ≡ waits = rw (t, e, f, u) at h in let x : _≡_ {A = ℕ} 0 1 = cc in omega arith)
+    (λ u. decide (eqb m handling)
+    (λ v. let z : heals ≡ waits = rw (t, e, f, u, v) at h in let x : _≡_ {A = ℕ} 0 1 = cc in omega arith)
+    (λ v. decide (eqb m idle)
+    (λ w. let z : rest ≡ waits = rw (t, e, f, u, v, w) at h in let x : _≡_ {A = ℕ} 0 1 = cc in omega arith)
+    (λ w. let z : odd ≡ waits = rw (t, e, f, u, v, w) at h in let x : _≡_ {A = ℕ} 0 1 = cc in omega arith))))
+
+-- nor this one
+pub no-heals : (m : ℕ) → eqb m handling ≡ false → phase m ≡ heals → ⊥
+no-heals m e h =
+    decide (eqb m active || eqb m done)
+    (λ t. let z : live ≡ heals = rw t at h in let x : _≡_ {A = ℕ} 0 1 = cc in omega arith)
+    (λ t. decide (eqb m faulty || eqb m halted)
+    (λ u. let z : waits ≡ heals = rw (t, u) at h in let x : _≡_ {A = ℕ} 0 1 = cc in omega arith)
+    (λ u. decide (eqb m undoing || eqb m withdrawing)
+    (λ v. let z : Phase.undoes ≡ heals = rw (t, u, v) at h in let x : _≡_ {A = ℕ} 0 1 = cc in omega arith)
+    (λ v. decide (eqb m idle)
+    (λ w. let z : rest ≡ heals = rw (t, u, v, e, w) at h in let x : _≡_ {A = ℕ} 0 1 = cc in omega arith)
+    (λ w. let z : odd ≡ heals = rw (t, u, v, e, w) at h in let x : _≡_ {A = ℕ} 0 1 = cc in omega arith))))
+
+-- nor the phase of undoing, in the same way
+pub no-undoes-but : (m : ℕ) → (eqb m undoing || eqb m withdrawing) ≡ false → phase m ≡ Phase.undoes → ⊥
+no-undoes-but m e h =
+    decide (eqb m active || eqb m done)
+    (λ t. let z : live ≡ Phase.undoes = rw t at h in let x : _≡_ {A = ℕ} 0 1 = cc in omega arith)
+    (λ t. decide (eqb m faulty || eqb m halted)
+    (λ u. let z : waits ≡ Phase.undoes = rw (t, u) at h in let x : _≡_ {A = ℕ} 0 1 = cc in omega arith)
+    (λ u. decide (eqb m handling)
+    (λ v. let z : heals ≡ Phase.undoes = rw (t, u, e, v) at h in let x : _≡_ {A = ℕ} 0 1 = cc in omega arith)
+    (λ v. decide (eqb m idle)
+    (λ w. let z : rest ≡ Phase.undoes = rw (t, u, e, v, w) at h in let x : _≡_ {A = ℕ} 0 1 = cc in omega arith)
+    (λ w. let z : odd ≡ Phase.undoes = rw (t, u, e, v, w) at h in let x : _≡_ {A = ℕ} 0 1 = cc in omega arith))))
+
+-- the numbers of a scope: its own before its body, and no others before; its body, its fault part, and what is left of them
+pub record Reach (s : Scope) : Type 0 where
+  pub start : s .first ≤ s .bodyAt
+  pub lone : (i : ℕ) → i < s .bodyAt → same (inner i) (s .name) ≡ false → i < s .first
+  pub end : s .faultAt + size (s .fault) ≤ s .first + s .count
+  pub owns : Owns (s .name) (s .first) (s .count)
+
+-- what is left of a scope's numbers is idle
+abbrev pub Beyond : Scope → Order → Type 0
+Beyond s o = (i : ℕ) → s .faultAt + size (s .fault) ≤ i → i < s .first + s .count → getD (o .marks) i 0 ≡ idle
+
+module _ (p : Plan) (distinct : Distinct p) where
+  -- the scope faults: its body stops, and it undoes as soon as it may
+  pub faults-on : (s : Scope) (o : Order) → Seat p s → phase (markOf (s .name) o) ≡ live → Stoppable (o .marks) (s .body) (s .bodyAt)
+      → Quiet (o .marks) (s .faultAt) (size (s .fault)) → s .faultAt + size (s .fault) ≤ length (o .marks) → Turns p s o (faults s o)
+  unfolding faults
+  faults-on s o h q t y m =
+      let o₁ = marking (s .name) faulty o in
+      let n = marking-length (s .name) faulty o in
+      let k : markOf (s .name) o₁ ≡ faulty = marking-mark (s .name) (s .bodyAt) faulty o (h .before) (omega (arith, h .after)) in
+      let y₁ : Quiet (o₁ .marks) (s .faultAt) (size (s .fault))
+      = quiet-agree y (agree-part (marking-agree {c = s .bodyAt} {m = size (s .body) + size (s .fault)} (s .name) faulty o (h .before)) (omega (arith, h .after)) (omega (arith, h .after))) in
+      let r = stops p (h .body) o₁ (stoppable-agree t (marking-agree (s .name) faulty o (h .before))) (omega (arith, h .after, n)) in
+      let o₂ = stop (s .body) (s .bodyAt) o₁ .order in
+      let d : Does p false o (faulted (s .name) ∷ []) o₁
+      = does-one (λ past x. move-fault p (momentOf p o) (momentOf p o₁) past x (s .name) (h .name) q (ap phase k) (marking-list p (s .name) (s .name) faulty o) (marking-elsewhere p (s .name) faulty o)) in
+      turns-after (apart-then (apart-marking s faulty o (h .before) (omega (arith, h .after))) (apart-kept s o₁ o₂ (r .kept) (omega arith) (omega (arith, h .after)) (r .rooted)))
+      (does-then d (r .does))
+      (turns-on p true s o₂ h (λ z. absurd (false≢true (sym z)))
+      (ap phase (mark-kept (s .name) (s .bodyAt) o₁ o₂ (h .before) (omega arith) (r .rooted) (r .kept) ∙ k)) (r .stands)
+      (quiet-agree y₁ (agree-above (r .kept) (omega (arith, h .after)))) (omega (arith, r .kept .many, n)))
+
+  -- the other scopes of s are at rest, where those of its body and what is left are
+  others-rest : (s : Scope) (o : Order) → Seat p s → Reach s → ScopesRest p o (s .bodyAt) (size (s .body)) → Beyond s o → OthersRest p distinct s o
+  others-rest s o h c r b j i t x y =
+      decide (ltb j (s .bodyAt))
+      (λ u. absurd (lt-irrefl (c .lone j (ltb-true j (s .bodyAt) u) t) x))
+      (λ u. decide (ltb j (s .faultAt))
+      (λ v. r j i (ltb-false j (s .bodyAt) u) (omega (arith, ltb-true j (s .faultAt) v, h .after)))
+      (λ v. decide (ltb j (s .faultAt + size (s .fault)))
+      (λ w. absurd (false≢true (sym (bare-names (h .fault) (h .bareFault) j (ltb-false j (s .faultAt) v) (ltb-true j (s .faultAt + size (s .fault)) w)) ∙ i)))
+      (λ w. b j (ltb-false j (s .faultAt + size (s .fault)) w) y)))
+    where
+      lt-irrefl : {a b : ℕ} → a < b → b ≤ a → ⊥
+      lt-irrefl d e = omega arith
+
+  -- what breaking leaves of a scope
+  steps-broken : (R : List ℕ → ℕ → Type 0) (s : Scope) (o₀ o : Order) (l : List Event) → Seat p s → Reach s → Apart s o₀ o → Beyond s o
+      → Does p (isRoot (s .name)) o₀ l (broken s o)
+      → Steps p s R o₀ (record { result = raising; order = broken s o; log = l })
+  unfolding forgetting
+  steps-broken R s o₀ o l h c a b d =
+      record {
+        apart = apart-then a (record {
+          many = w .many ∙ marking-length (s .name) idle o;
+          below = λ i x y. w .below i (c .lone i x y) ∙ m .below i x y;
+          above = λ i x. decide (ltb i (s .first + s .count))
+              (λ t. z .at i (omega (arith, h .after, c .start)) (ltb-true i (s .first + s .count) t) ∙ sym (b i x (ltb-true i (s .first + s .count) t)))
+              (λ t. w .above i (ltb-false i (s .first + s .count) t) ∙ m .above i x);
+          rooted = m .rooted;
+        });
+        comes = (idles (s .name) refl, quiet-part z (c .start) (omega (arith, h .after, c .end)), quiet-part z (omega (arith, h .after, c .start)) (c .end), d);
+      }
+    where
+      ms : List ℕ
+      ms = marking (s .name) idle o .marks
+
+      w : Kept (s .first) (s .count) ms (cleared (s .first) (s .count) ms)
+      w = cleared-kept (s .count) (s .first) ms
+
+      z : Quiet (cleared (s .first) (s .count) ms) (s .first) (s .count)
+      z = cleared-quiet (s .count) (s .first) ms
+
+      m : Apart s o (marking (s .name) idle o)
+      m = apart-marking s idle o (h .before) (omega (arith, h .after))
+
+      idles : (n : Name) → s .name ≡ n → markOf n (broken s o) ≡ idle
+      idles n e = broken-mark p distinct n s o e (subst (λ (x : Name). Owns x (s .first) (s .count)) e (c .owns))
+
+  -- A step in the body of a scope that is live.
+  pub from-live : (s : Scope) (t : ℕ) (o : Order) (r : Outcome) → Seat p s → markOf (s .name) o ≡ active → Quiet (o .marks) (s .faultAt) (size (s .fault))
+      → s .faultAt + size (s .fault) ≤ length (o .marks) → Acted (s .bodyAt) (size (s .body)) o (RunAs p (s .body) (s .bodyAt) t o) r
+      → Steps p s (Running s) o (fromBody s r)
+  unfolding fromBody
+  from-live s t o r h e y m w = go (r .result) (w .comes)
+    where
+      o₁ : Order
+      o₁ = r .order
+
+      a₁ : Apart s o o₁
+      a₁ = apart-kept s o o₁ (w .kept) (omega arith) (omega (arith, h .after)) (w .rooted)
+
+      e₁ : markOf (s .name) o₁ ≡ active
+      e₁ = mark-kept (s .name) (s .bodyAt) o o₁ (h .before) (omega arith) (w .rooted) (w .kept) ∙ e
+
+      y₁ : Quiet (o₁ .marks) (s .faultAt) (size (s .fault))
+      y₁ = quiet-agree y (agree-above (w .kept) (omega (arith, h .after)))
+
+      go : (x : Result) → RunAs p (s .body) (s .bodyAt) t o (r .log) o₁ x → Steps p s (Running s) o (fromBody s (record { result = x; order = o₁; log = r .log }))
+      go running c =
+          subst (λ (z : Outcome). Steps p s (Running s) o (after (r .log) z)) (sym (looks-is s o₁ active e₁))
+          (record { apart = a₁; comes = (scope-live e₁ (c .0) y₁, does-then (c .1) (does-nothing (λ n i. (refl, refl)))) })
+      go over c =
+          let k : markOf (s .name) (marking (s .name) done o₁) ≡ done = marking-mark (s .name) (s .bodyAt) done o₁ (h .before) (omega (arith, h .after, w .kept .many)) in
+          subst (λ (z : Outcome). Steps p s (Running s) o (after (r .log) z)) (sym (over-is s o₁ active e₁))
+          (record {
+            apart = apart-then a₁ (apart-marking s done o₁ (h .before) (omega (arith, h .after)));
+            comes = (
+              scope-done k (quiet-agree (c .0) (marking-agree (s .name) done o₁ (h .before)))
+                  (quiet-agree y₁ (agree-part (marking-agree {c = s .bodyAt} {m = size (s .body) + size (s .fault)} (s .name) done o₁ (h .before)) (omega (arith, h .after)) (omega (arith, h .after)))),
+              does-then (c .1) (does-phase p (s .name) done o₁ (λ a d.
+                  let d₁ = tied-as live (listOf p (s .name) o₁) a (markOf (s .name) o₁) (ap phase e₁) d in
+                  tied-from live _ a (markOf (s .name) (marking (s .name) done o₁)) (ap phase k) (d₁ .0, d₁ .1, d₁ .2, d₁ .3 ∙ sym (marking-list p (s .name) (s .name) done o₁)))),
+            );
+          })
+      go raising c =
+          subst (λ (z : Outcome). Steps p s (Running s) o (after (r .log) z)) (sym (raised-is s o₁ true (rw e₁)))
+          (turns-steps (Running s) (λ ms m. scope-turned) a₁ (c .1) (faults-on s o₁ h (ap phase e₁) (c .0) y₁ (omega (arith, w .kept .many))))
+      go leaving c = record { apart = a₁; comes = c }
+      go undone c = absurd c
+      go undoRaising c = absurd c
+
+  -- A step in the body of a scope that waits for its inner scopes: it looks again.
+  looks-on : (s : Scope) (o o₁ : Order) (l : List Event) → Seat p s → (markOf (s .name) o₁ ≡ halted → isRoot (s .name) ≡ false) → phase (markOf (s .name) o₁) ≡ waits
+      → Stopped (o₁ .marks) (s .body) (s .bodyAt) → Quiet (o₁ .marks) (s .faultAt) (size (s .fault)) → s .faultAt + size (s .fault) ≤ length (o₁ .marks)
+      → Apart s o o₁ → Does p false o l o₁ → Steps p s (Turning s) o (after l (looksAgain s o₁))
+  looks-on s o o₁ l h v q t y m a d =
+      subst (λ (z : Outcome). Steps p s (Turning s) o (after l z)) (sym (looks-is s o₁ (markOf (s .name) o₁) refl))
+      (by-mark (eqb (markOf (s .name) o₁) faulty) (eqb (markOf (s .name) o₁) halted) refl refl)
+    where
+      by-mark : (x z : Bool) → eqb (markOf (s .name) o₁) faulty ≡ x → eqb (markOf (s .name) o₁) halted ≡ z
+          → Steps p s (Turning s) o (after l (elim x [ true ↦ turns true s o₁ | false ↦ elim z [ true ↦ turns false s o₁ | false ↦ runs o₁ ] ]))
+      by-mark true z e d₁ = turns-steps (Turning s) (λ ms m x. x) a d (turns-on p true s o₁ h (λ c. absurd (false≢true (sym c))) q t y m)
+      by-mark false true e d₁ = turns-steps (Turning s) (λ ms m x. x) a d (turns-on p false s o₁ h (λ c. v (eqb-true (markOf (s .name) o₁) halted d₁)) q t y m)
+      by-mark false false e d₁ = absurd (no-waits (markOf (s .name) o₁) e d₁ q)
+
+  -- a step in a stopped body
+  pub from-stopped : (s : Scope) (o : Order) (r : Outcome) → Seat p s → (markOf (s .name) o ≡ halted → isRoot (s .name) ≡ false) → phase (markOf (s .name) o) ≡ waits
+      → Quiet (o .marks) (s .faultAt) (size (s .fault)) → s .faultAt + size (s .fault) ≤ length (o .marks)
+      → Acted (s .bodyAt) (size (s .body)) o (StopAs p (s .body) (s .bodyAt) o) r → Steps p s (Turning s) o (fromBody s r)
+  unfolding fromBody
+  from-stopped s o r h v q y m w = go (r .result) (w .comes)
+    where
+      o₁ : Order
+      o₁ = r .order
+
+      a₁ : Apart s o o₁
+      a₁ = apart-kept s o o₁ (w .kept) (omega arith) (omega (arith, h .after)) (w .rooted)
+
+      e₁ : markOf (s .name) o₁ ≡ markOf (s .name) o
+      e₁ = mark-kept (s .name) (s .bodyAt) o o₁ (h .before) (omega arith) (w .rooted) (w .kept)
+
+      y₁ : Quiet (o₁ .marks) (s .faultAt) (size (s .fault))
+      y₁ = quiet-agree y (agree-above (w .kept) (omega (arith, h .after)))
+
+      looks : Stopped (o₁ .marks) (s .body) (s .bodyAt) → Does p false o (r .log) o₁ → Steps p s (Turning s) o (after (r .log) (looksAgain s o₁))
+      looks t d = looks-on s o o₁ (r .log) h (λ z. v (sym e₁ ∙ z)) (ap phase e₁ ∙ q) t y₁ (omega (arith, w .kept .many)) a₁ d
+
+      not-active : eqb (markOf (s .name) o₁) active ≡ false
+      not-active = decide (eqb (markOf (s .name) o₁) active)
+          (λ t. absurd (let z : live ≡ waits = sym (ap phase (eqb-true (markOf (s .name) o₁) active t)) ∙ (ap phase e₁ ∙ q) in let x : _≡_ {A = ℕ} 0 1 = cc in omega arith))
+          (λ t. t)
+
+      go : (x : Result) → StopAs p (s .body) (s .bodyAt) o (r .log) o₁ x → Steps p s (Turning s) o (fromBody s (record { result = x; order = o₁; log = r .log }))
+      go running c = looks (c .0) (c .1)
+      go over c =
+          subst (λ (z : Outcome). Steps p s (Turning s) o (after (r .log) z))
+          (sym (over-is s o₁ (markOf (s .name) o₁) refl ∙ ap (λ (b : Bool). elim b [ true ↦ runs (marking (s .name) done o₁) | false ↦ looksAgain s o₁ ]) not-active))
+          (looks (c .0) (c .1))
+      go raising c =
+          subst (λ (z : Outcome). Steps p s (Turning s) o (after (r .log) z))
+          (sym (raised-is s o₁ false (not-open (markOf (s .name) o₁) waits (ap phase e₁ ∙ q) (λ d. let z : _≡_ {A = ℕ} 0 1 = cc in omega arith))))
+          (looks (c .0) (c .1))
+      go leaving c = record { apart = a₁; comes = c }
+      go undone c = absurd c
+      go undoRaising c = absurd c
+
+  -- A step in an undo part that a scope is running.
+  pub from-undoing : (s : Scope) (t : ℕ) (o : Order) (r : Outcome) → Seat p s → Reach s → (markOf (s .name) o ≡ withdrawing → isRoot (s .name) ≡ false)
+      → phase (markOf (s .name) o) ≡ Phase.undoes → Quiet (o .marks) (s .faultAt) (size (s .fault)) → s .faultAt + size (s .fault) ≤ length (o .marks) → Beyond s o
+      → Acted (s .bodyAt) (size (s .body)) o (UndoAs p (s .name) (s .body) (s .bodyAt) t o) r → Steps p s (Turning s) o (fromBody s r)
+  unfolding fromBody undoOver undoRaised breaks
+  from-undoing s t o r h c v q y m b w = go (r .result) (w .comes)
+    where
+      o₁ : Order
+      o₁ = r .order
+
+      k : ℕ
+      k = markOf (s .name) o₁
+
+      a₁ : Apart s o o₁
+      a₁ = apart-kept s o o₁ (w .kept) (omega arith) (omega (arith, h .after)) (w .rooted)
+
+      e₁ : k ≡ markOf (s .name) o
+      e₁ = mark-kept (s .name) (s .bodyAt) o o₁ (h .before) (omega arith) (w .rooted) (w .kept)
+
+      q₁ : phase k ≡ Phase.undoes
+      q₁ = ap phase e₁ ∙ q
+
+      y₁ : Quiet (o₁ .marks) (s .faultAt) (size (s .fault))
+      y₁ = quiet-agree y (agree-above (w .kept) (omega (arith, h .after)))
+
+      not-mark : (x : ℕ) → (phase x ≡ Phase.undoes → ⊥) → eqb k x ≡ false
+      not-mark x f = decide (eqb k x) (λ z. absurd (f (sym (ap phase (eqb-true k x z)) ∙ q₁))) (λ z. z)
+
+      looks : looksAgain s o₁ ≡ runs o₁
+      looks =
+          looks-is s o₁ k refl
+          ∙ (ap (λ (x : Bool). elim x [ true ↦ turns true s o₁ | false ↦ elim (eqb k halted) [ true ↦ turns false s o₁ | false ↦ runs o₁ ] ])
+          (not-mark faulty (λ d. let z : _≡_ {A = ℕ} 0 1 = cc in omega arith))
+          ∙ ap (λ (x : Bool). elim x [ true ↦ turns false s o₁ | false ↦ runs o₁ ]) (not-mark halted (λ d. let z : _≡_ {A = ℕ} 0 1 = cc in omega arith)))
+
+      is-mark : (x z : Bool) → eqb k undoing ≡ x → eqb k withdrawing ≡ z → (x || z) ≡ true
+      is-mark true z d e = refl
+      is-mark false true d e = refl
+      is-mark false false d e = absurd (no-undoes k d e (not-mark active (λ d. let z : _≡_ {A = ℕ} 0 1 = cc in omega arith)) (not-mark done (λ d. let z : _≡_ {A = ℕ} 0 1 = cc in omega arith)) (not-mark faulty (λ d. let z : _≡_ {A = ℕ} 0 1 = cc in omega arith)) (not-mark halted (λ d. let z : _≡_ {A = ℕ} 0 1 = cc in omega arith)) (not-mark handling (λ d. let z : _≡_ {A = ℕ} 0 1 = cc in omega arith)) q₁)
+
+      next : Quiet (o₁ .marks) (s .bodyAt) (size (s .body)) → Does p false o (r .log) o₁ → (x z : Bool) → eqb k undoing ≡ x → eqb k withdrawing ≡ z
+          → Steps p s (Turning s) o (after (r .log) (elim x [ true ↦ undoes true s o₁ | false ↦ elim z [ true ↦ undoes false s o₁ | false ↦ runs o₁ ] ]))
+      next u d true z i j =
+          turns-steps (Turning s) (λ ms m x. x) a₁ d (undoes-on p true s o₁ h (λ n. absurd (false≢true (sym n))) (λ a g. tied-as Phase.undoes (listOf p (s .name) o₁) a k q₁ g) u y₁ (omega (arith, w .kept .many)))
+      next u d false true i j =
+          turns-steps (Turning s) (λ ms m x. x) a₁ d (undoes-on p false s o₁ h (λ n. v (sym e₁ ∙ eqb-true k withdrawing j)) (λ a g. tied-as Phase.undoes (listOf p (s .name) o₁) a k q₁ g) u y₁ (omega (arith, w .kept .many)))
+      next u d false false i j = absurd (false≢true (is-mark false false i j))
+
+      go : (x : Result) → UndoAs p (s .name) (s .body) (s .bodyAt) t o (r .log) o₁ x
+          → Steps p s (Turning s) o (fromBody s (record { result = x; order = o₁; log = r .log }))
+      go running d =
+          subst (λ (z : Outcome). Steps p s (Turning s) o (after (r .log) z)) (sym looks)
+          (record { apart = a₁; comes = (turned-undoes q₁ (d .0) y₁, does-then (d .1) (does-nothing (λ n i. (refl, refl)))) })
+      go over d = absurd d
+      go raising d = absurd d
+      go leaving d = record { apart = a₁; comes = d }
+      go undone d = next (d .0) (d .1) (eqb k undoing) (eqb k withdrawing) refl refl
+      go undoRaising d =
+          subst (λ (z : Bool). Steps p s (Turning s) o (after (r .log) (elim z [ true ↦ breaks s o₁ | false ↦ runs o₁ ]))) (sym (is-mark (eqb k undoing) (eqb k withdrawing) refl refl))
+          (steps-broken (Turning s) s o o₁ (r .log ++ (ended (s .name) ∷ [])) h c a₁ b₁
+          (subst (λ (l : List Event). Does p (isRoot (s .name)) o (l ++ (ended (s .name) ∷ [])) (broken s o₁)) (sym (d .0))
+          (breaks-raised p distinct s t o o₁ h (c .owns) q₁ (inside-rest p s o₁ h (d .2)) (others-rest s o₁ h c (d .3) b₁) (d .1)
+          (subst (λ (l : List Event). Does p false o l o₁) (d .0) (d .4)))))
+        where
+          b₁ : Beyond s o₁
+          b₁ i x z = w .kept .above i (omega (arith, h .after)) ∙ b i x z
+
+  -- A step in the fault part that a scope is running.
+  pub from-heals : (s : Scope) (t : ℕ) (o : Order) (r : Outcome) → Seat p s → Reach s → phase (markOf (s .name) o) ≡ heals
+      → Quiet (o .marks) (s .bodyAt) (size (s .body))
+      → s .faultAt + size (s .fault) ≤ length (o .marks) → Beyond s o → Acted (s .faultAt) (size (s .fault)) o (RunAs p (s .fault) (s .faultAt) t o) r
+      → Steps p s (Turning s) o (fromFault s r)
+  unfolding fromFault partOver partRaised breaks
+  from-heals s t o r h c q u m b w = go (r .result) (w .comes)
+    where
+      o₁ : Order
+      o₁ = r .order
+
+      k : ℕ
+      k = markOf (s .name) o₁
+
+      a₁ : Apart s o o₁
+      a₁ = apart-kept s o o₁ (w .kept) (omega (arith, h .after)) (omega arith) (w .rooted)
+
+      q₁ : phase k ≡ heals
+      q₁ = ap phase (mark-kept (s .name) (s .bodyAt) o o₁ (h .before) (omega (arith, h .after)) (w .rooted) (w .kept)) ∙ q
+
+      u₁ : Quiet (o₁ .marks) (s .bodyAt) (size (s .body))
+      u₁ = quiet-agree u (agree-below (w .kept) (omega (arith, h .after)))
+
+      b₁ : Beyond s o₁
+      b₁ i x z = w .kept .above i (omega arith) ∙ b i x z
+
+      is-handling : eqb k handling ≡ true
+      is-handling = decide (eqb k handling) (λ z. z) (λ z. absurd (no-heals k z q₁))
+
+      go : (x : Result) → RunAs p (s .fault) (s .faultAt) t o (r .log) o₁ x → Steps p s (Turning s) o (fromFault s (record { result = x; order = o₁; log = r .log }))
+      go running d = record { apart = a₁; comes = (turned-heals q₁ u₁ (d .0), d .1) }
+      go over d =
+          subst (λ (z : Bool). Steps p s (Turning s) o (after (r .log) (elim z [ true ↦ ends s o₁ | false ↦ runs o₁ ]))) (sym is-handling)
+          (record {
+            apart = apart-then a₁ (apart-marking s idle o₁ (h .before) (omega (arith, h .after)));
+            comes = (
+              marking-mark (s .name) (s .bodyAt) idle o₁ (h .before) (omega (arith, h .after, w .kept .many)),
+              quiet-agree u₁ (marking-agree (s .name) idle o₁ (h .before)),
+              quiet-agree (d .0) (agree-part (marking-agree {c = s .bodyAt} {m = size (s .body) + size (s .fault)} (s .name) idle o₁ (h .before)) (omega (arith, h .after)) (omega (arith, h .after))),
+              does-then (d .1) (does-healed p (s .name) (s .bodyAt) o₁ (h .name) (h .before) (omega (arith, h .after, w .kept .many)) q₁ (inside-rest p s o₁ h (quiet-inner (s .body) (s .bodyAt) u₁))),
+            );
+          })
+      go raising d =
+          subst (λ (z : Bool). Steps p s (Turning s) o (after (r .log) (elim z [ true ↦ breaks s o₁ | false ↦ runs o₁ ]))) (sym is-handling)
+          (steps-broken (Turning s) s o o₁ (r .log ++ (ended (s .name) ∷ [])) h c a₁ b₁
+          (does-then (d .1) (breaks-healed p distinct s o₁ h (c .owns) q₁ (inside-rest p s o₁ h (quiet-inner (s .body) (s .bodyAt) u₁))
+          (others-rest s o₁ h c (λ j i x z. u₁ .at j x z) b₁))))
+      go leaving d = record { apart = a₁; comes = d }
+      go undone d = absurd d
+      go undoRaising d = absurd d

@@ -1,0 +1,738 @@
+-- The log of a step by its raise: what follows a raise, and that nothing faults without one. Assumes nothing.
+use Prim.Native.Nat.{ℕ, _+_, _≤_, _<_}
+use native.Mathlib.Omega.{arith}
+use mathlib.Core.Path.{_≡_, refl, sym, ap, subst, _∙_}
+use mathlib.Core.Bool.{Bool, true, false, cond, not, _&&_, _||_, false≢true}
+use mathlib.Core.List.{List, [], _∷_, _++_}
+use lib.ListN.{getD, set}
+use lib.Seq.{getD-set-other}
+use lib.Dec.{eqb, ltb}
+use borrow.Author.Tests.{eqb-true}
+use Rattle.plan.specs.Tree.{Own, empty, send, receive, set as setting, raise, leave, choose, repeat, sequence, flow, pick, scope, arm, kind, Act, act, Acts, none, more, Plan, size, sizes}
+use Rattle.order.specs.declared.Order.{Order}
+use Rattle.order.specs.declared.End.the-variants.{None, Well}
+use Rattle.order.specs.Lists.{only, withoutLast}
+use Rattle.order.specs.State.{Name, root, inner, closings, remembering, idle, inside, binding, marked, markOf, marking, markAt, withMarks, faulty, halted, active, undoing, withdrawing, handling, done}
+use Rattle.order.specs.Expression.{Value, fault, value, evaluate, isTrue}
+use Rattle.order.specs.Event.{Event, started, began, closed, faulted, stopped, ended, raised, left}
+use Rattle.order.specs.Begin.{Begun, begin, beginAfter, beginPart, part, partAt, quiet, cleared}
+use Rattle.order.specs.declared.Way.{Way as Result}
+use Rattle.order.specs.declared.Way.the-variants.{Running as running, Over as over, Raising as raising, Leaving as leaving, Undone as undone, UndoRaising as undoRaising}
+use Rattle.order.specs.Scope.{Outcome, runs, after, begunIn, whereOver, Scope, scopeAt, rootOf, isScope, isOpen, innerRuns, closing, beginUndo, startUndo, undo, ends, handle, undoes, turns, stop, faults, breaks, looksAgain, bodyOver, bodyRaised, undoOver, undoRaised, fromBody, partOver, partRaised, fromFault, fromUndo, rememberedFor, forgetting}
+use Rattle.order.specs.Acting.{finishes, raises, orRaises, enters, again, repeats, allBound, itself, isPart, arms, goesOn, joins, inScope, combines, stepIn, stepAmong, stepRoot, endOf, movedTo, stepOrder, begunOrder}
+use Rattle.undoing.specs.Ties.{isName, fits, Place, bodyOf, faultOf, undoOf, nameOf, aroundOf, placeIn, placeAmong, placeParts, placeOf}
+use Rattle.undoing.proofs.Parts.{decide, both as both-true}
+use Rattle.undoing.proofs.Marks.{trio}
+use Rattle.undoing.proofs.Orders.{bare, bareIn, Sits, sits-part, sits-scope, SitsIn, sits-none, sits-more, UndoPart, undo-part}
+use Rattle.undoing.proofs.Seats.{Before, Seat}
+use Rattle.undoing.proofs.Breaking.{cleared-kept}
+use Rattle.undoing.proofs.Aside.{Aside, silent-append, begin-silent, after-silent, part-silent, runs-silent, begin-undo-silent, ends-silent, stop-silent}
+
+-- a raise or a fault
+unfoldable pub isGrave : Event → Bool
+isGrave started = false
+isGrave (began k) = false
+isGrave (closed k) = false
+isGrave (faulted n) = true
+isGrave (stopped k) = false
+isGrave (ended n) = false
+isGrave (raised k) = true
+isGrave left = false
+
+-- neither in a log
+abbrev pub Calm : List Event → Type 0
+Calm l = only isGrave l ≡ []
+
+pub graves-aside : Aside isGrave
+unfolding isGrave
+graves-aside = record { begins = λ k. refl; stops = λ k. refl; ends = λ n. refl }
+
+-- it runs on, or it is over
+abbrev pub isMild : Result → Bool
+isMild running = true
+isMild over = true
+isMild raising = false
+isMild leaving = false
+isMild undone = false
+isMild undoRaising = false
+
+-- it runs on or is over, and logs neither
+pub record Mild (r : Outcome) : Type 0 where
+  pub goes : isMild (r .result) ≡ true
+  pub calm : Calm (r .log)
+
+mild-either : (b : Bool) (x y : Outcome) → Mild x → Mild y → (z : Outcome) → z ≡ elim b [ true ↦ x | false ↦ y ] → Mild z
+mild-either true x y h g z e = subst (λ (r : Outcome). Mild r) (sym e) h
+mild-either false x y h g z e = subst (λ (r : Outcome). Mild r) (sym e) g
+
+mild-where : (g : Order → Outcome) (r : Outcome) → Mild r → ((o : Order) → Mild (g o)) → Mild (whereOver g r)
+mild-where g r h e = go (r .result) (h .goes)
+  where
+    go : (x : Result) → isMild x ≡ true → Mild (whereOver g (record { result = x; order = r .order; log = r .log }))
+    go running m = record { goes = refl; calm = h .calm }
+    go over m = record { goes = e (r .order) .goes; calm = silent-append isGrave graves-aside (r .log) (g (r .order) .log) (h .calm) (e (r .order) .calm) }
+    go raising m = absurd (false≢true m)
+    go leaving m = absurd (false≢true m)
+    go undone m = absurd (false≢true m)
+    go undoRaising m = absurd (false≢true m)
+
+mild-begun : (o : Order) (b : Begun) → Calm (b .log) → Mild (begunIn o b)
+mild-begun o b h = record { goes = decide (b .over) (λ e. rw e) (λ e. rw e); calm = h }
+
+mild-runs : (o : Order) → Mild (runs o)
+mild-runs o = record { goes = refl; calm = runs-silent isGrave graves-aside o }
+
+mild-ends : (s : Scope) (o : Order) → Mild (ends s o)
+mild-ends s o = record { goes = refl; calm = ends-silent isGrave graves-aside s o }
+
+mild-undo : (l : List ℕ) (s : Scope) (o : Order) → Mild (undo l s o)
+unfolding undo startUndo only
+mild-undo [] s o = record { goes = refl; calm = refl }
+mild-undo (e ∷ l) s o =
+    let o₁ = remembering (withoutLast e (closings o)) o in
+    mild-where (undo l s) (startUndo e s o)
+    (mild-begun o₁ (beginUndo (s .body) (s .bodyAt) e (o₁ .marks)) (begin-undo-silent isGrave graves-aside (s .body) (s .bodyAt) e (o₁ .marks))) (λ o₂. mild-undo l s o₂)
+
+mild-handle : (s : Scope) (o : Order) → Mild (handle s o)
+unfolding handle
+mild-handle s o =
+    let o₁ = marking (s .name) handling o in
+    mild-where (ends s) (begunIn o₁ (begin (s .fault) (s .faultAt) (o₁ .marks))) (mild-begun o₁ (begin (s .fault) (s .faultAt) (o₁ .marks)) (begin-silent isGrave graves-aside (s .fault) (s .faultAt) (o₁ .marks))) (mild-ends s)
+
+mild-undoes : (b : Bool) (s : Scope) (o : Order) → Mild (undoes b s o)
+unfolding undoes
+mild-undoes true s o = let o₁ = marking (s .name) undoing o in mild-where (handle s) (undo (rememberedFor s o₁) s o₁) (mild-undo (rememberedFor s o₁) s o₁) (mild-handle s)
+mild-undoes false s o = let o₁ = marking (s .name) withdrawing o in mild-where (ends s) (undo (rememberedFor s o₁) s o₁) (mild-undo (rememberedFor s o₁) s o₁) (mild-ends s)
+
+mild-turns : (b : Bool) (s : Scope) (o : Order) → Mild (turns b s o)
+unfolding turns
+mild-turns b s o = mild-either (innerRuns (s .body) (s .bodyAt) (o .marks)) (runs o) (undoes b s o) (mild-runs o) (mild-undoes b s o) (turns b s o) refl
+
+mild-looks : (s : Scope) (o : Order) → Mild (looksAgain s o)
+unfolding looksAgain
+mild-looks s o =
+    mild-either (eqb (markOf (s .name) o) faulty) (turns true s o) (elim (eqb (markOf (s .name) o) halted) [ true ↦ turns false s o | false ↦ runs o ]) (mild-turns true s o)
+    (mild-either (eqb (markOf (s .name) o) halted) (turns false s o) (runs o) (mild-turns false s o) (mild-runs o) (elim (eqb (markOf (s .name) o) halted) [ true ↦ turns false s o | false ↦ runs o ]) refl)
+    (looksAgain s o) refl
+
+mild-over : (s : Scope) (o : Order) → Mild (bodyOver s o)
+unfolding bodyOver
+mild-over s o =
+    mild-either (eqb (markOf (s .name) o) active) (runs (marking (s .name) done o)) (looksAgain s o) (mild-runs (marking (s .name) done o)) (mild-looks s o) (bodyOver s o) refl
+
+mild-undo-over : (s : Scope) (o : Order) → Mild (undoOver s o)
+unfolding undoOver
+mild-undo-over s o =
+    mild-either (eqb (markOf (s .name) o) undoing) (undoes true s o) (elim (eqb (markOf (s .name) o) withdrawing) [ true ↦ undoes false s o | false ↦ runs o ]) (mild-undoes true s o)
+    (mild-either (eqb (markOf (s .name) o) withdrawing) (undoes false s o) (runs o) (mild-undoes false s o) (mild-runs o) (elim (eqb (markOf (s .name) o) withdrawing) [ true ↦ undoes false s o | false ↦ runs o ]) refl)
+    (undoOver s o) refl
+
+mild-part-over : (s : Scope) (o : Order) → Mild (partOver s o)
+unfolding partOver
+mild-part-over s o = mild-either (eqb (markOf (s .name) o) handling) (ends s o) (runs o) (mild-ends s o) (mild-runs o) (partOver s o) refl
+
+mild-finishes : (k : ℕ) (o : Order) → Mild (finishes k o)
+unfolding only
+mild-finishes k o = record { goes = refl; calm = refl }
+
+mild-again : (k : ℕ) (o : Order) → Mild (again k o)
+mild-again k o = mild-runs (marked k active o)
+
+mild-joins : (k : ℕ) (within : Acts) (o : Order) → Mild (joins k within o)
+unfolding joins
+mild-joins k within o = mild-either (quiet (k + 1) (sizes within) (o .marks)) (finishes k o) (runs o) (mild-finishes k o) (mild-runs o) (joins k within o) refl
+
+mild-enters : (k : ℕ) (o : Order) (b : Begun) → Calm (b .log) → Mild (enters k o b)
+mild-enters k o b h = mild-where (finishes k) (begunIn (marked k inside o) b) (mild-begun (marked k inside o) b h) (mild-finishes k)
+
+mild-repeats : (k : ℕ) (within : Acts) (o : Order) → Mild (repeats k within o)
+unfolding repeats
+mild-repeats k within o =
+    let o₁ = marked k inside (withMarks (cleared (k + 1) (sizes within) (o .marks)) o) in
+    mild-where (again k) (begunIn o₁ (beginPart 0 within (k + 1) (o₁ .marks))) (mild-begun o₁ (beginPart 0 within (k + 1) (o₁ .marks)) (part-silent isGrave graves-aside 0 within (k + 1) (o₁ .marks))) (mild-again k)
+
+mild-follows : (within : Acts) (k t : ℕ) (o : Order) → Mild (whereOver (finishes k) (begunIn o (beginAfter within (k + 1) t (o .marks))))
+mild-follows within k t o =
+    mild-where (finishes k) (begunIn o (beginAfter within (k + 1) t (o .marks))) (mild-begun o (beginAfter within (k + 1) t (o .marks)) (after-silent isGrave graves-aside within (k + 1) t (o .marks))) (mild-finishes k)
+
+-- activity t stands in a fault part or an undo part that scope n runs, and m is around n
+pub data Handler (p : Plan) (t : ℕ) (n m : Name) : Type 0 where
+  in-fault : placeOf p t ≡ faultOf n m → Handler p t n m
+  in-undo : placeOf p t ≡ undoOf n m → Handler p t n m
+
+-- The log of a step of t: neither a raise nor a fault; a raise and its fault; a raise, the end of the scope that ran the part, and the fault of
+-- the one around, or none where that one is not open; or a raise lost, where its scope is not as it should be.
+pub data Shape (p : Plan) (t : ℕ) (o : Order) : List Event → Type 0 where
+  shape-calm : {l : List Event} → Calm l → Shape p t o l
+  shape-fault : {n m : Name} {l : List Event} → placeOf p t ≡ bodyOf n m → Calm l → Shape p t o (raised t ∷ faulted n ∷ l)
+  shape-end-fault : {n m : Name} {l : List Event} → Handler p t n m → isName p m ≡ true → isOpen (markOf m o) ≡ true → Calm l → Shape p t o (raised t ∷ ended n ∷ faulted m ∷ l)
+  shape-end : {n m : Name} {l : List Event} → Handler p t n m → isName p m ≡ true → isOpen (markOf m o) ≡ false → Calm l → Shape p t o (raised t ∷ ended n ∷ l)
+  shape-lost : {q : Place} {l : List Event} → placeOf p t ≡ q → isName p (nameOf q) ≡ true → fits q o ≡ false → Calm l → Shape p t o (raised t ∷ l)
+
+-- what is calm may follow
+shape-append : {p : Plan} {t : ℕ} {o : Order} {l : List Event} (m : List Event) → Shape p t o l → Calm m → Shape p t o (l ++ m)
+shape-append {l = l} m (shape-calm c) h = shape-calm (silent-append isGrave graves-aside l m c h)
+shape-append m (shape-fault {l = l} x c) h = shape-fault x (silent-append isGrave graves-aside l m c h)
+shape-append m (shape-end-fault {l = l} x y z c) h = shape-end-fault x y z (silent-append isGrave graves-aside l m c h)
+shape-append m (shape-end {l = l} x y z c) h = shape-end x y z (silent-append isGrave graves-aside l m c h)
+shape-append m (shape-lost {l = l} x y z c) h = shape-lost x y z (silent-append isGrave graves-aside l m c h)
+
+-- the root, and the marks before k, are as they were
+pub record Below (k : ℕ) (o o′ : Order) : Type 0 where
+  pub marks : (i : ℕ) → i < k → getD (o′ .marks) i 0 ≡ getD (o .marks) i 0
+  pub rooted : o′ .root ≡ o .root
+
+-- a raise that comes out of an activity in a place
+pub data Raise (p : Plan) (t : ℕ) (q : Place) : List Event → Type 0 where
+  raise-here : placeOf p t ≡ q → Raise p t q (raised t ∷ [])
+  raise-out : {j : Name} → Handler p t j (nameOf q) → Raise p t q (raised t ∷ ended j ∷ [])
+
+-- what a step in an activity in a place comes to
+abbrev pub OutAs : Plan → (t : ℕ) → (bare : Bool) → Place → (k : ℕ) → Order → List Event → Order → Result → Type 0
+OutAs p t b q k o l o′ running = Shape p t o l
+OutAs p t b q k o l o′ over = Shape p t o l
+OutAs p t b q k o l o′ raising = Raise p t q l × Below k o o′ × (b ≡ true → (l ≡ raised t ∷ []) × (placeOf p t ≡ q))
+OutAs p t b q k o l o′ leaving = Shape p t o l
+OutAs p t b q k o l o′ undone = Shape p t o l
+OutAs p t b q k o l o′ undoRaising = (l ≡ raised t ∷ []) × (placeOf p t ≡ undoOf (nameOf q) (aroundOf q)) × Below k o o′ × (b ≡ false)
+
+pub record Out (p : Plan) (t : ℕ) (b : Bool) (q : Place) (k : ℕ) (o : Order) (r : Outcome) : Type 0 where
+  pub comes : OutAs p t b q k o (r .log) (r .order) (r .result)
+
+module _ (p : Plan) (t : ℕ) (b : Bool) (q : Place) (k : ℕ) (o : Order) where
+  -- what is mild, after a log of its shape
+  mild-as : (l : List Event) (r : Outcome) → Shape p t o l → Mild r → OutAs p t b q k o (l ++ r .log) (r .order) (r .result)
+  mild-as l r s m = go (r .result) (m .goes)
+    where
+      go : (x : Result) → isMild x ≡ true → OutAs p t b q k o (l ++ r .log) (r .order) x
+      go running e = shape-append (r .log) s (m .calm)
+      go over e = shape-append (r .log) s (m .calm)
+      go raising e = absurd (false≢true e)
+      go leaving e = absurd (false≢true e)
+      go undone e = absurd (false≢true e)
+      go undoRaising e = absurd (false≢true e)
+
+  -- what is mild
+  out-mild : (r : Outcome) → Mild r → Out p t b q k o r
+  unfolding only
+  out-mild r m = record { comes = mild-as [] r (shape-calm refl) m }
+
+  -- goes on where it is over
+  out-where : (g : Order → Outcome) (r : Outcome) → ((o : Order) → Mild (g o)) → Out p t b q k o r → Out p t b q k o (whereOver g r)
+  out-where g r m h = go (r .result) (h .comes)
+    where
+      go : (x : Result) → OutAs p t b q k o (r .log) (r .order) x → Out p t b q k o (whereOver g (record { result = x; order = r .order; log = r .log }))
+      go running c = record { comes = c }
+      go over c = record { comes = mild-as (r .log) (g (r .order)) c (m (r .order)) }
+      go raising c = record { comes = c }
+      go leaving c = record { comes = c }
+      go undone c = record { comes = c }
+      go undoRaising c = record { comes = c }
+
+  -- and k still has its mark
+  out-goes : (m : ℕ) (g : Order → Outcome) (r : Outcome) → ((o : Order) → Mild (g o)) → Out p t b q k o r → Out p t b q k o (goesOn k m g r)
+  unfolding goesOn
+  out-goes m g r f h =
+      out-where (λ o. elim (eqb (markAt k o) m) [ true ↦ g o | false ↦ runs o ]) r
+      (λ o. mild-either (eqb (markAt k o) m) (g o) (runs o) (f o) (mild-runs o) (elim (eqb (markAt k o) m) [ true ↦ g o | false ↦ runs o ]) refl) h
+
+  -- activity k raises, and is t
+  out-raises : k ≡ t → placeOf p t ≡ q → Out p t b q k o (raises k o)
+  out-raises e l =
+      subst (λ (z : ℕ). Out p t b q k o (record { result = raising; order = marked k idle o; log = raised z ∷ [] })) (sym e)
+      (record { comes = (raise-here l, record { marks = λ i x. getD-set-other (o .marks) k i idle 0 (omega arith); rooted = refl }, λ x. (refl, l)) })
+
+  -- an expression that faults, or the step itself
+  out-or : k ≡ t → placeOf p t ≡ q → (g : ℕ → Outcome) (v : Value) → ((n : ℕ) → Mild (g n)) → Out p t b q k o (orRaises k o g v)
+  out-or e l g fault m = out-raises e l
+  out-or e l g (value n) m = out-mild (g n) (m n)
+
+  -- the step of an activity other than a scope
+  out-itself : (own : Own) (within : Acts) → isScope own ≡ false → k ≡ t → placeOf p t ≡ q → Out p t b q k o (itself own within k o)
+  unfolding itself kind only isGrave
+  out-itself empty within s e l = out-mild (runs o) (mild-runs o)
+  out-itself (send x op vs) within s e l = decide (allBound o vs) (λ d. rw d (out-mild (finishes k o) (mild-finishes k o))) (λ d. rw d (out-raises e l))
+  out-itself (receive x op vs) within s e l = out-mild (finishes k o) (mild-finishes k o)
+  out-itself (setting v x) within s e l = out-or e l (λ n. finishes k (binding v n o)) (evaluate x o) (λ n. mild-finishes k (binding v n o))
+  out-itself raise within s e l = out-raises e l
+  out-itself leave within s e l = record { comes = shape-calm refl }
+  out-itself (choose x) within s e l =
+      out-or e l (λ n. enters k o (beginPart (cond (isTrue n) 0 1) within (k + 1) (marked k inside o .marks))) (evaluate x o)
+      (λ n. mild-enters k o (beginPart (cond (isTrue n) 0 1) within (k + 1) (marked k inside o .marks)) (part-silent isGrave graves-aside (cond (isTrue n) 0 1) within (k + 1) (marked k inside o .marks)))
+  out-itself (repeat x) within s e l =
+      out-or e l (λ n. elim (isTrue n) [ true ↦ repeats k within o | false ↦ finishes k o ]) (evaluate x o)
+      (λ n. mild-either (isTrue n) (repeats k within o) (finishes k o) (mild-repeats k within o) (mild-finishes k o) (elim (isTrue n) [ true ↦ repeats k within o | false ↦ finishes k o ]) refl)
+  out-itself sequence within s e l = out-mild (runs o) (mild-runs o)
+  out-itself flow within s e l = out-mild (runs o) (mild-runs o)
+  out-itself pick within s e l = out-mild (runs o) (mild-runs o)
+  out-itself scope within s e l = absurd (false≢true (sym s))
+  out-itself (arm x op vs) within s e l =
+      out-mild (begunIn o (beginPart 0 within (k + 1) (o .marks))) (mild-begun o (beginPart 0 within (k + 1) (o .marks)) (part-silent isGrave graves-aside 0 within (k + 1) (o .marks)))
+
+  -- what it makes of a step within it
+  out-combines : (own : Own) (within : Acts) (r : Outcome) → isScope own ≡ false → Out p t b q k o r → Out p t b q k o (combines own within k t r)
+  unfolding combines kind
+  out-combines empty within r s h = h
+  out-combines (send x op vs) within r s h = h
+  out-combines (receive x op vs) within r s h = h
+  out-combines (setting v x) within r s h = h
+  out-combines raise within r s h = h
+  out-combines leave within r s h = h
+  out-combines (choose x) within r s h = out-goes inside (finishes k) r (mild-finishes k) h
+  out-combines (repeat x) within r s h = out-goes inside (again k) r (mild-again k) h
+  out-combines sequence within r s h = out-goes active (λ o. whereOver (finishes k) (begunIn o (beginAfter within (k + 1) t (o .marks)))) r (mild-follows within k t) h
+  out-combines flow within r s h = out-goes active (joins k within) r (mild-joins k within) h
+  out-combines pick within r s h = out-goes inside (finishes k) r (mild-finishes k) h
+  out-combines scope within r s h = absurd (false≢true (sym s))
+  out-combines (arm x op vs) within r s h = h
+
+-- What a scope makes of a step in it. Its name stands before the number of its body.
+record Scoped (p : Plan) (s : Scope) : Type 0 where
+  before : Before (s .name) (s .bodyAt)
+  name : isName p (s .name) ≡ true
+
+-- it keeps its mark
+mark-below : (n : Name) (c : ℕ) (o o′ : Order) → Before n c → Below c o o′ → markOf n o′ ≡ markOf n o
+mark-below root c o o′ h g = g .rooted
+mark-below (inner k) c o o′ h g = g .marks k h
+
+-- a raise in its parts ends it
+data Ended (p : Plan) (t : ℕ) (s : Scope) (m : Name) (o : Order) : List Event → Order → Type 0 where
+  ended-so : {o₁ : Order} → Handler p t (s .name) m → isOpen (markOf (s .name) o) ≡ false → Below (s .bodyAt) o o₁
+      → Ended p t s m o (raised t ∷ ended (s .name) ∷ []) (breaks s o₁ .order)
+
+abbrev ScopeAs : Plan → (t : ℕ) → Scope → Name → Order → List Event → Order → Result → Type 0
+ScopeAs p t s m o l o′ running = Shape p t o l
+ScopeAs p t s m o l o′ over = Shape p t o l
+ScopeAs p t s m o l o′ raising = Ended p t s m o l o′
+ScopeAs p t s m o l o′ leaving = Shape p t o l
+ScopeAs p t s m o l o′ undone = ⊥
+ScopeAs p t s m o l o′ undoRaising = ⊥
+
+record ScopeOut (p : Plan) (t : ℕ) (s : Scope) (m : Name) (o : Order) (r : Outcome) : Type 0 where
+  comes : ScopeAs p t s m o (r .log) (r .order) (r .result)
+
+-- a mark that is one of these is not that of an open scope
+undoes-not-open : (m : ℕ) → (eqb m undoing || eqb m withdrawing) ≡ true → isOpen m ≡ false
+undoes-not-open m e =
+    decide (eqb m undoing) (λ d. rw (eqb-true m undoing d)) (λ d. rw (eqb-true m withdrawing (rw d at e)))
+
+heals-not-open : (m : ℕ) → eqb m handling ≡ true → isOpen m ≡ false
+heals-not-open m e = rw (eqb-true m handling e)
+
+module _ (p : Plan) (t : ℕ) (s : Scope) (m : Name) (o : Order) (h : Scoped p s) where
+  scope-mild : (l : List Event) (r : Outcome) → Shape p t o l → Mild r → ScopeOut p t s m o (after l r)
+  scope-mild l r g e = record { comes = go (r .result) (e .goes) }
+    where
+      go : (x : Result) → isMild x ≡ true → ScopeAs p t s m o (l ++ r .log) (r .order) x
+      go running d = shape-append (r .log) g (e .calm)
+      go over d = shape-append (r .log) g (e .calm)
+      go raising d = absurd (false≢true d)
+      go leaving d = absurd (false≢true d)
+      go undone d = absurd (false≢true d)
+      go undoRaising d = absurd (false≢true d)
+
+  -- the result of what is mild
+  scope-result : (l : List Event) (r : Outcome) → isMild (r .result) ≡ true → Shape p t o l → ScopeOut p t s m o (record { result = r .result; order = r .order; log = l })
+  scope-result l r d g = record { comes = go (r .result) d }
+    where
+      go : (x : Result) → isMild x ≡ true → ScopeAs p t s m o l (r .order) x
+      go running d = g
+      go over d = g
+      go raising d = absurd (false≢true d)
+      go leaving d = absurd (false≢true d)
+      go undone d = absurd (false≢true d)
+      go undoRaising d = absurd (false≢true d)
+
+  -- the scope faults
+  faults-out : (l : List Event) (o₁ : Order) → isOpen (markOf (s .name) o) ≡ true → Raise p t (bodyOf (s .name) m) l → ScopeOut p t s m o (after l (faults s o₁))
+  unfolding faults
+  faults-out l o₁ n g =
+      let r = stop (s .body) (s .bodyAt) (marking (s .name) faulty o₁) in
+      let e = mild-turns true s (r .order) in
+      scope-result (l ++ ((faulted (s .name) ∷ r .log) ++ turns true s (r .order) .log)) (turns true s (r .order)) (e .goes)
+      (go l g (r .log ++ turns true s (r .order) .log)
+      (silent-append isGrave graves-aside (r .log) (turns true s (r .order) .log) (stop-silent isGrave graves-aside (s .body) (s .bodyAt) (marking (s .name) faulty o₁)) (e .calm)))
+    where
+      go : (l : List Event) → Raise p t (bodyOf (s .name) m) l → (k : List Event) → Calm k → Shape p t o (l ++ (faulted (s .name) ∷ k))
+      go _ (raise-here x) k c = shape-fault x c
+      go _ (raise-out x) k c = shape-end-fault x (h .name) n c
+
+  -- it does not, as it is not open
+  looks-out : (l : List Event) (o₁ : Order) → isOpen (markOf (s .name) o) ≡ false → Raise p t (bodyOf (s .name) m) l → ScopeOut p t s m o (after l (looksAgain s o₁))
+  looks-out l o₁ n g =
+      let e = mild-looks s o₁ in
+      scope-result (l ++ looksAgain s o₁ .log) (looksAgain s o₁) (e .goes) (go l g (looksAgain s o₁ .log) (e .calm))
+    where
+      go : (l : List Event) → Raise p t (bodyOf (s .name) m) l → (k : List Event) → Calm k → Shape p t o (l ++ k)
+      go _ (raise-here x) k c = shape-lost x (h .name) n c
+      go _ (raise-out x) k c = shape-end x (h .name) n c
+
+  -- a step in its body
+  body-out : (b : Bool) (r : Outcome) → Out p t b (bodyOf (s .name) m) (s .bodyAt) o r → ScopeOut p t s m o (fromBody s r)
+  unfolding fromBody bodyRaised undoRaised breaks only
+  body-out b r w = go (r .result) (w .comes)
+    where
+      o₁ : Order
+      o₁ = r .order
+
+      so : (b : Bool) → isOpen (markOf (s .name) o₁) ≡ b → Raise p t (bodyOf (s .name) m) (r .log) → Below (s .bodyAt) o o₁
+          → ScopeOut p t s m o (after (r .log) (elim b [ true ↦ faults s o₁ | false ↦ looksAgain s o₁ ]))
+      so true e g k = faults-out (r .log) o₁ (ap isOpen (sym (mark-below (s .name) (s .bodyAt) o o₁ (h .before) k)) ∙ e) g
+      so false e g k = looks-out (r .log) o₁ (ap isOpen (sym (mark-below (s .name) (s .bodyAt) o o₁ (h .before) k)) ∙ e) g
+
+      un : (b : Bool) (l : List Event) → (eqb (markOf (s .name) o₁) undoing || eqb (markOf (s .name) o₁) withdrawing) ≡ b → l ≡ raised t ∷ [] → placeOf p t ≡ undoOf (s .name) m
+          → Below (s .bodyAt) o o₁ → ScopeOut p t s m o (after l (elim b [ true ↦ breaks s o₁ | false ↦ runs o₁ ]))
+      un true l e d g k =
+          subst (λ (z : List Event). ScopeOut p t s m o (after z (breaks s o₁))) (sym d)
+          (record { comes = ended-so (in-undo g) (ap isOpen (sym (mark-below (s .name) (s .bodyAt) o o₁ (h .before) k)) ∙ undoes-not-open (markOf (s .name) o₁) e) k })
+      un false l e d g k =
+          subst (λ (z : List Event). ScopeOut p t s m o (after z (runs o₁))) (sym d)
+          (record { comes = shape-lost g (h .name) (ap (λ (x : ℕ). eqb x undoing || eqb x withdrawing) (sym (mark-below (s .name) (s .bodyAt) o o₁ (h .before) k)) ∙ e) refl })
+
+      go : (x : Result) → OutAs p t b (bodyOf (s .name) m) (s .bodyAt) o (r .log) o₁ x → ScopeOut p t s m o (fromBody s (record { result = x; order = o₁; log = r .log }))
+      go running c = scope-mild (r .log) (looksAgain s o₁) c (mild-looks s o₁)
+      go over c = scope-mild (r .log) (bodyOver s o₁) c (mild-over s o₁)
+      go raising c = so (isOpen (markOf (s .name) o₁)) refl (c .0) (c .1)
+      go leaving c = record { comes = c }
+      go undone c = scope-mild (r .log) (undoOver s o₁) c (mild-undo-over s o₁)
+      go undoRaising c = un (eqb (markOf (s .name) o₁) undoing || eqb (markOf (s .name) o₁) withdrawing) (r .log) refl (c .0) (c .1) (c .2)
+
+  -- a step in its fault part
+  fault-out : (r : Outcome) → s .bodyAt ≤ s .faultAt → Out p t true (faultOf (s .name) m) (s .faultAt) o r → ScopeOut p t s m o (fromFault s r)
+  unfolding fromFault partRaised breaks only
+  fault-out r f w = go (r .result) (w .comes)
+    where
+      o₁ : Order
+      o₁ = r .order
+
+      un : (b : Bool) (l : List Event) → eqb (markOf (s .name) o₁) handling ≡ b → l ≡ raised t ∷ [] → placeOf p t ≡ faultOf (s .name) m
+          → Below (s .bodyAt) o o₁ → ScopeOut p t s m o (after l (elim b [ true ↦ breaks s o₁ | false ↦ runs o₁ ]))
+      un true l e d g k =
+          subst (λ (z : List Event). ScopeOut p t s m o (after z (breaks s o₁))) (sym d)
+          (record { comes = ended-so (in-fault g) (ap isOpen (sym (mark-below (s .name) (s .bodyAt) o o₁ (h .before) k)) ∙ heals-not-open (markOf (s .name) o₁) e) k })
+      un false l e d g k =
+          subst (λ (z : List Event). ScopeOut p t s m o (after z (runs o₁))) (sym d)
+          (record { comes = shape-lost g (h .name) (ap (λ (x : ℕ). eqb x handling) (sym (mark-below (s .name) (s .bodyAt) o o₁ (h .before) k)) ∙ e) refl })
+
+      go : (x : Result) → OutAs p t true (faultOf (s .name) m) (s .faultAt) o (r .log) o₁ x → ScopeOut p t s m o (fromFault s (record { result = x; order = o₁; log = r .log }))
+      go running c = record { comes = c }
+      go over c = scope-mild (r .log) (partOver s o₁) c (mild-part-over s o₁)
+      go raising c =
+          un (eqb (markOf (s .name) o₁) handling) (r .log) refl (c .2 refl .0) (c .2 refl .1)
+          (record { marks = λ i x. c .1 .marks i (omega arith); rooted = c .1 .rooted })
+      go leaving c = record { comes = c }
+      go undone c = record { comes = c }
+      go undoRaising c = absurd (false≢true (sym (c .3)))
+
+-- Up the tree.
+
+-- the same in a wider stretch, and with no scope only where there was none
+out-wider : (p : Plan) (t : ℕ) (b b′ : Bool) (q : Place) (k k′ : ℕ) (o : Order) (r : Outcome) → k ≤ k′ → (b ≡ true → b′ ≡ true) → Out p t b′ q k′ o r → Out p t b q k o r
+out-wider p t b b′ q k k′ o r h f w = record { comes = go (r .result) (w .comes) }
+  where
+    below : Below k′ o (r .order) → Below k o (r .order)
+    below g = record { marks = λ i x. g .marks i (omega arith); rooted = g .rooted }
+
+    go : (x : Result) → OutAs p t b′ q k′ o (r .log) (r .order) x → OutAs p t b q k o (r .log) (r .order) x
+    go running c = c
+    go over c = c
+    go raising c = (c .0, below (c .1), λ e. c .2 (f e))
+    go leaving c = c
+    go undone c = c
+    go undoRaising c = (c .0, c .1, below (c .2), decide b (λ e. absurd (false≢true (sym (c .3) ∙ f e))) (λ e. e))
+
+-- a mark that is no scope's says nothing
+mark-plain : (p : Plan) (n : Name) (k v : ℕ) (o : Order) → isName p (inner k) ≡ false → isName p n ≡ true → markOf n (marked k v o) ≡ markOf n o
+mark-plain p root k v o e i = refl
+mark-plain p (inner j) k v o e i =
+    getD-set-other (o .marks) k j v 0 (λ d. false≢true (sym e ∙ subst (λ (z : ℕ). isName p (inner z) ≡ true) d i))
+
+shape-marked : (p : Plan) (t k v : ℕ) (o : Order) {l : List Event} → isName p (inner k) ≡ false → Shape p t (marked k v o) l → Shape p t o l
+shape-marked p t k v o e (shape-calm c) = shape-calm c
+shape-marked p t k v o e (shape-fault x c) = shape-fault x c
+shape-marked p t k v o e (shape-end-fault {n} {m} x y z c) = shape-end-fault x y (ap isOpen (sym (mark-plain p m k v o e y)) ∙ z) c
+shape-marked p t k v o e (shape-end {n} {m} x y z c) = shape-end x y (ap isOpen (sym (mark-plain p m k v o e y)) ∙ z) c
+shape-marked p t k v o e (shape-lost {q} x y z c) = shape-lost x y (fits-marked q y ∙ z) c
+  where
+    fits-marked : (q : Place) → isName p (nameOf q) ≡ true → fits q o ≡ fits q (marked k v o)
+    fits-marked (bodyOf n m) i = ap isOpen (sym (mark-plain p n k v o e i))
+    fits-marked (faultOf n m) i = ap (λ (x : ℕ). eqb x handling) (sym (mark-plain p n k v o e i))
+    fits-marked (undoOf n m) i = ap (λ (x : ℕ). eqb x undoing || eqb x withdrawing) (sym (mark-plain p n k v o e i))
+
+out-marked : (p : Plan) (t : ℕ) (b : Bool) (q : Place) (k v : ℕ) (o : Order) (r : Outcome) → isName p (inner k) ≡ false → Out p t b q k (marked k v o) r → Out p t b q k o r
+out-marked p t b q k v o r e w = record { comes = go (r .result) (w .comes) }
+  where
+    below : Below k (marked k v o) (r .order) → Below k o (r .order)
+    below g = record { marks = λ i x. g .marks i x ∙ getD-set-other (o .marks) k i v 0 (omega arith); rooted = g .rooted }
+
+    go : (x : Result) → OutAs p t b q k (marked k v o) (r .log) (r .order) x → OutAs p t b q k o (r .log) (r .order) x
+    go running c = shape-marked p t k v o e c
+    go over c = shape-marked p t k v o e c
+    go raising c = (c .0, below (c .1), c .2)
+    go leaving c = shape-marked p t k v o e c
+    go undone c = shape-marked p t k v o e c
+    go undoRaising c = (c .0, c .1, below (c .2), c .3)
+
+out-arms : (p : Plan) (t : ℕ) (b : Bool) (q : Place) (own : Own) (within : Acts) (k : ℕ) (o : Order) (r : Outcome) → isName p (inner k) ≡ false
+    → Out p t b q k (arms own within k t o) r → Out p t b q k o r
+unfolding arms
+out-arms p t b q own within k o r e =
+    decide (eqb (kind own) 10 && isPart within (k + 1) t) (λ d. rw d (out-marked p t b q k inside o r e)) (λ d. rw d (λ w. w))
+
+-- the first of two, or the second
+pub first-of : {A : Type 0} (b : Bool) (x y z : A) → z ≡ elim b [ true ↦ x | false ↦ y ] → b ≡ true → z ≡ x
+first-of true x y z e d = e
+first-of false x y z e d = absurd (false≢true d)
+
+pub second-of : {A : Type 0} (b : Bool) (x y z : A) → z ≡ elim b [ true ↦ x | false ↦ y ] → b ≡ false → z ≡ y
+second-of true x y z e d = absurd (false≢true (sym d))
+second-of false x y z e d = e
+
+-- the definitions, by where the step is
+step-here : (own : Own) (within : Acts) (k t : ℕ) (o : Order) → eqb k t ≡ true → stepIn (act own within) k t o ≡ itself own within k o
+unfolding stepIn
+step-here own within k t o e =
+    first-of (eqb k t) (itself own within k o) (combines own within k t (stepAmong within (k + 1) t (arms own within k t o))) (stepIn (act own within) k t o) refl e
+
+step-within : (own : Own) (within : Acts) (k t : ℕ) (o : Order) → eqb k t ≡ false
+    → stepIn (act own within) k t o ≡ combines own within k t (stepAmong within (k + 1) t (arms own within k t o))
+unfolding stepIn
+step-within own within k t o e =
+    second-of (eqb k t) (itself own within k o) (combines own within k t (stepAmong within (k + 1) t (arms own within k t o))) (stepIn (act own within) k t o) refl e
+
+among-first : (a : Act) (l : Acts) (c t : ℕ) (o : Order) → ltb t (c + size a) ≡ true → stepAmong (more a l) c t o ≡ stepIn a c t o
+unfolding stepIn
+among-first a l c t o e = first-of (ltb t (c + size a)) (stepIn a c t o) (stepAmong l (c + size a) t o) (stepAmong (more a l) c t o) refl e
+
+among-later : (a : Act) (l : Acts) (c t : ℕ) (o : Order) → ltb t (c + size a) ≡ false → stepAmong (more a l) c t o ≡ stepAmong l (c + size a) t o
+unfolding stepIn
+among-later a l c t o e = second-of (ltb t (c + size a)) (stepIn a c t o) (stepAmong l (c + size a) t o) (stepAmong (more a l) c t o) refl e
+
+-- where the parts of a scope stand
+abbrev pub parts : Acts → (k t : ℕ) → Place → Place
+parts within k t q = placeParts within (k + 1) t (bodyOf (inner k) (nameOf q)) (faultOf (inner k) (nameOf q)) (undoOf (nameOf q) (aroundOf q))
+
+pub place-here : (own : Own) (within : Acts) (k t : ℕ) (q : Place) → eqb k t ≡ true → placeIn (act own within) k t q ≡ q
+unfolding placeIn
+place-here own within k t q e =
+    first-of (eqb k t) q (elim (isScope own) [ true ↦ parts within k t q | false ↦ placeAmong within (k + 1) t q ]) (placeIn (act own within) k t q) refl e
+
+pub place-within : (own : Own) (within : Acts) (k t : ℕ) (q : Place) → eqb k t ≡ false → isScope own ≡ false → placeIn (act own within) k t q ≡ placeAmong within (k + 1) t q
+unfolding placeIn
+place-within own within k t q e s =
+    second-of (eqb k t) q (elim (isScope own) [ true ↦ parts within k t q | false ↦ placeAmong within (k + 1) t q ]) (placeIn (act own within) k t q) refl e
+    ∙ second-of (isScope own) (parts within k t q) (placeAmong within (k + 1) t q) (elim (isScope own) [ true ↦ parts within k t q | false ↦ placeAmong within (k + 1) t q ]) refl s
+
+pub place-scope : (within : Acts) (k t : ℕ) (q : Place) → eqb k t ≡ false → placeIn (act scope within) k t q ≡ parts within k t q
+unfolding placeIn kind
+place-scope within k t q e = second-of (eqb k t) q (parts within k t q) (placeIn (act scope within) k t q) refl e
+
+pub place-first : (a : Act) (l : Acts) (c t : ℕ) (q : Place) → ltb t (c + size a) ≡ true → placeAmong (more a l) c t q ≡ placeIn a c t q
+unfolding placeIn
+place-first a l c t q e = first-of (ltb t (c + size a)) (placeIn a c t q) (placeAmong l (c + size a) t q) (placeAmong (more a l) c t q) refl e
+
+pub place-later : (a : Act) (l : Acts) (c t : ℕ) (q : Place) → ltb t (c + size a) ≡ false → placeAmong (more a l) c t q ≡ placeAmong l (c + size a) t q
+unfolding placeIn
+place-later a l c t q e = second-of (ltb t (c + size a)) (placeIn a c t q) (placeAmong l (c + size a) t q) (placeAmong (more a l) c t q) refl e
+
+pub parts-first : (a : Act) (l : Acts) (c t : ℕ) (b f u : Place) → ltb t (c + size a) ≡ true → placeParts (more a l) c t b f u ≡ placeIn a c t b
+unfolding placeIn
+parts-first a l c t b f u e = first-of (ltb t (c + size a)) (placeIn a c t b) (placeParts l (c + size a) t f u u) (placeParts (more a l) c t b f u) refl e
+
+pub parts-later : (a : Act) (l : Acts) (c t : ℕ) (b f u : Place) → ltb t (c + size a) ≡ false → placeParts (more a l) c t b f u ≡ placeParts l (c + size a) t f u u
+unfolding placeIn
+parts-later a l c t b f u e = second-of (ltb t (c + size a)) (placeIn a c t b) (placeParts l (c + size a) t f u u) (placeParts (more a l) c t b f u) refl e
+
+-- an activity other than a scope
+part-out : (p : Plan) (t : ℕ) (q : Place) (own : Own) (within : Acts) (k : ℕ) (o : Order) → isScope own ≡ false → isName p (inner k) ≡ false
+    → placeOf p t ≡ placeIn (act own within) k t q
+    → ((o : Order) → placeOf p t ≡ placeAmong within (k + 1) t q → Out p t (bareIn within) q (k + 1) o (stepAmong within (k + 1) t o))
+    → Out p t (bare (act own within)) q k o (stepIn (act own within) k t o)
+unfolding bare
+part-out p t q own within k o s n l f =
+    decide (eqb k t)
+    (λ e. subst (λ (r : Outcome). Out p t (not (isScope own) && bareIn within) q k o r) (sym (step-here own within k t o e))
+    (out-itself p t _ q k o own within s (eqb-true k t e) (l ∙ place-here own within k t q e)))
+    (λ e. subst (λ (r : Outcome). Out p t (not (isScope own) && bareIn within) q k o r) (sym (step-within own within k t o e))
+    (out-combines p t _ q k o own within (stepAmong within (k + 1) t (arms own within k t o)) s
+    (out-arms p t _ q own within k o (stepAmong within (k + 1) t (arms own within k t o)) n
+    (out-wider p t _ (bareIn within) q k (k + 1) (arms own within k t o) _ (omega arith) (λ d. both-true (not (isScope own)) (bareIn within) d (λ x y. y))
+    (f (arms own within k t o) (l ∙ place-within own within k t q e s))))))
+
+-- a list
+among-out : (p : Plan) (t : ℕ) (q : Place) (a : Act) (m : Acts) (c : ℕ) (o : Order) → placeOf p t ≡ placeAmong (more a m) c t q
+    → (placeOf p t ≡ placeIn a c t q → Out p t (bare a) q c o (stepIn a c t o))
+    → (placeOf p t ≡ placeAmong m (c + size a) t q → Out p t (bareIn m) q (c + size a) o (stepAmong m (c + size a) t o))
+    → Out p t (bareIn (more a m)) q c o (stepAmong (more a m) c t o)
+unfolding bare
+among-out p t q a m c o l f g =
+    decide (ltb t (c + size a))
+    (λ e. subst (λ (r : Outcome). Out p t (bare a && bareIn m) q c o r) (sym (among-first a m c t o e))
+    (out-wider p t _ (bare a) q c c o (stepIn a c t o) (omega arith) (λ d. both-true (bare a) (bareIn m) d (λ x y. x)) (f (l ∙ place-first a m c t q e))))
+    (λ e. subst (λ (r : Outcome). Out p t (bare a && bareIn m) q c o r) (sym (among-later a m c t o e))
+    (out-wider p t _ (bareIn m) q c (c + size a) o (stepAmong m (c + size a) t o) (omega arith) (λ d. both-true (bare a) (bareIn m) d (λ x y. y)) (g (l ∙ place-later a m c t q e))))
+
+-- A scope in a place.
+module _ (p : Plan) (t : ℕ) (q : Place) (b f u : Act) (k : ℕ) (o : Order) where
+  -- what its name and its body are
+  scoped : isName p (inner k) ≡ true → Scoped p (scopeAt k (trio b f u))
+  unfolding part partAt
+  scoped n = record { before = omega arith; name = n }
+
+  -- it comes to this where it stands
+  scope-as : (r : Outcome) → ScopeOut p t (scopeAt k (trio b f u)) (nameOf q) o r → Out p t false q k o r
+  unfolding part partAt breaks forgetting
+  scope-as r w = record { comes = go (r .log) (r .order) (r .result) (w .comes) }
+    where
+      go : (l : List Event) (o′ : Order) (x : Result) → ScopeAs p t (scopeAt k (trio b f u)) (nameOf q) o l o′ x → OutAs p t false q k o l o′ x
+      go l o′ running c = c
+      go l o′ over c = c
+      go _ _ raising (ended-so {o₁} g n d) = (
+        raise-out g,
+        record {
+          marks = λ i x. cleared-kept (1 + sizes (trio b f u)) k (set (o₁ .marks) k idle) .below i x ∙ (getD-set-other (o₁ .marks) k i idle 0 (omega arith) ∙ d .marks i (omega arith));
+          rooted = d .rooted;
+        },
+        (λ e. absurd (false≢true e)),
+      )
+      go l o′ leaving c = c
+      go l o′ undone c = absurd c
+      go l o′ undoRaising c = absurd c
+
+  -- its undo part, which the scope around it runs
+  undo-as : (c : ℕ) (r : Outcome) → k ≤ c → Out p t true (undoOf (nameOf q) (aroundOf q)) c o r → Out p t false q k o (fromUndo r)
+  unfolding fromUndo
+  undo-as c r h w = record { comes = go (r .result) (w .comes) }
+    where
+      go : (x : Result) → OutAs p t true (undoOf (nameOf q) (aroundOf q)) c o (r .log) (r .order) x
+          → OutAs p t false q k o (r .log) (r .order) (fromUndo (record { result = x; order = r .order; log = r .log }) .result)
+      go running d = d
+      go over d = d
+      go raising d = (d .2 refl .0, d .2 refl .1, record { marks = λ i x. d .1 .marks i (omega arith); rooted = d .1 .rooted }, refl)
+      go leaving d = d
+      go undone d = d
+      go undoRaising d = absurd (false≢true (sym (d .3)))
+
+  -- in which part the step is
+  in-body : (r : Outcome) → ltb t (k + 1 + size b) ≡ true → inScope k t (trio b f u) r ≡ fromBody (scopeAt k (trio b f u)) r
+  unfolding inScope part partAt
+  in-body r d =
+      first-of (ltb t (k + 1 + size b)) (fromBody (scopeAt k (trio b f u)) r)
+      (elim (ltb t (k + 1 + size b + size f)) [ true ↦ fromFault (scopeAt k (trio b f u)) r | false ↦ fromUndo r ]) (inScope k t (trio b f u) r) refl d
+
+  in-rest : (r : Outcome) (v : Bool) → ltb t (k + 1 + size b) ≡ false → ltb t (k + 1 + size b + size f) ≡ v
+      → inScope k t (trio b f u) r ≡ elim v [ true ↦ fromFault (scopeAt k (trio b f u)) r | false ↦ fromUndo r ]
+  unfolding inScope part partAt
+  in-rest r v d e =
+      second-of (ltb t (k + 1 + size b)) (fromBody (scopeAt k (trio b f u)) r)
+      (elim (ltb t (k + 1 + size b + size f)) [ true ↦ fromFault (scopeAt k (trio b f u)) r | false ↦ fromUndo r ]) (inScope k t (trio b f u) r) refl d
+      ∙ ap (λ (z : Bool). elim z as (λ _. Outcome) [ true ↦ fromFault (scopeAt k (trio b f u)) r | false ↦ fromUndo r ]) e
+
+  scope-out : isName p (inner k) ≡ true → bare f ≡ true → bare u ≡ true → placeOf p t ≡ placeIn (act scope (trio b f u)) k t q
+      → (placeOf p t ≡ placeIn b (k + 1) t (bodyOf (inner k) (nameOf q)) → Out p t (bare b) (bodyOf (inner k) (nameOf q)) (k + 1) o (stepIn b (k + 1) t o))
+      → (placeOf p t ≡ placeIn f (k + 1 + size b) t (faultOf (inner k) (nameOf q)) → Out p t (bare f) (faultOf (inner k) (nameOf q)) (k + 1 + size b) o (stepIn f (k + 1 + size b) t o))
+      → (placeOf p t ≡ placeIn u (k + 1 + size b + size f) t (undoOf (nameOf q) (aroundOf q))
+      → Out p t (bare u) (undoOf (nameOf q) (aroundOf q)) (k + 1 + size b + size f) o (stepIn u (k + 1 + size b + size f) t o))
+      → Out p t (bare (act scope (trio b f u))) q k o (stepIn (act scope (trio b f u)) k t o)
+  unfolding bare kind itself closing combines arms inScope part partAt only isGrave stepIn
+  scope-out n zf zu l ib jf ju =
+      decide (eqb k t)
+      (λ e. subst (λ (r : Outcome). Out p t false q k o r) (sym (step-here scope (trio b f u) k t o e)) (out-mild p t false q k o (closing k (scopeAt k (trio b f u)) o) (record { goes = refl; calm = refl })))
+      (λ e. subst (λ (r : Outcome). Out p t false q k o r) (sym (step-within scope (trio b f u) k t o e)) (inside-it (l ∙ place-scope (trio b f u) k t q e)))
+    where
+      S : Scope
+      S = scopeAt k (trio b f u)
+
+      rest : Acts
+      rest = more f (more u none)
+
+      inside-it : placeOf p t ≡ parts (trio b f u) k t q → Out p t false q k o (inScope k t (trio b f u) (stepAmong (trio b f u) (k + 1) t o))
+      inside-it l₁ =
+          decide (ltb t (k + 1 + size b))
+          (λ d. via (in-body _ d ∙ ap (fromBody S) (among-first b rest (k + 1) t o d))
+          (scope-as (fromBody S (stepIn b (k + 1) t o)) (body-out p t S (nameOf q) o (scoped n) (bare b) (stepIn b (k + 1) t o) (ib (l₁ ∙ parts-first b rest (k + 1) t _ _ _ d)))))
+          (λ d. decide (ltb t (k + 1 + size b + size f))
+          (λ v. via (in-rest _ true d v ∙ ap (fromFault S) (among-later b rest (k + 1) t o d ∙ among-first f (more u none) (k + 1 + size b) t o v))
+          (scope-as (fromFault S (stepIn f (k + 1 + size b) t o)) (fault-out p t S (nameOf q) o (scoped n) (stepIn f (k + 1 + size b) t o) (omega arith)
+          (subst (λ (z : Bool). Out p t z (faultOf (inner k) (nameOf q)) (k + 1 + size b) o (stepIn f (k + 1 + size b) t o)) zf
+          (jf (l₁ ∙ (parts-later b rest (k + 1) t _ _ _ d ∙ parts-first f (more u none) (k + 1 + size b) t _ _ _ v)))))))
+          (λ v. decide (ltb t (k + 1 + size b + size f + size u))
+          (λ w. via (in-rest _ false d v ∙ ap fromUndo (among-later b rest (k + 1) t o d ∙ (among-later f (more u none) (k + 1 + size b) t o v ∙ among-first u none (k + 1 + size b + size f) t o w)))
+          (undo-as (k + 1 + size b + size f) (stepIn u (k + 1 + size b + size f) t o) (omega arith)
+          (subst (λ (z : Bool). Out p t z (undoOf (nameOf q) (aroundOf q)) (k + 1 + size b + size f) o (stepIn u (k + 1 + size b + size f) t o)) zu
+          (ju (l₁ ∙ (parts-later b rest (k + 1) t _ _ _ d ∙ (parts-later f (more u none) (k + 1 + size b) t _ _ _ v ∙ parts-first u none (k + 1 + size b + size f) t _ _ _ w)))))))
+          (λ w. via (in-rest _ false d v ∙ ap fromUndo (among-later b rest (k + 1) t o d ∙ (among-later f (more u none) (k + 1 + size b) t o v ∙ among-later u none (k + 1 + size b + size f) t o w)))
+          (undo-as (k + 1 + size b + size f) (runs o) (omega arith) (out-mild p t true (undoOf (nameOf q) (aroundOf q)) (k + 1 + size b + size f) o (runs o) (mild-runs o))))))
+        where
+          via : {r r′ : Outcome} → r ≡ r′ → Out p t false q k o r′ → Out p t false q k o r
+          via e w = subst (λ (r : Outcome). Out p t false q k o r) (sym e) w
+
+-- in an empty list
+nothing-out : (p : Plan) (t : ℕ) (q : Place) (c : ℕ) (o : Order) → Out p t (bareIn none) q c o (stepAmong none c t o)
+unfolding stepIn
+nothing-out p t q c o = out-mild p t _ q c o (runs o) (mild-runs o)
+
+-- there is no scope in an undo part
+undo-bare : {p : Plan} {a : Act} {k : ℕ} → UndoPart p a k → bare a ≡ true
+unfolding bare
+undo-bare (undo-part s a g z l d) = rw (s, d)
+
+-- Every step in a tree.
+mutual
+  unfolding bare
+
+  outs : {p : Plan} {n : Name} {a : Act} {k : ℕ} → Sits p n a k → (t : ℕ) (q : Place) (o : Order) → placeOf p t ≡ placeIn a k t q
+      → Out p t (bare a) q k o (stepIn a k t o)
+  outs {p} (sits-part {n} {own} {within} {k} s g y l) t q o e = part-out p t q own within k o s (y .noScope) e (λ o₁ d. outs-in l t q o₁ d)
+  outs {p} (sits-scope {n} {b} {f} {u} {k} kn i sb sf z su) t q o e =
+      scope-out p t q b f u k o (kn .name) z (undo-bare su) e
+      (λ d. outs sb t (bodyOf (inner k) (nameOf q)) o d) (λ d. outs sf t (faultOf (inner k) (nameOf q)) o d) (λ d. outs-undo su t (undoOf (nameOf q) (aroundOf q)) o d)
+
+  outs-in : {p : Plan} {n : Name} {l : Acts} {c : ℕ} → SitsIn p n l c → (t : ℕ) (q : Place) (o : Order) → placeOf p t ≡ placeAmong l c t q
+      → Out p t (bareIn l) q c o (stepAmong l c t o)
+  outs-in {p} (sits-none {n} {c}) t q o e = nothing-out p t q c o
+  outs-in {p} (sits-more {n} {a} {l} {c} s y) t q o e = among-out p t q a l c o e (λ d. outs s t q o d) (λ d. outs-in y t q o d)
+
+  outs-undo : {p : Plan} {a : Act} {k : ℕ} → UndoPart p a k → (t : ℕ) (q : Place) (o : Order) → placeOf p t ≡ placeIn a k t q
+      → Out p t (bare a) q k o (stepIn a k t o)
+  outs-undo {p} (undo-part {own} {within} {k} s a g z l d) t q o e = part-out p t q own within k o s z e (λ o₁ v. outs-in l t q o₁ v)
+
+-- From the root.
+root-out : (p : Plan) → Seat p (rootOf p) → (t : ℕ) (o : Order) → ScopeOut p t (rootOf p) root o (stepRoot p t o)
+unfolding stepRoot placeOf
+root-out p h t o =
+    decide (ltb t (size (p .body)))
+    (λ e. rw (e, stepRoot) (body-out p t (rootOf p) root o w (bare (p .body)) (stepIn (p .body) 0 t o) (outs (h .body) t (bodyOf root root) o (rw (e, placeOf) refl))))
+    (λ e. rw (e, stepRoot) (fault-out p t (rootOf p) root o w (stepIn (p .fault) (size (p .body)) t o) (omega arith)
+    (subst (λ (z : Bool). Out p t z (faultOf root root) (size (p .body)) o (stepIn (p .fault) (size (p .body)) t o)) (h .bareFault)
+    (outs (h .fault) t (faultOf root root) o (rw (e, placeOf) refl)))))
+  where
+    w : Scoped p (rootOf p)
+    w = record { before = tt; name = refl }
+
+-- The log of a step of an order has its shape.
+pub order-shape : (p : Plan) → Seat p (rootOf p) → (t : ℕ) (o : Order) → Shape p t o (stepOrder p t o .log)
+unfolding stepOrder endOf movedTo only isGrave
+order-shape p h t o = go (r .log) (r .order) (r .result) (root-out p h t o .comes)
+  where
+    r : Outcome
+    r = stepRoot p t o
+
+    well : (l : List Event) (o′ : Order) (b : Bool) → Shape p t o l → Shape p t o (movedTo (record { result = running; order = o′; log = l }) (cond b Well None) .log)
+    well l o′ true g = shape-append (ended root ∷ []) g refl
+    well l o′ false g = g
+
+    go : (l : List Event) (o′ : Order) (x : Result) → ScopeAs p t (rootOf p) root o l o′ x
+        → Shape p t o (movedTo (record { result = x; order = o′; log = l }) (endOf (record { result = x; order = o′; log = l })) .log)
+    go l o′ running c = well l o′ (eqb (o′ .root) done) c
+    go l o′ over c = c
+    go _ _ raising (ended-so g n d) = shape-end g refl n refl
+    go l o′ leaving c = c
+    go l o′ undone c = absurd c
+    go l o′ undoRaising c = absurd c
+
+-- What an order that starts logs before its step is calm.
+pub start-calm : (p : Plan) → Calm (started ∷ begunOrder p .log)
+unfolding begunOrder only isGrave
+start-calm p = begin-silent isGrave graves-aside (p .body) 0 _

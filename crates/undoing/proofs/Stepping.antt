@@ -1,0 +1,931 @@
+-- A step in a tree, from the activity that acts up: how the tree stands after it, and that all it logs is right. Assumes nothing.
+use Prim.Native.Nat.{ℕ, _+_, _≤_, _<_}
+use native.Mathlib.Omega.{arith}
+use mathlib.Core.Path.{_≡_, refl, sym, ap, subst, _∙_}
+use mathlib.Core.Bool.{Bool, true, false, _&&_, false≢true, or-true, and-false}
+use mathlib.Core.List.{List, [], _∷_, _++_, reverse, reverse-append, append-nil}
+use lib.ListN.{length, getD, length-set}
+use lib.Seq.{getD-set-same, getD-set-other}
+use lib.Dec.{eqb, ltb, leb}
+use borrow.Author.Tests.{eqb-true, eqb-false, eq-eqb, ne-eqb, ltb-true, ltb-false, lt-ltb, le-ltb, le-leb}
+use Rattle.plan.specs.Tree.{Own, empty, send, receive, set as setting, raise, leave, choose, repeat, sequence, flow, pick, scope, arm, kind, Act, act, Acts, none, more, Plan, size, sizes, count}
+use Rattle.order.specs.declared.Order.{Order}
+use Rattle.order.specs.Lists.{only}
+use Rattle.order.specs.State.{Name, root, inner, same, idle, active, inside, done, closings, remembering, marked, markOf}
+use Rattle.order.specs.Event.{Event, raised}
+use Rattle.order.specs.Begin.{part, partAt, beginPart}
+use Rattle.order.specs.declared.Way.{Way as Result}
+use Rattle.order.specs.declared.Way.the-variants.{Running as running, Over as over, Raising as raising, Leaving as leaving, Undone as undone, UndoRaising as undoRaising}
+use Rattle.order.specs.Scope.{Outcome, runs, begunIn, Scope, scopeAt, isScope, forgetting, closing, innerRuns, innerRunsIn, fromBody, fromFault, fromUndo}
+use Rattle.order.specs.Acting.{itself, inScope, combines, arms, isPart, stepIn, stepAmong}
+use Rattle.machine.specs.Fit.{awaits}
+use Rattle.machine.specs.Demand3.{Inner, insideOf, isUndoRaise}
+use Rattle.undoing.specs.Ties.{isName}
+use Rattle.undoing.proofs.Parts.{both, decide, one-some, only-append, same-itself, same-swap}
+use Rattle.undoing.proofs.Accounts.{live, phase, Known}
+use Rattle.undoing.proofs.Moves.{move-close}
+use Rattle.undoing.proofs.Marks.{run-loud, trio, spread, Agree, Quiet, Kept, holding, Run, run-awaits, run-one, run-all, run-body, run-done, run-turned, One, one-here, one-later, All, all-run, all-quiet, Turned, turned-waits, turned-undoes, turned-heals, turned-not-open, Stopped, stopped-part, stopped-quiet, stopped-scope, StoppedIn, stopped-more, Undoing, undoing-part, undoing-scope, UndoingIn, undoing-here, undoing-later, able-quiet, able-run, StoppableIn, able-more, quiet-part, quiet-agree, quiet-join, agree-below, agree-above, kept-wider, kept-set, run-agree, all-agree, stopped-agree, stopped-in-agree, quiet-stoppable, all-stoppable}
+use Rattle.undoing.proofs.Orders.{isIn, listOf, momentOf, Does, does-one, plain-marked, bare, bareIn, bare-names-in, innerAt, isArm, least, Sits, sits-part, sits-scope, SitsIn, sits-more, UndoPart, undo-part}
+use Rattle.undoing.proofs.Beginning.{Begins, quiet-set, quiet-cons}
+use Rattle.undoing.proofs.Seats.{Seat, not-in, number-inside, remembering-closings, inside-rest, quiet-inner, quiet-inner-in, inner-is}
+use Rattle.undoing.proofs.Turning.{Apart}
+use Rattle.undoing.proofs.Stopping.{seat-of}
+use Rattle.undoing.proofs.Waiting.{opens, Waits, waits-itself, waits-within, WaitsIn, waits-first, waits-later, idle-awaits, opens-idle, quiet-waits, quiet-waits-in, stopped-waits, undoing-waits}
+use Rattle.undoing.proofs.Breaking.{Distinct, forgotten-list, forgotten-other}
+use Rattle.undoing.proofs.Scoping.{Acted, RunAs, StopAs, ScopesRest, UndoAs, scope-live, scope-done, scope-turned, Turning, Running, StepsAs, Steps, Reach, from-live, from-stopped, from-undoing, from-heals}
+use Rattle.undoing.proofs.Goings.{begins-at, acts-itself, acts-runs}
+use Rattle.undoing.proofs.Combining.{OneAs, AllAs, run-before, combines-one, combines-all, arms-holding, arms-held, arms-none, Idly, idly-same, idly-runs, combines-idly}
+
+-- the definitions, by where the step is
+step-is : (own : Own) (within : Acts) (k t : ℕ) (o : Order) (b : Bool) → eqb k t ≡ b
+    → stepIn (act own within) k t o ≡ elim b [ true ↦ itself own within k o | false ↦ combines own within k t (stepAmong within (k + 1) t (arms own within k t o)) ]
+unfolding stepIn
+step-is own within k t o b e =
+    subst (λ (z : Bool). stepIn (act own within) k t o ≡ elim z [ true ↦ itself own within k o | false ↦ combines own within k t (stepAmong within (k + 1) t (arms own within k t o)) ]) e refl
+
+-- in a list
+among-is : (a : Act) (l : Acts) (c t : ℕ) (o : Order) (b : Bool) → ltb t (c + size a) ≡ b
+    → stepAmong (more a l) c t o ≡ elim b [ true ↦ stepIn a c t o | false ↦ stepAmong l (c + size a) t o ]
+unfolding stepIn
+among-is a l c t o b e = subst (λ (z : Bool). stepAmong (more a l) c t o ≡ elim z [ true ↦ stepIn a c t o | false ↦ stepAmong l (c + size a) t o ]) e refl
+
+-- an arm of an activity that has arms is taken
+taken-arms : (own : Own) (within : Acts) (k t : ℕ) (o : Order) → eqb (kind own) 10 ≡ true → isPart within (k + 1) t ≡ true
+    → arms own within k t o ≡ marked k inside o
+unfolding arms
+taken-arms own within k t o x y = rw (x, y)
+
+module _ (p : Plan) (distinct : Distinct p) where
+  -- Closing.
+
+  -- the list of a scope that is not around the closed one
+  closed-list : (s : Scope) (n : Name) (k : ℕ) (o : Order) → isIn p n k ≡ false
+      → listOf p n (marked k idle (remembering (closings (forgetting s o) ++ (k ∷ [])) o)) ≡ listOf p n (forgetting s o)
+  unfolding only
+  closed-list s n k o e =
+      ap (λ (c : List ℕ). reverse (only (isIn p n) c)) (remembering-closings (closings (forgetting s o) ++ (k ∷ [])) o)
+      ∙ (ap reverse (only-append (isIn p n) (closings (forgetting s o)) (k ∷ [])) ∙ rw (e, append-nil))
+
+  -- the list of the one around it
+  closed-own : (s : Scope) (n : Name) (k : ℕ) (o : Order) → isIn p n k ≡ true
+      → listOf p n (marked k idle (remembering (closings (forgetting s o) ++ (k ∷ [])) o)) ≡ k ∷ listOf p n (forgetting s o)
+  unfolding only
+  closed-own s n k o e =
+      ap (λ (c : List ℕ). reverse (only (isIn p n) c)) (remembering-closings (closings (forgetting s o) ++ (k ∷ [])) o)
+      ∙ (ap reverse (only-append (isIn p n) (closings (forgetting s o)) (k ∷ [])) ∙ rw (e, reverse-append))
+
+  -- no other mark has a change
+  closed-mark : (n : Name) (k : ℕ) (l : List ℕ) (o : Order) → same n (inner k) ≡ false → markOf n (marked k idle (remembering l o)) ≡ markOf n o
+  closed-mark root k l o t = refl
+  closed-mark (inner j) k l o t = getD-set-other (o .marks) k j idle 0 (eqb-false j k t)
+
+  -- the close of a scope that is done is right
+  closes : {n : Name} (b f u : Act) (k : ℕ) (o : Order) → Known p (innerAt k n (trio b f u)) → Seat p (scopeAt k (trio b f u))
+      → phase (markOf n o) ≡ live → getD (o .marks) k 0 ≡ done → Quiet (o .marks) (k + 1) (size b + (size f + size u)) → k < length (o .marks)
+      → Acted k (spread b f u) o (RunAs p (act scope (trio b f u)) k k o) (closing k (scopeAt k (trio b f u)) o)
+  unfolding closing size part partAt only
+  closes {n} b f u k o kn h v e q m =
+      record {
+        kept = kept-set k _ k idle (o .marks) (omega arith) (omega arith);
+        rooted = refl;
+        comes = (
+          quiet-cons (getD-set-same (o .marks) k idle 0 m) (quiet-part (quiet-set idle q (omega arith)) (omega arith) (omega arith)),
+          does-one (λ past x. move-close p (momentOf p o) (momentOf p o₁) past x (innerAt k n (trio b f u)) kn (ap phase e)
+              (inside-rest p s o h (quiet-inner b (k + 1) (quiet-part q (omega arith) (omega arith)))) v
+              (ap phase (getD-set-same (o .marks) k idle 0 m))
+              (closed-list s (inner k) k o (not-in p (inner k) (innerAt k n (trio b f u)) kn (kn .apart)) ∙ forgotten-list p distinct s o h)
+              (closed-mark n k l₁ o (same-swap n (inner k) ∙ kn .apart))
+              (closed-own s n k o (one-some (λ (y : Inner). eqb (y .number) k) (λ (y : Inner). eqb (y .number) k) (innerAt k n (trio b f u)) (insideOf p n)
+              (number-inside p n (innerAt k n (trio b f u)) kn ∙ rw (same-itself n)) (eq-eqb k k refl))
+              ∙ ap (λ (l : List ℕ). k ∷ l) (forgotten-other p distinct s n o h (same-swap n (inner k) ∙ kn .apart)))
+              (λ i j t w. (ap phase (closed-mark i k l₁ o t), closed-list s i k o (not-in p i (innerAt k n (trio b f u)) kn w) ∙ forgotten-other p distinct s i o h t))),
+        );
+      }
+    where
+      s : Scope
+      s = scopeAt k (trio b f u)
+
+      l₁ : List ℕ
+      l₁ = closings (forgetting s o) ++ (k ∷ [])
+
+      o₁ : Order
+      o₁ = marked k idle (remembering l₁ o)
+
+  -- From one to a list.
+
+  -- of a list without scopes the first has none
+  bare-first : (a : Act) (l : Acts) → bareIn (more a l) ≡ true → bare a ≡ true
+  unfolding bare
+  bare-first a l e = both (bare a) (bareIn l) e (λ x y. x)
+
+  -- nor have the others
+  bare-rest : (a : Act) (l : Acts) → bareIn (more a l) ≡ true → bareIn l ≡ true
+  unfolding bare
+  bare-rest a l e = both (bare a) (bareIn l) e (λ x y. y)
+
+  module _ (a : Act) (l : Acts) (c t : ℕ) (o : Order) (r : Outcome) where
+    first-one : Acted c (size a) o (RunAs p a c t o) r → Quiet (o .marks) (c + size a) (sizes l) → Acted c (size a + sizes l) o (OneAs p (more a l) c t o) r
+    unfolding size
+    first-one w q = record { kept = kept-wider (w .kept) (omega arith) (omega arith); rooted = w .rooted; comes = go (r .result) (w .comes) }
+      where
+        q₁ : Quiet (r .order .marks) (c + size a) (sizes l)
+        q₁ = quiet-agree q (agree-above (w .kept) (omega arith))
+
+        go : (x : Result) → RunAs p a c t o (r .log) (r .order) x → OneAs p (more a l) c t o (r .log) (r .order) x
+        go running d = (one-here (d .0) q₁, d .1)
+        go over d = (quiet-join (d .0) q₁ refl, d .1)
+        go raising d = (able-more (d .0) (quiet-stoppable l (c + size a) q₁), d .1, λ e. d .2 (bare-first a l e))
+        go leaving d = d
+        go undone d = d
+        go undoRaising d = d
+
+    -- where a later one runs
+    later-one : Acted (c + size a) (sizes l) o (OneAs p l (c + size a) t o) r → Quiet (o .marks) c (size a)
+        → Acted c (size a + sizes l) o (OneAs p (more a l) c t o) r
+    unfolding size
+    later-one w q = record { kept = kept-wider (w .kept) (omega arith) (omega arith); rooted = w .rooted; comes = go (r .result) (w .comes) }
+      where
+        q₁ : Quiet (r .order .marks) c (size a)
+        q₁ = quiet-agree q (agree-below (w .kept) (omega arith))
+
+        go : (x : Result) → OneAs p l (c + size a) t o (r .log) (r .order) x → OneAs p (more a l) c t o (r .log) (r .order) x
+        go running d = (one-later q₁ (d .0), d .1)
+        go over d = (quiet-join q₁ (d .0) refl, d .1)
+        go raising d = (able-more (able-quiet q₁) (d .0), d .1, λ e. d .2 (bare-rest a l e))
+        go leaving d = d
+        go undone d = d
+        go undoRaising d = d
+
+    -- the first of a flow
+    first-all : Acted c (size a) o (RunAs p a c t o) r → All (o .marks) l (c + size a) → Acted c (size a + sizes l) o (AllAs p (more a l) c t o) r
+    unfolding size
+    first-all w q = record { kept = kept-wider (w .kept) (omega arith) (omega arith); rooted = w .rooted; comes = go (r .result) (w .comes) }
+      where
+        q₁ : All (r .order .marks) l (c + size a)
+        q₁ = all-agree q (agree-above (w .kept) (omega arith))
+
+        go : (x : Result) → RunAs p a c t o (r .log) (r .order) x → AllAs p (more a l) c t o (r .log) (r .order) x
+        go running d = (all-run (d .0) q₁, d .1, λ q. run-loud (d .0) (quiet-part q (omega arith) (omega arith)))
+        go over d = (all-quiet (d .0) q₁, d .1)
+        go raising d = (able-more (d .0) (all-stoppable q₁), d .1, λ e. d .2 (bare-first a l e))
+        go leaving d = d
+        go undone d = d
+        go undoRaising d = d
+
+    -- a later one of a flow
+    later-all : Acted (c + size a) (sizes l) o (AllAs p l (c + size a) t o) r
+        → ((ms : List ℕ) → Agree c (size a) (o .marks) ms → All ms l (c + size a) → All ms (more a l) c)
+        → ((ms : List ℕ) → Agree c (size a) (o .marks) ms → StoppableIn ms l (c + size a) → StoppableIn ms (more a l) c)
+        → Acted c (size a + sizes l) o (AllAs p (more a l) c t o) r
+    unfolding size
+    later-all w f g = record { kept = kept-wider (w .kept) (omega arith) (omega arith); rooted = w .rooted; comes = go (r .result) (w .comes) }
+      where
+        h : Agree c (size a) (o .marks) (r .order .marks)
+        h = agree-below (w .kept) (omega arith)
+
+        go : (x : Result) → AllAs p l (c + size a) t o (r .log) (r .order) x → AllAs p (more a l) c t o (r .log) (r .order) x
+        go running d = (f (r .order .marks) h (d .0), d .1, λ q. d .2 (quiet-part q (omega arith) (omega arith)))
+        go over d = (f (r .order .marks) h (d .0), d .1)
+        go raising d = (g (r .order .marks) h (d .0), d .1, λ e. d .2 (bare-rest a l e))
+        go leaving d = d
+        go undone d = d
+        go undoRaising d = d
+
+  -- Arms.
+
+  -- the step of an arm
+  arm-itself : (own : Own) (within : Acts) (k : ℕ) (o : Order) → isArm own ≡ true
+      → (itself own within k o ≡ begunIn o (beginPart 0 within (k + 1) (o .marks))) × (holding own ≡ idle) × (least own ≡ 1)
+  unfolding itself kind least
+  arm-itself empty within k o e = absurd (false≢true e)
+  arm-itself (send x y vs) within k o e = absurd (false≢true e)
+  arm-itself (receive x y vs) within k o e = absurd (false≢true e)
+  arm-itself (setting v x) within k o e = absurd (false≢true e)
+  arm-itself raise within k o e = absurd (false≢true e)
+  arm-itself leave within k o e = absurd (false≢true e)
+  arm-itself (choose x) within k o e = absurd (false≢true e)
+  arm-itself (repeat x) within k o e = absurd (false≢true e)
+  arm-itself sequence within k o e = absurd (false≢true e)
+  arm-itself flow within k o e = absurd (false≢true e)
+  arm-itself pick within k o e = absurd (false≢true e)
+  arm-itself scope within k o e = absurd (false≢true e)
+  arm-itself (arm x y vs) within k o e = (refl, refl, refl)
+
+  -- an arm begins what stands within it
+  arm-begun : (own : Own) (within : Acts) (k t : ℕ) (o : Order) (ms : List ℕ) (v : Bool) (g : List Event) → isScope own ≡ false → holding own ≡ idle
+      → getD (o .marks) k 0 ≡ idle
+      → Begins p (λ ns. One ns within (k + 1)) (k + 1) (sizes within) o o (record { marks = ms; over = v; log = g })
+      → Acted k (1 + sizes within) o (RunAs p (act own within) k t o) (begunIn o (record { marks = ms; over = v; log = g }))
+  unfolding size
+  arm-begun own within k t o ms true g s h e b =
+      record {
+        kept = kept-wider (b .kept) (omega arith) (omega arith);
+        rooted = refl;
+        comes = (quiet-cons (b .kept .below k (omega arith) ∙ e) (b .quiet refl), b .does);
+      }
+  arm-begun own within k t o ms false g s h e b =
+      record {
+        kept = kept-wider (b .kept) (omega arith) (omega arith);
+        rooted = refl;
+        comes = (run-one s (b .kept .below k (omega arith) ∙ (e ∙ sym h)) (b .runs refl), b .does);
+      }
+
+  -- where all is quiet, what has its step is an open arm
+  arm-steps : {n : Name} {a : Act} {k : ℕ} {ms : List ℕ} {b : Bool} → Sits p n a k → (t : ℕ) (o : Order) → Waits ms a k t b → Quiet ms k (size a)
+      → Quiet (o .marks) k (size a)
+      → k + size a ≤ length (o .marks) → (Acted k (size a) o (RunAs p a k t o) (stepIn a k t o)) × (k ≡ t) × (b ≡ true)
+  unfolding size kind
+  arm-steps {ms = ms} (sits-part {n} {own} {within} {k} s g y l) t o (waits-itself {b = b} e d) q q₁ m =
+      let i = idle-awaits own b (rw (q .at k (omega arith) (omega arith)) at d) in
+      let j = arm-itself own within k o (i .0) in (
+        subst (λ (r : Outcome). Acted k (1 + sizes within) o (RunAs p (act own within) k t o) r)
+            (sym (step-is own within k t o true (eq-eqb k t e) ∙ j .0))
+            (arm-begun own within k t o _ _ _ s (j .1) (q₁ .at k (omega arith) (omega arith))
+            (begins-at p l 0 (omega (arith, j .2)) o (quiet-part q₁ (omega arith) (omega arith)) (omega arith))),
+        e,
+        i .1,
+      )
+  arm-steps {ms = ms} (sits-part {n} {own} {within} {k} s g y l) t o (waits-within h w) q q₁ m =
+      absurd (quiet-waits-in w (opens-idle own (getD ms k 0) (q .at k (omega arith) (omega arith))) (quiet-part q (omega arith) (omega arith)))
+  arm-steps {ms = ms} (sits-scope {k = k} kn i sb sf z su) t o (waits-itself {b = b} e d) q q₁ m =
+      absurd (false≢true (idle-awaits scope b (rw (q .at k (omega arith) (omega arith)) at d) .0))
+  arm-steps {ms = ms} (sits-scope {k = k} kn i sb sf z su) t o (waits-within h w) q q₁ m =
+      absurd (quiet-waits-in w (opens-idle scope (getD ms k 0) (q .at k (omega arith) (omega arith))) (quiet-part q (omega arith) (omega arith)))
+
+  -- in a list
+  arms-steps : {n : Name} {l : Acts} {c : ℕ} {ms : List ℕ} {b : Bool} → SitsIn p n l c → (t : ℕ) (o : Order) → WaitsIn ms l c t b
+      → Quiet ms c (sizes l) → Quiet (o .marks) c (sizes l)
+      → c + sizes l ≤ length (o .marks) → (Acted c (sizes l) o (OneAs p l c t o) (stepAmong l c t o)) × (isPart l c t ≡ true) × (b ≡ true)
+  unfolding size isPart
+  arms-steps (sits-more {n} {a} {l} {c} s y) t o (waits-first h w) q q₁ m =
+      let r = arm-steps s t o w (quiet-part q (omega arith) (omega arith)) (quiet-part q₁ (omega arith) (omega arith)) (omega arith) in (
+        subst (λ (z : Outcome). Acted c (size a + sizes l) o (OneAs p (more a l) c t o) z) (sym (among-is a l c t o true (lt-ltb t (c + size a) h)))
+            (first-one a l c t o (stepIn a c t o) (r .0) (quiet-part q₁ (omega arith) (omega arith))),
+        rw (eq-eqb c t (r .1)),
+        r .2,
+      )
+  arms-steps (sits-more {n} {a} {l} {c} s y) t o (waits-later h w) q q₁ m =
+      let r = arms-steps y t o w (quiet-part q (omega arith) (omega arith)) (quiet-part q₁ (omega arith) (omega arith)) (omega arith) in (
+        subst (λ (z : Outcome). Acted c (size a + sizes l) o (OneAs p (more a l) c t o) z) (sym (among-is a l c t o false (le-ltb t (c + size a) h)))
+            (later-one a l c t o (stepAmong l (c + size a) t o) (r .0) (quiet-part q₁ (omega arith) (omega arith))),
+        rw (r .1, or-true),
+        r .2,
+      )
+
+  -- what has one running in it has no step of its own, but a sequence or a flow that stays as it is
+  held-itself : (own : Own) (within : Acts) (k : ℕ) (o : Order) → isScope own ≡ false → awaits own false (holding own) ≡ true → itself own within k o ≡ runs o
+  unfolding itself kind awaits
+  held-itself empty within k o s e = absurd (false≢true e)
+  held-itself (send x y vs) within k o s e = absurd (false≢true e)
+  held-itself (receive x y vs) within k o s e = absurd (false≢true e)
+  held-itself (setting v x) within k o s e = absurd (false≢true e)
+  held-itself raise within k o s e = absurd (false≢true e)
+  held-itself leave within k o s e = absurd (false≢true e)
+  held-itself (choose x) within k o s e = absurd (false≢true e)
+  held-itself (repeat x) within k o s e = absurd (false≢true e)
+  held-itself sequence within k o s e = refl
+  held-itself flow within k o s e = refl
+  held-itself pick within k o s e = absurd (false≢true e)
+  held-itself scope within k o s e = absurd (false≢true e)
+  held-itself (arm x y vs) within k o s e = absurd (false≢true e)
+
+  -- what is no open arm and awaits is no arm
+  not-arm : (own : Own) (b : Bool) (m : ℕ) → b ≡ false → awaits own b m ≡ true → isArm own ≡ false
+  unfolding awaits
+  not-arm own b m f h = decide (isArm own) (λ t. absurd (false≢true (sym f ∙ (rw t at h)))) (λ t. t)
+
+  -- A step in an activity other than a scope that runs, by steps in what stands within it.
+  module _ {n : Name} (own : Own) (within : Acts) (k t : ℕ) (o : Order) (s : isScope own ≡ false) (g : least own ≤ count within) (z : isName p (inner k) ≡ false)
+      (l : SitsIn p n within (k + 1)) (m : k + (1 + sizes within) ≤ length (o .marks)) where
+    Here : Outcome → Type 0
+    Here r = Acted k (1 + sizes within) o (RunAs p (act own within) k t o) r
+
+    -- the step is its own
+    part-itself : k ≡ t → Acted k (1 + sizes within) o (RunAs p (act own within) k k o) (itself own within k o) → Here (stepIn (act own within) k t o)
+    unfolding Here
+    part-itself e w =
+        subst (λ (r : Outcome). Acted k (1 + sizes within) o (RunAs p (act own within) k t o) r) (sym (step-is own within k t o true (eq-eqb k t e)))
+        (subst (λ (x : ℕ). Acted k (1 + sizes within) o (RunAs p (act own within) k x o) (itself own within k o)) e w)
+
+    -- the step is within it
+    part-within : k < t → (o₁ : Order) → arms own within k t o ≡ o₁ → Here (combines own within k t (stepAmong within (k + 1) t o₁))
+        → Here (stepIn (act own within) k t o)
+    unfolding Here
+    part-within h o₁ e w =
+        subst (λ (r : Outcome). Acted k (1 + sizes within) o (RunAs p (act own within) k t o) r)
+        (sym (step-is own within k t o false (ne-eqb k t (omega arith)) ∙ ap (λ (x : Order). combines own within k t (stepAmong within (k + 1) t x)) e)) w
+
+    -- an open pick: one of its arms is taken
+    part-pick : {b : Bool} → k < t → getD (o .marks) k 0 ≡ active → Quiet (o .marks) (k + 1) (sizes within) → WaitsIn (o .marks) within (k + 1) t b
+        → (b ≡ true → eqb (kind own) 10 ≡ true)
+        → Here (stepIn (act own within) k t o)
+    unfolding Here
+    part-pick h e q w f =
+        let o₁ = marked k inside o in
+        let r = arms-steps l t o₁ w q (quiet-set inside q (omega arith)) (omega (arith, length-set (o .marks) k inside)) in
+        part-within h o₁ (taken-arm (f (r .2)) (r .1))
+        (run-before (kept-set k (1 + sizes within) k inside (o .marks) (omega arith) (omega arith)) refl (plain-marked p k inside o z)
+        (combines-one p own within k t o₁ (stepAmong within (k + 1) t o₁) s z l
+        (getD-set-same (o .marks) k inside 0 (omega arith) ∙ sym (arms-holding own (f (r .2)))) (omega (arith, length-set (o .marks) k inside)) (r .0)))
+      where
+        taken-arm : eqb (kind own) 10 ≡ true → isPart within (k + 1) t ≡ true → arms own within k t o ≡ marked k inside o
+        taken-arm x y = taken-arms own within k t o x y
+
+    -- one runs within it
+    part-one : k < t → getD (o .marks) k 0 ≡ holding own
+        → Acted (k + 1) (sizes within) o (OneAs p within (k + 1) t o) (stepAmong within (k + 1) t o) → Here (stepIn (act own within) k t o)
+    unfolding Here
+    part-one h e w = part-within h o (arms-held own within k t o e) (combines-one p own within k t o (stepAmong within (k + 1) t o) s z l e m w)
+
+  -- what has one running in it has no open arms
+  opens-held : (own : Own) (m : ℕ) → m ≡ holding own → opens own m ≡ false
+  opens-held own m e =
+      decide (eqb (kind own) 10) (λ t. rw (t, e, arms-holding own t)) (λ t. rw t)
+
+  -- however it runs
+  part-steps : {n : Name} (own : Own) (within : Acts) (k t : ℕ) (o : Order) (b : Bool) → isScope own ≡ false → least own ≤ count within → isName p (inner k) ≡ false
+      → SitsIn p n within (k + 1) → k + (1 + sizes within) ≤ length (o .marks) → Waits (o .marks) (act own within) k t b → b ≡ false
+      → Run (o .marks) (act own within) k
+      → ((c : Bool) → WaitsIn (o .marks) within (k + 1) t c → c ≡ false → One (o .marks) within (k + 1) → Acted (k + 1) (sizes within) o (OneAs p within (k + 1) t o) (stepAmong within (k + 1) t o))
+      → ((c : Bool) → WaitsIn (o .marks) within (k + 1) t c → c ≡ false → All (o .marks) within (k + 1) → Acted (k + 1) (sizes within) o (AllAs p within (k + 1) t o) (stepAmong within (k + 1) t o))
+      → Acted k (1 + sizes within) o (RunAs p (act own within) k t o) (stepIn (act own within) k t o)
+  unfolding kind Here itself awaits
+  part-steps own within k t o b s g z l m (waits-itself e d) f (run-awaits s₁ y x q) i j =
+      part-itself own within k t o s g z l m e (acts-itself p own within k o s (not-arm own b (getD (o .marks) k 0) f d) y g z l x q m)
+  part-steps own within k t o b s g z l m (waits-itself e d) f (run-one s₁ x r) i j =
+      part-itself own within k t o s g z l m e
+      (subst (λ (y : Outcome). Acted k (1 + sizes within) o (RunAs p (act own within) k k o) y) (sym (held-itself own within k o s (rw (x, f) at d))) (acts-runs p (act own within) k _ k o (run-one s₁ x r)))
+  part-steps flow within k t o b s g z l m (waits-itself e d) f (run-all x r v) i j =
+      part-itself flow within k t o s g z l m e (acts-runs p (act flow within) k _ k o (run-all x r v))
+  part-steps own within k t o b s g z l m (waits-itself e d) f (run-body x r q) i j = absurd (false≢true (sym s))
+  part-steps own within k t o b s g z l m (waits-itself e d) f (run-done x q) i j = absurd (false≢true (sym s))
+  part-steps own within k t o b s g z l m (waits-itself e d) f (run-turned x q) i j = absurd (false≢true (sym s))
+  part-steps own within k t o b s g z l m (waits-within h w) f (run-awaits s₁ _ x q) i j =
+      part-pick own within k t o s g z l m h x q w (λ y. both (eqb (kind own) 10) (eqb (getD (o .marks) k 0) active) y (λ u v. u))
+  part-steps own within k t o b s g z l m (waits-within h w) f (run-one s₁ x r) i j =
+      part-one own within k t o s g z l m h x (i (opens own (getD (o .marks) k 0)) w (opens-held own (getD (o .marks) k 0) x) r)
+  part-steps flow within k t o b s g z l m (waits-within h w) f (run-all x r v) i j =
+      part-within flow within k t o s g z l m h o (arms-held flow within k t o x)
+      (combines-all p within k t o (stepAmong within (k + 1) t o) z x m (j (opens flow (getD (o .marks) k 0)) w refl r))
+  part-steps own within k t o b s g z l m (waits-within h w) f (run-body x r q) i j = absurd (false≢true (sym s))
+  part-steps own within k t o b s g z l m (waits-within h w) f (run-done x q) i j = absurd (false≢true (sym s))
+  part-steps own within k t o b s g z l m (waits-within h w) f (run-turned x q) i j = absurd (false≢true (sym s))
+
+  -- Scopes.
+
+  module _ (b f u : Act) (k : ℕ) where
+    Whole : Act
+    Whole = act scope (trio b f u)
+
+    -- as a scope
+    Its : Scope
+    Its = scopeAt k (trio b f u)
+
+    -- its numbers
+    its-reach : Reach Its
+    unfolding Its part partAt size
+    its-reach = record { start = omega arith; lone = λ i x y. omega (arith, eqb-false i k y); end = omega arith; owns = (omega arith, omega arith) }
+
+    -- in which part the step is
+    in-is : (t : ℕ) (r : Outcome) (x y : Bool) → ltb t (k + 1 + size b) ≡ x → ltb t (k + 1 + size b + size f) ≡ y
+        → inScope k t (trio b f u) r ≡ elim x [ true ↦ fromBody Its r | false ↦ elim y [ true ↦ fromFault Its r | false ↦ fromUndo r ] ]
+    unfolding inScope part partAt Its
+    in-is t r x y e d =
+        subst (λ (z : Bool). inScope k t (trio b f u) r ≡ elim x [ true ↦ fromBody Its r | false ↦ elim z [ true ↦ fromFault Its r | false ↦ fromUndo r ] ]) d
+        (subst (λ (z : Bool). inScope k t (trio b f u) r
+        ≡ elim z [ true ↦ fromBody Its r | false ↦ elim (ltb t (k + 1 + size b + size f)) [ true ↦ fromFault Its r | false ↦ fromUndo r ] ]) e refl)
+
+    -- a step within it
+    scope-step : (t : ℕ) (o : Order) → k < t → stepIn Whole k t o ≡ inScope k t (trio b f u) (stepAmong (trio b f u) (k + 1) t o)
+    unfolding combines arms kind Whole
+    scope-step t o h = step-is scope (trio b f u) k t o false (ne-eqb k t (omega arith))
+
+    -- in its body
+    body-step : (t : ℕ) (o : Order) → k < t → t < k + 1 + size b → stepIn Whole k t o ≡ fromBody Its (stepIn b (k + 1) t o)
+    body-step t o h e =
+        scope-step t o h ∙ (in-is t _ true (ltb t (k + 1 + size b + size f)) (lt-ltb t (k + 1 + size b) e) refl
+        ∙ ap (fromBody Its) (among-is b (more f (more u none)) (k + 1) t o true (lt-ltb t (k + 1 + size b) e)))
+
+    -- in its fault part
+    fault-step : (t : ℕ) (o : Order) → k + 1 + size b ≤ t → t < k + 1 + size b + size f → stepIn Whole k t o ≡ fromFault Its (stepIn f (k + 1 + size b) t o)
+    fault-step t o h e =
+        scope-step t o (omega arith) ∙ (in-is t _ false true (le-ltb t (k + 1 + size b) h) (lt-ltb t (k + 1 + size b + size f) e)
+        ∙ ap (fromFault Its) (among-is b (more f (more u none)) (k + 1) t o false (le-ltb t (k + 1 + size b) h)
+        ∙ among-is f (more u none) (k + 1 + size b) t o true (lt-ltb t (k + 1 + size b + size f) e)))
+
+    -- in its undo part
+    undo-step : (t : ℕ) (o : Order) → k + 1 + size b + size f ≤ t → t < k + 1 + size b + size f + size u
+        → stepIn Whole k t o ≡ fromUndo (stepIn u (k + 1 + size b + size f) t o)
+    undo-step t o h e =
+        scope-step t o (omega arith) ∙ (in-is t _ false false (le-ltb t (k + 1 + size b) (omega arith)) (le-ltb t (k + 1 + size b + size f) h)
+        ∙ ap fromUndo (among-is b (more f (more u none)) (k + 1) t o false (le-ltb t (k + 1 + size b) (omega arith))
+        ∙ (among-is f (more u none) (k + 1 + size b) t o false (le-ltb t (k + 1 + size b + size f) h)
+        ∙ among-is u none (k + 1 + size b + size f) t o true (lt-ltb t (k + 1 + size b + size f + size u) e))))
+
+    module _ (t : ℕ) (o : Order) (q : Quiet (o .marks) (k + 1 + size b + size f) (size u)) where
+      its-kept : {o′ : Order} → Apart Its o o′ → Kept k (spread b f u) (o .marks) (o′ .marks)
+      unfolding Its part partAt
+      its-kept v = record { many = v .many; below = λ i x. v .below i (omega arith) (ne-eqb i k (omega arith)); above = λ i x. v .above i (omega arith) }
+
+      -- its undo part stays quiet
+      its-undo : {o′ : Order} → Apart Its o o′ → Quiet (o′ .marks) (k + 1 + size b + size f) (size u)
+      unfolding Its part partAt
+      its-undo v = record { at = λ i x y. v .above i (omega arith) ∙ q .at i x y }
+
+      -- all of it is quiet
+      its-quiet : {o′ : Order} → Apart Its o o′ → getD (o′ .marks) k 0 ≡ idle → Quiet (o′ .marks) (k + 1) (size b) → Quiet (o′ .marks) (k + 1 + size b) (size f)
+          → Quiet (o′ .marks) k (spread b f u)
+      its-quiet {o′} v e x y =
+          let w : Quiet (o′ .marks) (k + 1 + size b + size f) (size u + 0) = quiet-part (its-undo v) (omega arith) (omega arith) in
+          quiet-cons e (quiet-join x (quiet-join y w refl) refl)
+
+      -- it runs, or is over
+      steps-run : (R : List ℕ → ℕ → Type 0) → ((ms : List ℕ) (m : ℕ) → R ms m → Running Its ms m) → (r : Outcome) → Steps p Its R o r
+          → Acted k (spread b f u) o (RunAs p Whole k t o) r
+      unfolding Its Whole part partAt size bare kind
+      steps-run R g r v = record { kept = its-kept (v .apart); rooted = v .apart .rooted refl; comes = go (r .result) (v .comes) }
+        where
+          runs-so : Running Its (r .order .marks) (getD (r .order .marks) k 0) → Run (r .order .marks) Whole k
+          runs-so (scope-live e x y) = run-body e x (quiet-join y (its-undo (v .apart)) refl)
+          runs-so (scope-done e x y) = run-done e (quiet-join x (quiet-join y (its-undo (v .apart)) refl) refl)
+          runs-so (scope-turned x) = run-turned x (its-undo (v .apart))
+
+          go : (x : Result) → StepsAs p Its R o (r .log) (r .order) x → RunAs p Whole k t o (r .log) (r .order) x
+          go running c = (runs-so (g _ _ (c .0)), c .1)
+          go over c = (its-quiet (v .apart) (c .0) (c .1) (c .2), c .3)
+          go raising c = (able-quiet (its-quiet (v .apart) (c .0) (c .1) (c .2)), c .3, λ e. absurd (false≢true e))
+          go leaving c = c
+          go undone c = c
+          go undoRaising c = c
+
+      -- it is stopped, and runs or is over
+      steps-stop : (r : Outcome) → Steps p Its (Turning Its) o r → Acted k (spread b f u) o (StopAs p Whole k o) r
+      unfolding Its Whole part partAt size
+      steps-stop r v = record { kept = its-kept (v .apart); rooted = v .apart .rooted refl; comes = go (r .result) (v .comes) }
+        where
+          go : (x : Result) → StepsAs p Its (Turning Its) o (r .log) (r .order) x → StopAs p Whole k o (r .log) (r .order) x
+          go running c = (stopped-scope (c .0) (its-undo (v .apart)), c .1)
+          go over c = (stopped-quiet (its-quiet (v .apart) (c .0) (c .1) (c .2)), c .3)
+          go raising c = (stopped-quiet (its-quiet (v .apart) (c .0) (c .1) (c .2)), c .3)
+          go leaving c = c
+          go undone c = c
+          go undoRaising c = c
+
+  -- A step in a scope that is live, or that has turned, by steps in its body and in its fault part.
+  module _ (b f u : Act) (k t : ℕ) (o : Order) (h : Seat p (scopeAt k (trio b f u))) (m : k + (spread b f u) ≤ length (o .marks)) where
+    live-steps : {c : Bool} → k < t → WaitsIn (o .marks) (trio b f u) (k + 1) t c → c ≡ false → getD (o .marks) k 0 ≡ active
+        → Quiet (o .marks) (k + 1 + size b) (size f + size u)
+        → ((x : Bool) → Waits (o .marks) b (k + 1) t x → x ≡ false → Acted (k + 1) (size b) o (RunAs p b (k + 1) t o) (stepIn b (k + 1) t o))
+        → Acted k (spread b f u) o (RunAs p (act scope (trio b f u)) k t o) (stepIn (act scope (trio b f u)) k t o)
+    unfolding Its Whole part partAt size
+    live-steps lt (waits-first e w) d x q i =
+        subst (λ (r : Outcome). Acted k (spread b f u) o (RunAs p (act scope (trio b f u)) k t o) r) (sym (body-step b f u k t o lt e))
+        (steps-run b f u k t o (quiet-part q (omega arith) (omega arith)) (Running (scopeAt k (trio b f u))) (λ ms m z. z) (fromBody (scopeAt k (trio b f u)) (stepIn b (k + 1) t o))
+        (from-live p distinct (scopeAt k (trio b f u)) t o (stepIn b (k + 1) t o) h x (quiet-part q (omega arith) (omega arith)) (omega arith) (i _ w d)))
+    live-steps lt (waits-later e (waits-first g w)) d x q i = absurd (quiet-waits w d (quiet-part q (omega arith) (omega arith)))
+    live-steps lt (waits-later e (waits-later g (waits-first j w))) d x q i = absurd (quiet-waits w d (quiet-part q (omega arith) (omega arith)))
+
+    turned-steps : {c : Bool} → k < t → WaitsIn (o .marks) (trio b f u) (k + 1) t c → c ≡ false
+        → Turned (o .marks) (getD (o .marks) k 0) b (k + 1) f (k + 1 + size b) → Quiet (o .marks) (k + 1 + size b + size f) (size u)
+        → ((x : Bool) → Waits (o .marks) b (k + 1) t x → x ≡ false → Stopped (o .marks) b (k + 1) → Acted (k + 1) (size b) o (StopAs p b (k + 1) o) (stepIn b (k + 1) t o))
+        → ((x : Bool) → Waits (o .marks) b (k + 1) t x → x ≡ false → Undoing (o .marks) b (k + 1) → Acted (k + 1) (size b) o (UndoAs p (inner k) b (k + 1) t o) (stepIn b (k + 1) t o))
+        → ((x : Bool) → Waits (o .marks) f (k + 1 + size b) t x → x ≡ false → Run (o .marks) f (k + 1 + size b) → Acted (k + 1 + size b) (size f) o (RunAs p f (k + 1 + size b) t o) (stepIn f (k + 1 + size b) t o))
+        → Steps p (scopeAt k (trio b f u)) (Turning (scopeAt k (trio b f u))) o (stepIn (act scope (trio b f u)) k t o)
+    unfolding Its Whole part partAt size
+    turned-steps lt (waits-first e w) d (turned-waits q st _ y) z i j l =
+        subst (λ (r : Outcome). Steps p (scopeAt k (trio b f u)) (Turning (scopeAt k (trio b f u))) o r) (sym (body-step b f u k t o lt e))
+        (from-stopped p distinct (scopeAt k (trio b f u)) o (stepIn b (k + 1) t o) h (λ x. refl) q y (omega arith) (i _ w d st))
+    turned-steps lt (waits-first e w) d (turned-undoes q st y) z i j l =
+        subst (λ (r : Outcome). Steps p (scopeAt k (trio b f u)) (Turning (scopeAt k (trio b f u))) o r) (sym (body-step b f u k t o lt e))
+        (from-undoing p distinct (scopeAt k (trio b f u)) t o (stepIn b (k + 1) t o) h (its-reach b f u k) (λ x. refl) q y (omega arith)
+        (λ v x r. z .at v (omega arith) (omega arith)) (j _ w d st))
+    turned-steps lt (waits-first e w) d (turned-heals q y r) z i j l = absurd (quiet-waits w d y)
+    turned-steps lt (waits-later e (waits-first g w)) d (turned-waits q st _ y) z i j l = absurd (quiet-waits w d y)
+    turned-steps lt (waits-later e (waits-first g w)) d (turned-undoes q st y) z i j l = absurd (quiet-waits w d y)
+    turned-steps lt (waits-later e (waits-first g w)) d (turned-heals q y r) z i j l =
+        subst (λ (r : Outcome). Steps p (scopeAt k (trio b f u)) (Turning (scopeAt k (trio b f u))) o r) (sym (fault-step b f u k t o e g))
+        (from-heals p distinct (scopeAt k (trio b f u)) t o (stepIn f (k + 1 + size b) t o) h (its-reach b f u k) q y (omega arith)
+        (λ v x s. z .at v (omega arith) (omega arith)) (l _ w d r))
+    turned-steps lt (waits-later e (waits-later g (waits-first v w))) d x z i j l = absurd (quiet-waits w d z)
+
+  -- Lists in a stopped body, and in one of which an undo part runs.
+  abbrev StopInAs : Acts → (c : ℕ) → Order → List Event → Order → Result → Type 0
+  StopInAs l c o g o′ running = StoppedIn (o′ .marks) l c × Does p false o g o′
+  StopInAs l c o g o′ over = StoppedIn (o′ .marks) l c × Does p false o g o′
+  StopInAs l c o g o′ raising = StoppedIn (o′ .marks) l c × Does p false o g o′
+  StopInAs l c o g o′ leaving = Does p true o g o′
+  StopInAs l c o g o′ undone = ⊥
+  StopInAs l c o g o′ undoRaising = ⊥
+
+  abbrev UndoInAs : Name → Acts → (c t : ℕ) → Order → List Event → Order → Result → Type 0
+  UndoInAs n l c t o g o′ running = UndoingIn (o′ .marks) l c × Does p false o g o′
+  UndoInAs n l c t o g o′ over = ⊥
+  UndoInAs n l c t o g o′ raising = ⊥
+  UndoInAs n l c t o g o′ leaving = Does p true o g o′
+  UndoInAs n l c t o g o′ undone = Quiet (o′ .marks) c (sizes l) × Does p false o g o′
+  UndoInAs n l c t o g o′ undoRaising =
+      (g ≡ raised t ∷ []) × (isUndoRaise (insideOf p n) (raised t) ≡ true) × (innerRunsIn l c (o′ .marks) ≡ false) × ScopesRest p o′ c (sizes l) × Does p false o g o′
+
+  module _ (a : Act) (l : Acts) (c : ℕ) (o : Order) (r : Outcome) where
+    first-stopped : Acted c (size a) o (StopAs p a c o) r → StoppedIn (o .marks) l (c + size a) → Acted c (size a + sizes l) o (StopInAs (more a l) c o) r
+    first-stopped w q = record { kept = kept-wider (w .kept) (omega arith) (omega arith); rooted = w .rooted; comes = go (r .result) (w .comes) }
+      where
+        q₁ : StoppedIn (r .order .marks) l (c + size a)
+        q₁ = stopped-in-agree q (agree-above (w .kept) (omega arith))
+
+        go : (x : Result) → StopAs p a c o (r .log) (r .order) x → StopInAs (more a l) c o (r .log) (r .order) x
+        go running d = (stopped-more (d .0) q₁, d .1)
+        go over d = (stopped-more (d .0) q₁, d .1)
+        go raising d = (stopped-more (d .0) q₁, d .1)
+        go leaving d = d
+        go undone d = d
+        go undoRaising d = d
+
+    later-stopped : Acted (c + size a) (sizes l) o (StopInAs l (c + size a) o) r → Stopped (o .marks) a c → Acted c (size a + sizes l) o (StopInAs (more a l) c o) r
+    later-stopped w q = record { kept = kept-wider (w .kept) (omega arith) (omega arith); rooted = w .rooted; comes = go (r .result) (w .comes) }
+      where
+        q₁ : Stopped (r .order .marks) a c
+        q₁ = stopped-agree q (agree-below (w .kept) (omega arith))
+
+        go : (x : Result) → StopInAs l (c + size a) o (r .log) (r .order) x → StopInAs (more a l) c o (r .log) (r .order) x
+        go running d = (stopped-more q₁ (d .0), d .1)
+        go over d = (stopped-more q₁ (d .0), d .1)
+        go raising d = (stopped-more q₁ (d .0), d .1)
+        go leaving d = d
+        go undone d = d
+        go undoRaising d = d
+
+    module _ (n : Name) (t : ℕ) where
+      first-undoing : Acted c (size a) o (UndoAs p n a c t o) r → Quiet (o .marks) (c + size a) (sizes l)
+          → Acted c (size a + sizes l) o (UndoInAs n (more a l) c t o) r
+      unfolding innerRuns size
+      first-undoing w q = record { kept = kept-wider (w .kept) (omega arith) (omega arith); rooted = w .rooted; comes = go (r .result) (w .comes) }
+        where
+          q₁ : Quiet (r .order .marks) (c + size a) (sizes l)
+          q₁ = quiet-agree q (agree-above (w .kept) (omega arith))
+
+          go : (x : Result) → UndoAs p n a c t o (r .log) (r .order) x → UndoInAs n (more a l) c t o (r .log) (r .order) x
+          go running d = (undoing-here (d .0) q₁, d .1)
+          go over d = d
+          go raising d = d
+          go leaving d = d
+          go undone d = (quiet-join (d .0) q₁ refl, d .1)
+          go undoRaising d = (
+            d .0,
+            d .1,
+            rw (d .2, quiet-inner-in l (c + size a) q₁),
+            (λ j i x y. decide (ltb j (c + size a)) (λ z. d .3 j i x (ltb-true j (c + size a) z)) (λ z. q₁ .at j (ltb-false j (c + size a) z) (omega arith))),
+            d .4,
+          )
+
+      later-undoing : Acted (c + size a) (sizes l) o (UndoInAs n l (c + size a) t o) r → Quiet (o .marks) c (size a)
+          → Acted c (size a + sizes l) o (UndoInAs n (more a l) c t o) r
+      unfolding innerRuns size
+      later-undoing w q = record { kept = kept-wider (w .kept) (omega arith) (omega arith); rooted = w .rooted; comes = go (r .result) (w .comes) }
+        where
+          q₁ : Quiet (r .order .marks) c (size a)
+          q₁ = quiet-agree q (agree-below (w .kept) (omega arith))
+
+          go : (x : Result) → UndoInAs n l (c + size a) t o (r .log) (r .order) x → UndoInAs n (more a l) c t o (r .log) (r .order) x
+          go running d = (undoing-later q₁ (d .0), d .1)
+          go over d = d
+          go raising d = d
+          go leaving d = d
+          go undone d = (quiet-join q₁ (d .0) refl, d .1)
+          go undoRaising d = (
+            d .0,
+            d .1,
+            rw (quiet-inner a c q₁, d .2),
+            (λ j i x y. decide (ltb j (c + size a)) (λ z. q₁ .at j x (ltb-true j (c + size a) z)) (λ z. d .3 j i (ltb-false j (c + size a) z) (omega arith))),
+            d .4,
+          )
+
+  -- an idle activity other than a scope, in a stopped body, and in one of which an undo part runs
+  module _ (own : Own) (within : Acts) (k t : ℕ) (o : Order) (r : Outcome) (s : isScope own ≡ false) (e : getD (o .marks) k 0 ≡ idle) where
+    stopped-combines : Acted (k + 1) (sizes within) o (StopInAs within (k + 1) o) r
+        → Acted k (1 + sizes within) o (StopAs p (act own within) k o) (combines own within k t r)
+    unfolding size
+    stopped-combines w = go (combines-idly own within k t r s e₁)
+      where
+        e₁ : getD (r .order .marks) k 0 ≡ idle
+        e₁ = w .kept .below k (omega arith) ∙ e
+
+        kept₁ : Kept k (1 + sizes within) (o .marks) (r .order .marks)
+        kept₁ = kept-wider (w .kept) (omega arith) (omega arith)
+
+        so : (x : Result) → StopInAs within (k + 1) o (r .log) (r .order) x → StopAs p (act own within) k o (r .log) (r .order) x
+        so running d = (stopped-part s e₁ (d .0), d .1)
+        so over d = (stopped-part s e₁ (d .0), d .1)
+        so raising d = (stopped-part s e₁ (d .0), d .1)
+        so leaving d = d
+        so undone d = d
+        so undoRaising d = d
+
+        runs-on : (x : Result) → x ≡ over → StopInAs within (k + 1) o (r .log) (r .order) x → StopAs p (act own within) k o (r .log) (r .order) running
+        runs-on running i d = so running d
+        runs-on over i d = so over d
+        runs-on raising i d = so raising d
+        runs-on leaving i d = absurd (let z : _≡_ {A = ℕ} 0 1 = cc in omega arith)
+        runs-on undone i d = absurd d
+        runs-on undoRaising i d = absurd d
+
+        go : {r′ : Outcome} → Idly r r′ → Acted k (1 + sizes within) o (StopAs p (act own within) k o) r′
+        go (idly-same i) = subst (λ (x : Outcome). Acted k (1 + sizes within) o (StopAs p (act own within) k o) x) (sym i) (record { kept = kept₁; rooted = w .rooted; comes = so (r .result) (w .comes) })
+        go (idly-runs j i) =
+            subst (λ (x : Outcome). Acted k (1 + sizes within) o (StopAs p (act own within) k o) x) (sym i)
+            (record { kept = kept₁; rooted = w .rooted; comes = runs-on (r .result) j (w .comes) })
+
+    undoing-combines : (n : Name) → isName p (inner k) ≡ false → Acted (k + 1) (sizes within) o (UndoInAs n within (k + 1) t o) r
+        → Acted k (1 + sizes within) o (UndoAs p n (act own within) k t o) (combines own within k t r)
+    unfolding size
+    undoing-combines n z w = go (combines-idly own within k t r s e₁)
+      where
+        e₁ : getD (r .order .marks) k 0 ≡ idle
+        e₁ = w .kept .below k (omega arith) ∙ e
+
+        kept₁ : Kept k (1 + sizes within) (o .marks) (r .order .marks)
+        kept₁ = kept-wider (w .kept) (omega arith) (omega arith)
+
+        so : (x : Result) → UndoInAs n within (k + 1) t o (r .log) (r .order) x → UndoAs p n (act own within) k t o (r .log) (r .order) x
+        so running d = (undoing-part s e₁ (d .0), d .1)
+        so over d = d
+        so raising d = d
+        so leaving d = d
+        so undone d = (quiet-cons e₁ (d .0), d .1)
+        so undoRaising d = (
+          d .0,
+          d .1,
+          inner-is own within k (r .order .marks) false s ∙ d .2,
+          (λ j i x y. decide (eqb j k) (λ v. rw (eqb-true j k v) e₁) (λ v. d .3 j i (omega (arith, eqb-false j k v)) (omega arith))),
+          d .4,
+        )
+
+        never : (x : Result) → x ≡ over → UndoInAs n within (k + 1) t o (r .log) (r .order) x → ⊥
+        never running i d = let z : _≡_ {A = ℕ} 0 1 = cc in omega arith
+        never over i d = d
+        never raising i d = d
+        never leaving i d = let z : _≡_ {A = ℕ} 0 1 = cc in omega arith
+        never undone i d = let z : _≡_ {A = ℕ} 0 1 = cc in omega arith
+        never undoRaising i d = let z : _≡_ {A = ℕ} 0 1 = cc in omega arith
+
+        go : {r′ : Outcome} → Idly r r′ → Acted k (1 + sizes within) o (UndoAs p n (act own within) k t o) r′
+        go (idly-same i) = subst (λ (x : Outcome). Acted k (1 + sizes within) o (UndoAs p n (act own within) k t o) x) (sym i) (record { kept = kept₁; rooted = w .rooted; comes = so (r .result) (w .comes) })
+        go (idly-runs j i) = absurd (never (r .result) j (w .comes))
+
+  -- An undo part that runs.
+
+  -- the numbers of an undo part are no scope's
+  part-names : {a : Act} {k : ℕ} → UndoPart p a k → (j : ℕ) → k ≤ j → j < k + size a → isName p (inner j) ≡ false
+  unfolding size
+  part-names (undo-part {own} {within} {k} s a g z l b) j x y =
+      decide (eqb j k) (λ t. subst (λ (i : ℕ). isName p (inner i) ≡ false) (sym (eqb-true j k t)) z) (λ t. bare-names-in l b j (omega (arith, eqb-false j k t)) (omega arith))
+
+  part-bare : {a : Act} {k : ℕ} → UndoPart p a k → bare a ≡ true
+  unfolding bare
+  part-bare (undo-part s a g z l b) = rw (s, b)
+
+  -- a raise in it is one of the undo part of a scope directly inside n
+  raise-inside : (n : Name) (x : Inner) (t : ℕ) → Known p x → x .around ≡ n → x .undo ≤ t → t < x .undo + x .count → isUndoRaise (insideOf p n) (raised t) ≡ true
+  unfolding isUndoRaise only
+  raise-inside n x t kn a h e =
+      one-some (λ (y : Inner). leb (y .undo) t && ltb t (y .undo + y .count)) (λ (y : Inner). eqb (y .number) (x .number)) x (insideOf p n)
+      (number-inside p n x kn ∙ rw (a, same-itself n)) (rw (le-leb (x .undo) t h, lt-ltb t (x .undo + x .count) e))
+
+  undo-acts : {n : Name} (b f u : Act) (k t : ℕ) (o : Order) (r : Outcome) → Known p (innerAt k n (trio b f u)) → UndoPart p u (k + 1 + size b + size f)
+      → getD (o .marks) k 0 ≡ idle → Quiet (o .marks) (k + 1) (size b + size f) → k + 1 + size b + size f ≤ t → t < k + 1 + size b + size f + size u
+      → Acted (k + 1 + size b + size f) (size u) o (RunAs p u (k + 1 + size b + size f) t o) r
+      → Acted k (spread b f u) o (UndoAs p n (act scope (trio b f u)) k t o) (fromUndo r)
+  unfolding fromUndo part partAt size kind innerRuns
+  undo-acts {n} b f u k t o r kn su e q h i w =
+      record { kept = kept-wider (w .kept) (omega arith) (omega arith); rooted = w .rooted; comes = go (r .result) (w .comes) }
+    where
+      e₁ : getD (r .order .marks) k 0 ≡ idle
+      e₁ = w .kept .below k (omega arith) ∙ e
+
+      q₁ : Quiet (r .order .marks) (k + 1) (size b + size f)
+      q₁ = quiet-agree q (agree-below (w .kept) (omega arith))
+
+      go : (x : Result) → RunAs p u (k + 1 + size b + size f) t o (r .log) (r .order) x
+          → UndoAs p n (act scope (trio b f u)) k t o (r .log) (r .order)
+          (elim x [ running ↦ running | over ↦ undone | raising ↦ undoRaising | leaving ↦ leaving | undone ↦ undone | undoRaising ↦ undoRaising ])
+      go running d = (undoing-scope e₁ q₁ (d .0), d .1)
+      go over d =
+          let q₂ : Quiet (r .order .marks) (k + 1) (size b + size f + size u) = quiet-join q₁ (d .0) (omega arith) in
+          (quiet-cons e₁ (quiet-part q₂ (omega arith) (omega arith)), d .1)
+      go raising d = (
+        d .2 (part-bare su),
+        raise-inside n (innerAt k n (trio b f u)) t kn refl h i,
+        rw e₁,
+        (λ j v x y. decide (eqb j k) (λ z. rw (eqb-true j k z) e₁) (λ z. decide (ltb j (k + 1 + size b + size f))
+            (λ c. q₁ .at j (omega (arith, eqb-false j k z)) (omega (arith, ltb-true j (k + 1 + size b + size f) c)))
+            (λ c. absurd (false≢true (sym (part-names su j (ltb-false j (k + 1 + size b + size f) c) (omega arith)) ∙ v))))),
+        d .1,
+      )
+      go leaving d = d
+      go undone d = absurd d
+      go undoRaising d = absurd d
+
+  -- Where a step is not a part's own, there is no arm to be taken.
+  not-part : (l : Acts) (c t : ℕ) → t < c → isPart l c t ≡ false
+  unfolding isPart
+  not-part none c t h = refl
+  not-part (more a l) c t h = rw (ne-eqb c t (omega arith), not-part l (c + size a) t (omega arith))
+
+  positive : (a : Act) → 1 ≤ size a
+  unfolding size
+  positive (act own within) = omega arith
+
+  stopped-part-not : {ms : List ℕ} {l : Acts} {c t : ℕ} {b : Bool} → StoppedIn ms l c → WaitsIn ms l c t b → b ≡ false → isPart l c t ≡ false
+  unfolding isPart
+  stopped-part-not (stopped-more {a} {l} {c} x y) (waits-first {t = t} h w) f =
+      rw (ne-eqb c t (omega (arith, stopped-waits x w f)), not-part l (c + size a) t h)
+  stopped-part-not (stopped-more {a} {l} {c} x y) (waits-later {t = t} h w) f =
+      rw (ne-eqb c t (omega (arith, positive a)), stopped-part-not y w f)
+
+  undoing-part-not : {ms : List ℕ} {l : Acts} {c t : ℕ} {b : Bool} → UndoingIn ms l c → WaitsIn ms l c t b → b ≡ false → isPart l c t ≡ false
+  unfolding isPart size
+  undoing-part-not (undoing-here {a} {l} {c} x y) (waits-first {t = t} h w) f =
+      rw (ne-eqb c t (omega (arith, undoing-waits x w f)), not-part l (c + size a) t h)
+  undoing-part-not (undoing-here {a} {l} {c} x y) (waits-later {t = t} h w) f = absurd (quiet-waits-in w f y)
+  undoing-part-not (undoing-later {a} {l} {c} x y) (waits-first {t = t} h w) f = absurd (quiet-waits w f x)
+  undoing-part-not (undoing-later {a} {l} {c} x y) (waits-later {t = t} h w) f =
+      rw (ne-eqb c t (omega (arith, positive a)), undoing-part-not y w f)
+
+  -- A step in an idle activity other than a scope.
+  stopped-steps : (own : Own) (within : Acts) (k t : ℕ) (o : Order) (b : Bool) → isScope own ≡ false → Waits (o .marks) (act own within) k t b
+      → b ≡ false → Stopped (o .marks) (act own within) k
+      → ((c : Bool) → WaitsIn (o .marks) within (k + 1) t c → c ≡ false → StoppedIn (o .marks) within (k + 1) → Acted (k + 1) (sizes within) o (StopInAs within (k + 1) o) (stepAmong within (k + 1) t o))
+      → Acted k (1 + sizes within) o (StopAs p (act own within) k o) (stepIn (act own within) k t o)
+  unfolding kind size
+  stopped-steps own within k t o b s (waits-itself e d) f r g = absurd (no-less (stopped-waits r (waits-itself e d) f) e)
+    where
+      no-less : k < t → k ≡ t → ⊥
+      no-less y z = omega arith
+  stopped-steps own within k t o b s (waits-within h w) f (stopped-part s₁ e l) g =
+      let z : opens own (getD (o .marks) k 0) ≡ false = opens-idle own (getD (o .marks) k 0) e in
+      subst (λ (r : Outcome). Acted k (1 + sizes within) o (StopAs p (act own within) k o) r)
+      (sym (step-is own within k t o false (ne-eqb k t (omega arith)) ∙ ap (λ (x : Order). combines own within k t (stepAmong within (k + 1) t x)) (arms-none own within k t o (stopped-part-not l w z))))
+      (stopped-combines own within k t o (stepAmong within (k + 1) t o) s e (g _ w z l))
+  stopped-steps own within k t o b s (waits-within h w) f (stopped-quiet q) g = absurd (quiet-waits-in w (opens-idle own (getD (o .marks) k 0) (q .at k (omega arith) (omega arith))) (quiet-part q (omega arith) (omega arith)))
+  stopped-steps own within k t o b s (waits-within h w) f (stopped-scope x q) g = absurd (false≢true (sym s))
+
+  undoing-steps : {n : Name} (own : Own) (within : Acts) (k t : ℕ) (o : Order) (b : Bool) → isScope own ≡ false → isName p (inner k) ≡ false
+      → Waits (o .marks) (act own within) k t b → b ≡ false
+      → Undoing (o .marks) (act own within) k
+      → ((c : Bool) → WaitsIn (o .marks) within (k + 1) t c → c ≡ false → UndoingIn (o .marks) within (k + 1) → Acted (k + 1) (sizes within) o (UndoInAs n within (k + 1) t o) (stepAmong within (k + 1) t o))
+      → Acted k (1 + sizes within) o (UndoAs p n (act own within) k t o) (stepIn (act own within) k t o)
+  unfolding kind size
+  undoing-steps own within k t o b s z (waits-itself e d) f r g = absurd (no-less (undoing-waits r (waits-itself e d) f) e)
+    where
+      no-less : k < t → k ≡ t → ⊥
+      no-less y z = omega arith
+  undoing-steps {n} own within k t o b s z (waits-within h w) f (undoing-part s₁ e l) g =
+      let y : opens own (getD (o .marks) k 0) ≡ false = opens-idle own (getD (o .marks) k 0) e in
+      subst (λ (r : Outcome). Acted k (1 + sizes within) o (UndoAs p n (act own within) k t o) r)
+      (sym (step-is own within k t o false (ne-eqb k t (omega arith)) ∙ ap (λ (x : Order). combines own within k t (stepAmong within (k + 1) t x)) (arms-none own within k t o (undoing-part-not l w y))))
+      (undoing-combines own within k t o (stepAmong within (k + 1) t o) s e n z (g _ w y l))
+  undoing-steps own within k t o b s z (waits-within h w) f (undoing-scope x q r) g = absurd (false≢true (sym s))
+
+  -- A step in a scope, as it stands.
+  module _ (b f u : Act) (k t : ℕ) (o : Order) (h : Seat p (scopeAt k (trio b f u))) (m : k + (spread b f u) ≤ length (o .marks))
+      (i : (x : Bool) → Waits (o .marks) b (k + 1) t x → x ≡ false → Stopped (o .marks) b (k + 1) → Acted (k + 1) (size b) o (StopAs p b (k + 1) o) (stepIn b (k + 1) t o))
+      (j : (x : Bool) → Waits (o .marks) b (k + 1) t x → x ≡ false → Undoing (o .marks) b (k + 1) → Acted (k + 1) (size b) o (UndoAs p (inner k) b (k + 1) t o) (stepIn b (k + 1) t o))
+      (l : (x : Bool) → Waits (o .marks) f (k + 1 + size b) t x → x ≡ false → Run (o .marks) f (k + 1 + size b)
+      → Acted (k + 1 + size b) (size f) o (RunAs p f (k + 1 + size b) t o) (stepIn f (k + 1 + size b) t o)) where
+    scope-runs : {n : Name} {c : Bool} → Known p (innerAt k n (trio b f u)) → phase (markOf n o) ≡ live
+        → Waits (o .marks) (act scope (trio b f u)) k t c → c ≡ false → Run (o .marks) (act scope (trio b f u)) k
+        → ((x : Bool) → Waits (o .marks) b (k + 1) t x → x ≡ false → Run (o .marks) b (k + 1) → getD (o .marks) k 0 ≡ active → Acted (k + 1) (size b) o (RunAs p b (k + 1) t o) (stepIn b (k + 1) t o))
+        → Acted k (spread b f u) o (RunAs p (act scope (trio b f u)) k t o) (stepIn (act scope (trio b f u)) k t o)
+    unfolding awaits kind itself size Its Whole
+    scope-runs kn v (waits-itself e d) c (run-awaits s _ x q) g = absurd (false≢true (sym s))
+    scope-runs kn v (waits-itself e d) c (run-one s x r) g = absurd (false≢true (sym s))
+    scope-runs kn v (waits-itself e d) c (run-body x r q) g = absurd (false≢true (rw x at d))
+    scope-runs kn v (waits-itself e d) c (run-done x q) g =
+        subst (λ (r : Outcome). Acted k (spread b f u) o (RunAs p (act scope (trio b f u)) k t o) r) (sym (step-is scope (trio b f u) k t o true (eq-eqb k t e)))
+        (subst (λ (z : ℕ). Acted k (spread b f u) o (RunAs p (act scope (trio b f u)) k z o) (closing k (scopeAt k (trio b f u)) o)) e (closes b f u k o kn h v x q (omega arith)))
+    scope-runs kn v (waits-itself e d) c (run-turned x q) g = absurd (false≢true (sym (turned-not-open x) ∙ rw (d, or-true)))
+    scope-runs kn v (waits-within e w) c (run-awaits s _ x q) g = absurd (false≢true (sym s))
+    scope-runs kn v (waits-within e w) c (run-one s x r) g = absurd (false≢true (sym s))
+    scope-runs kn v (waits-within e w) c (run-body x r q) g = live-steps b f u k t o h m e w refl x q (λ y z d. g y z d r x)
+    scope-runs kn v (waits-within e w) c (run-done x q) g = absurd (quiet-waits-in w refl (quiet-part q (omega arith) (omega arith)))
+    scope-runs kn v (waits-within e w) c (run-turned x q) g =
+        steps-run b f u k t o q (Turning (scopeAt k (trio b f u))) (λ ms y. scope-turned) (stepIn (act scope (trio b f u)) k t o) (turned-steps b f u k t o h m e w refl x q i j l)
+
+    scope-stops : {c : Bool} → Waits (o .marks) (act scope (trio b f u)) k t c → c ≡ false → Stopped (o .marks) (act scope (trio b f u)) k
+        → Acted k (spread b f u) o (StopAs p (act scope (trio b f u)) k o) (stepIn (act scope (trio b f u)) k t o)
+    unfolding kind size Its Whole
+    scope-stops w c (stopped-part s x q) = absurd (false≢true (sym s))
+    scope-stops w c (stopped-quiet q) = absurd (quiet-waits w c q)
+    scope-stops (waits-itself e d) c (stopped-scope x q) = absurd (no-less (stopped-waits (stopped-scope {u = u} x q) (waits-itself e d) c) e)
+      where
+        no-less : k < t → k ≡ t → ⊥
+        no-less y z = omega arith
+    scope-stops (waits-within e w) c (stopped-scope x q) = steps-stop b f u k t o q (stepIn (act scope (trio b f u)) k t o) (turned-steps b f u k t o h m e w refl x q i j l)
+
+  scope-undoes : {n : Name} {c : Bool} (b f u : Act) (k t : ℕ) (o : Order) → Known p (innerAt k n (trio b f u)) → UndoPart p u (k + 1 + size b + size f)
+      → Waits (o .marks) (act scope (trio b f u)) k t c → c ≡ false → Undoing (o .marks) (act scope (trio b f u)) k
+      → ((x : Bool) → Waits (o .marks) u (k + 1 + size b + size f) t x → x ≡ false → Run (o .marks) u (k + 1 + size b + size f)
+      → Acted (k + 1 + size b + size f) (size u) o (RunAs p u (k + 1 + size b + size f) t o) (stepIn u (k + 1 + size b + size f) t o))
+      → Acted k (spread b f u) o (UndoAs p n (act scope (trio b f u)) k t o) (stepIn (act scope (trio b f u)) k t o)
+  unfolding kind Its Whole
+  scope-undoes b f u k t o kn su w c (undoing-part s x q) g = absurd (false≢true (sym s))
+  scope-undoes b f u k t o kn su (waits-itself e d) c (undoing-scope x q r) g = absurd (no-less (undoing-waits (undoing-scope x q r) (waits-itself e d) c) e)
+    where
+      no-less : k < t → k ≡ t → ⊥
+      no-less y z = omega arith
+  scope-undoes b f u k t o kn su (waits-within e (waits-first d w)) c (undoing-scope x q r) g = absurd (quiet-waits w refl (quiet-part q (omega arith) (omega arith)))
+  scope-undoes b f u k t o kn su (waits-within e (waits-later d (waits-first y w))) c (undoing-scope x q r) g = absurd (quiet-waits w refl (quiet-part q (omega arith) (omega arith)))
+  scope-undoes {n} b f u k t o kn su (waits-within e (waits-later d (waits-later y (waits-first z w)))) c (undoing-scope x q r) g =
+      subst (λ (v : Outcome). Acted k (spread b f u) o (UndoAs p n (act scope (trio b f u)) k t o) v) (sym (undo-step b f u k t o y z))
+      (undo-acts b f u k t o (stepIn u (k + 1 + size b + size f) t o) kn su x q y z (g _ w refl r))
+
+  -- Every step in a tree that runs, in a stopped body, and in one of which an undo part runs.
+  mutual
+    unfolding size kind bare Here
+
+    pub steps : {n : Name} {a : Act} {k : ℕ} → Sits p n a k → (t : ℕ) (o : Order) (b : Bool) → Waits (o .marks) a k t b → b ≡ false → Run (o .marks) a k
+        → (bare a ≡ false → phase (markOf n o) ≡ live) → k + size a ≤ length (o .marks) → Acted k (size a) o (RunAs p a k t o) (stepIn a k t o)
+    steps (sits-part {n} {own} {within} {k} s g y l) t o b w e r v m =
+        part-steps own within k t o b s g (y .noScope) l m w e r
+        (λ c w₁ e₁ r₁. steps-one l t o c w₁ e₁ r₁ (λ x. v (rw (s, x))) (omega arith))
+        (λ c w₁ e₁ r₁. steps-all l t o c w₁ e₁ r₁ (λ x. v (rw (s, x))) (omega arith))
+    steps (sits-scope {n} {b} {f} {u} {k} kn i sb sf z su) t o c w e r v m =
+        scope-runs b f u k t o (seat-of u kn i sb sf z) m
+        (λ x w₁ e₁ r₁. steps-stopped sb t o x w₁ e₁ r₁ (omega arith))
+        (λ x w₁ e₁ r₁. steps-undoing sb t o x w₁ e₁ r₁ (omega arith))
+        (λ x w₁ e₁ r₁. steps sf t o x w₁ e₁ r₁ (λ y. absurd (false≢true (sym y ∙ z))) (omega arith))
+        kn (v refl) w e r
+        (λ x w₁ e₁ r₁ y. steps sb t o x w₁ e₁ r₁ (λ d. ap phase y) (omega arith))
+
+    pub steps-one : {n : Name} {l : Acts} {c : ℕ} → SitsIn p n l c → (t : ℕ) (o : Order) (b : Bool) → WaitsIn (o .marks) l c t b → b ≡ false → One (o .marks) l c
+        → (bareIn l ≡ false → phase (markOf n o) ≡ live) → c + sizes l ≤ length (o .marks) → Acted c (sizes l) o (OneAs p l c t o) (stepAmong l c t o)
+    steps-one (sits-more {n} {a} {l} {c} s y) t o b (waits-first h w) e (one-here r q) v m =
+        subst (λ (z : Outcome). Acted c (size a + sizes l) o (OneAs p (more a l) c t o) z) (sym (among-is a l c t o true (lt-ltb t (c + size a) h)))
+        (first-one a l c t o (stepIn a c t o) (steps s t o b w e r (λ x. v (rw x)) (omega arith)) q)
+    steps-one (sits-more {n} {a} {l} {c} s y) t o b (waits-later h w) e (one-here r q) v m = absurd (quiet-waits-in w e q)
+    steps-one (sits-more {n} {a} {l} {c} s y) t o b (waits-first h w) e (one-later q r) v m = absurd (quiet-waits w e q)
+    steps-one (sits-more {n} {a} {l} {c} s y) t o b (waits-later h w) e (one-later q r) v m =
+        subst (λ (z : Outcome). Acted c (size a + sizes l) o (OneAs p (more a l) c t o) z) (sym (among-is a l c t o false (le-ltb t (c + size a) h)))
+        (later-one a l c t o (stepAmong l (c + size a) t o) (steps-one y t o b w e r (λ x. v (rw (x, and-false))) (omega arith)) q)
+
+    pub steps-all : {n : Name} {l : Acts} {c : ℕ} → SitsIn p n l c → (t : ℕ) (o : Order) (b : Bool) → WaitsIn (o .marks) l c t b → b ≡ false → All (o .marks) l c
+        → (bareIn l ≡ false → phase (markOf n o) ≡ live) → c + sizes l ≤ length (o .marks) → Acted c (sizes l) o (AllAs p l c t o) (stepAmong l c t o)
+    steps-all (sits-more {n} {a} {l} {c} s y) t o b (waits-first h w) e (all-run r q) v m =
+        subst (λ (z : Outcome). Acted c (size a + sizes l) o (AllAs p (more a l) c t o) z) (sym (among-is a l c t o true (lt-ltb t (c + size a) h)))
+        (first-all a l c t o (stepIn a c t o) (steps s t o b w e r (λ x. v (rw x)) (omega arith)) q)
+    steps-all (sits-more {n} {a} {l} {c} s y) t o b (waits-first h w) e (all-quiet q r) v m = absurd (quiet-waits w e q)
+    steps-all (sits-more {n} {a} {l} {c} s y) t o b (waits-later h w) e (all-run r q) v m =
+        subst (λ (z : Outcome). Acted c (size a + sizes l) o (AllAs p (more a l) c t o) z) (sym (among-is a l c t o false (le-ltb t (c + size a) h)))
+        (later-all a l c t o (stepAmong l (c + size a) t o) (steps-all y t o b w e q (λ x. v (rw (x, and-false))) (omega arith))
+        (λ ms g z. all-run (run-agree r g) z) (λ ms g z. able-more (able-run (run-agree r g)) z))
+    steps-all (sits-more {n} {a} {l} {c} s y) t o b (waits-later h w) e (all-quiet q r) v m =
+        subst (λ (z : Outcome). Acted c (size a + sizes l) o (AllAs p (more a l) c t o) z) (sym (among-is a l c t o false (le-ltb t (c + size a) h)))
+        (later-all a l c t o (stepAmong l (c + size a) t o) (steps-all y t o b w e r (λ x. v (rw (x, and-false))) (omega arith))
+        (λ ms g z. all-quiet (quiet-agree q g) z) (λ ms g z. able-more (able-quiet (quiet-agree q g)) z))
+
+    pub steps-stopped : {n : Name} {a : Act} {k : ℕ} → Sits p n a k → (t : ℕ) (o : Order) (b : Bool) → Waits (o .marks) a k t b → b ≡ false → Stopped (o .marks) a k
+        → k + size a ≤ length (o .marks) → Acted k (size a) o (StopAs p a k o) (stepIn a k t o)
+    steps-stopped (sits-part {n} {own} {within} {k} s g y l) t o b w e r m =
+        stopped-steps own within k t o b s w e r (λ c w₁ e₁ r₁. steps-stopped-in l t o c w₁ e₁ r₁ (omega arith))
+    steps-stopped (sits-scope {n} {b} {f} {u} {k} kn i sb sf z su) t o c w e r m =
+        scope-stops b f u k t o (seat-of u kn i sb sf z) m
+        (λ x w₁ e₁ r₁. steps-stopped sb t o x w₁ e₁ r₁ (omega arith))
+        (λ x w₁ e₁ r₁. steps-undoing sb t o x w₁ e₁ r₁ (omega arith))
+        (λ x w₁ e₁ r₁. steps sf t o x w₁ e₁ r₁ (λ y. absurd (false≢true (sym y ∙ z))) (omega arith))
+        w e r
+
+    pub steps-stopped-in : {n : Name} {l : Acts} {c : ℕ} → SitsIn p n l c → (t : ℕ) (o : Order) (b : Bool) → WaitsIn (o .marks) l c t b → b ≡ false
+        → StoppedIn (o .marks) l c
+        → c + sizes l ≤ length (o .marks) → Acted c (sizes l) o (StopInAs l c o) (stepAmong l c t o)
+    steps-stopped-in (sits-more {n} {a} {l} {c} s y) t o b (waits-first h w) e (stopped-more r q) m =
+        subst (λ (z : Outcome). Acted c (size a + sizes l) o (StopInAs (more a l) c o) z) (sym (among-is a l c t o true (lt-ltb t (c + size a) h)))
+        (first-stopped a l c o (stepIn a c t o) (steps-stopped s t o b w e r (omega arith)) q)
+    steps-stopped-in (sits-more {n} {a} {l} {c} s y) t o b (waits-later h w) e (stopped-more r q) m =
+        subst (λ (z : Outcome). Acted c (size a + sizes l) o (StopInAs (more a l) c o) z) (sym (among-is a l c t o false (le-ltb t (c + size a) h)))
+        (later-stopped a l c o (stepAmong l (c + size a) t o) (steps-stopped-in y t o b w e q (omega arith)) r)
+
+    pub steps-undoing : {n : Name} {a : Act} {k : ℕ} → Sits p n a k → (t : ℕ) (o : Order) (b : Bool) → Waits (o .marks) a k t b → b ≡ false → Undoing (o .marks) a k
+        → k + size a ≤ length (o .marks) → Acted k (size a) o (UndoAs p n a k t o) (stepIn a k t o)
+    steps-undoing (sits-part {n} {own} {within} {k} s g y l) t o b w e r m =
+        undoing-steps own within k t o b s (y .noScope) w e r (λ c w₁ e₁ r₁. steps-undoing-in l t o c w₁ e₁ r₁ (omega arith))
+    steps-undoing (sits-scope {n} {b} {f} {u} {k} kn i sb sf z su) t o c w e r m =
+        scope-undoes b f u k t o kn su w e r (λ x w₁ e₁ r₁. steps-part su t o x w₁ e₁ r₁ (omega arith))
+
+    pub steps-undoing-in : {n : Name} {l : Acts} {c : ℕ} → SitsIn p n l c → (t : ℕ) (o : Order) (b : Bool) → WaitsIn (o .marks) l c t b → b ≡ false
+        → UndoingIn (o .marks) l c
+        → c + sizes l ≤ length (o .marks) → Acted c (sizes l) o (UndoInAs n l c t o) (stepAmong l c t o)
+    steps-undoing-in (sits-more {n} {a} {l} {c} s y) t o b (waits-first h w) e (undoing-here r q) m =
+        subst (λ (z : Outcome). Acted c (size a + sizes l) o (UndoInAs n (more a l) c t o) z) (sym (among-is a l c t o true (lt-ltb t (c + size a) h)))
+        (first-undoing a l c o (stepIn a c t o) n t (steps-undoing s t o b w e r (omega arith)) q)
+    steps-undoing-in (sits-more {n} {a} {l} {c} s y) t o b (waits-later h w) e (undoing-here r q) m = absurd (quiet-waits-in w e q)
+    steps-undoing-in (sits-more {n} {a} {l} {c} s y) t o b (waits-first h w) e (undoing-later q r) m = absurd (quiet-waits w e q)
+    steps-undoing-in (sits-more {n} {a} {l} {c} s y) t o b (waits-later h w) e (undoing-later q r) m =
+        subst (λ (z : Outcome). Acted c (size a + sizes l) o (UndoInAs n (more a l) c t o) z) (sym (among-is a l c t o false (le-ltb t (c + size a) h)))
+        (later-undoing a l c o (stepAmong l (c + size a) t o) n t (steps-undoing-in y t o b w e r (omega arith)) q)
+
+    steps-part : {a : Act} {k : ℕ} → UndoPart p a k → (t : ℕ) (o : Order) (b : Bool) → Waits (o .marks) a k t b → b ≡ false → Run (o .marks) a k
+        → k + size a ≤ length (o .marks) → Acted k (size a) o (RunAs p a k t o) (stepIn a k t o)
+    steps-part (undo-part {own} {within} {k} s a g z l d) t o b w e r m =
+        part-steps own within k t o b s g z l m w e r
+        (λ c w₁ e₁ r₁. steps-one l t o c w₁ e₁ r₁ (λ x. absurd (false≢true (sym x ∙ d))) (omega arith))
+        (λ c w₁ e₁ r₁. steps-all l t o c w₁ e₁ r₁ (λ x. absurd (false≢true (sym x ∙ d))) (omega arith))

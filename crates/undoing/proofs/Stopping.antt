@@ -1,0 +1,179 @@
+-- "Its body stops": at every depth what is stopped stands so, and all that it logs is right. Assumes nothing.
+use Prim.Native.Nat.{ℕ, _+_, _≤_}
+use native.Mathlib.Omega.{arith}
+use mathlib.Core.Path.{_≡_, refl, sym, ap, subst, _∙_}
+use mathlib.Core.Bool.{Bool, true, false}
+use mathlib.Core.List.{List, [], _∷_, _++_}
+use lib.ListN.{length, length-set}
+use lib.Seq.{getD-set-same, getD-set-other}
+use borrow.Author.Tests.{ne-eqb}
+use Rattle.plan.specs.Tree.{Own, kind, Act, act, Acts, Plan, size, sizes, scope}
+use Rattle.order.specs.declared.Order.{Order}
+use Rattle.order.specs.State.{Name, root, inner, idle, halted, markAt, marked}
+use Rattle.order.specs.Event.{stopped}
+use Rattle.order.specs.Begin.{part, partAt}
+use Rattle.order.specs.declared.Way.{Way as Result}
+use Rattle.order.specs.declared.Way.the-variants.{Running as running, Over as over, Raising as raising, Leaving as leaving, Undone as undone, UndoRaising as undoRaising}
+use Rattle.order.specs.Scope.{Outcome, Scope, scopeAt, isScope, isOpen, turns, untouched, withdraws, stop, stopAll, stopFirst}
+use Rattle.order.specs.Scope as definitions
+use Rattle.machine.specs.Demand3.{insideOf}
+use Rattle.undoing.proofs.Accounts.{phase, Known}
+use Rattle.undoing.proofs.Moves.{move-stop}
+use Rattle.undoing.proofs.Marks.{trio, spread, Quiet, Kept, Stopped, stopped-part, stopped-quiet, stopped-scope, StoppedIn, stopped-none, stopped-more, Stoppable, StoppableIn, able-more, quiet-part, quiet-agree, quiet-join, agree-below, agree-above, kept-wider, kept-then, kept-itself, kept-set, stopped-agree, stoppable-agree, stoppable-in-agree, parts-stoppable, Found, found-quiet, found-open, found-turned, scope-found}
+use Rattle.undoing.proofs.Orders.{momentOf, Does, does-then, does-nothing, does-one, plain-marked, marked-elsewhere, directs, bare, innerAt, Sits, sits-part, sits-scope, SitsIn, sits-none, sits-more}
+use Rattle.undoing.proofs.Beginning.{quiet-set, quiet-cons}
+use Rattle.undoing.proofs.Seats.{Seat}
+use Rattle.undoing.proofs.Turning.{TurnsAs, Turns, turns-on}
+
+pub record Stops (p : Plan) (S : List ℕ → Type 0) (k n : ℕ) (o : Order) (r : definitions.Stopped) : Type 0 where
+  pub kept : Kept k n (o .marks) (r .order .marks)
+  pub rooted : r .order .root ≡ o .root
+  pub stands : S (r .order .marks)
+  pub does : Does p false o (r .log) (r .order)
+
+-- an inner scope in its plan
+pub seat-of : {p : Plan} {n : Name} {b f : Act} (u : Act) {k : ℕ} → Known p (innerAt k n (trio b f u)) → insideOf p (inner k) ≡ directs b (k + 1) (inner k)
+    → Sits p (inner k) b (k + 1) → Sits p root f (k + 1 + size b) → bare f ≡ true → Seat p (scopeAt k (trio b f u))
+unfolding part partAt
+seat-of u kn i sb sf z = record { name = kn .name; inside = i; body = sb; fault = sf; bareFault = z; after = refl; before = omega arith }
+
+-- a stop, by whether an activity is a scope, and whether that is open
+stop-is : (own : Own) (within : Acts) (k : ℕ) (o : Order) (x y : Bool) → isScope own ≡ x → isOpen (markAt k o) ≡ y
+    → stop (act own within) k o
+    ≡ elim x [
+      | true ↦ elim y [ true ↦ withdraws k (scopeAt k within) (stopFirst within (k + 1) (marked k halted o)) | false ↦ untouched o ]
+      | false ↦ stopAll within (k + 1) (marked k idle o)
+    ]
+unfolding stop
+stop-is own within k o x y e d =
+    subst (λ (z : Bool). stop (act own within) k o
+    ≡ elim x [
+      | true ↦ elim z [ true ↦ withdraws k (scopeAt k within) (stopFirst within (k + 1) (marked k halted o)) | false ↦ untouched o ]
+      | false ↦ stopAll within (k + 1) (marked k idle o)
+    ]) d
+    (subst (λ (z : Bool). stop (act own within) k o
+    ≡ elim z [
+      | true ↦ elim (isOpen (markAt k o)) [ true ↦ withdraws k (scopeAt k within) (stopFirst within (k + 1) (marked k halted o)) | false ↦ untouched o ]
+      | false ↦ stopAll within (k + 1) (marked k idle o)
+    ]) e refl)
+
+module _ (p : Plan) where
+  -- a scope that is open is stopped, its body having stopped so
+  withdrawn : {n : Name} (b f u : Act) (k : ℕ) (o : Order) → Known p (innerAt k n (trio b f u)) → Seat p (scopeAt k (trio b f u))
+      → isOpen (markAt k o) ≡ true → Quiet (o .marks) (k + 1 + size b) (size f + size u) → k + (spread b f u) ≤ length (o .marks)
+      → (r : definitions.Stopped) → Stops p (λ ms. Stopped ms b (k + 1)) (k + 1) (size b) (marked k halted o) r
+      → Stops p (λ ms. Stopped ms (act scope (trio b f u)) k) k (spread b f u) o
+      (withdraws k (scopeAt k (trio b f u)) r)
+  unfolding withdraws part partAt size
+  withdrawn {n} b f u k o kn h e q m r s = go (t .result) (v .comes)
+    where
+      s₁ : Scope
+      s₁ = scopeAt k (trio b f u)
+
+      t : Outcome
+      t = turns false s₁ (r .order)
+
+      first : Does p false o (stopped k ∷ []) (marked k halted o)
+      first =
+          does-one (λ past x. move-stop p (momentOf p o) (momentOf p (marked k halted o)) past x k (kn .name) (rw e)
+          (ap phase (getD-set-same (o .marks) k halted 0 (omega arith))) refl (marked-elsewhere p k halted o))
+
+      w : Quiet (r .order .marks) (k + 1 + size b) (size f + size u)
+      w = quiet-agree (quiet-set halted q (omega arith)) (agree-above (s .kept) (omega arith))
+
+      v : Turns p s₁ (r .order) t
+      v = turns-on p false s₁ (r .order) h (λ z. refl)
+          (ap phase (s .kept .below k (omega arith) ∙ getD-set-same (o .marks) k halted 0 (omega arith)))
+          (s .stands) (quiet-part w (omega arith) (omega arith)) (omega (arith, s .kept .many, length-set (o .marks) k halted))
+
+      kept₁ : Kept k (spread b f u) (o .marks) (t .order .marks)
+      kept₁ =
+          kept-then (kept-set k _ k halted (o .marks) (omega arith) (omega arith))
+          (kept-then (kept-wider (s .kept) (omega arith) (omega arith))
+          (record {
+            many = v .apart .many;
+            below = λ i x. v .apart .below i (omega arith) (ne-eqb i k (omega arith));
+            above = λ i x. v .apart .above i (omega arith);
+          }))
+
+      w₁ : Quiet (t .order .marks) (k + 1 + size b + size f) (size u)
+      w₁ = record { at = λ i x y. v .apart .above i (omega arith) ∙ w .at i (omega arith) (omega arith) }
+
+      w₂ : Quiet (t .order .marks) (k + 1 + size b + size f) (size u + 0)
+      w₂ = quiet-part w₁ (omega arith) (omega arith)
+
+      go : (x : Result) → TurnsAs p s₁ (r .order) (t .log) (t .order) x
+          → Stops p (λ ms. Stopped ms (act scope (trio b f u)) k) k (spread b f u) o
+          (record { order = t .order; log = stopped k ∷ (r .log ++ t .log) })
+      go running c =
+          record { kept = kept₁; rooted = v .apart .rooted refl ∙ s .rooted; stands = stopped-scope (c .0) w₁; does = does-then first (does-then (s .does) (c .1)) }
+      go over c =
+          record {
+            kept = kept₁;
+            rooted = v .apart .rooted refl ∙ s .rooted;
+            stands = stopped-quiet (quiet-cons (c .0) (quiet-join (c .1) (quiet-join (c .2) w₂ refl) refl));
+            does = does-then first (does-then (s .does) (c .3));
+          }
+      go raising c = absurd c
+      go leaving c = absurd c
+      go undone c = absurd c
+      go undoRaising c = absurd c
+
+  -- a scope is stopped, as it is found
+  stopped-as : {n : Name} (b f u : Act) (k : ℕ) (o : Order) → Known p (innerAt k n (trio b f u)) → Seat p (scopeAt k (trio b f u))
+      → Found (o .marks) b f u k → k + (spread b f u) ≤ length (o .marks)
+      → (Stoppable (marked k halted o .marks) b (k + 1) → Stops p (λ ms. Stopped ms b (k + 1)) (k + 1) (size b) (marked k halted o) (stop b (k + 1) (marked k halted o)))
+      → Stops p (λ ms. Stopped ms (act scope (trio b f u)) k) k (spread b f u) o
+      (stop (act scope (trio b f u)) k o)
+  unfolding stop kind size
+  stopped-as b f u k o kn h (found-quiet q) m g =
+      subst (λ (r : definitions.Stopped). Stops p (λ ms. Stopped ms (act scope (trio b f u)) k) k (spread b f u) o r)
+      (sym (stop-is scope (trio b f u) k o true false refl (rw (q .at k (omega arith) (omega arith)))))
+      (record { kept = kept-itself k _ (o .marks); rooted = refl; stands = stopped-quiet q; does = does-nothing (λ n i. (refl, refl)) })
+  stopped-as b f u k o kn h (found-open e y q) m g =
+      subst (λ (r : definitions.Stopped). Stops p (λ ms. Stopped ms (act scope (trio b f u)) k) k (spread b f u) o r)
+      (sym (stop-is scope (trio b f u) k o true true refl e))
+      (withdrawn b f u k o kn h e q m (stop b (k + 1) (marked k halted o))
+      (g (stoppable-agree y (record { at = λ i x z. getD-set-other (o .marks) k i halted 0 (omega arith) }))))
+  stopped-as b f u k o kn h (found-turned e t q) m g =
+      subst (λ (r : definitions.Stopped). Stops p (λ ms. Stopped ms (act scope (trio b f u)) k) k (spread b f u) o r)
+      (sym (stop-is scope (trio b f u) k o true false refl e))
+      (record { kept = kept-itself k _ (o .marks); rooted = refl; stands = stopped-scope t q; does = does-nothing (λ n i. (refl, refl)) })
+
+  -- What may be stopped stands stopped after it, at every depth.
+  mutual
+    unfolding stop size
+
+    -- an activity
+    pub stops : {n : Name} {a : Act} {k : ℕ} → Sits p n a k → (o : Order) → Stoppable (o .marks) a k → k + size a ≤ length (o .marks)
+        → Stops p (λ ms. Stopped ms a k) k (size a) o (stop a k o)
+    stops (sits-part {n} {own} {within} {k} s g y l) o t m =
+        let o₁ = marked k idle o in
+        let r = stops-all l o₁ (stoppable-in-agree (parts-stoppable s t) (record { at = λ i x z. getD-set-other (o .marks) k i idle 0 (omega arith) }))
+        (omega (arith, length-set (o .marks) k idle)) in
+        subst (λ (r : definitions.Stopped). Stops p (λ ms. Stopped ms (act own within) k) k (1 + sizes within) o r)
+        (sym (stop-is own within k o false (isOpen (markAt k o)) s refl))
+        (record {
+          kept = kept-then (kept-set k _ k idle (o .marks) (omega arith) (omega arith)) (kept-wider (r .kept) (omega arith) (omega arith));
+          rooted = r .rooted;
+          stands = stopped-part s (r .kept .below k (omega arith) ∙ getD-set-same (o .marks) k idle 0 (omega arith)) (r .stands);
+          does = does-then (does-nothing (plain-marked p k idle o (y .noScope))) (r .does);
+        })
+    stops (sits-scope {n} {b} {f} {u} {k} kn i sb sf z su) o t m =
+        stopped-as b f u k o kn (seat-of u kn i sb sf z) (scope-found t) m
+        (λ y. stops sb (marked k halted o) y (omega (arith, length-set (o .marks) k halted)))
+
+    -- a list
+    pub stops-all : {n : Name} {l : Acts} {c : ℕ} → SitsIn p n l c → (o : Order) → StoppableIn (o .marks) l c → c + sizes l ≤ length (o .marks)
+        → Stops p (λ ms. StoppedIn ms l c) c (sizes l) o (stopAll l c o)
+    stops-all (sits-none {n} {c}) o t m =
+        record { kept = kept-itself c 0 (o .marks); rooted = refl; stands = stopped-none; does = does-nothing (λ n i. (refl, refl)) }
+    stops-all (sits-more {n} {a} {l} {c} s y) o (able-more t w) m =
+        let r = stops s o t (omega arith) in
+        let v = stops-all y (stop a c o .order) (stoppable-in-agree w (agree-above (r .kept) (omega arith))) (omega (arith, r .kept .many)) in
+        record {
+          kept = kept-then (kept-wider (r .kept) (omega arith) (omega arith)) (kept-wider (v .kept) (omega arith) (omega arith));
+          rooted = v .rooted ∙ r .rooted;
+          stands = stopped-more (stopped-agree (r .stands) (agree-below (v .kept) (omega arith))) (v .stands);
+          does = does-then (r .does) (v .does);
+        }

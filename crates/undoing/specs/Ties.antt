@@ -1,0 +1,340 @@
+-- What ties the history of a slot to what stands in it and to the steps taken, stated beside demand 3, which judges the history by itself: marks,
+-- lists, steps, faults, places, and that nothing is stuck. Assumes nothing: these are definitions.
+use Prim.Native.Nat.{ℕ, _+_}
+use mathlib.Core.Path.{_≡_}
+use mathlib.Core.Bool.{Bool, true, false, cond, not, _&&_, _||_}
+use mathlib.Core.List.{List, [], _∷_, _++_, reverse}
+use lib.ListN.{getD}
+use lib.Dec.{ltb, eqb}
+use Rattle.plan.specs.Found.{found}
+use Rattle.plan.specs.Read.{readPlan}
+use Rattle.plan.specs.Tree.{Own, empty, send, receive, set as setting, raise, leave, choose, repeat, sequence, flow, pick, scope, arm, Act, act, Acts, none, more, Plan, size}
+use Rattle.order.specs.declared.Order.{Order}
+use Rattle.machine.specs.declared.State.{State}
+use Rattle.machine.specs.declared.Tally.{Tally}
+use Rattle.order.specs.Lists.{every, some, only}
+use Rattle.order.specs.State.{idle, active, done, faulty, undoing, handling, halted, withdrawing, Name, root, inner, same, closings, markOf, isLive, noOrder}
+use Rattle.order.specs.Expression.{Value, fault as faulting, value, evaluate}
+use Rattle.order.specs.Event.{Event, started, began, closed, faulted, stopped, ended, raised, left}
+use Rattle.order.specs.Begin.{quiet}
+use Rattle.order.specs.Scope.{Scope, scopeAt, rootOf, isOpen, isScope, innerRuns}
+use Rattle.order.specs.Acting.{allBound, startedOrder}
+use Rattle.machine.specs.Fit.{readyOf}
+use Rattle.machine.specs.Calls.{loaded, post, collect, Stepped, step}
+use Rattle.machine.specs.History.{Call, posting, collecting, stepping, history}
+use Rattle.machine.specs.Demand3.{scopesOf, insideOf, closingsOf, undoneOf, hasTurned, isLeft, mayTurn, noneNow}
+
+-- the state after these calls
+unfoldable pub stateAfter : List Call → State → Tally → State
+stateAfter [] s t = s
+stateAfter (posting m ∷ l) s t = stateAfter l (post m s .state) t
+stateAfter (collecting ∷ l) s t = stateAfter l (collect s .state) t
+stateAfter (stepping c ∷ l) s t = let r = step c s t in stateAfter l (r .state) (r .tally)
+
+-- what stands in a slot after these calls, and what happened in it, the newest first
+abbrev pub orderAfter : List Call → (slot : ℕ) → State → Tally → Order
+orderAfter l i s t = getD (stateAfter l s t .orders) i noOrder
+
+abbrev pub pastAfter : List Call → (slot : ℕ) → State → Tally → List Event
+pastAfter l i s t = reverse (history l i s t)
+
+-- a scope of the plan: the root, or one that has this number
+abbrev pub isName : Plan → Name → Bool
+isName p root = true
+isName p (inner k) = some (λ x. eqb (x .number) k) (scopesOf p)
+
+-- What holds after any run of posts, collects and choices from a fresh start, for every accepted plan and every slot: of the plan, the order in
+-- the slot and what happened in it.
+abbrev pub Always : (Plan → Order → (past : List Event) → Type 0) → Type 0
+Always P =
+    (bytes : List ℕ) (p : Plan) (next : ℕ) → readPlan bytes ≡ found p next → (calls : List Call) (slot : ℕ) (t : Tally) →
+    P p (orderAfter calls slot (loaded bytes) t) (pastAfter calls slot (loaded bytes) t)
+
+-- A slot is live exactly where, by its history, an order has started and is not over.
+unfoldable pub LiveTold : Type 0
+LiveTold = Always (λ p o past. isLive o ≡ not (noneNow past))
+
+-- MARKS. In a live order the mark of every scope says what the history says of it: it is idle exactly where the scope is not left running; it
+-- is that of an open scope exactly where the scope may still fault or be stopped; and it is one of the five others exactly where it has.
+abbrev pub isTurned : (mark : ℕ) → Bool
+isTurned m = (eqb m faulty || eqb m halted) || ((eqb m undoing || eqb m withdrawing) || eqb m handling)
+
+unfoldable pub MarksTold : Type 0
+MarksTold =
+    Always (λ p o past. isLive o ≡ true → (n : Name) → isName p n ≡ true →
+    (not (eqb (markOf n o) idle) ≡ isLeft n past) × (isOpen (markOf n o) ≡ mayTurn n past) × (isTurned (markOf n o) ≡ hasTurned n past))
+
+-- LISTS. In a live order what is remembered for a scope, the last first, is what closed directly inside it since it last began less what it has
+-- undone since; and for a scope that is not left running nothing is remembered.
+abbrev pub remembered : Plan → Name → Order → List ℕ
+remembered p n o = reverse (only (λ e. some (λ x. eqb (x .number) e) (insideOf p n)) (closings o))
+
+unfoldable pub ListsTold : Type 0
+ListsTold =
+    Always (λ p o past. isLive o ≡ true → (n : Name) → isName p n ≡ true →
+    (isLeft n past ≡ true → closingsOf p n past ≡ undoneOf p n past ++ remembered p n o) × (isLeft n past ≡ false → remembered p n o ≡ []))
+
+-- STEPS. The starts, closings, raises and leaves of a history are those of the steps taken in the slot, no more, no fewer, and in their order.
+
+-- an event that is a step's own
+unfoldable pub isDeed : Event → Bool
+isDeed started = true
+isDeed (began k) = false
+isDeed (closed k) = true
+isDeed (faulted n) = false
+isDeed (stopped k) = false
+isDeed (ended n) = false
+isDeed (raised k) = true
+isDeed left = true
+
+-- "makes its step act as a raise": an expression, and a send of unbound variables
+abbrev pub raisedIf : (k : ℕ) → (fails : Bool) → List Event
+raisedIf k fails = cond fails (raised k ∷ []) []
+
+abbrev pub isFault : Value → Bool
+isFault faulting = true
+isFault (value n) = false
+
+-- what the step of activity k is in the history, by what the activity says of itself and by the order that has the step
+unfoldable pub deedOf : Own → (k : ℕ) → Order → List Event
+deedOf empty k o = []
+deedOf (send p op vs) k o = raisedIf k (not (allBound o vs))
+deedOf (receive p op vs) k o = []
+deedOf (setting v e) k o = raisedIf k (isFault (evaluate e o))
+deedOf raise k o = raised k ∷ []
+deedOf leave k o = left ∷ []
+deedOf (choose e) k o = raisedIf k (isFault (evaluate e o))
+deedOf (repeat e) k o = raisedIf k (isFault (evaluate e o))
+deedOf sequence k o = []
+deedOf flow k o = []
+deedOf pick k o = []
+deedOf scope k o = closed k ∷ []
+deedOf (arm p op vs) k o = []
+
+-- activity t, where k is the number of the first; none where there is no such activity
+unfoldable mutual
+  pub deedIn : Act → (k t : ℕ) → Order → List Event
+  deedIn (act own within) k t o = elim (eqb k t) [ true ↦ deedOf own k o | false ↦ deedAmong within (k + 1) t o ]
+
+  pub deedAmong : Acts → (c t : ℕ) → Order → List Event
+  deedAmong none c t o = []
+  deedAmong (more a l) c t o = elim (ltb t (c + size a)) [ true ↦ deedIn a c t o | false ↦ deedAmong l (c + size a) t o ]
+
+unfoldable pub deedAt : Plan → (t : ℕ) → Order → List Event
+deedAt p t o =
+    elim (ltb t (size (p .body))) [ true ↦ deedIn (p .body) 0 t o | false ↦ deedIn (p .fault) (size (p .body)) t o ]
+
+-- the order that has a step in a slot: the one that stands there, or the one that starts
+abbrev pub having : Plan → (slot : ℕ) → State → Order
+having p i s = let o = getD (s .orders) i noOrder in cond (isLive o) o (startedOrder p)
+
+-- where it starts, that comes first
+abbrev pub starting : (slot : ℕ) → State → List Event
+starting i s = cond (isLive (getD (s .orders) i noOrder)) [] (started ∷ [])
+
+-- the step of this answer, where it was taken and its slot is this one
+unfoldable pub deedBy : Plan → (slot : ℕ) → State → Stepped → List Event
+deedBy p i s r =
+    cond (eqb (r .answer .refusal) 0 && eqb (r .answer .slot) i) (starting i s ++ deedAt p (r .answer .activity) (having p i s)) []
+
+unfoldable pub deedsTaken : Plan → List Call → (slot : ℕ) → State → Tally → List Event
+deedsTaken p [] i s t = []
+deedsTaken p (posting m ∷ l) i s t = deedsTaken p l i (post m s .state) t
+deedsTaken p (collecting ∷ l) i s t = deedsTaken p l i (collect s .state) t
+deedsTaken p (stepping c ∷ l) i s t = let r = step c s t in deedBy p i s r ++ deedsTaken p l i (r .state) (r .tally)
+
+unfoldable pub StepsTold : Type 0
+StepsTold =
+    (bytes : List ℕ) (p : Plan) (next : ℕ) → readPlan bytes ≡ found p next → (calls : List Call) (slot : ℕ) (t : Tally) →
+    only isDeed (history calls slot (loaded bytes) t) ≡ deedsTaken p calls slot (loaded bytes) t
+
+-- FAULTS. "A raise in a body faults the nearest scope around it."; "A raise inside the undo parts or fault part that a scope is running ends that
+-- scope, forgets the rest of its list, and faults the scope around it."; "A fault that reaches a scope already stopped or faulted is absorbed."
+
+-- Where an activity stands: in the body of a scope, in its fault part, or in an undo part that it runs; and the scope around that scope (the
+-- root's is the root itself).
+pub data Place : Type 0 where
+  bodyOf : (scope around : Name) → Place
+  faultOf : (scope around : Name) → Place
+  undoOf : (scope around : Name) → Place
+
+-- that scope, and the one around it
+abbrev pub nameOf : Place → Name
+nameOf (bodyOf n m) = n
+nameOf (faultOf n m) = n
+nameOf (undoOf n m) = n
+
+abbrev pub aroundOf : Place → Name
+aroundOf (bodyOf n m) = m
+aroundOf (faultOf n m) = m
+aroundOf (undoOf n m) = m
+
+-- where activity t stands, in activity k that stands in a place; the undo part of a scope is run by the scope around it
+unfoldable mutual
+  pub placeIn : Act → (k t : ℕ) → Place → Place
+  placeIn (act own within) k t q =
+      elim (eqb k t) [
+        | true ↦ q
+        | false ↦ elim (isScope own) [
+          | true ↦ placeParts within (k + 1) t (bodyOf (inner k) (nameOf q)) (faultOf (inner k) (nameOf q)) (undoOf (nameOf q) (aroundOf q))
+          | false ↦ placeAmong within (k + 1) t q
+        ]
+      ]
+
+  pub placeAmong : Acts → (c t : ℕ) → Place → Place
+  placeAmong none c t q = q
+  placeAmong (more a l) c t q = elim (ltb t (c + size a)) [ true ↦ placeIn a c t q | false ↦ placeAmong l (c + size a) t q ]
+
+  -- the three parts of a scope, each in its place
+  pub placeParts : Acts → (c t : ℕ) → (body fault undo : Place) → Place
+  placeParts none c t b f u = u
+  placeParts (more a l) c t b f u = elim (ltb t (c + size a)) [ true ↦ placeIn a c t b | false ↦ placeParts l (c + size a) t f u u ]
+
+unfoldable pub placeOf : Plan → (t : ℕ) → Place
+placeOf p t =
+    elim (ltb t (size (p .body))) [
+      | true ↦ placeIn (p .body) 0 t (bodyOf root root)
+      | false ↦ placeIn (p .fault) (size (p .body)) t (faultOf root root)
+    ]
+
+-- what must happen next
+pub data Due : Type 0 where
+  nothing : Due
+  fault : (scope : Name) → Due
+  end : (scope : Name) → Due
+
+-- after a raise: the fault of the scope in whose body it was, or the end of the scope that runs the part it was in
+abbrev pub dueFirst : Place → Due
+dueFirst (bodyOf n m) = fault n
+dueFirst (faultOf n m) = end n
+dueFirst (undoOf n m) = end n
+
+-- after that end: the fault of the scope around, where that one may still fault
+abbrev pub dueSecond : (past : List Event) → Place → Due
+dueSecond past (bodyOf n m) = nothing
+dueSecond past (faultOf n m) = cond (mayTurn m past) (fault m) nothing
+dueSecond past (undoOf n m) = cond (mayTurn m past) (fault m) nothing
+
+unfoldable pub dueEnded : Plan → (past : List Event) → Due
+dueEnded p [] = nothing
+dueEnded p (started ∷ past) = nothing
+dueEnded p (began k ∷ past) = nothing
+dueEnded p (closed k ∷ past) = nothing
+dueEnded p (faulted n ∷ past) = nothing
+dueEnded p (stopped k ∷ past) = nothing
+dueEnded p (ended n ∷ past) = nothing
+dueEnded p (raised k ∷ past) = dueSecond past (placeOf p k)
+dueEnded p (left ∷ past) = nothing
+
+unfoldable pub due : Plan → (past : List Event) → Due
+due p [] = nothing
+due p (started ∷ past) = nothing
+due p (began k ∷ past) = nothing
+due p (closed k ∷ past) = nothing
+due p (faulted n ∷ past) = nothing
+due p (stopped k ∷ past) = nothing
+due p (ended n ∷ past) = dueEnded p past
+due p (raised k ∷ past) = dueFirst (placeOf p k)
+due p (left ∷ past) = nothing
+
+-- which scope an event faults, and which it ends
+unfoldable pub isFaultOf : (Name → Bool) → Event → Bool
+isFaultOf f started = false
+isFaultOf f (began k) = false
+isFaultOf f (closed k) = false
+isFaultOf f (faulted n) = f n
+isFaultOf f (stopped k) = false
+isFaultOf f (ended n) = false
+isFaultOf f (raised k) = false
+isFaultOf f left = false
+
+unfoldable pub isEndOf : Name → Event → Bool
+isEndOf s started = false
+isEndOf s (began k) = false
+isEndOf s (closed k) = false
+isEndOf s (faulted n) = false
+isEndOf s (stopped k) = false
+isEndOf s (ended n) = same s n
+isEndOf s (raised k) = false
+isEndOf s left = false
+
+-- what is due happens next; and no scope faults but where that is due
+abbrev pub heeds : Due → Event → Bool
+heeds nothing e = not (isFaultOf (λ n. true) e)
+heeds (fault s) e = isFaultOf (same s) e
+heeds (end s) e = isEndOf s e
+
+abbrev pub isNothing : Due → Bool
+isNothing nothing = true
+isNothing (fault s) = false
+isNothing (end s) = false
+
+-- a history, oldest first, after a past: each event heeds what is due, and at its end nothing is
+unfoldable pub heedsAfter : Plan → (past : List Event) → List Event → Bool
+heedsAfter p past [] = isNothing (due p past)
+heedsAfter p past (e ∷ l) = heeds (due p past) e && heedsAfter p (e ∷ past) l
+
+unfoldable pub FaultsTold : Type 0
+FaultsTold =
+    (bytes : List ℕ) (p : Plan) (next : ℕ) → readPlan bytes ≡ found p next → (calls : List Call) (slot : ℕ) (t : Tally) →
+    heedsAfter p [] (history calls slot (loaded bytes) t) ≡ true
+
+-- PLACES. In a live order every activity that awaits its step stands where its scope is as it should be: in a body, that scope is open; in a
+-- fault part, it is handling (so that by the lists it has undone all); in an undo part, the scope around is undoing.
+abbrev pub fits : Place → Order → Bool
+fits (bodyOf n m) o = isOpen (markOf n o)
+fits (faultOf n m) o = eqb (markOf n o) handling
+fits (undoOf n m) o = eqb (markOf n o) undoing || eqb (markOf n o) withdrawing
+
+unfoldable pub PlacesTold : Type 0
+PlacesTold = Always (λ p o past. isLive o ≡ true → every (λ r. fits (placeOf p (r .activity)) o) (readyOf p o) ≡ true)
+
+-- NEVER STUCK. A live order always has an activity that awaits its step; a pick awaits that of one of its arms.
+unfoldable pub isDoer : Own → Bool
+isDoer empty = false
+isDoer (send p op vs) = true
+isDoer (receive p op vs) = true
+isDoer (setting v e) = true
+isDoer raise = true
+isDoer leave = true
+isDoer (choose e) = true
+isDoer (repeat e) = true
+isDoer sequence = false
+isDoer flow = false
+isDoer pick = true
+isDoer scope = false
+isDoer (arm p op vs) = false
+
+unfoldable mutual
+  pub awaitsIn : Act → (k : ℕ) → (marks : List ℕ) → Bool
+  awaitsIn (act own within) k ms =
+      (isDoer own && eqb (getD ms k 0) active) || ((isScope own && eqb (getD ms k 0) done) || awaitsAmong within (k + 1) ms)
+
+  pub awaitsAmong : Acts → (c : ℕ) → (marks : List ℕ) → Bool
+  awaitsAmong none c ms = false
+  awaitsAmong (more a l) c ms = awaitsIn a c ms || awaitsAmong l (c + size a) ms
+
+unfoldable pub NeverStuck : Type 0
+NeverStuck =
+    Always (λ p o past. isLive o ≡ true → (awaitsIn (p .body) 0 (o .marks) || awaitsIn (p .fault) (size (p .body)) (o .marks)) ≡ true)
+
+-- GOING ON. In a live order a scope that waits has one running directly inside it; where one undoes, something in its body runs; where one
+-- handles, something in its fault part does.
+unfoldable pub movesOn : Scope → (mark : ℕ) → (marks : List ℕ) → Bool
+movesOn s m ms =
+    (not (eqb m faulty || eqb m halted) || innerRuns (s .body) (s .bodyAt) ms)
+    && ((not (eqb m undoing || eqb m withdrawing) || not (quiet (s .bodyAt) (size (s .body)) ms))
+    && (not (eqb m handling) || not (quiet (s .faultAt) (size (s .fault)) ms)))
+
+unfoldable mutual
+  pub goIn : Act → (k : ℕ) → (marks : List ℕ) → Bool
+  goIn (act own within) k ms = cond (isScope own) (movesOn (scopeAt k within) (getD ms k 0) ms) true && goAmong within (k + 1) ms
+
+  pub goAmong : Acts → (c : ℕ) → (marks : List ℕ) → Bool
+  goAmong none c ms = true
+  goAmong (more a l) c ms = goIn a c ms && goAmong l (c + size a) ms
+
+unfoldable pub GoingOn : Type 0
+GoingOn =
+    Always (λ p o past. isLive o ≡ true →
+    (movesOn (rootOf p) (o .root) (o .marks) && (goIn (p .body) 0 (o .marks) && goIn (p .fault) (size (p .body)) (o .marks))) ≡ true)
