@@ -1,11 +1,35 @@
 //! The only unsafe code here: the proved library's functions, and a thread on a painted stack.
 
+use crate::state::Message;
 use std::ffi::{c_int, c_ulong, c_void};
 
 #[allow(improper_ctypes)]
 unsafe extern "C" {
     fn moonhalyard_accept(bytes: *const u8, len: usize) -> u64;
     fn moonhalyard_show(bytes: *const u8, len: usize, k: u32) -> u64;
+    fn moonhalyard_load(plan: *const u8, n: usize, state: *mut u8, size: usize) -> u64;
+    fn moonhalyard_post(
+        state: *mut u8,
+        size: usize,
+        partner: u32,
+        operation: u32,
+        count: u32,
+        v0: u32,
+        v1: u32,
+        v2: u32,
+        v3: u32,
+    ) -> u32;
+    fn moonhalyard_collect(state: *mut u8, size: usize, message: *mut u8, room: usize) -> u32;
+    fn moonhalyard_offer(state: *const u8, size: usize, choice: u64) -> u64;
+    fn moonhalyard_offers(state: *const u8, size: usize) -> u64;
+    fn moonhalyard_step(state: *mut u8, size: usize, choice: u64) -> u64;
+    fn moonhalyard_run(
+        state: *mut u8,
+        size: usize,
+        choices: *const u64,
+        many: usize,
+        budget: *mut u64,
+    ) -> u32;
 
     fn pthread_attr_init(attributes: *mut Attributes) -> c_int;
     fn pthread_attr_setstack(attributes: *mut Attributes, stack: *mut c_void, size: usize)
@@ -32,6 +56,67 @@ pub fn show(bytes: &[u8], k: u32) -> u64 {
     unsafe { moonhalyard_show(bytes.as_ptr(), bytes.len(), k) }
 }
 
+// The engine's calls, as `packed` has them. The library reads and writes only what it is lent here, and keeps none of it.
+
+pub fn load(plan: &[u8], state: &mut [u8]) -> u64 {
+    unsafe { moonhalyard_load(plan.as_ptr(), plan.len(), state.as_mut_ptr(), state.len()) }
+}
+
+pub fn post(state: &mut [u8], message: Message) -> u32 {
+    let Message {
+        partner,
+        operation,
+        count,
+        values: [a, b, c, d],
+    } = message;
+    unsafe {
+        let size = state.len();
+        moonhalyard_post(
+            state.as_mut_ptr(),
+            size,
+            partner,
+            operation,
+            count,
+            a,
+            b,
+            c,
+            d,
+        )
+    }
+}
+
+pub fn collect(state: &mut [u8], message: &mut [u8]) -> u32 {
+    unsafe {
+        let (size, room) = (state.len(), message.len());
+        moonhalyard_collect(state.as_mut_ptr(), size, message.as_mut_ptr(), room)
+    }
+}
+
+pub fn offer(state: &[u8], choice: u64) -> u64 {
+    unsafe { moonhalyard_offer(state.as_ptr(), state.len(), choice) }
+}
+
+pub fn offers(state: &[u8]) -> u64 {
+    unsafe { moonhalyard_offers(state.as_ptr(), state.len()) }
+}
+
+pub fn step(state: &mut [u8], choice: u64) -> u64 {
+    unsafe { moonhalyard_step(state.as_mut_ptr(), state.len(), choice) }
+}
+
+pub fn run(state: &mut [u8], choices: &[u64], budget: &mut u64) -> u32 {
+    unsafe {
+        let size = state.len();
+        moonhalyard_run(
+            state.as_mut_ptr(),
+            size,
+            choices.as_ptr(),
+            choices.len(),
+            budget,
+        )
+    }
+}
+
 /// Room for a pthread_attr_t (64 bytes at most on 64-bit Linux).
 #[repr(C, align(16))]
 struct Attributes([u8; 256]);
@@ -54,9 +139,7 @@ pub struct PaintedStack {
 
 struct Job<'a> {
     bottom: *mut u64,
-    work: fn(&[u8], u32) -> u64,
-    bytes: &'a [u8],
-    k: u32,
+    work: &'a mut dyn FnMut() -> u64,
     answer: u64,
     used: usize,
 }
@@ -70,13 +153,11 @@ impl PaintedStack {
 
     /// Runs `work` on this stack. Answers what it gives and how many bytes of stack it wrote
     /// below its caller, to the lowest. `work` must fit: this stack has no guard.
-    pub fn run(&mut self, work: fn(&[u8], u32) -> u64, bytes: &[u8], k: u32) -> (u64, usize) {
+    pub fn run(&mut self, work: &mut dyn FnMut() -> u64) -> (u64, usize) {
         let bottom = self.pages.as_mut_ptr().cast::<u64>();
         let mut job = Job {
             bottom,
             work,
-            bytes,
-            k,
             answer: 0,
             used: 0,
         };
@@ -122,7 +203,7 @@ extern "C" fn on_painted_stack(job: *mut c_void) -> *mut c_void {
         for at in 0..words {
             job.bottom.add(at).write_volatile(PAINT);
         }
-        job.answer = (job.work)(job.bytes, job.k);
+        job.answer = (job.work)();
         let mut lowest = 0;
         while lowest < words && job.bottom.add(lowest).read_volatile() == PAINT {
             lowest += 1;

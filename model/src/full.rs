@@ -24,12 +24,12 @@ fn receive(sheet: &mut Sheet) {
     sheet.message(Some(2), 63, 62, &[3, 2, 1, 0]);
 }
 
-fn code(sheet: &mut Sheet, code: u32) {
+pub(crate) fn code(sheet: &mut Sheet, code: u32) {
     sheet.begin();
     sheet.put(Kind::Code, code);
 }
 
-fn list(sheet: &mut Sheet, kind: u32, count: u32) {
+pub(crate) fn list(sheet: &mut Sheet, kind: u32, count: u32) {
     code(sheet, kind);
     sheet.put(Kind::ListCount, count);
 }

@@ -1,4 +1,4 @@
-//! The independent model of the plan reader, and what compares it with the proved reader.
+//! The independent model of the plan reader and of the engine, and what compares it with the proved library.
 //!
 //! The model is written from document 01 alone and shares no code with the proved crates.
 //!
@@ -10,12 +10,25 @@
 #![deny(unsafe_code)]
 
 pub mod answers;
+pub mod calls;
+pub mod comparison;
+pub mod describe;
 pub mod edges;
+pub mod engine;
 pub mod full;
+pub mod fullest;
 pub mod generate;
+pub mod lively;
+pub mod order;
+pub mod packed;
+pub mod plan;
 pub mod reader;
 pub mod rows;
+pub mod scenarios;
+pub mod scramble;
+pub mod state;
 pub mod vectors;
+pub mod wander;
 
 #[cfg(feature = "library")]
 #[allow(unsafe_code)]

@@ -1,10 +1,11 @@
-//! Times the proved reader beside the model on full plans, and measures the stack accepting uses.
+//! Times the proved reader and engine beside the model, and measures the stack that their calls use.
 
 #![forbid(unsafe_code)]
 
 use model::full::{FULL, plans};
 use model::reader::{Plan, read, read_into};
-use model::{boundary, edges};
+use model::state::Message;
+use model::{boundary, edges, fullest, packed};
 use std::hint::black_box;
 use std::time::Instant;
 
@@ -14,7 +15,9 @@ const ROUNDS: usize = 1001;
 
 fn main() {
     speed();
+    engine_speed();
     stack();
+    engine_stack();
 }
 
 fn speed() {
@@ -129,7 +132,8 @@ fn stack() {
     for (name, work) in works {
         let mut most = (0, "");
         for (plan, bytes) in &all {
-            let (answer, used) = painted.run(work, bytes, last(bytes));
+            let k = last(bytes);
+            let (answer, used) = painted.run(&mut || work(bytes, k));
             black_box(answer);
             if used > most.0 {
                 most = (used, plan);
@@ -138,6 +142,171 @@ fn stack() {
         println!(
             "Stack used by {name}: at most {} bytes ({}).",
             most.0, most.1
+        );
+    }
+}
+
+/// The calls of an engine on packed states.
+#[derive(Clone, Copy)]
+struct Engine {
+    post: fn(&mut [u8], Message) -> u32,
+    collect: fn(&mut [u8], &mut [u8]) -> u32,
+    offers: fn(&[u8]) -> u64,
+    step: fn(&mut [u8], u64) -> u64,
+    run: fn(&mut [u8], &[u64], &mut u64) -> u32,
+}
+
+const PROVED: Engine = Engine {
+    post: boundary::post,
+    collect: boundary::collect,
+    offers: boundary::offers,
+    step: boundary::step,
+    run: boundary::run,
+};
+
+const MODEL: Engine = Engine {
+    post: packed::post,
+    collect: packed::collect,
+    offers: packed::offers,
+    step: packed::step,
+    run: packed::run,
+};
+
+/// Something done with an engine on a state, and how many calls it counts for.
+struct Task {
+    name: &'static str,
+    state: Vec<u8>,
+    calls: u32,
+    work: Box<dyn Fn(Engine, &mut [u8]) -> u64>,
+}
+
+fn tasks() -> Vec<Task> {
+    let task = |name, state, calls, work| Task {
+        name,
+        state,
+        calls,
+        work,
+    };
+    let full = fullest::fullest(64);
+    let last = packed::offers(&full) - 1;
+    let mut outward = fullest::fullest(63);
+    assert_eq!(packed::post(&mut outward, fullest::outward()), 0);
+    let sample = fullest::sample();
+    let many = sample.len() as u32;
+    let (first, zeros) = (sample[0].clone(), vec![0; 1000]);
+    vec![
+        task(
+            "step on the fullest state, first choice",
+            full.clone(),
+            1,
+            Box::new(|engine, state| (engine.step)(state, 0)),
+        ),
+        task(
+            "step on the fullest state, last choice",
+            full.clone(),
+            1,
+            Box::new(move |engine, state| (engine.step)(state, last)),
+        ),
+        task(
+            "offers of the fullest state",
+            full,
+            1,
+            Box::new(|engine, state| (engine.offers)(state)),
+        ),
+        task(
+            "post of message 64 on the fullest state",
+            fullest::fullest(63),
+            1,
+            Box::new(|engine, state| u64::from((engine.post)(state, fullest::outward()))),
+        ),
+        task(
+            "collect of message 64 on the fullest state",
+            outward,
+            1,
+            Box::new(|engine, state| u64::from((engine.collect)(state, &mut [0; 28]))),
+        ),
+        task(
+            "step of the sample order",
+            first,
+            many,
+            Box::new(move |engine, state| {
+                sample.iter().fold(0, |sum, before| {
+                    state.copy_from_slice(before);
+                    sum + (engine.step)(state, 0)
+                })
+            }),
+        ),
+        task(
+            "run of 1,000 steps",
+            fullest::repeating(),
+            1,
+            Box::new(move |engine, state| u64::from((engine.run)(state, &zeros, &mut 1000))),
+        ),
+    ]
+}
+
+/// Rounds of each task, and how long each is to take at least.
+const TASK_ROUNDS: usize = 101;
+const TASK_ROUND: u128 = 2_000_000;
+
+fn engine_speed() {
+    println!(
+        "Calls on packed states, each on a fresh copy; microseconds, median of {TASK_ROUNDS} rounds."
+    );
+    for task in tasks() {
+        let (mut one, mut other) = (task.state.clone(), task.state.clone());
+        let answers = (
+            (task.work)(PROVED, &mut one),
+            (task.work)(MODEL, &mut other),
+        );
+        assert!(
+            answers.0 == answers.1 && one == other,
+            "{}: both do the same",
+            task.name
+        );
+        let mut inner = 1;
+        while time_task(&task, MODEL, inner) < TASK_ROUND {
+            inner *= 2;
+        }
+        let mut times = [Vec::new(), Vec::new()];
+        for round in 0..2 * TASK_ROUNDS {
+            let engine = [PROVED, MODEL][round % 2];
+            times[round % 2].push(time_task(&task, engine, inner));
+        }
+        let [proved, model] = times.map(|mut times| {
+            times.sort_unstable();
+            times[times.len() / 2] as f64 / f64::from(inner) / f64::from(task.calls) / 1000.0
+        });
+        println!(
+            "{}: proved {proved:.1} us, model {model:.1} us, proved/model {:.2}",
+            task.name,
+            proved / model
+        );
+    }
+}
+
+#[inline(never)]
+fn time_task(task: &Task, engine: Engine, inner: u32) -> u128 {
+    let mut state = task.state.clone();
+    let began = Instant::now();
+    for _ in 0..inner {
+        state.copy_from_slice(&task.state);
+        black_box((task.work)(engine, black_box(&mut state)));
+    }
+    began.elapsed().as_nanos()
+}
+
+fn engine_stack() {
+    let mut painted = boundary::PaintedStack::new();
+    for task in tasks() {
+        let mut used = [0; 2];
+        for (at, engine) in [PROVED, MODEL].into_iter().enumerate() {
+            let mut state = task.state.clone();
+            used[at] = painted.run(&mut || (task.work)(engine, &mut state)).1;
+        }
+        println!(
+            "Stack used by {}: proved {} bytes, model {} bytes.",
+            task.name, used[0], used[1]
         );
     }
 }

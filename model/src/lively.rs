@@ -1,0 +1,345 @@
+//! Random plans that get somewhere in a few calls: few partners, many scopes, faults, undo parts, repeats that close scopes, flows and picks.
+
+use crate::generate::{Kind, Random, Sheet};
+use crate::reader;
+
+struct Writer<'a> {
+    random: &'a mut Random,
+    sheet: Sheet,
+    variables: usize,
+    /// Variables that a set may name.
+    free: Vec<u32>,
+    partners: usize,
+    operations: usize,
+    most_places: usize,
+}
+
+/// A legal plan; with a body that closes scopes again and again, if asked.
+pub fn plan(random: &mut Random, closes: bool) -> Vec<u8> {
+    loop {
+        let bytes = write(random, closes);
+        if reader::read(&bytes).is_ok() {
+            return bytes;
+        }
+    }
+}
+
+fn write(random: &mut Random, closes: bool) -> Vec<u8> {
+    let variables = match random.below(12) {
+        0 => 16,
+        1 => random.from_to(5, 15),
+        _ => random.from_to(1, 4),
+    };
+    let chance = [0, 20, 50, 100][random.below(4)];
+    let correlation: Vec<u32> = (0..variables as u32)
+        .filter(|_| random.percent(chance))
+        .collect();
+    let free = (0..variables as u32)
+        .filter(|variable| !correlation.contains(variable))
+        .collect();
+    let size = match random.below(20) {
+        0 => random.from_to(60, 200),
+        1..=6 => random.from_to(20, 60),
+        _ => random.from_to(4, 20),
+    };
+    let mut writer = Writer {
+        partners: random.from_to(1, 3),
+        operations: random.from_to(1, 2),
+        most_places: random.from_to(1, 3),
+        random,
+        sheet: Sheet::default(),
+        variables,
+        free,
+    };
+    writer.sheet.header(variables as u32, &correlation);
+    match writer.random.below(100) {
+        _ if closes => writer.closings(),
+        0..=7 => writer.closings(),
+        8..=39 => {
+            writer.list(8, 3);
+            writer.start(1, 2);
+            let levels = writer.random.from_to(1, 3);
+            writer.storm(levels, 2);
+            writer.ending();
+        }
+        _ => writer.body(size),
+    }
+    let fault = writer.random.from_to(1, 4);
+    writer.activity(fault, 1, true);
+    writer.sheet.bytes
+}
+
+impl Writer<'_> {
+    fn code(&mut self, code: u32) {
+        self.sheet.put(Kind::Code, code);
+    }
+
+    fn list(&mut self, code: u32, count: usize) {
+        self.code(code);
+        self.sheet.put(Kind::ListCount, count as u32);
+    }
+
+    /// The root's body: most often a receive and then something with room.
+    fn body(&mut self, size: usize) {
+        if self.random.percent(75) {
+            let more = self.random.from_to(1, 3);
+            self.list(8, 1 + more);
+            self.start(1, 2);
+            for _ in 0..more {
+                self.activity(size / more, 2, false);
+            }
+        } else {
+            self.start(size, 1);
+        }
+    }
+
+    /// A body that closes scopes again and again, for itself or within a scope.
+    fn closings(&mut self) {
+        self.list(8, 3);
+        self.start(1, 2);
+        let within = self.random.percent(50);
+        if within {
+            self.code(11);
+        }
+        self.code(7);
+        self.sheet.put(Kind::Form, 0);
+        self.sheet.put(Kind::Constant, 1);
+        let both = self.random.percent(40);
+        if both {
+            self.list(9, 2);
+            self.small_scope(5);
+        }
+        self.small_scope(5);
+        if within {
+            self.activity(2, 3, true);
+            self.activity(2, 3, true);
+        }
+        self.activity(3, 2, false);
+    }
+
+    /// A scope with scopes side by side in it, some of which close and some of which fault.
+    fn storm(&mut self, levels: usize, depth: u32) {
+        self.code(11);
+        let count = self.random.from_to(2, 3);
+        let code = if self.random.percent(75) { 9 } else { 8 };
+        self.list(code, count);
+        for _ in 0..count {
+            match self.random.below(10) {
+                0..=4 if levels > 0 => self.storm(levels - 1, depth + 2),
+                0..=7 => {
+                    self.list(8, 3);
+                    self.small_scope(depth + 3);
+                    self.small_scope(depth + 3);
+                    self.ending();
+                }
+                _ => self.ending(),
+            }
+        }
+        self.chores(15);
+        self.chores(15);
+    }
+
+    /// Something that most often raises after a while.
+    fn ending(&mut self) {
+        self.chores(70);
+    }
+
+    /// A few steps, with a chance of a raise after them.
+    fn chores(&mut self, raises: usize) {
+        let count = self.random.from_to(0, 3);
+        self.list(8, count + 1);
+        for _ in 0..count {
+            if self.free.is_empty() || self.random.percent(50) {
+                self.message(Some(1), false);
+            } else {
+                self.code(3);
+                let variable = self.free[self.random.below(self.free.len())];
+                self.sheet.put(Kind::Variable, variable);
+                self.sheet.put(Kind::Form, 0);
+                self.sheet.put(Kind::Constant, count as u32);
+            }
+        }
+        let last = if self.random.percent(raises) { 4 } else { 0 };
+        self.code(last);
+    }
+
+    fn small_scope(&mut self, depth: u32) {
+        self.code(11);
+        if self.random.percent(60) {
+            self.chores(0);
+        } else {
+            let size = self.random.from_to(1, 3);
+            self.activity(size, depth + 1, false);
+        }
+        self.activity(1, depth + 1, true);
+        if self.random.percent(50) {
+            self.chores(10);
+        } else {
+            self.activity(2, depth + 1, true);
+        }
+    }
+
+    /// A start form of about this size.
+    fn start(&mut self, size: usize, depth: u32) {
+        if size < 4 || depth > 6 {
+            return self.message(Some(2), true);
+        }
+        match self.random.below(10) {
+            0..=4 => {
+                let count = self.random.from_to(2, 4);
+                self.list(8, count);
+                self.start(size / 4, depth + 1);
+                for _ in 1..count {
+                    self.activity(size / count, depth + 1, false);
+                }
+            }
+            5 => {
+                let count = self.random.from_to(1, 3);
+                self.list(9, count);
+                for _ in 0..count {
+                    self.start(size / count, depth + 1);
+                }
+            }
+            6 | 7 => self.pick(size, depth, false),
+            _ => {
+                self.code(11);
+                self.start(size / 2, depth + 1);
+                self.activity(size / 4, depth + 1, true);
+                self.activity(size / 4, depth + 1, true);
+            }
+        }
+    }
+
+    /// An activity of about this size. `handler` tells that it stands in a fault or undo part.
+    fn activity(&mut self, size: usize, depth: u32, handler: bool) {
+        if size < 2 || depth > 14 {
+            return self.leaf(handler);
+        }
+        match self.random.below(if handler { 60 } else { 100 }) {
+            0..=21 => self.several(8, size, depth, handler),
+            22..=37 => self.several(9, size, depth, handler),
+            38..=43 => {
+                self.code(6);
+                self.expression(1);
+                self.activity(size / 2, depth + 1, handler);
+                self.activity(size / 2, depth + 1, handler);
+            }
+            44..=52 => {
+                self.code(7);
+                if self.random.percent(40) {
+                    self.sheet.put(Kind::Form, 0);
+                    self.sheet.put(Kind::Constant, 1);
+                } else {
+                    self.expression(1);
+                }
+                self.activity(size - 1, depth + 1, handler);
+            }
+            53..=59 => self.pick(size, depth, handler),
+            _ => {
+                self.code(11);
+                self.activity(size.saturating_sub(3), depth + 1, false);
+                for _ in 0..2 {
+                    // Handlers that take a while are left to finish by faults around them.
+                    let size = self.random.from_to(1, 4);
+                    self.activity(size, depth + 1, true);
+                }
+            }
+        }
+    }
+
+    fn several(&mut self, code: u32, size: usize, depth: u32, handler: bool) {
+        let count = self.random.from_to(1, 4.min(size));
+        // A body that raises at its end has had time to close scopes.
+        let raises = code == 8 && !handler && count > 1 && self.random.percent(35);
+        self.list(code, count);
+        for _ in usize::from(raises)..count {
+            self.activity((size - 1) / count, depth + 1, handler);
+        }
+        if raises {
+            self.code(4);
+        }
+    }
+
+    fn pick(&mut self, size: usize, depth: u32, handler: bool) {
+        let count = self.random.from_to(1, 3);
+        self.list(10, count);
+        for _ in 0..count {
+            self.message(None, true);
+            self.activity(size / (count + 1), depth + 1, handler);
+        }
+    }
+
+    fn leaf(&mut self, handler: bool) {
+        match self.random.below(100) {
+            0..=21 => self.code(0),
+            22..=45 => self.message(Some(1), false),
+            46..=56 => self.message(Some(2), true),
+            57..=76 if !self.free.is_empty() => {
+                let variable = self.free[self.random.below(self.free.len())];
+                self.code(3);
+                self.sheet.put(Kind::Variable, variable);
+                self.expression(1);
+            }
+            77..=78 => self.code(5),
+            79..=84 => self.code(4),
+            // Handlers raise less.
+            _ if handler => self.message(Some(1), false),
+            _ => self.code(4),
+        }
+    }
+
+    fn variable(&mut self) -> u32 {
+        self.random.below(self.variables) as u32
+    }
+
+    fn expression(&mut self, depth: u32) {
+        match self.random.below(if depth < 4 { 100 } else { 70 }) {
+            0..=39 => {
+                let value = match self.random.below(12) {
+                    0 => u32::MAX - self.random.below(2) as u32,
+                    1 => self.random.value(),
+                    _ => self.random.below(4) as u32,
+                };
+                self.sheet.put(Kind::Form, 0);
+                self.sheet.put(Kind::Constant, value);
+            }
+            40..=69 => {
+                let variable = self.variable();
+                self.sheet.put(Kind::Form, 1);
+                self.sheet.put(Kind::Variable, variable);
+            }
+            _ => {
+                let form = self.random.from_to(2, 5) as u32;
+                self.sheet.put(Kind::Form, form);
+                self.expression(depth + 1);
+                self.expression(depth + 1);
+            }
+        }
+    }
+
+    /// Partner, operation and tuple, after the code if there is one.
+    fn message(&mut self, code: Option<u32>, distinct: bool) {
+        // Now and then a partner that the plan may never receive on.
+        let outward = !distinct && self.random.percent(40);
+        let partner = if outward {
+            self.partners
+        } else {
+            self.random.below(self.partners)
+        };
+        let operation = self.random.below(self.operations);
+        let most = if self.random.percent(3) {
+            4
+        } else {
+            self.most_places
+        };
+        let mut variables = Vec::new();
+        for _ in 0..self.random.from_to(1, most) {
+            let variable = self.variable();
+            if !distinct || !variables.contains(&variable) {
+                variables.push(variable);
+            }
+        }
+        self.sheet
+            .message(code, partner as u32, operation as u32, &variables);
+    }
+}

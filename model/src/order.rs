@@ -1,0 +1,395 @@
+//! How one order runs: what begins, goes on, closes, faults, stops and is undone within a step.
+//!
+//! On states that no run reaches document 01 leaves some answers open. There the model was made to answer as the proved engine does:
+//! - a scope that waits for inner scopes looks again after each step within its body, but not where an undo part that it doesn't run ends or raises;
+//! - inner scopes that it waits for are those directly within it; a body that stops leaves what stands in an idle scope as it is;
+//! - a raise in an undo or fault part that no scope runs does nothing more;
+//! - a flow is over where every mark within it is idle; an empty that is over at once keeps its mark;
+//! - a list that is looked through for what to forget is 0 beyond its end.
+
+use crate::plan::{Faulty, Kind, Part, Plan, Scope};
+use crate::state::*;
+
+/// An order while a step changes it.
+pub struct Running<'a> {
+    pub plan: &'a Plan,
+    pub order: &'a mut Order,
+    pub end: Option<End>,
+    /// How many undo parts were started.
+    pub undone: usize,
+    /// The scope whose undo part ended or raised while no scope ran it.
+    unheard: Option<usize>,
+}
+
+impl Running<'_> {
+    pub fn new<'a>(plan: &'a Plan, order: &'a mut Order) -> Running<'a> {
+        Running {
+            plan,
+            order,
+            end: None,
+            undone: 0,
+            unheard: None,
+        }
+    }
+
+    fn mark(&self, scope: Scope) -> u8 {
+        scope.map_or(self.order.root, |s| self.order.marks[s])
+    }
+
+    fn set_mark(&mut self, scope: Scope, mark: u8) {
+        match scope {
+            None => self.order.root = mark,
+            Some(s) => self.order.marks[s] = mark,
+        }
+    }
+
+    /// Begins an activity. Answers whether it is over at once.
+    pub fn begin(&mut self, k: usize) -> bool {
+        let plan = self.plan;
+        match plan.kind(k) {
+            Kind::Empty => true,
+            Kind::Sequence => {
+                self.order.marks[k] = ACTIVE;
+                self.begin_in_turn(k, plan.within(k))
+            }
+            Kind::Flow => {
+                self.order.marks[k] = ACTIVE;
+                let mut over = true;
+                for each in plan.within(k) {
+                    over &= self.begin(each);
+                }
+                if over {
+                    self.order.marks[k] = IDLE;
+                }
+                over
+            }
+            Kind::Scope => {
+                self.order.marks[k] = ACTIVE;
+                if self.begin(plan.body(Some(k))) {
+                    self.order.marks[k] = DONE;
+                }
+                false
+            }
+            _ => {
+                self.order.marks[k] = ACTIVE;
+                false
+            }
+        }
+    }
+
+    /// Begins these of sequence k, each where the one before is over at once.
+    fn begin_in_turn(&mut self, k: usize, mut these: impl Iterator<Item = usize>) -> bool {
+        let over = these.all(|each| self.begin(each));
+        if over {
+            self.order.marks[k] = IDLE;
+        }
+        over
+    }
+
+    /// Activity k is over: what stands around it goes on, where it isn't stopped.
+    pub fn over(&mut self, k: usize) {
+        self.order.marks[k] = IDLE;
+        self.go_on(k);
+    }
+
+    fn go_on(&mut self, k: usize) {
+        match self.plan.activities[k].part {
+            Part::Within(around) => self.over_within(k, around),
+            Part::Body(None) if self.order.root == ACTIVE => self.end = Some(End::Well),
+            Part::Body(Some(s)) if self.order.marks[s] == ACTIVE => self.order.marks[s] = DONE,
+            Part::Fault(scope) if self.mark(scope) == HANDLING => self.finish(scope),
+            Part::Undo(s) => {
+                let scope = self.plan.activities[s].around;
+                if matches!(self.mark(scope), UNDOING | STOPPED_UNDOING) {
+                    self.undo_on(scope);
+                } else {
+                    self.unheard = Some(s);
+                }
+            }
+            _ => {}
+        }
+    }
+
+    fn over_within(&mut self, k: usize, around: usize) {
+        let plan = self.plan;
+        let mark = self.order.marks[around];
+        match plan.kind(around) {
+            Kind::Sequence if mark == ACTIVE => {
+                let rest = plan.within(around).skip_while(|&each| each <= k);
+                if self.begin_in_turn(around, rest) {
+                    self.over(around);
+                }
+            }
+            Kind::Flow if mark == ACTIVE => {
+                let within = &self.order.marks[around + 1..plan.end(around)];
+                if within.iter().all(|&mark| mark == IDLE) {
+                    self.over(around);
+                }
+            }
+            Kind::Choose(_) if mark == INSIDE => self.over(around),
+            // It decides anew.
+            Kind::Repeat(_) if mark == INSIDE => self.order.marks[around] = ACTIVE,
+            Kind::Arm(_) => {
+                if let Part::Within(pick) = plan.activities[around].part
+                    && self.order.marks[pick] == INSIDE
+                {
+                    self.over(pick);
+                }
+            }
+            _ => {}
+        }
+    }
+
+    /// A receive or an arm was taken.
+    pub fn taken(&mut self, k: usize) {
+        match (self.plan.kind(k), self.plan.activities[k].part) {
+            (Kind::Arm(_), Part::Within(pick)) => self.go_inside(pick, k + 1),
+            _ => self.over(k),
+        }
+    }
+
+    /// After a step of k: scopes in whose bodies it stands, and which wait for inner scopes, look again.
+    pub fn settle_around(&mut self, k: usize) {
+        let mut at = k;
+        while self.end.is_none() {
+            let scope = match self.plan.activities[at].part {
+                Part::Within(around) => {
+                    at = around;
+                    continue;
+                }
+                Part::Body(scope) => {
+                    self.settle(scope);
+                    scope
+                }
+                Part::Fault(scope) => scope,
+                Part::Undo(s) if self.unheard == Some(s) => self.plan.activities[s].around,
+                Part::Undo(s) => Some(s),
+            };
+            match scope {
+                None => return,
+                Some(s) => at = s,
+            }
+        }
+    }
+
+    fn go_inside(&mut self, k: usize, inside: usize) {
+        self.order.marks[k] = INSIDE;
+        if self.begin(inside) {
+            self.go_on(inside);
+        }
+    }
+
+    /// The step of a set, choose, repeat, raise, leave or scope.
+    pub fn act(&mut self, k: usize) {
+        let plan = self.plan;
+        match plan.kind(k) {
+            Kind::Set(variable, place) => match self.value(place) {
+                Ok(value) => {
+                    self.order.bind(variable, value);
+                    self.over(k);
+                }
+                Err(Faulty) => self.raise(k),
+            },
+            Kind::Choose(place) => match self.value(place) {
+                Ok(0) => self.go_inside(k, plan.end(k + 1)),
+                Ok(_) => self.go_inside(k, k + 1),
+                Err(Faulty) => self.raise(k),
+            },
+            Kind::Repeat(place) => match self.value(place) {
+                Ok(0) => self.over(k),
+                Ok(_) => {
+                    self.order.marks[k + 1..plan.end(k)].fill(IDLE);
+                    self.go_inside(k, k + 1);
+                }
+                Err(Faulty) => self.raise(k),
+            },
+            Kind::Leave => self.end = Some(End::Left),
+            Kind::Scope => self.close(k),
+            _ => self.raise(k),
+        }
+    }
+
+    fn value(&self, place: usize) -> Result<u32, Faulty> {
+        self.plan
+            .value(place, &|variable| self.order.variable(variable))
+    }
+
+    fn close(&mut self, k: usize) {
+        self.forget(Some(k));
+        self.order.remembered[self.order.kept as usize] = k as u8;
+        self.order.kept += 1;
+        self.over(k);
+        self.settle(self.plan.activities[k].around);
+    }
+
+    /// A raise at k.
+    pub fn raise(&mut self, k: usize) {
+        self.order.marks[k] = IDLE;
+        let mut at = k;
+        loop {
+            match self.plan.activities[at].part {
+                Part::Within(around) => at = around,
+                Part::Body(scope) => return self.fault(scope),
+                Part::Fault(scope) => {
+                    if self.mark(scope) == HANDLING {
+                        self.break_off(scope);
+                    }
+                    return;
+                }
+                Part::Undo(s) => {
+                    let scope = self.plan.activities[s].around;
+                    if matches!(self.mark(scope), UNDOING | STOPPED_UNDOING) {
+                        self.break_off(scope);
+                    } else {
+                        self.unheard = Some(s);
+                    }
+                    return;
+                }
+            }
+        }
+    }
+
+    /// A fault reaches a scope. One already stopped or faulted absorbs it, and may have waited for what just ended.
+    fn fault(&mut self, scope: Scope) {
+        if matches!(self.mark(scope), ACTIVE | DONE) {
+            self.stop(self.plan.body(scope));
+            self.set_mark(scope, FAULTED);
+        }
+        self.settle(scope);
+    }
+
+    /// A raise in an undo or fault part that the scope runs.
+    fn break_off(&mut self, scope: Scope) {
+        match scope {
+            None => self.end = Some(End::Failed),
+            Some(s) => {
+                self.order.marks[s..self.plan.end(s)].fill(IDLE);
+                self.forget(scope);
+                self.fault(self.plan.activities[s].around);
+            }
+        }
+    }
+
+    /// Stops an activity of a body. An inner scope that faulted or was stopped before is left to finish.
+    fn stop(&mut self, k: usize) {
+        let plan = self.plan;
+        match (plan.kind(k), self.order.marks[k]) {
+            (Kind::Scope, IDLE | INSIDE | FAULTED..) => {}
+            // Begun and not yet closed: it turns to undoing, without a fault part.
+            (Kind::Scope, ACTIVE | DONE) => {
+                self.stop(plan.body(Some(k)));
+                self.order.marks[k] = STOPPED;
+                if !self.inner_runs(Some(k)) {
+                    self.order.marks[k] = STOPPED_UNDOING;
+                    if self.undo(Some(k)) {
+                        self.order.marks[k] = IDLE;
+                    }
+                }
+            }
+            _ => {
+                self.order.marks[k] = IDLE;
+                for each in plan.within(k) {
+                    self.stop(each);
+                }
+            }
+        }
+    }
+
+    /// Whether one of the scopes directly within a scope runs.
+    fn inner_runs(&self, scope: Scope) -> bool {
+        let plan = self.plan;
+        (plan.body(scope)..plan.fault(scope)).any(|k| {
+            plan.is_scope(k) && plan.activities[k].around == scope && self.order.marks[k] != IDLE
+        })
+    }
+
+    /// A scope that waits for inner scopes undoes, once none of them runs.
+    fn settle(&mut self, scope: Scope) {
+        let next = match self.mark(scope) {
+            FAULTED => UNDOING,
+            STOPPED => STOPPED_UNDOING,
+            _ => return,
+        };
+        if self.end.is_none() && !self.inner_runs(scope) {
+            self.set_mark(scope, next);
+            self.undo_on(scope);
+        }
+    }
+
+    /// Starts undo parts up to the first that isn't over at once. Answers whether the list came to its end.
+    fn undo(&mut self, scope: Scope) -> bool {
+        while let Some(closed) = self.remove_last(scope) {
+            self.undone += 1;
+            if !self.begin(self.plan.undo(closed)) {
+                return false;
+            }
+        }
+        true
+    }
+
+    fn undo_on(&mut self, scope: Scope) {
+        if !self.undo(scope) {
+            return;
+        }
+        if self.mark(scope) == UNDOING {
+            self.set_mark(scope, HANDLING);
+            if !self.begin(self.plan.fault(scope)) {
+                return;
+            }
+        }
+        self.finish(scope);
+    }
+
+    /// A scope that faulted or was stopped is done. It is not remembered.
+    fn finish(&mut self, scope: Scope) {
+        match scope {
+            None => self.end = Some(End::Handled),
+            Some(s) => {
+                self.over(s);
+                self.settle(self.plan.activities[s].around);
+            }
+        }
+    }
+
+    fn forget(&mut self, scope: Scope) {
+        for at in (0..self.order.kept as usize).rev() {
+            if is_for(self.plan, self.order.remembered[at], scope) {
+                self.remove(at);
+            }
+        }
+        self.order.remembered[self.order.kept as usize..].fill(0);
+    }
+
+    fn remove_last(&mut self, scope: Scope) -> Option<usize> {
+        let kept = &self.order.remembered[..self.order.kept as usize];
+        let at = kept
+            .iter()
+            .rposition(|&each| is_for(self.plan, each, scope))?;
+        let closed = usize::from(kept[at]);
+        self.remove(at);
+        Some(closed)
+    }
+
+    /// Removes from the list; what is beyond it holds 0.
+    fn remove(&mut self, at: usize) {
+        let order = &mut *self.order;
+        order.remembered.copy_within(at + 1.., at);
+        order.kept -= 1;
+        order.remembered[order.kept as usize..].fill(0);
+    }
+}
+
+/// Whether a remembered number is a scope remembered for this one.
+fn is_for(plan: &Plan, number: u8, scope: Scope) -> bool {
+    let k = usize::from(number);
+    plan.is_scope(k) && plan.activities[k].around == scope
+}
+
+/// How many are remembered once scope k has closed.
+pub fn kept_after_close(plan: &Plan, order: &Order, k: usize) -> usize {
+    let kept = &order.remembered[..order.kept as usize];
+    1 + kept
+        .iter()
+        .filter(|&&each| !is_for(plan, each, Some(k)))
+        .count()
+}

@@ -1,0 +1,206 @@
+//! The engine over packed states: a state with its tally as 11,964 bytes, and each call as the library's C function of that name answers it.
+
+use crate::engine::{self, Step, Taken};
+use crate::reader::{self, Refusal};
+use crate::state::*;
+
+pub const SIZE: usize = 11_964;
+pub const MESSAGE: usize = 28;
+const ORDER: usize = 377;
+const MARK: &[u8; 8] = b"MOONHAL1";
+const AT_PLAN: usize = 36;
+const AT_WAITING: usize = AT_PLAN + BYTES;
+const AT_MESSAGES: usize = AT_WAITING + 8;
+const AT_ORDERS: usize = AT_MESSAGES + WAITING * MESSAGE;
+
+fn long(bytes: &[u8]) -> u64 {
+    u64::from_le_bytes(bytes[..8].try_into().expect("eight bytes"))
+}
+
+fn numbers<const N: usize>(bytes: &[u8]) -> [u32; N] {
+    std::array::from_fn(|at| {
+        u32::from_le_bytes(bytes[4 * at..4 * at + 4].try_into().expect("four bytes"))
+    })
+}
+
+fn put_numbers(bytes: &mut [u8], numbers: &[u32]) {
+    for (four, number) in bytes.chunks_exact_mut(4).zip(numbers) {
+        four.copy_from_slice(&number.to_le_bytes());
+    }
+}
+
+pub fn unpack_message(bytes: &[u8]) -> Message {
+    let [partner, operation, count, a, b, c, d] = numbers(bytes);
+    Message {
+        partner,
+        operation,
+        count,
+        values: [a, b, c, d],
+    }
+}
+
+pub fn pack_message(message: &Message, bytes: &mut [u8]) {
+    put_numbers(bytes, &[message.partner, message.operation, message.count]);
+    put_numbers(&mut bytes[12..], &message.values);
+}
+
+fn unpack_order(bytes: &[u8]) -> Order {
+    Order {
+        root: bytes[0],
+        marks: bytes[1..257].try_into().expect("256 marks"),
+        values: numbers(&bytes[257..]),
+        bound: bytes[321..337].try_into().expect("16 flags"),
+        remembered: bytes[337..369].try_into().expect("32 remembered"),
+        kept: long(&bytes[369..]),
+    }
+}
+
+fn pack_order(order: &Order, bytes: &mut [u8]) {
+    bytes[0] = order.root;
+    bytes[1..257].copy_from_slice(&order.marks);
+    put_numbers(&mut bytes[257..321], &order.values);
+    bytes[321..337].copy_from_slice(&order.bound);
+    bytes[337..369].copy_from_slice(&order.remembered);
+    bytes[369..377].copy_from_slice(&order.kept.to_le_bytes());
+}
+
+/// A state and its tally, where the bytes have the length and the mark.
+pub fn unpack(bytes: &[u8]) -> Option<(State, Tally)> {
+    if bytes.len() != SIZE || &bytes[..8] != MARK {
+        return None;
+    }
+    let state = State {
+        length: long(&bytes[28..]),
+        plan: bytes[AT_PLAN..AT_WAITING].try_into().expect("the plan"),
+        waiting: long(&bytes[AT_WAITING..]),
+        messages: std::array::from_fn(|at| unpack_message(&bytes[AT_MESSAGES + MESSAGE * at..])),
+        orders: std::array::from_fn(|at| unpack_order(&bytes[AT_ORDERS + ORDER * at..])),
+    };
+    Some((state, Tally(numbers(&bytes[8..]))))
+}
+
+/// The marks of an order in a packed state.
+pub fn marks(bytes: &[u8], slot: usize) -> &[u8] {
+    &bytes[AT_ORDERS + ORDER * slot + 1..][..MARKS]
+}
+
+pub fn pack(state: &State, tally: &Tally, bytes: &mut [u8]) {
+    bytes[..8].copy_from_slice(MARK);
+    put_numbers(&mut bytes[8..28], &tally.0);
+    bytes[28..36].copy_from_slice(&state.length.to_le_bytes());
+    bytes[AT_PLAN..AT_WAITING].copy_from_slice(&state.plan);
+    bytes[AT_WAITING..AT_MESSAGES].copy_from_slice(&state.waiting.to_le_bytes());
+    let (messages, orders) = bytes[AT_MESSAGES..].split_at_mut(AT_ORDERS - AT_MESSAGES);
+    for (message, bytes) in state
+        .messages
+        .iter()
+        .zip(messages.chunks_exact_mut(MESSAGE))
+    {
+        pack_message(message, bytes);
+    }
+    for (order, bytes) in state.orders.iter().zip(orders.chunks_exact_mut(ORDER)) {
+        pack_order(order, bytes);
+    }
+}
+
+pub fn load(plan: &[u8], state: &mut [u8]) -> u64 {
+    if state.len() != SIZE {
+        return 18 << 32;
+    }
+    let (loaded, answer) = match engine::load(plan) {
+        Ok(loaded) => (loaded, 0),
+        Err(Refusal { number, place }) => (
+            State::without_plan(),
+            u64::from(number) << 32 | u64::from(place),
+        ),
+    };
+    pack(&loaded, &Tally::default(), state);
+    answer
+}
+
+pub fn post(state: &mut [u8], message: Message) -> u32 {
+    let Some((mut now, tally)) = unpack(state) else {
+        return 17;
+    };
+    match engine::post(&mut now, message) {
+        Ok(()) => pack(&now, &tally, state),
+        Err(refusal) => return refusal,
+    }
+    0
+}
+
+pub fn collect(state: &mut [u8], message: &mut [u8]) -> u32 {
+    if message.len() < MESSAGE {
+        return 18;
+    }
+    let collected = match unpack(state) {
+        None => Err(17),
+        Some((mut now, tally)) => engine::collect(&mut now).inspect(|_| pack(&now, &tally, state)),
+    };
+    pack_message(&collected.unwrap_or_default(), &mut message[..MESSAGE]);
+    collected.err().unwrap_or(0)
+}
+
+fn answer(step: &Step, end: Option<End>) -> u64 {
+    let end = end.map_or(0, |end| end as u64);
+    (step.slot as u64) << 24 | (step.activity as u64) << 16 | (step.place as u64) << 8 | end
+}
+
+fn refused(refusal: u32) -> u64 {
+    u64::from(refusal) << 32
+}
+
+pub fn offer(state: &[u8], choice: u64) -> u64 {
+    match unpack(state) {
+        None => refused(17),
+        Some((now, _)) => {
+            engine::offer(&now, choice).map_or_else(refused, |step| answer(&step, None))
+        }
+    }
+}
+
+pub fn offers(state: &[u8]) -> u64 {
+    match unpack(state)
+        .ok_or(17)
+        .and_then(|(now, _)| engine::offers(&now))
+    {
+        Err(refusal) => u64::from(refusal) << 40,
+        Ok(offer) => u64::from(offer.held.any()) << 32 | offer.steps.len() as u64,
+    }
+}
+
+/// Takes a step of a packed state.
+pub fn stepped(state: &mut [u8], choice: u64) -> Result<Taken, u32> {
+    let (mut now, mut tally) = unpack(state).ok_or(17u32)?;
+    engine::step(&mut now, choice, &mut tally).inspect(|_| pack(&now, &tally, state))
+}
+
+/// The answer of `step`, in one number.
+pub fn told(stepped: Result<Taken, u32>) -> u64 {
+    stepped.map_or_else(refused, |taken| answer(&taken.step, taken.end))
+}
+
+pub fn step(state: &mut [u8], choice: u64) -> u64 {
+    told(stepped(state, choice))
+}
+
+pub fn run(state: &mut [u8], choices: &[u64], budget: &mut u64) -> u32 {
+    let Some((mut now, mut tally)) = unpack(state) else {
+        return 17;
+    };
+    let (taken, refusal) = engine::run(&mut now, choices, budget, &mut tally);
+    if taken > 0 {
+        pack(&now, &tally, state);
+    }
+    refusal
+}
+
+/// Shows activity k of a plan: refusal * 2^48 + start * 2^24 + length.
+pub fn show(plan: &[u8], k: u32) -> u64 {
+    match reader::read(plan) {
+        Err(refusal) => u64::from(refusal.number) << 48,
+        Ok(plan) => plan.parts.get(k as usize).map_or(16 << 48, |part| {
+            u64::from(part.start) << 24 | u64::from(part.end - part.start)
+        }),
+    }
+}

@@ -1,0 +1,286 @@
+//! An accepted plan as the engine sees it: its activities and arms in file order, each with what it says and where it stands.
+
+use crate::reader::{MAX_ACTIVITIES, read_number};
+
+/// What an activity or arm says of itself.
+#[derive(Clone, Copy, Debug, PartialEq, Eq)]
+pub enum Kind {
+    Empty,
+    Send(Tuple),
+    Receive(Tuple),
+    /// The variable, and where its expression begins.
+    Set(usize, usize),
+    Raise,
+    Leave,
+    /// Where the expression begins.
+    Choose(usize),
+    Repeat(usize),
+    Sequence,
+    Flow,
+    Pick,
+    Arm(Tuple),
+    Scope,
+}
+
+/// Partner, operation and variables of a send, receive or arm.
+#[derive(Clone, Copy, Debug, PartialEq, Eq)]
+pub struct Tuple {
+    pub partner: u32,
+    pub operation: u32,
+    pub count: usize,
+    pub variables: [usize; 4],
+}
+
+impl Tuple {
+    pub fn variables(&self) -> &[usize] {
+        &self.variables[..self.count]
+    }
+}
+
+/// A scope by its number; `None` is the root, which counts as one.
+pub type Scope = Option<usize>;
+
+/// What an activity is to the one around it. The root's two parts have no activity around them.
+#[derive(Clone, Copy, Debug, PartialEq, Eq)]
+pub enum Part {
+    Within(usize),
+    Body(Scope),
+    Fault(Scope),
+    Undo(usize),
+}
+
+#[derive(Clone, Copy, Debug)]
+pub struct Activity {
+    pub kind: Kind,
+    pub part: Part,
+    /// The nearest scope around it.
+    pub around: Scope,
+    /// One more than the last number within it.
+    pub end: usize,
+}
+
+#[derive(Clone, Debug)]
+pub struct Plan {
+    pub activities: Vec<Activity>,
+    pub correlation: [bool; 16],
+    /// The partners that the plan receives on.
+    pub partners: [bool; 64],
+    bytes: Vec<u8>,
+}
+
+/// Why a step acts as a raise: a sum above the range, a difference below zero, an unbound variable.
+#[derive(Clone, Copy, Debug, PartialEq, Eq)]
+pub struct Faulty;
+
+impl Plan {
+    /// The tree of bytes that the reader accepts.
+    pub fn of(bytes: &[u8]) -> Plan {
+        let mut reading = Reading {
+            plan: Plan {
+                activities: Vec::with_capacity(MAX_ACTIVITIES),
+                correlation: [false; 16],
+                partners: [false; 64],
+                bytes: bytes.to_vec(),
+            },
+            place: 2,
+        };
+        for _ in 0..reading.number() {
+            let variable = reading.number();
+            reading.plan.correlation[variable] = true;
+        }
+        reading.activity(Part::Body(None), None);
+        reading.activity(Part::Fault(None), None);
+        reading.plan
+    }
+
+    pub fn count(&self) -> usize {
+        self.activities.len()
+    }
+
+    pub fn kind(&self, k: usize) -> Kind {
+        self.activities[k].kind
+    }
+
+    pub fn end(&self, k: usize) -> usize {
+        self.activities[k].end
+    }
+
+    /// The activities directly within k.
+    pub fn within(&self, k: usize) -> impl Iterator<Item = usize> + '_ {
+        let end = self.end(k);
+        let first = Some(k + 1).filter(|&first| first < end);
+        std::iter::successors(first, move |&at| {
+            Some(self.end(at)).filter(|&next| next < end)
+        })
+    }
+
+    pub fn body(&self, scope: Scope) -> usize {
+        scope.map_or(0, |s| s + 1)
+    }
+
+    pub fn fault(&self, scope: Scope) -> usize {
+        self.end(self.body(scope))
+    }
+
+    /// The undo part of a scope other than the root.
+    pub fn undo(&self, scope: usize) -> usize {
+        self.end(self.fault(Some(scope)))
+    }
+
+    pub fn is_scope(&self, k: usize) -> bool {
+        k < self.count() && self.kind(k) == Kind::Scope
+    }
+
+    /// The value of the expression at `place`, given the variables that are bound.
+    pub fn value(
+        &self,
+        place: usize,
+        variable: &dyn Fn(usize) -> Option<u32>,
+    ) -> Result<u32, Faulty> {
+        self.valued(place, variable).map(|(value, _)| value)
+    }
+
+    fn valued(
+        &self,
+        place: usize,
+        variable: &dyn Fn(usize) -> Option<u32>,
+    ) -> Result<(u32, usize), Faulty> {
+        let (form, place) = self.number_at(place);
+        if form < 2 {
+            let (number, next) = self.number_at(place);
+            let value = if form == 0 {
+                number
+            } else {
+                variable(number as usize).ok_or(Faulty)?
+            };
+            return Ok((value, next));
+        }
+        let (left, place) = self.valued(place, variable)?;
+        let (right, place) = self.valued(place, variable)?;
+        let value = match form {
+            2 => left.checked_add(right).ok_or(Faulty)?,
+            3 => left.checked_sub(right).ok_or(Faulty)?,
+            4 => u32::from(left == right),
+            _ => u32::from(left < right),
+        };
+        Ok((value, place))
+    }
+
+    fn number_at(&self, place: usize) -> (u32, usize) {
+        read_number(&self.bytes, place).expect("a number of an accepted plan")
+    }
+}
+
+struct Reading {
+    plan: Plan,
+    place: usize,
+}
+
+impl Reading {
+    fn number(&mut self) -> usize {
+        let (value, next) = self.plan.number_at(self.place);
+        self.place = next;
+        value as usize
+    }
+
+    fn add(&mut self, kind: Kind, part: Part, around: Scope) -> usize {
+        self.plan.activities.push(Activity {
+            kind,
+            part,
+            around,
+            end: 0,
+        });
+        self.plan.count() - 1
+    }
+
+    fn activity(&mut self, part: Part, around: Scope) {
+        let code = self.number();
+        let mut inside = 0;
+        let kind = match code {
+            0 => Kind::Empty,
+            1 => Kind::Send(self.tuple()),
+            2 => Kind::Receive(self.received()),
+            3 => Kind::Set(self.number(), self.expression()),
+            4 => Kind::Raise,
+            5 => Kind::Leave,
+            6 => {
+                inside = 2;
+                Kind::Choose(self.expression())
+            }
+            7 => {
+                inside = 1;
+                Kind::Repeat(self.expression())
+            }
+            8 | 9 => {
+                inside = self.number();
+                if code == 8 {
+                    Kind::Sequence
+                } else {
+                    Kind::Flow
+                }
+            }
+            10 => {
+                inside = self.number();
+                Kind::Pick
+            }
+            _ => Kind::Scope,
+        };
+        let k = self.add(kind, part, around);
+        match kind {
+            Kind::Scope => {
+                self.activity(Part::Body(Some(k)), Some(k));
+                self.activity(Part::Fault(Some(k)), Some(k));
+                self.activity(Part::Undo(k), Some(k));
+            }
+            Kind::Pick => {
+                for _ in 0..inside {
+                    let tuple = self.received();
+                    let arm = self.add(Kind::Arm(tuple), Part::Within(k), around);
+                    self.activity(Part::Within(arm), around);
+                    self.end(arm);
+                }
+            }
+            _ => {
+                for _ in 0..inside {
+                    self.activity(Part::Within(k), around);
+                }
+            }
+        }
+        self.end(k);
+    }
+
+    fn end(&mut self, k: usize) {
+        self.plan.activities[k].end = self.plan.count();
+    }
+
+    fn tuple(&mut self) -> Tuple {
+        let mut tuple = Tuple {
+            partner: self.number() as u32,
+            operation: self.number() as u32,
+            count: self.number(),
+            variables: [0; 4],
+        };
+        for place in 0..tuple.count {
+            tuple.variables[place] = self.number();
+        }
+        tuple
+    }
+
+    fn received(&mut self) -> Tuple {
+        let tuple = self.tuple();
+        self.plan.partners[tuple.partner as usize] = true;
+        tuple
+    }
+
+    /// Passes over an expression. Answers where it begins.
+    fn expression(&mut self) -> usize {
+        let place = self.place;
+        if self.number() < 2 {
+            self.number();
+        } else {
+            self.expression();
+            self.expression();
+        }
+        place
+    }
+}

@@ -1,0 +1,123 @@
+//! The scenarios of data/scenarios.txt and data/held.txt: calls on one engine from a fresh state, each with its answer.
+
+use crate::engine::{self, Taken};
+use crate::state::{Message, State, Tally};
+use crate::vectors;
+
+/// The files, taken in when this package is built.
+pub const TEXT: &str = include_str!("../../data/scenarios.txt");
+pub const HELD: &str = include_str!("../../data/held.txt");
+
+/// What a file came to: its scenarios and lines, each line whose answer differs, and the state at the end.
+pub struct Played {
+    pub scenarios: usize,
+    pub lines: usize,
+    pub wrong: Vec<String>,
+    pub state: State,
+}
+
+/// Plays all scenarios of a file.
+pub fn play(text: &str) -> Played {
+    let mut played = Played {
+        scenarios: 0,
+        lines: 0,
+        wrong: Vec::new(),
+        state: State::without_plan(),
+    };
+    let mut tally = Tally::default();
+    for (at, line) in text.lines().enumerate() {
+        if line.starts_with("# scenario") {
+            played.scenarios += 1;
+        }
+        if line.trim().is_empty() || line.starts_with('#') {
+            continue;
+        }
+        played.lines += 1;
+        let (call, expected) = line.split_once('=').expect("an answer behind '='");
+        let expected = expected.trim();
+        let words: Vec<&str> = call.split_whitespace().collect();
+        let answer = call_of(&words, &mut played.state, &mut tally);
+        if answer != expected {
+            played.wrong.push(format!(
+                "line {}: {} = {answer}, not {expected}",
+                at + 1,
+                call.trim()
+            ));
+        }
+    }
+    played
+}
+
+fn joined<T: ToString>(numbers: impl IntoIterator<Item = T>) -> String {
+    let words: Vec<String> = numbers.into_iter().map(|n| n.to_string()).collect();
+    words.join(" ")
+}
+
+fn written(message: &Message) -> String {
+    let head = [message.partner, message.operation, message.count];
+    let values = &message.values[..message.count as usize];
+    joined(head.iter().chain(values))
+}
+
+/// Makes the call that the words spell. Answers what stands behind '='.
+fn call_of(words: &[&str], state: &mut State, tally: &mut Tally) -> String {
+    let number = |at: usize| words[at].parse::<u64>().expect("a number");
+    match words[0] {
+        "plan" => {
+            *tally = Tally::default();
+            let loaded = engine::load(&vectors::bytes(words[1]).expect("a plan"));
+            *state = loaded.clone().unwrap_or_else(|_| State::without_plan());
+            match loaded {
+                Ok(state) => format!("0 {}", state.passes().expect("an accepted plan").count()),
+                Err(refusal) => format!("{} {}", refusal.number, refusal.place),
+            }
+        }
+        "post" => {
+            let mut values = [0; 4];
+            for at in 3..words.len().min(7) {
+                values[at - 3] = number(at) as u32;
+            }
+            let message = Message {
+                partner: number(1) as u32,
+                operation: number(2) as u32,
+                count: words.len() as u32 - 3,
+                values,
+            };
+            engine::post(state, message).err().unwrap_or(0).to_string()
+        }
+        "offer" => match engine::offers(state) {
+            Err(refusal) => refusal.to_string(),
+            Ok(offer) => {
+                let held = if offer.held.any() { "held" } else { "free" };
+                let mut words = vec![offer.steps.len().to_string(), held.to_string()];
+                for step in offer.steps {
+                    words.push(format!("{}:{}:{}", step.slot, step.activity, step.place));
+                }
+                words.join(" ")
+            }
+        },
+        "step" => match engine::step(state, number(1), tally) {
+            Err(refusal) => refusal.to_string(),
+            Ok(Taken { step, end, .. }) => {
+                let end = end.map_or(0, |end| end as usize);
+                joined([0, step.slot, step.activity, step.place, end])
+            }
+        },
+        "run" => {
+            let mut budget = number(1);
+            let choices: Vec<u64> = (2..words.len()).map(number).collect();
+            let (taken, refusal) = engine::run(state, &choices, &mut budget, tally);
+            format!("{taken} {refusal}")
+        }
+        "collect" => match engine::collect(state) {
+            Err(refusal) => refusal.to_string(),
+            Ok(message) => format!("0 {}", written(&message)),
+        },
+        "waiting" => {
+            let messages: Vec<String> = state.waiting().iter().map(written).collect();
+            messages.join(" | ")
+        }
+        "tally" => joined(tally.0),
+        other => panic!("no call is named {other}"),
+    }
+}
