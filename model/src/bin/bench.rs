@@ -3,6 +3,7 @@
 #![forbid(unsafe_code)]
 
 use model::full::{FULL, plans};
+use model::plan::{Kind, Plan as PlanTree};
 use model::reader::{Plan, read, read_into};
 use model::state::Message;
 use model::{boundary, edges, fullest, packed};
@@ -14,6 +15,9 @@ const INNER: u32 = 20;
 const ROUNDS: usize = 1001;
 
 fn main() {
+    if std::env::args().nth(1).as_deref() == Some("stack") {
+        return engine_stack();
+    }
     speed();
     engine_speed();
     stack();
@@ -308,5 +312,39 @@ fn engine_stack() {
             "Stack used by {}: proved {} bytes, model {} bytes.",
             task.name, used[0], used[1]
         );
+    }
+    // A start of each plan that is accepted, for the deepest of them.
+    let mut most = [(0, String::new()), (0, String::new())];
+    for case in edges::all() {
+        let mut state = vec![0; packed::SIZE];
+        if packed::load(&case.bytes, &mut state) != 0 {
+            continue;
+        }
+        for activity in PlanTree::of(&case.bytes).activities {
+            if let Kind::Receive(tuple) | Kind::Arm(tuple) = activity.kind {
+                let message = Message {
+                    partner: tuple.partner,
+                    operation: tuple.operation,
+                    count: tuple.count as u32,
+                    values: [0; 4],
+                };
+                packed::post(&mut state, message);
+                break;
+            }
+        }
+        let works: [fn(&mut [u8]) -> u64; 2] = [
+            |state| boundary::step(state, 0),
+            |state| boundary::offers(state),
+        ];
+        for (at, work) in works.into_iter().enumerate() {
+            let mut state = state.clone();
+            let used = painted.run(&mut || work(&mut state)).1;
+            if used > most[at].0 {
+                most[at] = (used, case.name.clone());
+            }
+        }
+    }
+    for (name, (used, plan)) in ["step", "offers"].iter().zip(most) {
+        println!("Stack used by a proved {name} on a fresh state: at most {used} bytes ({plan}).");
     }
 }
