@@ -5,3 +5,4 @@ pub mod Fills
 pub mod Records
 pub mod Whole
 pub mod Back
+pub mod Foreign

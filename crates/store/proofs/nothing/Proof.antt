@@ -4,8 +4,6 @@ use Rattle.store.proofs.Records.{nothing-is}
 use Rattle.store.proofs.nothing.Statement.{statement}
 use Rattle.store.proofs.nothing.Tie as tie
 
-ruleset cases = (nothing-is)
-
 pub nothing-spec : {M : Type 1} → statement M
 nothing-spec =
     tie.close (tie.spec

@@ -5,8 +5,6 @@ use native.Mathlib.Omega.{arith}
 use Rattle.store.proofs.reading.eight_at.Statement.{statement}
 use Rattle.store.proofs.reading.eight_at.Tie as tie
 
-ruleset cases = (eight-is)
-
 pub eight-at-spec : {M : Type 1} → statement M
 eight-at-spec =
     tie.close (tie.spec

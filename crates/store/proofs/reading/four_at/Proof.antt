@@ -5,8 +5,6 @@ use native.Mathlib.Omega.{arith}
 use Rattle.store.proofs.reading.four_at.Statement.{statement}
 use Rattle.store.proofs.reading.four_at.Tie as tie
 
-ruleset cases = (four-is)
-
 pub four-at-spec : {M : Type 1} → statement M
 four-at-spec =
     tie.close (tie.spec

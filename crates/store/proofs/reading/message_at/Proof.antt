@@ -4,8 +4,6 @@ use Rattle.store.proofs.Records.{message-is}
 use Rattle.store.proofs.reading.message_at.Statement.{statement}
 use Rattle.store.proofs.reading.message_at.Tie as tie
 
-ruleset cases = (message-is)
-
 pub message-at-spec : {M : Type 1} → statement M
 message-at-spec =
     tie.close (tie.spec

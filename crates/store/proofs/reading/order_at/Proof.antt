@@ -4,8 +4,6 @@ use Rattle.store.proofs.Records.{order-is}
 use Rattle.store.proofs.reading.order_at.Statement.{statement}
 use Rattle.store.proofs.reading.order_at.Tie as tie
 
-ruleset cases = (order-is)
-
 pub order-at-spec : {M : Type 1} → statement M
 order-at-spec =
     tie.close (tie.spec

@@ -7,8 +7,6 @@ use Rattle.store.specs.Packed.{orderIn}
 use Rattle.store.proofs.reading.orders_at.Statement.{statement}
 use Rattle.store.proofs.reading.orders_at.Tie as tie
 
-ruleset cases = (reading-starts, reading-more, reading-ends)
-
 abbrev Inv-loop : tie.InvT-loop
 Inv-loop s at out₀ i₀ out i = Reading orderIn 377 16 s at out i
 

@@ -4,8 +4,6 @@ use Rattle.store.proofs.Records.{state-is}
 use Rattle.store.proofs.reading.state_at.Statement.{statement}
 use Rattle.store.proofs.reading.state_at.Tie as tie
 
-ruleset cases = (state-is)
-
 pub state-at-spec : {M : Type 1} → statement M
 state-at-spec =
     tie.close (tie.spec

@@ -9,8 +9,6 @@ use Rattle.store.specs.Bytes.{numberIn}
 use Rattle.store.proofs.reading.take_fours.Statement.{statement}
 use Rattle.store.proofs.reading.take_fours.Tie as tie
 
-ruleset cases = (reading-starts, reading-more, reading-ends)
-
 abbrev Inv-loop : tie.InvT-loop
 Inv-loop s at out₀ i₀ out i = Reading (numberIn 4) 4 (length out₀) s at out i
 

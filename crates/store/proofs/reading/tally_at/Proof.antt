@@ -4,8 +4,6 @@ use Rattle.store.proofs.Records.{tally-is}
 use Rattle.store.proofs.reading.tally_at.Statement.{statement}
 use Rattle.store.proofs.reading.tally_at.Tie as tie
 
-ruleset cases = (tally-is)
-
 pub tally-at-spec : {M : Type 1} → statement M
 tally-at-spec =
     tie.close (tie.spec

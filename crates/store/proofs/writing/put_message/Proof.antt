@@ -6,8 +6,6 @@ use Rattle.store.proofs.Whole.{message-whole}
 use Rattle.store.proofs.writing.put_message.Statement.{statement}
 use Rattle.store.proofs.writing.put_message.Tie as tie
 
-ruleset cases = (message-put)
-
 pub put-message-spec : {M : Type 1} → statement M
 put-message-spec =
     tie.close (tie.spec

@@ -7,8 +7,6 @@ use Rattle.store.proofs.Whole.{order-whole}
 use Rattle.store.proofs.writing.put_order.Statement.{statement}
 use Rattle.store.proofs.writing.put_order.Tie as tie
 
-ruleset cases = (order-put)
-
 pub put-order-spec : {M : Type 1} → statement M
 put-order-spec =
     tie.close (tie.spec

@@ -1,9 +1,7 @@
 -- `store::writing::put_orders` meets its contract. Assumes nothing.
 use borrow.Author.Needs.{needs}
 use Rattle.store.proofs.Puts.{Writing, writing-starts, writing-more, writing-ends}
-use native.Mathlib.Omega.{arith}
 use Prim.Native.Nat.{_-_}
-use mathlib.Core.Path.{sym}
 use Rattle.store.specs.Packed.{orderBytes}
 use Rattle.store.proofs.writing.put_orders.Statement.{statement}
 use Rattle.store.proofs.writing.put_orders.Tie as tie

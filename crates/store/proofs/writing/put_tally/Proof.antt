@@ -4,8 +4,6 @@ use Rattle.store.proofs.Parts.{tally-put}
 use Rattle.store.proofs.writing.put_tally.Statement.{statement}
 use Rattle.store.proofs.writing.put_tally.Tie as tie
 
-ruleset cases = (tally-put)
-
 pub put-tally-spec : {M : Type 1} → statement M
 put-tally-spec =
     tie.close (tie.spec
