@@ -22,6 +22,7 @@ pub mod lively;
 pub mod order;
 pub mod packed;
 pub mod plan;
+pub mod process;
 pub mod reader;
 pub mod rows;
 pub mod scenarios;
