@@ -2,9 +2,6 @@
    what accepting gives and what showing each activity gives go out, in eight bytes each. It ends where its input does. */
 #include "pipes.h"
 
-extern u64 moonhalyard_accept(const u8 *bytes, u64 length);
-extern u64 moonhalyard_show(const u8 *bytes, u64 length, u32 k);
-
 enum { BYTES = 1 << 20, ACTIVITIES = 1024 };
 static u8 bytes[BYTES];
 static u32 wanted[ACTIVITIES];

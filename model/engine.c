@@ -2,15 +2,6 @@
    digest of all that the call could write go out for each, in eight bytes each. calls.rs is the other side. It ends where its input does. */
 #include "pipes.h"
 
-extern u64 moonhalyard_show(const u8 *plan, u64 n, u64 k);
-extern u64 moonhalyard_load(const u8 *plan, u64 n, u8 *state, u64 size);
-extern u32 moonhalyard_post(u8 *state, u64 size, u32 partner, u32 operation, u32 count, u32 v0, u32 v1, u32 v2, u32 v3);
-extern u32 moonhalyard_collect(u8 *state, u64 size, u8 *message, u64 room);
-extern u64 moonhalyard_offer(const u8 *state, u64 size, u64 choice);
-extern u64 moonhalyard_offers(const u8 *state, u64 size);
-extern u64 moonhalyard_step(u8 *state, u64 size, u64 choice);
-extern u32 moonhalyard_run(u8 *state, u64 size, const u64 *choices, u64 many, u64 *budget);
-
 enum { BATCH = 1 << 20, STATE = 12000, MESSAGE = 40, CHOICES = 4096 };
 enum { PUT, LOAD, POST, COLLECT, OFFER, OFFERS, STEP, RUN, GET, SHOW };
 static u8 batch[BATCH], *at;

@@ -1,10 +1,10 @@
 /* Numbers of fixed width, and whole messages over standard input and output, for the programs that answer for the proved library. */
-typedef unsigned char u8;
-typedef unsigned int u32;
-typedef unsigned long u64;
+#include <moonhalyard.h>
+#include <unistd.h>
 
-extern long read(int file, void *to, u64 length);
-extern long write(int file, const void *from, u64 length);
+typedef uint8_t u8;
+typedef uint32_t u32;
+typedef uint64_t u64;
 
 /* All of so many bytes; 0 where the input ends before. */
 static int take(void *to, u64 length)

@@ -2,9 +2,6 @@
    fills it first. Out: the answer in eight bytes, and the buffer. All numbers that come in have four bytes. It ends where its input does. */
 #include "pipes.h"
 
-extern u64 moonhalyard_write(const u32 *table, u64 length, u8 *out, u64 room);
-extern u64 moonhalyard_rows(const u8 *bytes, u64 length, u32 *out, u64 room);
-
 enum { NUMBERS = 1 << 18 };
 static u32 numbers[NUMBERS];
 static u8 bytes[NUMBERS];
