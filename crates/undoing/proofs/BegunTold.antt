@@ -2,7 +2,7 @@
 use Prim.Native.Nat.{ℕ, zero, suc, _+_, _≤_, _<_}
 use native.Mathlib.Omega.{arith}
 use mathlib.Core.Path.{_≡_, refl, sym, ap, subst, _∙_}
-use mathlib.Core.Bool.{Bool, true, false, cond, not, _||_, false≢true, or-true}
+use mathlib.Core.Bool.{Bool, true, false, cond, _||_, false≢true, or-true}
 use mathlib.Core.List.{List, [], _∷_, _++_}
 use lib.ListN.{length, getD, length-replicate}
 use lib.Dec.{eqb, ltb}
@@ -15,7 +15,7 @@ use Rattle.order.specs.declared.Order.{Order}
 use Rattle.machine.specs.declared.Message.{Message}
 use Rattle.machine.specs.declared.State.{State}
 use Rattle.machine.specs.declared.Tally.{Tally}
-use Rattle.order.specs.State.{Name, root, inner, idle, markAt, markOf, isLive, noOrder}
+use Rattle.order.specs.State.{Name, root, inner, idle, markAt, isLive, noOrder}
 use Rattle.machine.specs.State.{fresh}
 use Rattle.order.specs.Lists.{every, some}
 use Rattle.order.specs.Event.{Event, started, began, closed, faulted, stopped, ended, raised, left}
@@ -27,8 +27,8 @@ use Rattle.undoing.specs.History.{logOf}
 use Rattle.undoing.specs.Demand3.{Inner, scopesIn, scopesAmong, scopesOf, isBegin, isFinish, isLeft, noneNow}
 use Rattle.undoing.specs.Ties.{isName, isTaken}
 use Rattle.undoing.specs.Orderly.{isBeganOf}
-use Rattle.undoing.specs.Begun.{kindIn, kindAmong, kindAt, lasts, ownsAt, hasBegan, Taken, markBefore, isMarked, goesIn, mayBe, hasBegun, numbers, ofEach, takenBy, stepsTaken, BegunTruly, BegunAll}
-use Rattle.undoing.proofs.Parts.{both, decide, every-append, some-append}
+use Rattle.undoing.specs.Begun.{Lead, alone, together, leadOf, leadIn, leadAmong, leadParts, leadAt, isLed, BegunInTurn, kindIn, kindAmong, kindAt, lasts, ownsAt, hasBegan, Taken, markBefore, isMarked, goesIn, mayBe, hasBegun, numbers, ofEach, takenBy, stepsTaken, BegunTruly, BegunAll}
+use Rattle.undoing.proofs.Parts.{decide, every-append, some-append}
 use Rattle.undoing.proofs.Marks.{trio}
 use Rattle.undoing.proofs.Orders.{least, onto}
 use Rattle.undoing.proofs.Places.{first-of, second-of}
@@ -38,7 +38,8 @@ use Rattle.undoing.proofs.Slots.{Slot, standing-live, Alike, taking-ali
 use Rattle.undoing.proofs.Happening.{orderIn, withMessage, Happens, nothing-here, goes-here, starts-here, step-happens}
 use Rattle.undoing.proofs.Demanded.{step-after}
 use Rattle.undoing.proofs.Told.{slot-marks}
-use Rattle.undoing.proofs.Truly.{neither, began-neither, Up, Stay, stay-up, Arms, needs, Knows, knows, KnowsIn, knows-none, knows-more, Began, begin-began}
+use Rattle.undoing.proofs.Truly.{neither, began-neither, Up, stay-up, Arms, needs, Knows, knows, KnowsIn, knows-none, knows-more, begin-began}
+use Rattle.undoing.proofs.Leading.{Leads, leads-part, leads-scope, LeadsIn, leads-none, leads-more, Fine, fine-append, fine-event, begin-fine, order-fine}
 use Rattle.undoing.proofs.Keeping.{Steps, steps-from, order-steps, awaited-up}
 
 -- A tree of its form, whose kinds f knows as the tree does.
@@ -112,6 +113,82 @@ unfolding kindAt
 fault-knows p h =
     knows-in (kindAt p) (h .fault) (size (p .body)) (λ t u v. second-of (ltb t (size (p .body))) (kindIn (p .body) 0 t) (kindIn (p .fault) (size (p .body)) t) (kindAt p t) refl (le-ltb t (size (p .body)) u))
 
+-- no activity is without a number
+size-some : (a : Act) (c : ℕ) → c < c + size a
+unfolding size
+size-some (act own within) c = omega arith
+
+-- And whose leads it knows.
+module _ (lead : ℕ → Lead) where
+  lead-here : (a : Act) (k : ℕ) (q : Lead) → leadIn a k k q ≡ q
+  unfolding leadIn
+  lead-here (act own within) k q =
+      first-of (eqb k k) q (elim (isScope own) [ true ↦ leadParts within (k + 1) k (together k) | false ↦ leadAmong within (k + 1) k (leadOf own k) ]) (leadIn (act own within) k k q) refl (eq-eqb k k refl)
+
+  lead-within : (own : Own) (within : Acts) (k j : ℕ) (q : Lead) → k < j
+      → leadIn (act own within) k j q ≡ elim (isScope own) [ true ↦ leadParts within (k + 1) j (together k) | false ↦ leadAmong within (k + 1) j (leadOf own k) ]
+  unfolding leadIn
+  lead-within own within k j q h =
+      second-of (eqb k j) q (elim (isScope own) [ true ↦ leadParts within (k + 1) j (together k) | false ↦ leadAmong within (k + 1) j (leadOf own k) ]) (leadIn (act own within) k j q) refl (ne-eqb k j (omega arith))
+
+  lead-first : (a : Act) (l : Acts) (c j : ℕ) (q : Lead) → j < c + size a → leadAmong (more a l) c j q ≡ leadIn a c j q
+  unfolding leadIn
+  lead-first a l c j q h = first-of (ltb j (c + size a)) (leadIn a c j q) (leadAmong l (c + size a) j q) (leadAmong (more a l) c j q) refl (lt-ltb j (c + size a) h)
+
+  lead-later : (a : Act) (l : Acts) (c j : ℕ) (q : Lead) → c + size a ≤ j → leadAmong (more a l) c j q ≡ leadAmong l (c + size a) j q
+  unfolding leadIn
+  lead-later a l c j q h = second-of (ltb j (c + size a)) (leadIn a c j q) (leadAmong l (c + size a) j q) (leadAmong (more a l) c j q) refl (le-ltb j (c + size a) h)
+
+  parts-first : (a : Act) (l : Acts) (c j : ℕ) (q : Lead) → j < c + size a → leadParts (more a l) c j q ≡ leadIn a c j q
+  unfolding leadIn
+  parts-first a l c j q h = first-of (ltb j (c + size a)) (leadIn a c j q) (leadAmong l (c + size a) j alone) (leadParts (more a l) c j q) refl (lt-ltb j (c + size a) h)
+
+  parts-later : (a : Act) (l : Acts) (c j : ℕ) (q : Lead) → c + size a ≤ j → leadParts (more a l) c j q ≡ leadAmong l (c + size a) j alone
+  unfolding leadIn
+  parts-later a l c j q h = second-of (ltb j (c + size a)) (leadIn a c j q) (leadAmong l (c + size a) j alone) (leadParts (more a l) c j q) refl (le-ltb j (c + size a) h)
+
+  -- an activity and its lead, where its numbers are known
+  abbrev Knowing : Act → (k : ℕ) → Lead → Type 0
+  Knowing a k q = (j : ℕ) → k ≤ j → j < k + size a → lead j ≡ leadIn a k j q
+
+  mutual
+    unfolding size kind
+
+    leads-in : {h r : Bool} {a : Act} → Formed h r a → (k : ℕ) (q : Lead) → Knowing a k q → Leads lead a k
+    leads-in (formed-part {own = own} {within = within} s i g y) k q d =
+        leads-part s g (leads-all y (k + 1) (leadOf own k) (λ j u v. d j (omega arith) (omega arith) ∙ (lead-within own within k j q (omega arith)
+        ∙ second-of (isScope own) (leadParts within (k + 1) j (together k)) (leadAmong within (k + 1) j (leadOf own k)) _ refl s)))
+    leads-in (formed-scope {b = b} {f = g} {u = u} x y z) k q d =
+        leads-scope (kb (k + 1) (omega arith) (size-some b (k + 1)) ∙ lead-here b (k + 1) (together k)) (kg (k + 1 + size b) (omega arith) (size-some g (k + 1 + size b)) ∙ lead-here g (k + 1 + size b) alone)
+        (ku (k + 1 + size b + size g) (omega arith) (size-some u (k + 1 + size b + size g)) ∙ lead-here u (k + 1 + size b + size g) alone) (leads-in x (k + 1) (together k) kb) (leads-in y (k + 1 + size b) alone kg) (leads-in z (k + 1 + size b + size g) alone ku)
+      where
+        parts : (j : ℕ) → k < j → j < k + size (act scope (trio b g u)) → lead j ≡ leadParts (trio b g u) (k + 1) j (together k)
+        parts j v w = d j (omega arith) w ∙ lead-within scope (trio b g u) k j q v
+
+        kb : Knowing b (k + 1) (together k)
+        kb j v w = parts j (omega arith) (omega arith) ∙ parts-first b (more g (more u none)) (k + 1) j (together k) w
+
+        kg : Knowing g (k + 1 + size b) alone
+        kg j v w = parts j (omega arith) (omega arith) ∙ (parts-later b (more g (more u none)) (k + 1) j (together k) v ∙ lead-first g (more u none) (k + 1 + size b) j alone w)
+
+        ku : Knowing u (k + 1 + size b + size g) alone
+        ku j v w = parts j (omega arith) (omega arith)
+            ∙ (parts-later b (more g (more u none)) (k + 1) j (together k) (omega arith) ∙ (lead-later g (more u none) (k + 1 + size b) j alone v ∙ lead-first u none (k + 1 + size b + size g) j alone w))
+
+    leads-all : {h r : Bool} {l : Acts} → FormedIn h r l → (c : ℕ) (q : Lead) → ((j : ℕ) → c ≤ j → j < c + sizes l → lead j ≡ leadAmong l c j q) → LeadsIn lead l c q
+    leads-all formed-none c q d = leads-none
+    leads-all (formed-more {a = a} {l = l} x y) c q d =
+        let e : Knowing a c q = λ j u v. d j u (omega arith) ∙ lead-first a l c j q v in
+        leads-more (e c (omega arith) (size-some a c) ∙ lead-here a c q) (leads-in x c q e) (leads-all y (c + size a) q (λ j u v. d j (omega arith) (omega arith) ∙ lead-later a l c j q u))
+
+body-lead : (p : Plan) (j : ℕ) → j < size (p .body) → leadAt p j ≡ leadIn (p .body) 0 j alone
+unfolding leadAt
+body-lead p j v = first-of (ltb j (size (p .body))) (leadIn (p .body) 0 j alone) (leadIn (p .fault) (size (p .body)) j alone) (leadAt p j) refl (lt-ltb j (size (p .body)) v)
+
+fault-lead : (p : Plan) (j : ℕ) → size (p .body) ≤ j → leadAt p j ≡ leadIn (p .fault) (size (p .body)) j alone
+unfolding leadAt
+fault-lead p j v = second-of (ltb j (size (p .body))) (leadIn (p .body) 0 j alone) (leadIn (p .fault) (size (p .body)) j alone) (leadAt p j) refl (le-ltb j (size (p .body)) v)
+
 -- A scope by its kind is one of the plan's.
 mutual
   unfolding scopesIn kindIn some
@@ -160,6 +237,10 @@ left-before : (k : ℕ) (l past : List Event) → hasBegan k l ≡ false → isL
 unfolding some
 left-before k [] past n h = h
 left-before k (e ∷ l) past n h = let z = neither (isBeganOf (eqb k) e) (hasBegan k l) n in left-one k e past (z .0) (left-before k l (e ∷ past) (z .1) h)
+
+-- the three statements, of some steps taken
+abbrev AllBegun : Plan → List Taken → Type 0
+AllBegun p l = (every (ofEach isMarked p) l ≡ true) × (every (ofEach hasBegun p) l ≡ true) × (every (ofEach isLed p) l ≡ true)
 
 -- what may be, where what is set was
 may-be : (n : ℕ) (s b : Bool) (x y : ℕ) → (eqb y idle ≡ false → (eqb x idle ≡ false) × ((eqb n 11 || cond s (goesIn n y b) (eqb y x || eqb n 7)) ≡ true)) → mayBe n s b x y ≡ true
@@ -220,6 +301,26 @@ module _ (p : Plan) (h : Promised p) where
           let y = stay-up (begin-began (kindAt p) kb (noOrder .marks) (omega (arith, h .few, length-replicate 256 idle)) .stays k (ns .0)) x in
           false≢true (sym y ∙ ap (λ (i : ℕ). eqb i idle) (idle-marks p h k 1 .at k (omega arith) (omega arith)))
 
+  -- what is begun begins in its turn, in a step and with an order that starts
+  lb : Leads (leadAt p) (p .body) 0
+  lb = leads-in (leadAt p) (h .body) 0 alone (λ j u v. body-lead p j (omega arith))
+
+  lf : Leads (leadAt p) (p .fault) (size (p .body))
+  lf = leads-in (leadAt p) (h .fault) (size (p .body)) alone (λ j u v. fault-lead p j u)
+
+  steps-fine : (t : ℕ) (o : Order) → Fine (leadAt p) t (stepOrder p t o .log)
+  steps-fine t o = order-fine (leadAt p) t p lb lf (fault-lead p (size (p .body)) (omega arith) ∙ lead-here (leadAt p) (p .fault) (size (p .body)) alone) o
+
+  starts-fine : (t : ℕ) (o : Order) → Fine (leadAt p) t ((started ∷ begunOrder p .log) ++ stepOrder p t o .log)
+  unfolding begunOrder isBeganOf
+  starts-fine t o =
+      fine-append (leadAt p) t (started ∷ begunOrder p .log) (stepOrder p t o .log)
+      (fine-event (leadAt p) t started (begunOrder p .log) (λ j. refl) (begin-fine (leadAt p) t lb (body-lead p 0 (omega (arith, size-some (p .body) 0)) ∙ lead-here (leadAt p) (p .body) 0 alone) (noOrder .marks))) (steps-fine t o)
+
+  is-led : (x : Taken) (k : ℕ) → Fine (leadAt p) (x .activity) (x .log) → isLed p x k ≡ true
+  unfolding isLed
+  is-led x k w = decide (hasBegan k (x .log)) (λ b. rw (b, w .may k b)) (λ b. rw b)
+
   -- each of a step's activities
   each-number : (f : ℕ → Bool) → ((k : ℕ) → f k ≡ true) → (n : ℕ) → every f (numbers n) ≡ true
   unfolding every numbers
@@ -249,17 +350,15 @@ module _ (p : Plan) (h : Promised p) where
     taken-is : (s : State) (t : ℕ) (r : Stepped) → (isTaken i r ≡ true) × (r .answer .activity ≡ t) → takenBy i s r ≡ one s t r ∷ []
     taken-is s t r q = rw (q .0, q .1)
 
-    abbrev Both : List Taken → Type 0
-    Both l = (every (ofEach isMarked p) l ≡ true) × (every (ofEach hasBegun p) l ≡ true)
-
-    happens-begun : (s : State) (past : List Event) (r : Stepped) → Slot p (orderIn s i) past → Slot p (orderIn (r .state) i) (onto (logOf i r) past) → Happens p i s past r → Both (takenBy i s r)
+    happens-begun : (s : State) (past : List Event) (r : Stepped) → Slot p (orderIn s i) past → Slot p (orderIn (r .state) i) (onto (logOf i r) past) → Happens p i s past r → AllBegun p (takenBy i s r)
     unfolding every
-    happens-begun s past r a b (nothing-here n l e d) = (rw n, rw n)
+    happens-begun s past r a b (nothing-here n l e d) = (rw n, rw n, rw n)
     happens-begun s past r a b (goes-here t m q x st c y l e d) =
-        subst Both (sym (taken-is s t r q)) (
+        subst (AllBegun p) (sym (taken-is s t r q)) (
           one-taken isMarked (one s t r) (λ v k. is-marked (one s t r) k (λ w z g. w₁ v .truly k z g)),
           one-taken hasBegun (one s t r) (λ v k. has-begun (one s t r) k (λ n. rw (standing-live p (orderIn s i) st)
               (steps-may t (orderIn s i) (orderIn (r .state) i) (logOf i r) (w₁ v) x k n (λ z u. scope-up k (logOf i r) past a b (standing-live p (orderIn s i) st) v z n u)))),
+          one-taken isLed (one s t r) (λ v k. is-led (one s t r) k (subst (λ (g : List Event). Fine (leadAt p) t g) (sym l) (steps-fine t (withMessage p t m (orderIn s i))))),
         )
       where
         like : Alike p (orderIn s i) (withMessage p t m (orderIn s i))
@@ -272,9 +371,10 @@ module _ (p : Plan) (h : Promised p) where
             (subst (λ (o : Order). Steps (kindAt p) (ownsAt p t) 0 (withMessage p t m (orderIn s i)) (record { result = running; order = o; log = stepOrder p t (withMessage p t m (orderIn s i)) .log })) (sym d)
             (order-steps (kindAt p) p kb kf t (withMessage p t m (orderIn s i)) (subst (λ (ms : List ℕ). size (p .body) + size (p .fault) ≤ length ms) (sym (like .marks)) (st .many)) (ap isLive (sym d) ∙ v))))
     happens-begun s past r a b (starts-here t m q x z n l e d) =
-        subst Both (sym (taken-is s t r q)) (
+        subst (AllBegun p) (sym (taken-is s t r q)) (
           one-taken isMarked (one s t r) (λ v k. is-marked (one s t r) k (λ w. absurd (false≢true (sym z ∙ w)))),
           one-taken hasBegun (one s t r) (λ v k. has-begun (one s t r) k (λ y. rw z (may-be (kindAt p k) (ownsAt p t k) (hasBegan (k + 1) (logOf i r)) idle (markAt k (orderIn (r .state) i)) (λ u. absurd (idles v k y u))))),
+          one-taken isLed (one s t r) (λ v k. is-led (one s t r) k (subst (λ (g : List Event). Fine (leadAt p) t g) (sym l) (starts-fine t (withMessage p t m (startedOrder p))))),
         )
       where
         idles : isLive (orderIn (r .state) i) ≡ true → (k : ℕ) → hasBegan k (logOf i r) ≡ false → Up (orderIn (r .state) i .marks) k → ⊥
@@ -286,9 +386,9 @@ module _ (p : Plan) (h : Promised p) where
 
     -- over any calls
     module _ (bytes : List ℕ) (next : ℕ) (accepted : readPlan bytes ≡ found p next) where
-      all-begun : (calls : List Call) (s : State) (t : Tally) (past : List Event) → Sane p bytes next i accepted h s past → Both (stepsTaken calls i s t)
+      all-begun : (calls : List Call) (s : State) (t : Tally) (past : List Event) → Sane p bytes next i accepted h s past → AllBegun p (stepsTaken calls i s t)
       unfolding stepsTaken every
-      all-begun [] s t past g = (refl, refl)
+      all-begun [] s t past g = (refl, refl, refl)
       all-begun (posting m ∷ l) s t past g = all-begun l (post m s .state) t past (same-sane p bytes next i accepted h s (post m s .state) past (post-same m s) g)
       all-begun (collecting ∷ l) s t past g = all-begun l (collect s .state) t past (same-sane p bytes next i accepted h s (collect s .state) past (collect-same s) g)
       all-begun (stepping c ∷ l) s t past g =
@@ -296,14 +396,17 @@ module _ (p : Plan) (h : Promised p) where
           let g₁ = step-after p bytes next i accepted h c s t past g .1 in
           let x = happens-begun s past r (g .slot) (g₁ .slot) (step-happens p bytes next i accepted h c s t past g .happens) in
           let y = all-begun l (r .state) (r .tally) (onto (logOf i r) past) g₁ in
-          (every-append (ofEach isMarked p) (takenBy i s r) (stepsTaken l i (r .state) (r .tally)) (x .0) (y .0), every-append (ofEach hasBegun p) (takenBy i s r) (stepsTaken l i (r .state) (r .tally)) (x .1) (y .1))
+          (joined isMarked r (x .0) (y .0), joined hasBegun r (x .1) (y .1), joined isLed r (x .2) (y .2))
+        where
+          joined : (f : Plan → Taken → ℕ → Bool) (r : Stepped) → every (ofEach f p) (takenBy i s r) ≡ true → every (ofEach f p) (stepsTaken l i (r .state) (r .tally)) ≡ true
+              → every (ofEach f p) (takenBy i s r ++ stepsTaken l i (r .state) (r .tally)) ≡ true
+          joined f r a b = every-append (ofEach f p) (takenBy i s r) (stepsTaken l i (r .state) (r .tally)) a b
 
 -- from a fresh start
-fresh-begun : (bytes : List ℕ) (p : Plan) (next : ℕ) → readPlan bytes ≡ found p next → (calls : List Call) (slot : ℕ) (t : Tally)
-    → (every (ofEach isMarked p) (stepsTaken calls slot (load bytes .state) t) ≡ true) × (every (ofEach hasBegun p) (stepsTaken calls slot (load bytes .state) t) ≡ true)
+fresh-begun : (bytes : List ℕ) (p : Plan) (next : ℕ) → readPlan bytes ≡ found p next → (calls : List Call) (slot : ℕ) (t : Tally) → AllBegun p (stepsTaken calls slot (load bytes .state) t)
 unfolding load
 fresh-begun bytes p next e calls slot t =
-    subst (λ (f : Found Plan). (every (ofEach isMarked p) (stepsTaken calls slot (loadedAs bytes f .state) t) ≡ true) × (every (ofEach hasBegun p) (stepsTaken calls slot (loadedAs bytes f .state) t) ≡ true)) (sym e)
+    subst (λ (f : Found Plan). AllBegun p (stepsTaken calls slot (loadedAs bytes f .state) t)) (sym e)
     (let h = promised p (accepted-is-within bytes e) in all-begun p h slot bytes next e calls (fresh bytes) t [] (fresh-sane p bytes next slot e h))
 
 -- No beginning is only claimed,
@@ -311,7 +414,12 @@ pub begun-truly : BegunTruly
 unfolding BegunTruly
 begun-truly bytes p next e calls slot t = fresh-begun bytes p next e calls slot t .0
 
--- and none is left out.
+-- none is left out,
 pub begun-all : BegunAll
 unfolding BegunAll
 begun-all bytes p next e calls slot t = fresh-begun bytes p next e calls slot t .1
+
+-- and none comes out of turn.
+pub begun-in-turn : BegunInTurn
+unfolding BegunInTurn
+begun-in-turn bytes p next e calls slot t = fresh-begun bytes p next e calls slot t .2

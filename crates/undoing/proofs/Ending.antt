@@ -2,10 +2,8 @@
 use Prim.Native.Nat.{ℕ}
 use native.Mathlib.Omega.{arith}
 use mathlib.Core.Path.{_≡_, refl, sym, ap, subst, _∙_}
-use mathlib.Core.Bool.{Bool, true, false, cond, not, _&&_, _||_, false≢true}
+use mathlib.Core.Bool.{Bool, true, false, cond, not, _&&_, false≢true}
 use mathlib.Core.List.{List, [], _∷_, _++_, append-nil, append-assoc}
-use lib.ListN.{length-replicate}
-use lib.Seq.{take-append-seam}
 use lib.Dec.{eqb, ltb}
 use Rattle.plan.specs.Found.{Found, found}
 use Rattle.plan.specs.Read.{readPlan}
@@ -18,7 +16,7 @@ use Rattle.machine.specs.declared.State.{State}
 use Rattle.machine.specs.declared.Tally.{Tally}
 use Rattle.order.specs.Lists.{some, only}
 use Rattle.order.specs.Expression.{evaluate}
-use Rattle.order.specs.State.{root, inner, isLive, noOrder}
+use Rattle.order.specs.State.{root, inner}
 use Rattle.machine.specs.State.{fresh}
 use Rattle.machine.specs.Limits.{rootInLimits}
 use Rattle.order.specs.Event.{Event, started, began, closed, faulted, stopped, ended, raised, left}
@@ -34,7 +32,7 @@ use Rattle.undoing.proofs.Moves.{HoldsAt, fair}
 use Rattle.undoing.proofs.Orders.{endsTurned, older, momentOf, fairAfter, onto}
 use Rattle.undoing.proofs.Roots.{Awaited, Standing, EndedAs, Passed, passes-on, passes-end}
 use Rattle.undoing.proofs.Planning.{Promised, promised}
-use Rattle.undoing.proofs.Slots.{Alike, taking-alike, taken-step, started-in-limits, order-starts, post-same, collect-same, fresh-order, Sane, same-sane, fresh-sane}
+use Rattle.undoing.proofs.Slots.{Alike, taking-alike, taken-step, started-in-limits, order-starts, post-same, collect-same, Sane, same-sane, fresh-sane}
 use Rattle.undoing.proofs.Demanded.{step-after}
 use Rattle.undoing.proofs.Happening.{orderIn, withMessage, Happens, nothing-here, goes-here, starts-here, step-happens}
 use Rattle.undoing.proofs.Deeds.{order-deeds, start-deed}

@@ -4,8 +4,7 @@ use native.Mathlib.Omega.{arith}
 use mathlib.Core.Path.{_≡_, refl, sym, ap, subst, _∙_}
 use mathlib.Core.Bool.{true, false, cond, false≢true}
 use mathlib.Core.List.{List, [], _∷_, _++_}
-use lib.ListN.{length, length-replicate}
-use lib.Seq.{take-append-seam}
+use lib.ListN.{length}
 use Rattle.plan.specs.Found.{Found, found}
 use Rattle.plan.specs.Read.{readPlan}
 use Rattle.plan.specs.Tree.{Plan, size}
@@ -15,14 +14,14 @@ use Rattle.order.specs.declared.End.{End}
 use Rattle.machine.specs.declared.State.{State}
 use Rattle.machine.specs.declared.Tally.{Tally}
 use Rattle.order.specs.Lists.{only}
-use Rattle.order.specs.State.{Name, root, inner, isLive, markOf, noOrder}
+use Rattle.order.specs.State.{Name, root, inner, markOf}
 use Rattle.machine.specs.State.{fresh}
 use Rattle.order.specs.Event.{Event, started, began, closed, faulted, stopped, ended, raised, left}
 use Rattle.order.specs.Scope.{isOpen, rootOf}
 use Rattle.order.specs.Acting.{stepOrder, begunOrder, startedOrder}
 use Rattle.machine.specs.Calls.{loadedAs, load, post, collect, Stepped, doingAt, step, Call, posting, collecting, stepping}
 use Rattle.undoing.specs.History.{logOf, history}
-use Rattle.undoing.specs.Demand3.{mayTurn, noneNow}
+use Rattle.undoing.specs.Demand3.{mayTurn}
 use Rattle.undoing.specs.Ties.{isName, fits, Place, bodyOf, faultOf, undoOf, placeOf, Due, nothing, fault, end, dueFirst, dueSecond, dueEnded, due, isFaultOf, isEndOf, heeds, isNothing, heedsAfter, FaultsTold, isRaised}
 use Rattle.undoing.proofs.Parts.{both, same-itself}
 use Rattle.undoing.proofs.Accounts.{accountOf, left-unfinished}
@@ -35,7 +34,7 @@ use Rattle.undoing.proofs.Fitting.{standing-fits}
 use Rattle.undoing.proofs.Told.{told}
 use Rattle.undoing.proofs.Happening.{orderIn, withMessage, Happens, nothing-here, goes-here, starts-here, step-happens}
 use Rattle.undoing.proofs.Scoping.{Running}
-use Rattle.undoing.proofs.Slots.{Alike, taking-alike, order-starts, post-same, collect-same, fresh-order, Sane, same-sane, fresh-sane}
+use Rattle.undoing.proofs.Slots.{Alike, taking-alike, order-starts, post-same, collect-same, Sane, same-sane, fresh-sane}
 use Rattle.undoing.proofs.Demanded.{step-after}
 
 -- nothing is due

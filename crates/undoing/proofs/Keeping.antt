@@ -1,9 +1,9 @@
 -- What a step logs as begun is marked afterwards, where it lasts; and what it does not is set only where it was, or as its own step has it. Assumes nothing.
-use Prim.Native.Nat.{ℕ, zero, suc, _+_, _≤_, _<_}
+use Prim.Native.Nat.{ℕ, _+_, _≤_, _<_}
 use native.Mathlib.Omega.{arith}
 use mathlib.Core.Path.{_≡_, refl, sym, ap, subst, _∙_}
 use mathlib.Core.Bool.{Bool, true, false, cond, _&&_, _||_, false≢true, and-false}
-use mathlib.Core.List.{List, [], _∷_, _++_}
+use mathlib.Core.List.{List, _++_}
 use lib.ListN.{length, getD, set, length-set}
 use lib.Seq.{getD-set-same}
 use lib.Dec.{eqb, ltb}
@@ -31,8 +31,8 @@ use Rattle.undoing.proofs.Orders.{isArm, least}
 use Rattle.undoing.proofs.Places.{first-of, second-of}
 use Rattle.undoing.proofs.Waiting.{Waits, waits-itself, waits-within, WaitsIn, waits-first, waits-later}
 use Rattle.undoing.proofs.Roots.{Awaited, in-body, in-fault}
-use Rattle.undoing.proofs.Truly.{or-case, began-in, began-neither, Up, Stay, stay-still, stay-up, stay-then, stay-other, not-cleared, stay-idle, stay-cleared, shifts, Arms, needs, Knows, knows, KnowsIn, knows-none, knows-more, Began}
-use Rattle.undoing.proofs.Lasting.{isRaising, part-began, after-began, Owned, owned-other, stay-marking, Goes, goes-runs, goes-where, goes-begun, goes-marked, goes-either, finishes-goes, Within, turns-goes, looks-goes, over-goes, undone-goes, part-goes, scope-within, stop-halts}
+use Rattle.undoing.proofs.Truly.{or-case, began-in, began-neither, Up, Stay, stay-up, stay-then, stay-other, not-cleared, stay-idle, stay-cleared, shifts, Arms, needs, Knows, knows, KnowsIn, knows-none, knows-more, Began}
+use Rattle.undoing.proofs.Lasting.{isRaising, part-began, after-began, owned-other, stay-marking, Goes, goes-runs, goes-where, goes-begun, goes-marked, goes-either, finishes-goes, Within, turns-goes, looks-goes, over-goes, undone-goes, part-goes, scope-within, stop-halts}
 
 -- a repeat and no other of these that are no scopes
 repeat-shifts : (n : ℕ) → eqb n 11 ≡ false → shifts n ≡ true → eqb n 7 ≡ true

@@ -2,30 +2,25 @@
 use Prim.Native.Nat.{ℕ, zero, suc, _+_, _≤_, _<_}
 use native.Mathlib.Omega.{arith}
 use mathlib.Core.Path.{_≡_, refl, sym, ap, subst, _∙_}
-use mathlib.Core.Bool.{Bool, true, false, cond, _&&_, _||_, false≢true, or-true}
-use mathlib.Core.List.{List, [], _∷_, _++_}
+use mathlib.Core.Bool.{Bool, true, false, _&&_, false≢true, or-true}
+use mathlib.Core.List.{List, [], _∷_}
 use lib.ListN.{length, length-set}
 use lib.Dec.{eqb, ltb}
-use Rattle.plan.specs.Tree.{Own, empty, send, receive, set as setting, raise, leave, choose, repeat, sequence, flow, pick, scope, arm, kind, Act, Acts, none, more, Plan, size, sizes, count}
+use Rattle.plan.specs.Tree.{Own, Act, Acts, none, more, size, sizes, count}
 use Rattle.order.specs.declared.Order.{Order}
-use Rattle.order.specs.declared.End.{End}
-use Rattle.order.specs.declared.End.the-variants.{None, Well, Handled, Failed, Left}
 use Rattle.order.specs.Lists.{some, withoutLast}
-use Rattle.order.specs.State.{Name, root, inner, isLive, noOrder, idle, active, inside, done, faulty, undoing, handling, halted, withdrawing, withMarks, closings, remembering, markAt, marked, markOf, marking, binding}
-use Rattle.order.specs.Event.{Event}
-use Rattle.order.specs.Expression.{Value, fault, value, evaluate, isTrue}
-use Rattle.order.specs.Begin.{Begun, begin, beginInTurn, beginAfter, part, partAt, beginPart, cleared, quiet}
+use Rattle.order.specs.State.{Name, root, inner, idle, active, done, faulty, undoing, handling, halted, withdrawing, closings, remembering, markAt, marked, markOf, marking}
+use Rattle.order.specs.Expression.{fault}
+use Rattle.order.specs.Begin.{Begun, begin, beginInTurn, beginAfter, part, partAt, beginPart}
 use Rattle.order.specs.declared.Way.{Way as Result}
 use Rattle.order.specs.declared.Way.the-variants.{Running as running, Over as over, Raising as raising, Leaving as leaving, Undone as undone, UndoRaising as undoRaising}
-use Rattle.order.specs.Scope.{Outcome, rootOf, runs, after, begunIn, whereOver, Scope, scopeAt, isScope, isOpen, innerRuns, forgetting, closing, beginUndo, beginUndoIn, startUndo, undo, ends, handle, undoes, turns, rememberedFor, untouched, withdraws, stop, stopAll, stopFirst, alsoStopped, faults, breaks, looksAgain, bodyOver, bodyRaised, undoOver, undoRaised, fromBody, partOver, partRaised, fromFault, fromUndo}
+use Rattle.order.specs.Scope.{Outcome, runs, begunIn, whereOver, Scope, scopeAt, isScope, isOpen, innerRuns, beginUndo, beginUndoIn, startUndo, undo, ends, handle, undoes, turns, rememberedFor, untouched, withdraws, stop, stopAll, stopFirst, alsoStopped, looksAgain, bodyOver, undoOver, partOver}
 use Rattle.order.specs.Scope as definitions
-use Rattle.order.specs.Acting.{finishes, raises, leaves, orRaises, enters, again, repeats, allBound, itself, isPart, arms, goesOn, joins, inScope, combines, stepIn, stepAmong, stepRoot, endOf, movedTo, stepOrder}
+use Rattle.order.specs.Acting.{finishes}
 use Rattle.undoing.specs.Orderly.{isBeganOf}
 use Rattle.undoing.specs.Begun.{lasts, hasBegan}
-use Rattle.undoing.proofs.Parts.{both, decide, some-append}
+use Rattle.undoing.proofs.Parts.{both, decide}
 use Rattle.undoing.proofs.Seats.{marking-length}
-use Rattle.undoing.proofs.Breaking.{cleared-kept}
-use Rattle.undoing.proofs.Orders.{least}
 use Rattle.undoing.proofs.Truly.{began-in, began-neither, Up, up-other, Stay, stay-still, stay-then, stay-other, stay-idle, shifts, needs, Knows, knows, KnowsIn, knows-none, knows-more, Began, began-wider, begin-began, turn-list, nothing-began}
 
 -- a fault came out

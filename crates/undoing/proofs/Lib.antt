@@ -34,6 +34,7 @@ pub mod Going
 pub mod Truly
 pub mod Lasting
 pub mod Keeping
+pub mod Leading
 pub mod BegunTold
 pub mod Bought
 pub mod AllTold

@@ -14,7 +14,7 @@ use Rattle.undoing.specs.Computing.{judging}
 use Rattle.undoing.specs.History.{history}
 use Rattle.undoing.specs.Ties.{orderAfter, deedsTaken, endsTaken}
 use Rattle.undoing.specs.Begun.{Taken, stepsTaken}
-use Rattle.undoing.specs.UndoneRight.{Named, demand3, orderly, faults, steps, ends, begunTruly, begunAll, live, lists, goingOn, neverStuck, broken}
+use Rattle.undoing.specs.UndoneRight.{Named, demand3, orderly, faults, steps, ends, begunTruly, begunAll, begunInTurn, live, lists, goingOn, neverStuck, broken}
 
 -- A plan, calls on a fresh state of it, what happens with them in slot 0, and what an engine that does wrong would say had happened.
 record Wrong : Type 0 where
@@ -66,6 +66,10 @@ about = withRoot active (marked 0 active (marked 12 active (remembering (8 ∷ [
 
 abbrev besides : Order
 besides = withRoot undoing (marked 6 active noOrder)
+
+-- an order in whose undo part, a sequence, this activity runs
+abbrev running : ℕ → Order
+running k = withRoot undoing (marked 5 active (marked k active noOrder))
 
 -- the calls of the other examples
 abbrev thirteen : List Call
@@ -202,12 +206,25 @@ neverEntered =
           ∷ [];
     }
 
+-- A receive 1; a scope 2 (undo part 5, a sequence of two sends, 6 and 7); a raise 8; the root's fault part 9.
+unfoldable inSequence : Example
+inSequence =
+    record {
+      bytes = 1 ∷ 1 ∷ 0 ∷ 8 ∷ 3 ∷ 2 ∷ 0 ∷ 0 ∷ 1 ∷ 0 ∷ 11 ∷ 0 ∷ 0 ∷ 8 ∷ 2 ∷ 1 ∷ 2 ∷ 1 ∷ 1 ∷ 0 ∷ 1 ∷ 2 ∷ 1 ∷ 1 ∷ 0 ∷ 4 ∷ 1 ∷ 2 ∷ 2 ∷ 1 ∷ 0 ∷ [];
+      calls = first ∷ next ∷ next ∷ next ∷ next ∷ next ∷ [];
+      happened = started ∷ began 0 ∷ began 1 ∷ began 2 ∷ began 3 ∷ closed 2 ∷ began 8 ∷ raised 8 ∷ faulted root ∷ began 5 ∷ began 6 ∷ began 7 ∷ began 9 ∷ [];
+      wrongly =
+          -- the undo part starts a second time, and what begins in it is said, but not that it does
+          record { calls = first ∷ next ∷ next ∷ next ∷ next ∷ next ∷ []; taken = record { activity = 7; before = running 7; after = running 6; log = began 6 ∷ [] } ∷ []; order = running 6; happened = started ∷ began 0 ∷ began 1 ∷ began 2 ∷ began 3 ∷ closed 2 ∷ began 8 ∷ raised 8 ∷ faulted root ∷ began 5 ∷ began 6 ∷ began 7 ∷ began 6 ∷ []; breaks = begunInTurn ∷ [] }
+          ∷ [];
+    }
+
 unfoldable examples : List Example
-examples = twoScopes ∷ threeClosings ∷ innerHandler ∷ handledScope ∷ closedOuter ∷ neverEntered ∷ []
+examples = twoScopes ∷ threeClosings ∷ innerHandler ∷ handledScope ∷ closedOuter ∷ neverEntered ∷ inSequence ∷ []
 
 -- the right histories are those of the definitions
 logged : map (λ x. history (x .calls) 0 (loaded (x .bytes)) noTally) examples ≡ map (λ x. x .happened) examples
-unfolding examples twoScopes threeClosings innerHandler handledScope closedOuter neverEntered planC computing judging
+unfolding examples twoScopes threeClosings innerHandler handledScope closedOuter neverEntered inSequence planC computing judging
 logged = refl
 
 -- what a wrong history breaks, on the plan that some bytes spell
@@ -216,11 +233,11 @@ brokenBy bytes w =
     by [] (λ p. broken p (deedsTaken p (w .calls) 0 (loaded bytes) noTally) (endsTaken (w .calls) 0 (loaded bytes) noTally) (w .taken) (w .order) (w .happened)) (readPlan bytes)
 
 refused : map (λ x. map (brokenBy (x .bytes)) (x .wrongly)) examples ≡ map (λ x. map (λ w. w .breaks) (x .wrongly)) examples
-unfolding examples twoScopes threeClosings innerHandler handledScope closedOuter neverEntered planC brokenBy computing judging
+unfolding examples twoScopes threeClosings innerHandler handledScope closedOuter neverEntered inSequence planC brokenBy computing judging
 refused = refl
 
 -- and the right ones break none
 unbroken : map (λ x. by (begunTruly ∷ []) (λ p. broken p (deedsTaken p (x .calls) 0 (loaded (x .bytes)) noTally) (endsTaken (x .calls) 0 (loaded (x .bytes)) noTally) (stepsTaken (x .calls) 0 (loaded (x .bytes)) noTally) (orderAfter (x .calls) 0 (loaded (x .bytes)) noTally) (x .happened)) (readPlan (x .bytes))) examples
     ≡ map (λ x. []) examples
-unfolding examples twoScopes threeClosings innerHandler handledScope closedOuter neverEntered planC computing judging
+unfolding examples twoScopes threeClosings innerHandler handledScope closedOuter neverEntered inSequence planC computing judging
 unbroken = refl

@@ -3,19 +3,17 @@ use Prim.Native.Nat.{ℕ, zero, suc, _+_, _≤_, _<_}
 use native.Mathlib.Omega.{arith}
 use mathlib.Core.Path.{_≡_, refl, sym, ap, subst, _∙_}
 use mathlib.Core.Bool.{Bool, true, false, not, false≢true}
-use mathlib.Core.List.{List, [], _∷_, _++_}
-use lib.ListN.{length, getD, set, take, drop, replicate, length-set, length-replicate, getD-replicate, List·getD-eq-default}
-use lib.Seq.{getD-set-same, getD-set-other, take-append-seam}
+use mathlib.Core.List.{List, [], _∷_}
+use lib.ListN.{length, getD, take, drop, replicate, length-replicate, getD-replicate, List·getD-eq-default}
+use lib.Seq.{take-append-seam}
 use lib.Dec.{eqb, ltb, leb}
-use borrow.Author.Tests.{eqb-true, eqb-false, ltb-true, ltb-false}
+use borrow.Author.Tests.{eqb-true, ltb-true, ltb-false}
 use Rattle.plan.specs.Found.{Found, refused, found, among}
 use Rattle.plan.specs.Read.{readPlan}
 use Rattle.plan.specs.Tree.{Plan, size}
-use Rattle.plan.proofs.Limits.{accepted-is-within}
 use Rattle.machine.specs.declared.Message.{Message}
 use Rattle.order.specs.declared.Order.{Order}
 use Rattle.machine.specs.declared.State.{State}
-use Rattle.machine.specs.declared.Tally.{Tally}
 use Rattle.order.specs.Lists.{every, only}
 use Rattle.order.specs.State.{Name, root, inner, idle, active, halted, withdrawing, withRoot, binding, markOf, isLive, noOrder}
 use Rattle.machine.specs.State.{noMessage, fresh, letters}
@@ -25,23 +23,19 @@ use Rattle.order.specs.Begin.{begin}
 use Rattle.order.specs.Scope.{rootOf}
 use Rattle.order.specs.Acting.{allBound, Moved, stepOrder, begunOrder, startedOrder}
 use Rattle.machine.specs.Fit.{Doing, noStep, sends, takes, moves, cuts, closes}
-use Rattle.machine.specs.Offer.{Offer, offersOf}
 use Rattle.order.specs.Taking.{bindAll}
-use Rattle.machine.specs.Calls.{loadedAs, load, refusing, postBy, post, partnersOf, foreign, collectBy, collect, Chosen, refusedChoice, chosen, choosing, countStart, Stepped, doingAt, messagesAfter, orderTaking, stepped, taken, stepChosen, stepBy, step, Call, posting, collecting, stepping}
-use Rattle.undoing.specs.History.{logOf, history}
-use Rattle.undoing.specs.Demand3.{right, noneNow, Demand3}
-use Rattle.undoing.specs.Orderly.{Orderly}
+use Rattle.machine.specs.Calls.{postBy, post, partnersOf, foreign, collectBy, collect, messagesAfter, orderTaking}
+use Rattle.undoing.specs.Demand3.{noneNow}
 use Rattle.undoing.proofs.Parts.{both, decide}
 use Rattle.undoing.proofs.Accounts.{Phase, rest, waits, heals, phase}
 use Rattle.undoing.proofs.Moves.{Everywhere, HoldsAt, fair, move-start}
 use Rattle.undoing.proofs.Marks.{Quiet, Run, turned-waits, turned-undoes, turned-heals, quiet-agree, agree-above}
-use Rattle.undoing.proofs.Orders.{momentOf, fairAfter, fair-right, onto, fair-append, onto-append, does-nothing}
+use Rattle.undoing.proofs.Orders.{momentOf, fairAfter, onto, does-nothing}
 use Rattle.undoing.proofs.Beginning.{Begins, begins}
 use Rattle.undoing.proofs.Waiting.{quiet-waits}
 use Rattle.undoing.proofs.Scoping.{scope-live, scope-done, scope-turned, Running}
 use Rattle.undoing.proofs.Roots.{Awaited, in-body, in-fault, Standing, Passed, passes-on, passes-end, ended-now, order-steps}
-use Rattle.undoing.proofs.Planning.{Promised, promised}
-use Rattle.undoing.proofs.Offered.{Good, good-live, good-start, chosen-good}
+use Rattle.undoing.proofs.Planning.{Promised}
 
 -- a slot: it is free and its history is that of orders that are over; or its order stands, tied to its history
 pub data Slot (p : Plan) (o : Order) (past : List Event) : Type 0 where

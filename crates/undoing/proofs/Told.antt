@@ -1,12 +1,10 @@
 -- Marks and lists after any calls, by the history: from the ties that hold of every slot. Assumes nothing.
 use Prim.Native.Nat.{ℕ}
-use mathlib.Core.Path.{_≡_, refl, sym, ap, subst, _∙_}
-use mathlib.Core.Bool.{Bool, true, false, not, _&&_, _||_, false≢true}
+use mathlib.Core.Path.{_≡_, refl, sym, subst, _∙_}
+use mathlib.Core.Bool.{Bool, true, false, not, _&&_, false≢true}
 use mathlib.Core.List.{List, [], _∷_, _++_, append-nil}
 use lib.Dec.{eqb}
 use borrow.Author.Tests.{eqb-true}
-use lib.ListN.{length-replicate}
-use lib.Seq.{take-append-seam}
 use Rattle.plan.specs.Found.{Found, found}
 use Rattle.plan.specs.Read.{readPlan}
 use Rattle.plan.proofs.Limits.{accepted-is-within}
@@ -15,7 +13,7 @@ use Rattle.machine.specs.declared.State.{State}
 use Rattle.machine.specs.declared.Tally.{Tally}
 use Rattle.order.specs.Lists.{every}
 use Rattle.machine.specs.Fit.{Ready, readyOf}
-use Rattle.order.specs.State.{Name, idle, active, done, faulty, undoing, handling, halted, withdrawing, markOf, isLive, noOrder}
+use Rattle.order.specs.State.{Name, idle, active, done, faulty, undoing, handling, halted, withdrawing, markOf, isLive}
 use Rattle.machine.specs.State.{fresh}
 use Rattle.order.specs.Event.{Event}
 use Rattle.order.specs.Scope.{isOpen}
@@ -31,7 +29,7 @@ use Rattle.undoing.proofs.Roots.{Awaited, Standing}
 use Rattle.undoing.proofs.Offered.{Each, each-none, each-more, ready-awaited}
 use Rattle.undoing.proofs.Fitting.{standing-fits}
 use Rattle.undoing.proofs.Planning.{Promised, promised}
-use Rattle.undoing.proofs.Slots.{Slot, slot-free, slot-live, standing-live, post-same, collect-same, fresh-order, Sane, same-sane, fresh-sane}
+use Rattle.undoing.proofs.Slots.{Slot, slot-free, slot-live, standing-live, post-same, collect-same, Sane, same-sane, fresh-sane}
 use Rattle.undoing.proofs.Demanded.{step-after}
 
 -- what a mark of each phase is

@@ -15,6 +15,7 @@ use Rattle.machine.specs.declared.Tally.{Tally}
 use Rattle.order.specs.Lists.{every, some}
 use Rattle.order.specs.State.{idle, inside, markAt, isLive, noOrder}
 use Rattle.order.specs.Event.{Event}
+use Rattle.order.specs.Scope.{isScope}
 use Rattle.order.specs.Acting.{isPart}
 use Rattle.machine.specs.Calls.{loaded, post, collect, Stepped, step, Call, posting, collecting, stepping}
 use Rattle.undoing.specs.History.{logOf}
@@ -90,6 +91,52 @@ mayBe n s b x y = eqb y idle || (not (eqb x idle) && (eqb n 11 || cond s (goesIn
 unfoldable pub hasBegun : Plan → Taken → (activity : ℕ) → Bool
 hasBegun p x k = hasBegan k (x .log) || mayBe (kindAt p k) (ownsAt p (x .activity) k) (hasBegan (k + 1) (x .log)) (markBefore k x) (markAt k (x .after))
 
+-- What an activity begins with: alone, as the parts of a plan and the fault and undo parts of a scope do (of which Orderly and demand 3 speak); together with the
+-- one around it, as the body of a scope and what stands in a flow; with that one or after another, in a sequence; in that one's step, in a choose,
+-- a repeat or an arm.
+pub data Lead : Type 0 where
+  alone : Lead
+  together : (around : ℕ) → Lead
+  inOrder : (around : ℕ) → Lead
+  inStep : (around : ℕ) → Lead
+
+-- of what stands in activity k, which is no scope
+abbrev pub leadOf : Own → (k : ℕ) → Lead
+leadOf own k = cond (eqb (kind own) 8) (inOrder k) (cond (eqb (kind own) 9) (together k) (inStep k))
+
+-- activity j, in activity k that begins so
+unfoldable mutual
+  pub leadIn : Act → (k j : ℕ) → Lead → Lead
+  leadIn (act own within) k j q =
+      elim (eqb k j) [
+        | true ↦ q
+        | false ↦ elim (isScope own) [ true ↦ leadParts within (k + 1) j (together k) | false ↦ leadAmong within (k + 1) j (leadOf own k) ]
+      ]
+
+  pub leadAmong : Acts → (c j : ℕ) → Lead → Lead
+  leadAmong none c j q = alone
+  leadAmong (more a l) c j q = elim (ltb j (c + size a)) [ true ↦ leadIn a c j q | false ↦ leadAmong l (c + size a) j q ]
+
+  -- the parts of a scope, the body first
+  pub leadParts : Acts → (c j : ℕ) → Lead → Lead
+  leadParts none c j q = alone
+  leadParts (more a l) c j q = elim (ltb j (c + size a)) [ true ↦ leadIn a c j q | false ↦ leadAmong l (c + size a) j alone ]
+
+unfoldable pub leadAt : Plan → (activity : ℕ) → Lead
+leadAt p j =
+    elim (ltb j (size (p .body))) [ true ↦ leadIn (p .body) 0 j alone | false ↦ leadIn (p .fault) (size (p .body)) j alone ]
+
+-- activity j may begin with these events of a step t: in a sequence also where t stands in it before j
+unfoldable pub mayLead : Lead → (t j : ℕ) → List Event → Bool
+mayLead alone t j l = true
+mayLead (together k) t j l = hasBegan k l
+mayLead (inOrder k) t j l = hasBegan k l || (ltb k t && ltb t j)
+mayLead (inStep k) t j l = eqb k t
+
+-- None begins out of turn: what a step logs as begun begins with what it should.
+unfoldable pub isLed : Plan → Taken → (activity : ℕ) → Bool
+isLed p x k = not (hasBegan k (x .log)) || mayLead (leadAt p k) (x .activity) k (x .log)
+
 -- the activities of a plan
 unfoldable pub numbers : (n : ℕ) → List ℕ
 numbers zero = []
@@ -129,3 +176,6 @@ BegunTruly = OfEachStep isMarked
 
 unfoldable pub BegunAll : Type 0
 BegunAll = OfEachStep hasBegun
+
+unfoldable pub BegunInTurn : Type 0
+BegunInTurn = OfEachStep isLed

@@ -21,7 +21,7 @@ use Rattle.undoing.specs.History.{history}
 use Rattle.undoing.specs.Demand3.{scopesOf, closingsOf, undoneOf, hasTurned, isLeft, mayTurn, noneNow, right}
 use Rattle.undoing.specs.Ties.{orderAfter, isTurned, remembered, isDeed, deedsTaken, placeOf, heedsAfter, endsIn, endsTaken, fits, isStep, movesOn, goIn}
 use Rattle.undoing.specs.Orderly.{orderlyAfter}
-use Rattle.undoing.specs.Begun.{Taken, isMarked, hasBegun, ofEach, stepsTaken}
+use Rattle.undoing.specs.Begun.{Taken, isMarked, hasBegun, isLed, ofEach, stepsTaken}
 
 -- The statements, by name. Each is a file's or a part's: see Demand3, Orderly, Ties and Begun.
 pub data Named : Type 0 where
@@ -32,6 +32,7 @@ pub data Named : Type 0 where
   ends : Named
   begunTruly : Named
   begunAll : Named
+  begunInTurn : Named
   live : Named
   marks : Named
   lists : Named
@@ -94,6 +95,7 @@ broken p ds es ts o l =
     ++ (unless (sameEnds (endsIn [] l) es) ends
     ++ (unless (every (ofEach isMarked p) ts) begunTruly
     ++ (unless (every (ofEach hasBegun p) ts) begunAll
+    ++ (unless (every (ofEach isLed p) ts) begunInTurn
     ++ (unless (sameBool (isLive o) (not (noneNow past))) live
     ++ cond (isLive o)
     (unless (every (markTold o past) (namesOf p)) marks
@@ -101,7 +103,7 @@ broken p ds es ts o l =
     ++ (unless (every (λ r. fits (placeOf p (r .activity)) o) (readyOf p o)) places
     ++ (unless (movesOn (rootOf p) (o .root) (o .marks) && (goIn (p .body) 0 (o .marks) && goIn (p .fault) (size (p .body)) (o .marks))) goingOn
     ++ unless (some (λ r. isStep (r .step)) (readyOf p o)) neverStuck))))
-    [])))))))
+    []))))))))
 
 -- For every accepted plan, every run of posts, collects and choices from a fresh start, and every slot, the history of the slot breaks none.
 unfoldable pub UndoneRight : Type 0
