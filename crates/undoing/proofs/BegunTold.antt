@@ -2,7 +2,7 @@
 use Prim.Native.Nat.{ℕ, zero, suc, _+_, _≤_, _<_}
 use native.Mathlib.Omega.{arith}
 use mathlib.Core.Path.{_≡_, refl, sym, ap, subst, _∙_}
-use mathlib.Core.Bool.{Bool, true, false, cond, _||_, false≢true, or-true}
+use mathlib.Core.Bool.{Bool, true, false, cond, not, _&&_, _||_, false≢true, or-true}
 use mathlib.Core.List.{List, [], _∷_, _++_}
 use lib.ListN.{length, getD, length-replicate}
 use lib.Dec.{eqb, ltb}
@@ -38,7 +38,7 @@ use Rattle.undoing.proofs.Slots.{Slot, standing-live, Alike, taking-ali
 use Rattle.undoing.proofs.Happening.{orderIn, withMessage, Happens, nothing-here, goes-here, starts-here, step-happens}
 use Rattle.undoing.proofs.Demanded.{step-after}
 use Rattle.undoing.proofs.Told.{slot-marks}
-use Rattle.undoing.proofs.Truly.{neither, began-neither, Up, stay-up, Arms, needs, Knows, knows, KnowsIn, knows-none, knows-more, begin-began}
+use Rattle.undoing.proofs.Truly.{neither, began-in, began-neither, Up, stay-up, Arms, needs, Knows, knows, KnowsIn, knows-none, knows-more, Began, begin-began}
 use Rattle.undoing.proofs.Leading.{Leads, leads-part, leads-scope, LeadsIn, leads-none, leads-more, Fine, fine-append, fine-event, begin-fine, order-fine}
 use Rattle.undoing.proofs.Keeping.{Steps, steps-from, order-steps, awaited-up}
 
@@ -175,7 +175,8 @@ module _ (lead : ℕ → Lead) where
         ku j v w = parts j (omega arith) (omega arith)
             ∙ (parts-later b (more g (more u none)) (k + 1) j (together k) (omega arith) ∙ (lead-later g (more u none) (k + 1 + size b) j alone v ∙ lead-first u none (k + 1 + size b + size g) j alone w))
 
-    leads-all : {h r : Bool} {l : Acts} → FormedIn h r l → (c : ℕ) (q : Lead) → ((j : ℕ) → c ≤ j → j < c + sizes l → lead j ≡ leadAmong l c j q) → LeadsIn lead l c q
+    leads-all : {h r : Bool} {l : Acts} → FormedIn h r l → (c : ℕ) (q : Lead) → ((j : ℕ) → c ≤ j → j < c + sizes l → lead j ≡ leadAmong l c j q)
+        → LeadsIn lead l c q
     leads-all formed-none c q d = leads-none
     leads-all (formed-more {a = a} {l = l} x y) c q d =
         let e : Knowing a c q = λ j u v. d j u (omega arith) ∙ lead-first a l c j q v in
@@ -243,7 +244,8 @@ abbrev AllBegun : Plan → List Taken → Type 0
 AllBegun p l = (every (ofEach isMarked p) l ≡ true) × (every (ofEach hasBegun p) l ≡ true) × (every (ofEach isLed p) l ≡ true)
 
 -- what may be, where what is set was
-may-be : (n : ℕ) (s b : Bool) (x y : ℕ) → (eqb y idle ≡ false → (eqb x idle ≡ false) × ((eqb n 11 || cond s (goesIn n y b) (eqb y x || eqb n 7)) ≡ true)) → mayBe n s b x y ≡ true
+may-be : (n : ℕ) (s b : Bool) (x y : ℕ) → (eqb y idle ≡ false → (eqb x idle ≡ false) × ((eqb n 11 || cond s (goesIn n y b) (eqb y x || eqb n 7)) ≡ true))
+    → mayBe n s b x y ≡ true
 unfolding mayBe
 may-be n s b x y h = decide (eqb y idle) (λ e. rw e) (λ e. let z = h e in rw (e, z .0, z .1))
 
@@ -255,14 +257,16 @@ module _ (p : Plan) (h : Promised p) where
   kf = fault-knows p h
 
   -- the mark of a scope that did not begin
-  scope-up : {o o₁ : Order} (k : ℕ) (l past : List Event) → Slot p o past → Slot p o₁ (onto l past) → isLive o ≡ true → isLive o₁ ≡ true → eqb (kindAt p k) 11 ≡ true → hasBegan k l ≡ false
+  scope-up : {o o₁ : Order} (k : ℕ) (l past : List Event) → Slot p o past → Slot p o₁ (onto l past) → isLive o ≡ true → isLive o₁ ≡ true
+      → eqb (kindAt p k) 11 ≡ true → hasBegan k l ≡ false
       → Up (o₁ .marks) k → Up (o .marks) k
   scope-up {o} {o₁} k l past a b v w s n u =
       let i = plan-named p k s in
       not-true (eqb (getD (o .marks) k 0) idle) (slot-marks a v (inner k) i .0 ∙ left-before k l past n (sym (slot-marks b w (inner k) i .0) ∙ rw u))
 
   -- a step of an order that awaits it
-  steps-may : (t : ℕ) (o o₁ : Order) (l : List Event) → Steps (kindAt p) (ownsAt p t) 0 o (record { result = running; order = o₁; log = l }) → Awaited p (o .marks) t → (k : ℕ) → hasBegan k l ≡ false
+  steps-may : (t : ℕ) (o o₁ : Order) (l : List Event) → Steps (kindAt p) (ownsAt p t) 0 o (record { result = running; order = o₁; log = l })
+      → Awaited p (o .marks) t → (k : ℕ) → hasBegan k l ≡ false
       → (eqb (kindAt p k) 11 ≡ true → Up (o₁ .marks) k → Up (o .marks) k) → mayBe (kindAt p k) (ownsAt p t k) (hasBegan (k + 1) l) (getD (o .marks) k 0) (getD (o₁ .marks) k 0) ≡ true
   steps-may t o o₁ l w a k n c =
       may-be (kindAt p k) (ownsAt p t k) (hasBegan (k + 1) l) (getD (o .marks) k 0) (getD (o₁ .marks) k 0)
@@ -272,34 +276,53 @@ module _ (p : Plan) (h : Promised p) where
       (λ e. (awaited-up t k p kb kf a e, rw (s, e) (w .its k s e n u)))
       (λ e. let z = w .keeps k s e n u in (z .0, rw (s, e) (decide (eqb (kindAt p k) 7) (λ d. rw (d, or-true)) (λ d. rw (eq-eqb _ _ (z .1 d))))))))
 
-  -- an order that starts has its step at once: what is set then has begun
+  -- an order that starts has its step at once
+  start-steps : (t : ℕ) (m : Message) (past : List Event) → noneNow past ≡ true → Awaited p (startedOrder p .marks) t
+      → let o = stepOrder p t (withMessage p t m (startedOrder p)) in
+      isLive (o .order) ≡ true → Steps (kindAt p) (ownsAt p t) 0 (startedOrder p) (record { result = running; order = o .order; log = o .log })
+  start-steps t m past z a v =
+      let like = taking-alike p (doingAt p t) m (startedOrder p) in
+      steps-from (kindAt p) (ownsAt p t) (withMessage p t m (startedOrder p)) (startedOrder p) (like .marks)
+      (order-steps (kindAt p) p kb kf t (withMessage p t m (startedOrder p))
+      (subst (λ (ms : List ℕ). size (p .body) + size (p .fault) ≤ length ms) (sym (like .marks)) (order-starts p h t past z a .1 .many)) v)
+
+  start-began : Began (kindAt p) 0 (size (p .body)) (noOrder .marks) (begunOrder p)
+  unfolding begunOrder noOrder
+  start-began = begin-began (kindAt p) kb (noOrder .marks) (omega (arith, h .few, length-replicate 256 idle))
+
+  -- what is logged then is marked as it starts, or afterwards
+  starts-marked : (t : ℕ) (m : Message) (past : List Event) → noneNow past ≡ true → Awaited p (startedOrder p .marks) t
+      → let o = stepOrder p t (withMessage p t m (startedOrder p)) in
+      isLive (o .order) ≡ true → (k : ℕ) → lasts (kindAt p k) ≡ true → hasBegan k ((started ∷ begunOrder p .log) ++ o .log) ≡ true
+      → (not (eqb (markAt k (o .order)) idle) || not (eqb (markAt k (startedOrder p)) idle)) ≡ true
+  unfolding some isBeganOf startedOrder
+  starts-marked t m past z a v k y g =
+      began-in k (begunOrder p .log) (stepOrder p t (withMessage p t m (startedOrder p)) .log) g
+      (λ b. rw (start-began .truly k y b, or-true))
+      (λ b. rw (start-steps t m past z a v .truly k y b))
+
+  -- what is set then has begun
   starts-idle : (t : ℕ) (m : Message) (past : List Event) → noneNow past ≡ true → Awaited p (startedOrder p .marks) t
       → let o = stepOrder p t (withMessage p t m (startedOrder p)) in
-      Slot p (o .order) (onto ((started ∷ begunOrder p .log) ++ o .log) past) → isLive (o .order) ≡ true → (k : ℕ) → hasBegan k ((started ∷ begunOrder p .log) ++ o .log) ≡ false → Up (o .order .marks) k → ⊥
-  unfolding some isBeganOf startedOrder begunOrder noOrder isLeft isBegin isFinish
+      Slot p (o .order) (onto ((started ∷ begunOrder p .log) ++ o .log) past) → isLive (o .order) ≡ true → (k : ℕ)
+      → hasBegan k ((started ∷ begunOrder p .log) ++ o .log) ≡ false → Up (o .order .marks) k → ⊥
+  unfolding some isBeganOf startedOrder isLeft isBegin isFinish
   starts-idle t m past z a b v k n u =
       decide (eqb (kindAt p k) 11)
       (λ s. false≢true (left-before k (begunOrder p .log ++ o .log) (started ∷ past) n (sym (slot-marks b v (inner k) (plan-named p k s) .0) ∙ rw u)))
       (λ s. decide (ownsAt p t k)
       (λ e. resting (awaited-up t k p kb kf a e))
-      (λ e. resting (subst (λ (ms : List ℕ). Up ms k) (like .marks) (w .keeps k s e (ns .1) u .0))))
+      (λ e. resting (start-steps t m past z a v .keeps k s e (ns .1) u .0)))
     where
       o : Moved
       o = stepOrder p t (withMessage p t m (startedOrder p))
 
-      like : Alike p (startedOrder p) (withMessage p t m (startedOrder p))
-      like = taking-alike p (doingAt p t) m (startedOrder p)
-
       ns : (hasBegan k (begunOrder p .log) ≡ false) × (hasBegan k (o .log) ≡ false)
       ns = began-neither k (begunOrder p .log) (o .log) n
 
-      w : Steps (kindAt p) (ownsAt p t) 0 (withMessage p t m (startedOrder p)) (record { result = running; order = o .order; log = o .log })
-      w = order-steps (kindAt p) p kb kf t (withMessage p t m (startedOrder p)) (subst (λ (ms : List ℕ). size (p .body) + size (p .fault) ≤ length ms) (sym (like .marks)) (order-starts p h t past z a .1 .many)) v
-
       resting : Up (startedOrder p .marks) k → ⊥
       resting x =
-          let y = stay-up (begin-began (kindAt p) kb (noOrder .marks) (omega (arith, h .few, length-replicate 256 idle)) .stays k (ns .0)) x in
-          false≢true (sym y ∙ ap (λ (i : ℕ). eqb i idle) (idle-marks p h k 1 .at k (omega arith) (omega arith)))
+          false≢true (sym (stay-up (start-began .stays k (ns .0)) x) ∙ ap (λ (i : ℕ). eqb i idle) (idle-marks p h k 1 .at k (omega arith) (omega arith)))
 
   -- what is begun begins in its turn, in a step and with an order that starts
   lb : Leads (leadAt p) (p .body) 0
@@ -331,14 +354,16 @@ module _ (p : Plan) (h : Promised p) where
   unfolding every
   one-taken f x g = decide (isLive (x .after)) (λ v. rw (v, each-number (f p x) (g v) (size (p .body) + size (p .fault)))) (λ v. rw v)
 
-  is-marked : (x : Taken) (k : ℕ) → (isLive (x .before) ≡ true → lasts (kindAt p k) ≡ true → hasBegan k (x .log) ≡ true → Up (x .after .marks) k) → isMarked p x k ≡ true
+  is-marked : (x : Taken) (k : ℕ)
+      → (lasts (kindAt p k) ≡ true → hasBegan k (x .log) ≡ true
+      → (not (eqb (markAt k (x .after)) idle) || (not (isLive (x .before)) && not (eqb (markAt k (startedOrder p)) idle))) ≡ true) → isMarked p x k ≡ true
   unfolding isMarked
   is-marked x k g =
-      decide (isLive (x .before))
-      (λ v. decide (lasts (kindAt p k)) (λ l. decide (hasBegan k (x .log)) (λ b. rw (v, l, b, g v l b)) (λ b. rw (v, l, b))) (λ l. rw (v, l)))
-      (λ v. rw v)
+      decide (lasts (kindAt p k)) (λ l. decide (hasBegan k (x .log)) (λ b. rw (l, b, g l b)) (λ b. rw (l, b))) (λ l. rw l)
 
-  has-begun : (x : Taken) (k : ℕ) → (hasBegan k (x .log) ≡ false → mayBe (kindAt p k) (ownsAt p (x .activity) k) (hasBegan (k + 1) (x .log)) (markBefore k x) (markAt k (x .after)) ≡ true) → hasBegun p x k ≡ true
+  has-begun : (x : Taken) (k : ℕ)
+      → (hasBegan k (x .log) ≡ false → mayBe (kindAt p k) (ownsAt p (x .activity) k) (hasBegan (k + 1) (x .log)) (markBefore k x) (markAt k (x .after)) ≡ true)
+      → hasBegun p x k ≡ true
   unfolding hasBegun
   has-begun x k g = decide (hasBegan k (x .log)) (λ b. rw b) (λ b. rw (b, g b))
 
@@ -350,12 +375,13 @@ module _ (p : Plan) (h : Promised p) where
     taken-is : (s : State) (t : ℕ) (r : Stepped) → (isTaken i r ≡ true) × (r .answer .activity ≡ t) → takenBy i s r ≡ one s t r ∷ []
     taken-is s t r q = rw (q .0, q .1)
 
-    happens-begun : (s : State) (past : List Event) (r : Stepped) → Slot p (orderIn s i) past → Slot p (orderIn (r .state) i) (onto (logOf i r) past) → Happens p i s past r → AllBegun p (takenBy i s r)
+    happens-begun : (s : State) (past : List Event) (r : Stepped) → Slot p (orderIn s i) past → Slot p (orderIn (r .state) i) (onto (logOf i r) past)
+        → Happens p i s past r → AllBegun p (takenBy i s r)
     unfolding every
     happens-begun s past r a b (nothing-here n l e d) = (rw n, rw n, rw n)
     happens-begun s past r a b (goes-here t m q x st c y l e d) =
         subst (AllBegun p) (sym (taken-is s t r q)) (
-          one-taken isMarked (one s t r) (λ v k. is-marked (one s t r) k (λ w z g. w₁ v .truly k z g)),
+          one-taken isMarked (one s t r) (λ v k. is-marked (one s t r) k (λ z g. rw (w₁ v .truly k z g))),
           one-taken hasBegun (one s t r) (λ v k. has-begun (one s t r) k (λ n. rw (standing-live p (orderIn s i) st)
               (steps-may t (orderIn s i) (orderIn (r .state) i) (logOf i r) (w₁ v) x k n (λ z u. scope-up k (logOf i r) past a b (standing-live p (orderIn s i) st) v z n u)))),
           one-taken isLed (one s t r) (λ v k. is-led (one s t r) k (subst (λ (g : List Event). Fine (leadAt p) t g) (sym l) (steps-fine t (withMessage p t m (orderIn s i))))),
@@ -364,7 +390,8 @@ module _ (p : Plan) (h : Promised p) where
         like : Alike p (orderIn s i) (withMessage p t m (orderIn s i))
         like = taking-alike p (doingAt p t) m (orderIn s i)
 
-        w₁ : isLive (orderIn (r .state) i) ≡ true → Steps (kindAt p) (ownsAt p t) 0 (orderIn s i) (record { result = running; order = orderIn (r .state) i; log = logOf i r })
+        w₁ : isLive (orderIn (r .state) i) ≡ true
+            → Steps (kindAt p) (ownsAt p t) 0 (orderIn s i) (record { result = running; order = orderIn (r .state) i; log = logOf i r })
         w₁ v =
             steps-from (kindAt p) (ownsAt p t) (withMessage p t m (orderIn s i)) (orderIn s i) (like .marks)
             (subst (λ (g : List Event). Steps (kindAt p) (ownsAt p t) 0 (withMessage p t m (orderIn s i)) (record { result = running; order = orderIn (r .state) i; log = g })) (sym l)
@@ -372,11 +399,17 @@ module _ (p : Plan) (h : Promised p) where
             (order-steps (kindAt p) p kb kf t (withMessage p t m (orderIn s i)) (subst (λ (ms : List ℕ). size (p .body) + size (p .fault) ≤ length ms) (sym (like .marks)) (st .many)) (ap isLive (sym d) ∙ v))))
     happens-begun s past r a b (starts-here t m q x z n l e d) =
         subst (AllBegun p) (sym (taken-is s t r q)) (
-          one-taken isMarked (one s t r) (λ v k. is-marked (one s t r) k (λ w. absurd (false≢true (sym z ∙ w)))),
+          one-taken isMarked (one s t r) (λ v k. is-marked (one s t r) k (λ y g. marked v k y g)),
           one-taken hasBegun (one s t r) (λ v k. has-begun (one s t r) k (λ y. rw z (may-be (kindAt p k) (ownsAt p t k) (hasBegan (k + 1) (logOf i r)) idle (markAt k (orderIn (r .state) i)) (λ u. absurd (idles v k y u))))),
           one-taken isLed (one s t r) (λ v k. is-led (one s t r) k (subst (λ (g : List Event). Fine (leadAt p) t g) (sym l) (starts-fine t (withMessage p t m (startedOrder p))))),
         )
       where
+        marked : isLive (orderIn (r .state) i) ≡ true → (k : ℕ) → lasts (kindAt p k) ≡ true → hasBegan k (logOf i r) ≡ true
+            → (not (eqb (markAt k (orderIn (r .state) i)) idle) || (not (isLive (orderIn s i)) && not (eqb (markAt k (startedOrder p)) idle))) ≡ true
+        marked v k y g =
+            subst (λ (o : Order). (not (eqb (markAt k o) idle) || (not (isLive (orderIn s i)) && not (eqb (markAt k (startedOrder p)) idle))) ≡ true) (sym d)
+            (rw z (starts-marked t m past n x (ap isLive (sym d) ∙ v) k y (ap (hasBegan k) (sym l) ∙ g)))
+
         idles : isLive (orderIn (r .state) i) ≡ true → (k : ℕ) → hasBegan k (logOf i r) ≡ false → Up (orderIn (r .state) i .marks) k → ⊥
         idles v k y u =
             let m₁ = stepOrder p t (withMessage p t m (startedOrder p)) in
@@ -386,7 +419,8 @@ module _ (p : Plan) (h : Promised p) where
 
     -- over any calls
     module _ (bytes : List ℕ) (next : ℕ) (accepted : readPlan bytes ≡ found p next) where
-      all-begun : (calls : List Call) (s : State) (t : Tally) (past : List Event) → Sane p bytes next i accepted h s past → AllBegun p (stepsTaken calls i s t)
+      all-begun : (calls : List Call) (s : State) (t : Tally) (past : List Event) → Sane p bytes next i accepted h s past
+          → AllBegun p (stepsTaken calls i s t)
       unfolding stepsTaken every
       all-begun [] s t past g = (refl, refl, refl)
       all-begun (posting m ∷ l) s t past g = all-begun l (post m s .state) t past (same-sane p bytes next i accepted h s (post m s .state) past (post-same m s) g)
@@ -398,12 +432,14 @@ module _ (p : Plan) (h : Promised p) where
           let y = all-begun l (r .state) (r .tally) (onto (logOf i r) past) g₁ in
           (joined isMarked r (x .0) (y .0), joined hasBegun r (x .1) (y .1), joined isLed r (x .2) (y .2))
         where
-          joined : (f : Plan → Taken → ℕ → Bool) (r : Stepped) → every (ofEach f p) (takenBy i s r) ≡ true → every (ofEach f p) (stepsTaken l i (r .state) (r .tally)) ≡ true
+          joined : (f : Plan → Taken → ℕ → Bool) (r : Stepped) → every (ofEach f p) (takenBy i s r) ≡ true
+              → every (ofEach f p) (stepsTaken l i (r .state) (r .tally)) ≡ true
               → every (ofEach f p) (takenBy i s r ++ stepsTaken l i (r .state) (r .tally)) ≡ true
           joined f r a b = every-append (ofEach f p) (takenBy i s r) (stepsTaken l i (r .state) (r .tally)) a b
 
 -- from a fresh start
-fresh-begun : (bytes : List ℕ) (p : Plan) (next : ℕ) → readPlan bytes ≡ found p next → (calls : List Call) (slot : ℕ) (t : Tally) → AllBegun p (stepsTaken calls slot (load bytes .state) t)
+fresh-begun : (bytes : List ℕ) (p : Plan) (next : ℕ) → readPlan bytes ≡ found p next → (calls : List Call) (slot : ℕ) (t : Tally)
+    → AllBegun p (stepsTaken calls slot (load bytes .state) t)
 unfolding load
 fresh-begun bytes p next e calls slot t =
     subst (λ (f : Found Plan). AllBegun p (stepsTaken calls slot (loadedAs bytes f .state) t)) (sym e)

@@ -92,7 +92,8 @@ module _ (t j : ℕ) where
   owns-else own within k e =
       second-of (eqb k t) (eqb k j && acts (kind own)) (elim (eqb (kind own) 10 && isPart within (k + 1) t) [ true ↦ eqb k j | false ↦ ownsAmong within (k + 1) t j ]) (ownsIn (act own within) k t j) refl (ne-eqb k t e)
 
-  owns-arm : (own : Own) (within : Acts) (k : ℕ) → (k ≡ t → ⊥) → (eqb (kind own) 10 && isPart within (k + 1) t) ≡ true → ownsIn (act own within) k t j ≡ eqb k j
+  owns-arm : (own : Own) (within : Acts) (k : ℕ) → (k ≡ t → ⊥) → (eqb (kind own) 10 && isPart within (k + 1) t) ≡ true
+      → ownsIn (act own within) k t j ≡ eqb k j
   owns-arm own within k e h = owns-else own within k e ∙ first-of (eqb (kind own) 10 && isPart within (k + 1) t) (eqb k j) (ownsAmong within (k + 1) t j) _ refl h
 
   owns-within : (own : Own) (within : Acts) (k : ℕ) → (k ≡ t → ⊥) → (eqb (kind own) 10 && isPart within (k + 1) t) ≡ false
@@ -237,10 +238,12 @@ module _ (f : ℕ → ℕ) where
       go undoRaising = h
 
   -- a choose that is set after its step is inside
-  entered : {n : ℕ} (k : ℕ) (o : Order) (b : Begun) → k < length (o .marks) → Began f (k + 1) n (set (o .marks) k inside) b → Up (enters k o b .order .marks) k → getD (enters k o b .order .marks) k 0 ≡ inside
+  entered : {n : ℕ} (k : ℕ) (o : Order) (b : Begun) → k < length (o .marks) → Began f (k + 1) n (set (o .marks) k inside) b
+      → Up (enters k o b .order .marks) k → getD (enters k o b .order .marks) k 0 ≡ inside
   entered k o b l w = go (b .over)
     where
-      go : (v : Bool) → Up (whereOver (finishes k) (record { result = cond v over running; order = withMarks (b .marks) (marked k inside o); log = b .log }) .order .marks) k
+      go : (v : Bool)
+          → Up (whereOver (finishes k) (record { result = cond v over running; order = withMarks (b .marks) (marked k inside o); log = b .log }) .order .marks) k
           → getD (whereOver (finishes k) (record { result = cond v over running; order = withMarks (b .marks) (marked k inside o); log = b .log }) .order .marks) k 0 ≡ inside
       go true u = absurd (not-cleared (b .marks) k u)
       go false u = w .stays k (decide (hasBegan k (b .log)) (λ t. let z = w .range k t in absurd (omega arith)) (λ t. t)) .same u ∙ getD-set-same (o .marks) k inside 0 l
@@ -279,7 +282,8 @@ module _ (f : ℕ → ℕ) where
         }
 
     -- the same outcome by its result
-    steps-as : {b : ℕ} {o : Order} (r : Outcome) (x : Result) → (isRaising x ≡ true → isRaising (r .result) ≡ true) → Steps g b o r → Steps g b o (record { result = x; order = r .order; log = r .log })
+    steps-as : {b : ℕ} {o : Order} (r : Outcome) (x : Result) → (isRaising x ≡ true → isRaising (r .result) ≡ true) → Steps g b o r
+        → Steps g b o (record { result = x; order = r .order; log = r .log })
     steps-as r x h w = record { truly = w .truly; range = w .range; keeps = w .keeps; its = w .its; long = w .long; quits = λ q. w .quits (h q) }
 
     steps-either : {b : ℕ} {o : Order} (v : Bool) (x y z : Outcome) → z ≡ elim v [ true ↦ x | false ↦ y ] → Steps g b o x → Steps g b o y → Steps g b o z
@@ -287,11 +291,13 @@ module _ (f : ℕ → ℕ) where
     steps-either {b} {o} false x y z d w q = subst (λ (r : Outcome). Steps g b o r) (sym d) q
 
     -- what stays after the step
-    keeps-then : {b : ℕ} {o : Order} {r : Outcome} (l : List Event) (o₁ : Order) (j : ℕ) → Steps g b o r → eqb (f j) 11 ≡ false → g j ≡ false → hasBegan j (r .log ++ l) ≡ false
+    keeps-then : {b : ℕ} {o : Order} {r : Outcome} (l : List Event) (o₁ : Order) (j : ℕ) → Steps g b o r → eqb (f j) 11 ≡ false → g j ≡ false
+        → hasBegan j (r .log ++ l) ≡ false
         → Stay (r .order .marks) (o₁ .marks) j → Up (o₁ .marks) j → Up (o .marks) j × (eqb (f j) 7 ≡ false → getD (o₁ .marks) j 0 ≡ getD (o .marks) j 0)
     keeps-then {r = r} l o₁ j w z y n s u = let k = w .keeps j z y (began-neither j (r .log) l n .0) (stay-up s u) in (k .0, λ q. s .same u ∙ k .1 q)
 
-    its-then : {b : ℕ} {o : Order} {r : Outcome} (l : List Event) (o₁ : Order) (j : ℕ) → Steps g b o r → eqb (f j) 11 ≡ false → g j ≡ true → hasBegan j (r .log ++ l) ≡ false
+    its-then : {b : ℕ} {o : Order} {r : Outcome} (l : List Event) (o₁ : Order) (j : ℕ) → Steps g b o r → eqb (f j) 11 ≡ false → g j ≡ true
+        → hasBegan j (r .log ++ l) ≡ false
         → Stay (r .order .marks) (o₁ .marks) j → Up (o₁ .marks) j → goesIn (f j) (getD (o₁ .marks) j 0) (hasBegan (j + 1) (r .log ++ l)) ≡ true
     its-then {r = r} l o₁ j w z y n s u =
         goes-in-more (f j) (getD (o₁ .marks) j 0) (hasBegan (j + 1) (r .log)) (hasBegan (j + 1) (r .log ++ l)) (began-more (j + 1) (r .log) l)
@@ -384,7 +390,8 @@ module _ (f : ℕ → ℕ) where
         go undoRaising d = steps-as r undoRaising (λ q. ap isRaising d) w
 
     -- goes on where its mark is as it was
-    goes-on-steps : {e : ℕ} (k v : ℕ) (o : Order) (x : Order → Outcome) (r : Outcome) → eqb v idle ≡ false → (shifts (f k) ≡ true → g k ≡ false) → Steps g (k + 1) o r
+    goes-on-steps : {e : ℕ} (k v : ℕ) (o : Order) (x : Order → Outcome) (r : Outcome) → eqb v idle ≡ false → (shifts (f k) ≡ true → g k ≡ false)
+        → Steps g (k + 1) o r
         → ((o₁ : Order) → length (o₁ .marks) ≡ length (o .marks) → Goes f (k + 1) e o₁ (x o₁)) → Steps g (k + 1) o (goesOn k v x r)
     unfolding goesOn
     goes-on-steps {e} k v o x r a b w h = go (r .result) refl
@@ -398,7 +405,8 @@ module _ (f : ℕ → ℕ) where
         on true d = steps-after o r (x (r .order)) w (h (r .order) (w .long)) (free (x (r .order)) (λ u. ap (λ (m : ℕ). eqb m idle) (eqb-true (markAt k (r .order)) v d) ∙ a))
         on false d = steps-after o r (runs (r .order)) w (goes-runs f (k + 1) e (r .order)) (free (runs (r .order)) (λ u. u))
 
-        go : (y : Result) → r .result ≡ y → Steps g (k + 1) o (whereOver (λ o₁. elim (eqb (markAt k o₁) v) [ true ↦ x o₁ | false ↦ runs o₁ ]) (record { result = y; order = r .order; log = r .log }))
+        go : (y : Result) → r .result ≡ y
+            → Steps g (k + 1) o (whereOver (λ o₁. elim (eqb (markAt k o₁) v) [ true ↦ x o₁ | false ↦ runs o₁ ]) (record { result = y; order = r .order; log = r .log }))
         go running d = steps-as r running (λ q. absurd (false≢true q)) w
         go over d = on (eqb (markAt k (r .order)) v) refl
         go raising d = steps-as r raising (λ q. ap isRaising d) w
@@ -407,7 +415,8 @@ module _ (f : ℕ → ℕ) where
         go undoRaising d = steps-as r undoRaising (λ q. ap isRaising d) w
 
     -- what it makes of a step within it
-    scope-steps : (within : Acts) (k t : ℕ) (o : Order) (r : Outcome) → eqb (f k) 11 ≡ true → 3 ≤ count within → KnowsIn f within (k + 1) → k + 1 + sizes within ≤ length (o .marks) → Steps g (k + 1) o r
+    scope-steps : (within : Acts) (k t : ℕ) (o : Order) (r : Outcome) → eqb (f k) 11 ≡ true → 3 ≤ count within → KnowsIn f within (k + 1)
+        → k + 1 + sizes within ≤ length (o .marks) → Steps g (k + 1) o r
         → Steps g (k + 1) o (inScope k t within r)
     unfolding inScope
     scope-steps within k t o r q n y m w =
@@ -417,7 +426,8 @@ module _ (f : ℕ → ℕ) where
         (body-steps s (k + 1) (k + 1 + sizes within) h o r m w)
         (steps-either (ltb t (partAt 2 within (k + 1))) (fromFault s r) (fromUndo r) _ refl (fault-steps s (k + 1) (k + 1 + sizes within) h o r w) (undo-steps o r w))
 
-    combines-steps : (own : Own) (within : Acts) (k t : ℕ) (o : Order) (r : Outcome) → f k ≡ kind own → needs own ≤ count within → KnowsIn f within (k + 1) → k + 1 + sizes within ≤ length (o .marks)
+    combines-steps : (own : Own) (within : Acts) (k t : ℕ) (o : Order) (r : Outcome) → f k ≡ kind own → needs own ≤ count within → KnowsIn f within (k + 1)
+        → k + 1 + sizes within ≤ length (o .marks)
         → g k ≡ false → Steps g (k + 1) o r → Steps g (k + 1) o (combines own within k t r)
     unfolding combines needs kind
     combines-steps empty within k t o r e n y m q w = w
@@ -448,7 +458,8 @@ module _ (f : ℕ → ℕ) where
         }
 
     -- its mark is cleared, and nothing begins
-    idle-steps : (k : ℕ) (o : Order) (r : Outcome) → r .order .marks ≡ set (o .marks) k idle → ((j : ℕ) → hasBegan j (r .log) ≡ false) → ((j : ℕ) → g j ≡ true → j ≡ k) → Steps g (k + 1) o r
+    idle-steps : (k : ℕ) (o : Order) (r : Outcome) → r .order .marks ≡ set (o .marks) k idle → ((j : ℕ) → hasBegan j (r .log) ≡ false)
+        → ((j : ℕ) → g j ≡ true → j ≡ k) → Steps g (k + 1) o r
     idle-steps k o r d n h =
         record {
           truly = λ j x y. absurd (false≢true (sym (n j) ∙ y));
@@ -462,13 +473,15 @@ module _ (f : ℕ → ℕ) where
         stays : (j : ℕ) → Stay (o .marks) (r .order .marks) j
         stays j = subst (λ (ms : List ℕ). Stay (o .marks) ms j) (sym d) (stay-idle (o .marks) k j)
 
-    or-steps : (k : ℕ) (o : Order) (x : ℕ → Outcome) (v : Value) → ((j : ℕ) → g j ≡ true → j ≡ k) → ((n : ℕ) → Steps g (k + 1) o (x n)) → Steps g (k + 1) o (orRaises k o x v)
+    or-steps : (k : ℕ) (o : Order) (x : ℕ → Outcome) (v : Value) → ((j : ℕ) → g j ≡ true → j ≡ k) → ((n : ℕ) → Steps g (k + 1) o (x n))
+        → Steps g (k + 1) o (orRaises k o x v)
     unfolding some isBeganOf
     or-steps k o x fault h y = idle-steps k o (raises k o) refl (λ j. refl) h
     or-steps k o x (value n) h y = y n
 
     -- from marks that are as they were, but its own
-    own-steps : {e : ℕ} (k : ℕ) (o o₁ : Order) (r : Outcome) → g k ≡ true → ((j : ℕ) → g j ≡ true → j ≡ k) → length (o₁ .marks) ≡ length (o .marks) → ((j : ℕ) → (j ≡ k → ⊥) → Stay (o .marks) (o₁ .marks) j)
+    own-steps : {e : ℕ} (k : ℕ) (o o₁ : Order) (r : Outcome) → g k ≡ true → ((j : ℕ) → g j ≡ true → j ≡ k) → length (o₁ .marks) ≡ length (o .marks)
+        → ((j : ℕ) → (j ≡ k → ⊥) → Stay (o .marks) (o₁ .marks) j)
         → Goes f (k + 1) e o₁ r → (Up (r .order .marks) k → goesIn (f k) (getD (r .order .marks) k 0) (hasBegan (k + 1) (r .log)) ≡ true) → Steps g (k + 1) o r
     own-steps k o o₁ r q h l s w c =
         record {
@@ -485,7 +498,8 @@ module _ (f : ℕ → ℕ) where
         other : (j : ℕ) → g j ≡ false → j ≡ k → ⊥
         other j y d = false≢true (sym y ∙ subst (λ (i : ℕ). g i ≡ true) (sym d) q)
 
-    repeats-steps : (within : Acts) (k : ℕ) (o : Order) → f k ≡ 7 → 1 ≤ count within → Arms false within → KnowsIn f within (k + 1) → k + 1 + sizes within ≤ length (o .marks) → g k ≡ true → ((j : ℕ) → g j ≡ true → j ≡ k)
+    repeats-steps : (within : Acts) (k : ℕ) (o : Order) → f k ≡ 7 → 1 ≤ count within → Arms false within → KnowsIn f within (k + 1)
+        → k + 1 + sizes within ≤ length (o .marks) → g k ≡ true → ((j : ℕ) → g j ≡ true → j ≡ k)
         → Steps g (k + 1) o (repeats k within o)
     unfolding repeats goesIn
     repeats-steps within k o e n a y m q h =
@@ -499,7 +513,8 @@ module _ (f : ℕ → ℕ) where
         (λ u. rw (e, where-began (k + 1) (again k) (begunIn o₁ (beginPart 0 within (k + 1) (o₁ .marks))) (first-said within (k + 1) (o₁ .marks) a n)))
 
     -- its own step
-    itself-steps : (own : Own) (within : Acts) (k : ℕ) (o : Order) → f k ≡ kind own → needs own ≤ count within → Arms (eqb (kind own) 10) within → KnowsIn f within (k + 1) → k + 1 + sizes within ≤ length (o .marks)
+    itself-steps : (own : Own) (within : Acts) (k : ℕ) (o : Order) → f k ≡ kind own → needs own ≤ count within → Arms (eqb (kind own) 10) within
+        → KnowsIn f within (k + 1) → k + 1 + sizes within ≤ length (o .marks)
         → (acts (kind own) ≡ true → g k ≡ true) → ((j : ℕ) → g j ≡ true → (j ≡ k) × (acts (kind own) ≡ true)) → Steps g (k + 1) o (itself own within k o)
     unfolding itself needs least kind acts goesIn closing some isBeganOf
     itself-steps empty within k o e n a y m q h = still-steps (k + 1) o (λ j z. false≢true (h j z .1))
@@ -545,7 +560,8 @@ module _ (f : ℕ → ℕ) where
         }
 
   -- the step of an arm is its pick's, which goes inside with it
-  pick-steps : (g : ℕ → Bool) (k : ℕ) (o : Order) (r : Outcome) → f k ≡ 10 → k < length (o .marks) → ((j : ℕ) → g j ≡ false) → Steps g (k + 1) (marked k inside o) r → Steps (eqb k) (k + 1) o r
+  pick-steps : (g : ℕ → Bool) (k : ℕ) (o : Order) (r : Outcome) → f k ≡ 10 → k < length (o .marks) → ((j : ℕ) → g j ≡ false)
+      → Steps g (k + 1) (marked k inside o) r → Steps (eqb k) (k + 1) o r
   unfolding goesIn
   pick-steps g k o r e l h w =
       record {
@@ -561,7 +577,8 @@ module _ (f : ℕ → ℕ) where
       }
 
   -- what a pick is when one of its arms acts
-  arms-here : (own : Own) (within : Acts) (k t : ℕ) (o : Order) (b : Bool) → (eqb (kind own) 10 && isPart within (k + 1) t) ≡ b → arms own within k t o ≡ cond b (marked k inside o) o
+  arms-here : (own : Own) (within : Acts) (k t : ℕ) (o : Order) (b : Bool) → (eqb (kind own) 10 && isPart within (k + 1) t) ≡ b
+      → arms own within k t o ≡ cond b (marked k inside o) o
   unfolding arms
   arms-here own within k t o b e = rw e
 
@@ -570,7 +587,8 @@ module _ (f : ℕ → ℕ) where
   not-around within k t = decide (ownsAmong within (k + 1) t k) (λ e. let z = owns-in-from t k within (k + 1) e in absurd (omega arith)) (λ e. e)
 
   -- where it stands within, by what stands there
-  within-steps : (own : Own) (within : Acts) (k t : ℕ) (o : Order) → f k ≡ kind own → needs own ≤ count within → Arms (eqb (kind own) 10) within → KnowsIn f within (k + 1) → k + 1 + sizes within ≤ length (o .marks)
+  within-steps : (own : Own) (within : Acts) (k t : ℕ) (o : Order) → f k ≡ kind own → needs own ≤ count within → Arms (eqb (kind own) 10) within
+      → KnowsIn f within (k + 1) → k + 1 + sizes within ≤ length (o .marks)
       → (k ≡ t → ⊥) → ((o₁ : Order) → length (o₁ .marks) ≡ length (o .marks) → Steps (ownsAmong within (k + 1) t) (k + 1) o₁ (stepAmong within (k + 1) t o₁))
       → Steps (ownsIn (act own within) k t) (k + 1) o (combines own within k t (stepAmong within (k + 1) t (arms own within k t o)))
   within-steps own within k t o e n a y m i w =
@@ -583,7 +601,8 @@ module _ (f : ℕ → ℕ) where
       (λ d. subst (λ (o₁ : Order). Steps (ownsIn (act own within) k t) (k + 1) o (combines own within k t (stepAmong within (k + 1) t o₁))) (sym (arms-here own within k t o false d))
       (steps-owned (ownsAmong within (k + 1) t) (ownsIn (act own within) k t) (λ j. owns-within t j own within k i d) (combined o refl)))
     where
-      combined : (o₁ : Order) → length (o₁ .marks) ≡ length (o .marks) → Steps (ownsAmong within (k + 1) t) (k + 1) o₁ (combines own within k t (stepAmong within (k + 1) t o₁))
+      combined : (o₁ : Order) → length (o₁ .marks) ≡ length (o .marks)
+          → Steps (ownsAmong within (k + 1) t) (k + 1) o₁ (combines own within k t (stepAmong within (k + 1) t o₁))
       combined o₁ l = combines-steps (ownsAmong within (k + 1) t) own within k t o₁ (stepAmong within (k + 1) t o₁) e n y (omega arith) (not-around within k t) (w o₁ l)
 
   mutual
@@ -644,7 +663,8 @@ module _ (f : ℕ → ℕ) where
         r : Outcome
         r = stepRoot p t o
 
-        go : (e : End) → isLive (movedTo r e .order) ≡ true → Steps (ownsAt p t) 0 o (record { result = running; order = movedTo r e .order; log = movedTo r e .log })
+        go : (e : End) → isLive (movedTo r e .order) ≡ true
+            → Steps (ownsAt p t) 0 o (record { result = running; order = movedTo r e .order; log = movedTo r e .log })
         go None v = steps-as (ownsAt p t) r running (λ q. absurd (false≢true q)) (root-steps t o m)
         go Well v = absurd (false≢true v)
         go Handled v = absurd (false≢true v)

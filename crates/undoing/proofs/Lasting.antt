@@ -46,7 +46,8 @@ module _ (f : ℕ → ℕ) where
   part-within (more a l) c zero h = (omega arith, omega arith)
   part-within (more a l) c (suc i) h = let r = part-within l (c + size a) i (omega arith) in (omega arith, omega arith)
 
-  pub part-began : {l : Acts} {c : ℕ} → KnowsIn f l c → (i : ℕ) → i < count l → (ms : List ℕ) → c + sizes l ≤ length ms → Began f c (sizes l) ms (beginPart i l c ms)
+  pub part-began : {l : Acts} {c : ℕ} → KnowsIn f l c → (i : ℕ) → i < count l → (ms : List ℕ) → c + sizes l ≤ length ms
+      → Began f c (sizes l) ms (beginPart i l c ms)
   unfolding beginPart
   part-began {l} {c} y i h ms m = let r = part-within l c i h in began-wider f (begin-began f (part-knows y i h) ms (omega arith)) (r .0) (r .1)
 
@@ -62,7 +63,8 @@ module _ (f : ℕ → ℕ) where
       go true b d = b
       go false b d = d
 
-  either-began : {k n : ℕ} {ms : List ℕ} (v : Bool) (x y z : Begun) → z ≡ elim v [ true ↦ x | false ↦ y ] → (v ≡ true → Began f k n ms x) → Began f k n ms y → Began f k n ms z
+  either-began : {k n : ℕ} {ms : List ℕ} (v : Bool) (x y z : Begun) → z ≡ elim v [ true ↦ x | false ↦ y ] → (v ≡ true → Began f k n ms x) → Began f k n ms y
+      → Began f k n ms z
   either-began {k} {n} {ms} true x y z e b d = subst (λ (r : Begun). Began f k n ms r) (sym e) (b refl)
   either-began {k} {n} {ms} false x y z e b d = subst (λ (r : Begun). Began f k n ms r) (sym e) d
 
@@ -117,7 +119,8 @@ module _ (f : ℕ → ℕ) where
   unfolding some
   goes-runs b e o = record { grows = λ j x h u. u; truly = λ j x h. absurd (false≢true h); range = λ j h. absurd (false≢true h); stays = λ j y h. stay-still (o .marks) j; long = refl; calm = refl }
 
-  pub goes-where : {b e : ℕ} {o : Order} (g : Order → Outcome) (r : Outcome) → Goes b e o r → ((o₁ : Order) → length (o₁ .marks) ≡ length (o .marks) → Goes b e o₁ (g o₁)) → Goes b e o (whereOver g r)
+  pub goes-where : {b e : ℕ} {o : Order} (g : Order → Outcome) (r : Outcome) → Goes b e o r
+      → ((o₁ : Order) → length (o₁ .marks) ≡ length (o .marks) → Goes b e o₁ (g o₁)) → Goes b e o (whereOver g r)
   goes-where {b} {e} {o} g r w h = go (r .result) refl
     where
       same : (x : Result) → r .result ≡ x → Goes b e o (record { result = x; order = r .order; log = r .log })
@@ -250,7 +253,8 @@ module _ (f : ℕ → ℕ) where
     part-goes o = goes-either (eqb (markOf (s .name) o) handling) (ends s o) (runs o) (partOver s o) refl (ends-goes o) (goes-runs b e o)
 
   -- A scope that stands at k has its parts beyond it.
-  pub scope-within : {within : Acts} {k : ℕ} → eqb (f k) 11 ≡ true → 3 ≤ count within → KnowsIn f within (k + 1) → Within (scopeAt k within) (k + 1) (k + 1 + sizes within)
+  pub scope-within : {within : Acts} {k : ℕ} → eqb (f k) 11 ≡ true → 3 ≤ count within → KnowsIn f within (k + 1)
+      → Within (scopeAt k within) (k + 1) (k + 1 + sizes within)
   scope-within {within} {k} q n y =
       let b = part-within within (k + 1) 0 (omega arith) in
       let g = part-within within (k + 1) 1 (omega arith) in
@@ -288,7 +292,8 @@ module _ (f : ℕ → ℕ) where
       }
 
   -- a scope withdraws
-  withdraws-halts : {k n : ℕ} (s : Scope) (o : Order) (r : definitions.Stopped) → eqb (f k) 11 ≡ true → Within s (k + 1) (k + 1 + n) → k + 1 + n ≤ length (o .marks)
+  withdraws-halts : {k n : ℕ} (s : Scope) (o : Order) (r : definitions.Stopped) → eqb (f k) 11 ≡ true → Within s (k + 1) (k + 1 + n)
+      → k + 1 + n ≤ length (o .marks)
       → Halts (k + 1) n (marked k halted o) r → Halts k (1 + n) o (withdraws k s r)
   unfolding withdraws some isBeganOf
   withdraws-halts {k} {n} s o r g h m w =
@@ -305,12 +310,14 @@ module _ (f : ℕ → ℕ) where
         long = v .long ∙ (w .long ∙ length-set (o .marks) k halted);
       }
 
-  halts-either : {k n : ℕ} {o : Order} (v : Bool) (x y z : definitions.Stopped) → z ≡ elim v [ true ↦ x | false ↦ y ] → (v ≡ true → Halts k n o x) → (v ≡ false → Halts k n o y) → Halts k n o z
+  halts-either : {k n : ℕ} {o : Order} (v : Bool) (x y z : definitions.Stopped) → z ≡ elim v [ true ↦ x | false ↦ y ] → (v ≡ true → Halts k n o x)
+      → (v ≡ false → Halts k n o y) → Halts k n o z
   halts-either {k} {n} {o} true x y z e h g = subst (λ (r : definitions.Stopped). Halts k n o r) (sym e) (h refl)
   halts-either {k} {n} {o} false x y z e h g = subst (λ (r : definitions.Stopped). Halts k n o r) (sym e) (g refl)
 
   -- one after the other
-  also-halts : {c n m : ℕ} (o : Order) (g : Order → definitions.Stopped) (r : definitions.Stopped) → Halts c n o r → Halts (c + n) m (r .order) (g (r .order)) → Halts c (n + m) o (alsoStopped g r)
+  also-halts : {c n m : ℕ} (o : Order) (g : Order → definitions.Stopped) (r : definitions.Stopped) → Halts c n o r → Halts (c + n) m (r .order) (g (r .order))
+      → Halts c (n + m) o (alsoStopped g r)
   also-halts o g r w v =
       record {
         below = λ j x y u. v .below j x (omega arith) (w .below j x y u);

@@ -32,7 +32,8 @@ module _ (lead : ℕ → Lead) where
   -- a tree whose leads are known
   mutual
     pub data Leads : Act → ℕ → Type 0 where
-      leads-part : {own : Own} {within : Acts} {k : ℕ} → isScope own ≡ false → least own ≤ count within → LeadsIn within (k + 1) (leadOf own k) → Leads (act own within) k
+      leads-part : {own : Own} {within : Acts} {k : ℕ} → isScope own ≡ false → least own ≤ count within → LeadsIn within (k + 1) (leadOf own k)
+          → Leads (act own within) k
       leads-scope : {b g u : Act} {k : ℕ} → lead (k + 1) ≡ together k → lead (k + 1 + size b) ≡ alone → lead (k + 1 + size b + size g) ≡ alone
           → Leads b (k + 1) → Leads g (k + 1 + size b) → Leads u (k + 1 + size b + size g) → Leads (act scope (trio b g u)) k
 
@@ -42,7 +43,8 @@ module _ (lead : ℕ → Lead) where
 
   module _ (t : ℕ) where
     -- with more events it may still
-    lead-more : (q : Lead) (j : ℕ) (l m : List Event) → ((i : ℕ) → hasBegan i l ≡ true → hasBegan i m ≡ true) → mayLead q t j l ≡ true → mayLead q t j m ≡ true
+    lead-more : (q : Lead) (j : ℕ) (l m : List Event) → ((i : ℕ) → hasBegan i l ≡ true → hasBegan i m ≡ true) → mayLead q t j l ≡ true
+        → mayLead q t j m ≡ true
     unfolding mayLead
     lead-more alone j l m f h = refl
     lead-more (together k) j l m f h = f k h
@@ -103,10 +105,12 @@ module _ (lead : ℕ → Lead) where
     unfolding mayLead
     led-alone k q e = led-own k q alone [] e (λ j. refl) (led-none alone (k + 1))
 
-    led-through : (k : ℕ) (q r : Lead) (b : Begun) → lead k ≡ q → ((j : ℕ) (l : List Event) → mayLead r t j (began k ∷ l) ≡ true) → Led r (k + 1) (b .log) → Led q k (itsBeginning k (throughout k b) .log)
+    led-through : (k : ℕ) (q r : Lead) (b : Begun) → lead k ≡ q → ((j : ℕ) (l : List Event) → mayLead r t j (began k ∷ l) ≡ true) → Led r (k + 1) (b .log)
+        → Led q k (itsBeginning k (throughout k b) .log)
     led-through k q r b e f w = go (b .over) (b .marks) (b .log) w
       where
-        go : (v : Bool) (ms : List ℕ) (l : List Event) → Led r (k + 1) l → Led q k (itsBeginning k (throughout k (record { marks = ms; over = v; log = l })) .log)
+        go : (v : Bool) (ms : List ℕ) (l : List Event) → Led r (k + 1) l
+            → Led q k (itsBeginning k (throughout k (record { marks = ms; over = v; log = l })) .log)
         go true ms l w = led-own k q r l e (λ j. f j l) w
         go false ms l w = led-own k q r l e (λ j. f j l) w
 
@@ -114,7 +118,8 @@ module _ (lead : ℕ → Lead) where
     unfolding mayLead some isBeganOf
     led-around k q b e w = go (b .over) (b .marks) (b .log) w
       where
-        go : (v : Bool) (ms : List ℕ) (l : List Event) → Led (together k) (k + 1) l → Led q k (itsBeginning k (around k (record { marks = ms; over = v; log = l })) .log)
+        go : (v : Bool) (ms : List ℕ) (l : List Event) → Led (together k) (k + 1) l
+            → Led q k (itsBeginning k (around k (record { marks = ms; over = v; log = l })) .log)
         go true ms l w = led-own k q (together k) l e (λ j. rw (eq-eqb k k refl)) w
         go false ms l w = led-own k q (together k) l e (λ j. rw (eq-eqb k k refl)) w
 
@@ -126,7 +131,8 @@ module _ (lead : ℕ → Lead) where
         go true = led-append (b .log) (later (b .marks) .log) w v
         go false = w
 
-    own-led : (own : Own) (within : Acts) (k : ℕ) → isScope own ≡ false → (q : Lead) → lead k ≡ q → (ms : List ℕ) → ((ns : List ℕ) → Led (leadOf own k) (k + 1) (beginInTurn within (k + 1) ns .log))
+    own-led : (own : Own) (within : Acts) (k : ℕ) → isScope own ≡ false → (q : Lead) → lead k ≡ q → (ms : List ℕ)
+        → ((ns : List ℕ) → Led (leadOf own k) (k + 1) (beginInTurn within (k + 1) ns .log))
         → ((ns : List ℕ) → Led (leadOf own k) (k + 1) (beginAll within (k + 1) ns .log)) → Led q k (begin (act own within) k ms .log)
     unfolding begin kind mayLead some isBeganOf
     own-led empty within k s q e ms x y = led-alone k q e
@@ -303,7 +309,8 @@ module _ (lead : ℕ → Lead) where
     scope-part u y hb hg = record { body = hb; fault = hg; free = y }
 
     -- stopping
-    halt-fine : (v : Bool) (x y z : definitions.Stopped) → z ≡ elim v [ true ↦ x | false ↦ y ] → (v ≡ true → Fine (x .log)) → (v ≡ false → Fine (y .log)) → Fine (z .log)
+    halt-fine : (v : Bool) (x y z : definitions.Stopped) → z ≡ elim v [ true ↦ x | false ↦ y ] → (v ≡ true → Fine (x .log)) → (v ≡ false → Fine (y .log))
+        → Fine (z .log)
     halt-fine true x y z e w v = subst (λ (r : definitions.Stopped). Fine (r .log)) (sym e) (w refl)
     halt-fine false x y z e w v = subst (λ (r : definitions.Stopped). Fine (r .log)) (sym e) (v refl)
 
@@ -384,7 +391,8 @@ module _ (lead : ℕ → Lead) where
     unfolding joins
     joins-fine k within o = choose-fine (quiet (k + 1) (sizes within) (o .marks)) (finishes k o) (runs o) (joins k within o) refl fine-none fine-none
 
-    combines-fine : (own : Own) (within : Acts) (k : ℕ) (r : Outcome) → isScope own ≡ false → LeadsIn within (k + 1) (leadOf own k) → k + 1 ≤ t → Fine (r .log) → Fine (combines own within k t r .log)
+    combines-fine : (own : Own) (within : Acts) (k : ℕ) (r : Outcome) → isScope own ≡ false → LeadsIn within (k + 1) (leadOf own k) → k + 1 ≤ t
+        → Fine (r .log) → Fine (combines own within k t r .log)
     unfolding combines kind mayLead
     combines-fine empty within k r s y n w = w
     combines-fine (send a b vs) within k r s y n w = w
@@ -408,11 +416,13 @@ module _ (lead : ℕ → Lead) where
     or-fine k o x (value n) h = h n
 
     -- what begins in its step
-    step-part : {within : Acts} {k : ℕ} → k ≡ t → LeadsIn within (k + 1) (inStep k) → (i : ℕ) → i < count within → (ms : List ℕ) → Fine (beginPart i within (k + 1) ms .log)
+    step-part : {within : Acts} {k : ℕ} → k ≡ t → LeadsIn within (k + 1) (inStep k) → (i : ℕ) → i < count within → (ms : List ℕ)
+        → Fine (beginPart i within (k + 1) ms .log)
     unfolding mayLead
     step-part {k = k} e y i n ms = led-fine (λ j b. eq-eqb k t e) (part-led y i n ms)
 
-    itself-fine : (own : Own) (within : Acts) (k : ℕ) (o : Order) → isScope own ≡ false → least own ≤ count within → LeadsIn within (k + 1) (leadOf own k) → k ≡ t → Fine (itself own within k o .log)
+    itself-fine : (own : Own) (within : Acts) (k : ℕ) (o : Order) → isScope own ≡ false → least own ≤ count within → LeadsIn within (k + 1) (leadOf own k)
+        → k ≡ t → Fine (itself own within k o .log)
     unfolding itself kind least isBeganOf repeats
     itself-fine empty within k o s n y e = fine-none
     itself-fine (send a b vs) within k o s n y e = decide (allBound o vs) (λ d. rw d fine-none) (λ d. rw d (fine-event (raised k) [] (λ j. refl) fine-none))
@@ -481,7 +491,8 @@ module _ (lead : ℕ → Lead) where
           case-fine (ltb t (c + size a)) (stepIn a c t o) (stepAmong l (c + size a) t o) _ refl (λ d. step-fine x o m) (λ d. among-fine y o (ltb-false t (c + size a) d))
 
     -- A step of an order.
-    pub order-fine : (p : Plan) → Leads (p .body) 0 → Leads (p .fault) (size (p .body)) → lead (size (p .body)) ≡ alone → (o : Order) → Fine (stepOrder p t o .log)
+    pub order-fine : (p : Plan) → Leads (p .body) 0 → Leads (p .fault) (size (p .body)) → lead (size (p .body)) ≡ alone → (o : Order)
+        → Fine (stepOrder p t o .log)
     unfolding stepOrder stepRoot movedTo isBeganOf
     order-fine p hb hf e o = go (endOf (stepRoot p t o))
       where

@@ -103,7 +103,8 @@ module _ (f : ℕ → ℕ) where
   -- a tree whose kinds f knows
   mutual
     pub data Knows : Act → ℕ → Type 0 where
-      knows : {own : Own} {within : Acts} {k : ℕ} → f k ≡ kind own → needs own ≤ count within → Arms (eqb (kind own) 10) within → KnowsIn within (k + 1) → Knows (act own within) k
+      knows : {own : Own} {within : Acts} {k : ℕ} → f k ≡ kind own → needs own ≤ count within → Arms (eqb (kind own) 10) within → KnowsIn within (k + 1)
+          → Knows (act own within) k
 
     pub data KnowsIn : Acts → ℕ → Type 0 where
       knows-none : {c : ℕ} → KnowsIn none c
@@ -137,7 +138,8 @@ module _ (f : ℕ → ℕ) where
       }
 
   -- a sequence or a flow, which does not last
-  throughout-began : (k n : ℕ) (ms : List ℕ) (r : Begun) → lasts (f k) ≡ false → k < length ms → Began (k + 1) n (set ms k active) r → Began k (1 + n) ms (itsBeginning k (throughout k r))
+  throughout-began : (k n : ℕ) (ms : List ℕ) (r : Begun) → lasts (f k) ≡ false → k < length ms → Began (k + 1) n (set ms k active) r
+      → Began k (1 + n) ms (itsBeginning k (throughout k r))
   unfolding some isBeganOf
   throughout-began k n ms r z h b = go (r .over) (r .marks) (r .log) b
     where
@@ -164,7 +166,8 @@ module _ (f : ℕ → ℕ) where
           }
 
   -- a scope, whose mark stays set
-  around-began : (k n : ℕ) (ms : List ℕ) (r : Begun) → lasts (f k) ≡ true → k < length ms → Began (k + 1) n (set ms k active) r → Began k (1 + n) ms (itsBeginning k (around k r))
+  around-began : (k n : ℕ) (ms : List ℕ) (r : Begun) → lasts (f k) ≡ true → k < length ms → Began (k + 1) n (set ms k active) r
+      → Began k (1 + n) ms (itsBeginning k (around k r))
   unfolding some isBeganOf
   around-began k n ms r z h b = go (r .over) (r .marks) (r .log) b
     where
@@ -217,7 +220,8 @@ module _ (f : ℕ → ℕ) where
         long = d .long ∙ b .long;
       }
 
-  turn-began : (c n m : ℕ) (ms : List ℕ) (later : List ℕ → Begun) (r : Begun) → Began c n ms r → Began (c + n) m (r .marks) (later (r .marks)) → Began c (n + m) ms (inTurn later r)
+  turn-began : (c n m : ℕ) (ms : List ℕ) (later : List ℕ → Begun) (r : Begun) → Began c n ms r → Began (c + n) m (r .marks) (later (r .marks))
+      → Began c (n + m) ms (inTurn later r)
   turn-began c n m ms later r b d = go (r .over) refl
     where
       go : (v : Bool) → r .over ≡ v

@@ -16,7 +16,7 @@ use Rattle.order.specs.Lists.{every, some}
 use Rattle.order.specs.State.{idle, inside, markAt, isLive, noOrder}
 use Rattle.order.specs.Event.{Event}
 use Rattle.order.specs.Scope.{isScope}
-use Rattle.order.specs.Acting.{isPart}
+use Rattle.order.specs.Acting.{isPart, startedOrder}
 use Rattle.machine.specs.Calls.{loaded, post, collect, Stepped, step, Call, posting, collecting, stepping}
 use Rattle.undoing.specs.History.{logOf}
 use Rattle.undoing.specs.Ties.{isTaken}
@@ -74,10 +74,12 @@ pub record Taken : Type 0 where
 abbrev pub markBefore : (activity : ℕ) → Taken → ℕ
 markBefore k x = cond (isLive (x .before)) (markAt k (x .before)) idle
 
--- No beginning is only claimed: an activity that a step of a live order logs as begun, and that lasts, is marked afterwards. (A start receive begins and
--- has its step at once.)
+-- No beginning is only claimed: an activity that a step logs as begun, and that lasts, is marked afterwards; or, with an order that starts, as it starts: a start
+-- receive begins and has its step at once.
 unfoldable pub isMarked : Plan → Taken → (activity : ℕ) → Bool
-isMarked p x k = not (isLive (x .before)) || (not (lasts (kindAt p k) && hasBegan k (x .log)) || not (eqb (markAt k (x .after)) idle))
+isMarked p x k =
+    not (lasts (kindAt p k) && hasBegan k (x .log))
+    || (not (eqb (markAt k (x .after)) idle) || (not (isLive (x .before)) && not (eqb (markAt k (startedOrder p)) idle)))
 
 -- in its own step a choose goes inside, as a pick does in that of its arm, and a repeat begins its body
 unfoldable pub goesIn : (kind after : ℕ) → (bodyBegan : Bool) → Bool
