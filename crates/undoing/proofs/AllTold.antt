@@ -14,6 +14,7 @@ use Rattle.machine.specs.Calls.{endNumber, loaded}
 use Rattle.undoing.specs.Demand3.{Inner, scopesOf, closingsOf, undoneOf, hasTurned, isLeft, mayTurn, Demand3}
 use Rattle.undoing.specs.Ties.{orderAfter, pastAfter, isName, LiveTold, isTurned, MarksTold, remembered, ListsTold, StepsTold, FaultsTold, EndsTold, PlacesTold, NeverStuck, GoingOn}
 use Rattle.undoing.specs.Orderly.{Orderly}
+use Rattle.undoing.specs.Begun.{BegunTruly, BegunAll, BegunInTurn}
 use Rattle.undoing.specs.UndoneRight.{sameBool, eventCode, sameEvents, sameEnds, namesOf, markTold, listTold, broken, UndoneRight}
 use Rattle.undoing.proofs.Parts.{decide, every-so, alike-itself}
 use Rattle.undoing.proofs.Accounts.{numbers-are-names}
@@ -22,6 +23,7 @@ use Rattle.undoing.proofs.Told.{live-told, marks-told, lists-told, plac
 use Rattle.undoing.proofs.Stepped.{steps-told}
 use Rattle.undoing.proofs.Heeding.{faults-told}
 use Rattle.undoing.proofs.Ending.{ends-told}
+use Rattle.undoing.proofs.BegunTold.{begun-truly, begun-all, begun-in-turn}
 use Rattle.undoing.proofs.Awaiting.{never-stuck}
 use Rattle.undoing.proofs.Going.{going-on}
 
@@ -59,7 +61,7 @@ module _ (p : Plan) (o : Order) (past : List Event) where
 
 -- The one statement.
 pub undone-right : UndoneRight
-unfolding UndoneRight broken Demand3 Orderly FaultsTold StepsTold EndsTold LiveTold MarksTold ListsTold PlacesTold GoingOn NeverStuck
+unfolding UndoneRight broken Demand3 Orderly FaultsTold StepsTold EndsTold BegunTruly BegunAll BegunInTurn LiveTold MarksTold ListsTold PlacesTold GoingOn NeverStuck
 undone-right bytes p next e calls slot t =
     rw (
       demanded.demand3 bytes p next e calls slot t,
@@ -67,6 +69,9 @@ undone-right bytes p next e calls slot t =
       faults-told bytes p next e calls slot t,
       events-same _ _ (steps-told bytes p next e calls slot t),
       ends-same _ _ (ends-told bytes p next e calls slot t),
+      begun-truly bytes p next e calls slot t,
+      begun-all bytes p next e calls slot t,
+      begun-in-turn bytes p next e calls slot t,
       bools-same _ _ (live-told bytes p next e calls slot t),
     )
     (decide (isLive o)

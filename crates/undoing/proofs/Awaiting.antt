@@ -23,7 +23,7 @@ use Rattle.undoing.proofs.Scoping.{scope-live, scope-done, scope-turned
 use Rattle.undoing.proofs.Orders.{isArm, least}
 use Rattle.undoing.proofs.Planning.{Formed, formed-part, formed-scope, FormedIn, formed-none, formed-more, Promised, promised}
 use Rattle.undoing.proofs.Roots.{Standing}
-use Rattle.undoing.proofs.Demanded.{Slot, slot-free, slot-live}
+use Rattle.undoing.proofs.Slots.{Slot, slot-free, slot-live}
 use Rattle.undoing.proofs.Told.{slot-after}
 
 -- whether something in activity k awaits its step, by its mark: a pick, for its arms

@@ -1,55 +1,64 @@
--- What a step logs as begun is marked, over any run. Assumes nothing.
-use Prim.Native.Nat.{ℕ, _+_, _≤_, _<_}
+-- What a step logs as begun is marked, and what is marked has begun, over any run. Assumes nothing.
+use Prim.Native.Nat.{ℕ, zero, suc, _+_, _≤_, _<_}
 use native.Mathlib.Omega.{arith}
 use mathlib.Core.Path.{_≡_, refl, sym, ap, subst, _∙_}
-use mathlib.Core.Bool.{Bool, true, false, not, false≢true}
-use mathlib.Core.List.{List, []}
-use lib.ListN.{length, length-replicate}
-use lib.Seq.{take-append-seam}
+use mathlib.Core.Bool.{Bool, true, false, cond, not, _&&_, _||_, false≢true, or-true}
+use mathlib.Core.List.{List, [], _∷_, _++_}
+use lib.ListN.{length, getD, length-replicate}
 use lib.Dec.{eqb, ltb}
-use borrow.Author.Tests.{eq-eqb, ne-eqb, lt-ltb, le-ltb}
-use Rattle.plan.specs.Found.{Found}
+use borrow.Author.Tests.{eqb-true, eq-eqb, ne-eqb, lt-ltb, le-ltb, not-true}
+use Rattle.plan.specs.Found.{Found, found}
+use Rattle.plan.specs.Read.{readPlan}
 use Rattle.plan.specs.Tree.{Own, scope, kind, Act, act, Acts, none, more, Plan, size, sizes, count}
 use Rattle.plan.proofs.Limits.{accepted-is-within}
 use Rattle.order.specs.declared.Order.{Order}
+use Rattle.machine.specs.declared.Message.{Message}
 use Rattle.machine.specs.declared.State.{State}
-use Rattle.order.specs.State.{idle, markAt, isLive, noOrder}
+use Rattle.machine.specs.declared.Tally.{Tally}
+use Rattle.order.specs.State.{Name, root, inner, idle, markAt, isLive, noOrder}
 use Rattle.machine.specs.State.{fresh}
-use Rattle.order.specs.Lists.{some}
-use Rattle.order.specs.Event.{Event}
+use Rattle.order.specs.Lists.{every, some}
+use Rattle.order.specs.Event.{Event, started, began, closed, faulted, stopped, ended, raised, left}
+use Rattle.order.specs.declared.Way.the-variants.{Running as running}
 use Rattle.order.specs.Scope.{isScope}
-use Rattle.machine.specs.Calls.{loadedAs, load, Stepped, step}
-use Rattle.undoing.specs.History.{logOf, history}
-use Rattle.undoing.specs.Demand3.{noneNow}
-use Rattle.undoing.specs.Ties.{stateAfter}
-use Rattle.undoing.specs.Begun.{lasts, lastsIn, lastsAmong, lastsAt, hasBegan, BegunTruly}
+use Rattle.order.specs.Acting.{Moved, stepOrder, begunOrder, startedOrder}
+use Rattle.machine.specs.Calls.{loadedAs, load, post, collect, Stepped, doingAt, step, Call, posting, collecting, stepping}
+use Rattle.undoing.specs.History.{logOf}
+use Rattle.undoing.specs.Demand3.{Inner, scopesIn, scopesAmong, scopesOf, isBegin, isFinish, isLeft, noneNow}
+use Rattle.undoing.specs.Ties.{isName, isTaken}
+use Rattle.undoing.specs.Orderly.{isBeganOf}
+use Rattle.undoing.specs.Begun.{Lead, alone, together, leadOf, leadIn, leadAmong, leadParts, leadAt, isLed, BegunInTurn, kindIn, kindAmong, kindAt, lasts, ownsAt, hasBegan, Taken, markBefore, isMarked, goesIn, mayBe, hasBegun, numbers, ofEach, takenBy, stepsTaken, BegunTruly, BegunAll}
+use Rattle.undoing.proofs.Parts.{decide, every-append, some-append}
 use Rattle.undoing.proofs.Marks.{trio}
 use Rattle.undoing.proofs.Orders.{least, onto}
 use Rattle.undoing.proofs.Places.{first-of, second-of}
-use Rattle.undoing.proofs.Planning.{Formed, formed-part, formed-scope, FormedIn, formed-none, formed-more, Promised, promised}
-use Rattle.undoing.proofs.Demanded.{slot-free, fresh-order}
-use Rattle.undoing.proofs.Told.{sanely}
-use Rattle.undoing.proofs.Happening.{orderIn, Happens, nothing-here, goes-here, starts-here, step-happens}
-use Rattle.undoing.proofs.Truly.{needs, Knows, knows, KnowsIn, knows-none, knows-more}
-use Rattle.undoing.proofs.Lasting.{order-truly}
+use Rattle.undoing.proofs.Planning.{Formed, formed-part, formed-scope, FormedIn, formed-none, formed-more, scopes-is, Promised, promised}
+use Rattle.undoing.proofs.Roots.{Awaited}
+use Rattle.undoing.proofs.Slots.{Slot, standing-live, Alike, taking-alike, idle-marks, order-starts, post-same, collect-same, Sane, same-sane, fresh-sane}
+use Rattle.undoing.proofs.Happening.{orderIn, withMessage, Happens, nothing-here, goes-here, starts-here, step-happens}
+use Rattle.undoing.proofs.Demanded.{step-after}
+use Rattle.undoing.proofs.Told.{slot-marks}
+use Rattle.undoing.proofs.Truly.{neither, began-in, began-neither, Up, stay-up, Arms, needs, Knows, knows, KnowsIn, knows-none, knows-more, Began, begin-began}
+use Rattle.undoing.proofs.Leading.{Leads, leads-part, leads-scope, LeadsIn, leads-none, leads-more, Fine, fine-append, fine-event, begin-fine, order-fine}
+use Rattle.undoing.proofs.Keeping.{Steps, steps-from, order-steps, awaited-up}
 
--- A tree of its form, whose numbers f knows as the tree does.
-module _ (f : ℕ → Bool) where
-  lasts-here : (own : Own) (within : Acts) (k : ℕ) → lastsIn (act own within) k k ≡ lasts own
-  unfolding lastsIn
-  lasts-here own within k = first-of (eqb k k) (lasts own) (lastsAmong within (k + 1) k) (lastsIn (act own within) k k) refl (eq-eqb k k refl)
+-- A tree of its form, whose kinds f knows as the tree does.
+module _ (f : ℕ → ℕ) where
+  kind-here : (own : Own) (within : Acts) (k : ℕ) → kindIn (act own within) k k ≡ kind own
+  unfolding kindIn
+  kind-here own within k = first-of (eqb k k) (kind own) (kindAmong within (k + 1) k) (kindIn (act own within) k k) refl (eq-eqb k k refl)
 
-  lasts-within : (own : Own) (within : Acts) (k t : ℕ) → k < t → lastsIn (act own within) k t ≡ lastsAmong within (k + 1) t
-  unfolding lastsIn
-  lasts-within own within k t h = second-of (eqb k t) (lasts own) (lastsAmong within (k + 1) t) (lastsIn (act own within) k t) refl (ne-eqb k t (omega arith))
+  kind-within : (own : Own) (within : Acts) (k t : ℕ) → k < t → kindIn (act own within) k t ≡ kindAmong within (k + 1) t
+  unfolding kindIn
+  kind-within own within k t h = second-of (eqb k t) (kind own) (kindAmong within (k + 1) t) (kindIn (act own within) k t) refl (ne-eqb k t (omega arith))
 
-  lasts-first : (a : Act) (l : Acts) (c t : ℕ) → t < c + size a → lastsAmong (more a l) c t ≡ lastsIn a c t
-  unfolding lastsIn
-  lasts-first a l c t h = first-of (ltb t (c + size a)) (lastsIn a c t) (lastsAmong l (c + size a) t) (lastsAmong (more a l) c t) refl (lt-ltb t (c + size a) h)
+  kind-first : (a : Act) (l : Acts) (c t : ℕ) → t < c + size a → kindAmong (more a l) c t ≡ kindIn a c t
+  unfolding kindIn
+  kind-first a l c t h = first-of (ltb t (c + size a)) (kindIn a c t) (kindAmong l (c + size a) t) (kindAmong (more a l) c t) refl (lt-ltb t (c + size a) h)
 
-  lasts-later : (a : Act) (l : Acts) (c t : ℕ) → c + size a ≤ t → lastsAmong (more a l) c t ≡ lastsAmong l (c + size a) t
-  unfolding lastsIn
-  lasts-later a l c t h = second-of (ltb t (c + size a)) (lastsIn a c t) (lastsAmong l (c + size a) t) (lastsAmong (more a l) c t) refl (le-ltb t (c + size a) h)
+  kind-later : (a : Act) (l : Acts) (c t : ℕ) → c + size a ≤ t → kindAmong (more a l) c t ≡ kindAmong l (c + size a) t
+  unfolding kindIn
+  kind-later a l c t h = second-of (ltb t (c + size a)) (kindIn a c t) (kindAmong l (c + size a) t) (kindAmong (more a l) c t) refl (le-ltb t (c + size a) h)
 
   needs-part : (own : Own) (n : ℕ) → isScope own ≡ false → least own ≤ n → needs own ≤ n
   unfolding needs
@@ -59,62 +68,394 @@ module _ (f : ℕ → Bool) where
   unfolding needs count kind
   needs-scope b g u = omega arith
 
+  arms-in : {h r : Bool} {l : Acts} → FormedIn h r l → Arms r l
+  unfolding kind
+  arms-in formed-none = tt
+  arms-in (formed-more (formed-part s i g y) z) = (i, arms-in z)
+  arms-in (formed-more (formed-scope x y w) z) = (refl, arms-in z)
+
+  -- no part of a scope is an arm
+  not-arms : {h : Bool} {a : Act} (l : Acts) → Formed h false a → Arms false l → Arms false (more a l)
+  unfolding kind
+  not-arms l (formed-part s i g y) z = (i, z)
+  not-arms l (formed-scope x y w) z = (refl, z)
+
   mutual
-    unfolding size
+    unfolding size kind
 
-    knows-in : {h r : Bool} {a : Act} → Formed h r a → (k : ℕ) → ((t : ℕ) → k ≤ t → t < k + size a → f t ≡ lastsIn a k t) → Knows f a k
+    knows-in : {h r : Bool} {a : Act} → Formed h r a → (k : ℕ) → ((t : ℕ) → k ≤ t → t < k + size a → f t ≡ kindIn a k t) → Knows f a k
     knows-in (formed-part {own = own} {within = within} s i g y) k d =
-        knows (d k (omega arith) (omega arith) ∙ lasts-here own within k) (needs-part own (count within) s g)
-        (knows-all y (k + 1) (λ t u v. d t (omega arith) (omega arith) ∙ lasts-within own within k t (omega arith)))
+        knows (d k (omega arith) (omega arith) ∙ kind-here own within k) (needs-part own (count within) s g) (arms-in y)
+        (knows-all y (k + 1) (λ t u v. d t (omega arith) (omega arith) ∙ kind-within own within k t (omega arith)))
     knows-in (formed-scope {b = b} {f = g} {u = u} x y z) k d =
-        knows (d k (omega arith) (omega arith) ∙ lasts-here scope (trio b g u) k) (needs-scope b g u)
-        (knows-more (knows-in x (k + 1) (λ t v w. e t (omega arith) (omega arith) ∙ lasts-first b (more g (more u none)) (k + 1) t (omega arith)))
-        (knows-more (knows-in y (k + 1 + size b) (λ t v w. e t (omega arith) (omega arith) ∙ (lasts-later b (more g (more u none)) (k + 1) t (omega arith) ∙ lasts-first g (more u none) (k + 1 + size b) t (omega arith))))
+        knows (d k (omega arith) (omega arith) ∙ kind-here scope (trio b g u) k) (needs-scope b g u) (not-arms (more g (more u none)) x (not-arms (more u none) y (not-arms none z tt)))
+        (knows-more (knows-in x (k + 1) (λ t v w. e t (omega arith) (omega arith) ∙ kind-first b (more g (more u none)) (k + 1) t (omega arith)))
+        (knows-more (knows-in y (k + 1 + size b) (λ t v w. e t (omega arith) (omega arith) ∙ (kind-later b (more g (more u none)) (k + 1) t (omega arith) ∙ kind-first g (more u none) (k + 1 + size b) t (omega arith))))
         (knows-more (knows-in z (k + 1 + size b + size g) (λ t v w. e t (omega arith) (omega arith)
-        ∙ (lasts-later b (more g (more u none)) (k + 1) t (omega arith) ∙ (lasts-later g (more u none) (k + 1 + size b) t (omega arith) ∙ lasts-first u none (k + 1 + size b + size g) t (omega arith))))) knows-none)))
+        ∙ (kind-later b (more g (more u none)) (k + 1) t (omega arith) ∙ (kind-later g (more u none) (k + 1 + size b) t (omega arith) ∙ kind-first u none (k + 1 + size b + size g) t (omega arith))))) knows-none)))
       where
-        e : (t : ℕ) → k < t → t < k + size (act scope (trio b g u)) → f t ≡ lastsAmong (trio b g u) (k + 1) t
-        e t v w = d t (omega arith) w ∙ lasts-within scope (trio b g u) k t v
+        e : (t : ℕ) → k < t → t < k + size (act scope (trio b g u)) → f t ≡ kindAmong (trio b g u) (k + 1) t
+        e t v w = d t (omega arith) w ∙ kind-within scope (trio b g u) k t v
 
-    knows-all : {h r : Bool} {l : Acts} → FormedIn h r l → (c : ℕ) → ((t : ℕ) → c ≤ t → t < c + sizes l → f t ≡ lastsAmong l c t) → KnowsIn f l c
+    knows-all : {h r : Bool} {l : Acts} → FormedIn h r l → (c : ℕ) → ((t : ℕ) → c ≤ t → t < c + sizes l → f t ≡ kindAmong l c t) → KnowsIn f l c
     knows-all formed-none c d = knows-none
     knows-all (formed-more {a = a} {l = l} x y) c d =
-        knows-more (knows-in x c (λ t u v. d t (omega arith) (omega arith) ∙ lasts-first a l c t (omega arith)))
-        (knows-all y (c + size a) (λ t u v. d t (omega arith) (omega arith) ∙ lasts-later a l c t (omega arith)))
+        knows-more (knows-in x c (λ t u v. d t (omega arith) (omega arith) ∙ kind-first a l c t (omega arith)))
+        (knows-all y (c + size a) (λ t u v. d t (omega arith) (omega arith) ∙ kind-later a l c t (omega arith)))
 
-body-knows : (p : Plan) → Promised p → Knows (lastsAt p) (p .body) 0
-unfolding lastsAt
+body-knows : (p : Plan) → Promised p → Knows (kindAt p) (p .body) 0
+unfolding kindAt
 body-knows p h =
-    knows-in (lastsAt p) (h .body) 0 (λ t u v. first-of (ltb t (size (p .body))) (lastsIn (p .body) 0 t) (lastsIn (p .fault) (size (p .body)) t) (lastsAt p t) refl (lt-ltb t (size (p .body)) (omega arith)))
+    knows-in (kindAt p) (h .body) 0 (λ t u v. first-of (ltb t (size (p .body))) (kindIn (p .body) 0 t) (kindIn (p .fault) (size (p .body)) t) (kindAt p t) refl (lt-ltb t (size (p .body)) (omega arith)))
 
-fault-knows : (p : Plan) → Promised p → Knows (lastsAt p) (p .fault) (size (p .body))
-unfolding lastsAt
+fault-knows : (p : Plan) → Promised p → Knows (kindAt p) (p .fault) (size (p .body))
+unfolding kindAt
 fault-knows p h =
-    knows-in (lastsAt p) (h .fault) (size (p .body)) (λ t u v. second-of (ltb t (size (p .body))) (lastsIn (p .body) 0 t) (lastsIn (p .fault) (size (p .body)) t) (lastsAt p t) refl (le-ltb t (size (p .body)) u))
+    knows-in (kindAt p) (h .fault) (size (p .body)) (λ t u v. second-of (ltb t (size (p .body))) (kindIn (p .body) 0 t) (kindIn (p .fault) (size (p .body)) t) (kindAt p t) refl (le-ltb t (size (p .body)) u))
 
-module _ (p : Plan) (h : Promised p) (i : ℕ) where
-  happens-truly : (s : State) (past : List Event) (r : Stepped) → Happens p i s past r → isLive (orderIn s i) ≡ true → isLive (orderIn (r .state) i) ≡ true
-      → (k : ℕ) → lastsAt p k ≡ true → hasBegan k (logOf i r) ≡ true → not (eqb (markAt k (orderIn (r .state) i)) idle) ≡ true
-  unfolding some
-  happens-truly s past r (nothing-here l e o) v w k x b = absurd (false≢true (rw l at b))
-  happens-truly s past r (goes-here t o a y st m g l e d) v w k x b =
-      subst (λ (z : Order). not (eqb (markAt k z) idle) ≡ true) (sym d)
-      (rw (order-truly (lastsAt p) p (body-knows p h) (fault-knows p h) t o (subst (λ (ms : List ℕ). size (p .body) + size (p .fault) ≤ length ms) (sym (a .marks)) (st .many))
-      (ap isLive (sym d) ∙ w) k x (rw l at b)))
-  happens-truly s past r (starts-here t o a y z n l e d) v w k x b = absurd (false≢true (sym z ∙ v))
+-- no activity is without a number
+size-some : (a : Act) (c : ℕ) → c < c + size a
+unfolding size
+size-some (act own within) c = omega arith
 
+-- And whose leads it knows.
+module _ (lead : ℕ → Lead) where
+  lead-here : (a : Act) (k : ℕ) (q : Lead) → leadIn a k k q ≡ q
+  unfolding leadIn
+  lead-here (act own within) k q =
+      first-of (eqb k k) q (elim (isScope own) [ true ↦ leadParts within (k + 1) k (together k) | false ↦ leadAmong within (k + 1) k (leadOf own k) ]) (leadIn (act own within) k k q) refl (eq-eqb k k refl)
+
+  lead-within : (own : Own) (within : Acts) (k j : ℕ) (q : Lead) → k < j
+      → leadIn (act own within) k j q ≡ elim (isScope own) [ true ↦ leadParts within (k + 1) j (together k) | false ↦ leadAmong within (k + 1) j (leadOf own k) ]
+  unfolding leadIn
+  lead-within own within k j q h =
+      second-of (eqb k j) q (elim (isScope own) [ true ↦ leadParts within (k + 1) j (together k) | false ↦ leadAmong within (k + 1) j (leadOf own k) ]) (leadIn (act own within) k j q) refl (ne-eqb k j (omega arith))
+
+  lead-first : (a : Act) (l : Acts) (c j : ℕ) (q : Lead) → j < c + size a → leadAmong (more a l) c j q ≡ leadIn a c j q
+  unfolding leadIn
+  lead-first a l c j q h = first-of (ltb j (c + size a)) (leadIn a c j q) (leadAmong l (c + size a) j q) (leadAmong (more a l) c j q) refl (lt-ltb j (c + size a) h)
+
+  lead-later : (a : Act) (l : Acts) (c j : ℕ) (q : Lead) → c + size a ≤ j → leadAmong (more a l) c j q ≡ leadAmong l (c + size a) j q
+  unfolding leadIn
+  lead-later a l c j q h = second-of (ltb j (c + size a)) (leadIn a c j q) (leadAmong l (c + size a) j q) (leadAmong (more a l) c j q) refl (le-ltb j (c + size a) h)
+
+  parts-first : (a : Act) (l : Acts) (c j : ℕ) (q : Lead) → j < c + size a → leadParts (more a l) c j q ≡ leadIn a c j q
+  unfolding leadIn
+  parts-first a l c j q h = first-of (ltb j (c + size a)) (leadIn a c j q) (leadAmong l (c + size a) j alone) (leadParts (more a l) c j q) refl (lt-ltb j (c + size a) h)
+
+  parts-later : (a : Act) (l : Acts) (c j : ℕ) (q : Lead) → c + size a ≤ j → leadParts (more a l) c j q ≡ leadAmong l (c + size a) j alone
+  unfolding leadIn
+  parts-later a l c j q h = second-of (ltb j (c + size a)) (leadIn a c j q) (leadAmong l (c + size a) j alone) (leadParts (more a l) c j q) refl (le-ltb j (c + size a) h)
+
+  -- an activity and its lead, where its numbers are known
+  abbrev Knowing : Act → (k : ℕ) → Lead → Type 0
+  Knowing a k q = (j : ℕ) → k ≤ j → j < k + size a → lead j ≡ leadIn a k j q
+
+  mutual
+    unfolding size kind
+
+    leads-in : {h r : Bool} {a : Act} → Formed h r a → (k : ℕ) (q : Lead) → Knowing a k q → Leads lead a k
+    leads-in (formed-part {own = own} {within = within} s i g y) k q d =
+        leads-part s g (leads-all y (k + 1) (leadOf own k) (λ j u v. d j (omega arith) (omega arith) ∙ (lead-within own within k j q (omega arith)
+        ∙ second-of (isScope own) (leadParts within (k + 1) j (together k)) (leadAmong within (k + 1) j (leadOf own k)) _ refl s)))
+    leads-in (formed-scope {b = b} {f = g} {u = u} x y z) k q d =
+        leads-scope (kb (k + 1) (omega arith) (size-some b (k + 1)) ∙ lead-here b (k + 1) (together k)) (kg (k + 1 + size b) (omega arith) (size-some g (k + 1 + size b)) ∙ lead-here g (k + 1 + size b) alone)
+        (ku (k + 1 + size b + size g) (omega arith) (size-some u (k + 1 + size b + size g)) ∙ lead-here u (k + 1 + size b + size g) alone) (leads-in x (k + 1) (together k) kb) (leads-in y (k + 1 + size b) alone kg) (leads-in z (k + 1 + size b + size g) alone ku)
+      where
+        parts : (j : ℕ) → k < j → j < k + size (act scope (trio b g u)) → lead j ≡ leadParts (trio b g u) (k + 1) j (together k)
+        parts j v w = d j (omega arith) w ∙ lead-within scope (trio b g u) k j q v
+
+        kb : Knowing b (k + 1) (together k)
+        kb j v w = parts j (omega arith) (omega arith) ∙ parts-first b (more g (more u none)) (k + 1) j (together k) w
+
+        kg : Knowing g (k + 1 + size b) alone
+        kg j v w = parts j (omega arith) (omega arith) ∙ (parts-later b (more g (more u none)) (k + 1) j (together k) v ∙ lead-first g (more u none) (k + 1 + size b) j alone w)
+
+        ku : Knowing u (k + 1 + size b + size g) alone
+        ku j v w = parts j (omega arith) (omega arith)
+            ∙ (parts-later b (more g (more u none)) (k + 1) j (together k) (omega arith) ∙ (lead-later g (more u none) (k + 1 + size b) j alone v ∙ lead-first u none (k + 1 + size b + size g) j alone w))
+
+    leads-all : {h r : Bool} {l : Acts} → FormedIn h r l → (c : ℕ) (q : Lead) → ((j : ℕ) → c ≤ j → j < c + sizes l → lead j ≡ leadAmong l c j q)
+        → LeadsIn lead l c q
+    leads-all formed-none c q d = leads-none
+    leads-all (formed-more {a = a} {l = l} x y) c q d =
+        let e : Knowing a c q = λ j u v. d j u (omega arith) ∙ lead-first a l c j q v in
+        leads-more (e c (omega arith) (size-some a c) ∙ lead-here a c q) (leads-in x c q e) (leads-all y (c + size a) q (λ j u v. d j (omega arith) (omega arith) ∙ lead-later a l c j q u))
+
+body-lead : (p : Plan) (j : ℕ) → j < size (p .body) → leadAt p j ≡ leadIn (p .body) 0 j alone
+unfolding leadAt
+body-lead p j v = first-of (ltb j (size (p .body))) (leadIn (p .body) 0 j alone) (leadIn (p .fault) (size (p .body)) j alone) (leadAt p j) refl (lt-ltb j (size (p .body)) v)
+
+fault-lead : (p : Plan) (j : ℕ) → size (p .body) ≤ j → leadAt p j ≡ leadIn (p .fault) (size (p .body)) j alone
+unfolding leadAt
+fault-lead p j v = second-of (ltb j (size (p .body))) (leadIn (p .body) 0 j alone) (leadIn (p .fault) (size (p .body)) j alone) (leadAt p j) refl (le-ltb j (size (p .body)) v)
+
+-- A scope by its kind is one of the plan's.
+mutual
+  unfolding scopesIn kindIn some
+
+  scope-named : (a : Act) (k t : ℕ) (n : Name) → kindIn a k t ≡ 11 → some (λ x. eqb (x .number) t) (scopesIn a k n) ≡ true
+  scope-named (act own within) k t n h =
+      decide (eqb k t)
+      (λ e. let s : isScope own ≡ true = ap (λ (i : ℕ). eqb i 11) (sym (first-of (eqb k t) (kind own) (kindAmong within (k + 1) t) (kindIn (act own within) k t) refl e) ∙ h) in
+      subst (λ (l : List Inner). some (λ x. eqb (x .number) t) l ≡ true) (sym (scopes-is own within k n true s)) (rw e))
+      (λ e. let y : (m : Name) → some (λ x. eqb (x .number) t) (scopesAmong within (k + 1) m) ≡ true
+      = λ m. among-named within (k + 1) t m (sym (second-of (eqb k t) (kind own) (kindAmong within (k + 1) t) (kindIn (act own within) k t) refl e) ∙ h) in
+      decide (isScope own)
+      (λ s. subst (λ (l : List Inner). some (λ x. eqb (x .number) t) l ≡ true) (sym (scopes-is own within k n true s)) (rw (y (inner k), or-true)))
+      (λ s. subst (λ (l : List Inner). some (λ x. eqb (x .number) t) l ≡ true) (sym (scopes-is own within k n false s)) (y n)))
+
+  among-named : (l : Acts) (c t : ℕ) (n : Name) → kindAmong l c t ≡ 11 → some (λ x. eqb (x .number) t) (scopesAmong l c n) ≡ true
+  among-named none c t n h = absurd (let z : _≡_ {A = ℕ} 0 11 = h in omega arith)
+  among-named (more a l) c t n h =
+      some-append (λ x. eqb (x .number) t) (scopesIn a c n) (scopesAmong l (c + size a) n)
+      ∙ decide (ltb t (c + size a))
+      (λ e. rw (scope-named a c t n (sym (first-of (ltb t (c + size a)) (kindIn a c t) (kindAmong l (c + size a) t) (kindAmong (more a l) c t) refl e) ∙ h)))
+      (λ e. rw (among-named l (c + size a) t n (sym (second-of (ltb t (c + size a)) (kindIn a c t) (kindAmong l (c + size a) t) (kindAmong (more a l) c t) refl e) ∙ h), or-true))
+
+plan-named : (p : Plan) (t : ℕ) → eqb (kindAt p t) 11 ≡ true → isName p (inner t) ≡ true
+unfolding scopesOf kindAt
+plan-named p t h =
+    some-append (λ x. eqb (x .number) t) (scopesIn (p .body) 0 root) (scopesIn (p .fault) (size (p .body)) root)
+    ∙ decide (ltb t (size (p .body)))
+    (λ e. rw (scope-named (p .body) 0 t root (eqb-true (kindIn (p .body) 0 t) 11 (rw (kindAt, e) at h))))
+    (λ e. rw (scope-named (p .fault) (size (p .body)) t root (eqb-true (kindIn (p .fault) (size (p .body)) t) 11 (rw (kindAt, e) at h)), or-true))
+
+-- A scope that is left running and did not begin was left before.
+left-one : (k : ℕ) (e : Event) (past : List Event) → isBeganOf (eqb k) e ≡ false → isLeft (inner k) (e ∷ past) ≡ true → isLeft (inner k) past ≡ true
+unfolding isLeft isBegin isFinish isBeganOf
+left-one k started past n h = absurd (false≢true h)
+left-one k (began j) past n h = rw (isLeft, n) at h
+left-one k (closed j) past n h = decide (eqb k j) (λ t. absurd (false≢true (rw (isLeft, t) at h))) (λ t. rw (isLeft, t) at h)
+left-one k (faulted m) past n h = h
+left-one k (stopped j) past n h = h
+left-one k (ended root) past n h = h
+left-one k (ended (inner j)) past n h = decide (eqb k j) (λ t. absurd (false≢true (rw (isLeft, t) at h))) (λ t. rw (isLeft, t) at h)
+left-one k (raised j) past n h = h
+left-one k left past n h = h
+
+left-before : (k : ℕ) (l past : List Event) → hasBegan k l ≡ false → isLeft (inner k) (onto l past) ≡ true → isLeft (inner k) past ≡ true
+unfolding some
+left-before k [] past n h = h
+left-before k (e ∷ l) past n h = let z = neither (isBeganOf (eqb k) e) (hasBegan k l) n in left-one k e past (z .0) (left-before k l (e ∷ past) (z .1) h)
+
+-- the three statements, of some steps taken
+abbrev AllBegun : Plan → List Taken → Type 0
+AllBegun p l = (every (ofEach isMarked p) l ≡ true) × (every (ofEach hasBegun p) l ≡ true) × (every (ofEach isLed p) l ≡ true)
+
+-- what may be, where what is set was
+may-be : (n : ℕ) (s b : Bool) (x y : ℕ) → (eqb y idle ≡ false → (eqb x idle ≡ false) × ((eqb n 11 || cond s (goesIn n y b) (eqb y x || eqb n 7)) ≡ true))
+    → mayBe n s b x y ≡ true
+unfolding mayBe
+may-be n s b x y h = decide (eqb y idle) (λ e. rw e) (λ e. let z = h e in rw (e, z .0, z .1))
+
+module _ (p : Plan) (h : Promised p) where
+  kb : Knows (kindAt p) (p .body) 0
+  kb = body-knows p h
+
+  kf : Knows (kindAt p) (p .fault) (size (p .body))
+  kf = fault-knows p h
+
+  -- the mark of a scope that did not begin
+  scope-up : {o o₁ : Order} (k : ℕ) (l past : List Event) → Slot p o past → Slot p o₁ (onto l past) → isLive o ≡ true → isLive o₁ ≡ true
+      → eqb (kindAt p k) 11 ≡ true → hasBegan k l ≡ false
+      → Up (o₁ .marks) k → Up (o .marks) k
+  scope-up {o} {o₁} k l past a b v w s n u =
+      let i = plan-named p k s in
+      not-true (eqb (getD (o .marks) k 0) idle) (slot-marks a v (inner k) i .0 ∙ left-before k l past n (sym (slot-marks b w (inner k) i .0) ∙ rw u))
+
+  -- a step of an order that awaits it
+  steps-may : (t : ℕ) (o o₁ : Order) (l : List Event) → Steps (kindAt p) (ownsAt p t) 0 o (record { result = running; order = o₁; log = l })
+      → Awaited p (o .marks) t → (k : ℕ) → hasBegan k l ≡ false
+      → (eqb (kindAt p k) 11 ≡ true → Up (o₁ .marks) k → Up (o .marks) k) → mayBe (kindAt p k) (ownsAt p t k) (hasBegan (k + 1) l) (getD (o .marks) k 0) (getD (o₁ .marks) k 0) ≡ true
+  steps-may t o o₁ l w a k n c =
+      may-be (kindAt p k) (ownsAt p t k) (hasBegan (k + 1) l) (getD (o .marks) k 0) (getD (o₁ .marks) k 0)
+      (λ u. decide (eqb (kindAt p k) 11)
+      (λ s. (c s u, rw s))
+      (λ s. decide (ownsAt p t k)
+      (λ e. (awaited-up t k p kb kf a e, rw (s, e) (w .its k s e n u)))
+      (λ e. let z = w .keeps k s e n u in (z .0, rw (s, e) (decide (eqb (kindAt p k) 7) (λ d. rw (d, or-true)) (λ d. rw (eq-eqb _ _ (z .1 d))))))))
+
+  -- an order that starts has its step at once
+  start-steps : (t : ℕ) (m : Message) (past : List Event) → noneNow past ≡ true → Awaited p (startedOrder p .marks) t
+      → let o = stepOrder p t (withMessage p t m (startedOrder p)) in
+      isLive (o .order) ≡ true → Steps (kindAt p) (ownsAt p t) 0 (startedOrder p) (record { result = running; order = o .order; log = o .log })
+  start-steps t m past z a v =
+      let like = taking-alike p (doingAt p t) m (startedOrder p) in
+      steps-from (kindAt p) (ownsAt p t) (withMessage p t m (startedOrder p)) (startedOrder p) (like .marks)
+      (order-steps (kindAt p) p kb kf t (withMessage p t m (startedOrder p))
+      (subst (λ (ms : List ℕ). size (p .body) + size (p .fault) ≤ length ms) (sym (like .marks)) (order-starts p h t past z a .1 .many)) v)
+
+  start-began : Began (kindAt p) 0 (size (p .body)) (noOrder .marks) (begunOrder p)
+  unfolding begunOrder noOrder
+  start-began = begin-began (kindAt p) kb (noOrder .marks) (omega (arith, h .few, length-replicate 256 idle))
+
+  -- what is logged then is marked as it starts, or afterwards
+  starts-marked : (t : ℕ) (m : Message) (past : List Event) → noneNow past ≡ true → Awaited p (startedOrder p .marks) t
+      → let o = stepOrder p t (withMessage p t m (startedOrder p)) in
+      isLive (o .order) ≡ true → (k : ℕ) → lasts (kindAt p k) ≡ true → hasBegan k ((started ∷ begunOrder p .log) ++ o .log) ≡ true
+      → (not (eqb (markAt k (o .order)) idle) || not (eqb (markAt k (startedOrder p)) idle)) ≡ true
+  unfolding some isBeganOf startedOrder
+  starts-marked t m past z a v k y g =
+      began-in k (begunOrder p .log) (stepOrder p t (withMessage p t m (startedOrder p)) .log) g
+      (λ b. rw (start-began .truly k y b, or-true))
+      (λ b. rw (start-steps t m past z a v .truly k y b))
+
+  -- what is set then has begun
+  starts-idle : (t : ℕ) (m : Message) (past : List Event) → noneNow past ≡ true → Awaited p (startedOrder p .marks) t
+      → let o = stepOrder p t (withMessage p t m (startedOrder p)) in
+      Slot p (o .order) (onto ((started ∷ begunOrder p .log) ++ o .log) past) → isLive (o .order) ≡ true → (k : ℕ)
+      → hasBegan k ((started ∷ begunOrder p .log) ++ o .log) ≡ false → Up (o .order .marks) k → ⊥
+  unfolding some isBeganOf startedOrder isLeft isBegin isFinish
+  starts-idle t m past z a b v k n u =
+      decide (eqb (kindAt p k) 11)
+      (λ s. false≢true (left-before k (begunOrder p .log ++ o .log) (started ∷ past) n (sym (slot-marks b v (inner k) (plan-named p k s) .0) ∙ rw u)))
+      (λ s. decide (ownsAt p t k)
+      (λ e. resting (awaited-up t k p kb kf a e))
+      (λ e. resting (start-steps t m past z a v .keeps k s e (ns .1) u .0)))
+    where
+      o : Moved
+      o = stepOrder p t (withMessage p t m (startedOrder p))
+
+      ns : (hasBegan k (begunOrder p .log) ≡ false) × (hasBegan k (o .log) ≡ false)
+      ns = began-neither k (begunOrder p .log) (o .log) n
+
+      resting : Up (startedOrder p .marks) k → ⊥
+      resting x =
+          false≢true (sym (stay-up (start-began .stays k (ns .0)) x) ∙ ap (λ (i : ℕ). eqb i idle) (idle-marks p h k 1 .at k (omega arith) (omega arith)))
+
+  -- what is begun begins in its turn, in a step and with an order that starts
+  lb : Leads (leadAt p) (p .body) 0
+  lb = leads-in (leadAt p) (h .body) 0 alone (λ j u v. body-lead p j (omega arith))
+
+  lf : Leads (leadAt p) (p .fault) (size (p .body))
+  lf = leads-in (leadAt p) (h .fault) (size (p .body)) alone (λ j u v. fault-lead p j u)
+
+  steps-fine : (t : ℕ) (o : Order) → Fine (leadAt p) t (stepOrder p t o .log)
+  steps-fine t o = order-fine (leadAt p) t p lb lf (fault-lead p (size (p .body)) (omega arith) ∙ lead-here (leadAt p) (p .fault) (size (p .body)) alone) o
+
+  starts-fine : (t : ℕ) (o : Order) → Fine (leadAt p) t ((started ∷ begunOrder p .log) ++ stepOrder p t o .log)
+  unfolding begunOrder isBeganOf
+  starts-fine t o =
+      fine-append (leadAt p) t (started ∷ begunOrder p .log) (stepOrder p t o .log)
+      (fine-event (leadAt p) t started (begunOrder p .log) (λ j. refl) (begin-fine (leadAt p) t lb (body-lead p 0 (omega (arith, size-some (p .body) 0)) ∙ lead-here (leadAt p) (p .body) 0 alone) (noOrder .marks))) (steps-fine t o)
+
+  is-led : (x : Taken) (k : ℕ) → Fine (leadAt p) (x .activity) (x .log) → isLed p x k ≡ true
+  unfolding isLed
+  is-led x k w = decide (hasBegan k (x .log)) (λ b. rw (b, w .may k b)) (λ b. rw b)
+
+  -- each of a step's activities
+  each-number : (f : ℕ → Bool) → ((k : ℕ) → f k ≡ true) → (n : ℕ) → every f (numbers n) ≡ true
+  unfolding every numbers
+  each-number f g zero = refl
+  each-number f g (suc n) = rw (g n, each-number f g n)
+
+  one-taken : (f : Plan → Taken → ℕ → Bool) (x : Taken) → (isLive (x .after) ≡ true → (k : ℕ) → f p x k ≡ true) → every (ofEach f p) (x ∷ []) ≡ true
+  unfolding every
+  one-taken f x g = decide (isLive (x .after)) (λ v. rw (v, each-number (f p x) (g v) (size (p .body) + size (p .fault)))) (λ v. rw v)
+
+  is-marked : (x : Taken) (k : ℕ)
+      → (lasts (kindAt p k) ≡ true → hasBegan k (x .log) ≡ true
+      → (not (eqb (markAt k (x .after)) idle) || (not (isLive (x .before)) && not (eqb (markAt k (startedOrder p)) idle))) ≡ true) → isMarked p x k ≡ true
+  unfolding isMarked
+  is-marked x k g =
+      decide (lasts (kindAt p k)) (λ l. decide (hasBegan k (x .log)) (λ b. rw (l, b, g l b)) (λ b. rw (l, b))) (λ l. rw l)
+
+  has-begun : (x : Taken) (k : ℕ)
+      → (hasBegan k (x .log) ≡ false → mayBe (kindAt p k) (ownsAt p (x .activity) k) (hasBegan (k + 1) (x .log)) (markBefore k x) (markAt k (x .after)) ≡ true)
+      → hasBegun p x k ≡ true
+  unfolding hasBegun
+  has-begun x k g = decide (hasBegan k (x .log)) (λ b. rw b) (λ b. rw (b, g b))
+
+  module _ (i : ℕ) where
+    -- what a step did in the slot, as taken
+    abbrev one : State → (t : ℕ) → Stepped → Taken
+    one s t r = record { activity = t; before = orderIn s i; after = orderIn (r .state) i; log = logOf i r }
+
+    taken-is : (s : State) (t : ℕ) (r : Stepped) → (isTaken i r ≡ true) × (r .answer .activity ≡ t) → takenBy i s r ≡ one s t r ∷ []
+    taken-is s t r q = rw (q .0, q .1)
+
+    happens-begun : (s : State) (past : List Event) (r : Stepped) → Slot p (orderIn s i) past → Slot p (orderIn (r .state) i) (onto (logOf i r) past)
+        → Happens p i s past r → AllBegun p (takenBy i s r)
+    unfolding every
+    happens-begun s past r a b (nothing-here n l e d) = (rw n, rw n, rw n)
+    happens-begun s past r a b (goes-here t m q x st c y l e d) =
+        subst (AllBegun p) (sym (taken-is s t r q)) (
+          one-taken isMarked (one s t r) (λ v k. is-marked (one s t r) k (λ z g. rw (w₁ v .truly k z g))),
+          one-taken hasBegun (one s t r) (λ v k. has-begun (one s t r) k (λ n. rw (standing-live p (orderIn s i) st)
+              (steps-may t (orderIn s i) (orderIn (r .state) i) (logOf i r) (w₁ v) x k n (λ z u. scope-up k (logOf i r) past a b (standing-live p (orderIn s i) st) v z n u)))),
+          one-taken isLed (one s t r) (λ v k. is-led (one s t r) k (subst (λ (g : List Event). Fine (leadAt p) t g) (sym l) (steps-fine t (withMessage p t m (orderIn s i))))),
+        )
+      where
+        like : Alike p (orderIn s i) (withMessage p t m (orderIn s i))
+        like = taking-alike p (doingAt p t) m (orderIn s i)
+
+        w₁ : isLive (orderIn (r .state) i) ≡ true
+            → Steps (kindAt p) (ownsAt p t) 0 (orderIn s i) (record { result = running; order = orderIn (r .state) i; log = logOf i r })
+        w₁ v =
+            steps-from (kindAt p) (ownsAt p t) (withMessage p t m (orderIn s i)) (orderIn s i) (like .marks)
+            (subst (λ (g : List Event). Steps (kindAt p) (ownsAt p t) 0 (withMessage p t m (orderIn s i)) (record { result = running; order = orderIn (r .state) i; log = g })) (sym l)
+            (subst (λ (o : Order). Steps (kindAt p) (ownsAt p t) 0 (withMessage p t m (orderIn s i)) (record { result = running; order = o; log = stepOrder p t (withMessage p t m (orderIn s i)) .log })) (sym d)
+            (order-steps (kindAt p) p kb kf t (withMessage p t m (orderIn s i)) (subst (λ (ms : List ℕ). size (p .body) + size (p .fault) ≤ length ms) (sym (like .marks)) (st .many)) (ap isLive (sym d) ∙ v))))
+    happens-begun s past r a b (starts-here t m q x z n l e d) =
+        subst (AllBegun p) (sym (taken-is s t r q)) (
+          one-taken isMarked (one s t r) (λ v k. is-marked (one s t r) k (λ y g. marked v k y g)),
+          one-taken hasBegun (one s t r) (λ v k. has-begun (one s t r) k (λ y. rw z (may-be (kindAt p k) (ownsAt p t k) (hasBegan (k + 1) (logOf i r)) idle (markAt k (orderIn (r .state) i)) (λ u. absurd (idles v k y u))))),
+          one-taken isLed (one s t r) (λ v k. is-led (one s t r) k (subst (λ (g : List Event). Fine (leadAt p) t g) (sym l) (starts-fine t (withMessage p t m (startedOrder p))))),
+        )
+      where
+        marked : isLive (orderIn (r .state) i) ≡ true → (k : ℕ) → lasts (kindAt p k) ≡ true → hasBegan k (logOf i r) ≡ true
+            → (not (eqb (markAt k (orderIn (r .state) i)) idle) || (not (isLive (orderIn s i)) && not (eqb (markAt k (startedOrder p)) idle))) ≡ true
+        marked v k y g =
+            subst (λ (o : Order). (not (eqb (markAt k o) idle) || (not (isLive (orderIn s i)) && not (eqb (markAt k (startedOrder p)) idle))) ≡ true) (sym d)
+            (rw z (starts-marked t m past n x (ap isLive (sym d) ∙ v) k y (ap (hasBegan k) (sym l) ∙ g)))
+
+        idles : isLive (orderIn (r .state) i) ≡ true → (k : ℕ) → hasBegan k (logOf i r) ≡ false → Up (orderIn (r .state) i .marks) k → ⊥
+        idles v k y u =
+            let m₁ = stepOrder p t (withMessage p t m (startedOrder p)) in
+            starts-idle t m past n x
+            (subst (λ (g : List Event). Slot p (m₁ .order) (onto g past)) l (subst (λ (o : Order). Slot p o (onto (logOf i r) past)) d b))
+            (ap isLive (sym d) ∙ v) k (ap (hasBegan k) (sym l) ∙ y) (subst (λ (o : Order). Up (o .marks) k) d u)
+
+    -- over any calls
+    module _ (bytes : List ℕ) (next : ℕ) (accepted : readPlan bytes ≡ found p next) where
+      all-begun : (calls : List Call) (s : State) (t : Tally) (past : List Event) → Sane p bytes next i accepted h s past
+          → AllBegun p (stepsTaken calls i s t)
+      unfolding stepsTaken every
+      all-begun [] s t past g = (refl, refl, refl)
+      all-begun (posting m ∷ l) s t past g = all-begun l (post m s .state) t past (same-sane p bytes next i accepted h s (post m s .state) past (post-same m s) g)
+      all-begun (collecting ∷ l) s t past g = all-begun l (collect s .state) t past (same-sane p bytes next i accepted h s (collect s .state) past (collect-same s) g)
+      all-begun (stepping c ∷ l) s t past g =
+          let r = step c s t in
+          let g₁ = step-after p bytes next i accepted h c s t past g .1 in
+          let x = happens-begun s past r (g .slot) (g₁ .slot) (step-happens p bytes next i accepted h c s t past g .happens) in
+          let y = all-begun l (r .state) (r .tally) (onto (logOf i r) past) g₁ in
+          (joined isMarked r (x .0) (y .0), joined hasBegun r (x .1) (y .1), joined isLed r (x .2) (y .2))
+        where
+          joined : (f : Plan → Taken → ℕ → Bool) (r : Stepped) → every (ofEach f p) (takenBy i s r) ≡ true
+              → every (ofEach f p) (stepsTaken l i (r .state) (r .tally)) ≡ true
+              → every (ofEach f p) (takenBy i s r ++ stepsTaken l i (r .state) (r .tally)) ≡ true
+          joined f r a b = every-append (ofEach f p) (takenBy i s r) (stepsTaken l i (r .state) (r .tally)) a b
+
+-- from a fresh start
+fresh-begun : (bytes : List ℕ) (p : Plan) (next : ℕ) → readPlan bytes ≡ found p next → (calls : List Call) (slot : ℕ) (t : Tally)
+    → AllBegun p (stepsTaken calls slot (load bytes .state) t)
+unfolding load
+fresh-begun bytes p next e calls slot t =
+    subst (λ (f : Found Plan). AllBegun p (stepsTaken calls slot (loadedAs bytes f .state) t)) (sym e)
+    (let h = promised p (accepted-is-within bytes e) in all-begun p h slot bytes next e calls (fresh bytes) t [] (fresh-sane p bytes next slot e h))
+
+-- No beginning is only claimed,
 pub begun-truly : BegunTruly
-unfolding BegunTruly load fresh noneNow noOrder
-begun-truly bytes p next e calls choice slot t t′ =
-    subst (λ (f : Found Plan). let s = stateAfter calls (loadedAs bytes f .state) t in let r = step choice s t′ in
-    isLive (orderIn s slot) ≡ true → isLive (orderIn (r .state) slot) ≡ true → (k : ℕ) → lastsAt p k ≡ true → hasBegan k (logOf slot r) ≡ true → not (eqb (markAt k (orderIn (r .state) slot)) idle) ≡ true) (sym e)
-    (let h = promised p (accepted-is-within bytes e) in
-    let s = stateAfter calls (fresh bytes) t in
-    happens-truly p h slot s (onto (history calls slot (fresh bytes) t) []) (step choice s t′)
-    (step-happens p bytes next slot e h choice s t′ (onto (history calls slot (fresh bytes) t) [])
-    (sanely p bytes next slot e h calls (fresh bytes) t []
-    (record {
-      plan = take-append-seam bytes _;
-      many = length-replicate 16 noOrder;
-      slot = slot-free (ap isLive (fresh-order slot)) refl;
-    }))))
+unfolding BegunTruly
+begun-truly bytes p next e calls slot t = fresh-begun bytes p next e calls slot t .0
+
+-- none is left out,
+pub begun-all : BegunAll
+unfolding BegunAll
+begun-all bytes p next e calls slot t = fresh-begun bytes p next e calls slot t .1
+
+-- and none comes out of turn.
+pub begun-in-turn : BegunInTurn
+unfolding BegunInTurn
+begun-in-turn bytes p next e calls slot t = fresh-begun bytes p next e calls slot t .2

@@ -2,10 +2,8 @@
 use Prim.Native.Nat.{ℕ}
 use native.Mathlib.Omega.{arith}
 use mathlib.Core.Path.{_≡_, refl, sym, ap, subst, _∙_}
-use mathlib.Core.Bool.{Bool, true, false, cond, not, _&&_, _||_, false≢true}
+use mathlib.Core.Bool.{Bool, true, false, cond, not, _&&_, false≢true}
 use mathlib.Core.List.{List, [], _∷_, _++_, append-nil, append-assoc}
-use lib.ListN.{length-replicate}
-use lib.Seq.{take-append-seam}
 use lib.Dec.{eqb, ltb}
 use Rattle.plan.specs.Found.{Found, found}
 use Rattle.plan.specs.Read.{readPlan}
@@ -18,12 +16,12 @@ use Rattle.machine.specs.declared.State.{State}
 use Rattle.machine.specs.declared.Tally.{Tally}
 use Rattle.order.specs.Lists.{some, only}
 use Rattle.order.specs.Expression.{evaluate}
-use Rattle.order.specs.State.{root, inner, isLive, noOrder}
+use Rattle.order.specs.State.{root, inner}
 use Rattle.machine.specs.State.{fresh}
 use Rattle.machine.specs.Limits.{rootInLimits}
 use Rattle.order.specs.Event.{Event, started, began, closed, faulted, stopped, ended, raised, left}
 use Rattle.order.specs.Acting.{allBound, stepOrder, begunOrder, startedOrder}
-use Rattle.machine.specs.Calls.{loadedAs, load, post, collect, Stepped, step, Call, posting, collecting, stepping}
+use Rattle.machine.specs.Calls.{loadedAs, load, post, collect, Stepped, doingAt, step, Call, posting, collecting, stepping}
 use Rattle.undoing.specs.History.{logOf, history}
 use Rattle.undoing.specs.Demand3.{closingsOf, noneNow, isOver, allowed}
 use Rattle.undoing.specs.Orderly.{orderly}
@@ -34,8 +32,9 @@ use Rattle.undoing.proofs.Moves.{HoldsAt, fair}
 use Rattle.undoing.proofs.Orders.{endsTurned, older, momentOf, fairAfter, onto}
 use Rattle.undoing.proofs.Roots.{Awaited, Standing, EndedAs, Passed, passes-on, passes-end}
 use Rattle.undoing.proofs.Planning.{Promised, promised}
-use Rattle.undoing.proofs.Demanded.{slot-free, Alike, taken-step, started-in-limits, order-starts, post-same, collect-same, fresh-order, Sane, same-sane, step-after}
-use Rattle.undoing.proofs.Happening.{orderIn, Happens, nothing-here, goes-here, starts-here, step-happens}
+use Rattle.undoing.proofs.Slots.{Alike, taking-alike, taken-step, started-in-limits, order-starts, post-same, collect-same, Sane, same-sane, fresh-sane}
+use Rattle.undoing.proofs.Demanded.{step-after}
+use Rattle.undoing.proofs.Happening.{orderIn, withMessage, Happens, nothing-here, goes-here, starts-here, step-happens}
 use Rattle.undoing.proofs.Deeds.{order-deeds, start-deed}
 use Rattle.undoing.proofs.Shapes.{isGrave, Calm, Shape, shape-calm, shape-fault, shape-end-fault, shape-end, shape-lost, OrderShape, shaped, out, order-shape, start-calm}
 use Rattle.undoing.proofs.Fitting.{standing-fits}
@@ -312,14 +311,15 @@ module _ (p : Plan) (bytes : List ℕ) (next i : ℕ) (accepted : readPlan bytes
   step-ends : (s : State) (past : List Event) (r : Stepped) → Happens p i s past r → Clear p past
       → (endsIn past (logOf i r) ≡ endBy i r) × ((f : End → List Event → Bool) → Kept p f → atEnds f past (logOf i r) ≡ true)
   unfolding endsIn atEnds
-  step-ends s past r (nothing-here l e o) c = (rw (l, e), λ f k. rw l)
-  step-ends s past r (goes-here t o a w st m g l e d) c =
-      let x = order-ends p h t (orderIn s i) o past a w st m g c in (ap (endsIn past) l ∙ (x .0 ∙ sym e), λ f k. rw l (x .1 f k))
-  step-ends s past r (starts-here t o a w z n l e d) c =
+  step-ends s past r (nothing-here n l e o) c = (rw (l, e), λ f k. rw l)
+  step-ends s past r (goes-here t v q w st m g l e d) c =
+      let x = order-ends p h t (orderIn s i) (withMessage p t v (orderIn s i)) past (taking-alike p (doingAt p t) v (orderIn s i)) w st m g c in (ap (endsIn past) l ∙ (x .0 ∙ sym e), λ f k. rw l (x .1 f k))
+  step-ends s past r (starts-here t v q w z n l e d) c =
+      let o = withMessage p t v (startedOrder p) in
       let b = order-starts p h t past n w in
       let l₀ = started ∷ begunOrder p .log in
       let y = started-ends p (begunOrder p .log) past (b .0) (start-deed p) (b .2 .now) in
-      let x = order-ends p h t (startedOrder p) o (onto l₀ past) a w (b .1) (started-in-limits p) (b .2) (heeds-clears p l₀ past (calm-heeds p l₀ past (start-calm p) c)) in (
+      let x = order-ends p h t (startedOrder p) o (onto l₀ past) (taking-alike p (doingAt p t) v (startedOrder p)) w (b .1) (started-in-limits p) (b .2) (heeds-clears p l₀ past (calm-heeds p l₀ past (start-calm p) c)) in (
         ap (endsIn past) l ∙ (ends-append l₀ (stepOrder p t o .log) past ∙ (ap (λ z. z ++ endsIn (onto l₀ past) (stepOrder p t o .log)) (y .0) ∙ (x .0 ∙ sym e))),
         λ f k. rw l (at-append f l₀ (stepOrder p t o .log) past (y .1 f k) (x .1 f k)),
       )
@@ -333,7 +333,7 @@ module _ (p : Plan) (bytes : List ℕ) (next i : ℕ) (accepted : readPlan bytes
   all-ends (collecting ∷ l) s t past g c = all-ends l (collect s .state) t past (same-sane p bytes next i accepted h s (collect s .state) past (collect-same s) g) c
   all-ends (stepping v ∷ l) s t past g c =
       let r = step v s t in
-      let x = step-ends s past r (step-happens p bytes next i accepted h v s t past g) c in
+      let x = step-ends s past r (step-happens p bytes next i accepted h v s t past g .happens) c in
       let y = all-ends l (r .state) (r .tally) (onto (logOf i r) past) (step-after p bytes next i accepted h v s t past g .1) (heeds-clears p (logOf i r) past (step-heeds p bytes next i accepted h v s t past g c)) in (
         ends-append (logOf i r) (history l i (r .state) (r .tally)) past ∙ rw (x .0, y .0),
         λ f k. at-append f (logOf i r) (history l i (r .state) (r .tally)) past (x .1 f k) (y .1 f k),
@@ -343,16 +343,11 @@ module _ (p : Plan) (bytes : List ℕ) (next i : ℕ) (accepted : readPlan bytes
 from-fresh : (bytes : List ℕ) (p : Plan) (next : ℕ) → readPlan bytes ≡ found p next → (calls : List Call) (slot : ℕ) (t : Tally)
     → (endsIn [] (history calls slot (load bytes .state) t) ≡ endsTaken calls slot (load bytes .state) t)
     × ((f : End → List Event → Bool) → Kept p f → atEnds f [] (history calls slot (load bytes .state) t) ≡ true)
-unfolding load fresh noneNow noOrder due
+unfolding load due
 from-fresh bytes p next e calls slot t =
     subst (λ (f : Found Plan). (endsIn [] (history calls slot (loadedAs bytes f .state) t) ≡ endsTaken calls slot (loadedAs bytes f .state) t)
     × ((g : End → List Event → Bool) → Kept p g → atEnds g [] (history calls slot (loadedAs bytes f .state) t) ≡ true)) (sym e)
-    (all-ends p bytes next slot e (promised p (accepted-is-within bytes e)) calls (fresh bytes) t []
-    (record {
-      plan = take-append-seam bytes _;
-      many = length-replicate 16 noOrder;
-      slot = slot-free (ap isLive (fresh-order slot)) refl;
-    }) refl)
+    (all-ends p bytes next slot e (promised p (accepted-is-within bytes e)) calls (fresh bytes) t [] (fresh-sane p bytes next slot e (promised p (accepted-is-within bytes e))) refl)
 
 -- The ends of a history are those answered.
 pub ends-told : EndsTold

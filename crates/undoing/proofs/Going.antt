@@ -2,7 +2,7 @@
 use Prim.Native.Nat.{ℕ, _+_}
 use native.Mathlib.Omega.{arith}
 use mathlib.Core.Path.{_≡_, refl, sym, ap, subst, _∙_}
-use mathlib.Core.Bool.{Bool, true, false, _&&_, _||_, false≢true, or-true}
+use mathlib.Core.Bool.{Bool, true, false, _&&_, false≢true, or-true}
 use mathlib.Core.List.{List}
 use lib.ListN.{getD}
 use lib.Dec.{eqb}
@@ -21,7 +21,7 @@ use Rattle.undoing.proofs.Scoping.{scope-live, scope-done, scope-turned
 use Rattle.undoing.proofs.Combining.{quiet-told, quiet-found}
 use Rattle.undoing.proofs.Roots.{Standing}
 use Rattle.undoing.proofs.Fitting.{marks-undo}
-use Rattle.undoing.proofs.Demanded.{Slot, slot-free, slot-live}
+use Rattle.undoing.proofs.Slots.{Slot, slot-free, slot-live}
 use Rattle.undoing.proofs.Told.{slot-after}
 
 -- a mark of one phase is none of another

@@ -4,8 +4,7 @@ use native.Mathlib.Omega.{arith}
 use mathlib.Core.Path.{_≡_, refl, sym, ap, subst, _∙_}
 use mathlib.Core.Bool.{true, false, cond, false≢true}
 use mathlib.Core.List.{List, [], _∷_, _++_}
-use lib.ListN.{length, length-replicate}
-use lib.Seq.{take-append-seam}
+use lib.ListN.{length}
 use Rattle.plan.specs.Found.{Found, found}
 use Rattle.plan.specs.Read.{readPlan}
 use Rattle.plan.specs.Tree.{Plan, size}
@@ -15,14 +14,14 @@ use Rattle.order.specs.declared.End.{End}
 use Rattle.machine.specs.declared.State.{State}
 use Rattle.machine.specs.declared.Tally.{Tally}
 use Rattle.order.specs.Lists.{only}
-use Rattle.order.specs.State.{Name, root, inner, isLive, markOf, noOrder}
+use Rattle.order.specs.State.{Name, root, inner, markOf}
 use Rattle.machine.specs.State.{fresh}
 use Rattle.order.specs.Event.{Event, started, began, closed, faulted, stopped, ended, raised, left}
 use Rattle.order.specs.Scope.{isOpen, rootOf}
 use Rattle.order.specs.Acting.{stepOrder, begunOrder, startedOrder}
-use Rattle.machine.specs.Calls.{loadedAs, load, post, collect, Stepped, step, Call, posting, collecting, stepping}
+use Rattle.machine.specs.Calls.{loadedAs, load, post, collect, Stepped, doingAt, step, Call, posting, collecting, stepping}
 use Rattle.undoing.specs.History.{logOf, history}
-use Rattle.undoing.specs.Demand3.{mayTurn, noneNow}
+use Rattle.undoing.specs.Demand3.{mayTurn}
 use Rattle.undoing.specs.Ties.{isName, fits, Place, bodyOf, faultOf, undoOf, placeOf, Due, nothing, fault, end, dueFirst, dueSecond, dueEnded, due, isFaultOf, isEndOf, heeds, isNothing, heedsAfter, FaultsTold, isRaised}
 use Rattle.undoing.proofs.Parts.{both, same-itself}
 use Rattle.undoing.proofs.Accounts.{accountOf, left-unfinished}
@@ -33,9 +32,10 @@ use Rattle.undoing.proofs.Planning.{Promised, promised}
 use Rattle.undoing.proofs.Shapes.{isGrave, Calm, Handler, in-fault, in-undo, Shape, shape-calm, shape-fault, shape-end-fault, shape-end, shape-lost, OrderShape, shaped, out, order-shape, start-calm}
 use Rattle.undoing.proofs.Fitting.{standing-fits}
 use Rattle.undoing.proofs.Told.{told}
-use Rattle.undoing.proofs.Happening.{orderIn, Happens, nothing-here, goes-here, starts-here, step-happens}
+use Rattle.undoing.proofs.Happening.{orderIn, withMessage, Happens, nothing-here, goes-here, starts-here, step-happens}
 use Rattle.undoing.proofs.Scoping.{Running}
-use Rattle.undoing.proofs.Demanded.{slot-free, Alike, order-starts, post-same, collect-same, fresh-order, Sane, same-sane, step-after}
+use Rattle.undoing.proofs.Slots.{Alike, taking-alike, order-starts, post-same, collect-same, Sane, same-sane, fresh-sane}
+use Rattle.undoing.proofs.Demanded.{step-after}
 
 -- nothing is due
 abbrev pub Clear : Plan → (past : List Event) → Type 0
@@ -186,19 +186,20 @@ module _ (p : Plan) (bytes : List ℕ) (next i : ℕ) (accepted : readPlan bytes
   -- a step, in this slot or elsewhere
   pub step-heeds : (c : ℕ) (s : State) (t : Tally) (past : List Event) → Sane p bytes next i accepted h s past → Clear p past → Heeds past (step c s t)
   unfolding heedsAfter
-  step-heeds c s t past g z = go (step-happens p bytes next i accepted h c s t past g)
+  step-heeds c s t past g z = go (step-happens p bytes next i accepted h c s t past g .happens)
     where
       r : Stepped
       r = step c s t
 
       go : Happens p i s past r → Heeds past r
-      go (nothing-here l e o) = rw l z
-      go (goes-here t o a w st m y l e d) = rw l (order-heeds t (orderIn s i) o past a w st y z)
-      go (starts-here t o a w n y l e d) =
+      go (nothing-here n l e o) = rw l z
+      go (goes-here t v q w st m y l e d) = rw l (order-heeds t (orderIn s i) (withMessage p t v (orderIn s i)) past (taking-alike p (doingAt p t) v (orderIn s i)) w st y z)
+      go (starts-here t v q w n y l e d) =
+          let o = withMessage p t v (startedOrder p) in
           let b = order-starts p h t past y w in
           let l₀ = started ∷ begunOrder p .log in
           let x = calm-heeds p l₀ past (start-calm p) z in
-          rw l (heeds-append p l₀ (stepOrder p t o .log) past x (order-heeds t (startedOrder p) o (onto l₀ past) a w (b .1) (b .2) (heeds-clears p l₀ past x)))
+          rw l (heeds-append p l₀ (stepOrder p t o .log) past x (order-heeds t (startedOrder p) o (onto l₀ past) (taking-alike p (doingAt p t) v (startedOrder p)) w (b .1) (b .2) (heeds-clears p l₀ past x)))
 
   -- over any calls
   heeding : (calls : List Call) (s : State) (t : Tally) (past : List Event) → Sane p bytes next i accepted h s past → Clear p past → heedsAfter p past (history calls i s t) ≡ true
@@ -214,12 +215,7 @@ module _ (p : Plan) (bytes : List ℕ) (next i : ℕ) (accepted : readPlan bytes
 
 -- A raise has its consequences, and nothing faults without one.
 pub faults-told : FaultsTold
-unfolding FaultsTold load fresh noneNow noOrder due
+unfolding FaultsTold load due
 faults-told bytes p next e calls slot t =
     subst (λ (f : Found Plan). heedsAfter p [] (history calls slot (loadedAs bytes f .state) t) ≡ true) (sym e)
-    (heeding p bytes next slot e (promised p (accepted-is-within bytes e)) calls (fresh bytes) t []
-    (record {
-      plan = take-append-seam bytes _;
-      many = length-replicate 16 noOrder;
-      slot = slot-free (ap isLive (fresh-order slot)) refl;
-    }) refl)
+    (heeding p bytes next slot e (promised p (accepted-is-within bytes e)) calls (fresh bytes) t [] (fresh-sane p bytes next slot e (promised p (accepted-is-within bytes e))) refl)

@@ -18,8 +18,9 @@ pub mod Roots
 pub mod Places
 pub mod Planning
 pub mod Offered
-pub mod Demanded
+pub mod Slots
 pub mod Happening
+pub mod Demanded
 pub mod Aside
 pub mod Deeds
 pub mod Shapes
@@ -32,6 +33,8 @@ pub mod Awaiting
 pub mod Going
 pub mod Truly
 pub mod Lasting
+pub mod Keeping
+pub mod Leading
 pub mod BegunTold
 pub mod Bought
 pub mod AllTold

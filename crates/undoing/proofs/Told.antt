@@ -1,12 +1,10 @@
 -- Marks and lists after any calls, by the history: from the ties that hold of every slot. Assumes nothing.
 use Prim.Native.Nat.{ℕ}
-use mathlib.Core.Path.{_≡_, refl, sym, ap, subst, _∙_}
-use mathlib.Core.Bool.{Bool, true, false, not, _&&_, _||_, false≢true}
+use mathlib.Core.Path.{_≡_, refl, sym, subst, _∙_}
+use mathlib.Core.Bool.{Bool, true, false, not, _&&_, false≢true}
 use mathlib.Core.List.{List, [], _∷_, _++_, append-nil}
 use lib.Dec.{eqb}
 use borrow.Author.Tests.{eqb-true}
-use lib.ListN.{length-replicate}
-use lib.Seq.{take-append-seam}
 use Rattle.plan.specs.Found.{Found, found}
 use Rattle.plan.specs.Read.{readPlan}
 use Rattle.plan.proofs.Limits.{accepted-is-within}
@@ -15,7 +13,7 @@ use Rattle.machine.specs.declared.State.{State}
 use Rattle.machine.specs.declared.Tally.{Tally}
 use Rattle.order.specs.Lists.{every}
 use Rattle.machine.specs.Fit.{Ready, readyOf}
-use Rattle.order.specs.State.{idle, active, done, faulty, undoing, handling, halted, withdrawing, markOf, isLive, noOrder}
+use Rattle.order.specs.State.{Name, idle, active, done, faulty, undoing, handling, halted, withdrawing, markOf, isLive}
 use Rattle.machine.specs.State.{fresh}
 use Rattle.order.specs.Event.{Event}
 use Rattle.order.specs.Scope.{isOpen}
@@ -23,7 +21,7 @@ use Rattle.machine.specs.Calls.{loadedAs, load, post, collect, step, Call, post
 use Rattle.undoing.specs.History.{logOf, history}
 use Rattle.undoing.specs.Demand3.{closingsOf, undoneOf, hasTurned, isLeft, mayTurn, noneNow}
 use Rattle.plan.specs.Tree.{Plan}
-use Rattle.undoing.specs.Ties.{stateAfter, orderAfter, pastAfter, LiveTold, isTurned, MarksTold, remembered, ListsTold, fits, placeOf, PlacesTold}
+use Rattle.undoing.specs.Ties.{isName, stateAfter, orderAfter, pastAfter, LiveTold, isTurned, MarksTold, remembered, ListsTold, fits, placeOf, PlacesTold}
 use Rattle.undoing.proofs.Parts.{decide}
 use Rattle.undoing.proofs.Accounts.{Account, accountOf, left-unfinished, Phase, rest, live, waits, undoes, heals, odd, phase, Tied}
 use Rattle.undoing.proofs.Orders.{listOf, onto, onto-append}
@@ -31,7 +29,8 @@ use Rattle.undoing.proofs.Roots.{Awaited, Standing}
 use Rattle.undoing.proofs.Offered.{Each, each-none, each-more, ready-awaited}
 use Rattle.undoing.proofs.Fitting.{standing-fits}
 use Rattle.undoing.proofs.Planning.{Promised, promised}
-use Rattle.undoing.proofs.Demanded.{Slot, slot-free, slot-live, standing-live, post-same, collect-same, fresh-order, Sane, same-sane, step-after}
+use Rattle.undoing.proofs.Slots.{Slot, slot-free, slot-live, standing-live, post-same, collect-same, Sane, same-sane, fresh-sane}
+use Rattle.undoing.proofs.Demanded.{step-after}
 
 -- what a mark of each phase is
 pub record Told (m : ℕ) (left turned : Bool) (finished : Bool) : Type 0 where
@@ -89,15 +88,10 @@ module _ (p : Plan) (bytes : List ℕ) (next i : ℕ) (accepted : readPlan bytes
 -- the slot after any calls from a fresh start
 pub slot-after : (bytes : List ℕ) (p : Plan) (next : ℕ) → readPlan bytes ≡ found p next → (calls : List Call) (slot : ℕ) (t : Tally)
     → Slot p (orderAfter calls slot (load bytes .state) t) (pastAfter calls slot (load bytes .state) t)
-unfolding load fresh noneNow noOrder
+unfolding load
 slot-after bytes p next e calls slot t =
     subst (λ (f : Found Plan). Slot p (orderAfter calls slot (loadedAs bytes f .state) t) (pastAfter calls slot (loadedAs bytes f .state) t)) (sym e)
-    (sanely p bytes next slot e (promised p (accepted-is-within bytes e)) calls (fresh bytes) t []
-    (record {
-      plan = take-append-seam bytes _;
-      many = length-replicate 16 noOrder;
-      slot = slot-free (ap isLive (fresh-order slot)) refl;
-    }) .slot)
+    (sanely p bytes next slot e (promised p (accepted-is-within bytes e)) calls (fresh bytes) t [] (fresh-sane p bytes next slot e (promised p (accepted-is-within bytes e))) .slot)
 
 -- Whether the slot is live.
 pub live-told : LiveTold
@@ -109,16 +103,17 @@ live-told bytes p next e calls slot t = go (slot-after bytes p next e calls slot
     go {o} {past} (slot-live x y) = standing-live p o x ∙ rw (y .now)
 
 -- The marks of the scopes.
+pub slot-marks : {p : Plan} {o : Order} {past : List Event} → Slot p o past → isLive o ≡ true → (n : Name) → isName p n ≡ true
+    → (not (eqb (markOf n o) idle) ≡ isLeft n past) × (isOpen (markOf n o) ≡ mayTurn n past) × (isTurned (markOf n o) ≡ hasTurned n past)
+unfolding mayTurn hasTurned
+slot-marks (slot-free x y) v n i = absurd (false≢true (sym x ∙ v))
+slot-marks {p} {o} {past} (slot-live x y) v n i =
+    let z = told (markOf n o) (listOf p n o) (accountOf p n past) (λ l. left-unfinished n past l) (y .ties n i) in
+    (z .idles, z .opens, z .turns)
+
 pub marks-told : MarksTold
-unfolding MarksTold mayTurn hasTurned
-marks-told bytes p next e calls slot t v n i = go (slot-after bytes p next e calls slot t) v
-  where
-    go : {o : Order} {past : List Event} → Slot p o past → isLive o ≡ true
-        → (not (eqb (markOf n o) idle) ≡ isLeft n past) × (isOpen (markOf n o) ≡ mayTurn n past) × (isTurned (markOf n o) ≡ hasTurned n past)
-    go (slot-free x y) v = absurd (false≢true (sym x ∙ v))
-    go {o} {past} (slot-live x y) v =
-        let z = told (markOf n o) (listOf p n o) (accountOf p n past) (λ l. left-unfinished n past l) (y .ties n i) in
-        (z .idles, z .opens, z .turns)
+unfolding MarksTold
+marks-told bytes p next e calls slot t = slot-marks (slot-after bytes p next e calls slot t)
 
 -- What is remembered for them.
 pub lists-told : ListsTold

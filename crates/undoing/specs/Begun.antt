@@ -1,48 +1,183 @@
--- What a step logs as begun has begun: it is marked, where it lasts. So no beginning is only claimed. Assumes nothing: these are definitions.
-use Prim.Native.Nat.{ℕ, _+_}
+-- What a step logs as begun has begun, and nothing else has: the beginnings of a log against the marks before and after it. So none is only claimed,
+-- and none is left out. Assumes nothing: these are definitions.
+use Prim.Native.Nat.{ℕ, zero, suc, _+_}
 use mathlib.Core.Path.{_≡_}
-use mathlib.Core.Bool.{Bool, true, false, not, _||_}
-use mathlib.Core.List.{List}
+use mathlib.Core.Bool.{Bool, true, false, cond, not, _&&_, _||_}
+use mathlib.Core.List.{List, [], _∷_, _++_}
 use lib.ListN.{getD}
 use lib.Dec.{ltb, eqb}
 use Rattle.plan.specs.Found.{found}
 use Rattle.plan.specs.Read.{readPlan}
 use Rattle.plan.specs.Tree.{Own, kind, Act, act, Acts, none, more, Plan, size}
+use Rattle.order.specs.declared.Order.{Order}
+use Rattle.machine.specs.declared.State.{State}
 use Rattle.machine.specs.declared.Tally.{Tally}
-use Rattle.order.specs.Lists.{some}
-use Rattle.order.specs.State.{idle, markAt, isLive, noOrder}
+use Rattle.order.specs.Lists.{every, some}
+use Rattle.order.specs.State.{idle, inside, markAt, isLive, noOrder}
 use Rattle.order.specs.Event.{Event}
-use Rattle.machine.specs.Calls.{loaded, step, Call}
+use Rattle.order.specs.Scope.{isScope}
+use Rattle.order.specs.Acting.{isPart, startedOrder}
+use Rattle.machine.specs.Calls.{loaded, post, collect, Stepped, step, Call, posting, collecting, stepping}
 use Rattle.undoing.specs.History.{logOf}
+use Rattle.undoing.specs.Ties.{isTaken}
 use Rattle.undoing.specs.Orderly.{isBeganOf}
-use Rattle.undoing.specs.Ties.{stateAfter}
+
+-- the kind of activity t, where k is the number of the first
+unfoldable mutual
+  pub kindIn : Act → (k t : ℕ) → ℕ
+  kindIn (act own within) k t = elim (eqb k t) [ true ↦ kind own | false ↦ kindAmong within (k + 1) t ]
+
+  pub kindAmong : Acts → (c t : ℕ) → ℕ
+  kindAmong none c t = 0
+  kindAmong (more a l) c t = elim (ltb t (c + size a)) [ true ↦ kindIn a c t | false ↦ kindAmong l (c + size a) t ]
+
+unfoldable pub kindAt : Plan → (activity : ℕ) → ℕ
+kindAt p t = elim (ltb t (size (p .body))) [ true ↦ kindIn (p .body) 0 t | false ↦ kindIn (p .fault) (size (p .body)) t ]
 
 -- "Sequence, flow and empty move on inside the step that lets them", and arms have no mark: any other activity that begins lasts beyond its step
-unfoldable pub lasts : Own → Bool
-lasts own = not (eqb (kind own) 0 || ((eqb (kind own) 8 || eqb (kind own) 9) || eqb (kind own) 12))
+unfoldable pub lasts : (kind : ℕ) → Bool
+lasts n = not (eqb n 0 || ((eqb n 8 || eqb n 9) || eqb n 12))
 
--- activity t, where k is the number of the first
+-- whether an activity has steps of its own: a pick has those of its arms
+unfoldable pub acts : (kind : ℕ) → Bool
+acts n = not ((eqb n 0 || eqb n 10) || ((eqb n 8 || eqb n 9) || eqb n 12))
+
+-- whether step t is that of activity j: j is t, or a pick one of whose arms is t
 unfoldable mutual
-  pub lastsIn : Act → (k t : ℕ) → Bool
-  lastsIn (act own within) k t = elim (eqb k t) [ true ↦ lasts own | false ↦ lastsAmong within (k + 1) t ]
+  pub ownsIn : Act → (k t j : ℕ) → Bool
+  ownsIn (act own within) k t j =
+      elim (eqb k t) [
+        | true ↦ eqb k j && acts (kind own)
+        | false ↦ elim (eqb (kind own) 10 && isPart within (k + 1) t) [ true ↦ eqb k j | false ↦ ownsAmong within (k + 1) t j ]
+      ]
 
-  pub lastsAmong : Acts → (c t : ℕ) → Bool
-  lastsAmong none c t = false
-  lastsAmong (more a l) c t = elim (ltb t (c + size a)) [ true ↦ lastsIn a c t | false ↦ lastsAmong l (c + size a) t ]
+  pub ownsAmong : Acts → (c t j : ℕ) → Bool
+  ownsAmong none c t j = false
+  ownsAmong (more a l) c t j = elim (ltb t (c + size a)) [ true ↦ ownsIn a c t j | false ↦ ownsAmong l (c + size a) t j ]
 
-unfoldable pub lastsAt : Plan → (activity : ℕ) → Bool
-lastsAt p t = elim (ltb t (size (p .body))) [ true ↦ lastsIn (p .body) 0 t | false ↦ lastsIn (p .fault) (size (p .body)) t ]
+unfoldable pub ownsAt : Plan → (t j : ℕ) → Bool
+ownsAt p t j =
+    elim (ltb t (size (p .body))) [ true ↦ ownsIn (p .body) 0 t j | false ↦ ownsIn (p .fault) (size (p .body)) t j ]
 
 -- whether an activity began with these events
 abbrev pub hasBegan : (activity : ℕ) → List Event → Bool
 hasBegan k l = some (isBeganOf (eqb k)) l
 
--- After any run, of every step of a live order that leaves it live: each activity that it logs as begun, and that lasts, is marked. (A start receive
--- begins and has its step at once.)
+-- A step taken: its activity, the order in its slot before and after it, and what it logged.
+pub record Taken : Type 0 where
+  pub activity : ℕ
+  pub before : Order
+  pub after : Order
+  pub log : List Event
+
+-- the mark of an activity before the step: where no order was live, idle
+abbrev pub markBefore : (activity : ℕ) → Taken → ℕ
+markBefore k x = cond (isLive (x .before)) (markAt k (x .before)) idle
+
+-- No beginning is only claimed: an activity that a step logs as begun, and that lasts, is marked afterwards; or, with an order that starts, as it starts: a start
+-- receive begins and has its step at once.
+unfoldable pub isMarked : Plan → Taken → (activity : ℕ) → Bool
+isMarked p x k =
+    not (lasts (kindAt p k) && hasBegan k (x .log))
+    || (not (eqb (markAt k (x .after)) idle) || (not (isLive (x .before)) && not (eqb (markAt k (startedOrder p)) idle)))
+
+-- in its own step a choose goes inside, as a pick does in that of its arm, and a repeat begins its body
+unfoldable pub goesIn : (kind after : ℕ) → (bodyBegan : Bool) → Bool
+goesIn n y b = (eqb n 7 && b) || ((eqb n 6 || eqb n 10) && eqb y inside)
+
+-- None is left out: the mark of an activity that did not begin is idle after the step, or it was not idle before and either has not changed, the step not
+-- being that activity's; or goes in with its own step; or is that of a repeat, which decides again. (The mark of a scope is what the history says of it.)
+unfoldable pub mayBe : (kind : ℕ) → (itsStep bodyBegan : Bool) → (before after : ℕ) → Bool
+mayBe n s b x y = eqb y idle || (not (eqb x idle) && (eqb n 11 || cond s (goesIn n y b) (eqb y x || eqb n 7)))
+
+unfoldable pub hasBegun : Plan → Taken → (activity : ℕ) → Bool
+hasBegun p x k = hasBegan k (x .log) || mayBe (kindAt p k) (ownsAt p (x .activity) k) (hasBegan (k + 1) (x .log)) (markBefore k x) (markAt k (x .after))
+
+-- What an activity begins with: alone, as the parts of a plan and the fault and undo parts of a scope do (of which Orderly and demand 3 speak); together with the
+-- one around it, as the body of a scope and what stands in a flow; with that one or after another, in a sequence; in that one's step, in a choose,
+-- a repeat or an arm.
+pub data Lead : Type 0 where
+  alone : Lead
+  together : (around : ℕ) → Lead
+  inOrder : (around : ℕ) → Lead
+  inStep : (around : ℕ) → Lead
+
+-- of what stands in activity k, which is no scope
+abbrev pub leadOf : Own → (k : ℕ) → Lead
+leadOf own k = cond (eqb (kind own) 8) (inOrder k) (cond (eqb (kind own) 9) (together k) (inStep k))
+
+-- activity j, in activity k that begins so
+unfoldable mutual
+  pub leadIn : Act → (k j : ℕ) → Lead → Lead
+  leadIn (act own within) k j q =
+      elim (eqb k j) [
+        | true ↦ q
+        | false ↦ elim (isScope own) [ true ↦ leadParts within (k + 1) j (together k) | false ↦ leadAmong within (k + 1) j (leadOf own k) ]
+      ]
+
+  pub leadAmong : Acts → (c j : ℕ) → Lead → Lead
+  leadAmong none c j q = alone
+  leadAmong (more a l) c j q = elim (ltb j (c + size a)) [ true ↦ leadIn a c j q | false ↦ leadAmong l (c + size a) j q ]
+
+  -- the parts of a scope, the body first
+  pub leadParts : Acts → (c j : ℕ) → Lead → Lead
+  leadParts none c j q = alone
+  leadParts (more a l) c j q = elim (ltb j (c + size a)) [ true ↦ leadIn a c j q | false ↦ leadAmong l (c + size a) j alone ]
+
+unfoldable pub leadAt : Plan → (activity : ℕ) → Lead
+leadAt p j =
+    elim (ltb j (size (p .body))) [ true ↦ leadIn (p .body) 0 j alone | false ↦ leadIn (p .fault) (size (p .body)) j alone ]
+
+-- activity j may begin with these events of a step t: in a sequence also where t stands in it before j
+unfoldable pub mayLead : Lead → (t j : ℕ) → List Event → Bool
+mayLead alone t j l = true
+mayLead (together k) t j l = hasBegan k l
+mayLead (inOrder k) t j l = hasBegan k l || (ltb k t && ltb t j)
+mayLead (inStep k) t j l = eqb k t
+
+-- None begins out of turn: what a step logs as begun begins with what it should.
+unfoldable pub isLed : Plan → Taken → (activity : ℕ) → Bool
+isLed p x k = not (hasBegan k (x .log)) || mayLead (leadAt p k) (x .activity) k (x .log)
+
+-- the activities of a plan
+unfoldable pub numbers : (n : ℕ) → List ℕ
+numbers zero = []
+numbers (suc n) = n ∷ numbers n
+
+abbrev pub ofEach : (Plan → Taken → (activity : ℕ) → Bool) → Plan → Taken → Bool
+ofEach f p x = not (isLive (x .after)) || every (f p x) (numbers (size (p .body) + size (p .fault)))
+
+-- the steps taken in a slot with these calls
+abbrev pub takenBy : (slot : ℕ) → State → Stepped → List Taken
+takenBy i s r =
+    cond (isTaken i r)
+    (record {
+      activity = r .answer .activity;
+      before = getD (s .orders) i noOrder;
+      after = getD (r .state .orders) i noOrder;
+      log = logOf i r;
+    }
+    ∷ [])
+    []
+
+unfoldable pub stepsTaken : List Call → (slot : ℕ) → State → Tally → List Taken
+stepsTaken [] i s t = []
+stepsTaken (posting m ∷ l) i s t = stepsTaken l i (post m s .state) t
+stepsTaken (collecting ∷ l) i s t = stepsTaken l i (collect s .state) t
+stepsTaken (stepping c ∷ l) i s t = let r = step c s t in takenBy i s r ++ stepsTaken l i (r .state) (r .tally)
+
+-- What holds of every step taken, over any run of posts, collects and choices from a fresh start, for every accepted plan and every slot, where the order
+-- lives on.
+abbrev pub OfEachStep : (Plan → Taken → (activity : ℕ) → Bool) → Type 0
+OfEachStep f =
+    (bytes : List ℕ) (p : Plan) (next : ℕ) → readPlan bytes ≡ found p next → (calls : List Call) (slot : ℕ) (t : Tally) →
+    every (ofEach f p) (stepsTaken calls slot (loaded bytes) t) ≡ true
+
 unfoldable pub BegunTruly : Type 0
-BegunTruly =
-    (bytes : List ℕ) (p : Plan) (next : ℕ) → readPlan bytes ≡ found p next → (calls : List Call) (choice slot : ℕ) (t t′ : Tally) →
-    let s = stateAfter calls (loaded bytes) t in
-    let r = step choice s t′ in
-    let o = getD (r .state .orders) slot noOrder in
-    isLive (getD (s .orders) slot noOrder) ≡ true → isLive o ≡ true → (k : ℕ) → lastsAt p k ≡ true → hasBegan k (logOf slot r) ≡ true → not (eqb (markAt k o) idle) ≡ true
+BegunTruly = OfEachStep isMarked
+
+unfoldable pub BegunAll : Type 0
+BegunAll = OfEachStep hasBegun
+
+unfoldable pub BegunInTurn : Type 0
+BegunInTurn = OfEachStep isLed

@@ -134,10 +134,14 @@ having p i s = let o = getD (s .orders) i noOrder in cond (isLive o) o (startedO
 abbrev pub starting : (slot : ℕ) → State → List Event
 starting i s = cond (isLive (getD (s .orders) i noOrder)) [] (started ∷ [])
 
--- the step of this answer, where it was taken and its slot is this one
+-- a step was taken, in this slot
+abbrev pub isTaken : (slot : ℕ) → Stepped → Bool
+isTaken i r = eqb (r .answer .refusal) 0 && eqb (r .answer .slot) i
+
+-- the step of this answer, where it was taken in this slot
 unfoldable pub deedBy : Plan → (slot : ℕ) → State → Stepped → List Event
 deedBy p i s r =
-    cond (eqb (r .answer .refusal) 0 && eqb (r .answer .slot) i) (starting i s ++ deedAt p (r .answer .activity) (having p i s)) []
+    cond (isTaken i r) (starting i s ++ deedAt p (r .answer .activity) (having p i s)) []
 
 unfoldable pub deedsTaken : Plan → List Call → (slot : ℕ) → State → Tally → List Event
 deedsTaken p [] i s t = []

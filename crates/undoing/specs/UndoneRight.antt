@@ -21,14 +21,18 @@ use Rattle.undoing.specs.History.{history}
 use Rattle.undoing.specs.Demand3.{scopesOf, closingsOf, undoneOf, hasTurned, isLeft, mayTurn, noneNow, right}
 use Rattle.undoing.specs.Ties.{orderAfter, isTurned, remembered, isDeed, deedsTaken, placeOf, heedsAfter, endsIn, endsTaken, fits, isStep, movesOn, goIn}
 use Rattle.undoing.specs.Orderly.{orderlyAfter}
+use Rattle.undoing.specs.Begun.{Taken, isMarked, hasBegun, isLed, ofEach, stepsTaken}
 
--- The statements, by name. Each is a file's or a part's: see Demand3, Orderly and Ties.
+-- The statements, by name. Each is a file's or a part's: see Demand3, Orderly, Ties and Begun.
 pub data Named : Type 0 where
   demand3 : Named
   orderly : Named
   faults : Named
   steps : Named
   ends : Named
+  begunTruly : Named
+  begunAll : Named
+  begunInTurn : Named
   live : Named
   marks : Named
   lists : Named
@@ -79,15 +83,19 @@ abbrev pub unless : Bool → Named → List Named
 unless true n = []
 unless false n = n ∷ []
 
--- which of the statements a history breaks: of a plan, for these steps taken and these ends answered, where this order stands in the slot
-unfoldable pub broken : Plan → (deeds : List Event) → (answered : List End) → Order → (happened : List Event) → List Named
-broken p ds es o l =
+-- which of the statements a history breaks: of a plan, for what the steps taken are and these ends answered, for these steps with what stood in the slot
+-- before and after each, and where this order stands there now
+unfoldable pub broken : Plan → (deeds : List Event) → (answered : List End) → List Taken → Order → (happened : List Event) → List Named
+broken p ds es ts o l =
     let past = reverse l in
     unless (right p l) demand3
     ++ (unless (orderlyAfter p [] l) orderly
     ++ (unless (heedsAfter p [] l) faults
     ++ (unless (sameEvents (only isDeed l) ds) steps
     ++ (unless (sameEnds (endsIn [] l) es) ends
+    ++ (unless (every (ofEach isMarked p) ts) begunTruly
+    ++ (unless (every (ofEach hasBegun p) ts) begunAll
+    ++ (unless (every (ofEach isLed p) ts) begunInTurn
     ++ (unless (sameBool (isLive o) (not (noneNow past))) live
     ++ cond (isLive o)
     (unless (every (markTold o past) (namesOf p)) marks
@@ -95,11 +103,11 @@ broken p ds es o l =
     ++ (unless (every (λ r. fits (placeOf p (r .activity)) o) (readyOf p o)) places
     ++ (unless (movesOn (rootOf p) (o .root) (o .marks) && (goIn (p .body) 0 (o .marks) && goIn (p .fault) (size (p .body)) (o .marks))) goingOn
     ++ unless (some (λ r. isStep (r .step)) (readyOf p o)) neverStuck))))
-    [])))))
+    []))))))))
 
 -- For every accepted plan, every run of posts, collects and choices from a fresh start, and every slot, the history of the slot breaks none.
 unfoldable pub UndoneRight : Type 0
 UndoneRight =
     (bytes : List ℕ) (p : Plan) (next : ℕ) → readPlan bytes ≡ found p next → (calls : List Call) (slot : ℕ) (t : Tally) →
-    broken p (deedsTaken p calls slot (loaded bytes) t) (endsTaken calls slot (loaded bytes) t) (orderAfter calls slot (loaded bytes) t) (history calls slot (loaded bytes) t)
+    broken p (deedsTaken p calls slot (loaded bytes) t) (endsTaken calls slot (loaded bytes) t) (stepsTaken calls slot (loaded bytes) t) (orderAfter calls slot (loaded bytes) t) (history calls slot (loaded bytes) t)
     ≡ []
