@@ -1,4 +1,4 @@
-//! Tells the linker where the proved library is, when the feature `library` is on.
+//! Tells the linker where the proved libraries are, when the features that link them are on.
 
 use std::env;
 use std::path::PathBuf;
@@ -6,14 +6,19 @@ use std::path::PathBuf;
 fn main() {
     println!("cargo::rerun-if-changed=build.rs");
     println!("cargo::rerun-if-env-changed=MOONHALYARD_LIB");
-    if env::var_os("CARGO_FEATURE_LIBRARY").is_none() {
-        return;
+    for (feature, library) in [("LIBRARY", "boundary"), ("WRITING", "boundary_writer")] {
+        if env::var_os(format!("CARGO_FEATURE_{feature}")).is_some() {
+            link(library);
+        }
     }
+}
+
+fn link(library: &str) {
     // A relative folder counts from this package's folder.
     let here = PathBuf::from(env::var_os("CARGO_MANIFEST_DIR").unwrap());
     let folder = env::var_os("MOONHALYARD_LIB").unwrap_or("../target/staticlib".into());
     let folder = here.join(folder);
-    let archive = folder.join("libboundary.a");
+    let archive = folder.join(format!("lib{library}.a"));
     if !archive.exists() {
         println!(
             "cargo::error=no {}: build the proved library or set MOONHALYARD_LIB",
@@ -22,5 +27,5 @@ fn main() {
     }
     println!("cargo::rerun-if-changed={}", archive.display());
     println!("cargo::rustc-link-search=native={}", folder.display());
-    println!("cargo::rustc-link-lib=static:-bundle=boundary");
+    println!("cargo::rustc-link-lib=static:-bundle={library}");
 }

@@ -5,7 +5,7 @@ use crate::generate::{Kind, Sheet};
 use crate::packed::{self, SIZE};
 use crate::state::Message;
 
-/// The sample plan, taken in when this package is built.
+/// The sample plan as text, taken in when this package is built.
 pub const SAMPLE: &str = include_str!("../../examples/order.txt");
 
 fn message(partner: u32, operation: u32, values: &[u32]) -> Message {
@@ -90,12 +90,7 @@ pub fn repeating() -> Vec<u8> {
 
 /// The sample order from its start to its end, paid: the state before each step.
 pub fn sample() -> Vec<Vec<u8>> {
-    let digits: String = SAMPLE
-        .lines()
-        .map(|line| line.split('#').next().unwrap_or(""))
-        .flat_map(str::split_whitespace)
-        .collect();
-    let plan = crate::vectors::bytes(&digits).expect("a plan in hexadecimal");
+    let plan = crate::text::read(SAMPLE.as_bytes()).expect("a plan as text");
     let mut state = loaded(&plan);
     let mut states = Vec::new();
     let answers = [

@@ -5,6 +5,7 @@
 //! - `cargo test --offline` checks the model by itself; no library is needed.
 //! - `model/run compare [SEED] [COUNT]` asks the library in a process of its own.
 //! - `model/run writing [SEED] [COUNT]` does so for the writer.
+//! - `model/run texts [SEED] [COUNT]` asks the desk, for plans as text.
 //! - `model/run bench` links `libboundary.a`, on x86-64.
 
 #![deny(unsafe_code)]
@@ -28,9 +29,14 @@ pub mod rows;
 pub mod scenarios;
 pub mod scramble;
 pub mod state;
+pub mod text;
 pub mod vectors;
 pub mod wander;
 
 #[cfg(feature = "library")]
 #[allow(unsafe_code)]
 pub mod boundary;
+
+#[cfg(feature = "writing")]
+#[allow(unsafe_code)]
+pub mod boundary_writer;

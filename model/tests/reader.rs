@@ -3,6 +3,7 @@
 use model::edges::{self, Answer};
 use model::generate::{self, Random};
 use model::reader::{self, Part, Refusal, read, read_number};
+use model::text::{self, Wrong};
 use model::vectors;
 
 fn refused(number: u32, place: u32) -> Result<usize, Refusal> {
@@ -215,4 +216,20 @@ fn a_plan_used_again_holds_nothing_old() {
     assert_eq!(plan.count(), 2);
     assert!(reader::read_into(&A[..10], &mut plan).is_err());
     assert_eq!(plan.count(), 0);
+}
+
+#[test]
+fn plans_as_text() {
+    let text = "variable v0 (correlation)\nvariable v1\n  0  root body: receive from partner 3, operation 5: v0 (correlation), v1\n  1  root fault part: empty\n";
+    assert_eq!(text::read(text.as_bytes()), Ok(A.to_vec()));
+    let cut = text.lines().take(3).collect::<Vec<_>>().join("\n");
+    assert_eq!(text::read(cut.as_bytes()), Err(Wrong::Line(3)));
+    let empty = "variable a\nempty\nempty";
+    assert_eq!(text::read(empty.as_bytes()), Err(Wrong::Refused(7, 2)));
+    // the sample plan, as it was in bytes before it was a text
+    let sample = "010401000807020000020001010b010100020102020002060401020000040009020b0802010c03020001020204010000010c050200010b0802010d06020001020307010000010d080100010e090200010a02040a0100010a0b0100040c02000304010a0d0100";
+    assert_eq!(
+        text::read(model::fullest::SAMPLE.as_bytes()).ok(),
+        vectors::bytes(sample)
+    );
 }

@@ -1,6 +1,7 @@
 // A state with its tally in a file: save and open.
 use super::Desk;
 use super::answering::shown;
+use super::writing::forget;
 use machine::State;
 use plan::Answer;
 use store::Kept;
@@ -232,7 +233,8 @@ fn is_sound(state: State) -> bool {
     }
 }
 
-fn copied(plan: &[u8; 4096], bytes: &mut [u8; 8000]) {
+// A plan becomes the last plan.
+pub(crate) fn copied(plan: &[u8; 4096], bytes: &mut [u8; 8000]) {
     let mut i = 0;
     while i < 4096 {
         bytes[i] = plan[i];
@@ -270,6 +272,7 @@ fn taken(
     kept: Kept,
     number: u64,
     bytes: &mut [u8; 8000],
+    names: &mut [u8; 4752],
     out: &mut [u8; 4096],
 ) -> Desk {
     if kept.refused {
@@ -277,13 +280,23 @@ fn taken(
     }
     let state = kept.state;
     if is_sound(state) {
-        return reopened(kept, bytes, out, desk.used);
+        let before = desk.state;
+        let d = reopened(kept, bytes, out, desk.used);
+        forget(before, bytes, d.plan, names);
+        return d;
     }
     put_foreign(desk, number, out)
 }
 
 // What a file that was opened holds becomes the state and the tally.
-fn read(desk: Desk, fd: i32, number: u64, bytes: &mut [u8; 8000], out: &mut [u8; 4096]) -> Desk {
+fn read(
+    desk: Desk,
+    fd: i32,
+    number: u64,
+    bytes: &mut [u8; 8000],
+    names: &mut [u8; 4752],
+    out: &mut [u8; 4096],
+) -> Desk {
     // one byte more than a state has, so that a longer file is known
     let mut packed = [0u8; 11965];
     let n = io::read_full(fd, &mut packed);
@@ -293,7 +306,7 @@ fn read(desk: Desk, fd: i32, number: u64, bytes: &mut [u8; 8000], out: &mut [u8;
         return told(desk, number, b"open", e, out);
     }
     let kept = store::unpack(&packed[..n]);
-    taken(desk, kept, number, bytes, out)
+    taken(desk, kept, number, bytes, names, out)
 }
 
 // Opens a file that was saved.
@@ -302,11 +315,12 @@ pub(crate) fn open(
     file: &[u8],
     number: u64,
     bytes: &mut [u8; 8000],
+    names: &mut [u8; 4752],
     out: &mut [u8; 4096],
 ) -> Desk {
     let fd = os::open_read(file);
     if fd < 0 {
         return told(desk, number, b"open", failure(), out);
     }
-    read(desk, fd, number, bytes, out)
+    read(desk, fd, number, bytes, names, out)
 }

@@ -3,7 +3,9 @@ mod answering;
 mod files;
 mod lists;
 mod plans;
+mod reasons;
 mod taking;
+mod writing;
 
 use answering::shown;
 use answering::wrong;
@@ -16,6 +18,7 @@ use text::Listed;
 use text::Numbered;
 use text::Worded;
 use wording::put_error;
+pub use writing::write;
 
 // The state that orders run on, the tally, how many bytes the last plan has, and how many bytes wait to be written.
 pub struct Desk {
@@ -25,29 +28,38 @@ pub struct Desk {
     pub used: usize,
 }
 
-// A command that stands alone.
-fn answer_alone(desk: Desk, what: Alone, bytes: &[u8; 8000], out: &mut [u8; 4096]) -> Desk {
+// A command that stands alone. (The lines after a write are its caller's to gather: here it has none.)
+fn answer_alone(
+    desk: Desk,
+    what: Alone,
+    number: u64,
+    bytes: &mut [u8; 8000],
+    names: &mut [u8; 4752],
+    out: &mut [u8; 4096],
+) -> Desk {
     match what {
-        Alone::Draw => plans::draw(desk, bytes, out),
+        Alone::Draw => plans::draw(desk, bytes, names, out),
+        Alone::Names => plans::names(desk, bytes, names, out),
+        Alone::Write => writing::write(desk, b"", number, bytes, names, out),
         Alone::Collect => taking::collect(desk, out),
         Alone::Offer | Alone::Waiting | Alone::Tally | Alone::Orders | Alone::Offers => {
-            let used = put_alone(desk, what, out);
+            let used = put_alone(desk, what, names, out);
             shown(desk, used)
         }
     }
 }
 
 // One that changes nothing.
-fn put_alone(desk: Desk, what: Alone, out: &mut [u8; 4096]) -> usize {
+fn put_alone(desk: Desk, what: Alone, names: &[u8; 4752], out: &mut [u8; 4096]) -> usize {
     let state = desk.state;
     let tally = desk.tally;
     match what {
         Alone::Offer => wording::put_offer(out, desk.used, state),
         Alone::Waiting => wording::put_waiting(out, desk.used, state),
         Alone::Tally => taking::put_tally(out, desk.used, tally),
-        Alone::Orders => wording::put_orders(out, desk.used, state),
-        Alone::Offers => wording::put_offers(out, desk.used, state),
-        Alone::Draw | Alone::Collect => desk.used,
+        Alone::Orders => wording::put_orders(out, desk.used, names, state),
+        Alone::Offers => wording::put_offers(out, desk.used, names, state),
+        Alone::Draw | Alone::Collect | Alone::Names | Alone::Write => desk.used,
     }
 }
 
@@ -58,23 +70,30 @@ fn answer_worded(
     word: &[u8],
     number: u64,
     bytes: &mut [u8; 8000],
+    names: &mut [u8; 4752],
     out: &mut [u8; 4096],
 ) -> Desk {
     match what {
-        Worded::Plan => plans::load(desk, word, number, bytes, out),
+        Worded::Plan => plans::load(desk, word, number, bytes, names, out),
         Worded::Save => files::save(desk, word, number, out),
-        Worded::Open => files::open(desk, word, number, bytes, out),
+        Worded::Open => files::open(desk, word, number, bytes, names, out),
     }
 }
 
 // The order in a slot.
-fn answer_order(desk: Desk, slot: u32, number: u64, out: &mut [u8; 4096]) -> Desk {
+fn answer_order(
+    desk: Desk,
+    slot: u32,
+    number: u64,
+    names: &[u8; 4752],
+    out: &mut [u8; 4096],
+) -> Desk {
     if 15 < slot {
         let used = put_error(out, desk.used, number, b"the slots are 0 to 15");
         return shown(desk, used);
     }
     let state = desk.state;
-    let used = wording::put_order(out, desk.used, state, slot as usize);
+    let used = wording::put_order(out, desk.used, names, state, slot as usize);
     shown(desk, used)
 }
 
@@ -85,12 +104,13 @@ fn answer_numbered(
     k: u32,
     number: u64,
     bytes: &[u8; 8000],
+    names: &[u8; 4752],
     out: &mut [u8; 4096],
 ) -> Desk {
     match what {
         Numbered::Show => plans::show(desk, k, bytes, out),
         Numbered::Step => taking::step(desk, k, out),
-        Numbered::Order => answer_order(desk, k, number, out),
+        Numbered::Order => answer_order(desk, k, number, names, out),
     }
 }
 
@@ -109,28 +129,30 @@ fn answer_listed(
     }
 }
 
-// The answer to a line, whose number is `number`. The last plan stands in `bytes`.
+// The answer to a line, whose number is `number`. The last plan stands in `bytes`, and its names, where it was written with some, in `names`.
 pub fn answer(
     desk: Desk,
     line: &[u8],
     number: u64,
     bytes: &mut [u8; 8000],
+    names: &mut [u8; 4752],
     out: &mut [u8; 4096],
 ) -> Desk {
     let c = text::command_of(line);
     match c {
         Command::Nothing => desk,
         Command::Wrong { why } => wrong(desk, number, why, out),
-        Command::Alone { what } => answer_alone(desk, what, bytes, out),
+        Command::Alone { what } => answer_alone(desk, what, number, bytes, names, out),
         Command::Worded { what, from, to } => answer_worded(
             desk,
             what,
             &line[from..to],
             number,
             bytes,
+            names,
             out,
         ),
-        Command::Numbered { what, k } => answer_numbered(desk, what, k, number, bytes, out),
+        Command::Numbered { what, k } => answer_numbered(desk, what, k, number, bytes, names, out),
         Command::Listed { what, from } => answer_listed(desk, what, line, from, number, out),
     }
 }

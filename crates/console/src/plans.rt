@@ -1,6 +1,7 @@
-// The commands on plans: plan, show and draw. The last plan is the first `plan` bytes of `bytes`, accepted or refused.
+// The commands on plans: plan, show, draw and names. The last plan is the first `plan` bytes of `bytes`, accepted or refused.
 use super::Desk;
 use super::answering::shown;
+use super::writing::forget;
 use machine::Loaded;
 use plan::Answer;
 use text::Hex;
@@ -9,6 +10,7 @@ use wording::put_byte;
 use wording::put_drawing;
 use wording::put_error;
 use wording::put_hex;
+use wording::put_names;
 use wording::put_number;
 use wording::put_pair;
 
@@ -33,23 +35,51 @@ fn put_plan(s: &[u8], out: &mut [u8; 4096], used: usize) -> usize {
     }
 }
 
-fn put_draw(s: &[u8], out: &mut [u8; 4096], used: usize) -> usize {
+// What the last plan is called, and, where it is to be drawn, its drawing; a blank line.
+fn put_accepted(
+    names: &[u8; 4752],
+    table: &[u32; 11584],
+    correlation: &[u8; 16],
+    variables: u32,
+    activities: usize,
+    drawn: bool,
+    out: &mut [u8; 4096],
+    used: usize,
+) -> usize {
+    let at = put_names(out, used, names, correlation, variables);
+    if drawn {
+        return put_drawing(out, at, names, table, correlation, activities);
+    }
+    put_byte(out, at, 10)
+}
+
+fn put_refused(drawn: bool, number: u32, place: usize, out: &mut [u8; 4096], used: usize) -> usize {
+    if drawn {
+        return put_pair(out, used, b"draw", number as u64, place as u64);
+    }
+    put_pair(out, used, b"names", number as u64, place as u64)
+}
+
+fn put_draw(s: &[u8], names: &[u8; 4752], drawn: bool, out: &mut [u8; 4096], used: usize) -> usize {
     let mut table = [0u32; 11584];
     let mut correlation = [0u8; 16];
     let a = plan::accept(s, &mut table, &mut correlation);
     match a {
-        Answer::Refused { number, place } => put_pair(
-            out,
-            used,
-            b"draw",
-            number as u64,
-            place as u64,
-        ),
+        Answer::Refused { number, place } => put_refused(drawn, number, place, out, used),
         Answer::Accepted {
-            variables: _,
+            variables,
             activities,
             nodes: _,
-        } => put_drawing(out, used, &table, &correlation, activities),
+        } => put_accepted(
+            names,
+            &table,
+            &correlation,
+            variables,
+            activities,
+            drawn,
+            out,
+            used,
+        ),
     }
 }
 
@@ -72,15 +102,37 @@ fn put_show(s: &[u8], k: u32, out: &mut [u8; 4096], used: usize) -> usize {
 }
 
 // The same of the last plan.
-fn draw_of(bytes: &[u8], plan: usize, out: &mut [u8; 4096], used: usize) -> usize {
+fn draw_of(
+    bytes: &[u8],
+    plan: usize,
+    names: &[u8; 4752],
+    drawn: bool,
+    out: &mut [u8; 4096],
+    used: usize,
+) -> usize {
     if plan <= bytes.len() {
-        return put_draw(&bytes[0..plan], out, used);
+        return put_draw(&bytes[0..plan], names, drawn, out, used);
     }
     used
 }
 
-pub(crate) fn draw(desk: Desk, bytes: &[u8; 8000], out: &mut [u8; 4096]) -> Desk {
-    let used = draw_of(bytes, desk.plan, out, desk.used);
+pub(crate) fn draw(
+    desk: Desk,
+    bytes: &[u8; 8000],
+    names: &[u8; 4752],
+    out: &mut [u8; 4096],
+) -> Desk {
+    let used = draw_of(bytes, desk.plan, names, true, out, desk.used);
+    shown(desk, used)
+}
+
+pub(crate) fn names(
+    desk: Desk,
+    bytes: &[u8; 8000],
+    names: &[u8; 4752],
+    out: &mut [u8; 4096],
+) -> Desk {
+    let used = draw_of(bytes, desk.plan, names, false, out, desk.used);
     shown(desk, used)
 }
 
@@ -97,7 +149,7 @@ pub(crate) fn show(desk: Desk, k: u32, bytes: &[u8; 8000], out: &mut [u8; 4096])
 }
 
 // The desk on a state that was loaded, with an empty tally.
-fn fresh(loaded: Loaded, plan: usize, used: usize) -> Desk {
+pub(crate) fn fresh(loaded: Loaded, plan: usize, used: usize) -> Desk {
     let state = loaded.state;
     let tally = machine::no_tally();
     Desk {
@@ -135,11 +187,16 @@ pub(crate) fn load(
     word: &[u8],
     number: u64,
     bytes: &mut [u8; 8000],
+    names: &mut [u8; 4752],
     out: &mut [u8; 4096],
 ) -> Desk {
     let h = text::decode(word, bytes);
     match h {
-        Hex::Bytes { count } => loaded_in(desk, bytes, count, out),
+        Hex::Bytes { count } => {
+            let before = desk.state;
+            forget(before, bytes, count, names);
+            loaded_in(desk, bytes, count, out)
+        }
         Hex::Long => {
             let used = put_error(out, desk.used, number, b"more than 8000 bytes");
             shown(desk, used)

@@ -109,10 +109,19 @@ fn found(differs: u64, same: bool, number: u64) -> u64 {
 // A command with its answer.
 fn tried(s: Session, line: &[u8], number: u64, bytes: &mut [u8; 8000]) -> Session {
     let mut out = [0u8; 4096];
+    // no example is written as text, so that there are no names
+    let mut names = [0u8; 4752];
     let mark = mark_of(line);
     let mut before = s.desk;
     before.used = 0;
-    let desk = console::answer(before, part(line, 0, mark), number, bytes, &mut out);
+    let desk = console::answer(
+        before,
+        part(line, 0, mark),
+        number,
+        bytes,
+        &mut names,
+        &mut out,
+    );
     let same = agrees_in(&out, desk.used, line, mark);
     Session {
         desk,

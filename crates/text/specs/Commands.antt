@@ -38,6 +38,12 @@ ordersWord = 111 ∷ 114 ∷ 100 ∷ 101 ∷ 114 ∷ 115 ∷ []
 abbrev pub offersWord : List ℕ
 offersWord = 111 ∷ 102 ∷ 102 ∷ 101 ∷ 114 ∷ 115 ∷ []
 
+abbrev pub namesWord : List ℕ
+namesWord = 110 ∷ 97 ∷ 109 ∷ 101 ∷ 115 ∷ []
+
+abbrev pub writeWord : List ℕ
+writeWord = 119 ∷ 114 ∷ 105 ∷ 116 ∷ 101 ∷ []
+
 abbrev pub planWord : List ℕ
 planWord = 112 ∷ 108 ∷ 97 ∷ 110 ∷ []
 
@@ -71,7 +77,9 @@ aloneOf w other =
     (cond (sameText w waitingWord) (Verb.Alone Alone.Waiting)
     (cond (sameText w tallyWord) (Verb.Alone Alone.Tally)
     (cond (sameText w ordersWord) (Verb.Alone Alone.Orders)
-    (cond (sameText w offersWord) (Verb.Alone Alone.Offers) other))))))
+    (cond (sameText w offersWord) (Verb.Alone Alone.Offers)
+    (cond (sameText w namesWord) (Verb.Alone Alone.Names)
+    (cond (sameText w writeWord) (Verb.Alone Alone.Write) other))))))))
 
 -- one that takes a word; else what the word asks for otherwise
 unfoldable pub wordedOf : List ℕ → Verb → Verb

@@ -29,6 +29,8 @@ fn either(w: &[u8], word: &[u8], verb: Verb, other: Verb) -> Verb
 fn alone_of(w: &[u8], other: Verb) -> Verb
     ensures { λ r. ⌜ r ≡ aloneOf (now (w .entry)) other ⌝ }
 {
+    let other = either(w, b"write", Verb::Alone { what: Alone::Write }, other);
+    let other = either(w, b"names", Verb::Alone { what: Alone::Names }, other);
     let other = either(
         w,
         b"offers",

@@ -47,6 +47,8 @@ pub enum Alone {
     Tally,
     Orders,
     Offers,
+    Names,
+    Write,
 }
 
 // Those that take one word: bytes in hexadecimal, or the name of a file.

@@ -1,4 +1,7 @@
 // An accepted plan in words, by its table: an activity or arm on each line.
+use super::naming::put_operation;
+use super::naming::put_partner;
+use super::naming::put_variable;
 use super::output::put;
 use super::output::put_aligned;
 use super::output::put_byte;
@@ -44,12 +47,7 @@ fn put_role(out: &mut [u8; 4096], used: usize, table: &[u32; 11584], n: usize) -
     put(out, used, b"root fault part: ")
 }
 
-fn put_variable(out: &mut [u8; 4096], used: usize, number: u32) -> usize {
-    let n = put_byte(out, used, 118);
-    put_number(out, n, number as u64)
-}
-
-fn is_correlation(correlation: &[u8; 16], number: u32) -> bool {
+pub(crate) fn is_correlation(correlation: &[u8; 16], number: u32) -> bool {
     let i = number as usize;
     if i < 16 {
         return correlation[i] == 1;
@@ -61,10 +59,11 @@ fn is_correlation(correlation: &[u8; 16], number: u32) -> bool {
 pub(crate) fn put_member(
     out: &mut [u8; 4096],
     used: usize,
+    names: &[u8; 4752],
     correlation: &[u8; 16],
     number: u32,
 ) -> usize {
-    let n = put_variable(out, used, number);
+    let n = put_variable(out, used, names, number);
     if is_correlation(correlation, number) {
         return put(out, n, b" (correlation)");
     }
@@ -75,6 +74,7 @@ pub(crate) fn put_member(
 fn put_another(
     out: &mut [u8; 4096],
     used: usize,
+    names: &[u8; 4752],
     table: &[u32; 11584],
     correlation: &[u8; 16],
     n: usize,
@@ -83,7 +83,7 @@ fn put_another(
     if i < 4 {
         if i < entry(table, n, 3) as usize {
             let at = put(out, used, b", ");
-            return put_member(out, at, correlation, entry(table, n, 4 + i));
+            return put_member(out, at, names, correlation, entry(table, n, 4 + i));
         }
     }
     used
@@ -93,20 +93,22 @@ fn put_another(
 fn put_tuple(
     out: &mut [u8; 4096],
     used: usize,
+    names: &[u8; 4752],
     table: &[u32; 11584],
     correlation: &[u8; 16],
     n: usize,
 ) -> usize {
-    let first = put_member(out, used, correlation, entry(table, n, 4));
-    let second = put_another(out, first, table, correlation, n, 1);
-    let third = put_another(out, second, table, correlation, n, 2);
-    put_another(out, third, table, correlation, n, 3)
+    let first = put_member(out, used, names, correlation, entry(table, n, 4));
+    let second = put_another(out, first, names, table, correlation, n, 1);
+    let third = put_another(out, second, names, table, correlation, n, 2);
+    put_another(out, third, names, table, correlation, n, 3)
 }
 
 // Partner, operation and variables of row n, after the words that say what is done.
 fn put_exchange(
     out: &mut [u8; 4096],
     used: usize,
+    names: &[u8; 4752],
     words: &[u8],
     table: &[u32; 11584],
     correlation: &[u8; 16],
@@ -114,11 +116,11 @@ fn put_exchange(
 ) -> usize {
     let mut at = put(out, used, words);
     at = put(out, at, b" partner ");
-    at = put_number(out, at, entry(table, n, 1) as u64);
+    at = put_partner(out, at, names, entry(table, n, 1));
     at = put(out, at, b", operation ");
-    at = put_number(out, at, entry(table, n, 2) as u64);
+    at = put_operation(out, at, names, entry(table, n, 2));
     at = put(out, at, b": ");
-    put_tuple(out, at, table, correlation, n)
+    put_tuple(out, at, names, table, correlation, n)
 }
 
 fn put_operator(out: &mut [u8; 4096], used: usize, code: u32) -> usize {
@@ -131,12 +133,18 @@ fn put_operator(out: &mut [u8; 4096], used: usize, code: u32) -> usize {
 }
 
 // A constant or a variable. (No node of an accepted plan is anything else where no level is left.)
-fn put_leaf(out: &mut [u8; 4096], used: usize, table: &[u32; 11584], m: usize) -> usize {
+fn put_leaf(
+    out: &mut [u8; 4096],
+    used: usize,
+    names: &[u8; 4752],
+    table: &[u32; 11584],
+    m: usize,
+) -> usize {
     let value = value_of(table, m);
     if code_of(table, m) == 0 {
         return put_number(out, used, value as u64);
     }
-    put_variable(out, used, value)
+    put_variable(out, used, names, value)
 }
 
 // A byte, where it is wanted.
@@ -151,6 +159,7 @@ fn put_if(out: &mut [u8; 4096], used: usize, wanted: bool, b: u8) -> usize {
 fn put_expression(
     out: &mut [u8; 4096],
     used: usize,
+    names: &[u8; 4752],
     table: &[u32; 11584],
     m: usize,
     depth: usize,
@@ -158,17 +167,18 @@ fn put_expression(
 ) -> usize {
     let code = code_of(table, m);
     if code < 2 {
-        return put_leaf(out, used, table, m);
+        return put_leaf(out, used, names, table, m);
     }
     if depth == 0 {
-        return put_leaf(out, used, table, m);
+        return put_leaf(out, used, names, table, m);
     }
     let opened = put_if(out, used, operand, 40);
-    let left = put_expression(out, opened, table, after(m), depth - 1, true);
+    let left = put_expression(out, opened, names, table, after(m), depth - 1, true);
     let between = put_operator(out, left, code);
     let right = put_expression(
         out,
         between,
+        names,
         table,
         value_of(table, m) as usize,
         depth - 1,
@@ -181,24 +191,32 @@ fn put_expression(
 fn put_with_expression(
     out: &mut [u8; 4096],
     used: usize,
+    names: &[u8; 4752],
     words: &[u8],
     table: &[u32; 11584],
     n: usize,
 ) -> usize {
     let at = put(out, used, words);
-    put_expression(out, at, table, entry(table, n, 9) as usize, 8, false)
+    put_expression(out, at, names, table, entry(table, n, 9) as usize, 8, false)
 }
 
-fn put_set(out: &mut [u8; 4096], used: usize, table: &[u32; 11584], n: usize) -> usize {
+fn put_set(
+    out: &mut [u8; 4096],
+    used: usize,
+    names: &[u8; 4752],
+    table: &[u32; 11584],
+    n: usize,
+) -> usize {
     let mut at = put(out, used, b"set ");
-    at = put_variable(out, at, entry(table, n, 8));
-    put_with_expression(out, at, b" to ", table, n)
+    at = put_variable(out, at, names, entry(table, n, 8));
+    put_with_expression(out, at, names, b" to ", table, n)
 }
 
 // Activity or arm n in words.
 pub(crate) fn put_activity(
     out: &mut [u8; 4096],
     used: usize,
+    names: &[u8; 4752],
     table: &[u32; 11584],
     correlation: &[u8; 16],
     n: usize,
@@ -206,18 +224,26 @@ pub(crate) fn put_activity(
     let kind = entry(table, n, 0);
     match kind {
         0 => put(out, used, b"empty"),
-        1 => put_exchange(out, used, b"send to", table, correlation, n),
-        2 => put_exchange(out, used, b"receive from", table, correlation, n),
-        3 => put_set(out, used, table, n),
+        1 => put_exchange(out, used, names, b"send to", table, correlation, n),
+        2 => put_exchange(out, used, names, b"receive from", table, correlation, n),
+        3 => put_set(out, used, names, table, n),
         4 => put(out, used, b"raise"),
         5 => put(out, used, b"leave"),
-        6 => put_with_expression(out, used, b"choose by ", table, n),
-        7 => put_with_expression(out, used, b"repeat while ", table, n),
+        6 => put_with_expression(out, used, names, b"choose by ", table, n),
+        7 => put_with_expression(out, used, names, b"repeat while ", table, n),
         8 => put(out, used, b"sequence"),
         9 => put(out, used, b"flow"),
         10 => put(out, used, b"pick"),
         11 => put(out, used, b"scope"),
-        _ => put_exchange(out, used, b"arm: receive from", table, correlation, n),
+        _ => put_exchange(
+            out,
+            used,
+            names,
+            b"arm: receive from",
+            table,
+            correlation,
+            n,
+        ),
     }
 }
 
@@ -236,32 +262,35 @@ fn put_indent(out: &mut [u8; 4096], used: usize, depth: usize) -> usize {
 pub(crate) fn put_drawn(
     out: &mut [u8; 4096],
     used: usize,
+    names: &[u8; 4752],
     table: &[u32; 11584],
     correlation: &[u8; 16],
     n: usize,
 ) -> usize {
     let mut at = put_indent(out, used, depth_of(table, n));
     at = put_role(out, at, table, n);
-    at = put_activity(out, at, table, correlation, n);
+    at = put_activity(out, at, names, table, correlation, n);
     put_byte(out, at, 10)
 }
 
 fn put_line(
     out: &mut [u8; 4096],
     used: usize,
+    names: &[u8; 4752],
     table: &[u32; 11584],
     correlation: &[u8; 16],
     n: usize,
 ) -> usize {
     let mut at = put_aligned(out, used, n as u64);
     at = put(out, at, b"  ");
-    put_drawn(out, at, table, correlation, n)
+    put_drawn(out, at, names, table, correlation, n)
 }
 
 // All activities and arms, and a blank line.
 pub fn put_drawing(
     out: &mut [u8; 4096],
     used: usize,
+    names: &[u8; 4752],
     table: &[u32; 11584],
     correlation: &[u8; 16],
     activities: usize,
@@ -269,7 +298,7 @@ pub fn put_drawing(
     let mut at = used;
     let mut n = 0;
     while n < activities {
-        at = put_line(out, at, table, correlation, n);
+        at = put_line(out, at, names, table, correlation, n);
         n += 1;
     }
     put_byte(out, at, 10)

@@ -3,6 +3,7 @@
 mod doing;
 mod drawing;
 mod messages;
+mod naming;
 mod offering;
 mod orders;
 mod output;
@@ -11,6 +12,7 @@ mod table;
 pub use drawing::put_drawing;
 pub use messages::put_message;
 pub use messages::put_waiting;
+pub use naming::put_names;
 pub use offering::put_offer;
 pub use offering::put_offers;
 pub use orders::put_order;

@@ -98,6 +98,7 @@ fn put_whose(out: &mut [u8; 4096], used: usize, orders: [Order; 16], slot: usize
 fn put_what(
     out: &mut [u8; 4096],
     used: usize,
+    names: &[u8; 4752],
     table: &[u32; 11584],
     flags: &[u8; 16],
     n: usize,
@@ -108,7 +109,7 @@ fn put_what(
     if entry(table, n, 0) == 11 {
         at = put(out, at, b"close ");
     }
-    put_activity(out, at, table, flags, n)
+    put_activity(out, at, names, table, flags, n)
 }
 
 // The message that a step takes, if it takes one.
@@ -129,6 +130,7 @@ fn put_which(
 fn put_choice(
     out: &mut [u8; 4096],
     used: usize,
+    names: &[u8; 4752],
     table: &[u32; 11584],
     flags: &[u8; 16],
     state: State,
@@ -140,7 +142,7 @@ fn put_choice(
     let mut at = put_aligned(out, used, choice as u64);
     at = put(out, at, b"  ");
     at = put_whose(out, at, orders, x.slot);
-    at = put_what(out, at, table, flags, x.activity);
+    at = put_what(out, at, names, table, flags, x.activity);
     at = put_which(out, at, entry(table, x.activity, 0), messages, x.place);
     put_byte(out, at, 10)
 }
@@ -148,6 +150,7 @@ fn put_choice(
 fn put_choices(
     out: &mut [u8; 4096],
     used: usize,
+    names: &[u8; 4752],
     table: &[u32; 11584],
     flags: &[u8; 16],
     activities: usize,
@@ -158,14 +161,14 @@ fn put_choices(
     let mut choice = 0;
     while choice < many {
         let x = offer::offer_by(table, flags, activities, state, choice);
-        at = put_choice(out, at, table, flags, state, choice, x);
+        at = put_choice(out, at, names, table, flags, state, choice, x);
         choice += 1;
     }
     put_byte(out, at, 10)
 }
 
 // All that is offered, in words, and a blank line.
-pub fn put_offers(out: &mut [u8; 4096], used: usize, state: State) -> usize {
+pub fn put_offers(out: &mut [u8; 4096], used: usize, names: &[u8; 4752], state: State) -> usize {
     let mut table = [0u32; 11584];
     let mut flags = [0u8; 16];
     let o = offer::offers(state);
@@ -182,7 +185,7 @@ pub fn put_offers(out: &mut [u8; 4096], used: usize, state: State) -> usize {
         } => {
             let mut at = put_count(out, used, b"offers", o);
             at = put_byte(out, at, 10);
-            put_choices(out, at, &table, &flags, activities, state, o.many)
+            put_choices(out, at, names, &table, &flags, activities, state, o.many)
         }
     }
 }

@@ -45,6 +45,7 @@ fn put_between(out: &mut [u8; 4096], used: usize, i: usize) -> usize {
 fn put_variable(
     out: &mut [u8; 4096],
     used: usize,
+    names: &[u8; 4752],
     correlation: &[u8; 16],
     i: usize,
     bound: u8,
@@ -52,7 +53,7 @@ fn put_variable(
 ) -> usize {
     let mut at = put_between(out, used, i);
     if i < 16 {
-        at = put_member(out, at, correlation, i as u32);
+        at = put_member(out, at, names, correlation, i as u32);
     }
     if bound == 1 {
         at = put(out, at, b" =");
@@ -64,6 +65,7 @@ fn put_variable(
 fn put_values(
     out: &mut [u8; 4096],
     used: usize,
+    names: &[u8; 4752],
     correlation: &[u8; 16],
     variables: u32,
     bound: &[u8; 16],
@@ -74,7 +76,7 @@ fn put_values(
     let mut i = 0;
     while i < 16 {
         if i < few {
-            at = put_variable(out, at, correlation, i, bound[i], values[i]);
+            at = put_variable(out, at, names, correlation, i, bound[i], values[i]);
         }
         i += 1;
     }
@@ -85,13 +87,14 @@ fn put_values(
 fn put_variables(
     out: &mut [u8; 4096],
     used: usize,
+    names: &[u8; 4752],
     correlation: &[u8; 16],
     variables: u32,
     order: Order,
 ) -> usize {
     let bound = order.bound;
     let values = order.values;
-    put_values(out, used, correlation, variables, &bound, &values)
+    put_values(out, used, names, correlation, variables, &bound, &values)
 }
 
 // A scope that closed, and for what it is remembered.
@@ -146,6 +149,7 @@ fn put_head(out: &mut [u8; 4096], used: usize, slot: usize, order: Order) -> usi
 fn put_order_line(
     out: &mut [u8; 4096],
     used: usize,
+    names: &[u8; 4752],
     table: &[u32; 11584],
     correlation: &[u8; 16],
     variables: u32,
@@ -157,7 +161,7 @@ fn put_order_line(
     }
     let mut at = put_head(out, used, slot, order);
     at = put(out, at, b"; ");
-    at = put_variables(out, at, correlation, variables, order);
+    at = put_variables(out, at, names, correlation, variables, order);
     at = put(out, at, b"; remembered: ");
     at = put_closings(out, at, table, order);
     put_byte(out, at, 10)
@@ -188,6 +192,7 @@ fn live_of(orders: [Order; 16]) -> u64 {
 fn put_order_lines(
     out: &mut [u8; 4096],
     used: usize,
+    names: &[u8; 4752],
     table: &[u32; 11584],
     correlation: &[u8; 16],
     variables: u32,
@@ -199,14 +204,14 @@ fn put_order_lines(
     let mut slot = 0;
     while slot < 16 {
         let order = orders[slot];
-        at = put_order_line(out, at, table, correlation, variables, slot, order);
+        at = put_order_line(out, at, names, table, correlation, variables, slot, order);
         slot += 1;
     }
     put_byte(out, at, 10)
 }
 
 // How many orders are live, each of them, and a blank line.
-pub fn put_orders(out: &mut [u8; 4096], used: usize, state: State) -> usize {
+pub fn put_orders(out: &mut [u8; 4096], used: usize, names: &[u8; 4752], state: State) -> usize {
     let mut table = [0u32; 11584];
     let mut correlation = [0u8; 16];
     let orders = state.orders;
@@ -220,7 +225,7 @@ pub fn put_orders(out: &mut [u8; 4096], used: usize, state: State) -> usize {
             variables,
             activities: _,
             nodes: _,
-        } => put_order_lines(out, used, &table, &correlation, variables, orders),
+        } => put_order_lines(out, used, names, &table, &correlation, variables, orders),
     }
 }
 
@@ -228,6 +233,7 @@ pub fn put_orders(out: &mut [u8; 4096], used: usize, state: State) -> usize {
 fn put_doing_line(
     out: &mut [u8; 4096],
     used: usize,
+    names: &[u8; 4752],
     table: &[u32; 11584],
     correlation: &[u8; 16],
     order: Order,
@@ -236,12 +242,13 @@ fn put_doing_line(
     let mut at = put_aligned(out, used, n as u64);
     at = put(out, at, b"  ");
     at = put_doing(out, at, table, order, n);
-    put_drawn(out, at, table, correlation, n)
+    put_drawn(out, at, names, table, correlation, n)
 }
 
 fn put_doing_lines(
     out: &mut [u8; 4096],
     used: usize,
+    names: &[u8; 4752],
     table: &[u32; 11584],
     correlation: &[u8; 16],
     activities: usize,
@@ -250,7 +257,7 @@ fn put_doing_lines(
     let mut at = used;
     let mut n = 0;
     while n < activities {
-        at = put_doing_line(out, at, table, correlation, order, n);
+        at = put_doing_line(out, at, names, table, correlation, order, n);
         n += 1;
     }
     at
@@ -260,13 +267,14 @@ fn put_doing_lines(
 fn put_foot(
     out: &mut [u8; 4096],
     used: usize,
+    names: &[u8; 4752],
     table: &[u32; 11584],
     correlation: &[u8; 16],
     variables: u32,
     order: Order,
 ) -> usize {
     let mut at = put(out, used, b"variables: ");
-    at = put_variables(out, at, correlation, variables, order);
+    at = put_variables(out, at, names, correlation, variables, order);
     at = put(out, at, b"\nremembered, oldest first: ");
     at = put_closings(out, at, table, order);
     put(out, at, b"\n\n")
@@ -276,6 +284,7 @@ fn put_foot(
 fn put_drawn_order(
     out: &mut [u8; 4096],
     used: usize,
+    names: &[u8; 4752],
     table: &[u32; 11584],
     correlation: &[u8; 16],
     variables: u32,
@@ -288,12 +297,18 @@ fn put_drawn_order(
     if order.root == 0 {
         return at;
     }
-    at = put_doing_lines(out, at, table, correlation, activities, order);
-    put_foot(out, at, table, correlation, variables, order)
+    at = put_doing_lines(out, at, names, table, correlation, activities, order);
+    put_foot(out, at, names, table, correlation, variables, order)
 }
 
 // The order in a slot.
-pub fn put_order(out: &mut [u8; 4096], used: usize, state: State, slot: usize) -> usize {
+pub fn put_order(
+    out: &mut [u8; 4096],
+    used: usize,
+    names: &[u8; 4752],
+    state: State,
+    slot: usize,
+) -> usize {
     let mut table = [0u32; 11584];
     let mut correlation = [0u8; 16];
     let orders = state.orders;
@@ -311,6 +326,7 @@ pub fn put_order(out: &mut [u8; 4096], used: usize, state: State, slot: usize) -
         } => put_drawn_order(
             out,
             used,
+            names,
             &table,
             &correlation,
             variables,

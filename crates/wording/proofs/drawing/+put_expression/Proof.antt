@@ -16,23 +16,23 @@ use Rattle.wording.proofs.table.value_of.Reads as value-of-reads
 use Rattle.wording.proofs.drawing.+put_expression.{statement}
 use Rattle.wording.proofs.drawing.+put_expression.Tie.{close}
 
-abbrev μ-put-expression : Measures 2 put-expression-kinds.ps ℕ
-μ-put-expression κs a = a .1 .1 .1 .1 .0
+abbrev μ-put-expression : Measures 3 put-expression-kinds.ps ℕ
+μ-put-expression κs a = a .1 .1 .1 .1 .1 .0
 
-abbrev put-expression-at : ℕ → In 2 put-expression-kinds.ps
+abbrev put-expression-at : ℕ → In 3 put-expression-kinds.ps
 put-expression-at t =
     and
-    2
+    3
     put-expression-kinds.ps
-    (is 2 put-expression-kinds.ps μ-put-expression t)
+    (is 3 put-expression-kinds.ps μ-put-expression t)
     put-expression.Pre
 
-abbrev put-expression-below : ℕ → In 2 put-expression-kinds.ps
+abbrev put-expression-below : ℕ → In 3 put-expression-kinds.ps
 put-expression-below t =
     and
-    2
+    3
     put-expression-kinds.ps
-    (falls 2 put-expression-kinds.ps _<_ μ-put-expression t)
+    (falls 3 put-expression-kinds.ps _<_ μ-put-expression t)
     put-expression.Pre
 
 pub +put-expression-spec : {M : Type 1} → statement M

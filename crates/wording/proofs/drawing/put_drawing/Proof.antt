@@ -6,10 +6,10 @@ use Rattle.wording.proofs.drawing.put_drawing.Statement.{statement}
 use Rattle.wording.proofs.drawing.put_drawing.Tie as tie
 
 abbrev Inv-loop : tie.InvT-loop
-Inv-loop out₀ used table correlation activities at₀ n₀ out at n = Unit {0}
+Inv-loop out₀ used names table correlation activities at₀ n₀ out at n = Unit {0}
 
 abbrev μ-loop : tie.MeasureT-loop
-μ-loop out₀ used table correlation activities at₀ n₀ out at n = activities - n
+μ-loop out₀ used names table correlation activities at₀ n₀ out at n = activities - n
 
 pub put-drawing-spec : {M : Type 1} → statement M
 put-drawing-spec =

@@ -6,10 +6,10 @@ use Rattle.wording.proofs.offering.put_choices.Statement.{statement}
 use Rattle.wording.proofs.offering.put_choices.Tie as tie
 
 abbrev Inv-loop : tie.InvT-loop
-Inv-loop out₀ used table flags activities state many at₀ choice₀ out at choice = Unit {0}
+Inv-loop out₀ used names table flags activities state many at₀ choice₀ out at choice = Unit {0}
 
 abbrev μ-loop : tie.MeasureT-loop
-μ-loop out₀ used table flags activities state many at₀ choice₀ out at choice = many - choice
+μ-loop out₀ used names table flags activities state many at₀ choice₀ out at choice = many - choice
 
 pub put-choices-spec : {M : Type 1} → statement M
 put-choices-spec =

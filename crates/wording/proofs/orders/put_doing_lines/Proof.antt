@@ -6,10 +6,10 @@ use Rattle.wording.proofs.orders.put_doing_lines.Statement.{statement}
 use Rattle.wording.proofs.orders.put_doing_lines.Tie as tie
 
 abbrev Inv-loop : tie.InvT-loop
-Inv-loop out₀ used table correlation activities order at₀ n₀ out at n = Unit {0}
+Inv-loop out₀ used names table correlation activities order at₀ n₀ out at n = Unit {0}
 
 abbrev μ-loop : tie.MeasureT-loop
-μ-loop out₀ used table correlation activities order at₀ n₀ out at n = activities - n
+μ-loop out₀ used names table correlation activities order at₀ n₀ out at n = activities - n
 
 pub put-doing-lines-spec : {M : Type 1} → statement M
 put-doing-lines-spec =

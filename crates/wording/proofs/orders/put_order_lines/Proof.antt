@@ -6,10 +6,10 @@ use Rattle.wording.proofs.orders.put_order_lines.Statement.{statement}
 use Rattle.wording.proofs.orders.put_order_lines.Tie as tie
 
 abbrev Inv-loop : tie.InvT-loop
-Inv-loop out₀ used table correlation variables orders at₀ slot₀ out at slot = Unit {0}
+Inv-loop out₀ used names table correlation variables orders at₀ slot₀ out at slot = Unit {0}
 
 abbrev μ-loop : tie.MeasureT-loop
-μ-loop out₀ used table correlation variables orders at₀ slot₀ out at slot = 16 - slot
+μ-loop out₀ used names table correlation variables orders at₀ slot₀ out at slot = 16 - slot
 
 pub put-order-lines-spec : {M : Type 1} → statement M
 put-order-lines-spec =

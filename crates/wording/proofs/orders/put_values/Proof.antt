@@ -6,10 +6,10 @@ use Rattle.wording.proofs.orders.put_values.Statement.{statement}
 use Rattle.wording.proofs.orders.put_values.Tie as tie
 
 abbrev Inv-loop : tie.InvT-loop
-Inv-loop out₀ used correlation variables bound values few at₀ i₀ out at i = Unit {0}
+Inv-loop out₀ used names correlation variables bound values few at₀ i₀ out at i = Unit {0}
 
 abbrev μ-loop : tie.MeasureT-loop
-μ-loop out₀ used correlation variables bound values few at₀ i₀ out at i = 16 - i
+μ-loop out₀ used names correlation variables bound values few at₀ i₀ out at i = 16 - i
 
 pub put-values-spec : {M : Type 1} → statement M
 put-values-spec =

@@ -1,0 +1,424 @@
+// Reads what an activity or an arm says of itself, as the drawing has it.
+use super::expressions::Read;
+use super::expressions::expression;
+use super::expressions::more;
+use super::expressions::narrow;
+use super::expressions::variable;
+use super::marks::after_mark;
+use super::marks::after_word;
+use super::marks::decimal;
+use super::marks::is_name;
+use super::marks::is_over;
+use super::marks::past_blanks;
+use super::marks::word_end;
+use super::names::after_correlation;
+use super::names::declared;
+use super::names::is_correlation;
+use super::table::add;
+use super::table::begin;
+
+// What an activity is: its kind (12 for an arm), the next row, or what is wrong.
+pub struct Own {
+    pub kind: usize,
+    pub row: usize,
+    pub wrong: usize,
+}
+
+fn bad(reason: usize) -> Own {
+    Own {
+        kind: 0,
+        row: 0,
+        wrong: reason,
+    }
+}
+
+fn unread(reason: usize) -> Read {
+    Read {
+        at: 0,
+        row: 0,
+        wrong: reason,
+    }
+}
+
+fn read_to(at: usize) -> Read {
+    Read {
+        at,
+        row: 0,
+        wrong: 0,
+    }
+}
+
+// A partner (1) or an operation (2), by its number or its name, into row r.
+fn numbered(
+    s: &[u8],
+    stop: usize,
+    at: usize,
+    what: usize,
+    rows: &mut [u32; 87100],
+    r: usize,
+) -> Read {
+    let from = past_blanks(s, at);
+    let to = word_end(s, from);
+    if to <= from {
+        return unread(7);
+    }
+    if is_name(s, from) {
+        let x = declared(s, stop, what, from, to);
+        if x < 4294967296 {
+            add(rows, r, narrow(x));
+            return read_to(to);
+        }
+        return unread(8);
+    }
+    let y = decimal(s, from, to);
+    if y < 4294967296 {
+        add(rows, r, narrow(y));
+        return read_to(to);
+    }
+    unread(10)
+}
+
+// A variable of a tuple, with its mark where it has one, into row r.
+fn member(s: &[u8], stop: usize, at: usize, rows: &mut [u32; 87100], r: usize) -> Read {
+    let from = past_blanks(s, at);
+    let to = word_end(s, from);
+    if to <= from {
+        return unread(7);
+    }
+    let v = variable(s, stop, from, to);
+    if 4294967295 < v {
+        return unread(8);
+    }
+    add(rows, r, narrow(v));
+    let marked = after_correlation(s, to);
+    if marked == 0 {
+        return read_to(to);
+    }
+    if is_correlation(s, stop, v) {
+        return read_to(marked);
+    }
+    unread(13)
+}
+
+// How many variables a tuple has: one more than it has commas.
+fn members(s: &[u8], at: usize) -> u32 {
+    let mut n: u32 = 1;
+    let mut p = at;
+    while p < s.len() {
+        if is_over(s, p) {
+            return n;
+        }
+        n = plus(n, s[p] == 44);
+        p += 1;
+    }
+    n
+}
+
+// One more where it is wanted, up to 100.
+pub(crate) fn plus(n: u32, wanted: bool) -> u32 {
+    if wanted {
+        if n < 100 {
+            return n + 1;
+        }
+    }
+    n
+}
+
+// The variables of a tuple, to the end of the line.
+fn tuple(s: &[u8], stop: usize, at: usize, rows: &mut [u32; 87100], r: usize) -> Read {
+    add(rows, r, members(s, at));
+    let mut p = at;
+    while p < s.len() {
+        let m = member(s, stop, p, rows, r);
+        if 0 < m.wrong {
+            return unread(m.wrong);
+        }
+        if is_over(s, m.at) {
+            return read_to(m.at);
+        }
+        let q = after_mark(s, m.at, 44);
+        if q <= p {
+            return unread(7);
+        }
+        p = q;
+    }
+    unread(7)
+}
+
+// `partner P, operation O: V, V` into row r.
+fn exchange(s: &[u8], stop: usize, at: usize, rows: &mut [u32; 87100], r: usize) -> Read {
+    let a = after_word(s, at, b"partner");
+    if a == 0 {
+        return unread(7);
+    }
+    let p = numbered(s, stop, a, 1, rows, r);
+    if 0 < p.wrong {
+        return unread(p.wrong);
+    }
+    let b = after_mark(s, p.at, 44);
+    if b == 0 {
+        return unread(7);
+    }
+    let c = after_word(s, b, b"operation");
+    if c == 0 {
+        return unread(7);
+    }
+    let o = numbered(s, stop, c, 2, rows, r);
+    if 0 < o.wrong {
+        return unread(o.wrong);
+    }
+    let d = after_mark(s, o.at, 58);
+    if d == 0 {
+        return unread(7);
+    }
+    tuple(s, stop, d, rows, r)
+}
+
+// A send (1), a receive (2) or an arm (12), from its partner on.
+fn message(
+    s: &[u8],
+    stop: usize,
+    at: usize,
+    kind: usize,
+    rows: &mut [u32; 87100],
+    r: usize,
+) -> Own {
+    if at == 0 {
+        return bad(26);
+    }
+    put_code(kind, rows, r);
+    let e = exchange(s, stop, at, rows, r);
+    if 0 < e.wrong {
+        return bad(e.wrong);
+    }
+    own_of(kind, r)
+}
+
+// An arm has no code.
+fn put_code(kind: usize, rows: &mut [u32; 87100], r: usize) {
+    if kind < 3 {
+        add(rows, r, kind_code(kind));
+    }
+}
+
+fn kind_code(kind: usize) -> u32 {
+    if kind < 16 {
+        return kind as u32;
+    }
+    0
+}
+
+// An activity with an expression from `at` on.
+fn with_expression(
+    s: &[u8],
+    stop: usize,
+    at: usize,
+    kind: usize,
+    rows: &mut [u32; 87100],
+    lines: &mut [u32; 4355],
+    r: usize,
+    line: u32,
+) -> Own {
+    if at == 0 {
+        return bad(24);
+    }
+    let e = expression(s, stop, at, rows, lines, more(r), line);
+    if 0 < e.wrong {
+        return bad(e.wrong);
+    }
+    if is_over(s, e.at) {
+        return Own {
+            kind,
+            row: e.row,
+            wrong: 0,
+        };
+    }
+    bad(9)
+}
+
+fn set(
+    s: &[u8],
+    stop: usize,
+    at: usize,
+    rows: &mut [u32; 87100],
+    lines: &mut [u32; 4355],
+    r: usize,
+    line: u32,
+) -> Own {
+    let from = past_blanks(s, at);
+    let to = word_end(s, from);
+    let v = variable(s, stop, from, to);
+    if 4294967295 < v {
+        return bad(8);
+    }
+    add(rows, r, 3);
+    add(rows, r, narrow(v));
+    with_expression(s, stop, after_word(s, to, b"to"), 3, rows, lines, r, line)
+}
+
+// An activity that is its word alone, or has a list, whose count is filled in as it is read.
+fn plain(s: &[u8], at: usize, kind: usize, rows: &mut [u32; 87100], r: usize) -> Own {
+    if is_over(s, at) {
+        add(rows, r, kind_code(kind));
+        return listed(kind, rows, r);
+    }
+    bad(25)
+}
+
+fn listed(kind: usize, rows: &mut [u32; 87100], r: usize) -> Own {
+    if is_list(kind) {
+        add(rows, r, 0);
+        return own_of(kind, r);
+    }
+    own_of(kind, r)
+}
+
+fn is_list(kind: usize) -> bool {
+    if 7 < kind {
+        return kind < 11;
+    }
+    false
+}
+
+fn own_of(kind: usize, r: usize) -> Own {
+    Own {
+        kind,
+        row: more(r),
+        wrong: 0,
+    }
+}
+
+// How an activity begins: the kind that its first word tells, 13 for those of one word, and the place after what tells it.
+pub struct Begun {
+    pub kind: usize,
+    pub at: usize,
+}
+
+// The place after two words; 0 where they are not there.
+fn after_both(s: &[u8], at: usize, word: &[u8], other: &[u8]) -> usize {
+    let p = after_word(s, at, word);
+    if p == 0 {
+        return 0;
+    }
+    after_word(s, p, other)
+}
+
+fn opening(s: &[u8], at: usize) -> Begun {
+    let send = after_both(s, at, b"send", b"to");
+    if 0 < send {
+        return Begun { kind: 1, at: send };
+    }
+    let receive = after_both(s, at, b"receive", b"from");
+    if 0 < receive {
+        return Begun {
+            kind: 2,
+            at: receive,
+        };
+    }
+    let set = after_word(s, at, b"set");
+    if 0 < set {
+        return Begun { kind: 3, at: set };
+    }
+    let choose = after_both(s, at, b"choose", b"by");
+    if 0 < choose {
+        return Begun {
+            kind: 6,
+            at: choose,
+        };
+    }
+    let repeat = after_both(s, at, b"repeat", b"while");
+    if 0 < repeat {
+        return Begun {
+            kind: 7,
+            at: repeat,
+        };
+    }
+    let arm = after_word(s, at, b"arm");
+    if 0 < arm {
+        return Begun { kind: 12, at: arm };
+    }
+    Begun { kind: 13, at }
+}
+
+// An activity that is its code and an expression.
+fn judged(
+    s: &[u8],
+    stop: usize,
+    at: usize,
+    kind: usize,
+    rows: &mut [u32; 87100],
+    lines: &mut [u32; 4355],
+    r: usize,
+    line: u32,
+) -> Own {
+    add(rows, r, kind_code(kind));
+    with_expression(s, stop, at, kind, rows, lines, r, line)
+}
+
+// The activity at `at`, as row r.
+pub(crate) fn activity(
+    s: &[u8],
+    stop: usize,
+    at: usize,
+    rows: &mut [u32; 87100],
+    lines: &mut [u32; 4355],
+    r: usize,
+    line: u32,
+) -> Own {
+    begin(rows, lines, r, line);
+    let o = opening(s, at);
+    let kind = o.kind;
+    match kind {
+        1 => message(s, stop, o.at, 1, rows, r),
+        2 => message(s, stop, o.at, 2, rows, r),
+        3 => set(s, stop, o.at, rows, lines, r, line),
+        6 => judged(s, stop, o.at, 6, rows, lines, r, line),
+        7 => judged(s, stop, o.at, 7, rows, lines, r, line),
+        12 => arm_of(s, stop, after_mark(s, o.at, 58), rows, r),
+        _ => worded(s, o.at, rows, r),
+    }
+}
+
+fn arm_of(s: &[u8], stop: usize, at: usize, rows: &mut [u32; 87100], r: usize) -> Own {
+    if at == 0 {
+        return bad(26);
+    }
+    let receive = after_word(s, at, b"receive");
+    if receive == 0 {
+        return bad(26);
+    }
+    message(s, stop, after_word(s, receive, b"from"), 12, rows, r)
+}
+
+// An activity of one word.
+fn worded(s: &[u8], at: usize, rows: &mut [u32; 87100], r: usize) -> Own {
+    let empty = after_word(s, at, b"empty");
+    if 0 < empty {
+        return plain(s, empty, 0, rows, r);
+    }
+    let raise = after_word(s, at, b"raise");
+    if 0 < raise {
+        return plain(s, raise, 4, rows, r);
+    }
+    let leave = after_word(s, at, b"leave");
+    if 0 < leave {
+        return plain(s, leave, 5, rows, r);
+    }
+    let sequence = after_word(s, at, b"sequence");
+    if 0 < sequence {
+        return plain(s, sequence, 8, rows, r);
+    }
+    let flow = after_word(s, at, b"flow");
+    if 0 < flow {
+        return plain(s, flow, 9, rows, r);
+    }
+    let pick = after_word(s, at, b"pick");
+    if 0 < pick {
+        return plain(s, pick, 10, rows, r);
+    }
+    let scope = after_word(s, at, b"scope");
+    if 0 < scope {
+        return plain(s, scope, 11, rows, r);
+    }
+    bad(6)
+}
