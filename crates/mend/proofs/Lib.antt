@@ -3,5 +3,7 @@ pub mod PaddedReads
 pub mod PaddedLaws
 pub mod RunReturns
 pub mod RunLaws
+pub mod Alike
+pub mod MendReturns
+pub mod Request11
 mod CopyReturns
-mod MendReturns

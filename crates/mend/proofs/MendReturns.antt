@@ -161,7 +161,7 @@ pub record WholePlan (s : List ℕ) (p : Plan) : Type 0 where
   pub read : readPlan (shortened s) ≡ found p next
   pub whole : length s ≤ lastPlace s
 
-no-plan : {P : Type 0} {number place next : ℕ} {p : Plan} → _≡_ {A = Found Plan} (refused number place) (found p next) → P
+pub no-plan : {P : Type 0} {number place next : ℕ} {p : Plan} → _≡_ {A = Found Plan} (refused number place) (found p next) → P
 no-plan e = let z : _≡_ {A = ℕ} 0 1 = cc in absurd (omega arith)
 
 no-number-none : {P : Type 0} (s : List ℕ) (at : ℕ) (n : Number) {p : Plan} {next : ℕ} → noNumber s at n ≡ found p next → P

@@ -95,7 +95,7 @@ pub record Left (s : List ℕ) (at v next left : ℕ) : Type 0 where
   pub is : left ≡ suc rest
   pub enough : length s ≤ next + rest
 
-left-over : (s : List ℕ) (at v next left : ℕ) → paddedAt s at ≡ Value v next → length s ≤ at + left → Left s at v next left
+pub left-over : (s : List ℕ) (at v next left : ℕ) → paddedAt s at ≡ Value v next → length s ≤ at + left → Left s at v next left
 left-over s at v next zero e h = no-short (sym (padded-end s at (omega arith)) ∙ e)
 left-over s at v next (suc k) e h = let b = padded-bounds s at e in record { rest = k; is = refl; enough = omega (arith, b .forward) }
 
