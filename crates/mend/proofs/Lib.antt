@@ -7,3 +7,4 @@ pub mod Alike
 pub mod MendReturns
 pub mod Request11
 mod CopyReturns
+mod Examples

@@ -136,9 +136,9 @@ module _ (bytes out : List ℕ) (n cut : ℕ) (h : n ≤ length bytes) where
     put-short-bytes = rw (lt-ltb (length out) (length (take n bytes)) (omega (arith, length-take-le n bytes h)))
 
   module _ (g : n ≤ length out) where
-    pub put-all : Mended n cut ≡ putAnswer n cut (length out)
+    pub put-all : {k : ℕ} → k ≡ cut → Mended n k ≡ putAnswer n cut (length out)
     unfolding putAnswer
-    put-all = rw (le-ltb (length out) n g)
+    put-all e = rw (le-ltb (length out) n g, e)
 
     pub put-all-bytes : {out₁ : List ℕ} → out₁ ≡ sets out 0 (take n bytes) → out₁ ≡ putBuffer (take n bytes) out
     unfolding putBuffer

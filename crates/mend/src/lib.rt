@@ -118,6 +118,14 @@ fn copy(bytes: &[u8], n: usize, out: &mut [u8])
     }
 }
 
+// How many groups are cut where `from` bytes become n.
+fn cut_of(from: usize, n: usize) -> usize
+    requires { ⌜ n ≤ from ⌝ }
+    ensures { λ r. ⌜ r ≡ from - n ⌝ }
+{
+    from - n
+}
+
 // The first n bytes, mended from `from` bytes, go to the buffer's start, where it has room.
 fn put_plan(bytes: &[u8], n: usize, from: usize, out: &mut [u8]) -> Answer
     requires there { ⌜ n ≤ length (now bytes) ⌝ }
@@ -134,7 +142,7 @@ fn put_plan(bytes: &[u8], n: usize, from: usize, out: &mut [u8]) -> Answer
     copy(bytes, n, out);
     Answer::Mended {
         length: n,
-        cut: from - n,
+        cut: cut_of(from, n),
     }
 }
 

@@ -13,8 +13,8 @@ put-plan-spec =
     (λ c. (search cases, search cases))
     -- copy-requires
     (λ c κs. search needs)
-    -- sub-t5
-    (λ c. search needs)
+    -- cut-of-requires
+    (λ c κs. search needs)
     -- same-length
     (λ c. search needs)
     -- returns-2
