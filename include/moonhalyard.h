@@ -92,6 +92,11 @@ uint64_t moonhalyard_step(uint8_t *state, size_t size, uint64_t choice);
    refusal (17, 10, 11, 12). *budget is less by the steps taken, and the state is as the last of these left it: as it was, where none was taken. */
 uint32_t moonhalyard_run(uint8_t *state, size_t size, const uint64_t *choices, size_t many, uint64_t *budget);
 
+/* Mends a plan whose numbers are padded with zero groups, up to ten groups each: the same numbers in shortest form, into the front of `out`. The answer
+   is the groups cut times 2^16 and how many bytes were written; or the refusal (1 to 9, with its place in `plan`; 18) times 2^32, and its place. A refused
+   mend changes nothing in `out`, and bytes behind the plan never change. Link with the archive that `rt staticlib boundary_mend` writes. */
+uint64_t moonhalyard_mend(const uint8_t *plan, size_t n, uint8_t *out, size_t room);
+
 #ifdef __cplusplus
 }
 #endif

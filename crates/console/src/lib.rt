@@ -2,6 +2,7 @@
 mod answering;
 mod files;
 mod lists;
+mod mends;
 mod plans;
 mod taking;
 
@@ -64,6 +65,7 @@ fn answer_worded(
         Worded::Plan => plans::load(desk, word, number, bytes, out),
         Worded::Save => files::save(desk, word, number, out),
         Worded::Open => files::open(desk, word, number, bytes, out),
+        Worded::Mend => mends::mend(desk, word, number, bytes, out),
     }
 }
 

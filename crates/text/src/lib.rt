@@ -54,6 +54,7 @@ pub enum Worded {
     Plan,
     Save,
     Open,
+    Mend,
 }
 
 // Those that take one number.

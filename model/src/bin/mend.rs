@@ -224,7 +224,11 @@ fn padded(random: &mut Random, bytes: &[u8], chance: usize) -> Vec<u8> {
         out.extend(&bytes[place..next]);
         let groups = next - place;
         if random.percent(chance) {
-            let most = if random.percent(1) { MAX_GROUPS + 2 } else { MAX_GROUPS };
+            let most = if random.percent(1) {
+                MAX_GROUPS + 2
+            } else {
+                MAX_GROUPS
+            };
             for _ in groups..random.from_to(groups, most) {
                 *out.last_mut().expect("a group") |= 0x80;
                 out.push(0);
