@@ -3,22 +3,27 @@ use borrow.Author.Tests.{lt-ltb, le-ltb}
 use native.Mathlib.Omega.{arith}
 use native.Mathlib.Decide.{decLt}
 use mathlib.Core.Path.{_≡_, refl, sym, ap, _∙_}
+use mathlib.Core.Bool.{true}
+use mathlib.Core.Logic.{_↔_}
 use mathlib.Core.List.{List, [], _∷_, _++_}
-use Prim.Native.Nat.{ℕ, zero, suc, _+_, _-_, _≤_, _<_}
+use Prim.Native.Nat.{ℕ, zero, suc, _+_, _-_, _*_, _/_, _%_, _≤_, _<_}
 use lib.ListN.{length, drop, length-append, length-drop}
 use lib.Seq.{drop-drop, drop-append-seam}
 use Rattle.numbers.specs.Number.{numberAt}
-use Rattle.numbers.specs.Shortest.{Bytes, shortest}
+use Rattle.numbers.specs.Shortest.{Bytes, spelled, shortest}
 use Rattle.numbers.specs.declared.Number.{Number}
 use Rattle.numbers.specs.declared.Number.the-variants.{Value, Short, Bad}
-use Rattle.numbers.proofs.Laws.{shortest-long}
+use Rattle.numbers.proofs.Laws.{shortest-long, spelled-last, spelled-more, values}
 use Rattle.plan.specs.Found.{Found, refused, found}
 use Rattle.plan.specs.Read.{readPlan}
-use Rattle.plan.specs.Spell.{spell, spelling}
+use Rattle.plan.specs.Spell.{spell, planNumbers, spelling}
 use Rattle.plan.specs.Tree.{Plan}
+use Rattle.plan.specs.Within.{planWithin}
+use Rattle.plan.proofs.Accepts.{spelled-is-accepted}
+use Rattle.plan.proofs.Limits.{accepted-is-within}
 use Rattle.plan.proofs.Spelled.{accepted-length, accepted-is-spelled}
 use Rattle.mend.specs.Outcome.{putAnswer, putBuffer, answerOf, bufferOf}
-use Rattle.mend.specs.Padded.{paddedAt, numbersFrom, numbersOf, shortened, groupsCut, original, readPadded}
+use Rattle.mend.specs.Padded.{paddedAt, numbersFrom, numbersOf, shortened, groupsCut, lastPlace, original, readPadded}
 use Rattle.mend.specs.declared.Answer.{Answer}
 use Rattle.mend.proofs.Alike.{Pair, plain, cut, pair, number-there, PlainKept, three, keeps, plain-kept}
 use Rattle.mend.proofs.MendReturns.{WholePlan, original-found, whole-spelled, whole-cut, padded-is, no-plan}
@@ -130,3 +135,90 @@ pub values-stay : (s : List ℕ) {p : Plan} {next : ℕ} → readPadded s ≡ fo
 unfolding numbersOf shortened
 values-stay s {p} e =
     numbers-back (numbersOf s) (spelling p) 0 (length (spelling p)) (numbers-small (length s) s 0) (omega arith) (omega arith) (sym (whole-spelled (mended s e)))
+
+-- A shortest form is told apart from every other, whatever follows.
+Cancels : ℕ → Type 0
+Cancels k = (v w : ℕ) (a b : List ℕ) → 0 < k → v < values k → spelled k v ++ a ≡ spelled k w ++ b → (v ≡ w) × (a ≡ b)
+
+some-left : (k v : ℕ) → v < values (suc k) → 128 ≤ v → 0 < k
+unfolding values
+some-left zero v h l = absurd (omega arith)
+some-left (suc k) v h l = omega arith
+
+cancels-more : (k : ℕ) → Cancels k → Cancels (suc k)
+unfolding Cancels values
+cancels-more k rest v w a b _ h e =
+    elim (decLt v 128) [
+      | yes l ↦ elim (decLt w 128) [
+        | yes m ↦ let f : v ∷ a ≡ w ∷ b = rw (spelled-last k v l, spelled-last k w m) at e in (cc, cc)
+        | no m ↦
+            let n : 128 ≤ w = omega (arith, m) in
+            let f : v ∷ a ≡ (w % 128 + 128) ∷ (spelled k (w / 128) ++ b) = rw (spelled-last k v l, spelled-more k w n) at e in
+            let i : v ≡ w % 128 + 128 = cc in
+            absurd (omega arith)
+      ]
+      | no l ↦
+          let g : 128 ≤ v = omega (arith, l) in
+          elim (decLt w 128) [
+            | yes m ↦
+                let f : (v % 128 + 128) ∷ (spelled k (v / 128) ++ a) ≡ w ∷ b = rw (spelled-more k v g, spelled-last k w m) at e in
+                let i : v % 128 + 128 ≡ w = cc in
+                absurd (omega arith)
+            | no m ↦
+                let n : 128 ≤ w = omega (arith, m) in
+                let f : (v % 128 + 128) ∷ (spelled k (v / 128) ++ a) ≡ (w % 128 + 128) ∷ (spelled k (w / 128) ++ b) =
+                rw (spelled-more k v g, spelled-more k w n) at e in
+                let i : v % 128 + 128 ≡ w % 128 + 128 = cc in
+                let j : spelled k (v / 128) ++ a ≡ spelled k (w / 128) ++ b = cc in
+                let (x, y) = rest (v / 128) (w / 128) a b (some-left k v h g) (omega arith) j in
+                (omega (arith, x, i), y)
+          ]
+    ]
+
+cancels : (k : ℕ) → Cancels k
+unfolding Cancels
+cancels zero = λ v w a b h. absurd (omega arith)
+cancels (suc k) = cancels-more k (cancels k)
+
+spell-some-bytes : (v : ℕ) (ns : List ℕ) → spell (v ∷ ns) ≡ [] → ⊥
+unfolding spell
+spell-some-bytes v ns e = omega (arith, shortest-long v .0, length-append (shortest v) (spell ns), ap length e)
+
+spell-same : (ms ns : List ℕ) → Small ms → spell ms ≡ spell ns → ms ≡ ns
+unfolding spell shortest values Cancels
+spell-same [] [] _ e = refl
+spell-same [] (w ∷ ns) _ e = absurd (spell-some-bytes w ns (sym e))
+spell-same (v ∷ ms) [] _ e = absurd (spell-some-bytes v ms e)
+spell-same (v ∷ ms) (w ∷ ns) (more-small h m) e =
+    let (i, j) = cancels 5 v w (spell ms) (spell ns) (omega arith) (omega arith) e in
+    rw i (ap (λ l. w ∷ l) (spell-same ms ns m j))
+
+-- What bytes mend as the plan p: at most 4,096 of them that are, one after the other and to the end, padded forms of the numbers of p, a plan within the
+-- limits of document 01.
+pub record Pads (s : List ℕ) (p : Plan) : Type 0 where
+  pub short : length s ≤ 4096
+  pub within : planWithin p ≡ true
+  pub numbers : numbersOf s ≡ planNumbers p
+  pub whole : lastPlace s ≡ length s
+
+pads-of : (s : List ℕ) (p : Plan) {next : ℕ} → readPadded s ≡ found p next → Pads s p
+unfolding readPadded shortened spelling numbersOf
+pads-of s p e =
+    let w = mended s e in
+    record {
+      short = elim (decLt 4096 (length s)) [ yes l ↦ no-plan (rw (lt-ltb 4096 (length s) l) at e) | no l ↦ omega (arith, l) ];
+      within = accepted-is-within (shortened s) (w .read);
+      numbers = spell-same (numbersOf s) (planNumbers p) (numbers-small (length s) s 0) (whole-spelled w);
+      whole = omega (arith, w .whole, last-inside s);
+    }
+
+read-of : (s : List ℕ) (p : Plan) → Pads s p → readPadded s ≡ found p (length s)
+unfolding original shortened spelling
+read-of s p x =
+    let t : shortened s ≡ spelling p = ap spell (x .numbers) in
+    let r : readPlan (shortened s) ≡ found p (length (spelling p)) = rw t (spelled-is-accepted p (x .within)) in
+    padded-is s (x .short) ∙ rw (r, le-ltb (lastPlace s) (length s) (omega (arith, x .whole)))
+
+-- Bytes are read as the padded plan p exactly where they are one.
+pub mends-exactly : (s : List ℕ) (p : Plan) → (readPadded s ≡ found p (length s)) ↔ Pads s p
+mends-exactly s p = (λ e. pads-of s p e, λ x. read-of s p x)
