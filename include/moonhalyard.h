@@ -1,4 +1,6 @@
-/* Moonhalyard: a proved order engine, for C and for whatever calls C. Link with the archive that `rt staticlib boundary` writes.
+/* Moonhalyard: a proved order engine, for C and for whatever calls C. Link with the archive that `rt staticlib boundary` writes,
+   for moonhalyard_write and moonhalyard_rows with that of `rt staticlib boundary_writer`, and for moonhalyard_mend with that of `rt staticlib
+   boundary_mend`; all may be linked into one program.
 
    A plan is bytes. A state is 11,964 bytes that the caller keeps: it holds the plan, the orders, the messages that wait and the tally. No call
    keeps anything of its own, so a state may be copied, written to a file and read back, and two states have nothing to do with each other.
@@ -92,9 +94,29 @@ uint64_t moonhalyard_step(uint8_t *state, size_t size, uint64_t choice);
    refusal (17, 10, 11, 12). *budget is less by the steps taken, and the state is as the last of these left it: as it was, where none was taken. */
 uint32_t moonhalyard_run(uint8_t *state, size_t size, const uint64_t *choices, size_t many, uint64_t *budget);
 
+/* A plan as a table: a row of 20 numbers for the head and for each activity, arm and expression, in the order of the plan's bytes. The first number
+   of a row is how many numbers it has; these follow as the plan has them, and 0 in the places behind them:
+     the head              1 (the version), how many variables, how many of them are for correlation, and the numbers of these
+     0 empty, 4 raise, 5 leave, 11 scope                  its code (after a scope its body, its fault part and its undo part)
+     1 send, 2 receive     its code, partner, operation, how many variables, and their numbers
+     3 set                 its code and a variable; the rows of its expression are next
+     6 choose, 7 repeat    its code; the rows of its expression are next, then its activities
+     8 sequence, 9 flow, 10 pick                          its code and how many activities (a pick: arms) it has
+     an arm                partner, operation, how many variables, and their numbers; its activity is next
+     an expression         0 and a value, or 1 and a variable, or 2 sum, 3 difference, 4 equal, 5 less alone, with the rows of both operands next */
+#define MOONHALYARD_ROW 20
+
+/* Writes the plan of a table into the front of `plan`. The answer is how many bytes it has; or its refusal (1, 2, 4 to 9, 18) times 2^32, and the row in
+   trouble (0 for 1 and 18; for 2 the number of rows). A refused write changes nothing in `plan`, and bytes behind the plan never change. */
+uint64_t moonhalyard_write(const uint32_t *table, size_t numbers, uint8_t *plan, size_t room);
+
+/* The table of a plan, into the front of `table`. The answer is how many numbers it has, 20 for each row; or its refusal (1 to 9 with its place, 18)
+   times 2^32. Refused, nothing in `table` changes, and numbers behind the table never change. */
+uint64_t moonhalyard_rows(const uint8_t *plan, size_t n, uint32_t *table, size_t room);
+
 /* Mends a plan whose numbers are padded with zero groups, up to ten groups each: the same numbers in shortest form, into the front of `out`. The answer
    is the groups cut times 2^16 and how many bytes were written; or the refusal (1 to 9, with its place in `plan`; 18) times 2^32, and its place. A refused
-   mend changes nothing in `out`, and bytes behind the plan never change. Link with the archive that `rt staticlib boundary_mend` writes. */
+   mend changes nothing in `out`, and bytes behind the plan never change. */
 uint64_t moonhalyard_mend(const uint8_t *plan, size_t n, uint8_t *out, size_t room);
 
 #ifdef __cplusplus

@@ -1,19 +1,6 @@
 /* Answers for the proved engine, over pipes: calls come in by batches, each call with the length of the state that it is told of; the answer and a
    digest of all that the call could write go out for each, in eight bytes each. calls.rs is the other side. It ends where its input does. */
-typedef unsigned char u8;
-typedef unsigned int u32;
-typedef unsigned long u64;
-
-extern u64 moonhalyard_show(const u8 *plan, u64 n, u64 k);
-extern u64 moonhalyard_load(const u8 *plan, u64 n, u8 *state, u64 size);
-extern u32 moonhalyard_post(u8 *state, u64 size, u32 partner, u32 operation, u32 count, u32 v0, u32 v1, u32 v2, u32 v3);
-extern u32 moonhalyard_collect(u8 *state, u64 size, u8 *message, u64 room);
-extern u64 moonhalyard_offer(const u8 *state, u64 size, u64 choice);
-extern u64 moonhalyard_offers(const u8 *state, u64 size);
-extern u64 moonhalyard_step(u8 *state, u64 size, u64 choice);
-extern u32 moonhalyard_run(u8 *state, u64 size, const u64 *choices, u64 many, u64 *budget);
-extern long read(int file, void *to, u64 length);
-extern long write(int file, const void *from, u64 length);
+#include "pipes.h"
 
 enum { BATCH = 1 << 20, STATE = 12000, MESSAGE = 40, CHOICES = 4096 };
 enum { PUT, LOAD, POST, COLLECT, OFFER, OFFERS, STEP, RUN, GET, SHOW };
@@ -21,32 +8,6 @@ static u8 batch[BATCH], *at;
 static struct { u8 state[STATE], message[MESSAGE]; u64 budget; } desk;
 static u64 choices[CHOICES];
 static u8 answers[BATCH];
-
-static int take(void *to, u64 length)
-{
-    u8 *place = to;
-    while (length > 0) {
-        long got = read(0, place, length);
-        if (got <= 0)
-            return 0;
-        place += got;
-        length -= (u64)got;
-    }
-    return 1;
-}
-
-static int give(const void *from, u64 length)
-{
-    const u8 *place = from;
-    while (length > 0) {
-        long put = write(1, place, length);
-        if (put <= 0)
-            return 0;
-        place += put;
-        length -= (u64)put;
-    }
-    return 1;
-}
 
 static u64 number(int bytes)
 {

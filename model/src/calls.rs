@@ -2,9 +2,9 @@
 
 use crate::engine::Taken;
 use crate::packed::{self, SIZE};
+use crate::process::Process;
 use crate::state::Message;
-use std::io::{self, Read, Write};
-use std::process::{Child, ChildStdin, ChildStdout, Command, Stdio};
+use std::io;
 
 /// All that a call may write: a state with some bytes after it, a message with some after it, a budget.
 pub const STATE: usize = 12_000;
@@ -216,45 +216,29 @@ fn number(bytes: &mut &[u8], length: usize) -> u64 {
     u64::from_le_bytes(eight)
 }
 
-/// A process that answers for the library. It ends with this value.
+/// The library, which answers as `engine.c` does.
 pub struct Library {
-    command: String,
-    child: Child,
-    ask: Option<ChildStdin>,
-    told: ChildStdout,
+    process: Process,
 }
 
 impl Library {
-    /// Starts the command, its words apart by blanks.
     pub fn start(command: &str) -> Library {
-        let mut words = command.split_whitespace();
-        let program = words.next().expect("a command for the library");
-        let mut child = Command::new(program)
-            .args(words)
-            .stdin(Stdio::piped())
-            .stdout(Stdio::piped())
-            .spawn()
-            .unwrap_or_else(|error| panic!("{program}: {error}"));
         Library {
-            command: command.to_string(),
-            ask: child.stdin.take(),
-            told: child.stdout.take().expect("a pipe"),
-            child,
+            process: Process::start(command),
         }
     }
 
     /// Asks; an error where the process has ended.
     pub fn ask(&mut self, batch: &[u8]) -> io::Result<()> {
         let length = u32::try_from(batch.len()).expect("a short batch");
-        let ask = self.ask.as_mut().expect("an open pipe");
-        ask.write_all(&length.to_le_bytes())?;
-        ask.write_all(batch)
+        self.process.say(&length.to_le_bytes())?;
+        self.process.say(batch)
     }
 
     /// Answer and digest of so many calls.
     pub fn answers(&mut self, many: usize) -> io::Result<Vec<(u64, u64)>> {
         let mut bytes = vec![0; 16 * many];
-        self.told.read_exact(&mut bytes)?;
+        self.process.hear(&mut bytes)?;
         let long = |eight: &[u8]| u64::from_le_bytes(eight.try_into().expect("eight bytes"));
         let both = |both: &[u8]| (long(&both[..8]), long(&both[8..]));
         Ok(bytes.chunks_exact(16).map(both).collect())
@@ -269,19 +253,14 @@ impl Library {
         self.ask(&batch)?;
         let answer = self.answers(2)?[1].0;
         let mut desk = Desk::new();
-        self.told.read_exact(&mut desk.bytes[..])?;
+        self.process.hear(&mut desk.bytes[..])?;
         Ok((answer, desk))
     }
 
     /// Another process in its place.
     pub fn again(&self) -> Library {
-        Library::start(&self.command)
-    }
-}
-
-impl Drop for Library {
-    fn drop(&mut self) {
-        self.ask = None;
-        let _ = self.child.wait();
+        Library {
+            process: self.process.again(),
+        }
     }
 }

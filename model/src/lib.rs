@@ -24,6 +24,7 @@ pub mod mending;
 pub mod order;
 pub mod packed;
 pub mod plan;
+pub mod process;
 pub mod reader;
 pub mod rows;
 pub mod scenarios;

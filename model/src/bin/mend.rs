@@ -5,37 +5,21 @@
 
 use model::generate::{self, Random};
 use model::mending::{self, MAX_GROUPS};
+use model::process::Process;
 use model::reader::{self, Refusal};
 use model::{edges, vectors};
-use std::io::{Read, Write};
-use std::process::{Child, ChildStdin, ChildStdout, Command, Stdio, exit};
+use std::process::exit;
 use std::time::Instant;
 
 const SEED: u64 = 1;
 const COUNT: u64 = 150_000;
 
-/// The proved mending in a process of its own; `mending.c` is the other side.
+/// The proved mending, which answers as `mending.c` does.
 struct Library {
-    child: Child,
-    ask: Option<ChildStdin>,
-    told: ChildStdout,
+    process: Process,
 }
 
 impl Library {
-    fn start(command: &str) -> Library {
-        let mut words = command.split_whitespace();
-        let program = words.next().expect("a command for the library");
-        let mut child = Command::new(program)
-            .args(words)
-            .stdin(Stdio::piped())
-            .stdout(Stdio::piped())
-            .spawn()
-            .unwrap_or_else(|error| panic!("{program}: {error}"));
-        let ask = child.stdin.take();
-        let told = child.stdout.take().expect("a pipe");
-        Library { child, ask, told }
-    }
-
     /// The answer, and the buffer's bytes afterwards.
     fn mend(&mut self, bytes: &[u8], room: usize, fill: u8) -> (u64, Vec<u8>) {
         let mut message = Vec::new();
@@ -43,22 +27,14 @@ impl Library {
         message.extend(bytes);
         message.extend((room as u32).to_le_bytes());
         message.extend(u32::from(fill).to_le_bytes());
-        let ask = self.ask.as_mut().expect("an open pipe");
-        ask.write_all(&message).expect("the library listens");
+        self.process.say(&message).expect("the library listens");
         let mut answer = [0; 8];
         let mut buffer = vec![0; room];
-        self.told
-            .read_exact(&mut answer)
-            .and_then(|()| self.told.read_exact(&mut buffer))
+        self.process
+            .hear(&mut answer)
+            .and_then(|()| self.process.hear(&mut buffer))
             .expect("the library answers: it ended, or its stack did");
         (u64::from_le_bytes(answer), buffer)
-    }
-}
-
-impl Drop for Library {
-    fn drop(&mut self) {
-        self.ask = None;
-        let _ = self.child.wait();
     }
 }
 
@@ -79,7 +55,9 @@ fn main() {
         exit(2);
     });
     let mut comparison = Comparison {
-        library: Library::start(&command),
+        library: Library {
+            process: Process::start(&command),
+        },
         tally: [0; 19],
         cut: 0,
         random: Random::new(!seed),

@@ -3,36 +3,26 @@
 #![forbid(unsafe_code)]
 
 use model::generate::{self, Random};
+use model::process::Process;
 use model::reader::Refusal;
 use model::rows::{self, PLACES};
 use model::{edges, vectors};
-use std::io::{Read, Write};
-use std::process::{Child, ChildStdin, ChildStdout, Command, Stdio, exit};
+use std::process::exit;
 use std::time::Instant;
 
 const SEED: u64 = 1;
 const COUNT: u64 = 100_000;
 
-/// The proved writer in a process of its own; `writing.c` is the other side.
+/// The proved writer, which answers as `writing.c` does.
 struct Library {
-    child: Child,
-    ask: Option<ChildStdin>,
-    told: ChildStdout,
+    process: Process,
 }
 
 impl Library {
     fn start(command: &str) -> Library {
-        let mut words = command.split_whitespace();
-        let program = words.next().expect("a command for the library");
-        let mut child = Command::new(program)
-            .args(words)
-            .stdin(Stdio::piped())
-            .stdout(Stdio::piped())
-            .spawn()
-            .unwrap_or_else(|error| panic!("{program}: {error}"));
-        let ask = child.stdin.take();
-        let told = child.stdout.take().expect("a pipe");
-        Library { child, ask, told }
+        Library {
+            process: Process::start(command),
+        }
     }
 
     /// The answer, and the buffer's bytes afterwards.
@@ -51,13 +41,12 @@ impl Library {
         message.extend(given);
         message.extend((room as u32).to_le_bytes());
         message.extend(fill.to_le_bytes());
-        let ask = self.ask.as_mut().expect("an open pipe");
-        ask.write_all(&message).expect("the library listens");
+        self.process.say(&message).expect("the library listens");
         let mut answer = [0; 8];
         let mut buffer = vec![0; room * wide];
-        self.told
-            .read_exact(&mut answer)
-            .and_then(|()| self.told.read_exact(&mut buffer))
+        self.process
+            .hear(&mut answer)
+            .and_then(|()| self.process.hear(&mut buffer))
             .expect("the library answers: it ended, or its stack did");
         (u64::from_le_bytes(answer), buffer)
     }
@@ -74,13 +63,6 @@ impl Library {
         let (answer, buffer) = self.call(1, bytes.len(), bytes, room, fill, 4);
         let number = |four: &[u8]| u32::from_le_bytes(four.try_into().expect("four bytes"));
         (answer, buffer.chunks_exact(4).map(number).collect())
-    }
-}
-
-impl Drop for Library {
-    fn drop(&mut self) {
-        self.ask = None;
-        let _ = self.child.wait();
     }
 }
 
