@@ -1,5 +1,6 @@
 /* Moonhalyard: a proved order engine, for C and for whatever calls C. Link with the archive that `rt staticlib boundary` writes,
-   and for moonhalyard_write and moonhalyard_rows with that of `rt staticlib boundary_writer`; both may be linked into one program.
+   for moonhalyard_write and moonhalyard_rows with that of `rt staticlib boundary_writer`, and for moonhalyard_mend with that of `rt staticlib
+   boundary_mend`; all may be linked into one program.
 
    A plan is bytes. A state is 11,964 bytes that the caller keeps: it holds the plan, the orders, the messages that wait and the tally. No call
    keeps anything of its own, so a state may be copied, written to a file and read back, and two states have nothing to do with each other.
@@ -112,6 +113,11 @@ uint64_t moonhalyard_write(const uint32_t *table, size_t numbers, uint8_t *plan,
 /* The table of a plan, into the front of `table`. The answer is how many numbers it has, 20 for each row; or its refusal (1 to 9 with its place, 18)
    times 2^32. Refused, nothing in `table` changes, and numbers behind the table never change. */
 uint64_t moonhalyard_rows(const uint8_t *plan, size_t n, uint32_t *table, size_t room);
+
+/* Mends a plan whose numbers are padded with zero groups, up to ten groups each: the same numbers in shortest form, into the front of `out`. The answer
+   is the groups cut times 2^16 and how many bytes were written; or the refusal (1 to 9, with its place in `plan`; 18) times 2^32, and its place. A refused
+   mend changes nothing in `out`, and bytes behind the plan never change. */
+uint64_t moonhalyard_mend(const uint8_t *plan, size_t n, uint8_t *out, size_t room);
 
 #ifdef __cplusplus
 }

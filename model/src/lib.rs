@@ -6,6 +6,7 @@
 //! - `model/run compare [SEED] [COUNT]` asks the library in a process of its own.
 //! - `model/run writing [SEED] [COUNT]` does so for the writer.
 //! - `model/run texts [SEED] [COUNT]` asks the desk, for plans as text.
+//! - `model/run mend [SEED] [COUNT]` does so for the mending of padded plans.
 //! - `model/run bench` links `libboundary.a`, on x86-64.
 
 #![deny(unsafe_code)]
@@ -20,6 +21,7 @@ pub mod full;
 pub mod fullest;
 pub mod generate;
 pub mod lively;
+pub mod mending;
 pub mod order;
 pub mod packed;
 pub mod plan;

@@ -42,11 +42,19 @@ pub fn read(bytes: &[u8]) -> Result<Plan, Refusal> {
 /// Reads a plan into one that is used again. After a refusal `plan` has no parts.
 pub fn read_into(bytes: &[u8], plan: &mut Plan) -> Result<(), Refusal> {
     plan.parts.clear();
-    let answer = read_parts(bytes, &mut plan.parts);
+    let answer = read_parts(bytes, read_number, &mut plan.parts);
     if answer.is_err() {
         plan.parts.clear();
     }
     answer
+}
+
+/// How a number is read: the value of the number at a place, and the place after it.
+pub type Numbers = fn(&[u8], usize) -> Result<(u32, usize), Refusal>;
+
+/// Whether bytes are a plan, where its numbers are read in another way.
+pub fn check(bytes: &[u8], numbers: Numbers) -> Result<(), Refusal> {
+    read_parts(bytes, numbers, &mut Vec::new())
 }
 
 /// Reads one number at `place`: its value and the place after it.
@@ -77,19 +85,20 @@ pub fn read_number(bytes: &[u8], place: usize) -> Result<(u32, usize), Refusal> 
     }
 }
 
-fn refuse<T>(number: u32, place: usize) -> Result<T, Refusal> {
+pub fn refuse<T>(number: u32, place: usize) -> Result<T, Refusal> {
     Err(Refusal {
         number,
         place: place as u32,
     })
 }
 
-fn read_parts(bytes: &[u8], parts: &mut Vec<Part>) -> Result<(), Refusal> {
+fn read_parts(bytes: &[u8], numbers: Numbers, parts: &mut Vec<Part>) -> Result<(), Refusal> {
     if bytes.len() > MAX_BYTES {
         return refuse(1, 0);
     }
     let mut reading = Reading {
         bytes,
+        numbers,
         place: 0,
         variables: 0,
         correlation: 0,
@@ -111,6 +120,7 @@ fn read_parts(bytes: &[u8], parts: &mut Vec<Part>) -> Result<(), Refusal> {
 /// The reading of one plan: where it stands and what it has seen.
 struct Reading<'a> {
     bytes: &'a [u8],
+    numbers: Numbers,
     place: usize,
     /// How many variables the plan has.
     variables: u32,
@@ -129,7 +139,7 @@ impl Reading<'_> {
             self.place += 1;
             return Ok(u32::from(byte));
         }
-        let (value, next) = read_number(self.bytes, self.place)?;
+        let (value, next) = (self.numbers)(self.bytes, self.place)?;
         self.place = next;
         Ok(value)
     }

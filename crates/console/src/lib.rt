@@ -2,6 +2,7 @@
 mod answering;
 mod files;
 mod lists;
+mod mends;
 mod plans;
 mod reasons;
 mod taking;
@@ -77,6 +78,7 @@ fn answer_worded(
         Worded::Plan => plans::load(desk, word, number, bytes, names, out),
         Worded::Save => files::save(desk, word, number, out),
         Worded::Open => files::open(desk, word, number, bytes, names, out),
+        Worded::Mend => mends::mend(desk, word, number, bytes, names, out),
     }
 }
 

@@ -11,7 +11,7 @@ use Rattle.text.specs.declared.Numbered.{Numbered}
 use Rattle.text.specs.declared.Listed.{Listed}
 use Rattle.text.specs.declared.Verb.{Verb}
 use Rattle.text.specs.Words.{sameText}
-use Rattle.text.specs.Commands.{planWord, showWord, drawWord, postWord, offerWord, stepWord, runWord, collectWord, waitingWord, tallyWord, ordersWord, orderWord, offersWord, namesWord, writeWord, saveWord, openWord, aloneOf, wordedOf, numberedOf, listedOf, verbOf}
+use Rattle.text.specs.Commands.{planWord, showWord, drawWord, postWord, offerWord, stepWord, runWord, collectWord, waitingWord, tallyWord, ordersWord, orderWord, offersWord, namesWord, writeWord, saveWord, openWord, mendWord, aloneOf, wordedOf, numberedOf, listedOf, verbOf}
 
 module _ (w t : List ℕ) {b : Bool} (e : b ≡ sameText w t) (v o : Verb) where
   pub this-word : b ≡ true → v ≡ cond (sameText w t) v o
@@ -37,13 +37,14 @@ module _ (w : List ℕ) (o : Verb) where
   unfolding aloneOf
   alone-words d1 d2 e1 e2 e3 e4 e5 e6 e7 = rw (e7, e6, e5, e4, e3, e2, e1, d2, d1)
 
-  pub worded-words : {r1 r2 r3 : Verb}
-      → r1 ≡ cond (sameText w openWord) (Verb.Worded Worded.Open) o
-      → r2 ≡ cond (sameText w saveWord) (Verb.Worded Worded.Save) r1
-      → r3 ≡ cond (sameText w planWord) (Verb.Worded Worded.Plan) r2
-      → r3 ≡ wordedOf w o
+  pub worded-words : {r1 r2 r3 r4 : Verb}
+      → r1 ≡ cond (sameText w mendWord) (Verb.Worded Worded.Mend) o
+      → r2 ≡ cond (sameText w openWord) (Verb.Worded Worded.Open) r1
+      → r3 ≡ cond (sameText w saveWord) (Verb.Worded Worded.Save) r2
+      → r4 ≡ cond (sameText w planWord) (Verb.Worded Worded.Plan) r3
+      → r4 ≡ wordedOf w o
   unfolding wordedOf
-  worded-words e1 e2 e3 = rw (e3, e2, e1)
+  worded-words e1 e2 e3 e4 = rw (e4, e3, e2, e1)
 
   pub numbered-words : {r1 r2 r3 : Verb}
       → r1 ≡ cond (sameText w orderWord) (Verb.Numbered Numbered.Order) o

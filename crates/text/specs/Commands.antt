@@ -53,6 +53,9 @@ saveWord = 115 ∷ 97 ∷ 118 ∷ 101 ∷ []
 abbrev pub openWord : List ℕ
 openWord = 111 ∷ 112 ∷ 101 ∷ 110 ∷ []
 
+abbrev pub mendWord : List ℕ
+mendWord = 109 ∷ 101 ∷ 110 ∷ 100 ∷ []
+
 abbrev pub showWord : List ℕ
 showWord = 115 ∷ 104 ∷ 111 ∷ 119 ∷ []
 
@@ -86,7 +89,8 @@ unfoldable pub wordedOf : List ℕ → Verb → Verb
 wordedOf w other =
     cond (sameText w planWord) (Verb.Worded Worded.Plan)
     (cond (sameText w saveWord) (Verb.Worded Worded.Save)
-    (cond (sameText w openWord) (Verb.Worded Worded.Open) other))
+    (cond (sameText w openWord) (Verb.Worded Worded.Open)
+    (cond (sameText w mendWord) (Verb.Worded Worded.Mend) other)))
 
 -- one that takes a number; else what the word asks for otherwise
 unfoldable pub numberedOf : List ℕ → Verb → Verb

@@ -72,6 +72,7 @@ fn alone_of(w: &[u8], other: Verb) -> Verb
 fn worded_of(w: &[u8], other: Verb) -> Verb
     ensures { λ r. ⌜ r ≡ wordedOf (now (w .entry)) other ⌝ }
 {
+    let other = either(w, b"mend", Verb::Worded { what: Worded::Mend }, other);
     let other = either(w, b"open", Verb::Worded { what: Worded::Open }, other);
     let other = either(w, b"save", Verb::Worded { what: Worded::Save }, other);
     either(w, b"plan", Verb::Worded { what: Worded::Plan }, other)

@@ -56,6 +56,7 @@ pub enum Worded {
     Plan,
     Save,
     Open,
+    Mend,
 }
 
 // Those that take one number.

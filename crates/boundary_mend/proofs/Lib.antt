@@ -1,0 +1,2 @@
+-- What other crates' proofs cite of this one.
+pub mod Returns

@@ -1,0 +1,55 @@
+-- Padded numbers and plans on each side of their rules, computed. Assumes nothing.
+use Prim.Native.Nat.{ℕ}
+use mathlib.Core.Path.{_≡_, refl}
+use mathlib.Core.List.{List, [], _∷_, _++_}
+use lib.ListN.{replicate}
+use Rattle.numbers.specs.Shortest.{shortest, spelled}
+use Rattle.numbers.specs.declared.Number.{Number}
+use Rattle.numbers.specs.declared.Number.the-variants.{Value, Short, Bad}
+use Rattle.plan.specs.Spell.{spell}
+use Rattle.mend.specs.Padded.{groupsAt, paddedAt, numbersFrom, numbersOf, shortened, cutFrom, groupsCut, placeFrom, placeOf}
+
+-- 1 in one, two and ten groups, and 4,294,967,295 in ten; 0 in two; an eleventh group asked for, also where the bytes end there; bytes that end
+-- after nine groups; too large in the fifth group and in the sixth, also where the bytes end there
+abbrev padded : List (List ℕ)
+padded =
+    (1 ∷ [])
+    ∷ (129 ∷ 0 ∷ [])
+    ∷ (129 ∷ (replicate 8 128 ++ (0 ∷ [])))
+    ∷ (255 ∷ 255 ∷ 255 ∷ 255 ∷ 143 ∷ 128 ∷ 128 ∷ 128 ∷ 128 ∷ 0 ∷ [])
+    ∷ (128 ∷ 0 ∷ [])
+    ∷ (129 ∷ (replicate 9 128 ++ (0 ∷ [])))
+    ∷ (129 ∷ replicate 9 128)
+    ∷ (129 ∷ replicate 8 128)
+    ∷ (255 ∷ 255 ∷ 255 ∷ 255 ∷ 144 ∷ [])
+    ∷ (129 ∷ 128 ∷ 128 ∷ 128 ∷ 128 ∷ 129 ∷ [])
+    ∷ []
+
+abbrev each : List (List ℕ) → List Number
+each [] = []
+each (s ∷ l) = paddedAt s 0 ∷ each l
+
+padded-numbers : each padded ≡ Value 1 1 ∷ Value 1 2 ∷ Value 1 10 ∷ Value 4294967295 10 ∷ Value 0 2 ∷ Bad ∷ Bad ∷ Short ∷ Bad ∷ Bad ∷ []
+unfolding paddedAt groupsAt
+padded-numbers = refl
+
+-- plan A with its version in two groups, its operation in three, and an eleventh group asked for after it
+abbrev a : List ℕ
+a = 129 ∷ 0 ∷ 2 ∷ 1 ∷ 0 ∷ 2 ∷ 3 ∷ 133 ∷ 128 ∷ 0 ∷ 2 ∷ 0 ∷ 1 ∷ 0 ∷ replicate 10 128
+
+a-shortened : shortened a ≡ 1 ∷ 2 ∷ 1 ∷ 0 ∷ 2 ∷ 3 ∷ 5 ∷ 2 ∷ 0 ∷ 1 ∷ 0 ∷ []
+unfolding shortened numbersOf numbersFrom paddedAt groupsAt spell shortest spelled
+a-shortened = refl
+
+a-cut : groupsCut a ≡ 3
+unfolding groupsCut cutFrom paddedAt groupsAt shortest spelled
+a-cut = refl
+
+-- its body, its operation, its first variable, and what follows it
+abbrev places : List ℕ → List ℕ
+places [] = []
+places (q ∷ l) = placeOf a q ∷ places l
+
+a-places : places (4 ∷ 6 ∷ 8 ∷ 11 ∷ []) ≡ 5 ∷ 7 ∷ 11 ∷ 14 ∷ []
+unfolding placeOf placeFrom paddedAt groupsAt shortest spelled
+a-places = refl

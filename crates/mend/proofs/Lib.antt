@@ -1,0 +1,10 @@
+-- What other crates' proofs cite of this one.
+pub mod PaddedReads
+pub mod PaddedLaws
+pub mod RunReturns
+pub mod RunLaws
+pub mod Alike
+pub mod MendReturns
+pub mod Request11
+mod CopyReturns
+mod Examples

@@ -1,0 +1,4 @@
+-- What the contracts of this crate cite.
+pub mod Padded
+pub mod Fits
+pub mod Outcome
