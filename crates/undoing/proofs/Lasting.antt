@@ -10,7 +10,6 @@ use Rattle.plan.specs.Tree.{Own, Act, Acts, none, more, size, sizes, count}
 use Rattle.order.specs.declared.Order.{Order}
 use Rattle.order.specs.Lists.{some, withoutLast}
 use Rattle.order.specs.State.{Name, root, inner, idle, active, done, faulty, undoing, handling, halted, withdrawing, closings, remembering, markAt, marked, markOf, marking}
-use Rattle.order.specs.Expression.{fault}
 use Rattle.order.specs.Begin.{Begun, begin, beginInTurn, beginAfter, part, partAt, beginPart}
 use Rattle.order.specs.declared.Way.{Way as Result}
 use Rattle.order.specs.declared.Way.the-variants.{Running as running, Over as over, Raising as raising, Leaving as leaving, Undone as undone, UndoRaising as undoRaising}
