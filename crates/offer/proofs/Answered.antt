@@ -136,10 +136,10 @@ least-leb u [] c = by-test (leb u c)
 least-leb u (x ∷ l) c = least-leb u l (lesser x c) ∙ (ap (λ b. b && every (leb u) l) (lesser-leb u x c) ∙ and-swap (leb u x) (leb u c) (every (leb u) l))
 
 -- the messages that wait are those of their numbers
-mailed : {messages : List Message} {letters : List ℕ} → Letters messages letters → {waiting : ℕ} → waiting ≤ 64 → Mailed letters waiting (take waiting messages)
-mailed {messages} m {waiting} few = record {
+mailed : {messages : List Message} {letters : List ℕ} {waiting : ℕ} → Letters messages waiting letters → waiting ≤ 64 → Mailed letters waiting (take waiting messages)
+mailed {messages} {waiting = waiting} m few = record {
   long = length-take-le waiting messages (omega (arith, m .held));
-  is = λ j h. getD-take waiting messages j noMessage h ∙ m .is j (omega arith);
+  is = λ j h. getD-take waiting messages j noMessage h ∙ m .is j h;
 }
 
 module _ {t flags picks : List ℕ} {orders : List Order} {n : ℕ} {letters : List ℕ} {waiting : ℕ} {least : List ℕ} (w : Leasts t flags picks orders n letters waiting least) where
@@ -185,7 +185,7 @@ sees-by {orders = orders} {o} {n} {waiting} {c} {none = none} {part} {r} w none-
 }
 
 -- `sight_of`
-pub sees-all : {t flags picks letters : List ℕ} {st : State} {o : Order} {n c : ℕ} {r : Sight} → st .waiting ≤ 64 → Letters (st .messages) letters → Picks t picks
+pub sees-all : {t flags picks letters : List ℕ} {st : State} {o : Order} {n c : ℕ} {r : Sight} → st .waiting ≤ 64 → Letters (st .messages) (st .waiting) letters → Picks t picks
     → SeesBy t flags picks (st .orders) o n letters (st .waiting) c r → SeesAll t flags st o n c r
 unfolding offersOf
 sees-all {st = st} few m u w = record {

@@ -23,6 +23,7 @@ use Rattle.machine.specs.Calls.{previewBy, preview, refusing}
 use Rattle.machine.specs.Limits.{inLimits, planIn, by}
 use Rattle.machine.specs.Offer.{offersOf}
 use Rattle.machine.proofs.Called.{answer-no, answer-got, plan-found}
+use Rattle.machine.proofs.Moved.{limits-waiting}
 use Rattle.offer.specs.declared.Amount.{Amount}
 use Rattle.offer.specs.declared.Offered.{Offered}
 use Rattle.offer.specs.Having.{Has, OffersBy, offeredIn}
@@ -33,6 +34,9 @@ use Rattle.offer.proofs.FirstFits.{accepted-correlated}
 -- what a state with its plan, table and flags has besides
 pub has-limits : {t flags : List ℕ} {n : ℕ} {s : State} → Has t flags n s → inLimits s ≡ true
 has-limits {s = s} h = plan-found s (h .planned .is) .0
+
+pub has-room : {t flags : List ℕ} {n : ℕ} {s : State} → Has t flags n s → s .waiting ≤ 64
+has-room {s = s} h = limits-waiting s (has-limits h)
 
 pub has-few : {t flags : List ℕ} {n : ℕ} {s : State} → Has t flags n s → n ≤ 256
 has-few {t} h = omega (arith, stands-inside (h .plan .fault) (size (h .plan .body)) t (plan-stands (h .spelled) .fault), h .spelled .many)
@@ -50,11 +54,8 @@ has-tabled h = record { spells = h .spelled .spells; many = h .spelled .many; li
 pub offer-beyond : {t flags : List ℕ} {n : ℕ} {s : State} (c : ℕ) {r : Step} → 256 < n → OffersBy t flags n s c r
 offer-beyond c g = record { is = λ h. absurd (omega (arith, has-few h)) }
 
-pub offer-unruled : {t flags : List ℕ} {n : ℕ} {s : State} (c : ℕ) {b : Bool} {r : Step} → b ≡ inLimits s → b ≡ false → OffersBy t flags n s c r
-offer-unruled c e f = record { is = λ h. let z : false ≡ true = sym f ∙ e ∙ has-limits h in absurd (let w : _≡_ {A = ℕ} 0 1 = cc in omega arith) }
-
-pub offer-ruled : (s : State) {b : Bool} → b ≡ inLimits s → b ≡ true → inLimits s ≡ true
-offer-ruled s e f = sym e ∙ f
+pub offer-full : {t flags : List ℕ} {n : ℕ} {s : State} (c : ℕ) {r : Step} → 64 < s .waiting → OffersBy t flags n s c r
+offer-full c g = record { is = λ h. absurd (omega (arith, has-room h)) }
 
 pub offer-found : {t flags : List ℕ} {n c : ℕ} {s : State} {o : Order} {r : Step} → StartsOrder t o → Previews t flags s o n c r → OffersBy t flags n s c r
 offer-found {n = n} {c = c} a x = record {

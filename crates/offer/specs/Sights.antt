@@ -79,10 +79,6 @@ catchLine i m o p l x c = orElse c (cond (catches p o m (x .own) (x .arms) (x .a
 unfoldable pub catchLive : Message → Plan → List Letter → Live → Receiver → Receiver
 catchLive m p l x c = orElse c (firstOf p (x .slot) (x .order) m (x .ready))
 
--- r says whether an order stands in its slot
-pub record IsLive (o : Order) (r : Bool) : Type 0 where
-  pub is : r ≡ isLive o
-
 -- r is the lowest free slot
 pub record Frees (orders : List Order) (r : ℕ) : Type 0 where
   pub is : r ≡ freeFrom 0 orders

@@ -65,11 +65,11 @@ pub fn offer_by(
     if 256 < activities {
         return counting::refused(17);
     }
-    if limits::state_ruled(state) {
-        let new = started_order(table);
-        return previews::preview_by(table, flags, state, new, activities, choice);
+    if 64 < state.waiting {
+        return counting::refused(17);
     }
-    counting::refused(17)
+    let new = started_order(table);
+    previews::preview_by(table, flags, state, new, activities, choice)
 }
 
 // The step that a choice would take, not taken.
