@@ -46,10 +46,6 @@ pub shown-by : {t flags : List ℕ} {n : ℕ} {s : State} (h : Has t flags n s) 
 unfolding preview
 shown-by h c e = e ∙ rw (h .planned .is)
 
--- the table and the order as it starts are those that the search asks for
-has-tabled : {t flags : List ℕ} {n : ℕ} {s : State} (h : Has t flags n s) → Tabled (h .plan) t n
-has-tabled h = record { spells = h .spelled .spells; many = h .spelled .many; limited = h .spelled .within }
-
 -- `offer_by`: a state that has its plan passes the tests in front
 pub offer-beyond : {t flags : List ℕ} {n : ℕ} {s : State} (c : ℕ) {r : Step} → 256 < n → OffersBy t flags n s c r
 offer-beyond c g = record { is = λ h. absurd (omega (arith, has-few h)) }
@@ -57,16 +53,14 @@ offer-beyond c g = record { is = λ h. absurd (omega (arith, has-few h)) }
 pub offer-full : {t flags : List ℕ} {n : ℕ} {s : State} (c : ℕ) {r : Step} → 64 < s .waiting → OffersBy t flags n s c r
 offer-full c g = record { is = λ h. absurd (omega (arith, has-room h)) }
 
-pub offer-found : {t flags : List ℕ} {n c : ℕ} {s : State} {o : Order} {r : Step} → StartsOrder t o → Previews t flags s o n c r → OffersBy t flags n s c r
-offer-found {n = n} {c = c} a x = record {
-  is = λ h. shown-by h c (x .is (h .plan) (h .correlated) (has-tabled h) (a .is (h .plan) n (h .spelled)));
-}
+pub offer-found : {t flags : List ℕ} {n c : ℕ} {s : State} {r : Step} → Previews t flags s n c r → OffersBy t flags n s c r
+offer-found {c = c} x = record { is = λ h. shown-by h c (x .is (h .plan) (h .correlated) (h .spelled)) }
 
 -- `count_by`
-pub counted-all : {t flags : List ℕ} {n : ℕ} {s : State} {o : Order} {r : Amount} → Has t flags n s → StartsOrder t o → Amounts t flags s o n r
+pub counted-all : {t flags : List ℕ} {n : ℕ} {s : State} {r : Amount} → Has t flags n s → Amounts t flags s n r
     → _≡_ {A = Offered} (record { refusal = 0; many = r .many; held = r .held }) (offeredIn s)
 unfolding offeredIn
-counted-all {n = n} h a x = rw (h .planned .is, x .is (h .plan) (h .correlated) (has-tabled h) (a .is (h .plan) n (h .spelled)))
+counted-all h x = rw (h .planned .is, x .is (h .plan) (h .correlated) (h .spelled))
 
 -- a state that earns 17, and one that has a plan
 has-found : {s : State} {p : Plan} {next k : ℕ} {t flags : List ℕ} → planIn s ≡ found p next → k ≡ size (p .body) + size (p .fault) → t ≡ tableOf p → flags ≡ flagsOf p

@@ -109,12 +109,11 @@ pub(crate) fn least_slot(
     if order.root == 0 {
         return;
     }
-    let marks = order.marks;
     let known = known_of(flags, order);
     least_rows(
         table,
         picks,
-        &marks,
+        &order.marks,
         &known,
         activities,
         letters,

@@ -11,11 +11,12 @@ use super::slots::starts;
 use machine::State;
 use machine::Step;
 use order::Order;
+use order::started_order;
 ghost use Prim.Native.Nat.{_≤_};
 ghost use mathlib.Core.Path.{_≡_};
 ghost use Rattle.offer.specs.Sights.{SeesBy, SeesAll, Previews, amounted, Amounts};
 
-// What is seen of the whole offer of some orders and letters, where `order` is an order as it starts: first, for each message that waits, the
+// What is seen of the whole offer of some orders and letters: first, for each message that waits, the
 // fewest unchecked places of the open receives that it fits, 5 where it fits none; then what each live order has on offer; then what may start.
 // The loops stand here and a free slot is passed by, since orders go by value: a call with all of them, or with one, copies them.
 fn sight_in(
@@ -23,14 +24,13 @@ fn sight_in(
     flags: &[u8; 16],
     picks: &[usize; 256],
     orders: [Order; 16],
-    order: Order,
     activities: usize,
     letters: &[u32; 448],
     waiting: usize,
     choice: usize,
 ) -> Sight
     requires { ⌜ (activities ≤ 256) × (waiting ≤ 64) ⌝ }
-    ensures { λ r. ⌜ SeesBy (now (table .entry)) (now (flags .entry)) (now (picks .entry)) orders order activities (now (letters .entry)) waiting choice r ⌝ }
+    ensures { λ r. ⌜ SeesBy (now (table .entry)) (now (flags .entry)) (now (picks .entry)) orders activities (now (letters .entry)) waiting choice r ⌝ }
 {
     let mut least = [5usize; 64];
     let mut i: usize = 0;
@@ -74,6 +74,10 @@ fn sight_in(
         );
         slot += 1;
     }
+    if waiting == 0 {
+        return part;
+    }
+    let order = started_order(table);
     starts(
         table,
         flags,
@@ -87,17 +91,16 @@ fn sight_in(
     )
 }
 
-// What is seen of the whole offer, where `order` is an order as it starts.
+// What is seen of the whole offer.
 fn sight_of(
     table: &[u32; 11584],
     flags: &[u8; 16],
     state: State,
-    order: Order,
     activities: usize,
     choice: usize,
 ) -> Sight
     requires { ⌜ (activities ≤ 256) × (state .waiting ≤ 64) ⌝ }
-    ensures { λ r. ⌜ SeesAll (now (table .entry)) (now (flags .entry)) state order activities choice r ⌝ }
+    ensures { λ r. ⌜ SeesAll (now (table .entry)) (now (flags .entry)) state activities choice r ⌝ }
 {
     let orders = state.orders;
     let messages = state.messages;
@@ -108,7 +111,6 @@ fn sight_of(
         flags,
         &picks,
         orders,
-        order,
         activities,
         &letters,
         state.waiting,
@@ -121,14 +123,13 @@ pub(crate) fn preview_by(
     table: &[u32; 11584],
     flags: &[u8; 16],
     state: State,
-    order: Order,
     activities: usize,
     choice: usize,
 ) -> Step
     requires { ⌜ (activities ≤ 256) × (state .waiting ≤ 64) ⌝ }
-    ensures { λ r. ⌜ Previews (now (table .entry)) (now (flags .entry)) state order activities choice r ⌝ }
+    ensures { λ r. ⌜ Previews (now (table .entry)) (now (flags .entry)) state activities choice r ⌝ }
 {
-    let s = sight_of(table, flags, state, order, activities, choice);
+    let s = sight_of(table, flags, state, activities, choice);
     answer(choice, s)
 }
 
@@ -154,12 +155,11 @@ pub(crate) fn offered_by(
     table: &[u32; 11584],
     flags: &[u8; 16],
     state: State,
-    order: Order,
     activities: usize,
 ) -> Amount
     requires { ⌜ (activities ≤ 256) × (state .waiting ≤ 64) ⌝ }
-    ensures { λ r. ⌜ Amounts (now (table .entry)) (now (flags .entry)) state order activities r ⌝ }
+    ensures { λ r. ⌜ Amounts (now (table .entry)) (now (flags .entry)) state activities r ⌝ }
 {
-    let s = sight_of(table, flags, state, order, activities, 4294967295);
+    let s = sight_of(table, flags, state, activities, 4294967295);
     amount_of(s)
 }

@@ -9,8 +9,6 @@ ruleset cases = (has-few, has-room, counted-all)
 pub count-by-spec : {M : Type 1} → statement M
 count-by-spec =
     tie.close (tie.spec
-    -- started-order-requires
-    (λ c κs. search needs)
     -- offered-by-requires
     (λ c κs. (search cases, search cases))
     -- returns

@@ -17,8 +17,6 @@ offer-by-spec =
     (λ c κs. search needs)
     -- returns-2
     (λ c. search cases)
-    -- started-order-requires
-    (λ c κs. search needs)
     -- preview-by-requires
     (λ c κs. search needs)
     -- returns-3

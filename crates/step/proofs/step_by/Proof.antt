@@ -27,5 +27,5 @@ step-by-spec =
     (λ c. search needs)
     -- returns-3
     (λ c.
-        let seen = c .before .before .before .before .before .before .before .before .before in
-        step-taken _ (seen .offer-by .ensures) (search needs) (search needs) (search needs) _ (c .before .before .before .moved .ensures)))
+    let seen = c .before .before .before .before .before .before .before .before .before in
+    step-taken _ (seen .offer-by .ensures) (search needs) (search needs) (search needs) _ (c .before .before .before .moved .ensures)))

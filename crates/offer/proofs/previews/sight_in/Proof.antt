@@ -2,24 +2,24 @@
 use borrow.Author.Needs.{needs}
 use Prim.Native.Nat.{_-_}
 use Rattle.offer.specs.Sights.{Informed, offerLive}
-use Rattle.offer.proofs.Answered.{sees-by}
+use Rattle.offer.proofs.Answered.{sees-none, sees-started}
 use Rattle.offer.proofs.Crossed.{Crossing, crossing-starts, crossing-again, crossing-passes, crossing-done}
 use Rattle.offer.proofs.Fewest.{Lowering, lowering-starts, lowering-again, lowering-passes, lowering-done}
 use Rattle.offer.proofs.previews.sight_in.Statement.{statement}
 use Rattle.offer.proofs.previews.sight_in.Tie as tie
 
 abbrev Inv-loop : tie.InvT-loop
-Inv-loop table flags picks order activities letters waiting choice orders least₀ i₀ least i = Lowering table flags picks orders activities letters waiting i least
+Inv-loop table flags picks activities letters waiting choice orders least₀ i₀ least i = Lowering table flags picks orders activities letters waiting i least
 
 abbrev μ-loop : tie.MeasureT-loop
-μ-loop table flags picks order activities letters waiting choice orders least₀ i₀ least i = 16 - i
+μ-loop table flags picks activities letters waiting choice orders least₀ i₀ least i = 16 - i
 
 abbrev Inv-loop2 : tie.InvT-loop2
-Inv-loop2 table flags picks order activities letters waiting choice orders least i part₀ slot₀ part slot =
+Inv-loop2 table flags picks activities letters waiting choice orders least i part₀ slot₀ part slot =
     Crossing table activities (Informed table picks flags letters waiting least) (offerLive waiting) orders part₀ slot part
 
 abbrev μ-loop2 : tie.MeasureT-loop2
-μ-loop2 table flags picks order activities letters waiting choice orders least i part₀ slot₀ part slot = 16 - slot
+μ-loop2 table flags picks activities letters waiting choice orders least i part₀ slot₀ part slot = 16 - slot
 
 pub sight-in-spec : {M : Type 1} → statement M
 sight-in-spec =
@@ -74,11 +74,19 @@ sight-in-spec =
     (λ c. search needs)
     -- loop2-again-2
     (λ c. crossing-again (search needs) _ (search needs) (c .offer-slot .ensures))
-    -- starts-requires
-    (λ c κs. search needs)
     -- returns
     (λ c.
-        let looped = c .before .before in
-        let seen = looped .before in
-        sees-by (lowering-done (seen .before .before .loop .inv) (seen .before .loop-test .left)) (seen .nothing-seen .ensures)
-        (crossing-done (looped .loop2 .inv) (c .before .loop2-test .left)) (c .starts .ensures)))
+    let looped = c .before .before in
+    let seen = looped .before in
+    sees-none (lowering-done (seen .before .before .loop .inv) (seen .before .loop-test .left)) (seen .nothing-seen .ensures)
+    (crossing-done (looped .loop2 .inv) (c .before .loop2-test .left)) (c .if3 .taken))
+    -- started-order-requires
+    (λ c κs. search needs)
+    -- starts-requires
+    (λ c κs. search needs)
+    -- returns-2
+    (λ c.
+    let ended = c .before .before .before in
+    let seen = ended .before .before in
+    sees-started (lowering-done (seen .before .before .loop .inv) (seen .before .loop-test .left)) (seen .nothing-seen .ensures)
+    (crossing-done (ended .before .loop2 .inv) (ended .loop2-test .left)) (c .before .started-order .ensures) (c .starts .ensures)))
