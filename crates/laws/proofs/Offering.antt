@@ -8,7 +8,7 @@ use mathlib.Core.List.{List, [], _∷_, _++_, append-nil, map, List·Memᴰ, Lis
 use lib.ListN.{length, getD, take, length-append, List·getD-eq-default}
 use lib.Seq.{getD-append-seam, append-snoc}
 use lib.Dec.{leb, ltb, eqb}
-use borrow.Author.Tests.{lt-ltb, le-ltb, eq-eqb, ne-eqb}
+use borrow.Author.Tests.{lt-ltb, le-ltb, leb-false, eq-eqb, ne-eqb}
 use Rattle.plan.proofs.Accepts.{both}
 use Rattle.plan.specs.Tree.{Own, Act, act, Acts, none, more, Plan, size, sizes}
 use Rattle.order.specs.declared.Order.{Order}
@@ -195,16 +195,19 @@ startsIn os i = not (isLive (getD os i noOrder))
 
 -- an offer that may be taken
 pub record Fine (p : Plan) (s : State) (x : Offer) : Type 0 where
+  pub slot : length (s .orders) ≡ 16 → x .slot < 16
   pub good : Good p (s .waiting) (actor p (s .orders) (x .slot)) (x .activity) (x .place)
   pub heeds : Heeds (doingAt p (x .activity)) p (liveFrom p 0 (s .orders)) (startsIn (s .orders) (x .slot)) (actor p (s .orders) (x .slot)) (getD (s .messages) (x .place) noMessage)
 
 fine-from : (p : Plan) (s : State) (b : Bool) (o : Order) (i k : ℕ) (d : Doing) → actor p (s .orders) i ≡ o → startsIn (s .orders) i ≡ b → d ≡ doingAt p k
-    → k < size (p .body) + size (p .fault) → (x : Offer) → Offered p (liveFrom p 0 (s .orders)) (s .messages) (s .waiting) b o i k d x → Fine p s x
-fine-from p s b o i k d e st f h x y =
+    → k < size (p .body) + size (p .fault) → (length (s .orders) ≡ 16 → i < 16) → (x : Offer)
+    → Offered p (liveFrom p 0 (s .orders)) (s .messages) (s .waiting) b o i k d x → Fine p s x
+fine-from p s b o i k d e st f h n x y =
     let g : actor p (s .orders) (x .slot) ≡ o = ap (actor p (s .orders)) (y .slot) ∙ e in
     let v : startsIn (s .orders) (x .slot) ≡ b = ap (startsIn (s .orders)) (y .slot) ∙ st in
     let z : d ≡ doingAt p (x .activity) = f ∙ ap (doingAt p) (sym (y .activity)) in
     record {
+      slot = λ q. omega (arith, y .slot, n q);
       good = record {
         inside = omega (arith, y .activity);
         allowed = subst (λ (q : Order). Allowed (doingAt p (x .activity)) (s .waiting) q (x .place)) (sym g) (subst (λ (q : Doing). Allowed q (s .waiting) o (x .place)) z (y .allowed));
@@ -220,6 +223,7 @@ record Sits (p : Plan) (os : List Order) (x : Live) : Type 0 where
   ready : x .ready ≡ readyOf p (x .order)
   sits : actor p os (x .slot) ≡ x .order
   lives : startsIn os (x .slot) ≡ false
+  within : x .slot < length os
 
 -- each live order stands in its slot
 live-each : (p : Plan) (pre l os : List Order) → pre ++ l ≡ os → (i : ℕ) → length pre ≡ i → Each (Sits p os) (liveFrom p i l)
@@ -232,7 +236,7 @@ live-each p pre (o ∷ l) os e i d =
         → Each (Sits p os) (elim b [ true ↦ record { slot = i; order = o; ready = readyOf p o } ∷ liveFrom p (i + 1) l | false ↦ liveFrom p (i + 1) l ])
     live-own true h y =
         let g : getD os i noOrder ≡ o = ap (λ (z : List Order). getD z i noOrder) (sym e) ∙ subst (λ (z : ℕ). getD (pre ++ (o ∷ l)) z noOrder ≡ o) d (getD-append-seam pre o l noOrder) in
-        each-more (record { ready = refl; sits = ap (actingIn p) g ∙ pick-true (isLive o) o (startedOrder p) h; lives = ap (λ (z : Order). not (isLive z)) g ∙ ap not h }) y
+        each-more (record { ready = refl; sits = ap (actingIn p) g ∙ pick-true (isLive o) o (startedOrder p) h; lives = ap (λ (z : Order). not (isLive z)) g ∙ ap not h; within = omega (arith, d, ap length (sym e) ∙ length-append pre (o ∷ l)) }) y
     live-own false h y = y
 
 order-each : (p : Plan) (s : State) {l : List Letter} → Each (Waits p (liveFrom p 0 (s .orders)) (s .messages) (s .waiting)) l → (x : Live) → Sits p (s .orders) x
@@ -240,7 +244,7 @@ order-each : (p : Plan) (s : State) {l : List Letter} → Each (Waits p (liveFro
 unfolding orderOffers
 order-each p s {l} w x h =
     all-each (λ r. stepOffers p (s .waiting) l (x .slot) (x .order) (r .activity) (r .step))
-    (λ r d. each-so (fine-from p s false (x .order) (x .slot) (r .activity) (r .step) (h .sits) (h .lives) (d .is) (d .high))
+    (λ r d. each-so (fine-from p s false (x .order) (x .slot) (r .activity) (r .step) (h .sits) (h .lives) (d .is) (d .high) (λ q. omega (arith, h .within, q)))
     (step-each p (liveFrom p 0 (s .orders)) (s .messages) (s .waiting) w (x .slot) (x .order) (r .activity) (r .step)))
     (eager-each (subst (λ (z : List Ready). Each (Does (doingAt p) 0 (size (p .body) + size (p .fault))) z) (sym (h .ready)) (plan-ready p (x .order))))
 
@@ -285,17 +289,23 @@ starts-each p o x {l} y = each-where (empties (x .fitted)) (λ q. all q y)
 start-each : (p : Plan) (s : State) (free : ℕ) → isLive (getD (s .orders) free noOrder) ≡ false → (x : Letter)
     → Waits p (liveFrom p 0 (s .orders)) (s .messages) (s .waiting) x → Each (Fine p s) (startOffers p free (startedOrder p) (readyOf p (startedOrder p)) x .offered)
 unfolding startOffers Allowed Heeds
-start-each p s free h x w =
-    held (leb 16 free && not (empties (startsOf p (startedOrder p) (readyOf p (startedOrder p)) x)))
-    (each-map (λ k. offering free k (x .place)) (λ k z.
-    fine-from p s true (startedOrder p) free k (takes (z .partner) (z .operation) (z .variables)) (pick-false (isLive (getD (s .orders) free noOrder)) _ _ h) (ap not h) (z .is) (z .inside)
-    (offering free k (x .place))
-    (record { slot = refl; activity = refl; allowed = w .is; heeds = (rw (sym (w .stands)) (z .fit), rw (sym (w .stands), sym (w .fitted)) (z .alone)) }))
-    (starts-each p (startedOrder p) x (plan-ready p (startedOrder p))))
+start-each p s free h x w = by-room (leb 16 free) refl
   where
-    held : (b : Bool) {l : List Offer} → Each (Fine p s) l → Each (Fine p s) (unlessHeld b l .offered)
-    held true y = each-none
-    held false y = y
+    -- where no slot is free, nothing is offered
+    no-room : (ks : List ℕ) → Each (Fine p s) (unlessHeld (not (empties ks)) (map (λ k. offering free k (x .place)) ks) .offered)
+    no-room [] = each-none
+    no-room (k ∷ ks) = each-none
+
+    by-room : (b : Bool) → leb 16 free ≡ b
+        → Each (Fine p s) (unlessHeld (b && not (empties (startsOf p (startedOrder p) (readyOf p (startedOrder p)) x)))
+        (map (λ k. offering free k (x .place)) (startsOf p (startedOrder p) (readyOf p (startedOrder p)) x)) .offered)
+    by-room true e = no-room (startsOf p (startedOrder p) (readyOf p (startedOrder p)) x)
+    by-room false e =
+        each-map (λ k. offering free k (x .place)) (λ k z.
+        fine-from p s true (startedOrder p) free k (takes (z .partner) (z .operation) (z .variables)) (pick-false (isLive (getD (s .orders) free noOrder)) _ _ h) (ap not h) (z .is) (z .inside)
+        (λ q. leb-false 16 free e) (offering free k (x .place))
+        (record { slot = refl; activity = refl; allowed = w .is; heeds = (rw (sym (w .stands)) (z .fit), rw (sym (w .stands), sym (w .fitted)) (z .alone)) }))
+        (starts-each p (startedOrder p) x (plan-ready p (startedOrder p)))
 
 offers-fine : (p : Plan) (s : State) → Each (Fine p s) (offersOf p s .offered)
 unfolding offersOf

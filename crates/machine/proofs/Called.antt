@@ -43,8 +43,8 @@ answer-got (refused n p) e o = let z : _≡_ {A = ℕ} 0 1 = cc in absurd (omega
 answer-got (found p n) e o = record { plan = p; next = n; is = refl }
 
 -- `accepted`
-pub prefix-long : (l : List ℕ) (n : ℕ) → n ≤ 4096 → length l ≡ 4096 → n ≡ length (take n l)
-prefix-long l n h e = sym (length-take-le n l (omega arith))
+pub prefix-long : (l : List ℕ) (n : ℕ) → n ≤ length l → n ≡ length (take n l)
+prefix-long l n h = sym (length-take-le n l h)
 
 -- `planned`
 module _ (s : State) {b : Bool} (e : b ≡ inLimits s) where
@@ -79,9 +79,11 @@ module _ (s : State) {b : Bool} (e : b ≡ inLimits s) where
     pub planned-flags : {l : List ℕ} → l ≡ flagsFor (readPlan (take (s .length) (s .plan))) → l ≡ flagsFor (planIn s)
     planned-flags q = q ∙ ap flagsFor (sym plan-in)
 
-pub ruled-length : (s : State) {b : Bool} → b ≡ inLimits s → not b ≡ false → s .length ≤ 4096
+pub ruled-length : (s : State) {b : Bool} → b ≡ inLimits s → not b ≡ false → length (s .plan) ≡ 4096 → s .length ≤ length (s .plan)
 unfolding inLimits
-ruled-length s {b} e t = both (leb (s .length) 4096) _ (sym e ∙ not-false b t) (λ a c. leb-true _ _ a)
+ruled-length s {b} e t l =
+    let h : s .length ≤ 4096 = both (leb (s .length) 4096) _ (sym e ∙ not-false b t) (λ a c. leb-true _ _ a) in
+    omega arith
 
 -- `load`
 pub short-found : (s : List ℕ) {p : Plan} {next : ℕ} → readPlan s ≡ found p next → length s ≤ 4096

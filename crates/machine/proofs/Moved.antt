@@ -18,10 +18,10 @@ use Rattle.machine.specs.declared.Posted.{Posted}
 use Rattle.machine.specs.declared.Collected.{Collected}
 use Rattle.machine.specs.Heard.{Heard}
 use Rattle.order.specs.Lists.{every}
-use Rattle.machine.specs.State.{noMessage, adding, removing, letters}
+use Rattle.machine.specs.State.{noMessage, withMessages, adding, removing, letters}
 use Rattle.machine.specs.Limits.{exchanged, messageInLimits, orderInLimits, inLimits}
 use Rattle.machine.specs.Calls.{trimmed, postBy, partnersOf, foreign, collectBy}
-use Rattle.machine.specs.Planned.{addedTo, takenFrom}
+use Rattle.machine.specs.Planned.{addedTo, takenFrom, Adds, Removes}
 
 -- A gap at k is closed in a list of 64: its elements up to i are those of the list without the one at k, and those from i on are where they were.
 abbrev without : {A : Type 0} → ℕ → List A → List A
@@ -224,26 +224,30 @@ module _ (t : List ℕ) (s : State) {i : ℕ} (f : (ps : List ℕ) → Heard t p
   unfolding collectBy
   collect-one h z q p x = rw (sym (f (partnersOf p) x), lt-ltb _ _ h, q, z)
 
--- `with_message`
-module _ (m : Message) (s : State) where
-  pub added-more : s .waiting < 64 → {u : State} → u ≡ adding m s → u ≡ addedTo m s
-  unfolding addedTo
-  added-more h e = rw (lt-ltb _ _ h) e
+-- the messages of a state are put back as they are
+pub kept-mail : (s : State) {l : List Message} {n : ℕ} → s .messages ≡ l → s .waiting ≡ n → withMessages l n s ≡ s
+kept-mail s e f = rw (← e, ← f)
 
-  pub added-full : 64 ≤ s .waiting → s ≡ addedTo m s
+-- `with_message`
+module _ (m : Message) (l : List Message) (n : ℕ) where
+  pub added-more : n < 64 → Adds m l n (record { messages = set l n m; waiting = n + 1 })
   unfolding addedTo
-  added-full h = rw (le-ltb _ _ h)
+  added-more h = record { is = λ s e f. rw (e, f, lt-ltb _ _ h) }
+
+  pub added-full : 64 ≤ n → Adds m l n (record { messages = l; waiting = n })
+  unfolding addedTo
+  added-full h = record { is = λ s e f. kept-mail s e f ∙ rw (f, le-ltb _ _ h) }
 
 -- `without_message`
-module _ (j : ℕ) (s : State) where
-  pub taken-beyond : 64 < s .waiting → s ≡ takenFrom j s
+module _ (j : ℕ) (l : List Message) (n : ℕ) where
+  pub taken-beyond : 64 < n → Removes j l n (record { messages = l; waiting = n })
   unfolding takenFrom
-  taken-beyond h = rw (lt-leb _ _ h)
+  taken-beyond h = record { is = λ s e f. kept-mail s e f ∙ rw (f, lt-leb _ _ h) }
 
-  pub taken-none : s .waiting ≤ 64 → s .waiting ≤ j → s ≡ takenFrom j s
+  pub taken-none : n ≤ 64 → n ≤ j → Removes j l n (record { messages = l; waiting = n })
   unfolding takenFrom
-  taken-none g h = rw (le-leb _ _ g, le-ltb _ _ h)
+  taken-none g h = record { is = λ s e f. kept-mail s e f ∙ rw (f, le-leb _ _ g, le-ltb _ _ h) }
 
-  pub taken-one : s .waiting ≤ 64 → j < s .waiting → {u : State} → u ≡ removing j s → u ≡ takenFrom j s
+  pub taken-one : n ≤ 64 → j < n → {r : List Message} → r ≡ take j l ++ (drop (j + 1) l ++ (noMessage ∷ [])) → Removes j l n (record { messages = r; waiting = n - 1 })
   unfolding takenFrom
-  taken-one g h e = rw (le-leb _ _ g, lt-ltb _ _ h) e
+  taken-one g h q = record { is = λ s e f. rw (q, e, f, le-leb _ _ g, lt-ltb _ _ h) }

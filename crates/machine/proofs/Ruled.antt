@@ -1,11 +1,11 @@
 -- The returns of the functions that decide whether the numbers of a state are within their limits. Assumes nothing.
 use mathlib.Core.Path.{_≡_, refl, sym, ap, _∙_}
-use mathlib.Core.Bool.{Bool, true, false, cond, not, _&&_, _||_}
+use mathlib.Core.Bool.{Bool, true, false, cond, not, _&&_, _||_, and-false}
 use mathlib.Core.List.{List, [], _∷_}
 use Prim.Native.Nat.{ℕ, zero, suc, _+_, _<_, _≤_}
 use native.Mathlib.Numerals.{add-one}
 use native.Mathlib.Omega.{arith}
-use borrow.Author.Tests.{lt-ltb, le-ltb, le-leb, lt-leb, eq-eqb, ne-eqb, not-true, not-false}
+use borrow.Author.Tests.{lt-ltb, le-ltb, le-leb, lt-leb, leb-true, eq-eqb, ne-eqb, not-true, not-false}
 use lib.Dec.{ltb, leb, eqb}
 use lib.ListN.{length, getD, take, drop, drop-of-length-le, length-take}
 use lib.Seq.{drop-cons, getD-take, length-take-le}
@@ -66,13 +66,46 @@ module _ {A : Type 0} {f : A → Bool} {l : List A} {whole : Bool} {n i : ℕ} (
     tested-holds : f (getD l i d) ≡ true → Tested f l whole n (i + 1)
     tested-holds q = record { long = a .long; same = tested-one ∙ rw q }
 
--- numbers that are at most m
-module _ {m : ℕ} {l : List ℕ} {whole : Bool} {n i : ℕ} (a : Tested (λ x. leb x m) l whole n i) (h : i < n) where
-  pub most-fails : m < getD l i 0 → false ≡ whole
-  most-fails q = tested-fails a 0 h (lt-leb _ _ q)
+-- `larger`
+pub larger-second : (a b : ℕ) → a < b → (n : ℕ) → leb b n ≡ (leb a n && leb b n)
+larger-second a b h n = by-test (leb b n) refl
+  where
+    by-test : (x : Bool) → leb b n ≡ x → x ≡ (leb a n && x)
+    by-test true e = rw (le-leb a n (omega (arith, leb-true b n e)))
+    by-test false e = sym (and-false (leb a n))
 
-  pub most-holds : getD l i 0 ≤ m → Tested (λ x. leb x m) l whole n (i + 1)
-  most-holds q = tested-holds a 0 h (le-leb _ _ q)
+pub larger-first : (a b : ℕ) → b ≤ a → (n : ℕ) → leb a n ≡ (leb a n && leb b n)
+larger-first a b h n = by-test (leb a n) refl
+  where
+    by-test : (x : Bool) → leb a n ≡ x → x ≡ (x && leb b n)
+    by-test true e = sym (le-leb b n (omega (arith, leb-true a n e)))
+    by-test false e = refl
+
+-- `at_most`: all numbers are at most m if the largest of those before the place i is, and all from there on are
+pub record Most (m : ℕ) (l : List ℕ) (i largest : ℕ) : Type 0 where
+  pub same : every (λ x. leb x m) l ≡ (leb largest m && every (λ x. leb x m) (drop i l))
+
+pub most-starts : (m : ℕ) (l : List ℕ) → Most m l 0 0
+most-starts m l = record { same = rw (le-leb 0 m (omega arith)) }
+
+module _ {m : ℕ} {l : List ℕ} {i largest : ℕ} (a : Most m l i largest) where
+  pub most-more : i < length l → {r : ℕ} → ((n : ℕ) → leb r n ≡ (leb largest n && leb (getD l i 0) n)) → Most m l (i + 1) r
+  unfolding every
+  most-more h {r} f = record {
+    same = a .same ∙ rw (drop-cons l i 0 h, add-one i, f m) (grouped (leb largest m) (leb (getD l i 0) m) _);
+  }
+    where
+      grouped : (x y z : Bool) → (x && (y && z)) ≡ ((x && y) && z)
+      grouped true y z = refl
+      grouped false y z = refl
+
+  pub most-done : length l ≤ i → leb largest m ≡ every (λ x. leb x m) l
+  unfolding every
+  most-done h = sym (a .same ∙ rw (drop-of-length-le l h) (alone (leb largest m)))
+    where
+      alone : (x : Bool) → (x && true) ≡ x
+      alone true = refl
+      alone false = refl
 
 -- numbers that are 0
 module _ {l : List ℕ} {whole : Bool} {n i : ℕ} (a : Tested (eqb 0) l whole n i) (h : i < n) where

@@ -1,5 +1,6 @@
 // The messages that wait: one arrives, one leaves.
 use super::Collected;
+use super::Mail;
 use super::Message;
 use super::Posted;
 use super::State;
@@ -16,7 +17,7 @@ ghost use Rattle.machine.specs.Heard.{Heard};
 ghost use Rattle.machine.specs.Limits.{messageInLimits, inLimits};
 ghost use Rattle.order.specs.Lists.{every, stored};
 ghost use Rattle.machine.specs.State.{noMessage, adding, removing};
-ghost use Rattle.machine.specs.Planned.{addedTo, takenFrom};
+ghost use Rattle.machine.specs.Planned.{Adds, Removes};
 ghost use Rattle.machine.specs.Calls.{trimmed, postBy, partnersOf, foreign, collectBy};
 
 // The first `count` values, with zeros behind them.
@@ -67,14 +68,19 @@ pub(crate) fn arrived(state: State, m: Message) -> State
     }
 }
 
-// A message arrives where one more has a place; else nothing changes.
-pub fn with_message(state: State, m: Message) -> State
-    ensures { λ r. ⌜ r ≡ addedTo m state ⌝ }
+// The messages after one arrived, where one more has a place; else nothing changes.
+pub fn with_message(messages: [Message; 64], waiting: usize, m: Message) -> Mail
+    ensures { λ r. ⌜ Adds m messages waiting r ⌝ }
 {
-    if state.waiting < 64 {
-        return arrived(state, m);
+    let mut out = messages;
+    if waiting < 64 {
+        out[waiting] = m;
+        return Mail {
+            messages: out,
+            waiting: waiting + 1,
+        };
     }
-    state
+    Mail { messages, waiting }
 }
 
 // A message is posted to a state that has a plan.
@@ -130,17 +136,21 @@ pub(crate) fn left(state: State, place: usize) -> State
     }
 }
 
-// The message at `place` leaves where one waits there; else nothing changes.
-pub fn without_message(state: State, place: usize) -> State
-    ensures { λ r. ⌜ r ≡ takenFrom place state ⌝ }
+// The messages after the one at `place` left, where one waits there; else nothing changes.
+pub fn without_message(messages: [Message; 64], waiting: usize, place: usize) -> Mail
+    ensures { λ r. ⌜ Removes place messages waiting r ⌝ }
 {
-    if 64 < state.waiting {
-        return state;
+    if 64 < waiting {
+        return Mail { messages, waiting };
     }
-    if place < state.waiting {
-        return left(state, place);
+    if place < waiting {
+        let rest = moved_up(messages, place);
+        return Mail {
+            messages: rest,
+            waiting: waiting - 1,
+        };
     }
-    state
+    Mail { messages, waiting }
 }
 
 // The messages have their 64 places.

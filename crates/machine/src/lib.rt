@@ -18,6 +18,12 @@ pub struct Message {
     pub values: [u32; 4],
 }
 
+// The messages of a state: the first `waiting` places wait.
+pub struct Mail {
+    pub messages: [Message; 64],
+    pub waiting: usize,
+}
+
 // The first `length` bytes of `plan` are the plan. The first `waiting` places of `messages` wait, in order of arrival.
 pub struct State {
     pub plan: [u8; 4096],

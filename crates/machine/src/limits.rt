@@ -3,9 +3,10 @@ use super::Message;
 use super::State;
 use order::Order;
 use plan::Answer;
-ghost use Prim.Native.Nat.{_≤_};
+ghost use Prim.Native.Nat.{ℕ, _≤_};
 ghost use lib.Dec.{eqb, leb};
-ghost use lib.ListN.{drop, take};
+ghost use lib.ListN.{length, drop, take};
+ghost use mathlib.Core.Bool.{_&&_};
 ghost use mathlib.Core.Path.{_≡_};
 ghost use Rattle.plan.specs.Answers.{answerOf, tableFor, flagsFor};
 ghost use Rattle.plan.specs.Read.{readPlan};
@@ -66,47 +67,40 @@ fn root_ruled(mark: u8) -> bool
     mark <= 6
 }
 
-// The marks of an order.
-fn marks_ruled(marks: [u8; 256]) -> bool
-    ensures { λ r. ⌜ r ≡ every (λ m. leb m 8) marks ⌝ }
+// The larger of two numbers.
+fn larger(a: u8, b: u8) -> u8
+    ensures { λ r. ⌜ ((n : ℕ) → leb r n ≡ (leb a n && leb b n)) ⌝ }
 {
-    let mut i = 0;
-    while i < 256 {
-        if 8 < marks[i] {
-            return false;
-        }
-        i += 1;
+    if a < b {
+        return b;
     }
-    true
+    a
 }
 
-// Which variables of an order are bound.
-fn bound_ruled(bound: [u8; 16]) -> bool
-    ensures { λ r. ⌜ r ≡ every (λ b. leb b 1) bound ⌝ }
+// Whether some numbers are at most this. It looks at all of them and not only up to the first that is beyond, so that many are compared at once.
+fn at_most(s: &[u8], most: u8) -> bool
+    ensures { λ r. ⌜ r ≡ every (λ x. leb x most) (now (s .entry)) ⌝ }
 {
+    let mut largest = 0u8;
     let mut i = 0;
-    while i < 16 {
-        if 1 < bound[i] {
-            return false;
-        }
+    while i < s.len() {
+        largest = larger(largest, s[i]);
         i += 1;
     }
-    true
+    largest <= most
 }
 
 // An order.
 fn order_ruled(o: Order) -> bool
     ensures { λ r. ⌜ r ≡ orderInLimits o ⌝ }
 {
-    let marks = o.marks;
-    let bound = o.bound;
     if !root_ruled(o.root) {
         return false;
     }
-    if !marks_ruled(marks) {
+    if !at_most(&o.marks, 8) {
         return false;
     }
-    if !bound_ruled(bound) {
+    if !at_most(&o.bound, 1) {
         return false;
     }
     o.kept <= 32
@@ -162,11 +156,11 @@ pub fn state_ruled(state: State) -> bool
 }
 
 // Whether the first n of some bytes are a plan, with its table and flags.
-fn accepted(bytes: [u8; 4096], n: usize, table: &mut [u32; 11584], flags: &mut [u8; 16]) -> Answer
-    requires { ⌜ n ≤ 4096 ⌝ }
-    ensures is { λ r. ⌜ r ≡ answerOf (readPlan (take n bytes)) ⌝ }
-    ensures rows { λ _. ⌜ now (table .exit) ≡ tableFor (readPlan (take n bytes)) ⌝ }
-    ensures flags { λ _. ⌜ now (flags .exit) ≡ flagsFor (readPlan (take n bytes)) ⌝ }
+fn accepted(bytes: &[u8], n: usize, table: &mut [u32; 11584], flags: &mut [u8; 16]) -> Answer
+    requires { ⌜ n ≤ length (now bytes) ⌝ }
+    ensures is { λ r. ⌜ r ≡ answerOf (readPlan (take n (now (bytes .entry)))) ⌝ }
+    ensures rows { λ _. ⌜ now (table .exit) ≡ tableFor (readPlan (take n (now (bytes .entry)))) ⌝ }
+    ensures flags { λ _. ⌜ now (flags .exit) ≡ flagsFor (readPlan (take n (now (bytes .entry)))) ⌝ }
 {
     plan::accept(&bytes[..n], table, flags)
 }
@@ -186,5 +180,5 @@ pub fn planned(state: State, table: &mut [u32; 11584], flags: &mut [u8; 16]) -> 
         };
     }
     let bytes = state.plan;
-    accepted(bytes, state.length, table, flags)
+    accepted(&bytes, state.length, table, flags)
 }

@@ -1,5 +1,5 @@
 -- What a choice comes to is what counting it down over the offer comes to. Assumes nothing.
-use mathlib.Core.Path.{_≡_, refl, sym, ap, _∙_}
+use mathlib.Core.Path.{_≡_, refl, sym, ap, _∙_, subst}
 use mathlib.Core.Bool.{Bool, true, false, false≢true, cond, not, _&&_, _||_}
 use mathlib.Core.List.{List, [], _∷_, _++_}
 use Prim.Native.Nat.{ℕ, zero, suc, _+_, _*_, _-_, _<_, _≤_}
@@ -15,6 +15,7 @@ use Rattle.order.specs.declared.Order.{Order}
 use Rattle.machine.specs.declared.State.{State}
 use Rattle.machine.specs.declared.Step.{Step}
 use Rattle.order.specs.Acting.{startedOrder}
+use Rattle.order.specs.Answering.{Spelled, StartsOrder as Begun}
 use Rattle.offer.specs.Answering.{Correlated, messageAt, Letters, Picks}
 use Rattle.machine.specs.Calls.{Chosen, refusedChoice, chosen, nth, choosing, previewed, previewBy}
 use Rattle.machine.specs.Fit.{Ready, readyOf, Live, liveFrom, Letter, lettersFrom, fittings}
@@ -136,10 +137,10 @@ least-leb u [] c = by-test (leb u c)
 least-leb u (x ∷ l) c = least-leb u l (lesser x c) ∙ (ap (λ b. b && every (leb u) l) (lesser-leb u x c) ∙ and-swap (leb u x) (leb u c) (every (leb u) l))
 
 -- the messages that wait are those of their numbers
-mailed : {messages : List Message} {letters : List ℕ} → Letters messages letters → {waiting : ℕ} → waiting ≤ 64 → Mailed letters waiting (take waiting messages)
-mailed {messages} m {waiting} few = record {
+mailed : {messages : List Message} {letters : List ℕ} {waiting : ℕ} → Letters messages waiting letters → waiting ≤ 64 → Mailed letters waiting (take waiting messages)
+mailed {messages} {waiting = waiting} m few = record {
   long = length-take-le waiting messages (omega (arith, m .held));
-  is = λ j h. getD-take waiting messages j noMessage h ∙ m .is j (omega arith);
+  is = λ j h. getD-take waiting messages j noMessage h ∙ m .is j h;
 }
 
 module _ {t flags picks : List ℕ} {orders : List Order} {n : ℕ} {letters : List ℕ} {waiting : ℕ} {least : List ℕ} (w : Leasts t flags picks orders n letters waiting least) where
@@ -162,17 +163,23 @@ module _ {t flags picks : List ℕ} {orders : List Order} {n : ℕ} {letters : L
             };
       }
 
+-- the table that a plan spells is one that the search asks for
+pub spelled-tabled : {p : Plan} {n : ℕ} {t : List ℕ} → Spelled p n t → Tabled p t n
+spelled-tabled sp = record { spells = sp .spells; many = sp .many; limited = sp .within }
+
 -- `sight_in`
-pub sees-by : {t flags picks letters : List ℕ} {orders : List Order} {o : Order} {n waiting c : ℕ} {least : List ℕ} {none part r : Sight}
+sees-by : {t flags picks letters : List ℕ} {orders : List Order} {n waiting c : ℕ} {least : List ℕ} {none part r : Sight}
     → Leasts t flags picks orders n letters waiting least
     → Unseen c none
     → Across t n (Informed t picks flags letters waiting least) (offerLive waiting) orders none part
-    → StartsOrder t flags picks orders o n letters waiting part r
-    → SeesBy t flags picks orders o n letters waiting c r
+    → ((p : Plan) → Spelled p n t → StartsOrder t flags picks orders (startedOrder p) n letters waiting part r)
+    → SeesBy t flags picks orders n letters waiting c r
 unfolding offerLive
-sees-by {orders = orders} {o} {n} {waiting} {c} {none = none} {part} {r} w none-is slots starts = record {
+sees-by {orders = orders} {n} {waiting} {c} {none = none} {part} {r} w none-is slots starts = record {
   sixteen = slots .long;
-  is = λ p ms cor u q m.
+  is = λ p ms cor u sp m.
+      let q = spelled-tabled sp in
+      let o = startedOrder p in
       let live = liveFrom p 0 orders in
       let l = lettersFrom p live 0 ms in
       let a = allOf (orderOffers p waiting l) live in
@@ -180,27 +187,42 @@ sees-by {orders = orders} {o} {n} {waiting} {c} {none = none} {part} {r} w none-
       let e : part ≡ seen a (unseen c) =
       slots .is p l (record { correlated = cor; picked = u; told = told w p ms cor u q m }) q
       ∙ (ap (folded (λ x. seen (orderOffers p waiting l x)) live) (none-is .is) ∙ sym (seen-all (orderOffers p waiting l) live (unseen c))) in
-      starts .is p ms cor u q m
+      starts p sp .is p ms cor u q m
       ∙ (sym (seen-all (startOffers p (freeFrom 0 orders) o (readyOf p o)) l part) ∙ (ap (seen b) e ∙ sym (seen-together a b (unseen c))));
 }
 
+module _ {t flags picks letters : List ℕ} {orders : List Order} {n waiting c : ℕ} {least : List ℕ} {none part : Sight}
+    (w : Leasts t flags picks orders n letters waiting least) (v : Unseen c none)
+    (x : Across t n (Informed t picks flags letters waiting least) (offerLive waiting) orders none part) where
+  -- where nothing waits, nothing starts
+  pub sees-none : waiting ≡ 0 → SeesBy t flags picks orders n letters waiting c part
+  unfolding lettersFrom folded
+  sees-none e = sees-by w v x (λ p sp. record { is = λ p ms cor u q m. go _ p ms (m .long ∙ e) })
+    where
+      go : (f : Letter → Sight → Sight) (p : Plan) (ms : List Message) → length ms ≡ 0 → part ≡ folded f (lettersFrom p (liveFrom p 0 orders) 0 ms) part
+      go f p [] h = refl
+      go f p (m ∷ ms) h = absurd (omega arith)
+
+  pub sees-started : {o : Order} {r : Sight} → Begun t o → StartsOrder t flags picks orders o n letters waiting part r → SeesBy t flags picks orders n letters waiting c r
+  sees-started {r = r} a y = sees-by w v x (λ p sp. subst (λ (o : Order). StartsOrder t flags picks orders o n letters waiting part r) (a .is p n sp) y)
+
 -- `sight_of`
-pub sees-all : {t flags picks letters : List ℕ} {st : State} {o : Order} {n c : ℕ} {r : Sight} → st .waiting ≤ 64 → Letters (st .messages) letters → Picks t picks
-    → SeesBy t flags picks (st .orders) o n letters (st .waiting) c r → SeesAll t flags st o n c r
+pub sees-all : {t flags picks letters : List ℕ} {st : State} {n c : ℕ} {r : Sight} → st .waiting ≤ 64 → Letters (st .messages) (st .waiting) letters → Picks t picks
+    → SeesBy t flags picks (st .orders) n letters (st .waiting) c r → SeesAll t flags st n c r
 unfolding offersOf
 sees-all {st = st} few m u w = record {
   orders = w .sixteen;
   messages = m .held;
   few = few;
-  is = λ p cor q started. w .is p (letters st) cor u q (mailed m few) ∙ rw started;
+  is = λ p cor sp. w .is p (letters st) cor u sp (mailed m few);
 }
 
 -- `preview_by`, `amount_of`, `offered_by`
-pub previews-all : {t flags : List ℕ} {st : State} {o : Order} {n : ℕ} (c : ℕ) {s : Sight} {r : Step} → SeesAll t flags st o n c s → r ≡ answered c s
-    → Previews t flags st o n c r
+pub previews-all : {t flags : List ℕ} {st : State} {n : ℕ} (c : ℕ) {s : Sight} {r : Step} → SeesAll t flags st n c s → r ≡ answered c s
+    → Previews t flags st n c r
 unfolding previewBy
 previews-all {st = st} c w e = record {
-  is = λ p cor q started. e ∙ (ap (answered c) (w .is p cor q started) ∙ answer-chosen (offersOf p st) c);
+  is = λ p cor sp. e ∙ (ap (answered c) (w .is p cor sp) ∙ answer-chosen (offersOf p st) c);
 }
 
 pub amount-none : (s : Sight) → 4294967295 < s .pointer .left → _≡_ {A = Amount} (record { many = 0; held = s .held }) (amounted s)
@@ -223,9 +245,9 @@ many-seen a h = by-test (folded pointed (a .offered) (pointing 4294967295 0 0 0)
         let z : 4294967295 - folded pointed (a .offered) (pointing 4294967295 0 0 0) .left ≡ length (a .offered) = omega (arith, q) in
         rw z
 
-pub amounts-all : {t flags : List ℕ} {st : State} {o : Order} {n : ℕ} {s : Sight} {r : Amount} → SeesAll t flags st o n 4294967295 s → r ≡ amounted s
-    → Amounts t flags st o n r
+pub amounts-all : {t flags : List ℕ} {st : State} {n : ℕ} {s : Sight} {r : Amount} → SeesAll t flags st n 4294967295 s → r ≡ amounted s
+    → Amounts t flags st n r
 amounts-all {st = st} w e = record {
-  is = λ p cor q started.
-      e ∙ (ap amounted (w .is p cor q started) ∙ many-seen (offersOf p st) (offers-short p (q .limited) st (w .orders) (w .messages) (w .few)));
+  is = λ p cor sp.
+      e ∙ (ap amounted (w .is p cor sp) ∙ many-seen (offersOf p st) (offers-short p (sp .within) st (w .orders) (w .messages) (w .few)));
 }

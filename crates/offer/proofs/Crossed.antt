@@ -65,3 +65,8 @@ module _ {S : Type 0} {t : List ℕ} {n : ℕ} {G : Plan → List Letter → Typ
 pub slot-free : {S : Type 0} (t : List ℕ) (n : ℕ) (G : Plan → List Letter → Type 0) (f : Plan → List Letter → Live → S → S) (i : ℕ) {o : Order} (c : S)
     → o .root ≡ 0 → Slots t n G f i o c c
 slot-free t n G f i c e = record { is = λ p l g y. rw (eq-eqb _ _ e) }
+
+-- it is passed by
+pub crossing-passes : {S : Type 0} {t : List ℕ} {n : ℕ} {G : Plan → List Letter → Type 0} {f : Plan → List Letter → Live → S → S} {orders : List Order} {start : S} {slot : ℕ} {c : S}
+    → Crossing t n G f orders start slot c → (d : Order) → slot < 16 → getD orders slot d .root ≡ 0 → Crossing t n G f orders start (slot + 1) c
+crossing-passes {t = t} {n} {G} {f} {slot = slot} {c} w d h e = crossing-again w d h (slot-free t n G f slot c e)

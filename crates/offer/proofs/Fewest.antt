@@ -196,5 +196,8 @@ module _ {t flags picks : List ℕ} {orders : List Order} {n : ℕ} {letters : L
       → Lowering t flags picks orders n letters waiting (slot + 1) r
   lowering-again d h y = record { long = y .long ∙ w .long; is = λ j g. crossing-again (w .is j g) d h (y .is (w .long) j g slot) }
 
+  pub lowering-passes : (d : Order) → slot < 16 → getD orders slot d .root ≡ 0 → Lowering t flags picks orders n letters waiting (slot + 1) c
+  lowering-passes d h e = lowering-again d h (least-free t flags picks n letters waiting c e)
+
   pub lowering-done : 16 ≤ slot → Leasts t flags picks orders n letters waiting c
   lowering-done h = record { is = λ j g v. least-all (messageAt letters j) (w .is j g) h v }

@@ -27,5 +27,13 @@ module _ {P : ℕ → ℕ → Type 0} {many : ℕ} {out : List ℕ} {i : ℕ} (w
         ];
   }
 
+  -- a place that is left as it was
+  pub filling-passes : i < many → P i (getD out i 0) → Filling P many out (i + 1)
+  filling-passes h y = record {
+    long = w .long;
+    within = omega arith;
+    filled = λ j g. elim (ℕ-discrete j i) [ yes e ↦ rw e y | no e ↦ w .filled j (omega (arith, e)) ];
+  }
+
   pub filling-done : many ≤ i → (j : ℕ) → j < many → P j (getD out j 0)
   filling-done h j g = w .filled j (omega arith)

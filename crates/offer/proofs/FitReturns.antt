@@ -52,21 +52,21 @@ module _ (m : Message) (long : length (m .values) ≡ 4) where
 pub record Numbered (messages : List Message) (i r : ℕ) : Type 0 where
   pub is : Numbers (getD messages (i / 7) noMessage) (i % 7) r
 
-pub writing-again : {messages : List Message} {out : List ℕ} {i : ℕ} → Filling (Numbered messages) 448 out i → length messages ≡ 64 → (d : Message) → i < 448
+pub writing-again : {messages : List Message} {n : ℕ} {out : List ℕ} {i : ℕ} → Filling (Numbered messages) 448 out i → length messages ≡ 64 → (d : Message) → i < n * 7 → n ≤ 64
     → {r : ℕ} → Numbers (getD messages (i / 7) d) (i % 7) r → Filling (Numbered messages) 448 (set out i r) (i + 1)
-writing-again {messages} {i = i} w e d h {r} y =
+writing-again {messages} {n} {i = i} w e d h few {r} y =
     let g : i / 7 < length messages = omega arith in
-    filling-again w h (record { is = rw (getD-any messages (i / 7) noMessage d g) y })
+    filling-again w (omega arith) (record { is = rw (getD-any messages (i / 7) noMessage d g) y })
 
-module _ (messages : List Message) (out : List ℕ) (f : (i : ℕ) → i < 448 → Numbered messages i (getD out i 0)) (j : ℕ) (h : j < 64) where
-  number-at : (c n : ℕ) → c < 7 → n ≡ j * 7 + c → Numbers (getD messages j noMessage) c (getD out n 0)
-  number-at c n g e =
-      let a : n / 7 ≡ j = omega arith in
-      let b : n % 7 ≡ c = omega arith in
-      rw (a, b) at (f n (omega arith) .is)
+module _ (messages : List Message) (out : List ℕ) (n : ℕ) (f : (i : ℕ) → i < n * 7 → Numbered messages i (getD out i 0)) (j : ℕ) (h : j < n) where
+  number-at : (c i : ℕ) → c < 7 → i ≡ j * 7 + c → Numbers (getD messages j noMessage) c (getD out i 0)
+  number-at c i g e =
+      let a : i / 7 ≡ j = omega arith in
+      let b : i % 7 ≡ c = omega arith in
+      rw (a, b) at (f i (omega arith) .is)
 
-  number-says : (c n : ℕ) → c < 7 → n ≡ j * 7 + c → numberOf (getD messages j noMessage) c ≡ getD out n 0
-  number-says c n g e = sym (number-at c n g e .is g)
+  number-says : (c i : ℕ) → c < 7 → i ≡ j * 7 + c → numberOf (getD messages j noMessage) c ≡ getD out i 0
+  number-says c i g e = sym (number-at c i g e .is g)
 
   value-says : (i : ℕ) → i < 4 → getD (getD messages j noMessage .values) i 0 ≡ getD (messageAt out j .values) i 0
   unfolding messageAt numberOf
@@ -88,8 +88,8 @@ module _ (messages : List Message) (out : List ℕ) (f : (i : ℕ) → i < 448 �
         ← v,
       )
 
-pub writing-done : {messages : List Message} {out : List ℕ} {i : ℕ} → Filling (Numbered messages) 448 out i → length messages ≡ 64 → 448 ≤ i → Letters messages out
-writing-done {messages} {out} w e h = record { held = e; is = λ j g. message-says messages out (filling-done w h) j g }
+pub writing-done : {messages : List Message} {n : ℕ} {out : List ℕ} {i : ℕ} → Filling (Numbered messages) 448 out i → length messages ≡ 64 → n * 7 ≤ i → Letters messages n out
+writing-done {messages} {n} {out} w e h = record { held = e; is = λ j g. message-says messages out n (λ i z. w .filled i (omega arith)) j g }
 
 -- `known_value`
 module _ (f b x : ℕ) where

@@ -23,6 +23,7 @@ use Rattle.machine.specs.Calls.{previewBy, preview, refusing}
 use Rattle.machine.specs.Limits.{inLimits, planIn, by}
 use Rattle.machine.specs.Offer.{offersOf}
 use Rattle.machine.proofs.Called.{answer-no, answer-got, plan-found}
+use Rattle.machine.proofs.Moved.{limits-waiting}
 use Rattle.offer.specs.declared.Amount.{Amount}
 use Rattle.offer.specs.declared.Offered.{Offered}
 use Rattle.offer.specs.Having.{Has, OffersBy, offeredIn}
@@ -34,6 +35,9 @@ use Rattle.offer.proofs.FirstFits.{accepted-correlated}
 pub has-limits : {t flags : List ℕ} {n : ℕ} {s : State} → Has t flags n s → inLimits s ≡ true
 has-limits {s = s} h = plan-found s (h .planned .is) .0
 
+pub has-room : {t flags : List ℕ} {n : ℕ} {s : State} → Has t flags n s → s .waiting ≤ 64
+has-room {s = s} h = limits-waiting s (has-limits h)
+
 pub has-few : {t flags : List ℕ} {n : ℕ} {s : State} → Has t flags n s → n ≤ 256
 has-few {t} h = omega (arith, stands-inside (h .plan .fault) (size (h .plan .body)) t (plan-stands (h .spelled) .fault), h .spelled .many)
 
@@ -42,30 +46,21 @@ pub shown-by : {t flags : List ℕ} {n : ℕ} {s : State} (h : Has t flags n s) 
 unfolding preview
 shown-by h c e = e ∙ rw (h .planned .is)
 
--- the table and the order as it starts are those that the search asks for
-has-tabled : {t flags : List ℕ} {n : ℕ} {s : State} (h : Has t flags n s) → Tabled (h .plan) t n
-has-tabled h = record { spells = h .spelled .spells; many = h .spelled .many; limited = h .spelled .within }
-
 -- `offer_by`: a state that has its plan passes the tests in front
 pub offer-beyond : {t flags : List ℕ} {n : ℕ} {s : State} (c : ℕ) {r : Step} → 256 < n → OffersBy t flags n s c r
 offer-beyond c g = record { is = λ h. absurd (omega (arith, has-few h)) }
 
-pub offer-unruled : {t flags : List ℕ} {n : ℕ} {s : State} (c : ℕ) {b : Bool} {r : Step} → b ≡ inLimits s → b ≡ false → OffersBy t flags n s c r
-offer-unruled c e f = record { is = λ h. let z : false ≡ true = sym f ∙ e ∙ has-limits h in absurd (let w : _≡_ {A = ℕ} 0 1 = cc in omega arith) }
+pub offer-full : {t flags : List ℕ} {n : ℕ} {s : State} (c : ℕ) {r : Step} → 64 < s .waiting → OffersBy t flags n s c r
+offer-full c g = record { is = λ h. absurd (omega (arith, has-room h)) }
 
-pub offer-ruled : (s : State) {b : Bool} → b ≡ inLimits s → b ≡ true → inLimits s ≡ true
-offer-ruled s e f = sym e ∙ f
-
-pub offer-found : {t flags : List ℕ} {n c : ℕ} {s : State} {o : Order} {r : Step} → StartsOrder t o → Previews t flags s o n c r → OffersBy t flags n s c r
-offer-found {n = n} {c = c} a x = record {
-  is = λ h. shown-by h c (x .is (h .plan) (h .correlated) (has-tabled h) (a .is (h .plan) n (h .spelled)));
-}
+pub offer-found : {t flags : List ℕ} {n c : ℕ} {s : State} {r : Step} → Previews t flags s n c r → OffersBy t flags n s c r
+offer-found {c = c} x = record { is = λ h. shown-by h c (x .is (h .plan) (h .correlated) (h .spelled)) }
 
 -- `count_by`
-pub counted-all : {t flags : List ℕ} {n : ℕ} {s : State} {o : Order} {r : Amount} → Has t flags n s → StartsOrder t o → Amounts t flags s o n r
+pub counted-all : {t flags : List ℕ} {n : ℕ} {s : State} {r : Amount} → Has t flags n s → Amounts t flags s n r
     → _≡_ {A = Offered} (record { refusal = 0; many = r .many; held = r .held }) (offeredIn s)
 unfolding offeredIn
-counted-all {n = n} h a x = rw (h .planned .is, x .is (h .plan) (h .correlated) (has-tabled h) (a .is (h .plan) n (h .spelled)))
+counted-all h x = rw (h .planned .is, x .is (h .plan) (h .correlated) (h .spelled))
 
 -- a state that earns 17, and one that has a plan
 has-found : {s : State} {p : Plan} {next k : ℕ} {t flags : List ℕ} → planIn s ≡ found p next → k ≡ size (p .body) + size (p .fault) → t ≡ tableOf p → flags ≡ flagsOf p

@@ -7,7 +7,7 @@ use native.Mathlib.Numerals.{add-one, sub-one}
 use native.Mathlib.Omega.{arith}
 use borrow.Author.Tests.{eq-eqb, ne-eqb, lt-ltb, le-ltb}
 use lib.Dec.{eqb, ltb}
-use lib.ListN.{length, getD}
+use lib.ListN.{length, getD, set as setAt}
 use Rattle.plan.specs.Spells.{variablesOf, Row, Spells}
 use Rattle.plan.specs.Table.{rowOf}
 use Rattle.plan.specs.Tree.{Own, empty, send, receive, set, raise, leave, choose, repeat, sequence, flow, pick, scope, arm, kind, Plan}
@@ -18,7 +18,7 @@ use Rattle.machine.specs.Fit.{awaits, Letter, fits}
 use Rattle.order.specs.State.{active, isLive, markAt}
 use Rattle.offer.specs.Lines.{Line, isReady, Stands}
 use Rattle.offer.specs.Sights.{Lent, receives, OpensRow, TakesRow}
-use Rattle.offer.proofs.Filled.{Filling, filling-done}
+use Rattle.offer.proofs.Filled.{Filling, filling-again, filling-passes, filling-done}
 use Rattle.offer.proofs.FitReturns.{asks-asking}
 
 -- `open_pick`
@@ -70,16 +70,20 @@ module _ {t : List ℕ} {k j : ℕ} (w : Climbing t k j) where
     same = w .same ∙ (around-step t k j h ∙ rw (le-ltb _ _ l));
   }
 
--- `pick_around`
-pub picks-arm : {t : List ℕ} {k r : ℕ} → r ≡ aroundFrom t k k → PicksRow t k r
-picks-arm e = record { is = λ z. e }
-
-pub picks-other : (t : List ℕ) (k r : ℕ) → (getD t (k * 13) 0 ≡ 12 → ⊥) → PicksRow t k r
+-- a row that is no arm
+picks-other : (t : List ℕ) (k r : ℕ) → (getD t (k * 13) 0 ≡ 12 → ⊥) → PicksRow t k r
 picks-other t k r n = record { is = λ z. absurd (n z) }
 
 -- `picks_of`
-pub picking-done : {t out : List ℕ} {k : ℕ} → Filling (PicksRow t) 256 out k → 256 ≤ k → Picks t out
-picking-done w h = record { is = λ j g. filling-done w h j g }
+module _ {t out : List ℕ} {k : ℕ} (w : Filling (PicksRow t) 256 out k) where
+  pub picking-arm : k < 256 → {r : ℕ} → r ≡ aroundFrom t k k → Filling (PicksRow t) 256 (setAt out k r) (k + 1)
+  picking-arm h e = filling-again w h (record { is = λ z. e })
+
+  pub picking-other : k < 256 → (getD t (k * 13) 0 ≡ 12 → ⊥) → Filling (PicksRow t) 256 out (k + 1)
+  picking-other h n = filling-passes w h (picks-other t k (getD out k 0) n)
+
+  pub picking-done : 256 ≤ k → Picks t out
+  picking-done h = record { is = λ j g. filling-done w h j g }
 
 -- `arm_open`
 arms-around : (t ms : List ℕ) (k j : ℕ) → j ≤ 256 → armsFrom t ms k j ≡ cond (ltb (aroundFrom t k j) 256) (openPick t ms (aroundFrom t k j)) false

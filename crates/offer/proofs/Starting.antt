@@ -25,18 +25,12 @@ use Rattle.offer.proofs.FirstFits.{first-exactly}
 use Rattle.offer.specs.declared.Sight.{Sight}
 use Rattle.offer.specs.Folds.{folded}
 use Rattle.offer.specs.Lines.{Line, linesOf, isReady, readyAt, Stands, Tabled, Rows, Wholes}
-use Rattle.offer.specs.Sights.{IsLive, Frees, pointed, seen, showing, withholding, Lent, TakesRow, Receives, noLetter, startLine, Could, StartsLetter, Mailed, Starts, StartsOrder}
+use Rattle.offer.specs.Sights.{Frees, pointed, seen, showing, withholding, Lent, TakesRow, Receives, noLetter, startLine, Could, StartsLetter, Mailed, Starts, StartsOrder}
 use Rattle.offer.proofs.Fewest.{cond-and}
 use Rattle.offer.proofs.Lines.{fold-each, fold-same, fold-ready, Rowing, rowing-starts, rowing-again, rowing-done}
 use Rattle.offer.proofs.OrderSeen.{or-false, seen-none, seen-hold}
 
--- `is_live`, `free_slot`
-pub live-not : (o : Order) → o .root ≡ 0 → IsLive o false
-live-not o e = record { is = rw (eq-eqb _ _ e) }
-
-pub live-yes : (o : Order) → (o .root ≡ 0 → ⊥) → IsLive o true
-live-yes o e = record { is = rw (ne-eqb _ _ e) }
-
+-- `free_slot`
 pub record Freeing (orders : List Order) (i : ℕ) : Type 0 where
   pub long : length orders ≡ 16
   pub within : i ≤ 16
@@ -56,12 +50,12 @@ module _ {orders : List Order} {i : ℕ} (w : Freeing orders i) where
   unfolding freeFrom
   free-step d h = w .same ∙ (ap (freeFrom i) (drop-cons orders i d (omega (arith, w .long))) ∙ rw (add-one i))
 
-  module _ (d : Order) (h : i < 16) {b : Bool} (y : IsLive (getD orders i d) b) where
-    pub freeing-found : b ≡ false → Frees orders i
-    freeing-found e = record { is = sym (free-step d h ∙ rw (sym (y .is) ∙ e)) }
+  module _ (d : Order) (h : i < 16) where
+    pub freeing-found : getD orders i d .root ≡ 0 → Frees orders i
+    freeing-found e = record { is = sym (free-step d h ∙ rw (eq-eqb (getD orders i d .root) 0 e)) }
 
-    pub freeing-again : b ≡ true → Freeing orders (i + 1)
-    freeing-again e = record { long = w .long; within = omega arith; same = free-step d h ∙ rw (sym (y .is) ∙ e) }
+    pub freeing-again : (getD orders i d .root ≡ 0 → ⊥) → Freeing orders (i + 1)
+    freeing-again e = record { long = w .long; within = omega arith; same = free-step d h ∙ rw (ne-eqb (getD orders i d .root) 0 e) }
 
 -- `start_row`
 module _ {t picks marks known : List ℕ} (free : ℕ) {k : ℕ} {letters : List ℕ} {j : ℕ} (s : Sight) {b : Bool} (w : TakesRow t picks marks known k letters j b) where

@@ -75,10 +75,10 @@ messageAt l j =
       values = getD l (j * 7 + 3) 0 ∷ (getD l (j * 7 + 4) 0 ∷ (getD l (j * 7 + 5) 0 ∷ (getD l (j * 7 + 6) 0 ∷ [])));
     }
 
--- r has the numbers of the messages
-pub record Letters (messages : List Message) (r : List ℕ) : Type 0 where
+-- r has the numbers of the messages that wait
+pub record Letters (messages : List Message) (waiting : ℕ) (r : List ℕ) : Type 0 where
   pub held : length messages ≡ 64
-  pub is : (j : ℕ) → j < 64 → getD messages j noMessage ≡ messageAt r j
+  pub is : (j : ℕ) → j < waiting → getD messages j noMessage ≡ messageAt r j
 
 -- r says whether the values of the message at place j, of which there are `count`, are those that are asked
 pub record Agrees (asked letters : List ℕ) (j count : ℕ) (r : Bool) : Type 0 where

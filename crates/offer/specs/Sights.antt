@@ -16,6 +16,7 @@ use Rattle.order.specs.declared.End.{End}
 use Rattle.offer.specs.Answering.{Correlated, Exchange, Knows, Asking, UncheckedRow, messageAt, Picks, catches}
 use Rattle.offer.specs.Finding.{firstOf, orElse, firstReceiver}
 use Rattle.order.specs.Acting.{startedOrder}
+use Rattle.order.specs.Answering.{Spelled}
 use Rattle.machine.specs.Calls.{Chosen, refusedChoice, chosen, choosing, previewed, previewBy, preview}
 use Rattle.machine.specs.Fit.{Doing, noStep, sends, takes, moves, cuts, closes, doingOf, Ready, readyOf, Live, liveFrom, Letter, lettersFrom, fits, unchecked as uncheckedIn, fitting, fittings, mayTake}
 use Rattle.machine.specs.Limits.{planIn}
@@ -78,10 +79,6 @@ catchLine i m o p l x c = orElse c (cond (catches p o m (x .own) (x .arms) (x .a
 
 unfoldable pub catchLive : Message → Plan → List Letter → Live → Receiver → Receiver
 catchLive m p l x c = orElse c (firstOf p (x .slot) (x .order) m (x .ready))
-
--- r says whether an order stands in its slot
-pub record IsLive (o : Order) (r : Bool) : Type 0 where
-  pub is : r ≡ isLive o
 
 -- r is the lowest free slot
 pub record Frees (orders : List Order) (r : ℕ) : Type 0 where
@@ -297,22 +294,22 @@ pub record StartsOrder (t flags picks : List ℕ) (orders : List Order) (o : Ord
       → r ≡ folded (λ y. seen (startOffers p (freeFrom 0 orders) o (readyOf p o) y)) (lettersFrom p (liveFrom p 0 orders) 0 ms) s
 
 -- r is what is seen of the whole offer of some orders and letters
-pub record SeesBy (t flags picks : List ℕ) (orders : List Order) (o : Order) (activities : ℕ) (letters : List ℕ) (waiting choice : ℕ) (r : Sight) : Type 0 where
+pub record SeesBy (t flags picks : List ℕ) (orders : List Order) (activities : ℕ) (letters : List ℕ) (waiting choice : ℕ) (r : Sight) : Type 0 where
   pub sixteen : length orders ≡ 16
-  pub is : (p : Plan) (ms : List Message) → Correlated p flags → Picks t picks → Tabled p t activities → Mailed letters waiting ms
+  pub is : (p : Plan) (ms : List Message) → Correlated p flags → Picks t picks → Spelled p activities t → Mailed letters waiting ms
       → r ≡ seen (together (allOf (orderOffers p waiting (lettersFrom p (liveFrom p 0 orders) 0 ms)) (liveFrom p 0 orders))
-      (allOf (startOffers p (freeFrom 0 orders) o (readyOf p o)) (lettersFrom p (liveFrom p 0 orders) 0 ms))) (unseen choice)
+      (allOf (startOffers p (freeFrom 0 orders) (startedOrder p) (readyOf p (startedOrder p))) (lettersFrom p (liveFrom p 0 orders) 0 ms))) (unseen choice)
 
--- r is what is seen of the whole offer, where o is an order as it starts
-pub record SeesAll (t flags : List ℕ) (st : State) (o : Order) (activities choice : ℕ) (r : Sight) : Type 0 where
+-- r is what is seen of the whole offer
+pub record SeesAll (t flags : List ℕ) (st : State) (activities choice : ℕ) (r : Sight) : Type 0 where
   pub orders : length (st .orders) ≡ 16
   pub messages : length (st .messages) ≡ 64
   pub few : st .waiting ≤ 64
-  pub is : (p : Plan) → Correlated p flags → Tabled p t activities → o ≡ startedOrder p → r ≡ seen (offersOf p st) (unseen choice)
+  pub is : (p : Plan) → Correlated p flags → Spelled p activities t → r ≡ seen (offersOf p st) (unseen choice)
 
 -- r is what the choice comes to
-pub record Previews (t flags : List ℕ) (st : State) (o : Order) (activities choice : ℕ) (r : Step) : Type 0 where
-  pub is : (p : Plan) → Correlated p flags → Tabled p t activities → o ≡ startedOrder p → r ≡ previewBy p choice st
+pub record Previews (t flags : List ℕ) (st : State) (activities choice : ℕ) (r : Step) : Type 0 where
+  pub is : (p : Plan) → Correlated p flags → Spelled p activities t → r ≡ previewBy p choice st
 
 -- how many are on offer, and whether something is held
 abbrev pub amountOf : Offers → Amount
@@ -322,5 +319,5 @@ amountOf a = record { many = length (a .offered); held = a .held }
 unfoldable pub amounted : Sight → Amount
 amounted s = record { many = 4294967295 - s .pointer .left; held = s .held }
 
-pub record Amounts (t flags : List ℕ) (st : State) (o : Order) (activities : ℕ) (r : Amount) : Type 0 where
-  pub is : (p : Plan) → Correlated p flags → Tabled p t activities → o ≡ startedOrder p → r ≡ amountOf (offersOf p st)
+pub record Amounts (t flags : List ℕ) (st : State) (activities : ℕ) (r : Amount) : Type 0 where
+  pub is : (p : Plan) → Correlated p flags → Spelled p activities t → r ≡ amountOf (offersOf p st)

@@ -6,7 +6,7 @@ use super::fitness::unchecked_at;
 use super::search::open_at;
 use order::Order;
 ghost use Prim.Native.Nat.{_≤_, _<_};
-ghost use Rattle.offer.specs.Sights.{LeastLetter, LeastLetters, LeastRow, LeastRows, LeastSlot, Leasts};
+ghost use Rattle.offer.specs.Sights.{LeastLetter, LeastLetters, LeastRow, LeastRows, LeastSlot};
 
 // The fewest for the message at place j, after the receive or arm in row k.
 fn least_letter(
@@ -93,7 +93,7 @@ fn least_rows(
 }
 
 // After the order in a slot.
-fn least_slot(
+pub(crate) fn least_slot(
     table: &[u32; 11584],
     flags: &[u8; 16],
     picks: &[usize; 256],
@@ -109,48 +109,15 @@ fn least_slot(
     if order.root == 0 {
         return;
     }
-    let marks = order.marks;
     let known = known_of(flags, order);
     least_rows(
         table,
         picks,
-        &marks,
+        &order.marks,
         &known,
         activities,
         letters,
         waiting,
         least,
     )
-}
-
-// The fewest of all live orders for each message that waits, 5 where it fits none.
-pub(crate) fn leasts(
-    table: &[u32; 11584],
-    flags: &[u8; 16],
-    picks: &[usize; 256],
-    orders: [Order; 16],
-    activities: usize,
-    letters: &[u32; 448],
-    waiting: usize,
-) -> [usize; 64]
-    requires { ⌜ (activities ≤ 256) × (waiting ≤ 64) ⌝ }
-    ensures { λ r. ⌜ Leasts (now (table .entry)) (now (flags .entry)) (now (picks .entry)) orders activities (now (letters .entry)) waiting r ⌝ }
-{
-    let mut c = [5usize; 64];
-    let mut slot: usize = 0;
-    while slot < 16 {
-        let order = orders[slot];
-        least_slot(
-            table,
-            flags,
-            picks,
-            order,
-            activities,
-            letters,
-            waiting,
-            &mut c,
-        );
-        slot += 1;
-    }
-    c
 }

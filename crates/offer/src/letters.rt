@@ -1,5 +1,6 @@
 // The messages as plain numbers, seven for each, which can be lent.
 use machine::Message;
+ghost use Prim.Native.Nat.{_≤_};
 ghost use Rattle.offer.specs.Answering.{Numbers, Letters};
 
 // One of the seven numbers of a message: its partner, its operation, its count, its four values.
@@ -21,13 +22,15 @@ fn number_of(message: Message, i: usize) -> u32
     0
 }
 
-// The numbers of all messages.
-pub(crate) fn letters_of(messages: [Message; 64]) -> [u32; 448]
-    ensures { λ r. ⌜ Letters messages r ⌝ }
+// The numbers of the messages that wait.
+pub(crate) fn letters_of(messages: [Message; 64], waiting: usize) -> [u32; 448]
+    requires { ⌜ waiting ≤ 64 ⌝ }
+    ensures { λ r. ⌜ Letters messages waiting r ⌝ }
 {
     let mut out = [0u32; 448];
+    let many = waiting * 7;
     let mut i: usize = 0;
-    while i < 448 {
+    while i < many {
         let m = messages[i / 7];
         out[i] = number_of(m, i % 7);
         i += 1;

@@ -12,7 +12,6 @@ use machine::State;
 use machine::Step;
 use machine::letters as places;
 use machine::limits;
-use order::started_order;
 use plan::Answer;
 ghost use mathlib.Core.Path.{_≡_};
 ghost use Rattle.machine.specs.Calls.{preview};
@@ -65,11 +64,10 @@ pub fn offer_by(
     if 256 < activities {
         return counting::refused(17);
     }
-    if limits::state_ruled(state) {
-        let new = started_order(table);
-        return previews::preview_by(table, flags, state, new, activities, choice);
+    if 64 < state.waiting {
+        return counting::refused(17);
     }
-    counting::refused(17)
+    previews::preview_by(table, flags, state, activities, choice)
 }
 
 // The step that a choice would take, not taken.
@@ -99,8 +97,7 @@ fn count_by(table: &[u32; 11584], flags: &[u8; 16], activities: usize, state: St
     requires { ⌜ Has (now table) (now flags) activities state ⌝ }
     ensures { λ r. ⌜ r ≡ offeredIn state ⌝ }
 {
-    let new = started_order(table);
-    let a = previews::offered_by(table, flags, state, new, activities);
+    let a = previews::offered_by(table, flags, state, activities);
     Offered {
         refusal: 0,
         many: a.many,

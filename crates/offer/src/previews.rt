@@ -3,48 +3,81 @@ use super::Amount;
 use super::Sight;
 use super::counting::answer;
 use super::counting::nothing_seen;
-use super::least::leasts;
+use super::least::least_slot;
 use super::letters::letters_of;
 use super::search::picks_of;
-use super::slots::offer_slots;
+use super::slots::offer_slot;
 use super::slots::starts;
 use machine::State;
 use machine::Step;
 use order::Order;
+use order::started_order;
 ghost use Prim.Native.Nat.{_≤_};
-ghost use mathlib.Core.Bool.{true};
 ghost use mathlib.Core.Path.{_≡_};
-ghost use Rattle.machine.specs.Limits.{inLimits};
 ghost use Rattle.offer.specs.Sights.{SeesBy, SeesAll, Previews, amounted, Amounts};
 
-// What is seen of the whole offer of some orders and letters, where `order` is an order as it starts.
+// What is seen of the whole offer of some orders and letters: first, for each message that waits, the
+// fewest unchecked places of the open receives that it fits, 5 where it fits none; then what each live order has on offer; then what may start.
+// The loops stand here and a free slot is passed by, since orders go by value: a call with all of them, or with one, copies them.
 fn sight_in(
     table: &[u32; 11584],
     flags: &[u8; 16],
     picks: &[usize; 256],
     orders: [Order; 16],
-    order: Order,
     activities: usize,
     letters: &[u32; 448],
     waiting: usize,
     choice: usize,
 ) -> Sight
     requires { ⌜ (activities ≤ 256) × (waiting ≤ 64) ⌝ }
-    ensures { λ r. ⌜ SeesBy (now (table .entry)) (now (flags .entry)) (now (picks .entry)) orders order activities (now (letters .entry)) waiting choice r ⌝ }
+    ensures { λ r. ⌜ SeesBy (now (table .entry)) (now (flags .entry)) (now (picks .entry)) orders activities (now (letters .entry)) waiting choice r ⌝ }
 {
-    let least = leasts(table, flags, picks, orders, activities, letters, waiting);
-    let none = nothing_seen(choice);
-    let part = offer_slots(
-        table,
-        flags,
-        picks,
-        orders,
-        activities,
-        letters,
-        waiting,
-        &least,
-        none,
-    );
+    let mut least = [5usize; 64];
+    let mut i: usize = 0;
+    while i < 16 {
+        if orders[i].root == 0 {
+            i += 1;
+            continue;
+        }
+        let o = orders[i];
+        least_slot(
+            table,
+            flags,
+            picks,
+            o,
+            activities,
+            letters,
+            waiting,
+            &mut least,
+        );
+        i += 1;
+    }
+    let mut part = nothing_seen(choice);
+    let mut slot: usize = 0;
+    while slot < 16 {
+        if orders[slot].root == 0 {
+            slot += 1;
+            continue;
+        }
+        let o = orders[slot];
+        part = offer_slot(
+            table,
+            flags,
+            picks,
+            o,
+            slot,
+            activities,
+            letters,
+            waiting,
+            &least,
+            part,
+        );
+        slot += 1;
+    }
+    if waiting == 0 {
+        return part;
+    }
+    let order = started_order(table);
     starts(
         table,
         flags,
@@ -58,28 +91,26 @@ fn sight_in(
     )
 }
 
-// What is seen of the whole offer, where `order` is an order as it starts.
+// What is seen of the whole offer.
 fn sight_of(
     table: &[u32; 11584],
     flags: &[u8; 16],
     state: State,
-    order: Order,
     activities: usize,
     choice: usize,
 ) -> Sight
-    requires { ⌜ (activities ≤ 256) × (inLimits state ≡ true) ⌝ }
-    ensures { λ r. ⌜ SeesAll (now (table .entry)) (now (flags .entry)) state order activities choice r ⌝ }
+    requires { ⌜ (activities ≤ 256) × (state .waiting ≤ 64) ⌝ }
+    ensures { λ r. ⌜ SeesAll (now (table .entry)) (now (flags .entry)) state activities choice r ⌝ }
 {
     let orders = state.orders;
     let messages = state.messages;
-    let letters = letters_of(messages);
+    let letters = letters_of(messages, state.waiting);
     let picks = picks_of(table);
     sight_in(
         table,
         flags,
         &picks,
         orders,
-        order,
         activities,
         &letters,
         state.waiting,
@@ -92,14 +123,13 @@ pub(crate) fn preview_by(
     table: &[u32; 11584],
     flags: &[u8; 16],
     state: State,
-    order: Order,
     activities: usize,
     choice: usize,
 ) -> Step
-    requires { ⌜ (activities ≤ 256) × (inLimits state ≡ true) ⌝ }
-    ensures { λ r. ⌜ Previews (now (table .entry)) (now (flags .entry)) state order activities choice r ⌝ }
+    requires { ⌜ (activities ≤ 256) × (state .waiting ≤ 64) ⌝ }
+    ensures { λ r. ⌜ Previews (now (table .entry)) (now (flags .entry)) state activities choice r ⌝ }
 {
-    let s = sight_of(table, flags, state, order, activities, choice);
+    let s = sight_of(table, flags, state, activities, choice);
     answer(choice, s)
 }
 
@@ -125,12 +155,11 @@ pub(crate) fn offered_by(
     table: &[u32; 11584],
     flags: &[u8; 16],
     state: State,
-    order: Order,
     activities: usize,
 ) -> Amount
-    requires { ⌜ (activities ≤ 256) × (inLimits state ≡ true) ⌝ }
-    ensures { λ r. ⌜ Amounts (now (table .entry)) (now (flags .entry)) state order activities r ⌝ }
+    requires { ⌜ (activities ≤ 256) × (state .waiting ≤ 64) ⌝ }
+    ensures { λ r. ⌜ Amounts (now (table .entry)) (now (flags .entry)) state activities r ⌝ }
 {
-    let s = sight_of(table, flags, state, order, activities, 4294967295);
+    let s = sight_of(table, flags, state, activities, 4294967295);
     amount_of(s)
 }

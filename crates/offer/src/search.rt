@@ -8,7 +8,7 @@ ghost use Prim.Native.Nat.{_≤_, _<_};
 ghost use mathlib.Core.Bool.{cond};
 ghost use mathlib.Core.Path.{_≡_};
 ghost use Rattle.order.specs.State.{isLive};
-ghost use Rattle.offer.specs.Answering.{openPick, aroundFrom, PicksRow, Picks, ArmsRow};
+ghost use Rattle.offer.specs.Answering.{openPick, aroundFrom, Picks, ArmsRow};
 ghost use Rattle.offer.specs.Sights.{OpensRow, TakesRow, Receives};
 
 // Whether row j is an active pick.
@@ -38,17 +38,6 @@ fn row_around(table: &[u32; 11584], k: usize) -> usize
     256
 }
 
-// The row that the arm in row k stands within.
-fn pick_around(table: &[u32; 11584], k: usize) -> usize
-    requires { ⌜ k < 256 ⌝ }
-    ensures { λ r. ⌜ PicksRow (now (table .entry)) k r ⌝ }
-{
-    if table[k * 13] == 12 {
-        return row_around(table, k);
-    }
-    256
-}
-
 // The rows that the arms stand within.
 pub(crate) fn picks_of(table: &[u32; 11584]) -> [usize; 256]
     ensures { λ r. ⌜ Picks (now (table .entry)) r ⌝ }
@@ -56,7 +45,11 @@ pub(crate) fn picks_of(table: &[u32; 11584]) -> [usize; 256]
     let mut out = [256usize; 256];
     let mut k: usize = 0;
     while k < 256 {
-        out[k] = pick_around(table, k);
+        if table[k * 13] == 12 {
+            out[k] = row_around(table, k);
+            k += 1;
+            continue;
+        }
         k += 1;
     }
     out

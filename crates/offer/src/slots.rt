@@ -12,10 +12,10 @@ use order::Order;
 ghost use Prim.Native.Nat.{_≤_, _<_};
 ghost use Rattle.offer.specs.Answering.{messageAt};
 ghost use Rattle.offer.specs.Lines.{Rows, Wholes};
-ghost use Rattle.offer.specs.Sights.{Frees, IsLive, Slots, Across, Informed, offerLive, Lent, startLine, Could, StartsLetter, Starts, StartsOrder};
+ghost use Rattle.offer.specs.Sights.{Frees, Slots, Informed, offerLive, Lent, startLine, Could, StartsLetter, Starts, StartsOrder};
 
 // What the order in a slot has on offer.
-fn offer_slot(
+pub(crate) fn offer_slot(
     table: &[u32; 11584],
     flags: &[u8; 16],
     picks: &[usize; 256],
@@ -56,61 +56,16 @@ fn offer_slot(
     )
 }
 
-// What all live orders have on offer.
-pub(crate) fn offer_slots(
-    table: &[u32; 11584],
-    flags: &[u8; 16],
-    picks: &[usize; 256],
-    orders: [Order; 16],
-    activities: usize,
-    letters: &[u32; 448],
-    waiting: usize,
-    least: &[usize; 64],
-    s: Sight,
-) -> Sight
-    requires { ⌜ (activities ≤ 256) × (waiting ≤ 64) ⌝ }
-    ensures { λ r. ⌜ Across (now (table .entry)) activities (Informed (now (table .entry)) (now (picks .entry)) (now (flags .entry)) (now (letters .entry)) waiting (now (least .entry))) (offerLive waiting) orders s r ⌝ }
-{
-    let mut c = s;
-    let mut slot: usize = 0;
-    while slot < 16 {
-        let order = orders[slot];
-        c = offer_slot(
-            table,
-            flags,
-            picks,
-            order,
-            slot,
-            activities,
-            letters,
-            waiting,
-            least,
-            c,
-        );
-        slot += 1;
-    }
-    c
-}
-
-// Whether an order stands in its slot.
-fn is_live(order: Order) -> bool
-    ensures { λ r. ⌜ IsLive order r ⌝ }
-{
-    if order.root == 0 { false } else { true }
-}
-
 // The lowest free slot, 16 where there is none.
 fn free_slot(orders: [Order; 16]) -> usize
     ensures { λ r. ⌜ Frees orders r ⌝ }
 {
     let mut i: usize = 0;
     while i < 16 {
-        let order = orders[i];
-        if is_live(order) {
-            i += 1;
-        } else {
+        if orders[i].root == 0 {
             return i;
         }
+        i += 1;
     }
     i
 }

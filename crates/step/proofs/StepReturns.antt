@@ -19,11 +19,13 @@ use Rattle.order.specs.Answering.{Spelled, StartsOrder}
 use Rattle.order.specs.Lists.{empties}
 use Rattle.order.specs.declared.End.the-variants.{None}
 use Rattle.order.specs.declared.Order.{Order}
+use Rattle.order.specs.State.{noOrder}
 use Rattle.order.proofs.Accepted.{accepted-spelled}
 use Rattle.order.proofs.PlanStands.{plan-stands}
 use Rattle.order.proofs.Standing.{stands-inside}
 use Rattle.machine.specs.declared.State.{State}
 use Rattle.machine.specs.declared.Step.{Step}
+use Rattle.step.specs.declared.Moved.{Moved}
 use Rattle.step.specs.declared.Stepped.{Stepped}
 use Rattle.machine.specs.declared.Tally.{Tally}
 use Rattle.machine.specs.Calls as calls
@@ -32,9 +34,10 @@ use Rattle.machine.specs.Limits.{inLimits, planIn, by}
 use Rattle.machine.specs.Offer.{Offer, Offers, offering, offersOf}
 use Rattle.offer.specs.Having.{Has, OffersBy}
 use Rattle.offer.proofs.Having.{has-limits, has-from}
-use Rattle.step.specs.Stepping.{bare, TakesOffer, StepsBy}
+use Rattle.step.specs.Stepping.{bare, TakesOffer, putIn, Moves, StepsBy}
 use Rattle.machine.proofs.Called.{answer-no, answer-got, plan-found}
-use Rattle.laws.proofs.Offering.{pick-true, pick-false}
+use Rattle.machine.proofs.Moved.{same-there}
+use Rattle.laws.proofs.Offering.{chosen-fine}
 use Rattle.laws.proofs.Promised.{refusal-some}
 use Rattle.laws.proofs.Keeping.{step-by-keeps, step-is-by, step-keeps}
 
@@ -59,6 +62,14 @@ module _ {t flags : List ℕ} {n : ℕ} {s : State} (h : Has t flags n s) (c : �
           let k : choosing (offersOf (h .plan) s) c ≡ chosen (offering (x .slot) (x .activity) (x .place)) = f ∙ ap chosen (sym d) in
           a .is (h .plan) c (h .spelled) (has-limits h) k ∙ ap (λ (w : Chosen). bare (stepChosen (h .plan) s y w)) (sym k)
 
+  -- what is offered stands in one of the slots
+  slot-within : x .refusal ≡ 0 → length (s .orders) ≡ 16 → x .slot < 16
+  slot-within q l = go (choosing (offersOf (h .plan) s) c) refl seen
+    where
+      go : (w : Chosen) → choosing (offersOf (h .plan) s) c ≡ w → x ≡ previewed w → x .slot < 16
+      go (refusedChoice m) f g = absurd (refusal-some (offersOf (h .plan) s) c m f (sym (ap (λ (v : Step). v .refusal) g) ∙ q))
+      go (chosen o) f g = let e : x .slot ≡ o .slot = ap (λ (v : Step). v .slot) g in omega (arith, e, chosen-fine (h .plan) s c o f .slot l)
+
   step-stays : (x .refusal ≡ 0 → ⊥) → _≡_ {A = Stepped} (record { answer = x; state = s; tally = y }) (bare (step c s y))
   unfolding stepChosen
   step-stays q = go (choosing (offersOf (h .plan) s) c) refl seen ∙ ap bare (sym step-shown)
@@ -69,8 +80,12 @@ module _ {t flags : List ℕ} {n : ℕ} {s : State} (h : Has t flags n s) (c : �
       go (chosen o) f g = absurd (q (ap (λ (v : Step). v .refusal) g))
 
 module _ {t flags : List ℕ} {n : ℕ} {s : State} {c : ℕ} (y : Tally) {x : Step} (a : OffersBy t flags n s c x) where
-  pub step-taken : x .refusal ≡ 0 → {r : Stepped} → TakesOffer t n s (x .slot) (x .activity) (x .place) y r → StepsBy t flags n s c y r
-  step-taken q w = record { is = λ h. step-takes h c y (a .is h) q w }
+  pub step-taken : x .refusal ≡ 0 → x .slot < 16 → length (s .orders) ≡ 16 → (d : Order) {m : Moved}
+      → Moves t n (getD (s .orders) (x .slot) d) (s .messages) (s .waiting) (x .activity) (x .place) y m → StepsBy t flags n s c y (putIn s (x .slot) (x .activity) (x .place) m)
+  step-taken q g l d w = record { is = λ h. step-takes h c y (a .is h) q (w .is s (x .slot) refl refl (same-there (s .orders) (x .slot) d noOrder (omega arith))) }
+
+  pub step-beyond : x .refusal ≡ 0 → 16 ≤ x .slot → length (s .orders) ≡ 16 → {r : Stepped} → StepsBy t flags n s c y r
+  step-beyond q g l = record { is = λ h. absurd (omega (arith, slot-within h c y (a .is h) q l)) }
 
   pub step-refused : (x .refusal ≡ 0 → ⊥) → StepsBy t flags n s c y (record { answer = x; state = s; tally = y })
   step-refused q = record { is = λ h. step-stays h c y (a .is h) q }

@@ -28,9 +28,11 @@ use Rattle.order.proofs.PlanStands.{plan-stands}
 use Rattle.order.proofs.Standing.{size-pos, stands-inside}
 use Rattle.order.proofs.StepReturns.{send-names}
 use Rattle.order.proofs.TakeReturns.{plan-at}
+use Rattle.machine.specs.declared.Mail.{Mail}
 use Rattle.machine.specs.declared.Message.{Message}
 use Rattle.machine.specs.declared.State.{State}
 use Rattle.machine.specs.declared.Step.{Step}
+use Rattle.step.specs.declared.Moved.{Moved}
 use Rattle.step.specs.declared.Stepped.{Stepped}
 use Rattle.machine.specs.declared.Tally.{Tally}
 use Rattle.machine.specs.Calls as calls
@@ -38,12 +40,12 @@ use Rattle.machine.specs.Calls.{doingIn, doingAmong, doingAt, valuesOf, message
 use Rattle.machine.specs.Fit.{Doing, noStep, sends, takes, moves, cuts, closes, doingOf}
 use Rattle.machine.specs.Limits.{inLimits}
 use Rattle.machine.specs.Offer.{Offer, offering, sendHeld, closeHeld, offersOf}
-use Rattle.machine.specs.Planned.{addedTo, takenFrom}
+use Rattle.machine.specs.Planned.{addedTo, takenFrom, Adds, Removes}
 use Rattle.machine.specs.State.{noMessage, withOrder}
 use Rattle.laws.specs.Good.{Allowed, Good, actor}
-use Rattle.step.specs.Stepping.{bare, Worths, SentValues, SendRow, Sends, MovesMessages, StepsSlot, Nexts, Settles, movedIn, TakesOffer}
+use Rattle.step.specs.Stepping.{bare, Worths, SentValues, SendRow, Sends, SendsMail, MovesMessages, MovesMail, StepsSlot, Nexts, movedIn, putIn, MovesFrom, Moves, TakesOffer}
 use Rattle.machine.proofs.Copied.{stored-more}
-use Rattle.machine.proofs.Moved.{same-there, letter-there, limits-letters}
+use Rattle.machine.proofs.Moved.{kept-mail, letter-there, limits-letters}
 use Rattle.laws.proofs.Offering.{pick-true, pick-false, chosen-fine}
 use Rattle.laws.proofs.Roomy.{takes-same, take-closings}
 use Rattle.laws.proofs.Doing.{actDoing, plan-doing, good-room, send-room}
@@ -96,7 +98,7 @@ module _ {t : List ℕ} {k : ℕ} {o : Order} {out : List ℕ} {i : ℕ} (a : Se
 
 -- `sent`
 module _ {t : List ℕ} {k : ℕ} {o : Order} {b : Bool} (a : AllBound t k o b) (s : State) where
-  pub send-adds : b ≡ true → {xs : List ℕ} {u : State} → SentValues t k o xs
+  send-adds : b ≡ true → {xs : List ℕ} {u : State} → SentValues t k o xs
       → u ≡ addedTo (record { partner = getD t (k * 13 + 1) 0; operation = getD t (k * 13 + 2) 0; count = getD t (k * 13 + 3) 0; values = xs }) s → Sends t k o s u
   unfolding messagesAfter addedTo
   send-adds e v q = record {
@@ -105,13 +107,21 @@ module _ {t : List ℕ} {k : ℕ} {o : Order} {b : Bool} (a : AllBound t k o b) 
         q ∙ rw (lt-ltb _ _ (send-room (s .waiting) o vs h f), f, v .is vs (r .names), r .partner, r .operation, r .names .count);
   }
 
-  pub send-raises : b ≡ false → Sends t k o s s
+  send-raises : b ≡ false → Sends t k o s s
   unfolding messagesAfter
   send-raises e = record {
     is = λ x y vs j r h.
         let f : every (isBound o) vs ≡ false = sym (a .is vs (r .names)) ∙ e in
         rw f;
   }
+
+module _ {t : List ℕ} {k : ℕ} {o : Order} {b : Bool} (a : AllBound t k o b) (l : List Message) (w : ℕ) where
+  pub mail-adds : b ≡ true → {xs : List ℕ} {r : Mail} → SentValues t k o xs
+      → Adds (record { partner = getD t (k * 13 + 1) 0; operation = getD t (k * 13 + 2) 0; count = getD t (k * 13 + 3) 0; values = xs }) l w r → SendsMail t k o l w r
+  mail-adds e v q = record { is = λ s f g. send-adds a s e v (q .is s f g) }
+
+  pub mail-raises : b ≡ false → SendsMail t k o l w (record { messages = l; waiting = w })
+  mail-raises e = record { is = λ s f g. subst (Sends t k o s) (sym (kept-mail s f g)) (send-raises a s e) }
 
 -- `messages_after`
 module _ (t : List ℕ) (n : ℕ) (s : State) (o : Order) (x j : ℕ) where
@@ -132,31 +142,31 @@ module _ (t : List ℕ) (n : ℕ) (s : State) (o : Order) (x j : ℕ) where
       go : s .waiting ≤ 64 → (a : Act) → Stands a x t → Allowed (actDoing a x) (s .waiting) o j → r ≡ messagesAfter (actDoing a x) j o s
       go w (act own l) st al = f own l (sym (st .first .row .kind)) st w al
 
-  pub after-far : 256 ≤ x → MovesMessages t n s o x j s
+  after-far : 256 ≤ x → MovesMessages t n s o x j s
   after-far h = record {
     is = λ p sp w g. let a = row-there sp (g .inside) in absurd (omega (arith, stands-inside (actAt p x) x t a, size-pos (actAt p x)));
   }
 
-  pub after-send : {r : State} → getD t (x * 13) 0 ≡ 1 → Sends t x o s r → MovesMessages t n s o x j r
+  after-send : {r : State} → getD t (x * 13) 0 ≡ 1 → Sends t x o s r → MovesMessages t n s o x j r
   unfolding doingOf Allowed Stands rowOf
   after-send {r} h y = by-row (λ own l e st w al.
       of-kind 1 (λ (v : Own). Stands (act v l) x t → Allowed (doingOf v l x) (s .waiting) o j → r ≡ messagesAfter (doingOf v l x) j o s)
       (λ a b vs st al. y .is a b vs j (record { partner = st .first .row .partner; operation = st .first .row .operation; names = send-names t x a b vs l st }) al)
       own (e ∙ h) st al)
 
-  pub after-receive : {r : State} → getD t (x * 13) 0 ≡ 2 → r ≡ takenFrom j s → MovesMessages t n s o x j r
+  after-receive : {r : State} → getD t (x * 13) 0 ≡ 2 → r ≡ takenFrom j s → MovesMessages t n s o x j r
   unfolding doingOf Allowed messagesAfter takenFrom
   after-receive {r} h y = by-row (λ own l e st w al.
       of-kind 2 (λ (v : Own). Allowed (doingOf v l x) (s .waiting) o j → r ≡ messagesAfter (doingOf v l x) j o s)
       (λ a b vs al. y ∙ rw (le-leb _ _ w, lt-ltb _ _ al)) own (e ∙ h) al)
 
-  pub after-arm : {r : State} → getD t (x * 13) 0 ≡ 12 → r ≡ takenFrom j s → MovesMessages t n s o x j r
+  after-arm : {r : State} → getD t (x * 13) 0 ≡ 12 → r ≡ takenFrom j s → MovesMessages t n s o x j r
   unfolding doingOf Allowed messagesAfter takenFrom
   after-arm {r} h y = by-row (λ own l e st w al.
       of-kind 12 (λ (v : Own). Allowed (doingOf v l x) (s .waiting) o j → r ≡ messagesAfter (doingOf v l x) j o s)
       (λ a b vs al. y ∙ rw (le-leb _ _ w, lt-ltb _ _ al)) own (e ∙ h) al)
 
-  pub after-none : (getD t (x * 13) 0 ≡ 1 → ⊥) → (getD t (x * 13) 0 ≡ 2 → ⊥) → (getD t (x * 13) 0 ≡ 12 → ⊥) → MovesMessages t n s o x j s
+  after-none : (getD t (x * 13) 0 ≡ 1 → ⊥) → (getD t (x * 13) 0 ≡ 2 → ⊥) → (getD t (x * 13) 0 ≡ 12 → ⊥) → MovesMessages t n s o x j s
   unfolding doingOf messagesAfter kind
   after-none f g h = by-row (λ own l e st w al. go own l e)
     where
@@ -175,27 +185,32 @@ module _ (t : List ℕ) (n : ℕ) (s : State) (o : Order) (x j : ℕ) where
       go scope l e = refl
       go (arm a b vs) l e = absurd (h (sym e))
 
--- `letter_values`, `order_at`, `put_order`, `with_order`
+module _ (t : List ℕ) (n : ℕ) (l : List Message) (w : ℕ) (o : Order) (x j : ℕ) where
+  mail-kept : ((s : State) → MovesMessages t n s o x j s) → MovesMail t n l w o x j (record { messages = l; waiting = w })
+  mail-kept h = record { is = λ s f g. subst (MovesMessages t n s o x j) (sym (kept-mail s f g)) (h s) }
+
+  pub mail-far : 256 ≤ x → MovesMail t n l w o x j (record { messages = l; waiting = w })
+  mail-far h = mail-kept (λ s. after-far t n s o x j h)
+
+  pub mail-send : {r : Mail} → getD t (x * 13) 0 ≡ 1 → SendsMail t x o l w r → MovesMail t n l w o x j r
+  mail-send h y = record { is = λ s f g. after-send t n s o x j h (y .is s f g) }
+
+  pub mail-receive : {r : Mail} → getD t (x * 13) 0 ≡ 2 → Removes j l w r → MovesMail t n l w o x j r
+  mail-receive h y = record { is = λ s f g. after-receive t n s o x j h (y .is s f g) }
+
+  pub mail-arm : {r : Mail} → getD t (x * 13) 0 ≡ 12 → Removes j l w r → MovesMail t n l w o x j r
+  mail-arm h y = record { is = λ s f g. after-arm t n s o x j h (y .is s f g) }
+
+  pub mail-none : (getD t (x * 13) 0 ≡ 1 → ⊥) → (getD t (x * 13) 0 ≡ 2 → ⊥) → (getD t (x * 13) 0 ≡ 12 → ⊥) → MovesMail t n l w o x j (record { messages = l; waiting = w })
+  mail-none e f g = mail-kept (λ s. after-none t n s o x j e f g)
+
+-- `letter_values`
 pub values-there : (l : List Message) (i : ℕ) → i < 64 → length l ≡ 64
     → getD l i (record { partner = 0; operation = 0; count = 0; values = [] }) .values ≡ getD l i noMessage .values
 values-there l i h e = ap (λ (m : Message). m .values) (letter-there l i h e)
 
 pub values-none : (l : List Message) (i : ℕ) → 64 ≤ i → length l ≡ 64 → {m : Message} → m ≡ noMessage → m .values ≡ getD l i noMessage .values
 values-none l i h e q = ap (λ (m : Message). m .values) (q ∙ sym (List·getD-eq-default l noMessage (omega arith)))
-
-pub order-there : (l : List Order) (i : ℕ) → i < 16 → length l ≡ 16
-    → getD l i (record { root = 0; marks = []; values = []; bound = []; remembered = []; kept = 0 }) ≡ getD l i noOrder
-order-there l i h e = same-there l i _ noOrder (omega arith)
-
-pub order-none : (l : List Order) (i : ℕ) → 16 ≤ i → length l ≡ 16 → {o : Order} → o ≡ noOrder → o ≡ getD l i noOrder
-order-none l i h e q = q ∙ sym (List·getD-eq-default l noOrder (omega arith))
-
-pub put-out : (l : List Order) (i : ℕ) (o : Order) → 16 ≤ i → length l ≡ 16 → l ≡ set l i o
-put-out l i o h e = sym (set-out l i o (omega arith))
-
-pub with-is : (s : State) (i : ℕ) (o : Order) {l : List Order} → l ≡ set (s .orders) i o
-    → _≡_ {A = State} (record { plan = s .plan; length = s .length; orders = l; messages = s .messages; waiting = s .waiting }) (withOrder i o s)
-with-is s i o e = rw e
 
 -- `counted`, `count_start`, `count_end`
 pub counted-more : (n : ℕ) → n < 4294967295 → n + 1 ≡ counted n
@@ -233,39 +248,33 @@ module _ (y : Tally) where
   unfolding countEnd
   left-is q e = rw (q, e)
 
--- `moved_in`
-pub moved-in-is : (s : State) (i k j : ℕ) (m : Next) (y : Tally) {u : State} {z : Tally} → u ≡ withOrder i (m .order) s → z ≡ countEnd (m .end) y
-    → _≡_ {A = Stepped} (record { answer = record { refusal = 0; slot = i; activity = k; place = j; end = m .end }; state = u; tally = z }) (movedIn s i k j m y)
-moved-in-is s i k j m y e f = rw (e, f)
-
 -- `next_of`
 pub next-is : {t : List ℕ} {n : ℕ} {l : List Message} {o : Order} {k j : ℕ} {xs : List ℕ} {q : Order} {m : Next}
     → xs ≡ getD l j noMessage .values → TakesOrder t n k xs o q → StepsOrder t n k q m → Nexts t n l o k j m
 next-is {xs = xs} {q} e a b = record { values = xs; between = q; read = e; takes = a; moves = b }
 
--- `settled`
-pub settles : {t : List ℕ} {n : ℕ} {s : State} {o : Order} {m : Next} {i k j : ℕ} {y : Tally} {u : State} {r : Stepped}
-    → MovesMessages t n s o k j u → r ≡ movedIn u i k j m y → Settles t n s o m i k j y r
+-- `moved_from`
+pub moves-from : {t : List ℕ} {n : ℕ} {l : List Message} {w : ℕ} {o : Order} {m : Next} {k j : ℕ} {y : Tally} {v : Mail} {c : Tally}
+    → Nexts t n l o k j m → MovesMail t n l w o k j v → c ≡ countEnd (m .end) y
+    → MovesFrom t n o l w k j y (record { order = m .order; end = m .end; messages = v .messages; waiting = v .waiting; tally = c })
 unfolding calls.stepped
-settles {s = s} {o} {m} {k = k} {j} c f = record {
-  is = λ next. record {
+moves-from {o = o} {m} {k} {j} {y} {v} next c e = record {
+  is = λ s i b d. record {
     is = λ p sp w g.
         let q = next .between in
-        let l : Message = getD (s .messages) j noMessage in
-        let h : q ≡ orderTaking (doingAt p k) l o =
-        next .takes .is p sp ∙ ap (λ (z : List ℕ). taking p k z o) (next .read) ∙ takes-same p k (g .inside) l o in
-        let x : closings q ≡ closings o = ap closings h ∙ take-closings (doingAt p k) l o in
-        let v : m ≡ nextOf (stepOrder p k q) = next .moves .is p sp (ap (roomPlan p k) x ∙ good-room g) in
-        let z : m ≡ nextOf (stepOrder p k (orderTaking (doingAt p k) l o)) = v ∙ ap (λ (d : Order). nextOf (stepOrder p k d)) h in
-        f ∙ rw (c .is p sp w g, z);
+        let a : Message = getD (s .messages) j noMessage in
+        let h : q ≡ orderTaking (doingAt p k) a o =
+        next .takes .is p sp ∙ ap (λ (z : List ℕ). taking p k z o) (next .read ∙ ap (λ (z : List Message). getD z j noMessage .values) (sym b)) ∙ takes-same p k (g .inside) a o in
+        let x : closings q ≡ closings o = ap closings h ∙ take-closings (doingAt p k) a o in
+        let f : m ≡ nextOf (stepOrder p k q) = next .moves .is p sp (ap (roomPlan p k) x ∙ good-room g) in
+        let z : m ≡ nextOf (stepOrder p k (orderTaking (doingAt p k) a o)) = f ∙ ap (λ (d : Order). nextOf (stepOrder p k d)) h in
+        ap (λ (r : Tally). putIn s i k j (record { order = m .order; end = m .end; messages = v .messages; waiting = v .waiting; tally = r })) e
+        ∙ ap (λ (u : State). movedIn u i k j m y) (c .is s b d .is p sp w g)
+        ∙ ap (λ (r : Next). movedIn (messagesAfter (doingAt p k) j o s) i k j r y) z;
   };
 }
 
-pub settles-slot : {t : List ℕ} {n : ℕ} {s : State} {o : Order} {m : Next} {i k j : ℕ} {y : Tally} {r : Stepped}
-    → Settles t n s o m i k j y r → Nexts t n (s .messages) o k j m → StepsSlot t n s o i k j y r
-settles-slot w = w .is
-
--- `take_offer`
+-- `moved`
 same-bare : (p : Plan) (x : Offer) (s : State) (y : Tally) (o : Order) (l k : List Event) → bare (calls.stepped p x s y o l) ≡ bare (calls.stepped p x s y o k)
 unfolding calls.stepped
 same-bare p x s y o l k = refl
@@ -274,7 +283,7 @@ module _ (t : List ℕ) (n : ℕ) (s : State) (i k j : ℕ) (y : Tally) {o : Ord
   fine : (p : Plan) (c : ℕ) → choosing (offersOf p s) c ≡ chosen (offering i k j) → Good p (s .waiting) (actor p (s .orders) i) k j
   fine p c h = chosen-fine p s c (offering i k j) h .good
 
-  pub take-starts : o .root ≡ 0 → {new : Order} {z : Tally} {r : Stepped} → StartsOrder t new → z ≡ countStart y → StepsSlot t n s new i k j z r
+  take-starts : o .root ≡ 0 → {new : Order} {z : Tally} {r : Stepped} → StartsOrder t new → z ≡ countStart y → StepsSlot t n s new i k j z r
       → TakesOffer t n s i k j y r
   unfolding calls.taken
   take-starts h {new} {z} {r} a b c = record {
@@ -290,7 +299,7 @@ module _ (t : List ℕ) (n : ℕ) (s : State) (i k j : ℕ) (y : Tally) {o : Ord
         ∙ sym (ap bare (pick-false (isLive (getD (s .orders) i noOrder)) _ _ v));
   }
 
-  pub take-steps : (o .root ≡ 0 → ⊥) → {r : Stepped} → StepsSlot t n s o i k j y r → TakesOffer t n s i k j y r
+  take-steps : (o .root ≡ 0 → ⊥) → {r : Stepped} → StepsSlot t n s o i k j y r → TakesOffer t n s i k j y r
   unfolding calls.taken
   take-steps h {r} c = record {
     is = λ p d sp lim f.
@@ -301,3 +310,10 @@ module _ (t : List ℕ) (n : ℕ) (s : State) (i k j : ℕ) (y : Tally) {o : Ord
         ∙ ap (λ (q : Order). bare (calls.stepped p (offering i k j) s y q [])) e
         ∙ sym (ap bare (pick-true (isLive (getD (s .orders) i noOrder)) _ _ v));
   }
+
+module _ {t : List ℕ} {n : ℕ} {l : List Message} {w : ℕ} {o : Order} {k j : ℕ} {y : Tally} {r : Moved} where
+  pub moves-starts : o .root ≡ 0 → {new : Order} {z : Tally} → StartsOrder t new → z ≡ countStart y → MovesFrom t n new l w k j z r → Moves t n o l w k j y r
+  moves-starts h a b c = record { is = λ s i f g e. take-starts t n s i k j y e h a b (c .is s i f g) }
+
+  pub moves-steps : (o .root ≡ 0 → ⊥) → MovesFrom t n o l w k j y r → Moves t n o l w k j y r
+  moves-steps h c = record { is = λ s i f g e. take-steps t n s i k j y e h (c .is s i f g) }

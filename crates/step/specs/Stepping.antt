@@ -9,9 +9,11 @@ use Rattle.order.specs.declared.Order.{Order}
 use Rattle.order.specs.declared.Next.{Next}
 use Rattle.order.specs.Answering.{Names, Spelled, TakesOrder, StepsOrder}
 use Rattle.order.specs.Lists.{stored}
-use Rattle.order.specs.State.{valueOf}
+use Rattle.order.specs.State.{noOrder, valueOf}
+use Rattle.machine.specs.declared.Mail.{Mail}
 use Rattle.machine.specs.declared.Message.{Message}
 use Rattle.machine.specs.declared.State.{State}
+use Rattle.step.specs.declared.Moved.{Moved}
 use Rattle.step.specs.declared.Stepped.{Stepped}
 use Rattle.machine.specs.declared.Tally.{Tally}
 use Rattle.machine.specs.Calls as calls
@@ -19,7 +21,7 @@ use Rattle.machine.specs.Calls.{doingAt, valuesOf, messagesAfter, answering, co
 use Rattle.machine.specs.Fit.{sends}
 use Rattle.machine.specs.Limits.{inLimits}
 use Rattle.machine.specs.Offer.{offering, sendHeld, offersOf}
-use Rattle.machine.specs.State.{noMessage, withOrder}
+use Rattle.machine.specs.State.{noMessage, withMessages, withOrder}
 use Rattle.laws.specs.Good.{Good}
 use Rattle.offer.specs.Having.{Has}
 
@@ -45,9 +47,17 @@ pub record SendRow (a b : ℕ) (vs : List ℕ) (k : ℕ) (t : List ℕ) : Type 0
 pub record Sends (t : List ℕ) (k : ℕ) (o : Order) (s r : State) : Type 0 where
   pub is : (a b : ℕ) (vs : List ℕ) (j : ℕ) → SendRow a b vs k t → sendHeld (s .waiting) o vs ≡ false → r ≡ messagesAfter (sends a b vs) j o s
 
+-- r are the messages after it
+pub record SendsMail (t : List ℕ) (k : ℕ) (o : Order) (messages : List Message) (waiting : ℕ) (r : Mail) : Type 0 where
+  pub is : (s : State) → s .messages ≡ messages → s .waiting ≡ waiting → Sends t k o s (withMessages (r .messages) (r .waiting) s)
+
 -- r is the state after what the step of activity k does to the messages
 pub record MovesMessages (t : List ℕ) (activities : ℕ) (s : State) (o : Order) (k j : ℕ) (r : State) : Type 0 where
   pub is : (p : Plan) → Spelled p activities t → s .waiting ≤ 64 → Good p (s .waiting) o k j → r ≡ messagesAfter (doingAt p k) j o s
+
+-- r are the messages after it
+pub record MovesMail (t : List ℕ) (activities : ℕ) (messages : List Message) (waiting : ℕ) (o : Order) (k j : ℕ) (r : Mail) : Type 0 where
+  pub is : (s : State) → s .messages ≡ messages → s .waiting ≡ waiting → MovesMessages t activities s o k j (withMessages (r .messages) (r .waiting) s)
 
 -- r is what the step of activity k in an order leads to, its slot written back
 pub record StepsSlot (t : List ℕ) (activities : ℕ) (s : State) (o : Order) (i k j : ℕ) (y : Tally) (r : Stepped) : Type 0 where
@@ -61,10 +71,6 @@ pub record Nexts (t : List ℕ) (activities : ℕ) (messages : List Message) (o 
   pub takes : TakesOrder t activities k values o between
   pub moves : StepsOrder t activities k between m
 
--- r is what it leads to, where that is known
-pub record Settles (t : List ℕ) (activities : ℕ) (s : State) (o : Order) (m : Next) (i k j : ℕ) (y : Tally) (r : Stepped) : Type 0 where
-  pub is : Nexts t activities (s .messages) o k j m → StepsSlot t activities s o i k j y r
-
 -- the answer, the state and the tally where an order moved to this
 abbrev pub movedIn : State → (slot activity place : ℕ) → Next → Tally → Stepped
 movedIn s i k j m y =
@@ -74,10 +80,27 @@ movedIn s i k j m y =
       tally = countEnd (m .end) y;
     }
 
+-- the answer, the state and the tally where a step came to this
+abbrev pub putIn : State → (slot activity place : ℕ) → Moved → Stepped
+putIn s i k j r =
+    record {
+      answer = answering (offering i k j) (r .end);
+      state = withOrder i (r .order) (withMessages (r .messages) (r .waiting) s);
+      tally = r .tally;
+    }
+
+-- r is what the step of activity k in the order o comes to, in any state with these messages
+pub record MovesFrom (t : List ℕ) (activities : ℕ) (o : Order) (messages : List Message) (waiting k j : ℕ) (y : Tally) (r : Moved) : Type 0 where
+  pub is : (s : State) (i : ℕ) → s .messages ≡ messages → s .waiting ≡ waiting → StepsSlot t activities s o i k j y (putIn s i k j r)
+
 -- r is what the offer with this slot, activity and place leads to
 pub record TakesOffer (t : List ℕ) (activities : ℕ) (s : State) (i k j : ℕ) (y : Tally) (r : Stepped) : Type 0 where
   pub is : (p : Plan) (c : ℕ) → Spelled p activities t → inLimits s ≡ true → choosing (offersOf p s) c ≡ chosen (offering i k j)
       → r ≡ bare (calls.taken p (offering i k j) s y)
+
+-- r is what the offer of an activity and a place comes to in a slot with the order o
+pub record Moves (t : List ℕ) (activities : ℕ) (o : Order) (messages : List Message) (waiting k j : ℕ) (y : Tally) (r : Moved) : Type 0 where
+  pub is : (s : State) (i : ℕ) → s .messages ≡ messages → s .waiting ≡ waiting → o ≡ getD (s .orders) i noOrder → TakesOffer t activities s i k j y (putIn s i k j r)
 
 -- r is what the step with a choice gives in a state that has the plan with this table and these flags
 pub record StepsBy (t flags : List ℕ) (activities : ℕ) (s : State) (c : ℕ) (y : Tally) (r : Stepped) : Type 0 where

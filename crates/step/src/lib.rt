@@ -1,12 +1,14 @@
 // A step is taken by its choice: what it answers, the state and the tally afterwards.
 mod stepping;
 
+use machine::Message;
 use machine::State;
 use machine::Step;
 use machine::Tally;
 use machine::letters;
 use machine::limits;
 use order::End;
+use order::Order;
 use plan::Answer;
 ghost use mathlib.Core.List.{[]};
 ghost use mathlib.Core.Path.{_≡_};
@@ -18,6 +20,15 @@ ghost use Rattle.step.specs.Stepping.{bare, StepsBy};
 pub struct Stepped {
     pub answer: Step,
     pub state: State,
+    pub tally: Tally,
+}
+
+// What a step comes to: its order and how it ended, if it did, the messages and the tally.
+pub struct Moved {
+    pub order: Order,
+    pub end: End,
+    pub messages: [Message; 64],
+    pub waiting: usize,
     pub tally: Tally,
 }
 
@@ -38,25 +49,66 @@ fn refused(state: State, number: u32, tally: Tally) -> Stepped
     }
 }
 
-// Takes the step with a choice, in a state that has the plan with this table and these flags.
+// Takes the step with a choice, in a state that has the plan with this table and these flags. What moves is reckoned from its order and the
+// messages, and the state is changed where it lies: it goes by value, so that each call with it copies it.
 pub fn step_by(
     table: &[u32; 11584],
     flags: &[u8; 16],
     activities: usize,
-    state: State,
+    mut state: State,
     choice: usize,
     tally: Tally,
 ) -> Stepped
     ensures { λ r. ⌜ StepsBy (now (table .entry)) (now (flags .entry)) activities state choice tally r ⌝ }
 {
+    let orders = state.orders;
+    let slots = stepping::slots_of(orders);
     let x = offer::offer_by(table, flags, activities, state, choice);
-    if x.refusal == 0 {
-        return stepping::take_offer(table, activities, state, x.slot, x.activity, x.place, tally);
+    if x.refusal != 0 {
+        return Stepped {
+            answer: x,
+            state,
+            tally,
+        };
     }
-    Stepped {
-        answer: x,
-        state,
+    let slot = x.slot;
+    if 16 <= slot {
+        return Stepped {
+            answer: x,
+            state,
+            tally,
+        };
+    }
+    let order = state.orders[slot];
+    let messages = state.messages;
+    let waiting = state.waiting;
+    let m = stepping::moved(
+        table,
+        activities,
+        order,
+        messages,
+        waiting,
+        x.activity,
+        x.place,
         tally,
+    );
+    let end = m.end;
+    let next = m.order;
+    let rest = m.messages;
+    let y = m.tally;
+    state.orders[slot] = next;
+    state.messages = rest;
+    state.waiting = m.waiting;
+    Stepped {
+        answer: Step {
+            refusal: 0,
+            slot,
+            activity: x.activity,
+            place: x.place,
+            end,
+        },
+        state,
+        tally: y,
     }
 }
 

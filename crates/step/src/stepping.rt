@@ -1,8 +1,7 @@
 // A step that is on offer is taken: what it does to the messages, to its order and to the tally.
-use super::Stepped;
+use super::Moved;
+use machine::Mail;
 use machine::Message;
-use machine::State;
-use machine::Step;
 use machine::Tally;
 use machine::letters;
 use machine::made;
@@ -10,12 +9,11 @@ use order::End;
 use order::Next;
 use order::Order;
 ghost use Prim.Native.Nat.{_<_};
-ghost use lib.ListN.{getD, set};
+ghost use lib.ListN.{length, getD};
 ghost use mathlib.Core.Path.{_≡_};
-ghost use Rattle.order.specs.State.{noOrder};
 ghost use Rattle.machine.specs.Calls.{counted as countedOf, countStart, countEnd};
-ghost use Rattle.machine.specs.State.{noMessage, withOrder};
-ghost use Rattle.step.specs.Stepping.{Worths, SentValues, Sends, MovesMessages, Nexts, Settles, movedIn, TakesOffer};
+ghost use Rattle.machine.specs.State.{noMessage};
+ghost use Rattle.step.specs.Stepping.{Worths, SentValues, SendsMail, MovesMail, Nexts, MovesFrom, Moves};
 
 // The value of variable v.
 fn value_of(order: Order, v: u32) -> u32
@@ -48,10 +46,16 @@ fn sent_values(table: &[u32; 11584], k: usize, order: Order) -> [u32; 4]
     out
 }
 
-// The state after the send in row k: its message is added where all its variables are bound.
-fn sent(table: &[u32; 11584], k: usize, order: Order, state: State) -> State
+// The messages after the send in row k: its message is added where all its variables are bound.
+fn sent(
+    table: &[u32; 11584],
+    k: usize,
+    order: Order,
+    messages: [Message; 64],
+    waiting: usize,
+) -> Mail
     requires { ⌜ k < 256 ⌝ }
-    ensures { λ r. ⌜ Sends (now (table .entry)) k order state r ⌝ }
+    ensures { λ r. ⌜ SendsMail (now (table .entry)) k order messages waiting r ⌝ }
 {
     if order::all_bound(table, k, order) {
         let values = sent_values(table, k, order);
@@ -61,36 +65,44 @@ fn sent(table: &[u32; 11584], k: usize, order: Order, state: State) -> State
             count: table[k * 13 + 3],
             values,
         };
-        return letters::with_message(state, m);
+        return letters::with_message(messages, waiting, m);
     }
-    state
+    Mail { messages, waiting }
 }
 
-// The state after what the step of activity k does to the messages: a send adds one, a take removes one.
+// The messages after the step of activity k: a send adds one, a take removes one.
 fn messages_after(
     table: &[u32; 11584],
     activities: usize,
-    state: State,
+    messages: [Message; 64],
+    waiting: usize,
     order: Order,
     k: usize,
     place: usize,
-) -> State
-    ensures { λ r. ⌜ MovesMessages (now (table .entry)) activities state order k place r ⌝ }
+) -> Mail
+    ensures { λ r. ⌜ MovesMail (now (table .entry)) activities messages waiting order k place r ⌝ }
 {
     if 256 <= k {
-        return state;
+        return Mail { messages, waiting };
     }
     let kind = table[k * 13];
     if kind == 1 {
-        return sent(table, k, order, state);
+        return sent(table, k, order, messages, waiting);
     }
     if kind == 2 {
-        return letters::without_message(state, place);
+        return letters::without_message(messages, waiting, place);
     }
     if kind == 12 {
-        return letters::without_message(state, place);
+        return letters::without_message(messages, waiting, place);
     }
-    state
+    Mail { messages, waiting }
+}
+
+// The orders have their 16 slots.
+pub(crate) fn slots_of(orders: [Order; 16]) -> usize
+    ensures { λ r. ⌜ (r ≡ 16) × (length orders ≡ 16) ⌝ }
+{
+    16
 }
 
 // The values of the message at a place; none where there is no such place.
@@ -103,45 +115,6 @@ fn letter_values(messages: [Message; 64], place: usize) -> [u32; 4]
     }
     let none = made::no_message();
     none.values
-}
-
-// The order in a slot; none where there is no such slot.
-fn order_at(orders: [Order; 16], slot: usize) -> Order
-    ensures { λ r. ⌜ r ≡ getD orders slot noOrder ⌝ }
-{
-    if slot < 16 {
-        return orders[slot];
-    }
-    made::no_order()
-}
-
-// The orders with another in a slot.
-fn put_order(orders: [Order; 16], slot: usize, order: Order) -> [Order; 16]
-    ensures { λ r. ⌜ r ≡ set orders slot order ⌝ }
-{
-    let mut out = orders;
-    if slot < 16 {
-        out[slot] = order;
-        return out;
-    }
-    out
-}
-
-// The state with another order in a slot.
-fn with_order(state: State, slot: usize, order: Order) -> State
-    ensures { λ r. ⌜ r ≡ withOrder slot order state ⌝ }
-{
-    let bytes = state.plan;
-    let orders = state.orders;
-    let messages = state.messages;
-    let changed = put_order(orders, slot, order);
-    State {
-        plan: bytes,
-        length: state.length,
-        orders: changed,
-        messages,
-        waiting: state.waiting,
-    }
 }
 
 // One more, up to the greatest.
@@ -217,34 +190,6 @@ fn count_end(end: End, tally: Tally) -> Tally
     }
 }
 
-// The answer, the state and the tally where the order in a slot moved to this.
-fn moved_in(
-    state: State,
-    slot: usize,
-    activity: usize,
-    place: usize,
-    next: Next,
-    tally: Tally,
-) -> Stepped
-    ensures { λ r. ⌜ r ≡ movedIn state slot activity place next tally ⌝ }
-{
-    let end = next.end;
-    let o = next.order;
-    let s = with_order(state, slot, o);
-    let y = count_end(end, tally);
-    Stepped {
-        answer: Step {
-            refusal: 0,
-            slot,
-            activity,
-            place,
-            end,
-        },
-        state: s,
-        tally: y,
-    }
-}
-
 // What an order moves to with the step of an activity: it takes the values of the message at a place, and moves on.
 fn next_of(
     table: &[u32; 11584],
@@ -261,46 +206,69 @@ fn next_of(
     order::step_order(table, activities, o, activity)
 }
 
-// The step of an activity that moved its order to this: the messages move too, and the order stands in its slot again.
-fn settled(
+// What the step of an activity of an order comes to: the order takes the values of its message and moves on, and the messages move too.
+fn moved_from(
     table: &[u32; 11584],
     activities: usize,
-    state: State,
     order: Order,
-    next: Next,
-    slot: usize,
+    messages: [Message; 64],
+    waiting: usize,
     activity: usize,
     place: usize,
     tally: Tally,
-) -> Stepped
-    ensures { λ r. ⌜ Settles (now (table .entry)) activities state order next slot activity place tally r ⌝ }
+) -> Moved
+    ensures { λ r. ⌜ MovesFrom (now (table .entry)) activities order messages waiting activity place tally r ⌝ }
 {
-    let s = messages_after(table, activities, state, order, activity, place);
-    moved_in(s, slot, activity, place, next, tally)
+    let n = next_of(table, activities, messages, order, activity, place);
+    let w = messages_after(table, activities, messages, waiting, order, activity, place);
+    let end = n.end;
+    let o = n.order;
+    let rest = w.messages;
+    let y = count_end(end, tally);
+    Moved {
+        order: o,
+        end,
+        messages: rest,
+        waiting: w.waiting,
+        tally: y,
+    }
 }
 
-// The offer with this slot, activity and place is taken: by the order in the slot, or by a new one where the slot is free. The order moves
-// before the state is copied, so that the deepest calls do not stand on the copies.
-pub(crate) fn take_offer(
+// What the offer of an activity and a place comes to in the slot with this order: it is taken by the order, or by a new one where the slot is free.
+pub(crate) fn moved(
     table: &[u32; 11584],
     activities: usize,
-    state: State,
-    slot: usize,
+    order: Order,
+    messages: [Message; 64],
+    waiting: usize,
     activity: usize,
     place: usize,
     tally: Tally,
-) -> Stepped
-    ensures { λ r. ⌜ TakesOffer (now (table .entry)) activities state slot activity place tally r ⌝ }
+) -> Moved
+    ensures { λ r. ⌜ Moves (now (table .entry)) activities order messages waiting activity place tally r ⌝ }
 {
-    let orders = state.orders;
-    let messages = state.messages;
-    let o = order_at(orders, slot);
-    if o.root == 0 {
+    if order.root == 0 {
         let new = order::started_order(table);
         let y = count_start(tally);
-        let n = next_of(table, activities, messages, new, activity, place);
-        return settled(table, activities, state, new, n, slot, activity, place, y);
+        return moved_from(
+            table,
+            activities,
+            new,
+            messages,
+            waiting,
+            activity,
+            place,
+            y,
+        );
     }
-    let n = next_of(table, activities, messages, o, activity, place);
-    settled(table, activities, state, o, n, slot, activity, place, tally)
+    moved_from(
+        table,
+        activities,
+        order,
+        messages,
+        waiting,
+        activity,
+        place,
+        tally,
+    )
 }

@@ -1,16 +1,14 @@
 -- `offer::count_by` meets its contract. Assumes nothing.
 use borrow.Author.Needs.{needs}
-use Rattle.offer.proofs.Having.{has-few, has-limits, counted-all}
+use Rattle.offer.proofs.Having.{has-few, has-room, counted-all}
 use Rattle.offer.proofs.count_by.Statement.{statement}
 use Rattle.offer.proofs.count_by.Tie as tie
 
-ruleset cases = (has-few, has-limits, counted-all)
+ruleset cases = (has-few, has-room, counted-all)
 
 pub count-by-spec : {M : Type 1} → statement M
 count-by-spec =
     tie.close (tie.spec
-    -- started-order-requires
-    (λ c κs. search needs)
     -- offered-by-requires
     (λ c κs. (search cases, search cases))
     -- returns

@@ -1,12 +1,10 @@
 -- `offer::offer_by` meets its contract. Assumes nothing.
 use borrow.Author.Needs.{needs}
-use Rattle.offer.proofs.Having.{offer-beyond, offer-unruled, offer-ruled, offer-found}
+use Rattle.offer.proofs.Having.{offer-beyond, offer-full, offer-found}
 use Rattle.offer.proofs.offer_by.Statement.{statement}
 use Rattle.offer.proofs.offer_by.Tie as tie
 
-ruleset cases = (offer-beyond, offer-unruled, offer-found)
-
-ruleset ruled = (offer-ruled)
+ruleset cases = (offer-beyond, offer-full, offer-found)
 
 pub offer-by-spec : {M : Type 1} → statement M
 offer-by-spec =
@@ -15,15 +13,11 @@ offer-by-spec =
     (λ c κs. search needs)
     -- returns
     (λ c. search cases)
-    -- state-ruled-requires
+    -- refused-requires-2
     (λ c κs. search needs)
-    -- started-order-requires
-    (λ c κs. search needs)
-    -- preview-by-requires
-    (λ c κs. (search needs, search ruled))
     -- returns-2
     (λ c. search cases)
-    -- refused-requires-2
+    -- preview-by-requires
     (λ c κs. search needs)
     -- returns-3
     (λ c. search cases))

@@ -9,8 +9,12 @@ ruleset cases = (added-more, added-full)
 pub with-message-spec : {M : Type 1} → statement M
 with-message-spec =
     tie.close (tie.spec
-    -- arrived-requires
-    (λ c κs. search needs)
+    -- mul-out
+    (λ c. search needs)
+    -- array-write-out
+    (λ c. search needs)
+    -- add-result
+    (λ c. search needs)
     -- returns
     (λ c. search cases)
     -- returns-2

@@ -11,8 +11,10 @@ without-message-spec =
     tie.close (tie.spec
     -- returns
     (λ c. search cases)
-    -- left-requires
+    -- moved-up-requires
     (λ c κs. search needs)
+    -- sub-result
+    (λ c. search needs)
     -- returns-2
     (λ c. search cases)
     -- returns-3

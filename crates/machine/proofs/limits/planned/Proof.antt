@@ -13,7 +13,9 @@ planned-spec =
     (λ c κs. search needs)
     -- returns
     (λ c. search cases)
+    -- slice-aggregate-accepted
+    (λ c. search needs)
     -- accepted-requires
-    (λ c κs. search cases)
+    (λ c κs. search (cases, needs))
     -- returns-2
     (λ c. search cases))

@@ -1,22 +1,22 @@
 -- `offer::letters::letters_of` meets its contract. Assumes nothing.
 use borrow.Author.Needs.{needs}
-use Prim.Native.Nat.{_-_}
+use Prim.Native.Nat.{_*_, _-_}
 use Rattle.offer.proofs.Filled.{Filling, filling-starts}
 use Rattle.offer.proofs.FitReturns.{Numbered, writing-again, writing-done}
 use Rattle.offer.proofs.letters.letters_of.Statement.{statement}
 use Rattle.offer.proofs.letters.letters_of.Tie as tie
 
-ruleset cases = (writing-again, writing-done)
-
 abbrev Inv-loop : tie.InvT-loop
-Inv-loop messages out₀ i₀ out i = Filling (Numbered messages) 448 out i
+Inv-loop waiting messages out₀ many i₀ out i = Filling (Numbered messages) 448 out i
 
 abbrev μ-loop : tie.MeasureT-loop
-μ-loop messages out₀ i₀ out i = 448 - i
+μ-loop waiting messages out₀ many i₀ out i = waiting * 7 - i
 
 pub letters-of-spec : {M : Type 1} → statement M
 letters-of-spec =
     tie.close (tie.spec Inv-loop μ-loop
+    -- mul-many
+    (λ c. search needs)
     -- loop-holds
     (λ c. filling-starts _ _ _ (search needs))
     -- mul-m

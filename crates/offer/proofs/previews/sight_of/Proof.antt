@@ -1,13 +1,10 @@
 -- `offer::previews::sight_of` meets its contract. Assumes nothing.
 use borrow.Author.Needs.{needs}
-use Rattle.machine.proofs.Moved.{limits-waiting}
 use Rattle.offer.proofs.Answered.{sees-all}
 use Rattle.offer.proofs.previews.sight_of.Statement.{statement}
 use Rattle.offer.proofs.previews.sight_of.Tie as tie
 
-ruleset cases = (sees-all, limits-waiting, needs)
-
-ruleset room = (limits-waiting)
+ruleset cases = (sees-all, needs)
 
 pub sight-of-spec : {M : Type 1} → statement M
 sight-of-spec =
@@ -17,6 +14,6 @@ sight-of-spec =
     -- picks-of-requires
     (λ c κs. search needs)
     -- sight-in-requires
-    (λ c κs. (search needs, search room))
+    (λ c κs. search needs)
     -- returns
     (λ c. search cases))

@@ -2,12 +2,12 @@
 use borrow.Author.Needs.{needs}
 use Prim.Native.Nat.{_-_}
 use Rattle.offer.specs.Answering.{PicksRow}
-use Rattle.offer.proofs.Filled.{Filling, filling-starts, filling-again}
-use Rattle.offer.proofs.SearchReturns.{picking-done}
+use Rattle.offer.proofs.Filled.{Filling, filling-starts}
+use Rattle.offer.proofs.SearchReturns.{picking-arm, picking-other, picking-done}
 use Rattle.offer.proofs.search.picks_of.Statement.{statement}
 use Rattle.offer.proofs.search.picks_of.Tie as tie
 
-ruleset cases = (filling-again, picking-done)
+ruleset cases = (picking-arm, picking-other, picking-done)
 
 abbrev Inv-loop : tie.InvT-loop
 Inv-loop table out₀ k₀ out k = Filling (PicksRow table) 256 out k
@@ -20,7 +20,13 @@ picks-of-spec =
     tie.close (tie.spec Inv-loop μ-loop
     -- loop-holds
     (λ c. filling-starts _ _ _ (search needs))
-    -- pick-around-requires
+    -- mul-if1
+    (λ c. search needs)
+    -- mul-if1-2
+    (λ c. search needs)
+    -- element-copy-out-if1
+    (λ c. search needs)
+    -- row-around-requires
     (λ c κs. search needs)
     -- mul-out
     (λ c. search needs)
@@ -31,6 +37,12 @@ picks-of-spec =
     -- loop-less
     (λ c. search needs)
     -- loop-again
+    (λ c. search cases)
+    -- add-k-2
+    (λ c. search needs)
+    -- loop-less-2
+    (λ c. search needs)
+    -- loop-again-2
     (λ c. search cases)
     -- returns
     (λ c. search cases))

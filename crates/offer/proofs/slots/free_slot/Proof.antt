@@ -5,7 +5,7 @@ use Rattle.offer.proofs.Starting.{Freeing, freeing-starts, freeing-none
 use Rattle.offer.proofs.slots.free_slot.Statement.{statement}
 use Rattle.offer.proofs.slots.free_slot.Tie as tie
 
-ruleset cases = (freeing-none, freeing-found, freeing-again)
+ruleset cases = (freeing-none, freeing-found)
 
 abbrev Inv-loop : tie.InvT-loop
 Inv-loop orders i₀ i = Freeing orders i
@@ -18,19 +18,17 @@ free-slot-spec =
     tie.close (tie.spec Inv-loop μ-loop
     -- loop-holds
     (λ c. freeing-starts _ (search needs))
-    -- mul-order
+    -- mul-if1
     (λ c. search needs)
-    -- array-copy-out-order
+    -- element-copy-out-if1
     (λ c. search needs)
-    -- is-live-requires
-    (λ c κs. search needs)
+    -- returns
+    (λ c. search cases)
     -- add-i
     (λ c. search needs)
     -- loop-less
     (λ c. search needs)
     -- loop-again
-    (λ c. search cases)
-    -- returns
-    (λ c. search cases)
+    (λ c. freeing-again (search needs) _ (search needs) (c .if1 .left))
     -- returns-2
     (λ c. search cases))

@@ -1,10 +1,10 @@
 -- `step::stepping::messages_after` meets its contract. Assumes nothing.
 use borrow.Author.Needs.{needs}
-use Rattle.step.proofs.Taken.{after-far, after-send, after-receive, after-arm, after-none}
+use Rattle.step.proofs.Taken.{mail-far, mail-send, mail-receive, mail-arm, mail-none}
 use Rattle.step.proofs.stepping.messages_after.Statement.{statement}
 use Rattle.step.proofs.stepping.messages_after.Tie as tie
 
-ruleset cases = (after-far, after-send, after-receive, after-arm, after-none)
+ruleset cases = (mail-far, mail-send, mail-receive, mail-arm, mail-none)
 
 pub messages-after-spec : {M : Type 1} → statement M
 messages-after-spec =

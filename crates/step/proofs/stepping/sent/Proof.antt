@@ -1,10 +1,10 @@
 -- `step::stepping::sent` meets its contract. Assumes nothing.
 use borrow.Author.Needs.{needs}
-use Rattle.step.proofs.Taken.{send-adds, send-raises}
+use Rattle.step.proofs.Taken.{mail-adds, mail-raises}
 use Rattle.step.proofs.stepping.sent.Statement.{statement}
 use Rattle.step.proofs.stepping.sent.Tie as tie
 
-ruleset cases = (send-adds, send-raises)
+ruleset cases = (mail-adds, mail-raises)
 
 pub sent-spec : {M : Type 1} → statement M
 sent-spec =
