@@ -1,17 +1,34 @@
 // The desk: the console of the engine. It reads commands from standard input, one a line, and answers each on standard output (docs/DESK.md).
+mod page;
+
 use console::Desk;
 use libc::STDIN_FILENO;
+use page::Page;
+use text::Alone;
 use text::Command;
 use text::Line;
 
-// The console; the number of lines ended so far; how many bytes of the present line are kept; whether each line is repeated before its answer;
-// and whether input may follow.
+// The console; the text of a plan that comes in; the number of lines ended so far; how many bytes of the present line are kept; whether each line
+// is repeated before its answer; and whether input may follow.
 struct Session {
     desk: Desk,
+    page: Page,
     lines: u64,
     length: usize,
     echo: bool,
     open: bool,
+}
+
+// The same with another desk, and another text that comes in.
+fn turned(s: Session, desk: Desk, page: Page) -> Session {
+    Session {
+        desk,
+        page,
+        lines: s.lines,
+        length: s.length,
+        echo: s.echo,
+        open: s.open,
+    }
 }
 
 fn more(n: u64) -> u64 {
@@ -42,84 +59,254 @@ fn echoed(desk: Desk, echo: bool, line: &[u8], out: &mut [u8; 4096]) -> Desk {
     d
 }
 
-// A line without its end, whose number is `number`.
-fn answered(
-    desk: Desk,
-    echo: bool,
-    line: &[u8],
-    number: u64,
-    bytes: &mut [u8; 8000],
-    out: &mut [u8; 4096],
-) -> Desk {
-    let d = echoed(desk, echo, line, out);
-    console::answer(d, line, number, bytes, out)
+// A line of a text, comment or not; a prompt alone for the blank one that ends it.
+fn put_text_echo(out: &mut [u8; 4096], used: usize, line: &[u8]) -> usize {
+    let mut at = wording::put_byte(out, used, 62);
+    if 0 < line.len() {
+        at = wording::put_byte(out, at, 32);
+    }
+    at = wording::put(out, at, line);
+    wording::put_byte(out, at, 10)
 }
 
-fn too_long(desk: Desk, number: u64, out: &mut [u8; 4096]) -> Desk {
+fn text_echoed(desk: Desk, echo: bool, line: &[u8], out: &mut [u8; 4096]) -> Desk {
     let mut d = desk;
-    d.used = wording::put_error(
-        out,
-        desk.used,
-        number,
-        b"the line has more than 16000 characters",
-    );
+    if echo {
+        d.used = put_text_echo(out, desk.used, line);
+    }
     d
+}
+
+// Whether the lines that follow a line are a text.
+fn is_write(line: &[u8]) -> bool {
+    let c = text::command_of(line);
+    match c {
+        Command::Alone { what } => is_write_word(what),
+        Command::Nothing => false,
+        Command::Wrong { why: _ } => false,
+        Command::Worded {
+            what: _,
+            from: _,
+            to: _,
+        } => false,
+        Command::Numbered { what: _, k: _ } => false,
+        Command::Listed { what: _, from: _ } => false,
+    }
+}
+
+fn is_write_word(what: Alone) -> bool {
+    match what {
+        Alone::Write => true,
+        _ => false,
+    }
+}
+
+// A command.
+fn answered(
+    s: Session,
+    line: &[u8],
+    bytes: &mut [u8; 8000],
+    names: &mut [u8; 4752],
+    out: &mut [u8; 4096],
+) -> Session {
+    let before = s.desk;
+    let d = echoed(before, s.echo, line, out);
+    if is_write(line) {
+        return turned(s, d, page::begun(s.lines));
+    }
+    let desk = console::answer(d, line, s.lines, bytes, names, out);
+    turned(s, desk, page::none())
+}
+
+fn put_spoilt(out: &mut [u8; 4096], used: usize, page: Page) -> usize {
+    if page.long {
+        return wording::put_error(
+            out,
+            used,
+            page.wrong,
+            b"the line has more than 16000 characters",
+        );
+    }
+    wording::put_error(
+        out,
+        used,
+        page.wrong,
+        b"the text has more than 131072 characters",
+    )
+}
+
+fn written_of(
+    desk: Desk,
+    page: Page,
+    text: &[u8],
+    bytes: &mut [u8; 8000],
+    names: &mut [u8; 4752],
+    out: &mut [u8; 4096],
+) -> Desk {
+    let used = page.used;
+    if used <= text.len() {
+        return console::write(desk, &text[0..used], page.line, bytes, names, out);
+    }
+    desk
+}
+
+// The text has ended.
+fn written_in(
+    desk: Desk,
+    page: Page,
+    text: &[u8; 131072],
+    bytes: &mut [u8; 8000],
+    names: &mut [u8; 4752],
+    out: &mut [u8; 4096],
+) -> Desk {
+    if 0 < page.wrong {
+        let mut d = desk;
+        d.used = put_spoilt(out, desk.used, page);
+        return d;
+    }
+    written_of(desk, page, text, bytes, names, out)
+}
+
+fn written(
+    s: Session,
+    text: &[u8; 131072],
+    bytes: &mut [u8; 8000],
+    names: &mut [u8; 4752],
+    out: &mut [u8; 4096],
+) -> Session {
+    let before = s.desk;
+    let page = s.page;
+    let desk = written_in(before, page, text, bytes, names, out);
+    turned(s, desk, page::none())
+}
+
+// A line of a text, or the one that ends it.
+fn gathered(
+    s: Session,
+    line: &[u8],
+    text: &mut [u8; 131072],
+    bytes: &mut [u8; 8000],
+    names: &mut [u8; 4752],
+    out: &mut [u8; 4096],
+) -> Session {
+    let before = s.desk;
+    let page = s.page;
+    let desk = text_echoed(before, s.echo, line, out);
+    if page::is_end(line) {
+        return written(turned(s, desk, page), text, bytes, names, out);
+    }
+    let next = page::added(text, page, line, s.lines);
+    turned(s, desk, next)
+}
+
+// A line without its end.
+fn taken(
+    s: Session,
+    line: &[u8],
+    text: &mut [u8; 131072],
+    bytes: &mut [u8; 8000],
+    names: &mut [u8; 4752],
+    out: &mut [u8; 4096],
+) -> Session {
+    let page = s.page;
+    if page.line == 0 {
+        return answered(s, line, bytes, names, out);
+    }
+    gathered(s, line, text, bytes, names, out)
+}
+
+// A line that is too long: in a text, the text is not read.
+fn too_long(s: Session, out: &mut [u8; 4096]) -> Session {
+    let page = s.page;
+    let mut desk = s.desk;
+    if page.line == 0 {
+        desk.used = wording::put_error(
+            out,
+            desk.used,
+            s.lines,
+            b"the line has more than 16000 characters",
+        );
+        return turned(s, desk, page);
+    }
+    turned(s, desk, page::spoilt(page, s.lines, true))
 }
 
 // The bytes kept of a line that has ended.
 fn ended_at(
-    desk: Desk,
-    echo: bool,
+    s: Session,
     kept: &[u8],
-    number: u64,
+    text: &mut [u8; 131072],
     bytes: &mut [u8; 8000],
+    names: &mut [u8; 4752],
     out: &mut [u8; 4096],
-) -> Desk {
+) -> Session {
     let l = text::line_of(kept);
     match l {
-        Line::Long => too_long(desk, number, out),
+        Line::Long => too_long(s, out),
         Line::Text { length } => {
             if length <= kept.len() {
-                return answered(desk, echo, &kept[0..length], number, bytes, out);
+                return taken(s, &kept[0..length], text, bytes, names, out);
             }
-            desk
+            s
         }
     }
 }
 
-fn ended_of(s: Session, line: &[u8], bytes: &mut [u8; 8000], out: &mut [u8; 4096]) -> Session {
+// The session at the start of its next line.
+fn counted(s: Session) -> Session {
+    let desk = s.desk;
+    let page = s.page;
+    Session {
+        desk,
+        page,
+        lines: more(s.lines),
+        length: 0,
+        echo: s.echo,
+        open: s.open,
+    }
+}
+
+fn ended_of(
+    s: Session,
+    line: &[u8],
+    text: &mut [u8; 131072],
+    bytes: &mut [u8; 8000],
+    names: &mut [u8; 4752],
+    out: &mut [u8; 4096],
+) -> Session {
     let length = s.length;
-    let lines = more(s.lines);
-    let before = s.desk;
+    let next = counted(s);
     if length <= line.len() {
-        let desk = ended_at(before, s.echo, &line[0..length], lines, bytes, out);
-        return Session {
-            desk,
-            lines,
-            length: 0,
-            echo: s.echo,
-            open: s.open,
-        };
+        return ended_at(next, &line[0..length], text, bytes, names, out);
     }
     s
 }
 
-fn ended(s: Session, line: &[u8; 16002], bytes: &mut [u8; 8000], out: &mut [u8; 4096]) -> Session {
-    ended_of(s, line, bytes, out)
+fn ended(
+    s: Session,
+    line: &[u8; 16002],
+    text: &mut [u8; 131072],
+    bytes: &mut [u8; 8000],
+    names: &mut [u8; 4752],
+    out: &mut [u8; 4096],
+) -> Session {
+    ended_of(s, line, text, bytes, names, out)
 }
 
 fn feed(
     s: Session,
     chunk: &[u8],
     line: &mut [u8; 16002],
+    text: &mut [u8; 131072],
     bytes: &mut [u8; 8000],
+    names: &mut [u8; 4752],
     out: &mut [u8; 4096],
 ) -> Session {
     let mut session = s;
     let mut i = 0;
     while i < chunk.len() {
         if chunk[i] == 10 {
-            session = ended(session, line, bytes, out);
+            session = ended(session, line, text, bytes, names, out);
         } else {
             session.length = text::keep(line, session.length, chunk[i]);
         }
@@ -128,11 +315,34 @@ fn feed(
     session
 }
 
-// At the end of the input a last line may have no line end.
-fn closed(s: Session, line: &[u8; 16002], bytes: &mut [u8; 8000], out: &mut [u8; 4096]) -> Session {
-    let mut last = s;
+// The last line, where it has no line end.
+fn last_ended(
+    s: Session,
+    line: &[u8; 16002],
+    text: &mut [u8; 131072],
+    bytes: &mut [u8; 8000],
+    names: &mut [u8; 4752],
+    out: &mut [u8; 4096],
+) -> Session {
     if 0 < s.length {
-        last = ended(s, line, bytes, out);
+        return ended(s, line, text, bytes, names, out);
+    }
+    s
+}
+
+// At the end of the input a last line may have no line end, and a text no blank line.
+fn closed(
+    s: Session,
+    line: &[u8; 16002],
+    text: &mut [u8; 131072],
+    bytes: &mut [u8; 8000],
+    names: &mut [u8; 4752],
+    out: &mut [u8; 4096],
+) -> Session {
+    let mut last = last_ended(s, line, text, bytes, names, out);
+    let page = last.page;
+    if 0 < page.line {
+        last = written(last, text, bytes, names, out);
     }
     last.open = false;
     last
@@ -142,20 +352,18 @@ fn failed(s: Session, out: &mut [u8; 4096]) -> Session {
     let mut desk = s.desk;
     let number = more(s.lines);
     desk.used = wording::put_error(out, desk.used, number, b"the input cannot be read");
-    Session {
-        desk,
-        lines: s.lines,
-        length: 0,
-        echo: s.echo,
-        open: false,
-    }
+    let mut last = turned(s, desk, page::none());
+    last.open = false;
+    last
 }
 
 // Reads once, and answers each line that ends in what was read.
 fn turn(
     s: Session,
     line: &mut [u8; 16002],
+    text: &mut [u8; 131072],
     bytes: &mut [u8; 8000],
+    names: &mut [u8; 4752],
     out: &mut [u8; 4096],
 ) -> Session {
     let mut chunk = io::buffer();
@@ -165,28 +373,38 @@ fn turn(
     }
     let n = io::count(got, &chunk);
     if n == 0 {
-        return closed(s, line, bytes, out);
+        return closed(s, line, text, bytes, names, out);
     }
-    feed(s, &chunk[..n], line, bytes, out)
+    feed(s, &chunk[..n], line, text, bytes, names, out)
 }
 
 // Writes what waits.
-fn written(s: Session, out: &[u8; 4096]) -> Session {
+fn flushed(s: Session, out: &[u8; 4096]) -> Session {
     let mut desk = s.desk;
+    let page = s.page;
     desk.used = wording::flush(out, desk.used);
-    Session {
-        desk,
-        lines: s.lines,
-        length: s.length,
-        echo: s.echo,
-        open: s.open,
-    }
+    turned(s, desk, page)
+}
+
+// A turn. Who types the commands sees each answer at once.
+fn round(
+    s: Session,
+    line: &mut [u8; 16002],
+    text: &mut [u8; 131072],
+    bytes: &mut [u8; 8000],
+    names: &mut [u8; 4752],
+    out: &mut [u8; 4096],
+) -> Session {
+    let after = turn(s, line, text, bytes, names, out);
+    flushed(after, out)
 }
 
 fn run(
     s: Session,
     line: &mut [u8; 16002],
+    text: &mut [u8; 131072],
     bytes: &mut [u8; 8000],
+    names: &mut [u8; 4752],
     out: &mut [u8; 4096],
 ) -> Session {
     let mut session = s;
@@ -196,9 +414,7 @@ fn run(
         if !session.open {
             return session;
         }
-        session = turn(session, line, bytes, out);
-        // who types the commands sees each answer at once
-        session = written(session, out);
+        session = round(session, line, text, bytes, names, out);
         turns -= 1;
     }
     session
@@ -227,16 +443,25 @@ fn is_echo(word: &[u8; 5]) -> bool {
 
 fn main() {
     let mut line = [0u8; 16002];
+    let mut text = [0u8; 131072];
     let mut bytes = [0u8; 8000];
+    let mut names = [0u8; 4752];
     let mut out = [0u8; 4096];
     let desk = console::new();
-    let echo = wants_echo();
     let start = Session {
         desk,
+        page: page::none(),
         lines: 0,
         length: 0,
-        echo,
+        echo: wants_echo(),
         open: true,
     };
-    run(start, &mut line, &mut bytes, &mut out);
+    run(
+        start,
+        &mut line,
+        &mut text,
+        &mut bytes,
+        &mut names,
+        &mut out,
+    );
 }

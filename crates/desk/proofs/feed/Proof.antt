@@ -7,10 +7,10 @@ use Rattle.desk.proofs.feed.Statement.{statement}
 use Rattle.desk.proofs.feed.Tie as tie
 
 abbrev Inv-loop : tie.InvT-loop
-Inv-loop chunk line₀ bytes₀ out₀ session₀ i₀ line bytes out session i = Unit {0}
+Inv-loop chunk line₀ text₀ bytes₀ names₀ out₀ session₀ i₀ line text bytes names out session i = Unit {0}
 
 abbrev μ-loop : tie.MeasureT-loop
-μ-loop chunk line₀ bytes₀ out₀ session₀ i₀ line bytes out session i = length chunk - i
+μ-loop chunk line₀ text₀ bytes₀ names₀ out₀ session₀ i₀ line text bytes names out session i = length chunk - i
 
 pub feed-spec : {M : Type 1} → statement M
 feed-spec =

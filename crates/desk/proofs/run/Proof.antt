@@ -5,10 +5,10 @@ use Rattle.desk.proofs.run.Statement.{statement}
 use Rattle.desk.proofs.run.Tie as tie
 
 abbrev Inv-loop : tie.InvT-loop
-Inv-loop line₀ bytes₀ out₀ session₀ turns₀ line bytes out session turns = Unit {0}
+Inv-loop line₀ text₀ bytes₀ names₀ out₀ session₀ turns₀ line text bytes names out session turns = Unit {0}
 
 abbrev μ-loop : tie.MeasureT-loop
-μ-loop line₀ bytes₀ out₀ session₀ turns₀ line bytes out session turns = turns
+μ-loop line₀ text₀ bytes₀ names₀ out₀ session₀ turns₀ line text bytes names out session turns = turns
 
 pub run-spec : {M : Type 1} → statement M
 run-spec =
@@ -18,7 +18,6 @@ run-spec =
     μ-loop
     (λ c. tt)
     (λ c. tt)
-    (λ c κs. search needs)
     (λ c κs. search needs)
     (λ c. omega arith)
     (λ c. omega arith)
