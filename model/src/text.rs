@@ -1,4 +1,7 @@
-//! The model of a plan as text, written from docs/DESK.md: declarations, and then the drawing.
+//! The model of a plan as text: declarations, and then the drawing (docs/DESK.md).
+//!
+//! It shares no code with the crate sheet and goes about it otherwise, by tokens. It was written with that crate in view, so that on points the page
+//! leaves open the agreement of the two is no second opinion.
 
 use crate::rows::{self, row};
 
