@@ -49,11 +49,14 @@ pub fn read_into(bytes: &[u8], plan: &mut Plan) -> Result<(), Refusal> {
     answer
 }
 
-/// How a number is read: the value of the number at a place, and the place after it.
-pub type Numbers = fn(&[u8], usize) -> Result<(u32, usize), Refusal>;
+/// How a number is read: the value of the number at a place, and the place after it. A type and no pointer, so that each reader of plans is compiled
+/// for its own: through a pointer reading takes longer, and the model is what the proved engine's time is held against.
+pub trait Numbers: Fn(&[u8], usize) -> Result<(u32, usize), Refusal> {}
+
+impl<F: Fn(&[u8], usize) -> Result<(u32, usize), Refusal>> Numbers for F {}
 
 /// Whether bytes are a plan, where its numbers are read in another way.
-pub fn check(bytes: &[u8], numbers: Numbers) -> Result<(), Refusal> {
+pub fn check(bytes: &[u8], numbers: impl Numbers) -> Result<(), Refusal> {
     read_parts(bytes, numbers, &mut Vec::new())
 }
 
@@ -92,7 +95,7 @@ pub fn refuse<T>(number: u32, place: usize) -> Result<T, Refusal> {
     })
 }
 
-fn read_parts(bytes: &[u8], numbers: Numbers, parts: &mut Vec<Part>) -> Result<(), Refusal> {
+fn read_parts(bytes: &[u8], numbers: impl Numbers, parts: &mut Vec<Part>) -> Result<(), Refusal> {
     if bytes.len() > MAX_BYTES {
         return refuse(1, 0);
     }
@@ -118,9 +121,9 @@ fn read_parts(bytes: &[u8], numbers: Numbers, parts: &mut Vec<Part>) -> Result<(
 }
 
 /// The reading of one plan: where it stands and what it has seen.
-struct Reading<'a> {
+struct Reading<'a, N> {
     bytes: &'a [u8],
-    numbers: Numbers,
+    numbers: N,
     place: usize,
     /// How many variables the plan has.
     variables: u32,
@@ -129,7 +132,7 @@ struct Reading<'a> {
     parts: &'a mut Vec<Part>,
 }
 
-impl Reading<'_> {
+impl<N: Numbers> Reading<'_, N> {
     #[inline]
     fn number(&mut self) -> Result<u32, Refusal> {
         // Most numbers have one group.
