@@ -49,7 +49,7 @@ pub extern "C" fn moonhalyard_accept(s: &[u8]) -> u64
 {
     let mut table = [0u32; 11584];
     let mut correlation = [0u8; 16];
-    let a = plan::accept(s, &mut table, &mut correlation);
+    let a = plan::accept_over(s, &mut table, &mut correlation);
     number_of(a)
 }
 

@@ -10,7 +10,7 @@ use lib.ListN.{length, take, replicate}
 use lib.Seq.{length-take-le}
 use Rattle.plan.specs.declared.Answer.{Answer}
 use Rattle.plan.specs.declared.Answer.the-variants.{Accepted}
-use Rattle.plan.specs.Answers.{answerOf, tableFor, flagsFor}
+use Rattle.plan.specs.Answers.{answerOf, tableInto, tableFor, flagsFor}
 use Rattle.plan.specs.Found.{Found, refused, found, andThen}
 use Rattle.plan.specs.Read.{readPlan}
 use Rattle.plan.specs.Tree.{Plan}
@@ -57,9 +57,9 @@ module _ (s : State) {b : Bool} (e : b ≡ inLimits s) where
     unfolding answerOf
     planned-none = rw plan-out
 
-    pub planned-blank : replicate 11584 0 ≡ tableFor (planIn s)
-    unfolding tableFor
-    planned-blank = rw plan-out
+    pub planned-blank : (t : List ℕ) → replicate 11584 0 ≡ tableInto t (planIn s)
+    unfolding tableInto
+    planned-blank t = rw plan-out
 
     pub planned-bare : replicate 16 0 ≡ flagsFor (planIn s)
     unfolding flagsFor
@@ -73,8 +73,8 @@ module _ (s : State) {b : Bool} (e : b ≡ inLimits s) where
     pub planned-read : {a : Answer} → a ≡ answerOf (readPlan (take (s .length) (s .plan))) → a ≡ answerOf (planIn s)
     planned-read q = q ∙ ap answerOf (sym plan-in)
 
-    pub planned-rows : {l : List ℕ} → l ≡ tableFor (readPlan (take (s .length) (s .plan))) → l ≡ tableFor (planIn s)
-    planned-rows q = q ∙ ap tableFor (sym plan-in)
+    pub planned-rows : (t : List ℕ) {l : List ℕ} → l ≡ tableInto t (readPlan (take (s .length) (s .plan))) → l ≡ tableInto t (planIn s)
+    planned-rows t q = q ∙ ap (tableInto t) (sym plan-in)
 
     pub planned-flags : {l : List ℕ} → l ≡ flagsFor (readPlan (take (s .length) (s .plan))) → l ≡ flagsFor (planIn s)
     planned-flags q = q ∙ ap flagsFor (sym plan-in)
@@ -138,7 +138,7 @@ module _ (s : State) {a : Answer} (e : a ≡ answerOf (planIn s)) where
 
   pub collect-planned : {v k n : ℕ} {t : List ℕ} {r : Collected} → a ≡ Accepted v k n → t ≡ tableFor (planIn s)
       → ((p : Plan) → Heard t (partnersOf p) → r ≡ collectBy p s) → r ≡ collect s
-  unfolding collect tableFor
+  unfolding collect tableInto
   collect-planned {t = t} o q f =
       let g = answer-got (planIn s) e o in
       let h = accepted-heard (take (s .length) (s .plan)) (plan-found s (g .is) .1) in

@@ -14,7 +14,7 @@ use Rattle.plan.specs.Found.{Found, found, among}
 use Rattle.plan.specs.Read.{readPlan, startForm}
 use Rattle.plan.specs.Spell.{spelling, operationCode}
 use Rattle.plan.specs.Store.{store}
-use Rattle.plan.specs.Table.{row, rowOf, noted, putRow, nodesOf, putNode, putNodes, putOwnNodes, putOwn, putClose, put, putAll, blankTable, bodyPlace, tableOf}
+use Rattle.plan.specs.Table.{row, rowOf, noted, putRow, nodesOf, putNode, putNodes, putOwnNodes, putOwn, putClose, put, putAll, blankTable, bodyPlace, tableOver, tableOf}
 use Rattle.plan.specs.Tree.{Exp, constant, variable, binary, Own, empty, send, receive, set, raise, leave, choose, repeat, sequence, flow, pick, scope, arm, Act, act, Acts, none, more, Plan, size, sizes}
 use Rattle.plan.specs.Within.{from1, ascending, actWithin, planWithin}
 use Rattle.plan.proofs.Accepts.{both, among-append}
@@ -133,7 +133,7 @@ module _ (q : ℕ) (small : q < 64) where
   told false e z = rw (e ∙ z)
 
   table-flag : (p : Plan) → size (p .body) + size (p .fault) ≤ 256 → eqb (getD (tableOf p) (3328 + q) 0) 1 ≡ among q (partnersOf p)
-  unfolding tableOf partnersOf partnersIn size
+  unfolding tableOver partnersOf partnersIn size
   table-flag p h =
       let a = putAll-flag (more (p .body) (more (p .fault) none)) (bodyPlace p) 0 0 blankTable (length-replicate {A = ℕ} 11584 0) (omega arith) in
       let b = rw append-nil at (a .flag) in

@@ -90,7 +90,7 @@ pub fn load(s: &[u8]) -> Loaded
 {
     let mut table = [0u32; 11584];
     let mut flags = [0u8; 16];
-    let a = plan::accept(s, &mut table, &mut flags);
+    let a = plan::accept_over(s, &mut table, &mut flags);
     match a {
         Answer::Refused { number, place } => {
             let state = made::fresh_state(&s[..0]);

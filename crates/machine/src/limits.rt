@@ -8,7 +8,7 @@ ghost use lib.Dec.{eqb, leb};
 ghost use lib.ListN.{length, drop, take};
 ghost use mathlib.Core.Bool.{_&&_};
 ghost use mathlib.Core.Path.{_≡_};
-ghost use Rattle.plan.specs.Answers.{answerOf, tableFor, flagsFor};
+ghost use Rattle.plan.specs.Answers.{answerOf, tableInto, flagsFor};
 ghost use Rattle.plan.specs.Read.{readPlan};
 ghost use Rattle.order.specs.Lists.{every};
 ghost use Rattle.machine.specs.Limits.{exchanged, messageInLimits, rootInLimits, orderInLimits, inLimits, planIn};
@@ -155,20 +155,21 @@ pub fn state_ruled(state: State) -> bool
     messages_ruled(messages, state.waiting)
 }
 
-// Whether the first n of some bytes are a plan, with its table and flags.
+// Whether the first n of some bytes are a plan, with its table, written over what that held, and its flags.
 fn accepted(bytes: &[u8], n: usize, table: &mut [u32; 11584], flags: &mut [u8; 16]) -> Answer
     requires { ⌜ n ≤ length (now bytes) ⌝ }
     ensures is { λ r. ⌜ r ≡ answerOf (readPlan (take n (now (bytes .entry)))) ⌝ }
-    ensures rows { λ _. ⌜ now (table .exit) ≡ tableFor (readPlan (take n (now (bytes .entry)))) ⌝ }
+    ensures rows { λ _. ⌜ now (table .exit) ≡ tableInto (now (table .entry)) (readPlan (take n (now (bytes .entry)))) ⌝ }
     ensures flags { λ _. ⌜ now (flags .exit) ≡ flagsFor (readPlan (take n (now (bytes .entry)))) ⌝ }
 {
-    plan::accept(&bytes[..n], table, flags)
+    plan::accept_over(&bytes[..n], table, flags)
 }
 
-// The plan that a state runs by: what accepting its bytes answers, with its table and flags; 17 where a number is outside its limit.
+// The plan that a state runs by: what accepting its bytes answers, with its table, written over what that held, and its flags; 17 where a number is
+// outside its limit. Those who call it have made the table, blank, and it is not blanked again.
 pub fn planned(state: State, table: &mut [u32; 11584], flags: &mut [u8; 16]) -> Answer
     ensures is { λ r. ⌜ r ≡ answerOf (planIn state) ⌝ }
-    ensures rows { λ _. ⌜ now (table .exit) ≡ tableFor (planIn state) ⌝ }
+    ensures rows { λ _. ⌜ now (table .exit) ≡ tableInto (now (table .entry)) (planIn state) ⌝ }
     ensures flags { λ _. ⌜ now (flags .exit) ≡ flagsFor (planIn state) ⌝ }
 {
     if !state_ruled(state) {

@@ -31,7 +31,7 @@ fn accepted(bytes: &[u8], n: usize) -> plan::Answer
 {
     let mut table = [0u32; 11584];
     let mut correlation = [0u8; 16];
-    plan::accept(&bytes[..n], &mut table, &mut correlation)
+    plan::accept_over(&bytes[..n], &mut table, &mut correlation)
 }
 
 // A number is wanted at `at`, and there is none.

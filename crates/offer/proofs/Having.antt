@@ -7,7 +7,7 @@ use native.Mathlib.Omega.{arith}
 use lib.ListN.{length, take}
 use Rattle.plan.specs.declared.Answer.{Answer}
 use Rattle.plan.specs.declared.Answer.the-variants.{Accepted}
-use Rattle.plan.specs.Answers.{answerOf, tableFor, flagsFor}
+use Rattle.plan.specs.Answers.{answerOf, tableInto, tableFor, flagsFor}
 use Rattle.plan.specs.Found.{Found, refused, found}
 use Rattle.plan.specs.Table.{tableOf, flagsOf}
 use Rattle.plan.specs.Tree.{Plan, size}
@@ -77,7 +77,7 @@ has-found {s} {p} {next} e m x y l =
 
 module _ (s : State) {a : Answer} (e : a ≡ answerOf (planIn s)) where
   pub has-from : {v k n : ℕ} {t flags : List ℕ} → a ≡ Accepted v k n → t ≡ tableFor (planIn s) → flags ≡ flagsFor (planIn s) → length (s .messages) ≡ 64 → Has t flags k s
-  unfolding answerOf tableFor flagsFor
+  unfolding answerOf tableInto flagsFor
   has-from {v} {k} {n} {t} {flags} o q f l =
       let g = answer-got (planIn s) e o in
       let i : a ≡ answerOf (found (g .plan) (g .next)) = e ∙ ap answerOf (g .is) in

@@ -9,7 +9,7 @@ use lib.Dec.{ltb, leb}
 use lib.ListN.{length, getD, take, drop}
 use Rattle.plan.specs.declared.Answer.{Answer}
 use Rattle.plan.specs.declared.Answer.the-variants.{Accepted}
-use Rattle.plan.specs.Answers.{answerOf, tableFor}
+use Rattle.plan.specs.Answers.{answerOf, tableInto, tableFor}
 use Rattle.plan.specs.Found.{Found, refused, found}
 use Rattle.plan.specs.Read.{readPlan}
 use Rattle.plan.specs.Shown.{bytesOf, shownPart, shownStart, shownRefusal}
@@ -32,7 +32,7 @@ record Plan-read (g : Found Plan) (k : ℕ) (t : List ℕ) : Type 0 where
   rows : t ≡ tableOf p
 
 accepted : (g : Found Plan) {r : Answer} {vars acts m : ℕ} {t : List ℕ} → r ≡ answerOf g → r ≡ Accepted vars acts m → t ≡ tableFor g → Plan-read g acts t
-unfolding answerOf tableFor
+unfolding answerOf tableInto
 accepted (refused n q) e o w = let z : _≡_ {A = ℕ} 0 1 = cc in absurd (omega arith)
 accepted (found p n) e o w = record { p = p; next = n; is = refl; many = cc; rows = w }
 

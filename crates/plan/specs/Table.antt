@@ -127,9 +127,13 @@ blankFlags = replicate 16 0
 abbrev pub bodyPlace : Plan → ℕ
 bodyPlace p = length (spell (1 ∷ p .variables ∷ length (p .correlation) ∷ p .correlation))
 
--- the table of a plan: the root's body has the number 0, and the root's fault part is the activity after it
-unfoldable pub tableOf : Plan → List ℕ
-tableOf p = putAll (more (p .body) (more (p .fault) none)) (bodyPlace p) 0 0 blankTable
+-- a plan written over what a table held: the root's body has the number 0, and the root's fault part is the activity after it
+unfoldable pub tableOver : List ℕ → Plan → List ℕ
+tableOver t p = putAll (more (p .body) (more (p .fault) none)) (bodyPlace p) 0 0 t
+
+-- the table of a plan
+abbrev pub tableOf : Plan → List ℕ
+tableOf p = tableOver blankTable p
 
 -- a flag for each variable: 1 where it is for correlation
 unfoldable pub flagsOf : Plan → List ℕ

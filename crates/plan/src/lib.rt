@@ -10,7 +10,7 @@ mod tree;
 ghost use Prim.Native.Nat.{_-_, _≤_};
 ghost use lib.ListN.{length, take, drop};
 ghost use mathlib.Core.Path.{_≡_};
-ghost use Rattle.plan.specs.Answers.{answerOf, tableFor, flagsFor};
+ghost use Rattle.plan.specs.Answers.{answerOf, tableInto, tableFor, flagsFor};
 ghost use Rattle.plan.specs.Read.{readPlan};
 ghost use Rattle.plan.specs.Shown.{shownPart, shownStart, shownRefusal};
 
@@ -125,13 +125,13 @@ pub fn show<'a>(s: &'a [u8], k: usize, start: &mut usize, refusal: &mut u32) -> 
     }
 }
 
-// The whole plan: its answer, and in the lent arrays its table and which variables are for correlation. All zero where it is refused.
-pub fn accept(s: &[u8], table: &mut [u32; 11584], correlation: &mut [u8; 16]) -> Answer
+// The whole plan, written over what the table held: for a caller with a blank table, which need not be blanked again. Its answer, and in the lent
+// arrays its rows and which variables are for correlation; all zero where it is refused.
+pub fn accept_over(s: &[u8], table: &mut [u32; 11584], correlation: &mut [u8; 16]) -> Answer
     ensures is { λ r. ⌜ r ≡ answerOf (readPlan (now (s .entry))) ⌝ }
-    ensures rows { λ _. ⌜ now (table .exit) ≡ tableFor (readPlan (now (s .entry))) ⌝ }
+    ensures rows { λ _. ⌜ now (table .exit) ≡ tableInto (now (table .entry)) (readPlan (now (s .entry))) ⌝ }
     ensures flags { λ _. ⌜ now (correlation .exit) ≡ flagsFor (readPlan (now (s .entry))) ⌝ }
 {
-    *table = [0u32; 11584];
     *correlation = [0u8; 16];
     let a = root::plan_at(s, table, correlation);
     match a {
@@ -149,4 +149,14 @@ pub fn accept(s: &[u8], table: &mut [u32; 11584], correlation: &mut [u8; 16]) ->
             a
         }
     }
+}
+
+// The whole plan: its answer, and in the lent arrays its table and which variables are for correlation. All zero where it is refused.
+pub fn accept(s: &[u8], table: &mut [u32; 11584], correlation: &mut [u8; 16]) -> Answer
+    ensures is { λ r. ⌜ r ≡ answerOf (readPlan (now (s .entry))) ⌝ }
+    ensures rows { λ _. ⌜ now (table .exit) ≡ tableFor (readPlan (now (s .entry))) ⌝ }
+    ensures flags { λ _. ⌜ now (correlation .exit) ≡ flagsFor (readPlan (now (s .entry))) ⌝ }
+{
+    *table = [0u32; 11584];
+    accept_over(s, table, correlation)
 }

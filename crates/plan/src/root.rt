@@ -13,7 +13,7 @@ ghost use Rattle.plan.specs.Fits.{NumberFits};
 ghost use Rattle.plan.specs.Nodes.{Base};
 ghost use Rattle.plan.specs.Read.{versionIn, correlationIn, rootIn, readPlan};
 ghost use Rattle.plan.specs.Store.{chosen};
-ghost use Rattle.plan.specs.Table.{blankTable, blankFlags};
+ghost use Rattle.plan.specs.Table.{blankFlags};
 
 // The version, which is 1.
 fn version_at(s: &[u8]) -> Field
@@ -72,8 +72,8 @@ fn correlation_at(s: &[u8], at: usize, count: u32, vars: u32, flags: &mut [u8; 1
 
 // The root's body and the root's fault part.
 fn root_at(s: &[u8], at: usize, vars: u32, flags: &[u8; 16], table: &mut [u32; 11584]) -> Answer
-    requires { ⌜ Base (now s) vars 0 at × (now table ≡ blankTable) ⌝ }
-    ensures { λ r. ⌜ RootRead (rootIn vars (chosen 0 (now (flags .entry))) (now (s .entry)) at) at r (now (table .exit)) ⌝ }
+    requires { ⌜ Base (now s) vars 0 at ⌝ }
+    ensures { λ r. ⌜ RootRead (rootIn vars (chosen 0 (now (flags .entry))) (now (s .entry)) at) at r (now (table .entry)) (now (table .exit)) ⌝ }
 {
     let parts = activities_at(s, at, false, false, true, 2, 16, vars, flags, 0, 0, table);
     match parts {
@@ -114,8 +114,8 @@ fn flagged_at(
     table: &mut [u32; 11584],
     flags: &mut [u8; 16],
 ) -> Answer
-    requires { ⌜ Base (now s) vars 0 at × ((now table ≡ blankTable) × (now flags ≡ blankFlags)) ⌝ }
-    ensures { λ r. ⌜ FlaggedRead (flaggedIn vars (now (s .entry)) at) at r (now (table .exit)) (now (flags .exit)) ⌝ }
+    requires { ⌜ Base (now s) vars 0 at × (now flags ≡ blankFlags) ⌝ }
+    ensures { λ r. ⌜ FlaggedRead (flaggedIn vars (now (s .entry)) at) at r (now (table .entry)) (now (table .exit)) (now (flags .exit)) ⌝ }
 {
     let c = field_at(s, at, 0, vars + 1);
     match c {
@@ -133,10 +133,10 @@ fn flagged_at(
     }
 }
 
-// The whole plan, into a table and flags that are blank.
+// The whole plan, over what the table held and into flags that are blank.
 pub(crate) fn plan_at(s: &[u8], table: &mut [u32; 11584], flags: &mut [u8; 16]) -> Answer
-    requires { ⌜ (now table ≡ blankTable) × (now flags ≡ blankFlags) ⌝ }
-    ensures { λ r. ⌜ PlanRead (readPlan (now (s .entry))) r (now (table .exit)) (now (flags .exit)) ⌝ }
+    requires { ⌜ now flags ≡ blankFlags ⌝ }
+    ensures { λ r. ⌜ PlanRead (readPlan (now (s .entry))) r (now (table .entry)) (now (table .exit)) (now (flags .exit)) ⌝ }
 {
     if 4096 < s.len() {
         return Answer::Refused {

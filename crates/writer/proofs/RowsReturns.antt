@@ -11,7 +11,7 @@ use mir.Val.{Fits}
 use Rattle.numbers.specs.Shortest.{Bytes, shortest}
 use Rattle.plan.specs.declared.Answer as plan
 use Rattle.plan.specs.declared.Answer.the-variants.{Accepted}
-use Rattle.plan.specs.Answers.{answerOf, tableFor}
+use Rattle.plan.specs.Answers.{answerOf, tableInto, tableFor}
 use Rattle.plan.specs.Found.{Found, refused, found}
 use Rattle.plan.specs.Read.{readPlan}
 use Rattle.plan.specs.Spell.{spell, actNumbers, planNumbers, spelling}
@@ -63,7 +63,7 @@ got (refused n q) e o = let z : _≡_ {A = ℕ} 0 1 = cc in absurd (omega arith)
 got (found p n) e o = record { p = p; next = n; is = refl; many = cc; rest = cc }
 
 table-is : (g : Found Plan) {p : Plan} {next : ℕ} {t : List ℕ} → g ≡ found p next → t ≡ tableFor g → t ≡ tableOf p
-unfolding tableFor
+unfolding tableInto
 table-is g e w = w ∙ rw e
 
 -- no more nodes than bytes

@@ -8,9 +8,9 @@ use Rattle.boundary.proofs.moonhalyard_accept.Tie as tie
 pub moonhalyard-accept-spec : {M : Type 1} → statement M
 moonhalyard-accept-spec =
     tie.close (tie.spec
-    -- accept-requires
+    -- accept-over-requires
     (λ c κs. search needs)
     -- number-of-requires
     (λ c κs. search needs)
     -- returns
-    (λ c. c .number-of .ensures ∙ ap acceptNumber (c .before .accept .ensures .0)))
+    (λ c. c .number-of .ensures ∙ ap acceptNumber (c .before .accept-over .ensures .0)))

@@ -9,7 +9,7 @@ ruleset cases = (load-no, load-yes, load-short)
 pub load-spec : {M : Type 1} → statement M
 load-spec =
     tie.close (tie.spec
-    -- accept-requires
+    -- accept-over-requires
     (λ c κs. search needs)
     -- enum-known-a
     (λ c. search needs)

@@ -11,7 +11,7 @@ accepted-spec =
     tie.close (tie.spec
     -- slice-aggregate-accept
     (λ c. search cases)
-    -- accept-requires
+    -- accept-over-requires
     (λ c κs. search needs)
     -- returns
     (λ c. search needs))

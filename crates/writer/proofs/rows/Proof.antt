@@ -11,7 +11,7 @@ ruleset cases = (rows-no, rows-no-table, rows-few, rows-fit, rows-short, rows-sh
 pub rows-spec : {M : Type 1} → statement M
 rows-spec =
     tie.close (tie.spec
-    -- accept-requires
+    -- accept-over-requires
     (λ c κs. search needs)
     -- enum-known-a
     (λ c. search needs)

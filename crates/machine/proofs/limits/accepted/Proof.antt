@@ -9,7 +9,7 @@ accepted-spec =
     tie.close (tie.spec
     -- slice-aggregate-accept
     (λ c. search (needs, prefix-long))
-    -- accept-requires
+    -- accept-over-requires
     (λ c κs. search needs)
     -- returns
     (λ c. search needs))
