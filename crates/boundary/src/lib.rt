@@ -110,9 +110,8 @@ pub extern "C" fn moonhalyard_load(plan: &[u8], state: &mut [u8]) -> u64
     ensures bytes { λ _. ⌜ now (state .exit) ≡ engine.loadBytes (now (plan .entry)) (now (state .entry)) ⌝ }
 {
     let r = machine::load(plan);
-    let s = r.state;
     let none = machine::no_tally();
-    if store::pack(s, none, state) {
+    if store::pack(r.state, none, state) {
         return pair_of(r.refusal, r.place);
     }
     pair_of(18, 0)
@@ -134,8 +133,6 @@ pub extern "C" fn moonhalyard_post(
     ensures bytes { λ _. ⌜ now (state .exit) ≡ engine.postBytes (record { partner = partner; operation = operation; count = count; values = v0 ∷ v1 ∷ v2 ∷ v3 ∷ [] }) (now (state .entry)) ⌝ }
 {
     let k = store::unpack(&state[..]);
-    let s = k.state;
-    let y = k.tally;
     let values = [v0, v1, v2, v3];
     let m = Message {
         partner,
@@ -143,10 +140,9 @@ pub extern "C" fn moonhalyard_post(
         count,
         values,
     };
-    let r = machine::post(s, m);
-    let t = r.state;
+    let r = machine::post(k.state, m);
     if r.refusal == 0 {
-        store::pack(t, y, state);
+        store::pack(r.state, k.tally, state);
         return 0;
     }
     r.refusal
@@ -163,14 +159,10 @@ pub extern "C" fn moonhalyard_collect(state: &mut [u8], message: &mut [u8]) -> u
         return 18;
     }
     let k = store::unpack(&state[..]);
-    let s = k.state;
-    let y = k.tally;
-    let r = machine::collect(s);
-    let m = r.message;
-    let t = r.state;
-    store::write_message(m, message);
+    let r = machine::collect(k.state);
+    store::write_message(r.message, message);
     if r.refusal == 0 {
-        store::pack(t, y, state);
+        store::pack(r.state, k.tally, state);
         return 0;
     }
     r.refusal
@@ -183,8 +175,7 @@ pub extern "C" fn moonhalyard_offer(state: &[u8], choice: usize) -> u64
     ensures { λ r. ⌜ r ≡ engine.offerNumber choice (now (state .entry)) ⌝ }
 {
     let k = store::unpack(state);
-    let s = k.state;
-    step_number(offer::offer(s, choice))
+    step_number(offer::offer(k.state, choice))
 }
 
 // How much is offered: the refusal's number times 2^40, 2^32 where something is held, and how many steps.
@@ -193,8 +184,7 @@ pub extern "C" fn moonhalyard_offers(state: &[u8]) -> u64
     ensures { λ r. ⌜ r ≡ engine.offersOf (now (state .entry)) ⌝ }
 {
     let k = store::unpack(state);
-    let s = k.state;
-    offers_number(offer::offers(s))
+    offers_number(offer::offers(k.state))
 }
 
 // Takes the step with a choice: as `moonhalyard_offer` answers, with the number of the order's end, if any.
@@ -204,14 +194,10 @@ pub extern "C" fn moonhalyard_step(state: &mut [u8], choice: usize) -> u64
     ensures bytes { λ _. ⌜ now (state .exit) ≡ engine.stepBytes choice (now (state .entry)) ⌝ }
 {
     let k = store::unpack(&state[..]);
-    let s = k.state;
-    let y = k.tally;
-    let r = step::take_step(s, choice, y);
+    let r = step::take_step(k.state, choice, k.tally);
     let x = r.answer;
-    let t = r.state;
-    let z = r.tally;
     if x.refusal == 0 {
-        store::pack(t, z, state);
+        store::pack(r.state, r.tally, state);
         return step_number(x);
     }
     step_number(x)
@@ -225,14 +211,10 @@ pub extern "C" fn moonhalyard_run(state: &mut [u8], choices: &[usize], budget: &
     ensures left { λ _. ⌜ now (budget .exit) + engine.ranIn (now (choices .entry)) (now (budget .entry)) (now (state .entry)) .taken ≡ now (budget .entry) ⌝ }
 {
     let k = store::unpack(&state[..]);
-    let s = k.state;
-    let y = k.tally;
-    let r = run::run(s, choices, budget, y);
-    let t = r.state;
-    let z = r.tally;
+    let r = run::run(k.state, choices, budget, k.tally);
     if r.taken == 0 {
         return r.refusal;
     }
-    store::pack(t, z, state);
+    store::pack(r.state, r.tally, state);
     r.refusal
 }

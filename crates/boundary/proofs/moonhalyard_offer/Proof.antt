@@ -14,4 +14,4 @@ moonhalyard-offer-spec =
     -- step-number-requires
     (λ c κs. search needs)
     -- returns
-    (λ c. let b = c .before in let d = b .before .before in let e = d .before .before in offer-is (e .args .choice) (e .args .state .now) (d .unpack .ensures) (b .offer .ensures) (c .step-number .ensures)))
+    (λ c. let b = c .before in let d = b .before in let e = d .before .before in offer-is (e .args .choice) (e .args .state .now) (d .unpack .ensures) (b .offer .ensures) (c .step-number .ensures)))

@@ -14,4 +14,4 @@ moonhalyard-offers-spec =
     -- offers-number-requires
     (λ c κs. search needs)
     -- returns
-    (λ c. let b = c .before in let d = b .before .before in let e = d .before .before in offers-is (e .args .state .now) (d .unpack .ensures) (b .offers .ensures) (c .offers-number .ensures)))
+    (λ c. let b = c .before in let d = b .before in let e = d .before .before in offers-is (e .args .state .now) (d .unpack .ensures) (b .offers .ensures) (c .offers-number .ensures)))

@@ -16,8 +16,8 @@ moonhalyard-post-spec =
     -- same-length
     (λ c. search needs)
     -- returns
-    (λ c. let a = c .before .before in let b = a .before .before in let d = b .before .before .before in let e = d .before .before .before in let f = e .before .before .before in post-taken _ (f .args .state .now) (e .unpack .ensures) (d .post .ensures) (b .if1 .taken) (a .pack .ensures .1 .0))
+    (λ c. let a = c .before .before in let b = a .before .before in let d = b .before .before in let e = d .before in let f = e .before .before .before in post-taken _ (f .args .state .now) (e .unpack .ensures) (d .post .ensures) (b .if1 .taken) (a .pack .ensures .1 .0))
     -- same-length-2
     (λ c. search needs)
     -- returns-2
-    (λ c. let b = c .before .before .before in let d = b .before .before .before in let e = d .before .before .before in post-refused _ (e .args .state .now) (d .unpack .ensures) (b .post .ensures) (c .if1 .left)))
+    (λ c. let b = c .before .before in let d = b .before in let e = d .before .before .before in post-refused _ (e .args .state .now) (d .unpack .ensures) (b .post .ensures) (c .if1 .left)))

@@ -14,10 +14,10 @@ moonhalyard-run-spec =
     -- same-length
     (λ c. search needs)
     -- returns
-    (λ c. let b = c .before .before .before .before in let d = b .before .before .before .before in let e = d .before .before .before .before in run-none (e .args .choices .now) (e .args .budget .now) (e .args .state .now) (d .unpack .ensures) (b .run .ensures .0) _ (b .run .ensures .1) (c .if1 .taken))
+    (λ c. let b = c .before .before in let d = b .before .before in let e = d .before .before .before .before in run-none (e .args .choices .now) (e .args .budget .now) (e .args .state .now) (d .unpack .ensures) (b .run .ensures .0) _ (b .run .ensures .1) (c .if1 .taken))
     -- pack-requires
     (λ c κs. search needs)
     -- same-length-2
     (λ c. search needs)
     -- returns-2
-    (λ c. let a = c .before .before in let b = a .before .before in let d = b .before .before .before .before in let e = d .before .before .before .before in let f = e .before .before .before .before in run-some (f .args .choices .now) (f .args .budget .now) (f .args .state .now) (e .unpack .ensures) (d .run .ensures .0) _ (d .run .ensures .1) (b .if1 .left) (a .pack .ensures .1 .0)))
+    (λ c. let a = c .before .before in let b = a .before .before in let d = b .before .before in let e = d .before .before in let f = e .before .before .before .before in run-some (f .args .choices .now) (f .args .budget .now) (f .args .state .now) (e .unpack .ensures) (d .run .ensures .0) _ (d .run .ensures .1) (b .if1 .left) (a .pack .ensures .1 .0)))
