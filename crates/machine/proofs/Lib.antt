@@ -3,3 +3,4 @@ pub mod Copied
 pub mod Moved
 mod Partners
 mod Ruled
+pub mod Whole

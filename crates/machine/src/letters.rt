@@ -153,13 +153,6 @@ pub fn without_message(messages: [Message; 64], waiting: usize, place: usize) ->
     Mail { messages, waiting }
 }
 
-// The messages have their 64 places.
-pub fn message_places(messages: [Message; 64]) -> usize
-    ensures { λ r. ⌜ (r ≡ 64) × (length messages ≡ 64) ⌝ }
-{
-    64
-}
-
 // Whether the plan with this table receives on a partner.
 fn heard(table: &[u32; 11584], partner: u32) -> bool
     requires { ⌜ partner < 64 ⌝ }

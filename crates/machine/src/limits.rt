@@ -180,6 +180,5 @@ pub fn planned(state: State, table: &mut [u32; 11584], flags: &mut [u8; 16]) -> 
             place: 0,
         };
     }
-    let bytes = state.plan;
-    accepted(&bytes, state.length, table, flags)
+    accepted(&state.plan, state.length, table, flags)
 }

@@ -10,7 +10,6 @@ mod slots;
 
 use machine::State;
 use machine::Step;
-use machine::letters as places;
 use machine::limits;
 use plan::Answer;
 ghost use mathlib.Core.Path.{_≡_};
@@ -76,8 +75,6 @@ pub fn offer(state: State, choice: usize) -> Step
 {
     let mut table = [0u32; 11584];
     let mut flags = [0u8; 16];
-    let messages = state.messages;
-    let places = places::message_places(messages);
     let a = limits::planned(state, &mut table, &mut flags);
     match a {
         Answer::Refused {
@@ -111,8 +108,6 @@ pub fn offers(state: State) -> Offered
 {
     let mut table = [0u32; 11584];
     let mut flags = [0u8; 16];
-    let messages = state.messages;
-    let places = places::message_places(messages);
     let a = limits::planned(state, &mut table, &mut flags);
     match a {
         Answer::Refused {

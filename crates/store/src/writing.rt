@@ -146,11 +146,8 @@ pub(crate) fn put_state(out: &mut [u8], at: usize, state: State)
     ensures { λ _. ⌜ Put (now (out .entry)) (now (out .exit)) at 11936 (stateBytes state) ⌝ }
 {
     put_eight(out, at, state.length);
-    let bytes = state.plan;
-    put_bytes(out, at + 8, &bytes);
+    put_bytes(out, at + 8, &state.plan);
     put_eight(out, at + 4104, state.waiting);
-    let messages = state.messages;
-    put_messages(out, at + 4112, messages);
-    let orders = state.orders;
-    put_orders(out, at + 5904, orders);
+    put_messages(out, at + 4112, state.messages);
+    put_orders(out, at + 5904, state.orders);
 }

@@ -1,5 +1,6 @@
 -- `offer::offer` meets its contract. Assumes nothing.
 use borrow.Author.Needs.{needs}
+use Rattle.machine.proofs.Whole.{state-whole}
 use Rattle.offer.proofs.Having.{offer-unplanned, offer-planned}
 use Rattle.offer.proofs.offer.Statement.{statement}
 use Rattle.offer.proofs.offer.Tie as tie
@@ -9,8 +10,6 @@ ruleset cases = (offer-unplanned, offer-planned)
 pub offer-spec : {M : Type 1} → statement M
 offer-spec =
     tie.close (tie.spec
-    -- message-places-requires
-    (λ c κs. search needs)
     -- planned-requires
     (λ c κs. search needs)
     -- enum-told
@@ -24,4 +23,7 @@ offer-spec =
     -- returns
     (λ c. search cases)
     -- returns-2
-    (λ c. search cases))
+    (λ c.
+    let start = c .before .before .before .before .before .before .before .before .before in
+    let l = state-whole (start .args .state) _ (start .good .0) .messages-long in
+    search cases))

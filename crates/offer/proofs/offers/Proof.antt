@@ -1,5 +1,6 @@
 -- `offer::offers` meets its contract. Assumes nothing.
 use borrow.Author.Needs.{needs}
+use Rattle.machine.proofs.Whole.{state-whole}
 use Rattle.offer.proofs.Having.{has-from, count-unplanned}
 use Rattle.offer.proofs.offers.Statement.{statement}
 use Rattle.offer.proofs.offers.Tie as tie
@@ -9,8 +10,6 @@ ruleset cases = (has-from, count-unplanned)
 pub offers-spec : {M : Type 1} → statement M
 offers-spec =
     tie.close (tie.spec
-    -- message-places-requires
-    (λ c κs. search needs)
     -- planned-requires
     (λ c κs. search needs)
     -- enum-told
@@ -18,7 +17,10 @@ offers-spec =
     -- enum-known-a
     (λ c. search needs)
     -- count-by-requires
-    (λ c κs. search cases)
+    (λ c κs.
+    let start = c .before .before .before .before .before .before .before .before in
+    let l = state-whole (start .args .state) _ (start .good .0) .messages-long in
+    search cases)
     -- returns
     (λ c. search cases)
     -- returns-2

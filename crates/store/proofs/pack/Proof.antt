@@ -4,7 +4,7 @@ use Rattle.store.proofs.Parts.{pack-is, pack-no}
 use borrow.Author.Tests.{eq-eqb, ne-eqb}
 use mathlib.Core.Path.{sym}
 use Rattle.store.proofs.Back.{unpacked-packed}
-use Rattle.store.proofs.Whole.{state-whole, tally-whole}
+use Rattle.machine.proofs.Whole.{state-whole, tally-whole}
 use Rattle.store.proofs.pack.Statement.{statement}
 use Rattle.store.proofs.pack.Tie as tie
 

@@ -2,7 +2,7 @@
 use borrow.Author.Needs.{needs}
 use Rattle.store.proofs.Parts.{room-fours, message-put}
 use native.Mathlib.Omega.{arith}
-use Rattle.store.proofs.Whole.{message-whole}
+use Rattle.machine.proofs.Whole.{message-whole}
 use Rattle.store.proofs.writing.put_message.Statement.{statement}
 use Rattle.store.proofs.writing.put_message.Tie as tie
 
