@@ -25,16 +25,19 @@ use Rattle.order.proofs.Standing.{stands-inside}
 use Rattle.run.specs.declared.Ran.{Ran}
 use Rattle.machine.specs.declared.State.{State}
 use Rattle.machine.specs.declared.Step.{Step}
+use Rattle.step.specs.declared.Change.{Change}
 use Rattle.step.specs.declared.Stepped.{Stepped}
 use Rattle.machine.specs.declared.Tally.{Tally}
 use Rattle.machine.specs.Calls as calls
 use Rattle.machine.specs.Calls.{Chosen, refusedChoice, chosen, nth, choosing, previewed, previewBy, preview, refusing, answering, stepChosen, stepBy, step, runBy, ranOn, oneMore, run}
 use Rattle.machine.specs.Limits.{inLimits, planIn, by}
+use Rattle.machine.specs.State.{withMessages, withOrder}
 use Rattle.machine.specs.Offer.{Offer, Offers, offering, offersOf}
 use Rattle.run.specs.Running.{ranOf, after}
 use Rattle.offer.specs.Having.{Has}
 use Rattle.offer.proofs.Having.{has-from}
-use Rattle.step.specs.Stepping.{bare, StepsBy}
+use Rattle.step.specs.Stepping.{bare, changed, StepsBy}
+use Rattle.step.proofs.Changed.{put-taken, put-refused}
 use Rattle.machine.proofs.Called.{answer-no, answer-got, plan-found}
 use Rattle.laws.proofs.Offering.{pick-true, pick-false}
 use Rattle.laws.proofs.Keeping.{step-by-keeps, step-is-by, step-keeps}
@@ -86,8 +89,8 @@ module _ {t flags : List ℕ} {n : ℕ} {cs : List ℕ} {b₀ : ℕ} {s₀ : Sta
       (ap (λ (l : List ℕ). runBy step l b s y) (drop-cons cs i 0 h) ∙ ap (λ (k : ℕ). runBy step (getD cs i 0 ∷ drop (suc i) cs) k s y) e) refl
 
   -- one more step
-  module _ (h : i < length cs) (e : b ≡ 0 → ⊥) {r : Stepped} (x : StepsBy t flags n s (getD cs i 0) y r) where
-    q : r ≡ bare (step (getD cs i 0) s y)
+  module _ (h : i < length cs) (e : b ≡ 0 → ⊥) {r : Change} (x : StepsBy t flags n s (getD cs i 0) y r) where
+    q : changed s r ≡ bare (step (getD cs i 0) s y)
     q = x .is (g .has)
 
     one-step : runBy step (drop i cs) b s y ≡ ranOn (runBy step (drop (i + 1) cs) (b - 1)) (step (getD cs i 0) s y)
@@ -101,22 +104,30 @@ module _ {t flags : List ℕ} {n : ℕ} {cs : List ℕ} {b₀ : ℕ} {s₀ : Sta
     answers : r .answer .refusal ≡ step (getD cs i 0) s y .answer .refusal
     answers = ap (λ (v : Stepped). v .answer .refusal) q
 
-    states : r .state ≡ step (getD cs i 0) s y .state
-    states = ap (λ (v : Stepped). v .state) q
-
     tallies : r .tally ≡ step (getD cs i 0) s y .tally
     tallies = ap (λ (v : Stepped). v .tally) q
 
-    pub going-refused : (r .answer .refusal ≡ 0 → ⊥)
-        → _≡_ {A = Ran} (record { taken = i; refusal = r .answer .refusal; state = r .state; tally = r .tally }) (ranOf (runBy step cs b₀ s₀ y₀))
-    going-refused f =
-        going-ends {r = record { taken = 0; refusal = r .answer .refusal; state = r .state; tally = r .tally }}
-        (one-step ∙ pick-false (eqb (step (getD cs i 0) s y .answer .refusal) 0) _ _ (ap (λ (k : ℕ). eqb k 0) (sym answers) ∙ ne-eqb (r .answer .refusal) 0 f)
-        ∙ rw (answers, states, tallies)) refl
+    -- the tally that a step that is refused leaves
+    tally-stays : (r .answer .refusal ≡ 0 → ⊥) → y ≡ step (getD cs i 0) s y .tally
+    tally-stays f = sym (ap (λ (v : Change). v .tally) (x .nothing f)) ∙ tallies
 
-    pub going-on : r .answer .refusal ≡ 0 → Going t flags n cs b₀ s₀ y₀ (i + 1) (b - 1) (r .state) (r .tally)
+    pub going-refused : (r .answer .refusal ≡ 0 → ⊥)
+        → _≡_ {A = Ran} (record { taken = i; refusal = r .answer .refusal; state = s; tally = y }) (ranOf (runBy step cs b₀ s₀ y₀))
+    going-refused f =
+        let states : s ≡ step (getD cs i 0) s y .state = sym (put-refused s r f) ∙ ap (λ (v : Stepped). v .state) q in
+        let kept = tally-stays f in
+        going-ends {r = record { taken = 0; refusal = r .answer .refusal; state = s; tally = y }}
+        (one-step ∙ pick-false (eqb (step (getD cs i 0) s y .answer .refusal) 0) _ _ (ap (λ (k : ℕ). eqb k 0) (sym answers) ∙ ne-eqb (r .answer .refusal) 0 f)
+        ∙ rw (← answers, ← states, ← kept)) refl
+
+    -- the state with the step put in
+    abbrev after-it : State
+    after-it = withOrder (r .answer .slot) (r .order) (withMessages (r .messages) (r .waiting) s)
+
+    pub going-on : r .answer .refusal ≡ 0 → Going t flags n cs b₀ s₀ y₀ (i + 1) (b - 1) after-it (r .tally)
     going-on f =
         let k = step-keeps (g .has .planned) (getD cs i 0) y in
+        let states : after-it ≡ step (getD cs i 0) s y .state = sym (put-taken s r f) ∙ ap (λ (v : Stepped). v .state) q in
         record {
           has = record {
             plan = g .has .plan;
@@ -129,7 +140,7 @@ module _ {t flags : List ℕ} {n : ℕ} {cs : List ℕ} {b₀ : ℕ} {s₀ : Sta
           left = omega (arith, g .left, e);
           same = g .same ∙ ap (after i) (one-step
               ∙ pick-true (eqb (step (getD cs i 0) s y .answer .refusal) 0) _ _ (ap (λ (k : ℕ). eqb k 0) (sym answers) ∙ eq-eqb (r .answer .refusal) 0 f)
-              ∙ rw (← states, ← tallies)) ∙ later (runBy step (drop (i + 1) cs) (b - 1) (r .state) (r .tally));
+              ∙ rw (← states, ← tallies)) ∙ later (runBy step (drop (i + 1) cs) (b - 1) after-it (r .tally));
         }
       where
         later : (v : calls.Ran) → after i (oneMore v) ≡ after (i + 1) v

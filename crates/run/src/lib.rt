@@ -1,7 +1,6 @@
 // A run: steps by a list of choices, under a budget that is lent.
 use machine::State;
 use machine::Tally;
-use machine::letters;
 use machine::limits;
 use plan::Answer;
 ghost use Prim.Native.Nat.{_+_};
@@ -24,7 +23,7 @@ fn run_by(
     table: &[u32; 11584],
     flags: &[u8; 16],
     activities: usize,
-    state: State,
+    mut state: State,
     choices: &[usize],
     budget: &mut usize,
     tally: Tally,
@@ -33,7 +32,6 @@ fn run_by(
     ensures is { λ r. ⌜ r ≡ ranOf (runBy calls.step (now (choices .entry)) (now (budget .entry)) state tally) ⌝ }
     ensures left { λ r. ⌜ now (budget .exit) + r .taken ≡ now (budget .entry) ⌝ }
 {
-    let mut s = state;
     let mut y = tally;
     let mut i: usize = 0;
     while i < choices.len() {
@@ -42,32 +40,35 @@ fn run_by(
             return Ran {
                 taken: i,
                 refusal: 0,
-                state: s,
+                state,
                 tally: y,
             };
         }
-        let r = step::step_by(table, flags, activities, s, choices[i], y);
-        let a = r.answer;
-        let t = r.state;
-        let z = r.tally;
-        if a.refusal == 0 {
-            s = t;
-            y = z;
-            *budget -= 1;
-            i = next;
-        } else {
+        let c = step::step_by(table, flags, activities, state, choices[i], y);
+        let a = c.answer;
+        if a.refusal != 0 {
             return Ran {
                 taken: i,
                 refusal: a.refusal,
-                state: t,
-                tally: z,
+                state,
+                tally: y,
             };
         }
+        let slot = a.slot;
+        let order = c.order;
+        let messages = c.messages;
+        let z = c.tally;
+        state.orders[slot] = order;
+        state.messages = messages;
+        state.waiting = c.waiting;
+        y = z;
+        *budget -= 1;
+        i = next;
     }
     Ran {
         taken: i,
         refusal: 0,
-        state: s,
+        state,
         tally: y,
     }
 }
@@ -79,23 +80,19 @@ pub fn run(state: State, choices: &[usize], budget: &mut usize, tally: Tally) ->
 {
     let mut table = [0u32; 11584];
     let mut flags = [0u8; 16];
-    let messages = state.messages;
-    let places = letters::message_places(messages);
     let a = limits::planned(state, &mut table, &mut flags);
-    match a {
-        Answer::Refused {
-            number: _,
-            place: _,
-        } => Ran {
+    let Answer::Accepted {
+        variables: _,
+        activities,
+        nodes: _,
+    } = a
+    else {
+        return Ran {
             taken: 0,
             refusal: 17,
             state,
             tally,
-        },
-        Answer::Accepted {
-            variables: _,
-            activities,
-            nodes: _,
-        } => run_by(&table, &flags, activities, state, choices, budget, tally),
-    }
+        };
+    };
+    run_by(&table, &flags, activities, state, choices, budget, tally)
 }

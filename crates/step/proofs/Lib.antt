@@ -1,2 +1,3 @@
+pub mod Changed
 mod Taken
 mod StepReturns

@@ -32,7 +32,7 @@ use Rattle.machine.specs.declared.Mail.{Mail}
 use Rattle.machine.specs.declared.Message.{Message}
 use Rattle.machine.specs.declared.State.{State}
 use Rattle.machine.specs.declared.Step.{Step}
-use Rattle.step.specs.declared.Moved.{Moved}
+use Rattle.step.specs.declared.Change.{Change}
 use Rattle.step.specs.declared.Stepped.{Stepped}
 use Rattle.machine.specs.declared.Tally.{Tally}
 use Rattle.machine.specs.Calls as calls
@@ -43,19 +43,12 @@ use Rattle.machine.specs.Offer.{Offer, offering, sendHeld, closeHeld, offersOf}
 use Rattle.machine.specs.Planned.{addedTo, takenFrom, Adds, Removes}
 use Rattle.machine.specs.State.{noMessage, withOrder}
 use Rattle.laws.specs.Good.{Allowed, Good, actor}
-use Rattle.step.specs.Stepping.{bare, Worths, SentValues, SendRow, Sends, SendsMail, MovesMessages, MovesMail, StepsSlot, Nexts, movedIn, putIn, MovesFrom, Moves, TakesOffer}
+use Rattle.step.specs.Stepping.{bare, Worths, SentValues, SendRow, Sends, SendsMail, MovesMessages, MovesMail, StepsSlot, Nexts, movedIn, changed, MovesFrom, Moves, TakesOffer}
 use Rattle.machine.proofs.Copied.{stored-more}
 use Rattle.machine.proofs.Moved.{kept-mail, letter-there, limits-letters}
 use Rattle.laws.proofs.Offering.{pick-true, pick-false, chosen-fine}
 use Rattle.laws.proofs.Roomy.{takes-same, take-closings}
 use Rattle.laws.proofs.Doing.{actDoing, plan-doing, good-room, send-room}
-
--- `value_of`
-pub value-far : (o : Order) (v : ℕ) → 16 ≤ v → Worths o v 0
-value-far o v h = record { is = λ g. absurd (omega arith) }
-
-pub value-near : (o : Order) (v : ℕ) → v < 16 → Worths o v (getD (o .values) v 0)
-value-near o v h = record { is = λ g. refl }
 
 -- `sent_values`
 values-length : (o : Order) (vs : List ℕ) → length (valuesOf o vs) ≡ length vs
@@ -254,12 +247,12 @@ pub next-is : {t : List ℕ} {n : ℕ} {l : List Message} {o : Order} {k j : ℕ
 next-is {xs = xs} {q} e a b = record { values = xs; between = q; read = e; takes = a; moves = b }
 
 -- `moved_from`
-pub moves-from : {t : List ℕ} {n : ℕ} {l : List Message} {w : ℕ} {o : Order} {m : Next} {k j : ℕ} {y : Tally} {v : Mail} {c : Tally}
+pub moves-from : {t : List ℕ} {n : ℕ} {l : List Message} {w : ℕ} {o : Order} {m : Next} (i : ℕ) {k j : ℕ} {y : Tally} {v : Mail} {c : Tally}
     → Nexts t n l o k j m → MovesMail t n l w o k j v → c ≡ countEnd (m .end) y
-    → MovesFrom t n o l w k j y (record { order = m .order; end = m .end; messages = v .messages; waiting = v .waiting; tally = c })
+    → MovesFrom t n o l w i k j y (record { answer = answering (offering i k j) (m .end); order = m .order; messages = v .messages; waiting = v .waiting; tally = c })
 unfolding calls.stepped
-moves-from {o = o} {m} {k} {j} {y} {v} next c e = record {
-  is = λ s i b d. record {
+moves-from {o = o} {m} i {k} {j} {y} {v} next c e = record {
+  is = λ s b d. record {
     is = λ p sp w g.
         let q = next .between in
         let a : Message = getD (s .messages) j noMessage in
@@ -268,10 +261,12 @@ moves-from {o = o} {m} {k} {j} {y} {v} next c e = record {
         let x : closings q ≡ closings o = ap closings h ∙ take-closings (doingAt p k) a o in
         let f : m ≡ nextOf (stepOrder p k q) = next .moves .is p sp (ap (roomPlan p k) x ∙ good-room g) in
         let z : m ≡ nextOf (stepOrder p k (orderTaking (doingAt p k) a o)) = f ∙ ap (λ (d : Order). nextOf (stepOrder p k d)) h in
-        ap (λ (r : Tally). putIn s i k j (record { order = m .order; end = m .end; messages = v .messages; waiting = v .waiting; tally = r })) e
+        ap (λ (r : Tally). changed s (record { answer = answering (offering i k j) (m .end); order = m .order; messages = v .messages; waiting = v .waiting; tally = r })) e
         ∙ ap (λ (u : State). movedIn u i k j m y) (c .is s b d .is p sp w g)
         ∙ ap (λ (r : Next). movedIn (messagesAfter (doingAt p k) j o s) i k j r y) z;
   };
+  taken = refl;
+  slot = refl;
 }
 
 -- `moved`
@@ -311,9 +306,9 @@ module _ (t : List ℕ) (n : ℕ) (s : State) (i k j : ℕ) (y : Tally) {o : Ord
         ∙ sym (ap bare (pick-true (isLive (getD (s .orders) i noOrder)) _ _ v));
   }
 
-module _ {t : List ℕ} {n : ℕ} {l : List Message} {w : ℕ} {o : Order} {k j : ℕ} {y : Tally} {r : Moved} where
-  pub moves-starts : o .root ≡ 0 → {new : Order} {z : Tally} → StartsOrder t new → z ≡ countStart y → MovesFrom t n new l w k j z r → Moves t n o l w k j y r
-  moves-starts h a b c = record { is = λ s i f g e. take-starts t n s i k j y e h a b (c .is s i f g) }
+module _ {t : List ℕ} {n : ℕ} {l : List Message} {w : ℕ} {o : Order} {i k j : ℕ} {y : Tally} {r : Change} where
+  pub moves-starts : o .root ≡ 0 → {new : Order} {z : Tally} → StartsOrder t new → z ≡ countStart y → MovesFrom t n new l w i k j z r → Moves t n o l w i k j y r
+  moves-starts h a b c = record { is = λ s f g e. take-starts t n s i k j y e h a b (c .is s f g); taken = c .taken; slot = c .slot }
 
-  pub moves-steps : (o .root ≡ 0 → ⊥) → MovesFrom t n o l w k j y r → Moves t n o l w k j y r
-  moves-steps h c = record { is = λ s i f g e. take-steps t n s i k j y e h (c .is s i f g) }
+  pub moves-steps : (o .root ≡ 0 → ⊥) → MovesFrom t n o l w i k j y r → Moves t n o l w i k j y r
+  moves-steps h c = record { is = λ s f g e. take-steps t n s i k j y e h (c .is s f g); taken = c .taken; slot = c .slot }

@@ -1,8 +1,9 @@
 -- The code's answers for a step, by what the definitions say. Assumes nothing: these are definitions.
 use Prim.Native.Nat.{ℕ, _+_, _*_, _<_, _≤_}
-use mathlib.Core.Bool.{Bool, true, false}
+use mathlib.Core.Bool.{Bool, true, false, cond}
 use mathlib.Core.List.{List, []}
 use mathlib.Core.Path.{_≡_}
+use lib.Dec.{eqb}
 use lib.ListN.{getD}
 use Rattle.plan.specs.Tree.{Plan, size}
 use Rattle.order.specs.declared.Order.{Order}
@@ -13,7 +14,8 @@ use Rattle.order.specs.State.{noOrder, valueOf}
 use Rattle.machine.specs.declared.Mail.{Mail}
 use Rattle.machine.specs.declared.Message.{Message}
 use Rattle.machine.specs.declared.State.{State}
-use Rattle.step.specs.declared.Moved.{Moved}
+use Rattle.machine.specs.declared.Step.{Step}
+use Rattle.step.specs.declared.Change.{Change}
 use Rattle.step.specs.declared.Stepped.{Stepped}
 use Rattle.machine.specs.declared.Tally.{Tally}
 use Rattle.machine.specs.Calls as calls
@@ -80,28 +82,38 @@ movedIn s i k j m y =
       tally = countEnd (m .end) y;
     }
 
--- the answer, the state and the tally where a step came to this
-abbrev pub putIn : State → (slot activity place : ℕ) → Moved → Stepped
-putIn s i k j r =
-    record {
-      answer = answering (offering i k j) (r .end);
-      state = withOrder i (r .order) (withMessages (r .messages) (r .waiting) s);
-      tally = r .tally;
-    }
+-- what a step that is refused with this answer changes: nothing
+abbrev pub nothingBy : Step → List Message → (waiting : ℕ) → Tally → Change
+nothingBy x messages waiting y = record { answer = x; order = noOrder; messages = messages; waiting = waiting; tally = y }
 
--- r is what the step of activity k in the order o comes to, in any state with these messages
-pub record MovesFrom (t : List ℕ) (activities : ℕ) (o : Order) (messages : List Message) (waiting k j : ℕ) (y : Tally) (r : Moved) : Type 0 where
-  pub is : (s : State) (i : ℕ) → s .messages ≡ messages → s .waiting ≡ waiting → StepsSlot t activities s o i k j y (putIn s i k j r)
+-- a state with a change put in: a step that is refused leaves it; one that is taken leaves its order in its slot, and the messages
+abbrev pub putIn : State → Change → State
+putIn s r = cond (eqb (r .answer .refusal) 0) (withOrder (r .answer .slot) (r .order) (withMessages (r .messages) (r .waiting) s)) s
+
+-- the answer, the state and the tally where a step changes this
+abbrev pub changed : State → Change → Stepped
+changed s r = record { answer = r .answer; state = putIn s r; tally = r .tally }
+
+-- r is what the step of activity k in the order o of slot i changes, in any state with these messages
+pub record MovesFrom (t : List ℕ) (activities : ℕ) (o : Order) (messages : List Message) (waiting i k j : ℕ) (y : Tally) (r : Change) : Type 0 where
+  pub is : (s : State) → s .messages ≡ messages → s .waiting ≡ waiting → StepsSlot t activities s o i k j y (changed s r)
+  pub taken : r .answer .refusal ≡ 0
+  pub slot : r .answer .slot ≡ i
 
 -- r is what the offer with this slot, activity and place leads to
 pub record TakesOffer (t : List ℕ) (activities : ℕ) (s : State) (i k j : ℕ) (y : Tally) (r : Stepped) : Type 0 where
   pub is : (p : Plan) (c : ℕ) → Spelled p activities t → inLimits s ≡ true → choosing (offersOf p s) c ≡ chosen (offering i k j)
       → r ≡ bare (calls.taken p (offering i k j) s y)
 
--- r is what the offer of an activity and a place comes to in a slot with the order o
-pub record Moves (t : List ℕ) (activities : ℕ) (o : Order) (messages : List Message) (waiting k j : ℕ) (y : Tally) (r : Moved) : Type 0 where
-  pub is : (s : State) (i : ℕ) → s .messages ≡ messages → s .waiting ≡ waiting → o ≡ getD (s .orders) i noOrder → TakesOffer t activities s i k j y (putIn s i k j r)
+-- r is what the offer of an activity and a place changes in slot i with the order o
+pub record Moves (t : List ℕ) (activities : ℕ) (o : Order) (messages : List Message) (waiting i k j : ℕ) (y : Tally) (r : Change) : Type 0 where
+  pub is : (s : State) → s .messages ≡ messages → s .waiting ≡ waiting → o ≡ getD (s .orders) i noOrder → TakesOffer t activities s i k j y (changed s r)
+  pub taken : r .answer .refusal ≡ 0
+  pub slot : r .answer .slot ≡ i
 
--- r is what the step with a choice gives in a state that has the plan with this table and these flags
-pub record StepsBy (t flags : List ℕ) (activities : ℕ) (s : State) (c : ℕ) (y : Tally) (r : Stepped) : Type 0 where
-  pub is : Has t flags activities s → r ≡ bare (calls.step c s y)
+-- r is what the step with a choice changes in a state that has the plan with this table and these flags. Whatever the table: a step that is taken
+-- has one of the 16 slots, and one that is refused changes nothing.
+pub record StepsBy (t flags : List ℕ) (activities : ℕ) (s : State) (c : ℕ) (y : Tally) (r : Change) : Type 0 where
+  pub is : Has t flags activities s → changed s r ≡ bare (calls.step c s y)
+  pub within : r .answer .refusal ≡ 0 → r .answer .slot < 16
+  pub nothing : (r .answer .refusal ≡ 0 → ⊥) → r ≡ nothingBy (r .answer) (s .messages) (s .waiting) y

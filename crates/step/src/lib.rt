@@ -5,16 +5,15 @@ use machine::Message;
 use machine::State;
 use machine::Step;
 use machine::Tally;
-use machine::letters;
 use machine::limits;
+use machine::made;
 use order::End;
 use order::Order;
 use plan::Answer;
-ghost use mathlib.Core.List.{[]};
 ghost use mathlib.Core.Path.{_≡_};
 ghost use Rattle.machine.specs.Calls as calls;
 ghost use Rattle.machine.specs.Calls.{refusing};
-ghost use Rattle.step.specs.Stepping.{bare, StepsBy};
+ghost use Rattle.step.specs.Stepping.{bare, nothingBy, StepsBy};
 
 // What a step gives: its answer, the state and the tally.
 pub struct Stepped {
@@ -23,114 +22,125 @@ pub struct Stepped {
     pub tally: Tally,
 }
 
-// What a step comes to: its order and how it ended, if it did, the messages and the tally.
-pub struct Moved {
+// What a step changes: its answer, its order and the messages and the tally afterwards. Where it is refused, the messages and the tally are what they
+// were, and the order is none of the state's.
+pub struct Change {
+    pub answer: Step,
     pub order: Order,
-    pub end: End,
     pub messages: [Message; 64],
     pub waiting: usize,
     pub tally: Tally,
 }
 
-// A step that is refused.
-fn refused(state: State, number: u32, tally: Tally) -> Stepped
-    ensures { λ r. ⌜ r ≡ bare (record { answer = refusing number; state = state; tally = tally; log = [] }) ⌝ }
+// The answer of a step that is refused.
+fn refused(number: u32) -> Step
+    ensures { λ r. ⌜ r ≡ refusing number ⌝ }
 {
-    Stepped {
-        answer: Step {
-            refusal: number,
-            slot: 0,
-            activity: 0,
-            place: 0,
-            end: End::None,
-        },
-        state,
+    Step {
+        refusal: number,
+        slot: 0,
+        activity: 0,
+        place: 0,
+        end: End::None,
+    }
+}
+
+// What a step that is refused changes: nothing.
+fn unchanged(answer: Step, messages: [Message; 64], waiting: usize, tally: Tally) -> Change
+    ensures { λ r. ⌜ r ≡ nothingBy answer messages waiting tally ⌝ }
+{
+    let order = made::no_order();
+    Change {
+        answer,
+        order,
+        messages,
+        waiting,
         tally,
     }
 }
 
-// Takes the step with a choice, in a state that has the plan with this table and these flags. What moves is reckoned from its order and the
-// messages, and the state is changed where it lies: it goes by value, so that each call with it copies it.
+// What the step with a choice changes, in a state that has the plan with this table and these flags. A state goes by value, so that each call with it
+// copies it: what changes is handed back, and the caller puts it into its own.
 pub fn step_by(
     table: &[u32; 11584],
     flags: &[u8; 16],
     activities: usize,
-    mut state: State,
+    state: State,
     choice: usize,
     tally: Tally,
-) -> Stepped
+) -> Change
     ensures { λ r. ⌜ StepsBy (now (table .entry)) (now (flags .entry)) activities state choice tally r ⌝ }
 {
-    let orders = state.orders;
-    let slots = stepping::slots_of(orders);
     let x = offer::offer_by(table, flags, activities, state, choice);
+    let messages = state.messages;
+    let waiting = state.waiting;
     if x.refusal != 0 {
-        return Stepped {
-            answer: x,
-            state,
-            tally,
-        };
+        return unchanged(x, messages, waiting, tally);
     }
     let slot = x.slot;
     if 16 <= slot {
-        return Stepped {
-            answer: x,
-            state,
-            tally,
-        };
+        let none = refused(17);
+        return unchanged(none, messages, waiting, tally);
     }
-    let order = state.orders[slot];
-    let messages = state.messages;
-    let waiting = state.waiting;
-    let m = stepping::moved(
+    // an index into the state's own orders would copy the state
+    let orders = state.orders;
+    let order = orders[slot];
+    stepping::moved(
         table,
         activities,
         order,
         messages,
         waiting,
+        slot,
         x.activity,
         x.place,
         tally,
-    );
-    let end = m.end;
-    let next = m.order;
-    let rest = m.messages;
-    let y = m.tally;
-    state.orders[slot] = next;
-    state.messages = rest;
-    state.waiting = m.waiting;
-    Stepped {
-        answer: Step {
-            refusal: 0,
-            slot,
-            activity: x.activity,
-            place: x.place,
-            end,
-        },
-        state,
-        tally: y,
-    }
+    )
 }
 
-// Takes the step with a choice.
+// Takes the step with a choice. What it changes is put into a state whose orders are changed beside it, as they are looked into in `step_by`.
 pub fn take_step(state: State, choice: usize, tally: Tally) -> Stepped
     ensures { λ r. ⌜ r ≡ bare (calls.step choice state tally) ⌝ }
 {
     let mut table = [0u32; 11584];
     let mut flags = [0u8; 16];
-    let messages = state.messages;
-    let places = letters::message_places(messages);
     let a = limits::planned(state, &mut table, &mut flags);
-    match a {
-        Answer::Refused {
-            number: _,
-            place: _,
-        } => refused(state, 17, tally),
-        Answer::Accepted {
-            variables: _,
-            activities,
-            nodes: _,
-        } => step_by(&table, &flags, activities, state, choice, tally),
+    let Answer::Accepted {
+        variables: _,
+        activities,
+        nodes: _,
+    } = a
+    else {
+        let answer = refused(17);
+        return Stepped {
+            answer,
+            state,
+            tally,
+        };
+    };
+    let c = step_by(&table, &flags, activities, state, choice, tally);
+    let answer = c.answer;
+    let y = c.tally;
+    if answer.refusal != 0 {
+        return Stepped {
+            answer,
+            state,
+            tally: y,
+        };
+    }
+    let slot = answer.slot;
+    let order = c.order;
+    let rest = c.messages;
+    let mut orders = state.orders;
+    orders[slot] = order;
+    let mut next = state;
+    next.orders = orders;
+    next.messages = rest;
+    next.waiting = c.waiting;
+    Stepped {
+        answer,
+        state: next,
+        tally: y,
     }
 }
 

@@ -1,7 +1,8 @@
 // A step that is on offer is taken: what it does to the messages, to its order and to the tally.
-use super::Moved;
+use super::Change;
 use machine::Mail;
 use machine::Message;
+use machine::Step;
 use machine::Tally;
 use machine::letters;
 use machine::made;
@@ -9,7 +10,7 @@ use order::End;
 use order::Next;
 use order::Order;
 ghost use Prim.Native.Nat.{_<_};
-ghost use lib.ListN.{length, getD};
+ghost use lib.ListN.{getD};
 ghost use mathlib.Core.Path.{_≡_};
 ghost use Rattle.machine.specs.Calls.{counted as countedOf, countStart, countEnd};
 ghost use Rattle.machine.specs.State.{noMessage};
@@ -96,13 +97,6 @@ fn messages_after(
         return letters::without_message(messages, waiting, place);
     }
     Mail { messages, waiting }
-}
-
-// The orders have their 16 slots.
-pub(crate) fn slots_of(orders: [Order; 16]) -> usize
-    ensures { λ r. ⌜ (r ≡ 16) × (length orders ≡ 16) ⌝ }
-{
-    16
 }
 
 // The values of the message at a place; none where there is no such place.
@@ -206,18 +200,19 @@ fn next_of(
     order::step_order(table, activities, o, activity)
 }
 
-// What the step of an activity of an order comes to: the order takes the values of its message and moves on, and the messages move too.
+// What the step of an activity of the order in a slot changes: the order takes the values of its message and moves on, and the messages move too.
 fn moved_from(
     table: &[u32; 11584],
     activities: usize,
     order: Order,
     messages: [Message; 64],
     waiting: usize,
+    slot: usize,
     activity: usize,
     place: usize,
     tally: Tally,
-) -> Moved
-    ensures { λ r. ⌜ MovesFrom (now (table .entry)) activities order messages waiting activity place tally r ⌝ }
+) -> Change
+    ensures { λ r. ⌜ MovesFrom (now (table .entry)) activities order messages waiting slot activity place tally r ⌝ }
 {
     let n = next_of(table, activities, messages, order, activity, place);
     let w = messages_after(table, activities, messages, waiting, order, activity, place);
@@ -225,27 +220,34 @@ fn moved_from(
     let o = n.order;
     let rest = w.messages;
     let y = count_end(end, tally);
-    Moved {
+    Change {
+        answer: Step {
+            refusal: 0,
+            slot,
+            activity,
+            place,
+            end,
+        },
         order: o,
-        end,
         messages: rest,
         waiting: w.waiting,
         tally: y,
     }
 }
 
-// What the offer of an activity and a place comes to in the slot with this order: it is taken by the order, or by a new one where the slot is free.
+// What the offer of an activity and a place changes in the slot with this order: it is taken by the order, or by a new one where the slot is free.
 pub(crate) fn moved(
     table: &[u32; 11584],
     activities: usize,
     order: Order,
     messages: [Message; 64],
     waiting: usize,
+    slot: usize,
     activity: usize,
     place: usize,
     tally: Tally,
-) -> Moved
-    ensures { λ r. ⌜ Moves (now (table .entry)) activities order messages waiting activity place tally r ⌝ }
+) -> Change
+    ensures { λ r. ⌜ Moves (now (table .entry)) activities order messages waiting slot activity place tally r ⌝ }
 {
     if order.root == 0 {
         let new = order::started_order(table);
@@ -256,6 +258,7 @@ pub(crate) fn moved(
             new,
             messages,
             waiting,
+            slot,
             activity,
             place,
             y,
@@ -267,6 +270,7 @@ pub(crate) fn moved(
         order,
         messages,
         waiting,
+        slot,
         activity,
         place,
         tally,

@@ -29,13 +29,19 @@ run-by-spec =
     (λ c. search needs)
     -- step-by-requires
     (λ c κs. search needs)
+    -- returns-2
+    (λ c. search cases)
+    -- mul-order
+    (λ c.
+    let within = c .before .before .before .before .before .before .step-by .ensures .within (c .before .before .before .if2 .left) in
+    search needs)
+    -- element-set-from-order
+    (λ c. c .before .before .before .before .before .before .step-by .ensures .within (c .before .before .before .if2 .left))
     -- sub-budget
     (λ c. search needs)
     -- loop-less
     (λ c. search needs)
     -- loop-again
-    (λ c. search cases)
-    -- returns-2
     (λ c. search cases)
     -- returns-3
     (λ c. search cases))

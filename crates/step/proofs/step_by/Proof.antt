@@ -1,31 +1,38 @@
 -- `step::step_by` meets its contract. Assumes nothing.
 use borrow.Author.Needs.{needs}
+use Rattle.machine.proofs.Whole.{state-whole}
 use Rattle.step.proofs.StepReturns.{step-taken, step-beyond, step-refused}
 use Rattle.step.proofs.step_by.Statement.{statement}
 use Rattle.step.proofs.step_by.Tie as tie
 
+ruleset cases = (step-taken, step-beyond, step-refused)
+
 pub step-by-spec : {M : Type 1} → statement M
 step-by-spec =
     tie.close (tie.spec
-    -- slots-of-requires
-    (λ c κs. search needs)
     -- offer-by-requires
     (λ c κs. search needs)
+    -- unchanged-requires
+    (λ c κs. search needs)
     -- returns
-    (λ c. step-refused _ (c .before .before .offer-by .ensures) (c .if1 .taken))
+    (λ c. search cases)
+    -- refused-requires
+    (λ c κs. search needs)
+    -- unchanged-requires-2
+    (λ c κs. search needs)
     -- returns-2
-    (λ c. step-beyond _ (c .before .before .before .offer-by .ensures) (search needs) (search needs) (search needs))
+    (λ c.
+    let start = c .before .before .before .before .before .before .before in
+    let l = state-whole (start .args .state) _ (start .good .1 .1 .1 .0) .orders-long in
+    search cases)
     -- mul-order
     (λ c. search needs)
-    -- element-copy-out-order
+    -- array-copy-out-order
     (λ c. search needs)
     -- moved-requires
     (λ c κs. search needs)
-    -- mul-next
-    (λ c. search needs)
-    -- element-set-from-next
-    (λ c. search needs)
     -- returns-3
     (λ c.
-    let seen = c .before .before .before .before .before .before .before .before .before in
-    step-taken _ (seen .offer-by .ensures) (search needs) (search needs) (search needs) _ (c .before .before .before .moved .ensures)))
+    let start = c .before .before .before .before .before .before .before .before in
+    let l = state-whole (start .args .state) _ (start .good .1 .1 .1 .0) .orders-long in
+    search cases))
