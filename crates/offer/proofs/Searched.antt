@@ -57,10 +57,6 @@ fitting-own p o m pick l k = refl
 fitting-own p o m scope l k = refl
 fitting-own p o m (arm a b vs) l k = one-empties (fits p o a b vs m) (unchecked p o vs)
 
-cond-not : {A : Type 0} (b : Bool) (x y : A) → cond (not b) x y ≡ cond b y x
-cond-not true x y = refl
-cond-not false x y = refl
-
 or-else-nothing : (c : Receiver) → orElse Receiver.Nothing c ≡ c
 unfolding orElse
 or-else-nothing c = refl

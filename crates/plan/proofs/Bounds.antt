@@ -115,6 +115,3 @@ own-nodes-spelled own within = omega (arith, own-nodes own within, spell-long (o
 
 pub act-nodes-spelled : (a : Act) → nodes a ≤ length (spell (actNumbers a))
 act-nodes-spelled a = omega (arith, act-nodes a, spell-long (actNumbers a))
-
-pub acts-nodes-spelled : (l : Acts) → nodesAll l ≤ length (spell (actsNumbers l))
-acts-nodes-spelled l = omega (arith, acts-nodes l, spell-long (actsNumbers l))

@@ -74,9 +74,6 @@ module _ {r : Field} (g : Found ℕ) (f : ℕ → ℕ → Found ℕ) (e : r ≡ 
   unfolding fieldOf
   handed o = rw (field-no g e o) o
 
-  pub gone-on : {value next : ℕ} → r ≡ Got value next → fieldOf (andThen g f) ≡ fieldOf (f value next)
-  gone-on o = rw (field-got g e o)
-
 -- `field_at`
 module _ {r : Field} (s : List ℕ) (least limit at : ℕ) (e : r ≡ fieldOf (numberIn s at)) where
   pub field-handed : {number place : ℕ} → r ≡ Field.Refused number place → r ≡ fieldOf (fieldIn s least limit at)

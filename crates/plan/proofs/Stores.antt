@@ -32,10 +32,6 @@ padded-snoc l x =
     let k : 0 + (0 + length l) ≡ length l = omega arith in
     store-snoc l 0 0 x (replicate 4 0) ∙ ap (λ (j : ℕ). set (store l 0 0 (replicate 4 0)) j x) k
 
-pub length-padded : (l : List ℕ) → length (padded l) ≡ 4
-unfolding padded
-length-padded l = length-store l 0 0 (replicate 4 0)
-
 pub length-snoc : (l : List ℕ) (x : ℕ) → length (l ++ (x ∷ [])) ≡ length l + 1
 length-snoc l x = length-append l (x ∷ [])
 
@@ -100,9 +96,6 @@ chosen-at (f ∷ l) k (suc v) x e =
       | yes o ↦ rw (eq-eqb f 1 o, ne-eqb x k (λ q. omega arith)) r
       | no n ↦ rw (ne-eqb f 1 n) r
     ]
-
-pub among-chosen : (flags : List ℕ) (v : ℕ) → length flags ≡ 16 → v < 16 → among v (chosen 0 flags) ≡ eqb (getD flags v 0) 1
-among-chosen flags v l h = chosen-at flags 0 v v (omega arith)
 
 -- each of the blank flags is 0
 pub getD-blank : (n j : ℕ) → getD {A = ℕ} (replicate n 0) j 0 ≡ 0

@@ -136,6 +136,3 @@ module _ (s : List ℕ) {r : plan.Answer} {vars acts m : ℕ} (e : r ≡ answerO
     rows-yes-table y {t} w f =
         let c = plan-cut (x .p) l s (tableOf (x .p)) (accepted-is-spelled s y (x .is)) (accepted-spells s (x .is)) (acts + m) counted in
         f ∙ rw (table-is (readPlan s) (x .is) w, c, x .is, le-ltb (length out) (length (rowsOf (x .p))) room)
-
-    pub rows-yes-long : (v : List ℕ) {out₁ : List ℕ} → out₁ ≡ sets out 0 v → length out₁ ≡ length out
-    rows-yes-long v f = ap length f ∙ length-sets out 0 v
