@@ -1,6 +1,6 @@
 /* Moonhalyard: a proved order engine, for C and for whatever calls C. Link with the archive that `rt staticlib boundary` writes,
    for moonhalyard_write and moonhalyard_rows with that of `rt staticlib boundary_writer`, and for moonhalyard_mend with that of `rt staticlib
-   boundary_mend`; all may be linked into one program.
+   boundary_mend`; all may be linked into one program. The archives are for x86-64 Linux, and need nothing but memcpy, memmove and memset.
 
    A plan is bytes. A state is 11,964 bytes that the caller keeps: it holds the plan, the orders, the messages that wait and the tally. No call
    keeps anything of its own, so a state may be copied, written to a file and read back, and two states have nothing to do with each other.
@@ -41,10 +41,25 @@ extern "C" {
      36          4096       the plan's bytes
      4132        8          how many messages wait
      4140        64 x 28    messages, oldest first: partner, operation, count, four values, 4 bytes each
-     5932        16 x 377   orders by their slots: the root's mark 1 (0: the slot is free), marks 256, values 16 x 4, bound 16, remembered 32,
-                            how many of these 8
+     5932        16 x 377   orders by their slots
 
-   Bytes of another length or with another mark hold no state: every call but load answers 17 for them and leaves them as they are. */
+   The bytes of an order, counted from its first:
+
+     0           1          the root's mark: 0 the slot is free, 1 running, 4 faulted, 5 undoing, 6 running its fault part
+     1           256        a mark for each activity and arm, by its number
+     257         16 x 4     the values of the variables
+     321         16         for each variable, 1 where it is bound and 0 where it is not
+     337         32         the numbers of the scopes whose closings are remembered, oldest first
+     369         8          how many of these there are
+
+   The marks of activities: 0 not begun, or over; 1 awaits its step, but of a sequence or a flow: runs, and of a scope: its body runs; 2 a choose or a repeat
+   has decided, or a pick has taken a message, and what stands within runs; and of a scope 3 its body is done and its close awaits its step, 4 faulted and
+   waiting for inner scopes, 5 faulted and undoing, 6 running its fault part, 7 stopped and waiting for inner scopes, 8 stopped and undoing. Arms have 0.
+
+   Within its limit is: a plan's length up to 4,096; up to 64 messages that wait, each with a partner and an operation up to 63, a count of 1 to 4, and 0
+   in the values beyond it; a root's mark of those above; marks up to 8; bound 0 or 1; up to 32 closings.
+
+   Bytes of another length or with another mark in front hold no state: every call but load answers 17 for them and leaves them as they are. */
 #define MOONHALYARD_STATE 11964
 #define MOONHALYARD_TALLY_STARTED 8
 #define MOONHALYARD_TALLY_WELL 12
@@ -78,8 +93,9 @@ uint32_t moonhalyard_post(uint8_t *state, size_t size, uint32_t partner, uint32_
 uint32_t moonhalyard_collect(uint8_t *state, size_t size, uint8_t *message, size_t room);
 
 /* The step that a choice would take, not taken. Choices count from 0. The answer is
-     slot times 2^24 + activity times 2^16 + message place times 2^8        (the place is 0 where no message is taken)
-   or a refusal (17, 10, 11, 12) times 2^32. */
+     slot times 2^24 + activity times 2^16 + message place times 2^8
+   or a refusal (17, 10, 11, 12) times 2^32. Where the slot is free, the step starts an order there. A step of a receive or an arm takes the message at
+   the place, counted from 0, oldest first; of any other activity the place is 0 and says nothing (moonhalyard_show tells where its code stands). */
 uint64_t moonhalyard_offer(const uint8_t *state, size_t size, uint64_t choice);
 
 /* How many steps are offered, and 2^32 more where something is held for want of room; or 17 times 2^40. */
