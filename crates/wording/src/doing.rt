@@ -52,7 +52,8 @@ fn put_mark(out: &mut [u8; 4096], used: usize, mark: u8) -> usize {
     }
 }
 
-// An arm has no mark: it is open while its pick is active, and runs where what stands within it runs.
+// An arm has no mark: it is open while its pick is active, and runs where its pick is inside one of its arms and what stands within this one runs. In
+// a stopped body the pick is idle, and its arm with it, though a scope within may run on.
 fn put_arm(
     out: &mut [u8; 4096],
     used: usize,
@@ -60,11 +61,14 @@ fn put_arm(
     marks: &[u8; 256],
     n: usize,
 ) -> usize {
-    if mark_at(marks, parent_of(table, n)) == 1 {
+    let pick = mark_at(marks, parent_of(table, n));
+    if pick == 1 {
         return put_column(out, used, b"waiting for a message");
     }
-    if is_running(marks, n, end_of(table, n)) {
-        return put_column(out, used, b"running");
+    if pick == 2 {
+        if is_running(marks, n, end_of(table, n)) {
+            return put_column(out, used, b"running");
+        }
     }
     put_column(out, used, b"")
 }

@@ -2,6 +2,7 @@
 // place `used` of `out`, and answers the place after.
 mod doing;
 mod drawing;
+mod holding;
 mod messages;
 mod naming;
 mod offering;

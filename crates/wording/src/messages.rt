@@ -40,15 +40,11 @@ pub fn put_message(out: &mut [u8; 4096], used: usize, m: Message) -> usize {
     put_values(out, at, &values, m.count, b" ")
 }
 
-// A message in words.
+// A message in words. Its partner and operation are those of the receive that takes it.
 fn put_in_words(out: &mut [u8; 4096], used: usize, place: usize, m: Message) -> usize {
     let values = m.values;
     let mut at = put(out, used, b"; takes message");
     at = put_next(out, at, place as u64);
-    at = put(out, at, b", from partner");
-    at = put_next(out, at, m.partner as u64);
-    at = put(out, at, b", operation");
-    at = put_next(out, at, m.operation as u64);
     at = put(out, at, b", with");
     put_values(out, at, &values, m.count, b" ")
 }

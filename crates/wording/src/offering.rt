@@ -1,5 +1,6 @@
 // What is offered: as numbers, and in words.
 use super::drawing::put_activity;
+use super::holding::put_full;
 use super::messages::put_taken;
 use super::output::put;
 use super::output::put_aligned;
@@ -164,10 +165,10 @@ fn put_choices(
         at = put_choice(out, at, names, table, flags, state, choice, x);
         choice += 1;
     }
-    put_byte(out, at, 10)
+    at
 }
 
-// All that is offered, in words, and a blank line.
+// All that is offered, in words; where something is held, what has no room left; and a blank line.
 pub fn put_offers(out: &mut [u8; 4096], used: usize, names: &[u8; 4752], state: State) -> usize {
     let mut table = [0u32; 11584];
     let mut flags = [0u8; 16];
@@ -185,7 +186,11 @@ pub fn put_offers(out: &mut [u8; 4096], used: usize, names: &[u8; 4752], state: 
         } => {
             let mut at = put_count(out, used, b"offers", o);
             at = put_byte(out, at, 10);
-            put_choices(out, at, names, &table, &flags, activities, state, o.many)
+            at = put_choices(out, at, names, &table, &flags, activities, state, o.many);
+            if o.held {
+                at = put_full(out, at, state);
+            }
+            put_byte(out, at, 10)
         }
     }
 }

@@ -178,7 +178,7 @@ fn with_live(live: u64, root: u8) -> u64 {
 }
 
 // How many orders are live.
-fn live_of(orders: [Order; 16]) -> u64 {
+pub(crate) fn live_of(orders: [Order; 16]) -> u64 {
     let mut live = 0;
     let mut slot = 0;
     while slot < 16 {

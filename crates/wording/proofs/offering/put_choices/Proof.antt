@@ -23,5 +23,4 @@ put-choices-spec =
     (λ c. omega arith)
     (λ c. omega arith)
     (λ c. tt)
-    (λ c κs. search needs)
     (λ c. tt))
