@@ -180,5 +180,7 @@ pub fn planned(state: State, table: &mut [u32; 11584], flags: &mut [u8; 16]) -> 
             place: 0,
         };
     }
-    accepted(&state.plan, state.length, table, flags)
+    // the plan is taken out: lent from within the state, it would have the whole state copied
+    let bytes = state.plan;
+    accepted(&bytes, state.length, table, flags)
 }

@@ -1,7 +1,6 @@
 -- `machine::limits::planned` meets its contract. Assumes nothing.
 use borrow.Author.Needs.{needs}
 use Rattle.machine.proofs.Called.{ruled-length, planned-none, planned-blank, planned-bare, planned-read, planned-rows, planned-flags}
-use Rattle.machine.proofs.Whole.{state-whole}
 use Rattle.machine.proofs.limits.planned.Statement.{statement}
 use Rattle.machine.proofs.limits.planned.Tie as tie
 
@@ -14,10 +13,9 @@ planned-spec =
     (λ c κs. search needs)
     -- returns
     (λ c. search cases)
+    -- slice-aggregate-accepted
+    (λ c. search needs)
     -- accepted-requires
-    (λ c κs.
-    let start = c .before .before .before .before .before .before .before in
-    let l = state-whole (start .args .t1) _ (start .good .0) .plan-long in
-    search (cases, needs))
+    (λ c κs. search (cases, needs))
     -- returns-2
     (λ c. search cases))
