@@ -7,7 +7,7 @@ use lib.ListN.{length}
 use Rattle.plan.specs.declared.Answer.{Answer}
 use Rattle.plan.specs.declared.Answer.the-variants.{Accepted}
 use Rattle.plan.specs.Found.{Found}
-use Rattle.plan.specs.Shown.{shownPart, shownStart, shownRefusal}
+use Rattle.show.specs.Shown.{shownPart, shownStart, shownRefusal}
 use Rattle.plan.specs.Tree.{Plan}
 
 -- a number and a place, which has 32 bits

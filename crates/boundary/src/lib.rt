@@ -60,7 +60,7 @@ pub extern "C" fn moonhalyard_show(s: &[u8], k: u32) -> u64
 {
     let mut start: usize = 0;
     let mut refusal = 0u32;
-    let part = plan::show(s, k as usize, &mut start, &mut refusal);
+    let part = show::show(s, k as usize, &mut start, &mut refusal);
     let length = part.len();
     triple_of(refusal, start, length)
 }
@@ -140,7 +140,7 @@ pub extern "C" fn moonhalyard_post(
         count,
         values,
     };
-    let r = machine::post(k.state, m);
+    let r = mail::post(k.state, m);
     if r.refusal == 0 {
         store::pack(r.state, k.tally, state);
         return 0;
@@ -159,7 +159,7 @@ pub extern "C" fn moonhalyard_collect(state: &mut [u8], message: &mut [u8]) -> u
         return 18;
     }
     let k = store::unpack(&state[..]);
-    let r = machine::collect(k.state);
+    let r = mail::collect(k.state);
     store::write_message(r.message, message);
     if r.refusal == 0 {
         store::pack(r.state, k.tally, state);

@@ -1,14 +1,8 @@
-// What every command shares: the desk with more to write, and what is wrong with a line.
-use super::Desk;
-use text::Trouble;
-use wording::put_error;
-
-// The desk, of which nothing changed but what waits to be written.
-pub(crate) fn shown(desk: Desk, used: usize) -> Desk {
-    let mut d = desk;
-    d.used = used;
-    d
-}
+// What is wrong with a line.
+use commands::Trouble;
+use drawing::put_error;
+use papers::Desk;
+use papers::shown;
 
 fn put_trouble(out: &mut [u8; 4096], used: usize, number: u64, why: Trouble) -> usize {
     match why {

@@ -1,33 +1,19 @@
 // The console of the engine: the answer to each line, as docs/DESK.md tells it.
 mod answering;
-mod files;
 mod lists;
-mod mends;
-mod plans;
-mod reasons;
 mod taking;
-mod writing;
 
-use answering::shown;
 use answering::wrong;
+use commands::Alone;
+use commands::Command;
+use commands::Listed;
+use commands::Numbered;
+use commands::Worded;
+use drawing::put_error;
 use machine::State;
 use machine::Tally;
-pub use plans::new;
-use text::Alone;
-use text::Command;
-use text::Listed;
-use text::Numbered;
-use text::Worded;
-use wording::put_error;
-pub use writing::write;
-
-// The state that orders run on, the tally, how many bytes the last plan has, and how many bytes wait to be written.
-pub struct Desk {
-    pub state: State,
-    pub tally: Tally,
-    pub plan: usize,
-    pub used: usize,
-}
+use papers::Desk;
+use papers::shown;
 
 // A command that stands alone. (The lines after a write are its caller's to gather: here it has none.)
 fn answer_alone(
@@ -39,9 +25,9 @@ fn answer_alone(
     out: &mut [u8; 4096],
 ) -> Desk {
     match what {
-        Alone::Draw => plans::draw(desk, bytes, names, out),
-        Alone::Names => plans::names(desk, bytes, names, out),
-        Alone::Write => writing::write(desk, b"", number, bytes, names, out),
+        Alone::Draw => papers::draw(desk, bytes, names, out),
+        Alone::Names => papers::names(desk, bytes, names, out),
+        Alone::Write => papers::write(desk, b"", number, bytes, names, out),
         Alone::Collect => taking::collect(desk, out),
         Alone::Offer | Alone::Waiting | Alone::Tally | Alone::Orders | Alone::Offers => {
             let used = put_alone(desk, what, names, out);
@@ -75,10 +61,10 @@ fn answer_worded(
     out: &mut [u8; 4096],
 ) -> Desk {
     match what {
-        Worded::Plan => plans::load(desk, word, number, bytes, names, out),
-        Worded::Save => files::save(desk, word, number, out),
-        Worded::Open => files::open(desk, word, number, bytes, names, out),
-        Worded::Mend => mends::mend(desk, word, number, bytes, names, out),
+        Worded::Plan => papers::load(desk, word, number, bytes, names, out),
+        Worded::Save => papers::save(desk, word, number, out),
+        Worded::Open => papers::open(desk, word, number, bytes, names, out),
+        Worded::Mend => papers::mend(desk, word, number, bytes, names, out),
     }
 }
 
@@ -110,7 +96,7 @@ fn answer_numbered(
     out: &mut [u8; 4096],
 ) -> Desk {
     match what {
-        Numbered::Show => plans::show(desk, k, bytes, out),
+        Numbered::Show => papers::show(desk, k, bytes, out),
         Numbered::Step => taking::step(desk, k, out),
         Numbered::Order => answer_order(desk, k, number, names, out),
     }
@@ -140,7 +126,7 @@ pub fn answer(
     names: &mut [u8; 4752],
     out: &mut [u8; 4096],
 ) -> Desk {
-    let c = text::command_of(line);
+    let c = commands::command_of(line);
     match c {
         Command::Nothing => desk,
         Command::Wrong { why } => wrong(desk, number, why, out),

@@ -1,6 +1,6 @@
 // The numbers that a post or a run takes.
+use commands::Trouble;
 use text::Decimal;
-use text::Trouble;
 
 // What is found where a number may stand: one, with the place after it; the end of the line; or trouble.
 enum Next {

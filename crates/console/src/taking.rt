@@ -1,23 +1,23 @@
 // The commands that change a state: post, step, run and collect.
-use super::Desk;
 use super::answering::wrong;
 use super::lists::Numbers;
 use super::lists::numbers_of;
 use super::lists::rest_of;
+use commands::Trouble;
+use drawing::put;
+use drawing::put_byte;
+use drawing::put_next;
+use drawing::put_pair;
+use drawing::put_refusal;
 use machine::Collected;
 use machine::Message;
 use machine::State;
 use machine::Step;
 use machine::Tally;
 use order::End;
+use papers::Desk;
 use run::Ran;
-use text::Trouble;
-use wording::put;
-use wording::put_byte;
 use wording::put_message;
-use wording::put_next;
-use wording::put_pair;
-use wording::put_refusal;
 
 // A count as a message has it.
 fn narrow(count: usize) -> u32 {
@@ -39,7 +39,7 @@ fn message_of(numbers: &[u32; 1001], count: usize) -> Message {
 
 fn posted(desk: Desk, m: Message, out: &mut [u8; 4096]) -> Desk {
     let before = desk.state;
-    let p = machine::post(before, m);
+    let p = mail::post(before, m);
     let used = put_refusal(out, desk.used, b"post", p.refusal);
     let state = p.state;
     let tally = desk.tally;
@@ -170,7 +170,7 @@ fn put_collected(out: &mut [u8; 4096], used: usize, c: Collected) -> usize {
 
 pub(crate) fn collect(desk: Desk, out: &mut [u8; 4096]) -> Desk {
     let before = desk.state;
-    let c = machine::collect(before);
+    let c = mail::collect(before);
     let used = put_collected(out, desk.used, c);
     let state = c.state;
     let tally = desk.tally;

@@ -1,11 +1,11 @@
 // The desk: the console of the engine. It reads commands from standard input, one a line, and answers each on standard output (docs/DESK.md).
 mod page;
 
-use console::Desk;
+use commands::Alone;
+use commands::Command;
 use libc::STDIN_FILENO;
 use page::Page;
-use text::Alone;
-use text::Command;
+use papers::Desk;
 use text::Line;
 
 // The console; the text of a plan that comes in; the number of lines ended so far; how many bytes of the present line are kept; whether each line
@@ -41,14 +41,14 @@ fn more(n: u64) -> u64 {
 // A line as it was read: after a prompt, where it is no comment and not blank.
 fn put_echo(out: &mut [u8; 4096], used: usize, line: &[u8]) -> usize {
     let mut at = used;
-    let c = text::command_of(line);
+    let c = commands::command_of(line);
     if let Command::Nothing = c {
-        at = wording::put(out, at, line);
+        at = drawing::put(out, at, line);
     } else {
-        at = wording::put(out, at, b"> ");
-        at = wording::put(out, at, line);
+        at = drawing::put(out, at, b"> ");
+        at = drawing::put(out, at, line);
     }
-    wording::put_byte(out, at, 10)
+    drawing::put_byte(out, at, 10)
 }
 
 fn echoed(desk: Desk, echo: bool, line: &[u8], out: &mut [u8; 4096]) -> Desk {
@@ -61,12 +61,12 @@ fn echoed(desk: Desk, echo: bool, line: &[u8], out: &mut [u8; 4096]) -> Desk {
 
 // A line of a text, comment or not; a prompt alone for the blank one that ends it.
 fn put_text_echo(out: &mut [u8; 4096], used: usize, line: &[u8]) -> usize {
-    let mut at = wording::put_byte(out, used, 62);
+    let mut at = drawing::put_byte(out, used, 62);
     if 0 < line.len() {
-        at = wording::put_byte(out, at, 32);
+        at = drawing::put_byte(out, at, 32);
     }
-    at = wording::put(out, at, line);
-    wording::put_byte(out, at, 10)
+    at = drawing::put(out, at, line);
+    drawing::put_byte(out, at, 10)
 }
 
 fn text_echoed(desk: Desk, echo: bool, line: &[u8], out: &mut [u8; 4096]) -> Desk {
@@ -79,7 +79,7 @@ fn text_echoed(desk: Desk, echo: bool, line: &[u8], out: &mut [u8; 4096]) -> Des
 
 // Whether the lines that follow a line are a text.
 fn is_write(line: &[u8]) -> bool {
-    let c = text::command_of(line);
+    let c = commands::command_of(line);
     match c {
         Command::Alone { what } => is_write_word(what),
         Command::Nothing => false,
@@ -120,14 +120,14 @@ fn answered(
 
 fn put_spoilt(out: &mut [u8; 4096], used: usize, page: Page) -> usize {
     if page.long {
-        return wording::put_error(
+        return drawing::put_error(
             out,
             used,
             page.wrong,
             b"the line has more than 16000 characters",
         );
     }
-    wording::put_error(
+    drawing::put_error(
         out,
         used,
         page.wrong,
@@ -145,7 +145,7 @@ fn written_of(
 ) -> Desk {
     let used = page.used;
     if used <= text.len() {
-        return console::write(desk, &text[0..used], page.line, bytes, names, out);
+        return papers::write(desk, &text[0..used], page.line, bytes, names, out);
     }
     desk
 }
@@ -220,7 +220,7 @@ fn too_long(s: Session, out: &mut [u8; 4096]) -> Session {
     let page = s.page;
     let mut desk = s.desk;
     if page.line == 0 {
-        desk.used = wording::put_error(
+        desk.used = drawing::put_error(
             out,
             desk.used,
             s.lines,
@@ -351,7 +351,7 @@ fn closed(
 fn failed(s: Session, out: &mut [u8; 4096]) -> Session {
     let mut desk = s.desk;
     let number = more(s.lines);
-    desk.used = wording::put_error(out, desk.used, number, b"the input cannot be read");
+    desk.used = drawing::put_error(out, desk.used, number, b"the input cannot be read");
     let mut last = turned(s, desk, page::none());
     last.open = false;
     last
@@ -382,7 +382,7 @@ fn turn(
 fn flushed(s: Session, out: &[u8; 4096]) -> Session {
     let mut desk = s.desk;
     let page = s.page;
-    desk.used = wording::flush(out, desk.used);
+    desk.used = drawing::flush(out, desk.used);
     turned(s, desk, page)
 }
 
@@ -447,7 +447,7 @@ fn main() {
     let mut bytes = [0u8; 8000];
     let mut names = [0u8; 4752];
     let mut out = [0u8; 4096];
-    let desk = console::new();
+    let desk = papers::new();
     let start = Session {
         desk,
         page: page::none(),

@@ -1,8 +1,8 @@
 // Runs examples through the console and compares each answer with the one beside it. Standard input has a heading for each example, `# example `
 // and what it shows, and below it the commands with their answers, as data/scenarios.txt has them; other lines that begin with `#` are comments.
 // A line is written for each example, and at the end how many there were.
-use console::Desk;
 use libc::STDIN_FILENO;
+use papers::Desk;
 use text::Line;
 
 // The console; the number of lines ended so far; how many bytes of the present line are kept; the examples begun, and those that agreed, the
@@ -141,11 +141,11 @@ fn put_verdict(report: &mut [u8; 4096], used: usize, examples: u64, differs: u64
         return used;
     }
     if differs == 0 {
-        return wording::put(report, used, b": as expected\n");
+        return drawing::put(report, used, b": as expected\n");
     }
-    let mut at = wording::put(report, used, b": DIFFERS at line ");
-    at = wording::put_number(report, at, differs);
-    wording::put_byte(report, at, 10)
+    let mut at = drawing::put(report, used, b": DIFFERS at line ");
+    at = drawing::put_number(report, at, differs);
+    drawing::put_byte(report, at, 10)
 }
 
 fn agreed_with(s: Session) -> u64 {
@@ -162,7 +162,7 @@ fn agreed_with(s: Session) -> u64 {
 fn headed(s: Session, line: &[u8], report: &mut [u8; 4096]) -> Session {
     let agreed = agreed_with(s);
     let mut used = put_verdict(report, s.used, s.examples, s.differs);
-    used = wording::put(report, used, part(line, 10, line.len()));
+    used = drawing::put(report, used, part(line, 10, line.len()));
     let desk = s.desk;
     Session {
         desk,
@@ -294,17 +294,17 @@ fn run(
 // How many examples there were, and how many agreed.
 fn put_count(s: Session, report: &mut [u8; 4096]) -> usize {
     let mut used = put_verdict(report, s.used, s.examples, s.differs);
-    used = wording::put_number(report, used, s.examples);
-    used = wording::put(report, used, b" examples, ");
-    used = wording::put_number(report, used, agreed_with(s));
-    wording::put(report, used, b" as expected\n")
+    used = drawing::put_number(report, used, s.examples);
+    used = drawing::put(report, used, b" examples, ");
+    used = drawing::put_number(report, used, agreed_with(s));
+    drawing::put(report, used, b" as expected\n")
 }
 
 fn main() {
     let mut line = [0u8; 16002];
     let mut bytes = [0u8; 8000];
     let mut report = [0u8; 4096];
-    let desk = console::new();
+    let desk = papers::new();
     let start = Session {
         desk,
         lines: 0,
@@ -317,5 +317,5 @@ fn main() {
     };
     let last = run(start, &mut line, &mut bytes, &mut report);
     let used = put_count(last, &mut report);
-    wording::flush(&report, used);
+    drawing::flush(&report, used);
 }

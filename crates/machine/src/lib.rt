@@ -1,5 +1,4 @@
-// The state that orders run on, what a step answers, and the calls that take no step: load, post and collect.
-pub mod letters;
+// The state that orders run on, its limits, what the calls on it answer, and the call that makes one: load.
 pub mod limits;
 pub mod made;
 
@@ -112,52 +111,5 @@ pub fn load(s: &[u8]) -> Loaded
                 state,
             }
         }
-    }
-}
-
-// Posts a message.
-pub fn post(state: State, m: Message) -> Posted
-    ensures { λ r. ⌜ r ≡ calls.post m state ⌝ }
-{
-    let mut table = [0u32; 11584];
-    let mut flags = [0u8; 16];
-    let a = limits::planned(state, &mut table, &mut flags);
-    match a {
-        Answer::Refused {
-            number: _,
-            place: _,
-        } => Posted { refusal: 17, state },
-        Answer::Accepted {
-            variables: _,
-            activities: _,
-            nodes: _,
-        } => letters::post_by(state, m),
-    }
-}
-
-// Collects the oldest message for a partner that the plan never receives on.
-pub fn collect(state: State) -> Collected
-    ensures { λ r. ⌜ r ≡ calls.collect state ⌝ }
-{
-    let mut table = [0u32; 11584];
-    let mut flags = [0u8; 16];
-    let a = limits::planned(state, &mut table, &mut flags);
-    match a {
-        Answer::Refused {
-            number: _,
-            place: _,
-        } => {
-            let none = made::no_message();
-            Collected {
-                refusal: 17,
-                message: none,
-                state,
-            }
-        }
-        Answer::Accepted {
-            variables: _,
-            activities: _,
-            nodes: _,
-        } => letters::collect_by(state, &table),
     }
 }

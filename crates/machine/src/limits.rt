@@ -14,7 +14,7 @@ ghost use Rattle.order.specs.Lists.{every};
 ghost use Rattle.machine.specs.Limits.{exchanged, messageInLimits, rootInLimits, orderInLimits, inLimits, planIn};
 
 // Whether a partner, an operation and a count of values are within their rules.
-pub(crate) fn exchange_ruled(partner: u32, operation: u32, count: u32) -> bool
+pub fn exchange_ruled(partner: u32, operation: u32, count: u32) -> bool
     ensures { λ r. ⌜ r ≡ exchanged partner operation count ⌝ }
 {
     if 64 <= partner {

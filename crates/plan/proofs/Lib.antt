@@ -11,10 +11,8 @@ pub mod Kept
 pub mod TableSpells
 pub mod ExpressionReads
 pub mod OwnReads
-pub mod Places
 pub mod Stores
 pub mod TupleReads
 pub mod HeadReads
 pub mod TreeReads
 pub mod RootReads
-pub mod ShowReads

@@ -1,4 +1,4 @@
-// Reads plans: document 01, "The plan on file". The public calls are `accept` and `show`.
+// Reads plans: document 01, "The plan on file". The public calls are `accept` and `accept_over`.
 mod expressions;
 mod fields;
 mod owns;
@@ -7,12 +7,9 @@ mod root;
 mod table;
 mod tree;
 
-ghost use Prim.Native.Nat.{_-_, _≤_};
-ghost use lib.ListN.{length, take, drop};
 ghost use mathlib.Core.Path.{_≡_};
 ghost use Rattle.plan.specs.Answers.{answerOf, tableInto, tableFor, flagsFor};
 ghost use Rattle.plan.specs.Read.{readPlan};
-ghost use Rattle.plan.specs.Shown.{shownPart, shownStart, shownRefusal};
 
 // The reading head: the lent bytes and a place in them.
 pub struct Head<'a> {
@@ -79,50 +76,6 @@ pub enum Answer {
         number: u32,
         place: usize,
     },
-}
-
-// The part of s from a to e.
-fn between(s: &[u8], a: usize, e: usize) -> &[u8]
-    requires { ⌜ (a ≤ e) × (e ≤ length (now s)) ⌝ }
-    ensures { λ r. ⌜ now r ≡ take (e - a) (drop a (now (s .entry))) ⌝ }
-{
-    &s[a..e]
-}
-
-// Activity or arm k of the plan s, as the very part of s that spells it; 16 where there is no activity k, a bad plan's own number.
-// Where it refuses, the part is empty. A contract knows a returned part by its bytes alone, so where the part starts is lent out beside it.
-pub fn show<'a>(s: &'a [u8], k: usize, start: &mut usize, refusal: &mut u32) -> &'a [u8]
-    ensures part { λ r. ⌜ now r ≡ shownPart (readPlan (now (s .entry))) (now (s .entry)) k ⌝ }
-    ensures place { λ _. ⌜ now (start .exit) ≡ shownStart (readPlan (now (s .entry))) k ⌝ }
-    ensures refused { λ _. ⌜ now (refusal .exit) ≡ shownRefusal (readPlan (now (s .entry))) k ⌝ }
-{
-    let mut table = [0u32; 11584];
-    let mut correlation = [0u8; 16];
-    let a = accept(s, &mut table, &mut correlation);
-    match a {
-        Answer::Refused { number, place: _ } => {
-            *start = 0;
-            *refusal = number;
-            between(s, 0, 0)
-        }
-        Answer::Accepted {
-            variables: _,
-            activities,
-            nodes: _,
-        } => {
-            if k < activities {
-                let from = table::column(&table, k, 10);
-                let to = table::column(&table, k, 12);
-                *start = from;
-                *refusal = 0;
-                between(s, from, to)
-            } else {
-                *start = 0;
-                *refusal = 16;
-                between(s, 0, 0)
-            }
-        }
-    }
 }
 
 // The whole plan, written over what the table held: for a caller with a blank table, which need not be blanked again. Its answer, and in the lent

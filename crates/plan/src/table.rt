@@ -1,5 +1,5 @@
 // Stores into the table of a plan: a row for each activity and arm, a flag for each partner that is received on, and expression nodes.
-ghost use Prim.Native.Nat.{_+_, _*_, _≤_, _<_};
+ghost use Prim.Native.Nat.{_≤_, _<_};
 ghost use lib.Dec.{eqb};
 ghost use lib.ListN.{getD};
 ghost use mathlib.Core.Bool.{_||_};
@@ -78,18 +78,4 @@ pub(crate) fn write_node(table: &mut [u32; 11584], m: usize, code: u32, value: u
     let b = 3392 + m * 2;
     table[b] = code;
     table[b + 1] = value;
-}
-
-// Column j of row k.
-pub(crate) fn column(table: &[u32; 11584], k: usize, j: usize) -> usize
-    requires { ⌜ (k < 256) × (j < 13) ⌝ }
-    ensures { λ r. ⌜ r ≡ getD (now (table .entry)) (k * 13 + j) 0 ⌝ }
-{
-    wide(table[k * 13 + j])
-}
-
-fn wide(x: u32) -> usize
-    ensures { λ r. ⌜ r ≡ x ⌝ }
-{
-    x as usize
 }

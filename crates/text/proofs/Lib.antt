@@ -1,5 +1,3 @@
 -- What the proofs of several functions use.
 mod Scans
 mod Digits
-mod Verbs
-mod Parts

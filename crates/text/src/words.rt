@@ -64,7 +64,7 @@ fn least(a: usize, b: usize) -> usize
 }
 
 // Whether two texts are the same.
-pub(crate) fn same(a: &[u8], b: &[u8]) -> bool
+pub fn same(a: &[u8], b: &[u8]) -> bool
     ensures { λ r. ⌜ r ≡ sameText (now (a .entry)) (now (b .entry)) ⌝ }
 {
     let mut i = 0;

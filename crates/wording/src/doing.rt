@@ -1,10 +1,10 @@
 // What an activity is doing in an order, by the order's marks. (What each mark means: crates/order/specs/State.antt.)
-use super::output::put_column;
-use super::table::after;
-use super::table::end_of;
-use super::table::entry;
-use super::table::parent_of;
-use super::table::wide;
+use drawing::after;
+use drawing::end_of;
+use drawing::entry;
+use drawing::parent_of;
+use drawing::put_column;
+use drawing::wide;
 use order::Order;
 
 fn mark_at(marks: &[u8; 256], n: usize) -> u8 {

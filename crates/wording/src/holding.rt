@@ -1,8 +1,8 @@
 // What has no room left, where something is held: what is held waits for one of these.
 use super::orders::live_of;
-use super::output::put;
-use super::output::put_byte;
-use super::output::put_next;
+use drawing::put;
+use drawing::put_byte;
+use drawing::put_next;
 use machine::State;
 use order::Order;
 

@@ -1,8 +1,8 @@
 // Messages: those that wait, one that is collected, one that is posted.
-use super::output::put;
-use super::output::put_byte;
-use super::output::put_next;
-use super::output::put_number;
+use drawing::put;
+use drawing::put_byte;
+use drawing::put_next;
+use drawing::put_number;
 use machine::Message;
 use machine::State;
 

@@ -1,14 +1,14 @@
 // What is offered: as numbers, and in words.
-use super::drawing::put_activity;
 use super::holding::put_full;
 use super::messages::put_taken;
-use super::output::put;
-use super::output::put_aligned;
-use super::output::put_byte;
-use super::output::put_next;
-use super::output::put_number;
-use super::output::put_refusal;
-use super::table::entry;
+use drawing::entry;
+use drawing::put;
+use drawing::put_activity;
+use drawing::put_aligned;
+use drawing::put_byte;
+use drawing::put_next;
+use drawing::put_number;
+use drawing::put_refusal;
 use machine::Message;
 use machine::State;
 use machine::Step;

@@ -1,15 +1,15 @@
 // The live orders in words, and one order on the drawing of its plan.
 use super::doing::put_doing;
-use super::drawing::put_drawn;
-use super::drawing::put_member;
-use super::output::put;
-use super::output::put_aligned;
-use super::output::put_byte;
-use super::output::put_next;
-use super::output::put_number;
-use super::output::put_refusal;
-use super::table::scope_of;
-use super::table::wide;
+use drawing::put;
+use drawing::put_aligned;
+use drawing::put_byte;
+use drawing::put_drawn;
+use drawing::put_member;
+use drawing::put_next;
+use drawing::put_number;
+use drawing::put_refusal;
+use drawing::scope_of;
+use drawing::wide;
 use machine::State;
 use order::Order;
 use plan::Answer;

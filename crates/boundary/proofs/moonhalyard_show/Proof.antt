@@ -5,7 +5,7 @@ use mathlib.Core.Path.{_≡_}
 use Prim.Native.Nat.{ℕ}
 use lib.ListN.{length}
 use Rattle.plan.specs.Found.{Found}
-use Rattle.plan.specs.Shown.{shownPart, shownStart, shownRefusal}
+use Rattle.show.specs.Shown.{shownPart, shownStart, shownRefusal}
 use Rattle.plan.specs.Tree.{Plan}
 use Rattle.boundary.specs.Packed.{tripleOf, showNumber}
 use Rattle.boundary.proofs.moonhalyard_show.Statement.{statement}

@@ -4,9 +4,9 @@ use mathlib.Core.List.{List}
 use mathlib.Core.Path.{_≡_}
 use Prim.Native.Nat.{ℕ, _≤_}
 use lib.ListN.{length}
-use Rattle.text.specs.declared.Worded.{Worded}
-use Rattle.text.specs.declared.Command.{Command}
-use Rattle.text.specs.Commands.{Inside}
+use Rattle.commands.specs.declared.Worded.{Worded}
+use Rattle.commands.specs.declared.Command.{Command}
+use Rattle.commands.specs.Commands.{Inside}
 use Rattle.console.proofs.answer.Statement.{statement}
 use Rattle.console.proofs.answer.Tie as tie
 

@@ -1,0 +1,305 @@
+// An accepted plan in words, by its table: an activity or arm on each line.
+use super::naming::put_operation;
+use super::naming::put_partner;
+use super::naming::put_variable;
+use super::output::put;
+use super::output::put_aligned;
+use super::output::put_byte;
+use super::output::put_number;
+use super::table::after;
+use super::table::code_of;
+use super::table::depth_of;
+use super::table::entry;
+use super::table::order_of;
+use super::table::parent_of;
+use super::table::value_of;
+
+// What part of a scope or of a choose an activity is, by its order there.
+fn put_part(out: &mut [u8; 4096], used: usize, kind: u32, order: usize) -> usize {
+    if kind == 11 {
+        if order == 0 {
+            return put(out, used, b"body: ");
+        }
+        if order == 1 {
+            return put(out, used, b"fault part: ");
+        }
+        return put(out, used, b"undo part: ");
+    }
+    if kind == 6 {
+        if order == 0 {
+            return put(out, used, b"then: ");
+        }
+        return put(out, used, b"else: ");
+    }
+    used
+}
+
+fn put_role(out: &mut [u8; 4096], used: usize, table: &[u32; 11584], n: usize) -> usize {
+    let parent = parent_of(table, n);
+    if parent < n {
+        let kind = entry(table, parent, 0);
+        let order = order_of(table, parent + 1, n);
+        return put_part(out, used, kind, order);
+    }
+    if n == 0 {
+        return put(out, used, b"root body: ");
+    }
+    put(out, used, b"root fault part: ")
+}
+
+pub(crate) fn is_correlation(correlation: &[u8; 16], number: u32) -> bool {
+    let i = number as usize;
+    if i < 16 {
+        return correlation[i] == 1;
+    }
+    false
+}
+
+// A variable of a tuple, marked where it is for correlation.
+pub fn put_member(
+    out: &mut [u8; 4096],
+    used: usize,
+    names: &[u8; 4752],
+    correlation: &[u8; 16],
+    number: u32,
+) -> usize {
+    let n = put_variable(out, used, names, number);
+    if is_correlation(correlation, number) {
+        return put(out, n, b" (correlation)");
+    }
+    n
+}
+
+// Variable i of the tuple of row n, after the one before it.
+fn put_another(
+    out: &mut [u8; 4096],
+    used: usize,
+    names: &[u8; 4752],
+    table: &[u32; 11584],
+    correlation: &[u8; 16],
+    n: usize,
+    i: usize,
+) -> usize {
+    if i < 4 {
+        if i < entry(table, n, 3) as usize {
+            let at = put(out, used, b", ");
+            return put_member(out, at, names, correlation, entry(table, n, 4 + i));
+        }
+    }
+    used
+}
+
+// The tuple of row n.
+fn put_tuple(
+    out: &mut [u8; 4096],
+    used: usize,
+    names: &[u8; 4752],
+    table: &[u32; 11584],
+    correlation: &[u8; 16],
+    n: usize,
+) -> usize {
+    let first = put_member(out, used, names, correlation, entry(table, n, 4));
+    let second = put_another(out, first, names, table, correlation, n, 1);
+    let third = put_another(out, second, names, table, correlation, n, 2);
+    put_another(out, third, names, table, correlation, n, 3)
+}
+
+// Partner, operation and variables of row n, after the words that say what is done.
+fn put_exchange(
+    out: &mut [u8; 4096],
+    used: usize,
+    names: &[u8; 4752],
+    words: &[u8],
+    table: &[u32; 11584],
+    correlation: &[u8; 16],
+    n: usize,
+) -> usize {
+    let mut at = put(out, used, words);
+    at = put(out, at, b" partner ");
+    at = put_partner(out, at, names, entry(table, n, 1));
+    at = put(out, at, b", operation ");
+    at = put_operation(out, at, names, entry(table, n, 2));
+    at = put(out, at, b": ");
+    put_tuple(out, at, names, table, correlation, n)
+}
+
+fn put_operator(out: &mut [u8; 4096], used: usize, code: u32) -> usize {
+    match code {
+        2 => put(out, used, b" + "),
+        3 => put(out, used, b" - "),
+        4 => put(out, used, b" = "),
+        _ => put(out, used, b" < "),
+    }
+}
+
+// A constant or a variable. (No node of an accepted plan is anything else where no level is left.)
+fn put_leaf(
+    out: &mut [u8; 4096],
+    used: usize,
+    names: &[u8; 4752],
+    table: &[u32; 11584],
+    m: usize,
+) -> usize {
+    let value = value_of(table, m);
+    if code_of(table, m) == 0 {
+        return put_number(out, used, value as u64);
+    }
+    put_variable(out, used, names, value)
+}
+
+// A byte, where it is wanted.
+fn put_if(out: &mut [u8; 4096], used: usize, wanted: bool, b: u8) -> usize {
+    if wanted {
+        return put_byte(out, used, b);
+    }
+    used
+}
+
+// The expression whose first node is m, where `depth` levels are left below it; an operation that is an operand stands in parentheses.
+fn put_expression(
+    out: &mut [u8; 4096],
+    used: usize,
+    names: &[u8; 4752],
+    table: &[u32; 11584],
+    m: usize,
+    depth: usize,
+    operand: bool,
+) -> usize {
+    let code = code_of(table, m);
+    if code < 2 {
+        return put_leaf(out, used, names, table, m);
+    }
+    if depth == 0 {
+        return put_leaf(out, used, names, table, m);
+    }
+    let opened = put_if(out, used, operand, 40);
+    let left = put_expression(out, opened, names, table, after(m), depth - 1, true);
+    let between = put_operator(out, left, code);
+    let right = put_expression(
+        out,
+        between,
+        names,
+        table,
+        value_of(table, m) as usize,
+        depth - 1,
+        true,
+    );
+    put_if(out, right, operand, 41)
+}
+
+// Words, and then the expression of row n.
+fn put_with_expression(
+    out: &mut [u8; 4096],
+    used: usize,
+    names: &[u8; 4752],
+    words: &[u8],
+    table: &[u32; 11584],
+    n: usize,
+) -> usize {
+    let at = put(out, used, words);
+    put_expression(out, at, names, table, entry(table, n, 9) as usize, 8, false)
+}
+
+fn put_set(
+    out: &mut [u8; 4096],
+    used: usize,
+    names: &[u8; 4752],
+    table: &[u32; 11584],
+    n: usize,
+) -> usize {
+    let mut at = put(out, used, b"set ");
+    at = put_variable(out, at, names, entry(table, n, 8));
+    put_with_expression(out, at, names, b" to ", table, n)
+}
+
+// Activity or arm n in words.
+pub fn put_activity(
+    out: &mut [u8; 4096],
+    used: usize,
+    names: &[u8; 4752],
+    table: &[u32; 11584],
+    correlation: &[u8; 16],
+    n: usize,
+) -> usize {
+    let kind = entry(table, n, 0);
+    match kind {
+        0 => put(out, used, b"empty"),
+        1 => put_exchange(out, used, names, b"send to", table, correlation, n),
+        2 => put_exchange(out, used, names, b"receive from", table, correlation, n),
+        3 => put_set(out, used, names, table, n),
+        4 => put(out, used, b"raise"),
+        5 => put(out, used, b"leave"),
+        6 => put_with_expression(out, used, names, b"choose by ", table, n),
+        7 => put_with_expression(out, used, names, b"repeat while ", table, n),
+        8 => put(out, used, b"sequence"),
+        9 => put(out, used, b"flow"),
+        10 => put(out, used, b"pick"),
+        11 => put(out, used, b"scope"),
+        _ => put_exchange(
+            out,
+            used,
+            names,
+            b"arm: receive from",
+            table,
+            correlation,
+            n,
+        ),
+    }
+}
+
+fn put_indent(out: &mut [u8; 4096], used: usize, depth: usize) -> usize {
+    let mut at = used;
+    let mut i = 0;
+    while i < depth {
+        at = put_byte(out, at, 32);
+        at = put_byte(out, at, 32);
+        i += 1;
+    }
+    at
+}
+
+// Where activity n stands in the drawing, what part it is, and what it is.
+pub fn put_drawn(
+    out: &mut [u8; 4096],
+    used: usize,
+    names: &[u8; 4752],
+    table: &[u32; 11584],
+    correlation: &[u8; 16],
+    n: usize,
+) -> usize {
+    let mut at = put_indent(out, used, depth_of(table, n));
+    at = put_role(out, at, table, n);
+    at = put_activity(out, at, names, table, correlation, n);
+    put_byte(out, at, 10)
+}
+
+fn put_line(
+    out: &mut [u8; 4096],
+    used: usize,
+    names: &[u8; 4752],
+    table: &[u32; 11584],
+    correlation: &[u8; 16],
+    n: usize,
+) -> usize {
+    let mut at = put_aligned(out, used, n as u64);
+    at = put(out, at, b"  ");
+    put_drawn(out, at, names, table, correlation, n)
+}
+
+// All activities and arms, and a blank line.
+pub fn put_drawing(
+    out: &mut [u8; 4096],
+    used: usize,
+    names: &[u8; 4752],
+    table: &[u32; 11584],
+    correlation: &[u8; 16],
+    activities: usize,
+) -> usize {
+    let mut at = used;
+    let mut n = 0;
+    while n < activities {
+        at = put_line(out, at, names, table, correlation, n);
+        n += 1;
+    }
+    put_byte(out, at, 10)
+}

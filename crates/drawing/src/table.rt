@@ -1,0 +1,106 @@
+// What the table of an accepted plan says of its activities and arms. (The rows and the nodes are those of the crate plan, specs/Table.antt.)
+
+// Number `field` of row n.
+pub fn entry(table: &[u32; 11584], n: usize, field: usize) -> u32 {
+    if n < 256 {
+        if field < 13 {
+            return table[n * 13 + field];
+        }
+    }
+    0
+}
+
+// The code of expression node m.
+pub(crate) fn code_of(table: &[u32; 11584], m: usize) -> u32 {
+    if m < 4096 {
+        return table[3392 + m * 2];
+    }
+    0
+}
+
+// The value of expression node m: a constant, the number of a variable, or the number of the right operand's first node.
+pub(crate) fn value_of(table: &[u32; 11584], m: usize) -> u32 {
+    if m < 4096 {
+        return table[3393 + m * 2];
+    }
+    0
+}
+
+// The number after the last activity within activity n.
+pub fn end_of(table: &[u32; 11584], n: usize) -> usize {
+    entry(table, n, 11) as usize
+}
+
+// A byte as a number of an activity.
+pub fn wide(b: u8) -> usize {
+    b as usize
+}
+
+// The number after m, of an activity or a node.
+pub fn after(m: usize) -> usize {
+    if m < 4096 {
+        return m + 1;
+    }
+    m
+}
+
+// How many activities and arms stand around activity n.
+pub(crate) fn depth_of(table: &[u32; 11584], n: usize) -> usize {
+    let mut depth = 0;
+    let mut m = 0;
+    while m < n {
+        if n < end_of(table, m) {
+            depth += 1;
+        }
+        m += 1;
+    }
+    depth
+}
+
+// The nearest activity or arm around activity n; n itself where there is none.
+pub fn parent_of(table: &[u32; 11584], n: usize) -> usize {
+    let mut parent = n;
+    let mut m = 0;
+    while m < n {
+        if n < end_of(table, m) {
+            parent = m;
+        }
+        m += 1;
+    }
+    parent
+}
+
+// Of those directly within the activity before `first`, how many stand before activity n.
+pub(crate) fn order_of(table: &[u32; 11584], first: usize, n: usize) -> usize {
+    let mut order = 0;
+    let mut m = first;
+    while m < n {
+        let end = end_of(table, m);
+        if end <= m {
+            return order;
+        }
+        m = end;
+        order += 1;
+    }
+    order
+}
+
+// The nearest scope around activity n; n itself where the root is nearest.
+pub fn scope_of(table: &[u32; 11584], n: usize) -> usize {
+    let mut scope = n;
+    let mut m = 0;
+    while m < n {
+        if is_scope_around(table, m, n) {
+            scope = m;
+        }
+        m += 1;
+    }
+    scope
+}
+
+fn is_scope_around(table: &[u32; 11584], m: usize, n: usize) -> bool {
+    if entry(table, m, 0) == 11 {
+        return n < end_of(table, m);
+    }
+    false
+}

@@ -1,0 +1,326 @@
+// A state with its tally in a file: save and open.
+use super::Desk;
+use super::shown;
+use super::writing::forget;
+use drawing::put;
+use drawing::put_byte;
+use drawing::put_error;
+use drawing::put_next;
+use drawing::put_refusal;
+use machine::State;
+use plan::Answer;
+use store::Kept;
+
+// Why a call of the system failed.
+fn put_reason(out: &mut [u8; 4096], used: usize, errno: i32) -> usize {
+    match errno {
+        1 | 13 => put(out, used, b"permission denied"),
+        2 => put(out, used, b"no such file or folder"),
+        5 => put(out, used, b"the device fails"),
+        16 | 26 => put(out, used, b"it is in use"),
+        20 => put(out, used, b"a part of the name is no folder"),
+        21 => put(out, used, b"it is a folder"),
+        22 => put(out, used, b"no such name can be"),
+        27 => put(out, used, b"the file would be too large"),
+        28 | 122 => put(out, used, b"no room is left"),
+        30 => put(out, used, b"nothing can be written there"),
+        36 => put(out, used, b"the name is too long"),
+        _ => put(out, used, b"the system refuses it"),
+    }
+}
+
+// A command that failed: `error LINE cannot WORD: REASON`.
+fn put_failed(out: &mut [u8; 4096], used: usize, line: u64, word: &[u8], errno: i32) -> usize {
+    let mut at = put(out, used, b"error");
+    at = put_next(out, at, line);
+    at = put(out, at, b" cannot ");
+    at = put(out, at, word);
+    at = put(out, at, b": ");
+    at = put_reason(out, at, errno);
+    put_byte(out, at, 10)
+}
+
+// What the last failing call left as its reason; 5, an error of the device, where it left none.
+fn failure() -> i32 {
+    let e = os::errno();
+    if e == 0 {
+        return 5;
+    }
+    e
+}
+
+fn set_at(name: &mut [u8; 4096], i: usize, b: u8) {
+    if i < 4096 {
+        name[i] = b;
+    }
+}
+
+// A text from a place of a name on; the place after it.
+fn put_name(name: &mut [u8; 4096], at: usize, text: &[u8]) -> usize {
+    let mut i = 0;
+    while i < text.len() {
+        set_at(name, at_most(at, i), text[i]);
+        i += 1;
+    }
+    at_most(at, text.len())
+}
+
+// A place within a name, or its end.
+fn at_most(at: usize, i: usize) -> usize {
+    if i < 4096 {
+        if at < 4096 {
+            return at + i;
+        }
+    }
+    4096
+}
+
+// All of a state is written, and is on disk: 0, or the reason.
+fn written(fd: i32, packed: &[u8]) -> i32 {
+    if !io::write_all(fd, packed) {
+        return failure();
+    }
+    if libc::fsync(fd) < 0 {
+        return failure();
+    }
+    0
+}
+
+// The same, and the file is closed.
+fn written_whole(fd: i32, packed: &[u8]) -> i32 {
+    let e = written(fd, packed);
+    if libc::close(fd) < 0 {
+        if e == 0 {
+            return failure();
+        }
+    }
+    e
+}
+
+// A new file takes the name of the old one: 0, or the reason, and then the new file is gone.
+fn renamed(new: &[u8], file: &[u8]) -> i32 {
+    if os::rename(new, file) < 0 {
+        let e = failure();
+        os::unlink(new);
+        return e;
+    }
+    0
+}
+
+// A state is written to a new file, whose name `new` becomes; that file then takes the name of the old one. 0, or the reason.
+fn replaced(new: &mut [u8], file: &[u8], packed: &[u8]) -> i32 {
+    let fd = os::create_temp(new);
+    if fd < 0 {
+        return failure();
+    }
+    let e = written_whole(fd, packed);
+    if e != 0 {
+        os::unlink(new);
+        return e;
+    }
+    renamed(new, file)
+}
+
+// The place after the last slash of a name: where the name of its folder ends.
+fn folder_of(file: &[u8]) -> usize {
+    let mut end = 0;
+    let mut i = 0;
+    while i < file.len() {
+        if file[i] == 47 {
+            end = i + 1;
+        }
+        i += 1;
+    }
+    end
+}
+
+fn opened_folder(file: &[u8], end: usize) -> i32 {
+    if end == 0 {
+        return os::open_read(b".");
+    }
+    if end <= file.len() {
+        return os::open_read(&file[0..end]);
+    }
+    -1
+}
+
+// The folder of a file is on disk too, where the system can do that, so that the new name is.
+fn folder_kept(file: &[u8]) {
+    let fd = opened_folder(file, folder_of(file));
+    if 0 <= fd {
+        libc::fsync(fd);
+        libc::close(fd);
+    }
+}
+
+fn replaced_at(name: &mut [u8], n: usize, file: &[u8], packed: &[u8]) -> i32 {
+    if name.len() <= n {
+        return libc::ENAMETOOLONG;
+    }
+    let e = replaced(&mut name[0..n], file, packed);
+    if e == 0 {
+        folder_kept(file);
+    }
+    e
+}
+
+fn replaced_in(name: &mut [u8; 4096], n: usize, file: &[u8], packed: &[u8]) -> i32 {
+    replaced_at(name, n, file, packed)
+}
+
+// Saves a state by the name of its file: 0, or the reason.
+fn saved(file: &[u8], packed: &[u8]) -> i32 {
+    let mut name = [0u8; 4096];
+    let at = put_name(&mut name, 0, file);
+    let n = put_name(&mut name, at, b".XXXXXX");
+    replaced_in(&mut name, n, file, packed)
+}
+
+// What a save or an open comes to.
+fn told(desk: Desk, number: u64, word: &[u8], e: i32, out: &mut [u8; 4096]) -> Desk {
+    if e == 0 {
+        let used = put_refusal(out, desk.used, word, 0);
+        return shown(desk, used);
+    }
+    let used = put_failed(out, desk.used, number, word, e);
+    shown(desk, used)
+}
+
+// Saves the state and the tally.
+pub fn save(desk: Desk, file: &[u8], number: u64, out: &mut [u8; 4096]) -> Desk {
+    let mut packed = [0u8; 11964];
+    let state = desk.state;
+    let tally = desk.tally;
+    store::pack(state, tally, &mut packed);
+    let e = saved(file, &packed);
+    told(desk, number, b"save", e, out)
+}
+
+// Why nothing was read: 0 where nothing stands there.
+fn unread(fd: i32, n: usize) -> i32 {
+    if n == 0 {
+        let mut one = [0u8; 1];
+        if libc::read(fd, &mut one) < 0 {
+            return failure();
+        }
+    }
+    0
+}
+
+// Whether a state has no plan, and numbers within their limits.
+fn is_blank(state: State) -> bool {
+    if state.length == 0 {
+        return machine::limits::state_ruled(state);
+    }
+    false
+}
+
+// Whether the desk could have saved a state.
+fn is_sound(state: State) -> bool {
+    let mut table = [0u32; 11584];
+    let mut flags = [0u8; 16];
+    let a = machine::limits::planned(state, &mut table, &mut flags);
+    match a {
+        Answer::Accepted {
+            variables: _,
+            activities: _,
+            nodes: _,
+        } => true,
+        Answer::Refused {
+            number: _,
+            place: _,
+        } => is_blank(state),
+    }
+}
+
+// A plan becomes the last plan.
+pub(crate) fn copied(plan: &[u8; 4096], bytes: &mut [u8; 8000]) {
+    let mut i = 0;
+    while i < 4096 {
+        bytes[i] = plan[i];
+        i += 1;
+    }
+}
+
+fn put_foreign(desk: Desk, number: u64, out: &mut [u8; 4096]) -> Desk {
+    let used = put_error(
+        out,
+        desk.used,
+        number,
+        b"cannot open: it holds no saved state",
+    );
+    shown(desk, used)
+}
+
+// The desk on a state that was kept. Its plan is the last plan.
+fn reopened(kept: Kept, bytes: &mut [u8; 8000], out: &mut [u8; 4096], used: usize) -> Desk {
+    let state = kept.state;
+    let tally = kept.tally;
+    let plan = state.plan;
+    copied(&plan, bytes);
+    let at = put_refusal(out, used, b"open", 0);
+    Desk {
+        state,
+        tally,
+        plan: state.length,
+        used: at,
+    }
+}
+
+fn taken(
+    desk: Desk,
+    kept: Kept,
+    number: u64,
+    bytes: &mut [u8; 8000],
+    names: &mut [u8; 4752],
+    out: &mut [u8; 4096],
+) -> Desk {
+    if kept.refused {
+        return put_foreign(desk, number, out);
+    }
+    let state = kept.state;
+    if is_sound(state) {
+        let before = desk.state;
+        let d = reopened(kept, bytes, out, desk.used);
+        forget(before, bytes, d.plan, names);
+        return d;
+    }
+    put_foreign(desk, number, out)
+}
+
+// What a file that was opened holds becomes the state and the tally.
+fn read(
+    desk: Desk,
+    fd: i32,
+    number: u64,
+    bytes: &mut [u8; 8000],
+    names: &mut [u8; 4752],
+    out: &mut [u8; 4096],
+) -> Desk {
+    // one byte more than a state has, so that a longer file is known
+    let mut packed = [0u8; 11965];
+    let n = io::read_full(fd, &mut packed);
+    let e = unread(fd, n);
+    libc::close(fd);
+    if e != 0 {
+        return told(desk, number, b"open", e, out);
+    }
+    let kept = store::unpack(&packed[..n]);
+    taken(desk, kept, number, bytes, names, out)
+}
+
+// Opens a file that was saved.
+pub fn open(
+    desk: Desk,
+    file: &[u8],
+    number: u64,
+    bytes: &mut [u8; 8000],
+    names: &mut [u8; 4752],
+    out: &mut [u8; 4096],
+) -> Desk {
+    let fd = os::open_read(file);
+    if fd < 0 {
+        return told(desk, number, b"open", failure(), out);
+    }
+    read(desk, fd, number, bytes, names, out)
+}

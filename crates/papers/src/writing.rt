@@ -1,0 +1,182 @@
+// A plan as text: the crate sheet makes rows of it, the crate writer bytes. And the names that it declares, which stay as long as its plan does.
+use super::Desk;
+use super::files::copied;
+use super::plans::fresh;
+use super::reasons::put_why;
+use super::shown;
+use drawing::put;
+use drawing::put_byte;
+use drawing::put_hex;
+use drawing::put_next;
+use drawing::put_pair;
+use machine::State;
+use sheet::Sheet;
+use writer::Answer;
+
+// Whether the first bytes are this plan.
+fn is_same(plan: &[u8; 4096], bytes: &[u8; 8000], length: usize) -> bool {
+    let mut i = 0;
+    while i < 4096 {
+        if i < length {
+            if plan[i] != bytes[i] {
+                return false;
+            }
+        }
+        i += 1;
+    }
+    true
+}
+
+// Whether the last plan, which is the first `length` bytes, is still that of the state before it.
+fn is_kept(before: State, bytes: &[u8; 8000], length: usize) -> bool {
+    if before.length == length {
+        let plan = before.plan;
+        return is_same(&plan, bytes, length);
+    }
+    false
+}
+
+fn clear(names: &mut [u8; 4752]) {
+    let mut i = 0;
+    while i < 4752 {
+        names[i] = 0;
+        i += 1;
+    }
+}
+
+// The names are those of the plan of the state before, and of no other.
+pub(crate) fn forget(before: State, bytes: &[u8; 8000], length: usize, names: &mut [u8; 4752]) {
+    if is_kept(before, bytes, length) {
+        return;
+    }
+    clear(names);
+}
+
+// The number of a line of the text, where the write is line `number`.
+fn line_after(number: u64, line: u64) -> u64 {
+    if number < 9223372036854775808 {
+        if line < 4294967296 {
+            return number + line;
+        }
+    }
+    number
+}
+
+fn wide(x: u32) -> u64 {
+    x as u64
+}
+
+fn line_of(lines: &[u32; 4355], row: usize) -> u64 {
+    if row < 4355 {
+        return wide(lines[row]);
+    }
+    0
+}
+
+// What is wrong with a line of the text.
+fn put_wrong(out: &mut [u8; 4096], used: usize, line: u64, reason: usize) -> usize {
+    let mut at = put(out, used, b"error");
+    at = put_next(out, at, line);
+    at = put_byte(out, at, 32);
+    at = put_why(out, at, reason);
+    put_byte(out, at, 10)
+}
+
+fn put_written(out: &mut [u8; 4096], used: usize, plan: &[u8]) -> usize {
+    let mut at = put(out, used, b"write 0 ");
+    at = put_hex(out, at, plan);
+    put_byte(out, at, 10)
+}
+
+// A desk on a plan that was written, with a fresh state.
+fn written_of(desk: Desk, plan: &[u8], length: usize, out: &mut [u8; 4096]) -> Desk {
+    if length <= plan.len() {
+        let used = put_written(out, desk.used, &plan[0..length]);
+        let loaded = machine::load(&plan[0..length]);
+        return fresh(loaded, length, used);
+    }
+    desk
+}
+
+fn written(
+    desk: Desk,
+    text: &[u8],
+    plan: &[u8; 4096],
+    length: usize,
+    bytes: &mut [u8; 8000],
+    names: &mut [u8; 4752],
+    out: &mut [u8; 4096],
+) -> Desk {
+    copied(plan, bytes);
+    sheet::names_of(text, names);
+    written_of(desk, plan, length, out)
+}
+
+fn answer_of(rows: &[u32], length: usize, plan: &mut [u8; 4096]) -> Answer {
+    if length <= rows.len() {
+        return writer::write(&rows[0..length], plan);
+    }
+    Answer::Refused {
+        number: 2,
+        place: 0,
+    }
+}
+
+// The rows of a text are written.
+fn write_rows(
+    desk: Desk,
+    text: &[u8],
+    number: u64,
+    rows: &[u32; 87100],
+    length: usize,
+    lines: &[u32; 4355],
+    bytes: &mut [u8; 8000],
+    names: &mut [u8; 4752],
+    out: &mut [u8; 4096],
+) -> Desk {
+    let mut plan = [0u8; 4096];
+    let a = answer_of(rows, length, &mut plan);
+    match a {
+        Answer::Wrote { length } => written(desk, text, &plan, length, bytes, names, out),
+        Answer::Refused {
+            number: refusal,
+            place,
+        } => {
+            let line = line_after(number, line_of(lines, place));
+            let used = put_pair(out, desk.used, b"write", wide(refusal), line);
+            shown(desk, used)
+        }
+    }
+}
+
+// The plan that a text says becomes the last plan, with a fresh state; where it says none, what is wrong is told, and nothing changes. The text
+// begins in the line after `number`.
+pub fn write(
+    desk: Desk,
+    text: &[u8],
+    number: u64,
+    bytes: &mut [u8; 8000],
+    names: &mut [u8; 4752],
+    out: &mut [u8; 4096],
+) -> Desk {
+    let mut rows = [0u32; 87100];
+    let mut lines = [0u32; 4355];
+    let r = sheet::read(text, &mut rows, &mut lines);
+    match r {
+        Sheet::Rows { length } => write_rows(
+            desk,
+            text,
+            number,
+            &rows,
+            length,
+            &lines,
+            bytes,
+            names,
+            out,
+        ),
+        Sheet::Wrong { line, reason } => {
+            let used = put_wrong(out, desk.used, line_after(number, line as u64), reason);
+            shown(desk, used)
+        }
+    }
+}
