@@ -25,8 +25,7 @@ use Rattle.order.specs.Stands.{Stands}
 use Rattle.order.specs.State.{isLive, noOrder, closings}
 use Rattle.order.specs.Taking.{actAt, bindAll}
 use Rattle.order.proofs.Accepted.{within-spelled}
-use Rattle.order.proofs.PlanStands.{plan-stands}
-use Rattle.order.proofs.TakeReturns.{plan-at}
+use Rattle.order.proofs.PlanStands.{plan-stands, plan-at}
 use Rattle.machine.specs.declared.Message.{Message}
 use Rattle.machine.specs.declared.State.{State}
 use Rattle.machine.specs.declared.Tally.{Tally}

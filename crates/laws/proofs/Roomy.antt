@@ -15,7 +15,7 @@ use Rattle.order.specs.State.{closings, binding}
 use Rattle.order.specs.Taking.{actIn, actAmong, bindAll, bindOwn, bindAct, taking}
 use Rattle.machine.specs.declared.Message.{Message}
 use Rattle.order.specs.declared.Order.{Order}
-use Rattle.order.proofs.UndoReturns.{closings-are}
+use Rattle.order.proofs.MemoryReturns.{closings-are}
 use Rattle.machine.specs.Calls.{doingIn, doingAmong, doingAt, orderTaking}
 use Rattle.machine.specs.Fit.{Doing, noStep, sends, takes, moves, cuts, closes, doingOf}
 use Rattle.machine.specs.Offer.{closeHeld}

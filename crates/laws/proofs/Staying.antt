@@ -24,7 +24,7 @@ use Rattle.order.specs.Scope.{Outcome, Scope, Stopped, runs, after, begunIn, sc
 use Rattle.order.specs.Acting.{finishes, raises, leaves, orRaises, enters, again, repeats, allBound, itself, isPart, arms, goesOn, joins, inScope, combines, stepIn, stepAmong, stepRoot, endOf, movedTo, stepOrder, startedOrder, begunOrder}
 use Rattle.order.specs.Room.{hasRoom, roomIn, roomAmong, roomPlan}
 use Rattle.order.specs.Taking.{bindAll}
-use Rattle.order.proofs.UndoReturns.{closings-are}
+use Rattle.order.proofs.MemoryReturns.{closings-are}
 use Rattle.machine.specs.Limits.{rootInLimits, orderInLimits}
 use Rattle.laws.proofs.Offering.{pick-true, pick-false}
 

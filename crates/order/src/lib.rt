@@ -1,22 +1,11 @@
-// One order: how its activities begin, how its scopes fault, stop, undo and close, and what a step in it leads to.
-mod acting;
-mod beginning;
-mod evaluation;
-mod inside;
-mod kind;
-mod mark;
-mod marks;
-mod memory;
-mod outcomes;
-mod root;
-mod rows;
-mod scopes;
-mod steps;
-mod stopping;
-mod taking;
-mod undoing;
-
-ghost use Rattle.order.specs.Answering.{StepsOrder, StartsOrder, TakesOrder, AllBound};
+// One order: what it holds, what the rows of its plan say, how its marks and what it remembers change, and what expressions come to.
+pub mod evaluation;
+pub mod inside;
+pub mod kind;
+pub mod mark;
+pub mod marks;
+pub mod memory;
+pub mod rows;
 
 // An order. Where `root` is 0 the slot is free; else `root` is the mark of the root, which counts as a scope and has no number.
 // `marks` has the mark of each activity by its number. `bound` is 1 where the variable of that number is bound and 0 where it is not.
@@ -88,42 +77,4 @@ pub struct Next {
 pub enum Found {
     At(usize),
     Nothing,
-}
-
-// The calls below answer what the definitions say of the plan that the table spells. On a table that spells no plan they are safe and end, and
-// nothing more is said of their answers (docs/DECISIONS.md).
-
-// Step t of an order: how the order ended with it, if it did, and the order after it. `activities` is how many activities and arms the plan has.
-// Nothing is said of a close that has no room: it is held, and so not taken.
-pub fn step_order(table: &[u32; 11584], activities: usize, order: Order, t: usize) -> Next
-    ensures { λ r. ⌜ StepsOrder (now (table .entry)) activities t order r ⌝ }
-{
-    root::step_order(table, activities, order, t)
-}
-
-// An order as it starts: its body begun.
-pub fn started_order(table: &[u32; 11584]) -> Order
-    ensures { λ r. ⌜ StartsOrder (now (table .entry)) r ⌝ }
-{
-    root::started_order(table)
-}
-
-// The order that takes a message with these values by activity t: the variables of a receive or an arm are bound. Its step comes after.
-pub fn taken_order(
-    table: &[u32; 11584],
-    activities: usize,
-    order: Order,
-    t: usize,
-    values: [u32; 4],
-) -> Order
-    ensures { λ r. ⌜ TakesOrder (now (table .entry)) activities t values order r ⌝ }
-{
-    taking::taken_order(table, activities, order, t, values)
-}
-
-// Whether all variables that row k names are bound; false where there is no row k.
-pub fn all_bound(table: &[u32; 11584], k: usize, order: Order) -> bool
-    ensures { λ r. ⌜ AllBound (now (table .entry)) k order r ⌝ }
-{
-    steps::all_bound(table, k, order)
 }

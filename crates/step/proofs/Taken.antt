@@ -24,10 +24,9 @@ use Rattle.order.specs.Stands.{Stands}
 use Rattle.order.specs.State.{isLive, isBound, noOrder, closings, valueOf}
 use Rattle.order.specs.Taking.{actIn, actAmong, actAt, taking}
 use Rattle.order.proofs.Owns.{of-kind}
-use Rattle.order.proofs.PlanStands.{plan-stands}
+use Rattle.order.proofs.PlanStands.{plan-stands, plan-at}
 use Rattle.order.proofs.Standing.{size-pos, stands-inside}
-use Rattle.order.proofs.StepReturns.{send-names}
-use Rattle.order.proofs.TakeReturns.{plan-at}
+use Rattle.acting.proofs.StepReturns.{send-names}
 use Rattle.machine.specs.declared.Mail.{Mail}
 use Rattle.machine.specs.declared.Message.{Message}
 use Rattle.machine.specs.declared.State.{State}

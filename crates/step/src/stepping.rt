@@ -58,7 +58,7 @@ fn sent(
     requires { ⌜ k < 256 ⌝ }
     ensures { λ r. ⌜ SendsMail (now (table .entry)) k order messages waiting r ⌝ }
 {
-    if order::all_bound(table, k, order) {
+    if acting::all_bound(table, k, order) {
         let values = sent_values(table, k, order);
         let m = Message {
             partner: table[k * 13 + 1],
@@ -196,8 +196,8 @@ fn next_of(
     ensures { λ r. ⌜ Nexts (now (table .entry)) activities messages order activity place r ⌝ }
 {
     let values = letter_values(messages, place);
-    let o = order::taken_order(table, activities, order, activity, values);
-    order::step_order(table, activities, o, activity)
+    let o = acting::taken_order(table, activities, order, activity, values);
+    acting::step_order(table, activities, o, activity)
 }
 
 // What the step of an activity of the order in a slot changes: the order takes the values of its message and moves on, and the messages move too.
@@ -250,7 +250,7 @@ pub(crate) fn moved(
     ensures { λ r. ⌜ Moves (now (table .entry)) activities order messages waiting slot activity place tally r ⌝ }
 {
     if order.root == 0 {
-        let new = order::started_order(table);
+        let new = acting::started_order(table);
         let y = count_start(tally);
         return moved_from(
             table,

@@ -1,0 +1,6 @@
+pub mod StepReturns
+mod ChildReturns
+mod CombineReturns
+mod RootReturns
+mod TakeReturns
+mod OutcomeReturns

@@ -1,0 +1,200 @@
+-- The returns of the functions by which a scope answers a fault and what runs in it. Assumes nothing.
+use mathlib.Core.Path.{_≡_, refl, sym, ap, _∙_}
+use mathlib.Core.Bool.{Bool, true, false, cond, not, _&&_, _||_, false≢true}
+use mathlib.Core.List.{List}
+use Prim.Native.Nat.{ℕ, _+_, _*_, _-_, _<_, _≤_}
+use native.Mathlib.Omega.{arith}
+use borrow.Author.Tests.{eq-eqb, ne-eqb, eqb-true, eqb-false}
+use lib.Dec.{eqb}
+use lib.ListN.{length, getD}
+use Rattle.plan.specs.Tree.{Act}
+use Rattle.order.specs.declared.Order.{Order}
+use Rattle.order.specs.declared.Spot.{Spot}
+use Rattle.order.specs.declared.Way.{Way}
+use Rattle.order.specs.declared.Way.the-variants.{Running, Over, Raising, Leaving, Undone, UndoRaising}
+use Rattle.order.specs.declared.Went.{Went}
+use Rattle.order.specs.Answering.{runsOf, went, outcome, nameOf, scopeOf, Held, Stops, Turns, Undoes, Forgets, endsOf, Leads, Makes, PartOver}
+use Rattle.order.specs.Begin.{cleared}
+use Rattle.order.specs.Scope.{Scope, Outcome, runs, forgetting, turns, undoes, isOpen, stop, ends, faults, breaks, looksAgain, bodyOver, bodyRaised, undoOver, undoRaised, fromBody, partOver, partRaised, fromFault, fromUndo}
+use Rattle.order.proofs.Deciding.{yes, no}
+use Rattle.order.specs.State.{markOf, marking, withMarks}
+
+-- `faults`
+pub faults-is : (t : List ℕ) (z : Spot) (o : Order) {o₁ : Order} → o₁ ≡ marking (nameOf z) 4 o → {p : Order} → Stops t (z .body) o₁ p
+    → {r : Went} → Turns t true z p r → Leads t z faults o r
+unfolding faults
+faults-is t z o {o₁} e {p} x {r} y = record {
+  is = λ b f h.
+      let a : p ≡ stop b (z .body) (marking (nameOf z) 4 o) .order = rw e at (x .is b (h .body)) in
+      rw a at (y .is b f h);
+}
+
+-- `breaks`
+pub breaks-is : (t : List ℕ) (z : Spot) (o : Order) {o₁ : Order} → o₁ ≡ marking (nameOf z) 0 o → {p : Order} → Forgets t (z .body) (z .fault) o₁ p
+    → {n : List ℕ} → n ≡ cleared (z .first) (z .end - z .first) (p .marks) → {q : Order} → q ≡ withMarks n p
+    → Leads t z breaks o (record { way = Raising; order = q })
+unfolding breaks forgetting
+breaks-is t z o {o₁} e {p} x {n} i {q} j = record {
+  is = λ b f h.
+      let a : p ≡ forgetting (scopeOf z b f) o₁ = x .is b (h .body) (h .next) in
+      rw (j, i, a, e);
+}
+
+-- by the mark of the scope
+module _ (t : List ℕ) (z : Spot) (o : Order) {m : ℕ} (e : m ≡ markOf (nameOf z) o) where
+  is-mark : (n : ℕ) → m ≡ n → eqb (markOf (nameOf z) o) n ≡ true
+  is-mark n h = eq-eqb _ _ (sym e ∙ h)
+
+  no-mark : (n : ℕ) → (m ≡ n → ⊥) → eqb (markOf (nameOf z) o) n ≡ false
+  no-mark n h = ne-eqb _ _ (λ g. h (e ∙ g))
+
+  -- `looks_again`
+  pub looks-faulty : m ≡ 4 → {r : Went} → Turns t true z o r → Leads t z looksAgain o r
+  unfolding looksAgain
+  looks-faulty h y = record { is = λ b f k. y .is b f k ∙ sym (ap went (yes _ _ _ (is-mark 4 h))) }
+
+  pub looks-halted : (m ≡ 4 → ⊥) → m ≡ 7 → {r : Went} → Turns t false z o r → Leads t z looksAgain o r
+  unfolding looksAgain
+  looks-halted g h y = record {
+    is = λ b f k. y .is b f k ∙ sym (ap went (no _ _ _ (no-mark 4 g) ∙ yes _ _ _ (is-mark 7 h)));
+  }
+
+  pub looks-not : (m ≡ 4 → ⊥) → (m ≡ 7 → ⊥) → {r : Went} → r ≡ runsOf o → Leads t z looksAgain o r
+  unfolding looksAgain
+  looks-not g h y = record { is = λ b f k. y ∙ sym (ap went (no _ _ _ (no-mark 4 g) ∙ no _ _ _ (no-mark 7 h))) }
+
+  -- `body_over`
+  pub body-done : m ≡ 1 → {p : Order} → p ≡ marking (nameOf z) 3 o → {r : Went} → r ≡ runsOf p → Leads t z bodyOver o r
+  unfolding bodyOver
+  body-done h i y = record { is = λ b f k. (rw i at y) ∙ sym (ap went (yes _ _ _ (is-mark 1 h))) }
+
+  pub body-looks : (m ≡ 1 → ⊥) → {r : Went} → Leads t z looksAgain o r → Leads t z bodyOver o r
+  unfolding bodyOver
+  body-looks h y = record { is = λ b f k. y .is b f k ∙ sym (ap went (no _ _ _ (no-mark 1 h))) }
+
+  -- `body_raised`
+  pub raised-faults : {v : Bool} → v ≡ isOpen m → v ≡ true → {r : Went} → Leads t z faults o r → Leads t z bodyRaised o r
+  unfolding bodyRaised
+  raised-faults j g y = record { is = λ b f k. y .is b f k ∙ sym (ap went (yes (isOpen (markOf (nameOf z) o)) _ _ (rw (← e) (sym j ∙ g)))) }
+
+  pub raised-absorbed : {v : Bool} → v ≡ isOpen m → v ≡ false → {r : Went} → Leads t z looksAgain o r → Leads t z bodyRaised o r
+  unfolding bodyRaised
+  raised-absorbed j g y = record { is = λ b f k. y .is b f k ∙ sym (ap went (no (isOpen (markOf (nameOf z) o)) _ _ (rw (← e) (sym j ∙ g)))) }
+
+  -- `undo_over`
+  pub undone-next : m ≡ 5 → {r : Went} → Undoes t true z o r → Leads t z undoOver o r
+  unfolding undoOver
+  undone-next h y = record { is = λ b f k. y .is b f k ∙ sym (ap went (yes _ _ _ (is-mark 5 h))) }
+
+  pub undone-ends : (m ≡ 5 → ⊥) → m ≡ 8 → {r : Went} → Undoes t false z o r → Leads t z undoOver o r
+  unfolding undoOver
+  undone-ends g h y = record { is = λ b f k. y .is b f k ∙ sym (ap went (no _ _ _ (no-mark 5 g) ∙ yes _ _ _ (is-mark 8 h))) }
+
+  pub undone-not : (m ≡ 5 → ⊥) → (m ≡ 8 → ⊥) → {r : Went} → r ≡ runsOf o → Leads t z undoOver o r
+  unfolding undoOver
+  undone-not g h y = record { is = λ b f k. y ∙ sym (ap went (no _ _ _ (no-mark 5 g) ∙ no _ _ _ (no-mark 8 h))) }
+
+  -- `undo_raised`
+  pub undo-breaks : m ≡ 5 → {r : Went} → Leads t z breaks o r → Leads t z undoRaised o r
+  unfolding undoRaised
+  undo-breaks h y = record { is = λ b f k. y .is b f k ∙ sym (ap went (yes (eqb (markOf (nameOf z) o) 5 || eqb (markOf (nameOf z) o) 8) _ _ (rw (is-mark 5 h)))) }
+
+  pub undo-breaks-too : (m ≡ 5 → ⊥) → m ≡ 8 → {r : Went} → Leads t z breaks o r → Leads t z undoRaised o r
+  unfolding undoRaised
+  undo-breaks-too g h y = record { is = λ b f k. y .is b f k ∙ sym (ap went (yes (eqb (markOf (nameOf z) o) 5 || eqb (markOf (nameOf z) o) 8) _ _ (rw (no-mark 5 g, is-mark 8 h)))) }
+
+  pub undo-absorbed : (m ≡ 5 → ⊥) → (m ≡ 8 → ⊥) → {r : Went} → r ≡ runsOf o → Leads t z undoRaised o r
+  unfolding undoRaised
+  undo-absorbed g h y = record { is = λ b f k. y ∙ sym (ap went (no (eqb (markOf (nameOf z) o) 5 || eqb (markOf (nameOf z) o) 8) _ _ (rw (no-mark 5 g, no-mark 8 h)))) }
+
+  -- `part_over`, `part_raised`
+  pub part-ends : m ≡ 6 → {r : Went} → r ≡ endsOf z o → PartOver z o r
+  unfolding partOver
+  part-ends h y = record { is = λ b f. y ∙ sym (ap went (yes _ _ _ (is-mark 6 h))) }
+
+  pub part-not : (m ≡ 6 → ⊥) → {r : Went} → r ≡ runsOf o → PartOver z o r
+  unfolding partOver
+  part-not h y = record { is = λ b f. y ∙ sym (ap went (no _ _ _ (no-mark 6 h))) }
+
+  pub part-breaks : m ≡ 6 → {r : Went} → Leads t z breaks o r → Leads t z partRaised o r
+  unfolding partRaised
+  part-breaks h y = record { is = λ b f k. y .is b f k ∙ sym (ap went (yes _ _ _ (is-mark 6 h))) }
+
+  pub part-absorbed : (m ≡ 6 → ⊥) → {r : Went} → r ≡ runsOf o → Leads t z partRaised o r
+  unfolding partRaised
+  part-absorbed h y = record { is = λ b f k. y ∙ sym (ap went (no _ _ _ (no-mark 6 h))) }
+
+-- `from_body`, `from_fault`, `from_undo`: by how what ran stands
+module _ (t : List ℕ) (z : Spot) (r : Went) where
+  pub from-running : r .way ≡ Running → {p : Went} → Leads t z looksAgain (r .order) p → Makes t z fromBody r p
+  unfolding fromBody
+  from-running e y = record { is = λ b f k. rw e (y .is b f k) }
+
+  pub from-over : r .way ≡ Over → {p : Went} → Leads t z bodyOver (r .order) p → Makes t z fromBody r p
+  unfolding fromBody
+  from-over e y = record { is = λ b f k. rw e (y .is b f k) }
+
+  pub from-raising : r .way ≡ Raising → {p : Went} → Leads t z bodyRaised (r .order) p → Makes t z fromBody r p
+  unfolding fromBody
+  from-raising e y = record { is = λ b f k. rw e (y .is b f k) }
+
+  pub from-leaving : r .way ≡ Leaving → Makes t z fromBody r (record { way = Leaving; order = r .order })
+  unfolding fromBody
+  from-leaving e = record { is = λ b f k. rw (e, e) }
+
+  pub from-undone : r .way ≡ Undone → {p : Went} → Leads t z undoOver (r .order) p → Makes t z fromBody r p
+  unfolding fromBody
+  from-undone e y = record { is = λ b f k. rw e (y .is b f k) }
+
+  pub from-undoRaising : r .way ≡ UndoRaising → {p : Went} → Leads t z undoRaised (r .order) p → Makes t z fromBody r p
+  unfolding fromBody
+  from-undoRaising e y = record { is = λ b f k. rw e (y .is b f k) }
+
+  pub fault-running : r .way ≡ Running → {p : Went} → p ≡ runsOf (r .order) → Makes t z fromFault r p
+  unfolding fromFault
+  fault-running e y = record { is = λ b f k. rw (e, e) y }
+
+  pub fault-over : r .way ≡ Over → {p : Went} → PartOver z (r .order) p → Makes t z fromFault r p
+  unfolding fromFault
+  fault-over e y = record { is = λ b f k. rw e (y .is b f) }
+
+  pub fault-raising : r .way ≡ Raising → {p : Went} → Leads t z partRaised (r .order) p → Makes t z fromFault r p
+  unfolding fromFault
+  fault-raising e y = record { is = λ b f k. rw e (y .is b f k) }
+
+  pub fault-leaving : r .way ≡ Leaving → Makes t z fromFault r (record { way = Leaving; order = r .order })
+  unfolding fromFault
+  fault-leaving e = record { is = λ b f k. rw (e, e) }
+
+  pub fault-undone : r .way ≡ Undone → {p : Went} → p ≡ runsOf (r .order) → Makes t z fromFault r p
+  unfolding fromFault
+  fault-undone e y = record { is = λ b f k. rw e y }
+
+  pub fault-undoRaising : r .way ≡ UndoRaising → {p : Went} → p ≡ runsOf (r .order) → Makes t z fromFault r p
+  unfolding fromFault
+  fault-undoRaising e y = record { is = λ b f k. rw e y }
+
+module _ (r : Went) where
+  pub up-running : r .way ≡ Running → _≡_ {A = Went} (record { way = Running; order = r .order }) (went (fromUndo (outcome r)))
+  unfolding fromUndo
+  up-running e = rw e
+
+  pub up-over : r .way ≡ Over → _≡_ {A = Went} (record { way = Undone; order = r .order }) (went (fromUndo (outcome r)))
+  unfolding fromUndo
+  up-over e = rw e
+
+  pub up-raising : r .way ≡ Raising → _≡_ {A = Went} (record { way = UndoRaising; order = r .order }) (went (fromUndo (outcome r)))
+  unfolding fromUndo
+  up-raising e = rw e
+
+  pub up-leaving : r .way ≡ Leaving → _≡_ {A = Went} (record { way = Leaving; order = r .order }) (went (fromUndo (outcome r)))
+  unfolding fromUndo
+  up-leaving e = rw e
+
+  pub up-undone : r .way ≡ Undone → _≡_ {A = Went} (record { way = Undone; order = r .order }) (went (fromUndo (outcome r)))
+  unfolding fromUndo
+  up-undone e = rw e
+
+  pub up-undoRaising : r .way ≡ UndoRaising → _≡_ {A = Went} (record { way = UndoRaising; order = r .order }) (went (fromUndo (outcome r)))
+  unfolding fromUndo
+  up-undoRaising e = rw e

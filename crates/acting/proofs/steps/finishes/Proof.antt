@@ -1,0 +1,15 @@
+-- `acting::steps::finishes` meets its contract. Assumes nothing.
+use borrow.Author.Needs.{needs}
+use Rattle.acting.proofs.StepReturns.{finish-is}
+use Rattle.acting.proofs.steps.finishes.Statement.{statement}
+use Rattle.acting.proofs.steps.finishes.Tie as tie
+
+ruleset cases = (finish-is)
+
+pub finishes-spec : {M : Type 1} → statement M
+finishes-spec =
+    tie.close (tie.spec
+    -- marked-requires
+    (λ c κs. search needs)
+    -- returns
+    (λ c. search cases))

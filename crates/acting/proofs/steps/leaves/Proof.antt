@@ -1,0 +1,15 @@
+-- `acting::steps::leaves` meets its contract. Assumes nothing.
+use borrow.Author.Needs.{needs}
+use Rattle.acting.proofs.StepReturns.{leave-is}
+use Rattle.acting.proofs.steps.leaves.Statement.{statement}
+use Rattle.acting.proofs.steps.leaves.Tie as tie
+
+ruleset cases = (leave-is)
+
+pub leaves-spec : {M : Type 1} → statement M
+leaves-spec =
+    tie.close (tie.spec
+    -- marked-requires
+    (λ c κs. search needs)
+    -- returns
+    (λ c. search cases))

@@ -1,0 +1,35 @@
+-- `acting::steps::repeats` meets its contract. Assumes nothing.
+use borrow.Author.Needs.{needs}
+use Rattle.acting.proofs.StepReturns.{repeat-over, repeat-runs}
+use Rattle.acting.proofs.steps.repeats.Statement.{statement}
+use Rattle.acting.proofs.steps.repeats.Tie as tie
+
+ruleset cases = (repeat-over, repeat-runs)
+
+pub repeats-spec : {M : Type 1} → statement M
+repeats-spec =
+    tie.close (tie.spec
+    -- end-of-requires
+    (λ c κs. search needs)
+    -- add-cleared
+    (λ c. search needs)
+    -- cleared-requires
+    (λ c κs. search needs)
+    -- with-marks-requires
+    (λ c κs. search needs)
+    -- marked-requires
+    (λ c κs. search needs)
+    -- add-begin-row
+    (λ c. search needs)
+    -- begin-row-requires
+    (λ c κs. search needs)
+    -- begun-in-requires
+    (λ c κs. search needs)
+    -- is-over-requires
+    (λ c κs. search needs)
+    -- again-requires
+    (λ c κs. search needs)
+    -- returns
+    (λ c. search cases)
+    -- returns-2
+    (λ c. search cases))

@@ -1,0 +1,21 @@
+-- `acting::steps::sends` meets its contract. Assumes nothing.
+use borrow.Author.Needs.{needs}
+use Rattle.acting.proofs.StepReturns.{send-sends, send-raises}
+use Rattle.acting.proofs.steps.sends.Statement.{statement}
+use Rattle.acting.proofs.steps.sends.Tie as tie
+
+ruleset cases = (send-sends, send-raises)
+
+pub sends-spec : {M : Type 1} → statement M
+sends-spec =
+    tie.close (tie.spec
+    -- all-bound-requires
+    (λ c κs. search needs)
+    -- finishes-requires
+    (λ c κs. search needs)
+    -- returns
+    (λ c. search cases)
+    -- raises-requires
+    (λ c κs. search needs)
+    -- returns-2
+    (λ c. search cases))

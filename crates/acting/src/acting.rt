@@ -1,0 +1,188 @@
+// A step in an activity: down to the one that acts, and back.
+use super::outcomes::from_body;
+use super::outcomes::from_fault;
+use super::outcomes::from_undo;
+use super::steps::again;
+use super::steps::finishes;
+use super::steps::itself;
+use order::Entered;
+use order::Order;
+use order::Went;
+use order::kind;
+use order::mark;
+use order::marks::begun_in;
+use order::marks::is_over;
+use order::marks::mark_at;
+use order::marks::marked;
+use order::marks::quiet;
+use order::marks::runs;
+use order::rows::end_of;
+use order::rows::kind_of;
+use scopes::beginning::begin_in_turn;
+use scopes::scopes::spot_at;
+ghost use Prim.Native.Nat.{_≤_, _<_};
+ghost use mathlib.Core.Path.{_≡_};
+ghost use Rattle.order.specs.Answering.{ChildWith, Arms, BeginsAfter, Follows, JoinsAt, InScope, GoesOn, hasParts, Combines, StepsIn};
+
+// The row of those from c to e, side by side, in which row t stands; e where there is none.
+fn child_with(table: &[u32; 11584], c: usize, e: usize, t: usize) -> usize
+    requires { ⌜ e ≤ 256 ⌝ }
+    ensures { λ p. ⌜ ChildWith (now (table .entry)) c e t p ⌝ }
+{
+    let mut j = c;
+    while j < e {
+        let n = end_of(table, j);
+        if t < n {
+            return j;
+        }
+        j = n;
+    }
+    e
+}
+
+// A pick one of whose arms takes its message is no longer active.
+fn arms(table: &[u32; 11584], k: usize, e: usize, child: usize, t: usize, order: Order) -> Order
+    requires { ⌜ k < 256 ⌝ }
+    ensures { λ p. ⌜ Arms (now (table .entry)) k e child t order p ⌝ }
+{
+    if kind_of(table, k) == kind::PICK {
+        if child < e {
+            if child == t {
+                return marked(k, mark::INSIDE, order);
+            }
+        }
+    }
+    order
+}
+
+// What follows the part in row `child` begins, in turn, as far as row e.
+fn begin_after(table: &[u32; 11584], e: usize, child: usize, marks: [u8; 256]) -> Entered
+    requires { ⌜ e ≤ 256 ⌝ }
+    ensures { λ p. ⌜ BeginsAfter (now (table .entry)) e child marks p ⌝ }
+{
+    if child < e {
+        return begin_in_turn(table, end_of(table, child), e, marks);
+    }
+    Entered { marks, over: true }
+}
+
+// Sequence k goes on after its part in row `child`.
+fn follows(table: &[u32; 11584], k: usize, e: usize, child: usize, order: Order) -> Went
+    requires { ⌜ (k < 256) × (e ≤ 256) ⌝ }
+    ensures { λ p. ⌜ Follows (now (table .entry)) k e child order p ⌝ }
+{
+    let m = order.marks;
+    let r = begun_in(order, begin_after(table, e, child, m));
+    let w = r.way;
+    if is_over(w) {
+        let p = r.order;
+        return finishes(k, p);
+    }
+    r
+}
+
+// A flow is over when all in it is.
+fn joins(k: usize, e: usize, order: Order) -> Went
+    requires { ⌜ (k < 256) × (e ≤ 256) ⌝ }
+    ensures { λ p. ⌜ JoinsAt k e order p ⌝ }
+{
+    let m = order.marks;
+    if quiet(k + 1, e, m) {
+        return finishes(k, order);
+    }
+    runs(order)
+}
+
+// What scope k makes of a step t within it.
+fn in_scope(table: &[u32; 11584], k: usize, t: usize, r: Went) -> Went
+    requires { ⌜ k < 256 ⌝ }
+    ensures { λ p. ⌜ InScope (now (table .entry)) k t r p ⌝ }
+{
+    let s = spot_at(table, k);
+    let fault = s.fault;
+    if t < fault {
+        return from_body(table, s, r);
+    }
+    if t < end_of(table, fault) {
+        return from_fault(table, s, r);
+    }
+    from_undo(r)
+}
+
+// What activity k makes of its part that is over.
+fn goes_on(table: &[u32; 11584], k: usize, e: usize, child: usize, order: Order) -> Went
+    requires { ⌜ (k < 256) × (e ≤ 256) ⌝ }
+    ensures { λ p. ⌜ GoesOn (now (table .entry)) k e child order p ⌝ }
+{
+    let kind = kind_of(table, k);
+    let mark = mark_at(k, order);
+    if kind == kind::SEQUENCE {
+        if mark == mark::ACTIVE {
+            return follows(table, k, e, child, order);
+        }
+        return runs(order);
+    }
+    if kind == kind::FLOW {
+        if mark == mark::ACTIVE {
+            return joins(k, e, order);
+        }
+        return runs(order);
+    }
+    if kind == kind::REPEAT {
+        if mark == mark::INSIDE {
+            return again(k, order);
+        }
+        return runs(order);
+    }
+    if mark == mark::INSIDE {
+        return finishes(k, order);
+    }
+    runs(order)
+}
+
+// Whether an activity of this kind goes on where its part is over: a choose, a repeat, a sequence, a flow or a pick.
+fn has_parts(kind: u32) -> bool
+    ensures { λ p. ⌜ p ≡ hasParts kind ⌝ }
+{
+    if kind < kind::CHOOSE {
+        return false;
+    }
+    kind < kind::SCOPE
+}
+
+// What activity k makes of a step t within it.
+fn combines(table: &[u32; 11584], k: usize, e: usize, child: usize, t: usize, r: Went) -> Went
+    requires { ⌜ (k < 256) × (e ≤ 256) ⌝ }
+    ensures { λ p. ⌜ Combines (now (table .entry)) k e child t r p ⌝ }
+{
+    let kind = kind_of(table, k);
+    if kind == kind::SCOPE {
+        return in_scope(table, k, t, r);
+    }
+    if has_parts(kind) {
+        let w = r.way;
+        if is_over(w) {
+            let o = r.order;
+            return goes_on(table, k, e, child, o);
+        }
+    }
+    r
+}
+
+// Step t in activity k.
+pub(crate) fn step_in(table: &[u32; 11584], k: usize, t: usize, order: Order) -> Went
+    requires { ⌜ k < 256 ⌝ }
+    ensures { λ p. ⌜ StepsIn (now (table .entry)) k t order p ⌝ }
+{
+    if k == t {
+        return itself(table, k, order);
+    }
+    let e = end_of(table, k);
+    let child = child_with(table, k + 1, e, t);
+    let o = arms(table, k, e, child, t, order);
+    if child < e {
+        let r = step_in(table, child, t, o);
+        return combines(table, k, e, child, t, r);
+    }
+    combines(table, k, e, child, t, runs(o))
+}

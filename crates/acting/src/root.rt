@@ -1,0 +1,89 @@
+// The root as a scope, and how an order stands after a step.
+use order::End;
+use order::Next;
+use order::Order;
+use order::Spot;
+use order::Way;
+use order::Went;
+use order::mark;
+use order::rows::end_of;
+use scopes::scopes::some_row;
+ghost use Prim.Native.Nat.{_≤_};
+ghost use mathlib.Core.Path.{_≡_};
+ghost use Rattle.order.specs.Acting.{endOf, movedTo};
+ghost use Rattle.order.specs.Answering.{outcome, nextOf, endedOf, RootSpot};
+ghost use Rattle.order.specs.State.{noOrder};
+
+// No order.
+pub(crate) fn no_order() -> Order
+    ensures { λ r. ⌜ r ≡ noOrder ⌝ }
+{
+    Order {
+        root: mark::IDLE,
+        marks: [mark::IDLE; 256],
+        values: [0u32; 16],
+        bound: [0u8; 16],
+        remembered: [0u8; 32],
+        kept: 0,
+    }
+}
+
+// An order that ended so: its slot is free.
+fn ended(end: End) -> Next
+    ensures { λ r. ⌜ r ≡ endedOf end ⌝ }
+{
+    let o = no_order();
+    Next { end, order: o }
+}
+
+// The order after a step that led to this.
+pub(crate) fn moved_to(r: Went) -> Next
+    ensures { λ p. ⌜ p ≡ nextOf (movedTo (outcome r) (endOf (outcome r))) ⌝ }
+{
+    let w = r.way;
+    let o = r.order;
+    match w {
+        Way::Running => {
+            if o.root == mark::DONE {
+                return ended(End::Well);
+            }
+            Next {
+                end: End::None,
+                order: o,
+            }
+        }
+        Way::Over => ended(End::Handled),
+        Way::Raising => ended(End::Failed),
+        Way::Leaving => ended(End::Left),
+        Way::Undone => Next {
+            end: End::None,
+            order: o,
+        },
+        Way::UndoRaising => Next {
+            end: End::None,
+            order: o,
+        },
+    }
+}
+
+// A count of rows: at most all 256.
+fn capped(x: usize) -> usize
+    ensures { λ r. ⌜ (r ≤ 256) × (x ≤ 256 → r ≡ x) ⌝ }
+{
+    if x <= 256 { x } else { 256 }
+}
+
+// The root as a scope.
+pub(crate) fn root_spot(table: &[u32; 11584], activities: usize) -> Spot
+    ensures { λ r. ⌜ RootSpot (now (table .entry)) activities r ⌝ }
+{
+    let end = capped(activities);
+    let fault = some_row(end_of(table, 0));
+    Spot {
+        root: true,
+        first: 0,
+        end,
+        body: 0,
+        fault,
+    }
+}

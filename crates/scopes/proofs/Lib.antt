@@ -1,0 +1,4 @@
+mod BeginReturns
+mod UndoReturns
+mod ScopeReturns
+mod StopReturns

@@ -1,0 +1,125 @@
+// How a scope ends, handles its fault, undoes and turns.
+use super::beginning::begin;
+use super::undoing::after_row;
+use super::undoing::undo;
+use order::Order;
+use order::Spot;
+use order::Way;
+use order::Went;
+use order::inside::inner_runs;
+use order::mark;
+use order::marks::begun_in;
+use order::marks::is_over;
+use order::marks::marking;
+use order::marks::runs;
+use order::rows::end_of;
+ghost use Prim.Native.Nat.{_<_};
+ghost use mathlib.Core.Bool.{true, false};
+ghost use mathlib.Core.Path.{_≡_};
+ghost use Rattle.order.specs.Answering.{Bounded, endsOf, Handles, Undoes, Turns, SpotAt};
+
+// The scope ends without closing.
+pub fn ends(spot: Spot, order: Order) -> Went
+    requires { ⌜ Bounded spot ⌝ }
+    ensures { λ r. ⌜ r ≡ endsOf spot order ⌝ }
+{
+    let o = marking(spot, mark::IDLE, order);
+    Went {
+        way: Way::Over,
+        order: o,
+    }
+}
+
+// The scope runs its fault part.
+fn handle(table: &[u32; 11584], spot: Spot, order: Order) -> Went
+    requires { ⌜ Bounded spot ⌝ }
+    ensures { λ r. ⌜ Handles (now (table .entry)) spot order r ⌝ }
+{
+    let o = marking(spot, mark::HANDLING, order);
+    let m = o.marks;
+    let r = begun_in(o, begin(table, spot.fault, m));
+    let w = r.way;
+    if is_over(w) {
+        let p = r.order;
+        return ends(spot, p);
+    }
+    r
+}
+
+// The scope undoes, and then runs its fault part.
+fn undoes_handling(table: &[u32; 11584], spot: Spot, order: Order) -> Went
+    requires { ⌜ Bounded spot ⌝ }
+    ensures { λ r. ⌜ Undoes (now (table .entry)) true spot order r ⌝ }
+{
+    let o = marking(spot, mark::UNDOING, order);
+    let r = undo(table, spot, o);
+    let w = r.way;
+    if is_over(w) {
+        let p = r.order;
+        return handle(table, spot, p);
+    }
+    r
+}
+
+// The scope undoes, and then ends.
+fn undoes_ending(table: &[u32; 11584], spot: Spot, order: Order) -> Went
+    requires { ⌜ Bounded spot ⌝ }
+    ensures { λ r. ⌜ Undoes (now (table .entry)) false spot order r ⌝ }
+{
+    let o = marking(spot, mark::WITHDRAWING, order);
+    let r = undo(table, spot, o);
+    let w = r.way;
+    if is_over(w) {
+        let p = r.order;
+        return ends(spot, p);
+    }
+    r
+}
+
+// The scope undoes: after its list it runs its fault part, or where it was stopped it ends.
+pub fn undoes(table: &[u32; 11584], handling: bool, spot: Spot, order: Order) -> Went
+    requires { ⌜ Bounded spot ⌝ }
+    ensures { λ r. ⌜ Undoes (now (table .entry)) handling spot order r ⌝ }
+{
+    if handling {
+        return undoes_handling(table, spot, order);
+    }
+    undoes_ending(table, spot, order)
+}
+
+// The scope undoes where none of its inner scopes is left running.
+pub fn turns(table: &[u32; 11584], handling: bool, spot: Spot, order: Order) -> Went
+    requires { ⌜ Bounded spot ⌝ }
+    ensures { λ r. ⌜ Turns (now (table .entry)) handling spot order r ⌝ }
+{
+    let m = order.marks;
+    if inner_runs(table, spot.body, spot.fault, m) {
+        return runs(order);
+    }
+    undoes(table, handling, spot, order)
+}
+
+// A row of the table, 0 where x is none.
+pub fn some_row(x: usize) -> usize
+    ensures { λ r. ⌜ (r < 256) × (x < 256 → r ≡ x) ⌝ }
+{
+    if x < 256 { x } else { 0 }
+}
+
+// The scope in row k.
+pub fn spot_at(table: &[u32; 11584], k: usize) -> Spot
+    requires { ⌜ k < 256 ⌝ }
+    ensures { λ r. ⌜ SpotAt (now (table .entry)) k r ⌝ }
+{
+    let end = end_of(table, k);
+    let body = some_row(k + 1);
+    let next = after_row(table, body);
+    let fault = some_row(next);
+    Spot {
+        root: false,
+        first: k,
+        end,
+        body,
+        fault,
+    }
+}
