@@ -22,8 +22,8 @@ use Rattle.order.specs.Lists.{every, some, only, each, empties}
 use Rattle.machine.specs.Offer.{Offer, offering, Offers, allOf, unlessHeld, isCut, eager, sendHeld, closeHeld, stepOffers, orderOffers, startOf, startsOf, freeFrom, startOffers, offersOf}
 use Rattle.order.specs.State.{isLive}
 use Rattle.machine.specs.State.{letters}
-use Rattle.offer.specs.Lines.{Line, linesOf, isReady, readyAt, readyLine, Tabled}
-use Rattle.offer.proofs.Lines.{ready-lines, plan-long}
+use Rattle.fit.specs.Lines.{Line, linesOf, isReady, readyAt, readyLine, Tabled}
+use Rattle.fit.proofs.Lines.{ready-lines, plan-long}
 use Rattle.offer.proofs.Starting.{letters-long}
 
 only-short : {A : Type 0} (f : A → Bool) (l : List A) → length (only f l) ≤ length l

@@ -16,7 +16,7 @@ use Rattle.machine.specs.declared.State.{State}
 use Rattle.machine.specs.declared.Step.{Step}
 use Rattle.order.specs.Acting.{startedOrder}
 use Rattle.order.specs.Answering.{Spelled, StartsOrder as Begun}
-use Rattle.offer.specs.Answering.{Correlated, messageAt, Letters, Picks}
+use Rattle.fit.specs.Answering.{Correlated, messageAt, Letters, Picks}
 use Rattle.machine.specs.Calls.{Chosen, refusedChoice, chosen, nth, choosing, previewed, previewBy}
 use Rattle.machine.specs.Fit.{Ready, readyOf, Live, liveFrom, Letter, lettersFrom, fittings}
 use Rattle.machine.specs.Limits.{messageInLimits, inLimits}
@@ -24,15 +24,17 @@ use Rattle.order.specs.Lists.{every, empties}
 use Rattle.machine.specs.Offer.{Offer, offering, Offers, together, allOf, orderOffers, freeFrom, startOffers, offersOf}
 use Rattle.machine.specs.State.{noMessage, letters}
 use Rattle.offer.specs.declared.Amount.{Amount}
-use Rattle.offer.specs.declared.Pointer.{Pointer}
-use Rattle.offer.specs.declared.Sight.{Sight}
-use Rattle.offer.specs.Folds.{folded, lesser}
-use Rattle.offer.specs.Lines.{Tabled}
-use Rattle.offer.specs.Sights.{pointed, seen, unseen, Unseen, chosenBy, answered, Across, Leasts, Tells, noLetter, Told, Informed, offerLive, Mailed, StartsOrder, SeesBy, SeesAll, Previews, amounted, amountOf, Amounts}
+use Rattle.sight.specs.declared.Pointer.{Pointer}
+use Rattle.sight.specs.declared.Sight.{Sight}
+use Rattle.fit.specs.Folds.{folded, lesser}
+use Rattle.fit.specs.Lines.{Tabled}
+use Rattle.sight.specs.Sights.{pointed, seen, unseen, Unseen, chosenBy, answered, Tells, noLetter, Told}
+use Rattle.fit.specs.Receiving.{Across, Leasts}
+use Rattle.offer.specs.Seeing.{Informed, offerLive, Mailed, StartsOrder, SeesBy, SeesAll, Previews, amounted, amountOf, Amounts}
 use Rattle.offer.proofs.Amounted.{offers-short}
-use Rattle.offer.proofs.Lines.{fold-same}
+use Rattle.fit.proofs.Lines.{fold-same}
 use Rattle.offer.proofs.OrderSeen.{seen-together, seen-all}
-use Rattle.offer.proofs.Sighting.{pointed-found}
+use Rattle.sight.proofs.Sighting.{pointed-found}
 use Rattle.offer.proofs.Starting.{letters-long, letters-at}
 
 -- a choice that is counted down

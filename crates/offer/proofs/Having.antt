@@ -27,9 +27,9 @@ use Rattle.machine.proofs.Moved.{limits-waiting}
 use Rattle.offer.specs.declared.Amount.{Amount}
 use Rattle.offer.specs.declared.Offered.{Offered}
 use Rattle.offer.specs.Having.{Has, OffersBy, offeredIn}
-use Rattle.offer.specs.Lines.{Tabled}
-use Rattle.offer.specs.Sights.{Previews, Amounts}
-use Rattle.offer.proofs.FirstFits.{accepted-correlated}
+use Rattle.fit.specs.Lines.{Tabled}
+use Rattle.offer.specs.Seeing.{Previews, Amounts}
+use Rattle.fit.proofs.FirstFits.{accepted-correlated}
 
 -- what a state with its plan, table and flags has besides
 pub has-limits : {t flags : List ℕ} {n : ℕ} {s : State} → Has t flags n s → inLimits s ≡ true

@@ -1,16 +1,3 @@
-mod Filled
-mod FitReturns
-mod SearchReturns
-mod Searched
-mod Finds
-pub mod FirstFits
-mod Lines
-mod Crossed
-mod Sighting
-mod Fewest
-mod Rowed
-mod Directed
-mod Closes
 mod OrderSeen
 mod Starting
 mod Amounted

@@ -13,22 +13,24 @@ use lib.Seq.{drop-cons}
 use Rattle.plan.specs.Tree.{Own, empty, send, receive, set as setting, raise, leave, choose, repeat, sequence, flow, pick, scope, arm, kind, Act, act, Acts, none, more, Plan, size}
 use Rattle.machine.specs.declared.Message.{Message}
 use Rattle.order.specs.declared.Order.{Order}
-use Rattle.offer.specs.declared.Receiver.{Receiver}
-use Rattle.offer.specs.Answering.{Correlated, KnowsOrder, messageAt, Picks, fitsOwn, catches}
-use Rattle.offer.specs.Finding.{firstReceiver, isNothing}
+use Rattle.fit.specs.declared.Receiver.{Receiver}
+use Rattle.fit.specs.Answering.{Correlated, KnowsOrder, messageAt, Picks, fitsOwn, catches}
+use Rattle.fit.specs.Finding.{firstReceiver, isNothing}
 use Rattle.machine.specs.Fit.{Doing, noStep, sends, takes, moves, cuts, closes, doingOf, awaits, Ready, readyOf, Live, liveFrom, Letter, lettersFrom, fits, fittings}
 use Rattle.order.specs.Lists.{each, empties}
 use Rattle.machine.specs.Offer.{Offer, offering, Offers, unlessHeld, startOf, startsOf, freeFrom, startOffers}
 use Rattle.order.specs.State.{isLive, markAt}
 use Rattle.machine.specs.State.{noMessage}
-use Rattle.offer.proofs.FirstFits.{first-exactly}
-use Rattle.offer.specs.declared.Sight.{Sight}
-use Rattle.offer.specs.Folds.{folded}
-use Rattle.offer.specs.Lines.{Line, linesOf, isReady, readyAt, Stands, Tabled, Rows, Wholes}
-use Rattle.offer.specs.Sights.{Frees, pointed, seen, showing, withholding, Lent, TakesRow, Receives, noLetter, startLine, Could, StartsLetter, Mailed, Starts, StartsOrder}
-use Rattle.offer.proofs.Fewest.{cond-and}
-use Rattle.offer.proofs.Lines.{fold-each, fold-same, fold-ready, Rowing, rowing-starts, rowing-again, rowing-done}
-use Rattle.offer.proofs.OrderSeen.{or-false, seen-none, seen-hold}
+use Rattle.fit.proofs.FirstFits.{first-exactly}
+use Rattle.sight.specs.declared.Sight.{Sight}
+use Rattle.fit.specs.Folds.{folded}
+use Rattle.fit.specs.Lines.{Line, linesOf, isReady, readyAt, Stands, Tabled, Rows, Wholes}
+use Rattle.offer.specs.Seeing.{Frees, startLine, Could, StartsLetter, Mailed, Starts, StartsOrder}
+use Rattle.sight.specs.Sights.{pointed, seen, showing, withholding, noLetter}
+use Rattle.fit.specs.Receiving.{Lent, TakesRow, Receives}
+use Rattle.fit.proofs.Fewest.{cond-and}
+use Rattle.fit.proofs.Lines.{fold-each, fold-same, fold-ready, Rowing, rowing-starts, rowing-again, rowing-done}
+use Rattle.sight.proofs.RowSeen.{or-false, seen-none, seen-hold}
 
 -- `free_slot`
 pub record Freeing (orders : List Order) (i : ℕ) : Type 0 where

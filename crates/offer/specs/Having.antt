@@ -13,7 +13,7 @@ use Rattle.machine.specs.Limits.{planIn, by}
 use Rattle.machine.specs.Offer.{offersOf}
 use Rattle.machine.specs.Planned.{Planned}
 use Rattle.offer.specs.declared.Offered.{Offered}
-use Rattle.offer.specs.Answering.{Correlated}
+use Rattle.fit.specs.Answering.{Correlated}
 
 -- a state with the plan that a table and flags are of
 pub record Has (t flags : List ℕ) (activities : ℕ) (s : State) : Type 0 where

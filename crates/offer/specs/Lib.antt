@@ -1,6 +1,2 @@
-pub mod Finding
-pub mod Answering
-pub mod Folds
-pub mod Lines
-pub mod Sights
+pub mod Seeing
 pub mod Having

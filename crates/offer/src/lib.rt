@@ -1,41 +1,15 @@
 // What is offered in a state: the step that a choice would take, and how many steps there are. No list is built: a choice is counted down.
-mod counting;
-mod fitness;
-mod least;
-mod letters;
 mod previews;
-mod rows;
-mod search;
 mod slots;
 
 use machine::State;
 use machine::Step;
 use machine::limits;
 use plan::Answer;
+use sight::counting;
 ghost use mathlib.Core.Path.{_≡_};
 ghost use Rattle.machine.specs.Calls.{preview};
 ghost use Rattle.offer.specs.Having.{Has, OffersBy, offeredIn};
-
-// An open receive, by the slot of its order and its activity, or none.
-pub enum Receiver {
-    At { slot: usize, activity: usize },
-    Nothing,
-}
-
-// A choice that is counted down over the offer: how much of it is left, and, once it is found, the slot, the activity and the message place.
-pub struct Pointer {
-    pub left: usize,
-    pub found: bool,
-    pub slot: usize,
-    pub activity: usize,
-    pub place: usize,
-}
-
-// What was seen of the offer: where the choice stands, and whether something is held.
-pub struct Sight {
-    pub pointer: Pointer,
-    pub held: bool,
-}
 
 // How many steps are on offer, and whether something is held.
 pub struct Amount {

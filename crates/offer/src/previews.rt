@@ -1,20 +1,20 @@
 // The offer shown: what a choice comes to, and how much is on offer.
 use super::Amount;
-use super::Sight;
-use super::counting::answer;
-use super::counting::nothing_seen;
-use super::least::least_slot;
-use super::letters::letters_of;
-use super::search::picks_of;
 use super::slots::offer_slot;
 use super::slots::starts;
 use acting::started_order;
+use fit::least::least_slot;
+use fit::letters::letters_of;
+use fit::search::picks_of;
 use machine::State;
 use machine::Step;
 use order::Order;
+use sight::Sight;
+use sight::counting::answer;
+use sight::counting::nothing_seen;
 ghost use Prim.Native.Nat.{_≤_};
 ghost use mathlib.Core.Path.{_≡_};
-ghost use Rattle.offer.specs.Sights.{SeesBy, SeesAll, Previews, amounted, Amounts};
+ghost use Rattle.offer.specs.Seeing.{SeesBy, SeesAll, Previews, amounted, Amounts};
 
 // What is seen of the whole offer of some orders and letters: first, for each message that waits, the
 // fewest unchecked places of the open receives that it fits, 5 where it fits none; then what each live order has on offer; then what may start.

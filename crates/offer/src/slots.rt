@@ -1,18 +1,19 @@
 // What the orders have on offer, and what may start.
-use super::Receiver;
-use super::Sight;
-use super::counting::shown;
-use super::counting::withheld;
-use super::fitness::known_of;
-use super::rows::cut_rows;
-use super::rows::offer_rows;
-use super::search::first_receiver;
-use super::search::takes_at;
+use fit::Receiver;
+use fit::fitness::known_of;
+use fit::search::first_receiver;
+use fit::search::takes_at;
 use order::Order;
+use sight::Sight;
+use sight::counting::shown;
+use sight::counting::withheld;
+use sight::rows::cut_rows;
+use sight::rows::offer_rows;
 ghost use Prim.Native.Nat.{_≤_, _<_};
-ghost use Rattle.offer.specs.Answering.{messageAt};
-ghost use Rattle.offer.specs.Lines.{Rows, Wholes};
-ghost use Rattle.offer.specs.Sights.{Frees, Slots, Informed, offerLive, Lent, startLine, Could, StartsLetter, Starts, StartsOrder};
+ghost use Rattle.fit.specs.Answering.{messageAt};
+ghost use Rattle.fit.specs.Lines.{Rows, Wholes};
+ghost use Rattle.offer.specs.Seeing.{Frees, Informed, offerLive, startLine, Could, StartsLetter, Starts, StartsOrder};
+ghost use Rattle.fit.specs.Receiving.{Slots, Lent};
 
 // What the order in a slot has on offer.
 pub(crate) fn offer_slot(

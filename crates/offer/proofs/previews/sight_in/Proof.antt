@@ -1,10 +1,10 @@
 -- `offer::previews::sight_in` meets its contract. Assumes nothing.
 use borrow.Author.Needs.{needs}
 use Prim.Native.Nat.{_-_}
-use Rattle.offer.specs.Sights.{Informed, offerLive}
+use Rattle.offer.specs.Seeing.{Informed, offerLive}
 use Rattle.offer.proofs.Answered.{sees-none, sees-started}
-use Rattle.offer.proofs.Crossed.{Crossing, crossing-starts, crossing-again, crossing-passes, crossing-done}
-use Rattle.offer.proofs.Fewest.{Lowering, lowering-starts, lowering-again, lowering-passes, lowering-done}
+use Rattle.fit.proofs.Crossed.{Crossing, crossing-starts, crossing-again, crossing-passes, crossing-done}
+use Rattle.fit.proofs.Fewest.{Lowering, lowering-starts, lowering-again, lowering-passes, lowering-done}
 use Rattle.offer.proofs.previews.sight_in.Statement.{statement}
 use Rattle.offer.proofs.previews.sight_in.Tie as tie
 

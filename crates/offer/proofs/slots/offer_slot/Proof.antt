@@ -1,6 +1,6 @@
 -- `offer::slots::offer_slot` meets its contract. Assumes nothing.
 use borrow.Author.Needs.{needs}
-use Rattle.offer.proofs.Crossed.{slot-free}
+use Rattle.fit.proofs.Crossed.{slot-free}
 use Rattle.offer.proofs.OrderSeen.{offer-live}
 use Rattle.offer.proofs.slots.offer_slot.Statement.{statement}
 use Rattle.offer.proofs.slots.offer_slot.Tie as tie

@@ -1,9 +1,10 @@
 -- `offer::slots::start_rows` meets its contract. Assumes nothing.
 use borrow.Author.Needs.{needs}
 use Prim.Native.Nat.{_-_}
-use Rattle.offer.specs.Answering.{messageAt}
-use Rattle.offer.specs.Sights.{Lent, startLine}
-use Rattle.offer.proofs.Lines.{Rowing, rowing-starts, rowing-again, rowing-done}
+use Rattle.fit.specs.Answering.{messageAt}
+use Rattle.fit.specs.Receiving.{Lent}
+use Rattle.offer.specs.Seeing.{startLine}
+use Rattle.fit.proofs.Lines.{Rowing, rowing-starts, rowing-again, rowing-done}
 use Rattle.offer.proofs.slots.start_rows.Statement.{statement}
 use Rattle.offer.proofs.slots.start_rows.Tie as tie
 

@@ -1,0 +1,5 @@
+pub mod Sighting
+mod Rowed
+mod Directed
+mod Closes
+pub mod RowSeen

@@ -1,0 +1,216 @@
+-- What a row has on offer. Assumes nothing.
+use mathlib.Core.Path.{_≡_, refl, sym, ap, _∙_}
+use mathlib.Core.Bool.{Bool, true, false, cond, _||_}
+use mathlib.Core.List.{List, [], _∷_, map}
+use Prim.Native.Nat.{ℕ, _+_, _*_, _<_, _≤_}
+use native.Mathlib.Omega.{arith}
+use borrow.Author.Tests.{ne-eqb, le-leb, lt-leb}
+use lib.Dec.{eqb}
+use lib.ListN.{getD}
+use Rattle.plan.specs.Spells.{Spells, variablesOf}
+use Rattle.plan.specs.Table.{rowOf}
+use Rattle.plan.specs.Tree.{Own, empty, send, receive, set as setting, raise, leave, choose, repeat, sequence, flow, pick, scope, arm, kind, Acts, Plan}
+use Rattle.order.specs.declared.Order.{Order}
+use Rattle.machine.specs.Fit.{noStep, takes, moves, cuts, doingOf, Letter, mayTake}
+use Rattle.order.specs.Lists.{only}
+use Rattle.machine.specs.Offer.{Offer, offering, noOffers, unlessHeld, stepOffers}
+use Rattle.order.specs.Scope.{Scope, scopeAt}
+use Rattle.sight.specs.declared.Sight.{Sight}
+use Rattle.fit.specs.Folds.{folded}
+use Rattle.fit.specs.Answering.{Picks}
+use Rattle.fit.specs.Lines.{Line, isReady, Stands, Rows}
+use Rattle.sight.specs.Sights.{pointed, seen, showing, withholding, Heeding, Serving, Opening, doingBy, AwaitsRow, CutRow, BoundRow, ClosesRow, takeLetter, takeLine, doingLine, offerLine}
+use Rattle.fit.proofs.Lines.{fold-only}
+use Rattle.fit.proofs.SearchReturns.{stands-kind, stands-exchange}
+
+pub or-false : (b : Bool) → (b || false) ≡ b
+or-false true = refl
+or-false false = refl
+
+pub or-true : (b : Bool) → (b || true) ≡ true
+or-true true = refl
+or-true false = refl
+
+-- what is seen of the parts of an offer
+pub seen-none : (s : Sight) → seen noOffers s ≡ s
+unfolding seen folded
+seen-none s = rw (or-false (s .held))
+
+pub seen-show : (i k j : ℕ) (s : Sight) → seen (unlessHeld false (offering i k j ∷ [])) s ≡ showing i k j s
+unfolding seen showing folded
+seen-show i k j s = rw (or-false (s .held))
+
+pub seen-hold : (l : List Offer) (s : Sight) → seen (unlessHeld true l) s ≡ withholding s
+unfolding seen withholding folded
+seen-hold l s = rw (or-true (s .held))
+
+seen-map : (i k : ℕ) (l : List Letter) (s : Sight)
+    → seen (unlessHeld false (map (λ x. offering i k (x .place)) l)) s ≡ folded (λ x. showing i k (x .place)) l s
+unfolding seen folded showing
+seen-map i k [] s = rw (or-false (s .held))
+seen-map i k (x ∷ l) s = seen-map i k l (record { pointer = pointed (offering i k (x .place)) (s .pointer); held = s .held })
+
+-- the step of a row
+doing-own : (own : Own) (w : Acts) (k q at : ℕ)
+    → doingOf own w k ≡ doingBy (kind own) (getD (rowOf own q at) 1 0) (getD (rowOf own q at) 2 0) (variablesOf own) (scopeAt k w)
+unfolding doingOf doingBy kind rowOf variablesOf
+doing-own empty w k q at = refl
+doing-own (send a b vs) w k q at = refl
+doing-own (receive a b vs) w k q at = refl
+doing-own (setting v e) w k q at = refl
+doing-own raise w k q at = refl
+doing-own leave w k q at = refl
+doing-own (choose e) w k q at = refl
+doing-own (repeat e) w k q at = refl
+doing-own sequence w k q at = refl
+doing-own flow w k q at = refl
+doing-own pick w k q at = refl
+doing-own scope w k q at = refl
+doing-own (arm a b vs) w k q at = refl
+
+stands-doing : {t ms : List ℕ} {k : ℕ} {x : Line} → Stands t ms k x
+    → doingOf (x .own) (x .within) k ≡ doingBy (getD t (k * 13) 0) (getD t (k * 13 + 1) 0) (getD t (k * 13 + 2) 0) (variablesOf (x .own)) (scopeAt k (x .within))
+unfolding Spells
+stands-doing {k = k} {x} y =
+    doing-own (x .own) (x .within) k (y .node) (y .place)
+    ∙ rw (← y .spelled .row .kind, ← y .spelled .row .partner, ← y .spelled .row .operation)
+
+doing-moves : (n a b : ℕ) (vs : List ℕ) (s : Scope) → 3 ≤ n → n ≤ 7 → doingBy n a b vs s ≡ cond (eqb n 4 || eqb n 5) cuts moves
+unfolding doingBy
+doing-moves n a b vs s h g =
+    rw (
+      ne-eqb n 1 (λ q. omega arith),
+      ne-eqb n 2 (λ q. omega arith),
+      ne-eqb n 12 (λ q. omega arith),
+      ne-eqb n 11 (λ q. omega arith),
+      le-leb 3 n h,
+      le-leb n 7 g,
+    )
+
+doing-nothing : (n a b : ℕ) (vs : List ℕ) (s : Scope) → 7 < n → (n ≡ 12 → ⊥) → (n ≡ 11 → ⊥) → doingBy n a b vs s ≡ noStep
+unfolding doingBy
+doing-nothing n a b vs s h x y =
+    rw (ne-eqb n 1 (λ q. omega arith), ne-eqb n 2 (λ q. omega arith), ne-eqb n 12 x, ne-eqb n 11 y, le-leb 3 n (omega arith), lt-leb n 7 h)
+
+-- `doing_row`
+module _ (t known bound remembered : List ℕ) (kept i k : ℕ) (letters : List ℕ) (wait : ℕ) (least : List ℕ) (s : Sight) where
+  doing-says : (n : ℕ) → getD t (k * 13) 0 ≡ n → (o : Order) (p : Plan) (l : List Letter) (x : Line) → Stands t (o .marks) k x
+      → doingLine wait i o p l x s
+      ≡ seen (stepOffers p wait l i o k (doingBy n (getD t (k * 13 + 1) 0) (getD t (k * 13 + 2) 0) (variablesOf (x .own)) (scopeAt k (x .within)))) s
+  unfolding doingLine
+  doing-says n z o p l x y = rw (y .activity, stands-doing y, z)
+
+  module _ (z : getD t (k * 13) 0 ≡ 1) where
+    pub send-room : {r : Sight} → wait < 64 → r ≡ showing i k 0 s → Rows t k (Serving known bound remembered kept letters wait least) (doingLine wait i) s r
+    unfolding stepOffers doingBy
+    send-room h q = record { is = λ o p l x g y. q ∙ sym (doing-says 1 z o p l x y ∙ rw (lt-leb 64 wait h) (seen-show i k 0 s)) }
+
+    module _ (h : 64 ≤ wait) {b : Bool} (v : BoundRow t bound k b) where
+      pub send-held : {r : Sight} → b ≡ true → r ≡ withholding s → Rows t k (Serving known bound remembered kept letters wait least) (doingLine wait i) s r
+      unfolding stepOffers doingBy
+      send-held e q = record {
+        is = λ o p l x g y.
+            q ∙ sym (doing-says 1 z o p l x y
+            ∙ rw (le-leb 64 wait h, sym (v .is o _ _ (variablesOf (x .own)) (g .bindings) (g .sixteen) (stands-exchange y) (y .few)) ∙ e) (seen-hold (offering i k 0 ∷ []) s));
+      }
+
+      pub send-raises : {r : Sight} → b ≡ false → r ≡ showing i k 0 s → Rows t k (Serving known bound remembered kept letters wait least) (doingLine wait i) s r
+      unfolding stepOffers doingBy
+      send-raises e q = record {
+        is = λ o p l x g y.
+            q ∙ sym (doing-says 1 z o p l x y
+            ∙ rw (le-leb 64 wait h, sym (v .is o _ _ (variablesOf (x .own)) (g .bindings) (g .sixteen) (stands-exchange y) (y .few)) ∙ e) (seen-show i k 0 s));
+      }
+
+  seen-takes : (o : Order) (p : Plan) (l : List Letter) (x : Line) → Stands t (o .marks) k x
+      → seen (stepOffers p wait l i o k (takes (getD t (k * 13 + 1) 0) (getD t (k * 13 + 2) 0) (variablesOf (x .own)))) s
+      ≡ takeLine i (getD t (k * 13 + 1) 0) (getD t (k * 13 + 2) 0) o p l x s
+  unfolding stepOffers takeLine takeLetter
+  seen-takes o p l x y =
+      seen-map i k (only (mayTake p o (getD t (k * 13 + 1) 0) (getD t (k * 13 + 2) 0) (variablesOf (x .own))) l) s
+      ∙ (fold-only (λ v. showing i k (v .place)) (mayTake p o (getD t (k * 13 + 1) 0) (getD t (k * 13 + 2) 0) (variablesOf (x .own))) l s ∙ rw (y .activity))
+
+  module _ {r : Sight} (w : Rows t k (Heeding known letters wait least) (takeLine i (getD t (k * 13 + 1) 0) (getD t (k * 13 + 2) 0)) s r) where
+    pub receive-takes : getD t (k * 13) 0 ≡ 2 → Rows t k (Serving known bound remembered kept letters wait least) (doingLine wait i) s r
+    unfolding doingBy
+    receive-takes z = record { is = λ o p l x g y. w .is o p l x (g .heeding) y ∙ sym (doing-says 2 z o p l x y ∙ seen-takes o p l x y) }
+
+    pub arm-takes : getD t (k * 13) 0 ≡ 12 → Rows t k (Serving known bound remembered kept letters wait least) (doingLine wait i) s r
+    unfolding doingBy
+    arm-takes z = record { is = λ o p l x g y. w .is o p l x (g .heeding) y ∙ sym (doing-says 12 z o p l x y ∙ seen-takes o p l x y) }
+
+  module _ (z : getD t (k * 13) 0 ≡ 11) {b : Bool} (v : ClosesRow t remembered kept k b) where
+    pub close-held : {r : Sight} → b ≡ true → r ≡ withholding s → Rows t k (Serving known bound remembered kept letters wait least) (doingLine wait i) s r
+    unfolding stepOffers doingBy
+    close-held e q = record {
+      is = λ o p l x g y. q ∙ sym (doing-says 11 z o p l x y ∙ rw (sym (v .is o x (g .memory) (g .places) (g .many) y (sym (stands-kind y) ∙ z)) ∙ e) (seen-hold (offering i k 0 ∷ []) s));
+    }
+
+    pub close-shown : {r : Sight} → b ≡ false → r ≡ showing i k 0 s → Rows t k (Serving known bound remembered kept letters wait least) (doingLine wait i) s r
+    unfolding stepOffers doingBy
+    close-shown e q = record {
+      is = λ o p l x g y. q ∙ sym (doing-says 11 z o p l x y ∙ rw (sym (v .is o x (g .memory) (g .places) (g .many) y (sym (stands-kind y) ∙ z)) ∙ e) (seen-show i k 0 s));
+    }
+
+  pub doing-empty : (getD t (k * 13) 0 ≡ 1 → ⊥) → (getD t (k * 13) 0 ≡ 2 → ⊥) → getD t (k * 13) 0 < 3
+      → Rows t k (Serving known bound remembered kept letters wait least) (doingLine wait i) s s
+  unfolding stepOffers doingBy
+  doing-empty x1 x2 h =
+      let z : getD t (k * 13) 0 ≡ 0 = omega (arith, x1, x2) in
+      record { is = λ o p l x g y. sym (doing-says 0 z o p l x y ∙ seen-none s) }
+
+  pub doing-step : {r : Sight} → 3 ≤ getD t (k * 13) 0 → getD t (k * 13) 0 ≤ 7 → r ≡ showing i k 0 s
+      → Rows t k (Serving known bound remembered kept letters wait least) (doingLine wait i) s r
+  unfolding stepOffers
+  doing-step h g q = record {
+    is = λ o p l x v y.
+        q ∙ sym (doing-says (getD t (k * 13) 0) refl o p l x y
+        ∙ (ap (λ d. seen (stepOffers p wait l i o k d) s) (doing-moves (getD t (k * 13) 0) _ _ (variablesOf (x .own)) (scopeAt k (x .within)) h g)
+        ∙ by-test o p l (eqb (getD t (k * 13) 0) 4 || eqb (getD t (k * 13) 0) 5)));
+  }
+    where
+      by-test : (o : Order) (p : Plan) (l : List Letter) (b : Bool) → seen (stepOffers p wait l i o k (cond b cuts moves)) s ≡ showing i k 0 s
+      by-test o p l true = seen-show i k 0 s
+      by-test o p l false = seen-show i k 0 s
+
+  pub doing-none : 7 < getD t (k * 13) 0 → (getD t (k * 13) 0 ≡ 12 → ⊥) → (getD t (k * 13) 0 ≡ 11 → ⊥)
+      → Rows t k (Serving known bound remembered kept letters wait least) (doingLine wait i) s s
+  unfolding stepOffers
+  doing-none h x1 x2 = record {
+    is = λ o p l x v y.
+        sym (doing-says (getD t (k * 13) 0) refl o p l x y
+        ∙ (ap (λ d. seen (stepOffers p wait l i o k d) s) (doing-nothing (getD t (k * 13) 0) _ _ (variablesOf (x .own)) (scopeAt k (x .within)) h x1 x2)
+        ∙ seen-none s));
+  }
+
+-- `offer_row`
+module _ {t picks marks : List ℕ} (known bound remembered : List ℕ) (kept i : ℕ) {k : ℕ} (letters : List ℕ) (wait : ℕ) (least : List ℕ) (s : Sight) {b : Bool}
+    (w : AwaitsRow t picks marks k b) where
+  ready-says : (o : Order) (x : Line) → Picks t picks → o .marks ≡ marks → Stands t (o .marks) k x → isReady (o .marks) x ≡ b
+  ready-says o x v e y = sym (rw (← e) at w .is x v y)
+
+  pub offer-idle : (cutting : Bool) → b ≡ false
+      → Rows t k (Opening t picks marks known bound remembered kept letters wait least) (offerLine cutting wait i) s s
+  unfolding offerLine
+  offer-idle cutting e = record { is = λ o p l x g y. rw (ready-says o x (g .picked) (g .marked) y ∙ e) }
+
+  module _ (e : b ≡ true) {cutting : Bool} where
+    pub offer-free : {r : Sight} → cutting ≡ false → Rows t k (Serving known bound remembered kept letters wait least) (doingLine wait i) s r
+        → Rows t k (Opening t picks marks known bound remembered kept letters wait least) (offerLine cutting wait i) s r
+    unfolding offerLine
+    offer-free z d = record { is = λ o p l x g y. rw (ready-says o x (g .picked) (g .marked) y ∙ e, z) (d .is o p l x (g .serving) y) }
+
+    module _ (z : cutting ≡ true) {c : Bool} (v : CutRow t k c) where
+      pub offer-cut : {r : Sight} → c ≡ true → Rows t k (Serving known bound remembered kept letters wait least) (doingLine wait i) s r
+          → Rows t k (Opening t picks marks known bound remembered kept letters wait least) (offerLine cutting wait i) s r
+      unfolding offerLine
+      offer-cut q d = record {
+        is = λ o p l x g y.
+            rw (ready-says o x (g .picked) (g .marked) y ∙ e, z, sym (v .is (o .marks) x y) ∙ q) (d .is o p l x (g .serving) y);
+      }
+
+      pub offer-aside : c ≡ false → Rows t k (Opening t picks marks known bound remembered kept letters wait least) (offerLine cutting wait i) s s
+      unfolding offerLine
+      offer-aside q = record {
+        is = λ o p l x g y. rw (ready-says o x (g .picked) (g .marked) y ∙ e, z, sym (v .is (o .marks) x y) ∙ q);
+      }

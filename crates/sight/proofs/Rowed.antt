@@ -1,0 +1,244 @@
+-- The returns of the functions that ask what a row has on offer. Assumes nothing.
+use mathlib.Core.Path.{_≡_, refl, sym, ap, _∙_}
+use mathlib.Core.Bool.{Bool, true, false, false≢true, cond, not, _&&_, _||_}
+use mathlib.Core.List.{List, [], _∷_, _++_, map}
+use Prim.Native.Nat.{ℕ, zero, suc, _+_, _*_, _-_, _<_, _≤_}
+use native.Mathlib.Decide.{decLt}
+use native.Mathlib.Nat.{add-zero}
+use native.Mathlib.Numerals.{add-one}
+use native.Mathlib.Omega.{arith}
+use borrow.Author.Tests.{eq-eqb, ne-eqb, lt-ltb, le-ltb, le-leb, lt-leb, not-true, not-false}
+use lib.Dec.{eqb, ltb, leb}
+use lib.ListN.{length, getD, drop, take, drop-of-length-le, List·getD-eq-default}
+use lib.Seq.{drop-cons, getD-drop}
+use Rattle.plan.specs.Spells.{Row, Spells, variablesOf}
+use Rattle.plan.specs.Table.{rowOf}
+use Rattle.plan.specs.Tree.{Own, empty, send, receive, set as setting, raise, leave, choose, repeat, sequence, flow, pick, scope, arm, kind, Act, act, Acts, none, more, Plan, size}
+use Rattle.order.specs.declared.Order.{Order}
+use Rattle.fit.specs.Answering.{Exchange, sixteenth, Asking, AsksRow, FitsRow, UncheckedRow, messageAt, ArmsRow}
+use Rattle.machine.specs.Fit.{doingOf, awaits, isChecked, Ready, Letter, fits, unchecked, mayTake}
+use Rattle.order.specs.Lists.{every}
+use Rattle.machine.specs.Offer.{isCut}
+use Rattle.order.specs.State.{isBound}
+use Rattle.sight.specs.declared.Sight.{Sight}
+use Rattle.fit.specs.Folds.{folded}
+use Rattle.fit.specs.Lines.{Line, isReady, readyAt, Stands, Rows}
+use Rattle.sight.specs.Sights.{Marked, Heeding, Told, Tells, noLetter, AwaitsRow, CutRow, cutLine, BoundRow, showing, takeLetter, TakesLetter, takeLine}
+use Rattle.fit.proofs.FitReturns.{sixteenth-beyond, sixteenth-here, asks-asking}
+use Rattle.fit.proofs.SearchReturns.{stands-kind, stands-exchange, and-false}
+
+-- `awaits_at`
+module _ (t picks ms : List ℕ) (k : ℕ) where
+  pub awaits-arm : {b : Bool} → getD t (k * 13) 0 ≡ 12 → ArmsRow t picks ms k b → AwaitsRow t picks ms k b
+  unfolding awaits
+  awaits-arm z q = record { is = λ x w y. rw (sym (stands-kind y) ∙ z) (q .is w z ∙ sym (y .arms)) }
+
+  pub awaits-scope : getD t (k * 13) 0 ≡ 11 → AwaitsRow t picks ms k (eqb (getD ms k 0) 3)
+  unfolding awaits
+  awaits-scope z = record { is = λ x w y. rw (sym (stands-kind y) ∙ z, y .activity) }
+
+  pub awaits-other : (getD t (k * 13) 0 ≡ 12 → ⊥) → (getD t (k * 13) 0 ≡ 11 → ⊥) → AwaitsRow t picks ms k (eqb (getD ms k 0) 1)
+  unfolding awaits
+  awaits-other z v = record {
+    is = λ x w y.
+        rw (ne-eqb (kind (x .own)) 12 (λ q. z (stands-kind y ∙ q)), ne-eqb (kind (x .own)) 11 (λ q. v (stands-kind y ∙ q)), y .activity);
+  }
+
+-- `is_cut`
+cut-own : (own : Own) (w : Acts) (k : ℕ) → isCut (record { activity = k; step = doingOf own w k }) ≡ (eqb (kind own) 4 || eqb (kind own) 5)
+unfolding doingOf kind
+cut-own empty w k = refl
+cut-own (send a b vs) w k = refl
+cut-own (receive a b vs) w k = refl
+cut-own (setting v e) w k = refl
+cut-own raise w k = refl
+cut-own leave w k = refl
+cut-own (choose e) w k = refl
+cut-own (repeat e) w k = refl
+cut-own sequence w k = refl
+cut-own flow w k = refl
+cut-own pick w k = refl
+cut-own scope w k = refl
+cut-own (arm a b vs) w k = refl
+
+pub cut-raise : (t : List ℕ) (k : ℕ) → getD t (k * 13) 0 ≡ 4 → CutRow t k true
+cut-raise t k z = record { is = λ ms x y. sym (cut-own (x .own) (x .within) (x .activity) ∙ rw (sym (stands-kind y) ∙ z)) }
+
+pub cut-leave : (t : List ℕ) (k : ℕ) → (getD t (k * 13) 0 ≡ 4 → ⊥) → CutRow t k (eqb (getD t (k * 13) 0) 5)
+cut-leave t k z = record {
+  is = λ ms x y.
+      sym (cut-own (x .own) (x .within) (x .activity) ∙ rw (ne-eqb (kind (x .own)) 4 (λ q. z (stands-kind y ∙ q)), stands-kind y));
+}
+
+-- `cut_row`
+cut-awaits : (own : Own) (w : Acts) (k : ℕ) (b : Bool) (m : ℕ) → isCut (record { activity = k; step = doingOf own w k }) ≡ true → awaits own b m ≡ eqb m 1
+unfolding doingOf awaits kind
+cut-awaits empty w k b m e = refl
+cut-awaits (send a d vs) w k b m e = refl
+cut-awaits (receive a d vs) w k b m e = refl
+cut-awaits (setting v x) w k b m e = refl
+cut-awaits raise w k b m e = refl
+cut-awaits leave w k b m e = refl
+cut-awaits (choose x) w k b m e = refl
+cut-awaits (repeat x) w k b m e = refl
+cut-awaits sequence w k b m e = refl
+cut-awaits flow w k b m e = refl
+cut-awaits pick w k b m e = refl
+cut-awaits scope w k b m e = absurd (false≢true e)
+cut-awaits (arm a d vs) w k b m e = absurd (false≢true e)
+
+cond-same : {A : Type 0} (b : Bool) (x : A) → cond b x x ≡ x
+cond-same true x = refl
+cond-same false x = refl
+
+module _ {t : List ℕ} (marks : List ℕ) {k : ℕ} (c : Bool) {d : Bool} (v : CutRow t k d) where
+  pub cut-other : d ≡ false → Rows t k (Marked marks) cutLine c c
+  unfolding cutLine
+  cut-other z = record {
+    is = λ o p l x g y. rw (sym (v .is (o .marks) x y) ∙ z) (sym (cond-same (isReady (o .marks) x) c));
+  }
+
+  module _ (z : d ≡ true) where
+    cut-ready : (o : Order) (x : Line) → o .marks ≡ marks → Stands t (o .marks) k x → isReady (o .marks) x ≡ eqb (getD marks k 0) 1
+    cut-ready o x g y =
+        cut-awaits (x .own) (x .within) (x .activity) (x .arms) (getD (o .marks) (x .activity) 0) (sym (v .is (o .marks) x y) ∙ z) ∙ rw (g, y .activity)
+
+    pub cut-here : getD marks k 0 ≡ 1 → Rows t k (Marked marks) cutLine c true
+    unfolding cutLine
+    cut-here e = record {
+      is = λ o p l x g y. rw (sym (v .is (o .marks) x y) ∙ z, cut-ready o x (g .same) y, eq-eqb _ _ e);
+    }
+
+    pub cut-before : (getD marks k 0 ≡ 1 → ⊥) → Rows t k (Marked marks) cutLine c c
+    unfolding cutLine
+    cut-before e = record {
+      is = λ o p l x g y. rw (cut-ready o x (g .same) y, ne-eqb _ _ e);
+    }
+
+-- `bound_at`
+pub bound-beyond : (l : List ℕ) (v : ℕ) → 16 ≤ v → false ≡ eqb (sixteenth l v) 1
+bound-beyond l v h = rw (← sixteenth-beyond l v h)
+
+pub bound-here : (l : List ℕ) (v : ℕ) → v < 16 → eqb (getD l v 0) 1 ≡ eqb (sixteenth l v) 1
+bound-here l v h = rw (← sixteenth-here l v h)
+
+sixteenth-all : (l : List ℕ) (v : ℕ) → length l ≡ 16 → sixteenth l v ≡ getD l v 0
+sixteenth-all l v e =
+    elim (decLt v 16) [
+      | yes h ↦ sym (sixteenth-here l v h)
+      | no h ↦
+          let z : length l ≤ v = omega (arith, h) in
+          sym (sixteenth-beyond l v (omega (arith, h))) ∙ sym (List·getD-eq-default l 0 z)
+    ]
+
+-- `bound_row`
+pub record Binding (t bound : List ℕ) (k i : ℕ) : Type 0 where
+  pub within : i ≤ getD t (k * 13 + 3) 0
+  pub same : (o : Order) (a b : ℕ) (vs : List ℕ) → o .bound ≡ bound → length bound ≡ 16 → Exchange a b vs k t → every (isBound o) vs ≡ every (isBound o) (drop i vs)
+
+pub bound-many : (t bound : List ℕ) (k : ℕ) → 4 < getD t (k * 13 + 3) 0 → BoundRow t bound k false
+bound-many t bound k h = record { is = λ o a b vs q s e l. absurd (omega (arith, e .count)) }
+
+pub binding-starts : (t bound : List ℕ) (k : ℕ) → Binding t bound k 0
+binding-starts t bound k = record { within = omega arith; same = λ o a b vs q s e. refl }
+
+module _ {t bound : List ℕ} {k i : ℕ} (w : Binding t bound k i) where
+  pub binding-done : getD t (k * 13 + 3) 0 ≤ i → BoundRow t bound k true
+  unfolding every
+  binding-done h = record {
+    is = λ o a b vs q s e l.
+        let g : length vs ≤ i = omega (arith, e .count) in
+        sym (w .same o a b vs q s e ∙ rw (drop-of-length-le vs g));
+  }
+
+  module _ (h : i < getD t (k * 13 + 3) 0) (few : getD t (k * 13 + 3) 0 ≤ 4) {r : Bool} (y : r ≡ eqb (sixteenth bound (getD t (k * 13 + 4 + i) 0)) 1) where
+    bound-next : (o : Order) (a b : ℕ) (vs : List ℕ) → o .bound ≡ bound → length bound ≡ 16 → Exchange a b vs k t → every (isBound o) vs ≡ (r && every (isBound o) (drop (i + 1) vs))
+    unfolding every
+    bound-next o a b vs q s e =
+        let g : i < length vs = omega (arith, e .count) in
+        let n : getD t (k * 13 + 4 + i) 0 ≡ getD vs i 0 = e .variables i (omega arith) in
+        let z : r ≡ isBound o (getD vs i 0) = y ∙ rw (sixteenth-all bound (getD t (k * 13 + 4 + i) 0) s, n, ← q) in
+        w .same o a b vs q s e ∙ rw (drop-cons vs i 0 g, ← z, add-one)
+
+    pub binding-again : not r ≡ false → Binding t bound k (i + 1)
+    binding-again z = record { within = omega arith; same = λ o a b vs q s e. bound-next o a b vs q s e ∙ rw (not-false r z) }
+
+    pub binding-stops : not r ≡ true → BoundRow t bound k false
+    binding-stops z = record { is = λ o a b vs q s e l. sym (bound-next o a b vs q s e ∙ rw (not-true r z)) }
+
+-- `take_letter`
+unchecked-few : (p : Plan) (o : Order) (vs : List ℕ) → unchecked p o vs ≤ length vs
+unfolding unchecked
+unchecked-few p o [] = omega arith
+unchecked-few p o (v ∷ vs) = by-test (unchecked-few p o vs) (isChecked p o v)
+  where
+    by-test : unchecked p o vs ≤ length vs → (b : Bool) → cond b (unchecked p o vs) (suc (unchecked p o vs)) ≤ suc (length vs)
+    by-test e true = omega arith
+    by-test e false = omega arith
+
+module _ (t : List ℕ) (i k : ℕ) (asked : List ℕ) (u : ℕ) (letters : List ℕ) (j least : ℕ) (s : Sight) where
+  may-take : (o : Order) (p : Plan) (x : Line) (y : Letter) → UncheckedRow t k asked u → Asking asked p o (variablesOf (x .own)) → Stands t (o .marks) k x
+      → Tells y j (messageAt letters j) least
+      → mayTake p o (getD t (k * 13 + 1) 0) (getD t (k * 13 + 2) 0) (variablesOf (x .own)) y
+      ≡ (fits p o (getD t (k * 13 + 1) 0) (getD t (k * 13 + 2) 0) (variablesOf (x .own)) (messageAt letters j) && leb u least)
+  unfolding mayTake
+  may-take o p x y g a z v =
+      let n : u ≡ unchecked p o (variablesOf (x .own)) = g .is p o _ _ (variablesOf (x .own)) a (stands-exchange z) in
+      let f : u ≤ 4 = omega (arith, unchecked-few p o (variablesOf (x .own)), z .few) in
+      rw (v .message, ← n, v .few u f)
+
+  pub take-more : least < u → TakesLetter t i k asked u letters j least s s
+  unfolding takeLetter
+  take-more h = record {
+    is = λ o p x y g a z v. rw (may-take o p x y g a z v, lt-leb _ _ h, ← and-false (fits p o (getD t (k * 13 + 1) 0) (getD t (k * 13 + 2) 0) (variablesOf (x .own)) (messageAt letters j)));
+  }
+
+  module _ (h : u ≤ least) {b : Bool} (w : FitsRow t k asked letters j b) where
+    pub take-unfit : b ≡ false → TakesLetter t i k asked u letters j least s s
+    unfolding takeLetter
+    take-unfit e = record {
+      is = λ o p x y g a z v.
+          rw (may-take o p x y g a z v, sym (w .is p o _ _ (variablesOf (x .own)) a (stands-exchange z)) ∙ e);
+    }
+
+    pub take-least : {r : Sight} → b ≡ true → r ≡ showing i k j s → TakesLetter t i k asked u letters j least s r
+    unfolding takeLetter
+    take-least e q = record {
+      is = λ o p x y g a z v.
+          q ∙ rw (may-take o p x y g a z v, sym (w .is p o _ _ (variablesOf (x .own)) a (stands-exchange z)) ∙ e, le-leb _ _ h, z .activity, v .place);
+    }
+
+-- `take_row`
+pub record Taking (t : List ℕ) (slot k : ℕ) (asked : List ℕ) (u : ℕ) (letters : List ℕ) (waiting : ℕ) (least : List ℕ) (start : Sight) (j : ℕ) (c : Sight) : Type 0 where
+  pub within : j ≤ waiting
+  pub same : (o : Order) (p : Plan) (l : List Letter) (x : Line) → UncheckedRow t k asked u → Asking asked p o (variablesOf (x .own)) → Told l letters waiting least
+      → Stands t (o .marks) k x
+      → folded (takeLetter slot (getD t (k * 13 + 1) 0) (getD t (k * 13 + 2) 0) o p x) l start
+      ≡ folded (takeLetter slot (getD t (k * 13 + 1) 0) (getD t (k * 13 + 2) 0) o p x) (drop j l) c
+
+pub taking-starts : (t : List ℕ) (slot k : ℕ) (asked : List ℕ) (u : ℕ) (letters : List ℕ) (waiting : ℕ) (least : List ℕ) (start : Sight)
+    → Taking t slot k asked u letters waiting least start 0 start
+taking-starts t slot k asked u letters waiting least start = record { within = omega arith; same = λ o p l x g a v z. refl }
+
+module _ {t : List ℕ} {slot k : ℕ} {asked : List ℕ} {u : ℕ} {letters : List ℕ} {waiting : ℕ} {least : List ℕ} {start : Sight} {j : ℕ} {c : Sight}
+    (w : Taking t slot k asked u letters waiting least start j c) where
+  pub taking-again : j < waiting → {r : Sight} → TakesLetter t slot k asked u letters j (getD least j 0) c r
+      → Taking t slot k asked u letters waiting least start (j + 1) r
+  unfolding folded
+  taking-again h {r} y = record {
+    within = omega arith;
+    same = λ o p l x g a v z.
+        let long : j < length l = omega (arith, v .long) in
+        let f = takeLetter slot (getD t (k * 13 + 1) 0) (getD t (k * 13 + 2) 0) o p x in
+        let e : r ≡ f (getD l j noLetter) c = y .is o p x (getD l j noLetter) g a z (v .tells j h) in
+        w .same o p l x g a v z ∙ (ap (λ n. folded f n c) (drop-cons l j noLetter long) ∙ (ap (folded f (drop (suc j) l)) (sym e) ∙ rw (add-one j)));
+  }
+
+  pub taking-done : {known : List ℕ} → waiting ≤ j → AsksRow t known k asked → UncheckedRow t k asked u
+      → Rows t k (Heeding known letters waiting least) (takeLine slot (getD t (k * 13 + 1) 0) (getD t (k * 13 + 2) 0)) start c
+  unfolding takeLine folded
+  taking-done h a g = record {
+    is = λ o p l x q z.
+        let long : length l ≤ j = omega (arith, q .told .long) in
+        sym (w .same o p l x g (asks-asking a (q .knows) (stands-exchange z) (z .few)) (q .told) z ∙ rw (drop-of-length-le l long));
+  }

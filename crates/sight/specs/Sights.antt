@@ -1,0 +1,157 @@
+-- Counting a choice down over what the rows of an order have on offer, without the list. Assumes nothing: these are definitions.
+use Prim.Native.Nat.{ℕ, _+_, _*_, _-_, _<_, _≤_}
+use mathlib.Core.Bool.{Bool, true, false, cond, not, _&&_, _||_}
+use mathlib.Core.List.{List, []}
+use mathlib.Core.Path.{_≡_}
+use lib.Dec.{leb, eqb}
+use lib.ListN.{length, getD}
+use Rattle.plan.specs.Spells.{Spells, variablesOf}
+use Rattle.plan.specs.Tree.{kind, Act, Plan}
+use Rattle.machine.specs.declared.Message.{Message}
+use Rattle.order.specs.declared.Order.{Order}
+use Rattle.machine.specs.declared.Step.{Step}
+use Rattle.fit.specs.Answering.{Exchange, Knows, Asking, UncheckedRow, messageAt, Picks}
+use Rattle.machine.specs.Calls.{Chosen, refusedChoice, chosen, previewed}
+use Rattle.machine.specs.Fit.{Doing, noStep, sends, takes, moves, cuts, closes, doingOf, Letter, mayTake}
+use Rattle.order.specs.Lists.{every}
+use Rattle.machine.specs.Offer.{Offer, offering, Offers, isCut, closeHeld, stepOffers}
+use Rattle.order.specs.Scope.{Scope, scopeAt, directly}
+use Rattle.order.specs.State.{isBound}
+use Rattle.machine.specs.State.{noMessage}
+use Rattle.sight.specs.declared.Pointer.{Pointer}
+use Rattle.sight.specs.declared.Sight.{Sight}
+use Rattle.fit.specs.Folds.{folded}
+use Rattle.fit.specs.Lines.{Line, isReady, readyAt, Stands}
+
+-- one more is on offer: the choice is there, or one nearer
+unfoldable pub pointed : Offer → Pointer → Pointer
+pointed x c =
+    cond (c .found) c
+    (cond (eqb (c .left) 0) (record { left = 0; found = true; slot = x .slot; activity = x .activity; place = x .place })
+    (record { left = c .left - 1; found = false; slot = c .slot; activity = c .activity; place = c .place }))
+
+-- what was seen of the offer, and then of one thing more
+unfoldable pub seen : Offers → Sight → Sight
+seen a s = record { pointer = folded pointed (a .offered) (s .pointer); held = s .held || a .held }
+
+unfoldable pub showing : (slot activity place : ℕ) → Sight → Sight
+showing i k j s = record { pointer = pointed (offering i k j) (s .pointer); held = s .held }
+
+unfoldable pub withholding : Sight → Sight
+withholding s = record { pointer = s .pointer; held = true }
+
+-- nothing seen yet
+unfoldable pub unseen : (choice : ℕ) → Sight
+unseen c = record { pointer = record { left = c; found = false; slot = 0; activity = 0; place = 0 }; held = false }
+
+-- r is that
+pub record Unseen (c : ℕ) (r : Sight) : Type 0 where
+  pub is : r ≡ unseen c
+
+-- what a choice comes to, when all was seen: one of the offers, or a refusal
+unfoldable pub chosenBy : (choice : ℕ) → Sight → Chosen
+chosenBy c s =
+    cond (s .pointer .found) (chosen (offering (s .pointer .slot) (s .pointer .activity) (s .pointer .place)))
+    (refusedChoice (cond (eqb (s .pointer .left) c) (cond (s .held) 11 10) 12))
+
+unfoldable pub answered : (choice : ℕ) → Sight → Step
+answered c s = previewed (chosenBy c s)
+
+-- what is known of the order o, whose marks are lent
+pub record Marked (marks : List ℕ) (o : Order) (p : Plan) (l : List Letter) : Type 0 where
+  pub same : o .marks ≡ marks
+
+-- a letter is the message at a place, and its fittings are known by the fewest
+pub record Tells (x : Letter) (j : ℕ) (m : Message) (least : ℕ) : Type 0 where
+  pub place : x .place ≡ j
+  pub message : x .message ≡ m
+  pub few : (u : ℕ) → u ≤ 4 → every (leb u) (x .fitted) ≡ leb u least
+
+abbrev pub noLetter : Letter
+noLetter = record { place = 0; message = noMessage; fitted = [] }
+
+-- the letters are the messages that wait
+pub record Told (l : List Letter) (letters : List ℕ) (waiting : ℕ) (least : List ℕ) : Type 0 where
+  pub long : length l ≡ waiting
+  pub tells : (j : ℕ) → j < waiting → Tells (getD l j noLetter) j (messageAt letters j) (getD least j 0)
+
+-- of an order, what is known of its variables, and the letters
+pub record Heeding (known letters : List ℕ) (waiting : ℕ) (least : List ℕ) (o : Order) (p : Plan) (l : List Letter) : Type 0 where
+  pub knows : Knows known p o
+  pub told : Told l letters waiting least
+
+-- with what it remembers and which variables are bound
+pub record Serving (known bound remembered : List ℕ) (kept : ℕ) (letters : List ℕ) (waiting : ℕ) (least : List ℕ) (o : Order) (p : Plan) (l : List Letter) : Type 0 where
+  pub heeding : Heeding known letters waiting least o p l
+  pub bindings : o .bound ≡ bound
+  pub sixteen : length bound ≡ 16
+  pub memory : o .remembered ≡ remembered
+  pub places : length remembered ≡ 32
+  pub many : o .kept ≡ kept
+
+-- and its marks
+pub record Opening (t picks marks known bound remembered : List ℕ) (kept : ℕ) (letters : List ℕ) (waiting : ℕ) (least : List ℕ) (o : Order) (p : Plan) (l : List Letter) : Type 0 where
+  pub picked : Picks t picks
+  pub marked : o .marks ≡ marks
+  pub serving : Serving known bound remembered kept letters waiting least o p l
+
+-- the step of a row, by its kind and its partner and operation
+unfoldable pub doingBy : (kind partner operation : ℕ) → (variables : List ℕ) → Scope → Doing
+doingBy n a b vs s =
+    cond (eqb n 1) (sends a b vs)
+    (cond (eqb n 2 || eqb n 12) (takes a b vs)
+    (cond (eqb n 11) (closes s)
+    (cond (leb 3 n && leb n 7) (cond (eqb n 4 || eqb n 5) cuts moves) noStep)))
+
+-- r says whether row k awaits its step
+pub record AwaitsRow (t picks ms : List ℕ) (k : ℕ) (r : Bool) : Type 0 where
+  pub is : (x : Line) → Picks t picks → Stands t ms k x → r ≡ isReady ms x
+
+-- r says whether row k is a raise or a leave
+pub record CutRow (t : List ℕ) (k : ℕ) (r : Bool) : Type 0 where
+  pub is : (ms : List ℕ) (x : Line) → Stands t ms k x → r ≡ isCut (readyAt x)
+
+-- whether a line is an active raise or leave, or one was before
+unfoldable pub cutLine : Order → Plan → List Letter → Line → Bool → Bool
+cutLine o p l x c = cond (isReady (o .marks) x) (isCut (readyAt x) || c) c
+
+-- r says whether all variables of row k are bound
+pub record BoundRow (t bound : List ℕ) (k : ℕ) (r : Bool) : Type 0 where
+  pub is : (o : Order) (a b : ℕ) (vs : List ℕ) → o .bound ≡ bound → length bound ≡ 16 → Exchange a b vs k t → length vs ≤ 4 → r ≡ every (isBound o) vs
+
+-- r says whether row j is a scope with row e in it
+pub record Blocks (t : List ℕ) (j e : ℕ) (r : Bool) : Type 0 where
+  pub yes : r ≡ true → (getD t (j * 13) 0 ≡ 11) × (e < getD t (j * 13 + 11) 0)
+  pub no : r ≡ false → getD t (j * 13) 0 ≡ 11 → getD t (j * 13 + 11) 0 ≤ e
+
+-- r says whether e is a scope of the activity in row n with no other scope around it there
+pub record DirectRow (t : List ℕ) (n e : ℕ) (r : Bool) : Type 0 where
+  pub is : (a : Act) (at q : ℕ) → Spells a at n q t → r ≡ directly a n e
+
+-- r says whether the close in row k is held
+pub record ClosesRow (t remembered : List ℕ) (kept k : ℕ) (r : Bool) : Type 0 where
+  pub is : (o : Order) (x : Line) → o .remembered ≡ remembered → length remembered ≡ 32 → o .kept ≡ kept → Stands t (o .marks) k x → kind (x .own) ≡ 11
+      → r ≡ closeHeld o (scopeAt k (x .within))
+
+-- what one message adds at a receive or arm
+unfoldable pub takeLetter : (slot partner operation : ℕ) → Order → Plan → Line → Letter → Sight → Sight
+takeLetter i a b o p x y s = cond (mayTake p o a b (variablesOf (x .own)) y) (showing i (x .activity) (y .place) s) s
+
+-- r is what the message at place j adds at row k
+pub record TakesLetter (t : List ℕ) (slot k : ℕ) (asked : List ℕ) (unchecked : ℕ) (letters : List ℕ) (j least : ℕ) (s r : Sight) : Type 0 where
+  pub is : (o : Order) (p : Plan) (x : Line) (y : Letter) → UncheckedRow t k asked unchecked → Asking asked p o (variablesOf (x .own)) → Stands t (o .marks) k x
+      → Tells y j (messageAt letters j) least
+      → r ≡ takeLetter slot (getD t (k * 13 + 1) 0) (getD t (k * 13 + 2) 0) o p x y s
+
+-- what the messages add at a receive or arm
+unfoldable pub takeLine : (slot partner operation : ℕ) → Order → Plan → List Letter → Line → Sight → Sight
+takeLine i a b o p l x s = folded (takeLetter i a b o p x) l s
+
+-- what a line has on offer, whether or not it awaits its step
+unfoldable pub doingLine : (wait slot : ℕ) → Order → Plan → List Letter → Line → Sight → Sight
+doingLine wait i o p l x s = seen (stepOffers p wait l i o (x .activity) (doingOf (x .own) (x .within) (x .activity))) s
+
+-- what a line has on offer, where the order has an active raise or leave and where it has none
+unfoldable pub offerLine : (cutting : Bool) → (wait slot : ℕ) → Order → Plan → List Letter → Line → Sight → Sight
+offerLine cutting wait i o p l x s =
+    cond (isReady (o .marks) x) (cond (not cutting || isCut (readyAt x)) (doingLine wait i o p l x s) s) s

@@ -1,0 +1,349 @@
+// What one row of an order has on offer.
+use super::Sight;
+use super::counting::shown;
+use super::counting::withheld;
+use fit::fitness::asked_at;
+use fit::fitness::fits_at;
+use fit::fitness::unchecked_at;
+use fit::search::arm_open;
+ghost use Prim.Native.Nat.{_+_, _*_, _≤_, _<_};
+ghost use lib.Dec.{eqb};
+ghost use lib.ListN.{getD};
+ghost use mathlib.Core.Bool.{false};
+ghost use mathlib.Core.Path.{_≡_};
+ghost use Rattle.fit.specs.Answering.{sixteenth};
+ghost use Rattle.fit.specs.Lines.{Rows, Wholes};
+ghost use Rattle.sight.specs.Sights.{Marked, Heeding, Serving, Opening, AwaitsRow, CutRow, cutLine, BoundRow, Blocks, DirectRow, ClosesRow, TakesLetter, takeLine, doingLine, offerLine};
+
+// Whether row k awaits its step.
+fn awaits_at(table: &[u32; 11584], picks: &[usize; 256], marks: &[u8; 256], k: usize) -> bool
+    requires { ⌜ k < 256 ⌝ }
+    ensures { λ r. ⌜ AwaitsRow (now (table .entry)) (now (picks .entry)) (now (marks .entry)) k r ⌝ }
+{
+    let kind = table[k * 13];
+    if kind == 12 {
+        return arm_open(table, picks, marks, k);
+    }
+    if kind == 11 {
+        return marks[k] == 3;
+    }
+    marks[k] == 1
+}
+
+// Whether row k is a raise or a leave.
+fn is_cut(table: &[u32; 11584], k: usize) -> bool
+    requires { ⌜ k < 256 ⌝ }
+    ensures { λ r. ⌜ CutRow (now (table .entry)) k r ⌝ }
+{
+    let kind = table[k * 13];
+    if kind == 4 {
+        return true;
+    }
+    kind == 5
+}
+
+// Whether row k is an active raise or leave, or one was before.
+fn cut_row(table: &[u32; 11584], marks: &[u8; 256], k: usize, before: bool) -> bool
+    requires { ⌜ k < 256 ⌝ }
+    ensures { λ r. ⌜ Rows (now (table .entry)) k (Marked (now (marks .entry))) cutLine before r ⌝ }
+{
+    if is_cut(table, k) {
+        if marks[k] == 1 {
+            return true;
+        }
+        return before;
+    }
+    before
+}
+
+// Whether an order has an active raise or leave.
+pub fn cut_rows(table: &[u32; 11584], marks: &[u8; 256], activities: usize) -> bool
+    requires { ⌜ activities ≤ 256 ⌝ }
+    ensures { λ r. ⌜ Wholes (now (table .entry)) activities (Marked (now (marks .entry))) cutLine false r ⌝ }
+{
+    let mut c = false;
+    let mut k: usize = 0;
+    while k < activities {
+        c = cut_row(table, marks, k, c);
+        k += 1;
+    }
+    c
+}
+
+// Whether variable v is bound.
+fn bound_at(bound: &[u8; 16], v: u32) -> bool
+    ensures { λ r. ⌜ r ≡ eqb (sixteenth (now (bound .entry)) v) 1 ⌝ }
+{
+    if 16 <= v {
+        return false;
+    }
+    let i = v as usize;
+    bound[i] == 1
+}
+
+// Whether all variables of row k are bound.
+fn bound_row(table: &[u32; 11584], bound: &[u8; 16], k: usize) -> bool
+    requires { ⌜ k < 256 ⌝ }
+    ensures { λ r. ⌜ BoundRow (now (table .entry)) (now (bound .entry)) k r ⌝ }
+{
+    let count = table[k * 13 + 3];
+    if 4 < count {
+        return false;
+    }
+    let many = count as usize;
+    let mut i: usize = 0;
+    while i < many {
+        if !bound_at(bound, table[k * 13 + 4 + i]) {
+            return false;
+        }
+        i += 1;
+    }
+    true
+}
+
+// What the message at place j adds at the receive or arm in row k.
+fn take_letter(
+    table: &[u32; 11584],
+    slot: usize,
+    k: usize,
+    asked: &[u64; 4],
+    unchecked: usize,
+    letters: &[u32; 448],
+    j: usize,
+    least: usize,
+    s: Sight,
+) -> Sight
+    requires { ⌜ (k < 256) × (j < 64) ⌝ }
+    ensures { λ r. ⌜ TakesLetter (now (table .entry)) slot k (now (asked .entry)) unchecked (now (letters .entry)) j least s r ⌝ }
+{
+    if least < unchecked {
+        return s;
+    }
+    if fits_at(table, k, asked, letters, j) {
+        return shown(s, slot, k, j);
+    }
+    s
+}
+
+// What the messages add at the receive or arm in row k.
+fn take_row(
+    table: &[u32; 11584],
+    known: &[u64; 16],
+    slot: usize,
+    k: usize,
+    letters: &[u32; 448],
+    waiting: usize,
+    least: &[usize; 64],
+    s: Sight,
+) -> Sight
+    requires { ⌜ (k < 256) × (waiting ≤ 64) ⌝ }
+    ensures { λ r. ⌜ Rows (now (table .entry)) k (Heeding (now (known .entry)) (now (letters .entry)) waiting (now (least .entry))) (takeLine slot (getD (now (table .entry)) (k * 13 + 1) 0) (getD (now (table .entry)) (k * 13 + 2) 0)) s r ⌝ }
+{
+    let asked = asked_at(table, known, k);
+    let unchecked = unchecked_at(table, k, &asked);
+    let mut c = s;
+    let mut j: usize = 0;
+    while j < waiting {
+        c = take_letter(table, slot, k, &asked, unchecked, letters, j, least[j], c);
+        j += 1;
+    }
+    c
+}
+
+// Whether row j is a scope with row e in it.
+fn blocks(table: &[u32; 11584], j: usize, e: usize) -> bool
+    requires { ⌜ (j < 256) × (e < 256) ⌝ }
+    ensures { λ r. ⌜ Blocks (now (table .entry)) j e r ⌝ }
+{
+    if table[j * 13] == 11 {
+        return (e as u32) < table[j * 13 + 11];
+    }
+    false
+}
+
+// Whether a number is that of a scope of the activity in row n with no other scope around it there.
+fn direct_in(table: &[u32; 11584], n: usize, number: u8) -> bool
+    ensures { λ r. ⌜ DirectRow (now (table .entry)) n number r ⌝ }
+{
+    let e = number as usize;
+    if e < n {
+        return false;
+    }
+    if table[n * 13 + 11] <= e as u32 {
+        return false;
+    }
+    let mut j = n;
+    while j < e {
+        if blocks(table, j, e) {
+            return false;
+        }
+        j += 1;
+    }
+    table[e * 13] == 11
+}
+
+// Whether the close in row k is held: all 32 places are taken, and it forgets nothing.
+fn close_held(table: &[u32; 11584], remembered: &[u8; 32], kept: usize, k: usize) -> bool
+    requires { ⌜ k < 256 ⌝ }
+    ensures { λ r. ⌜ ClosesRow (now (table .entry)) (now (remembered .entry)) kept k r ⌝ }
+{
+    if kept < 32 {
+        return false;
+    }
+    let mut i: usize = 0;
+    while i < 32 {
+        if direct_in(table, k + 1, remembered[i]) {
+            return false;
+        }
+        i += 1;
+    }
+    true
+}
+
+// What row k has on offer, whether or not it awaits its step.
+fn doing_row(
+    table: &[u32; 11584],
+    known: &[u64; 16],
+    bound: &[u8; 16],
+    remembered: &[u8; 32],
+    kept: usize,
+    slot: usize,
+    k: usize,
+    letters: &[u32; 448],
+    waiting: usize,
+    least: &[usize; 64],
+    s: Sight,
+) -> Sight
+    requires { ⌜ (k < 256) × (waiting ≤ 64) ⌝ }
+    ensures { λ r. ⌜ Rows (now (table .entry)) k (Serving (now (known .entry)) (now (bound .entry)) (now (remembered .entry)) kept (now (letters .entry)) waiting (now (least .entry))) (doingLine waiting slot) s r ⌝ }
+{
+    let kind = table[k * 13];
+    if kind == 1 {
+        if waiting < 64 {
+            return shown(s, slot, k, 0);
+        }
+        if bound_row(table, bound, k) {
+            return withheld(s);
+        }
+        return shown(s, slot, k, 0);
+    }
+    if kind == 2 {
+        return take_row(table, known, slot, k, letters, waiting, least, s);
+    }
+    if kind == 12 {
+        return take_row(table, known, slot, k, letters, waiting, least, s);
+    }
+    if kind == 11 {
+        if close_held(table, remembered, kept, k) {
+            return withheld(s);
+        }
+        return shown(s, slot, k, 0);
+    }
+    if kind < 3 {
+        return s;
+    }
+    if kind <= 7 {
+        return shown(s, slot, k, 0);
+    }
+    s
+}
+
+// What row k has on offer.
+fn offer_row(
+    table: &[u32; 11584],
+    picks: &[usize; 256],
+    marks: &[u8; 256],
+    known: &[u64; 16],
+    bound: &[u8; 16],
+    remembered: &[u8; 32],
+    kept: usize,
+    slot: usize,
+    k: usize,
+    cutting: bool,
+    letters: &[u32; 448],
+    waiting: usize,
+    least: &[usize; 64],
+    s: Sight,
+) -> Sight
+    requires { ⌜ (k < 256) × (waiting ≤ 64) ⌝ }
+    ensures { λ r. ⌜ Rows (now (table .entry)) k (Opening (now (table .entry)) (now (picks .entry)) (now (marks .entry)) (now (known .entry)) (now (bound .entry)) (now (remembered .entry)) kept (now (letters .entry)) waiting (now (least .entry))) (offerLine cutting waiting slot) s r ⌝ }
+{
+    if awaits_at(table, picks, marks, k) {
+        if cutting {
+            if is_cut(table, k) {
+                return doing_row(
+                    table,
+                    known,
+                    bound,
+                    remembered,
+                    kept,
+                    slot,
+                    k,
+                    letters,
+                    waiting,
+                    least,
+                    s,
+                );
+            }
+            return s;
+        }
+        return doing_row(
+            table,
+            known,
+            bound,
+            remembered,
+            kept,
+            slot,
+            k,
+            letters,
+            waiting,
+            least,
+            s,
+        );
+    }
+    s
+}
+
+// What all rows of an order have on offer.
+pub fn offer_rows(
+    table: &[u32; 11584],
+    picks: &[usize; 256],
+    marks: &[u8; 256],
+    known: &[u64; 16],
+    bound: &[u8; 16],
+    remembered: &[u8; 32],
+    kept: usize,
+    slot: usize,
+    activities: usize,
+    cutting: bool,
+    letters: &[u32; 448],
+    waiting: usize,
+    least: &[usize; 64],
+    s: Sight,
+) -> Sight
+    requires { ⌜ (activities ≤ 256) × (waiting ≤ 64) ⌝ }
+    ensures { λ r. ⌜ Wholes (now (table .entry)) activities (Opening (now (table .entry)) (now (picks .entry)) (now (marks .entry)) (now (known .entry)) (now (bound .entry)) (now (remembered .entry)) kept (now (letters .entry)) waiting (now (least .entry))) (offerLine cutting waiting slot) s r ⌝ }
+{
+    let mut c = s;
+    let mut k: usize = 0;
+    while k < activities {
+        c = offer_row(
+            table,
+            picks,
+            marks,
+            known,
+            bound,
+            remembered,
+            kept,
+            slot,
+            k,
+            cutting,
+            letters,
+            waiting,
+            least,
+            c,
+        );
+        k += 1;
+    }
+    c
+}
