@@ -34,6 +34,6 @@ pub extern "C" fn moonhalyard_rows(s: &[u8], out: &mut [u32]) -> u64
     ensures is { λ r. ⌜ r ≡ answerNumber (rowsAnswer (readPlan (now (s .entry))) (length (now (out .entry)))) ⌝ }
     ensures table { λ _. ⌜ now (out .exit) ≡ rowsFor (readPlan (now (s .entry))) (now (out .entry)) ⌝ }
 {
-    let a = writer::rows(s, out);
+    let a = rows::rows(s, out);
     number_of(a)
 }

@@ -1,0 +1,443 @@
+-- The rows of a plan within the limits are read as that plan. Assumes nothing.
+use borrow.Author.Tests.{eq-eqb, ne-eqb, lt-ltb, le-ltb, le-leb, lt-leb, ltb-true, leb-true, eqb-true, not-true}
+use native.Mathlib.Omega.{arith}
+use native.Mathlib.Nat.{add-zero}
+use native.Mathlib.Numerals.{sub-one, one-add}
+use mathlib.Core.Path.{_≡_, refl, sym, ap, _∙_}
+use mathlib.Core.Bool.{Bool, true, false, cond, not, _&&_, _||_, false≢true, and-false}
+use mathlib.Core.List.{List, [], _∷_, _++_, append-assoc, append-nil}
+use Prim.Native.Nat.{ℕ, zero, suc, _+_, _*_, _-_, _/_, _≤_, _<_}
+use lib.Dec.{eqb, ltb, leb}
+use lib.ListN.{length, getD, take, drop, replicate, length-append, length-replicate, length-drop}
+use lib.Seq.{drop-cons, drop-drop, drop-at, take-append-seam, drop-append-seam, getD-drop}
+use Rattle.plan.specs.Found.{Found, refused, found, andThen, among}
+use Rattle.plan.specs.Read.{operationOf, Head, head, manyIn, laterOf, startForm}
+use Rattle.plan.specs.Spell.{operationCode, exchangeNumbers, spelling}
+use Rattle.plan.specs.Tree.{Operation, sum, difference, equal, less, Exp, constant, variable, binary, Own, empty, send, receive, set, raise, leave, choose, repeat, sequence, flow, pick, scope, arm, kind, Act, act, Acts, none, more, Plan, size, sizes, count}
+use Rattle.plan.specs.Within.{expressionWithin, variablesWithin, exchangeWithin, from1, ownWithin, actWithin, actsWithin, ascending, planWithin}
+use Rattle.plan.proofs.Accepts.{both}
+use Rattle.writer.specs.Rows.{line, lines, expressionRows, ownRows, actRows, actsRows, planRows, rowsOf}
+use Rattle.writer.specs.Reading.{cell, zeros, shaped, tuple, rowIn, expressionFits, expressionHead, expressionAt, exchangeFits, armAt, codeAt, partsFit, withExpression, partsAt, headAt, armWith, readsAt, actAt, rootAt, headFits, planAt, readRows}
+use Rattle.writer.proofs.Lines.{Row, Stands, nil, cons, stands-append, cells-cons, line-long}
+
+-- Rows written one after another stand in the table.
+
+are-zeros : (m : ℕ) (t : List ℕ) (at : ℕ) (rest : List ℕ) → drop at t ≡ replicate m 0 ++ rest → zeros m t at ≡ true
+unfolding zeros
+are-zeros zero t at rest e = refl
+are-zeros (suc m) t at rest e =
+    let w : at < length t = omega (arith, simp length-drop at (ap length e)) in
+    let o : suc at ≡ at + 1 = omega arith in
+    let d : getD t at 0 ∷ drop (at + 1) t ≡ 0 ∷ (replicate m 0 ++ rest) = rw (← o) (sym (drop-cons t at 0 w) ∙ e) in
+    let g : getD t at 0 ≡ 0 = cc in
+    let k : drop (at + 1) t ≡ replicate m 0 ++ rest = cc in
+    rw (eq-eqb (getD t at 0) 0 g) (are-zeros m t (at + 1) rest k)
+
+record Started (t : List ℕ) (r : ℕ) (ns rest : List ℕ) : Type 0 where
+  row : Row t r ns
+  inside : (r + 1) * 20 ≤ length t
+  after : drop ((r + 1) * 20) t ≡ rest
+
+row-of : (t : List ℕ) (r : ℕ) (ns rest : List ℕ) → r * 20 ≤ length t → length ns ≤ 19 → drop (r * 20) t ≡ line ns ++ rest → Started t r ns rest
+unfolding line shaped
+row-of t r ns rest i few e =
+    let l : length t - r * 20 ≡ 20 + length rest = sym (length-drop (r * 20) t) ∙ ap length e ∙ length-append (line ns) rest ∙ rw (line-long ns few) in
+    let o : suc (r * 20) ≡ r * 20 + 1 = omega arith in
+    let w : r * 20 < length t = omega arith in
+    let d : getD t (r * 20) 0 ∷ drop (r * 20 + 1) t ≡ length ns ∷ ((ns ++ replicate (19 - length ns) 0) ++ rest) = rw (← o) (sym (drop-cons t (r * 20) 0 w) ∙ e) in
+    let c : getD t (r * 20) 0 ≡ length ns = cc in
+    let b : drop (r * 20 + 1) t ≡ (ns ++ replicate (19 - length ns) 0) ++ rest = cc in
+    let f : drop (r * 20 + 1) t ≡ ns ++ (replicate (19 - length ns) 0 ++ rest) = b ∙ append-assoc ns (replicate (19 - length ns) 0) rest in
+    let g : drop (r * 20 + 1 + length ns) t ≡ replicate (19 - length ns) 0 ++ rest = sym (drop-drop (length ns) (r * 20 + 1) t) ∙ rw f (drop-append-seam ns _) in
+    let z : r * 20 + 20 ≡ (r + 1) * 20 = omega arith in
+    record {
+      row = record {
+        there = omega arith;
+        few = few;
+        shape = rw (add-zero (r * 20), eq-eqb (getD t (r * 20) 0) (length ns) c) (are-zeros (19 - length ns) t (r * 20 + 1 + length ns) rest g);
+        is = rw f (take-append-seam ns _);
+      };
+      inside = omega arith;
+      after = rw (← z) (sym (drop-drop 20 (r * 20) t) ∙ rw e (drop-at (line ns) rest 20 (line-long ns few)));
+    }
+
+-- no row has more than 19 numbers
+unfoldable pub Short : List (List ℕ) → Type 0
+Short [] = Unit
+Short (ns ∷ l) = (length ns ≤ 19) × Short l
+
+lines-stand : (t : List ℕ) (r : ℕ) (l : List (List ℕ)) → Short l → r * 20 ≤ length t → drop (r * 20) t ≡ lines l → Stands t r l (r + length l)
+unfolding lines Short
+lines-stand t r [] s i e = rw (add-zero r) nil
+lines-stand t r (ns ∷ l) s i e =
+    let w = row-of t r ns (lines l) i (s .0) e in
+    let z : r + suc (length l) ≡ r + 1 + length l = omega arith in
+    let y : Stands t (r + 1) l (r + suc (length l)) = rw z (lines-stand t (r + 1) l (s .1) (w .inside) (w .after)) in
+    cons (w .row) y
+
+record Split (t : List ℕ) (r : ℕ) (a b : List (List ℕ)) (n : ℕ) : Type 0 where
+  m : ℕ
+  first : Stands t r a m
+  second : Stands t m b n
+
+stands-split : (t : List ℕ) (a b : List (List ℕ)) {r n : ℕ} → Stands t r (a ++ b) n → Split t r a b n
+stands-split t [] b x = record { m = _; first = nil; second = x }
+stands-split t (ns ∷ a) b (cons w x) = let s = stands-split t a b x in record { m = s .m; first = cons w (s .first); second = s .second }
+
+-- The places of a row that stands.
+
+row-read : {t : List ℕ} {r a : ℕ} {ns : List ℕ} → Row t r (a ∷ ns) → rowIn t r ≡ found a (r + 1)
+unfolding rowIn
+row-read {t} {r} {a} {ns} w =
+    let e : cell t r 1 ∷ take (length ns) (drop (r * 20 + 2) t) ≡ a ∷ ns = sym (cells-cons t r 1 (length ns) (w .there) (omega arith)) ∙ w .is in
+    let c : cell t r 1 ≡ a = cc in
+    rw (lt-ltb r (length t / 20) (w .there), c)
+
+second-read : {t : List ℕ} {r a b : ℕ} → Row t r (a ∷ b ∷ []) → cell t r 2 ≡ b
+second-read {t} {r} {a} {b} w =
+    let e : cell t r 1 ∷ cell t r 2 ∷ [] ≡ a ∷ b ∷ [] = sym (cells-cons t r 1 1 (w .there) (omega arith) ∙ ap (λ (x : List ℕ). cell t r 1 ∷ x) (cells-cons t r 2 0 (w .there) (omega arith))) ∙ w .is in
+    cc
+
+-- Expressions.
+
+record Code (o : Operation) : Type 0 where
+  known : operationCode o ≤ 5
+  first : eqb (operationCode o) 0 ≡ false
+  second : eqb (operationCode o) 1 ≡ false
+  same : operationOf (operationCode o) ≡ o
+
+code-of : (o : Operation) → Code o
+unfolding operationCode
+code-of sum = record { known = omega arith; first = refl; second = refl; same = refl }
+code-of difference = record { known = omega arith; first = refl; second = refl; same = refl }
+code-of equal = record { known = omega arith; first = refl; second = refl; same = refl }
+code-of less = record { known = omega arith; first = refl; second = refl; same = refl }
+
+head-read : (depth vars : ℕ) {t : List ℕ} {r k : ℕ} {ns : List ℕ} → Row t r (k ∷ ns) → k ≤ 5 → expressionFits vars t r k ≡ true
+    → expressionHead (suc depth) vars t r ≡ found k (r + 1)
+unfolding expressionHead
+head-read depth vars {k = k} w h f = rw (row-read w, le-ltb 5 k h, ne-eqb (suc depth) 0 (λ z. omega arith), f)
+
+pub expression-read : (vars : ℕ) (t : List ℕ) (e : Exp) (depth : ℕ) {r m : ℕ} → expressionWithin vars e depth ≡ true → Stands t r (expressionRows e) m
+    → expressionAt depth vars t r ≡ found e m
+unfolding expressionWithin expressionRows expressionAt expressionFits
+expression-read vars t (constant v) zero h x = absurd (false≢true h)
+expression-read vars t (variable v) zero h x = absurd (false≢true h)
+expression-read vars t (binary o l r) zero h x = absurd (false≢true h)
+expression-read vars t (constant v) (suc d) h (cons w nil) = rw (head-read d vars w (omega arith) (w .shape), second-read w)
+expression-read vars t (variable v) (suc d) h (cons w nil) =
+    both (ltb 0 (suc d)) _ h (λ _ b. rw (head-read d vars w (omega arith) (rw (second-read w, b) (w .shape)), second-read w))
+expression-read vars t (binary o l r) (suc d) h (cons w x) =
+    both (ltb 0 (suc d)) _ h (λ _ b. both (expressionWithin vars l (suc d - 1)) _ b (λ p q.
+    let c = code-of o in
+    let s = stands-split t (expressionRows l) (expressionRows r) x in
+    rw (
+      head-read d vars w (c .known) (rw (c .first, c .second) (w .shape)),
+      c .first,
+      c .second,
+      expression-read vars t l d (rw (sub-one (suc d)) at p) (s .first),
+      expression-read vars t r d (rw (sub-one (suc d)) at q) (s .second),
+      c .same,
+    )))
+
+-- What activities and arms say of themselves.
+
+record Tupled3 (t : List ℕ) (r b : ℕ) (vs : List ℕ) : Type 0 where
+  two : cell t r 2 ≡ b
+  three : cell t r 3 ≡ length vs
+  all : tuple t r 3 ≡ vs
+
+tuple3-read : {t : List ℕ} {r a b : ℕ} {vs : List ℕ} → Row t r (a ∷ b ∷ length vs ∷ vs) → Tupled3 t r b vs
+tuple3-read {t} {r} {a} {b} {vs} w =
+    let h = w .there in
+    let i : cell t r 1 ∷ cell t r 2 ∷ cell t r 3 ∷ take (length vs) (drop (r * 20 + 4) t) ≡ a ∷ b ∷ length vs ∷ vs =
+    sym (cells-cons t r 1 (suc (suc (length vs))) h (omega arith) ∙ ap (λ (x : List ℕ). cell t r 1 ∷ x) (cells-cons t r 2 (suc (length vs)) h (omega arith)
+    ∙ ap (λ (x : List ℕ). cell t r 2 ∷ x) (cells-cons t r 3 (length vs) h (omega arith)))) ∙ w .is in
+    let c : cell t r 3 ≡ length vs = cc in
+    let k : take (length vs) (drop (r * 20 + 4) t) ≡ vs = cc in
+    let y : r * 20 + 3 + 1 ≡ r * 20 + 4 = omega arith in
+    record { two = cc; three = c; all = rw (c, y) k }
+
+record Tupled4 (t : List ℕ) (r b c : ℕ) (vs : List ℕ) : Type 0 where
+  two : cell t r 2 ≡ b
+  three : cell t r 3 ≡ c
+  four : cell t r 4 ≡ length vs
+  all : tuple t r 4 ≡ vs
+
+tuple4-read : {t : List ℕ} {r a b c : ℕ} {vs : List ℕ} → Row t r (a ∷ b ∷ c ∷ length vs ∷ vs) → Tupled4 t r b c vs
+tuple4-read {t} {r} {a} {b} {c} {vs} w =
+    let h = w .there in
+    let i : cell t r 1 ∷ cell t r 2 ∷ cell t r 3 ∷ cell t r 4 ∷ take (length vs) (drop (r * 20 + 5) t) ≡ a ∷ b ∷ c ∷ length vs ∷ vs =
+    sym (cells-cons t r 1 (suc (suc (suc (length vs)))) h (omega arith) ∙ ap (λ (x : List ℕ). cell t r 1 ∷ x) (cells-cons t r 2 (suc (suc (length vs))) h (omega arith)
+    ∙ ap (λ (x : List ℕ). cell t r 2 ∷ x) (cells-cons t r 3 (suc (length vs)) h (omega arith)
+    ∙ ap (λ (x : List ℕ). cell t r 3 ∷ x) (cells-cons t r 4 (length vs) h (omega arith))))) ∙ w .is in
+    let d : cell t r 4 ≡ length vs = cc in
+    let k : take (length vs) (drop (r * 20 + 5) t) ≡ vs = cc in
+    let y : r * 20 + 4 + 1 ≡ r * 20 + 5 = omega arith in
+    record { two = cc; three = cc; four = d; all = rw (d, y) k }
+
+pub record Exchange (vars : ℕ) (once : Bool) (p o : ℕ) (vs : List ℕ) : Type 0 where
+  pub partner : ltb p 64 ≡ true
+  pub operation : ltb o 64 ≡ true
+  pub some : leb 1 (length vs) ≡ true
+  pub most : leb (length vs) 4 ≡ true
+  pub each : variablesWithin vars once vs ≡ true
+
+pub exchange-of : (vars : ℕ) (once : Bool) (p o : ℕ) (vs : List ℕ) → exchangeWithin vars once p o vs ≡ true → Exchange vars once p o vs
+unfolding exchangeWithin
+exchange-of vars once p o vs h =
+    both (ltb p 64) _ h (λ a h1. both (ltb o 64) _ h1 (λ b h2. both (leb 1 (length vs)) _ h2 (λ c h3. both (leb (length vs) 4) _ h3 (λ d e.
+    record { partner = a; operation = b; some = c; most = d; each = e }))))
+
+message-read : (vars : ℕ) (once : Bool) {t : List ℕ} {r k p o : ℕ} {vs : List ℕ} → exchangeWithin vars once p o vs ≡ true
+    → Row t r (k ∷ p ∷ o ∷ length vs ∷ vs) → (ltb (cell t r 2) 64 && exchangeFits vars once t r 3) ≡ true
+unfolding exchangeFits
+message-read vars once {t} {r} {k} {p} {o} {vs} h w =
+    let x = exchange-of vars once p o vs h in
+    let y : Tupled4 t r p o vs = tuple4-read {vs = vs} w in
+    let n : 4 + length vs ≡ suc (suc (suc (suc (length vs)))) = omega arith in
+    rw (y .all, y .two, x .partner, y .three, x .operation, y .four, x .some, x .most, x .each, n) (w .shape)
+
+module _ (vars : ℕ) (cs t : List ℕ) (handler : Bool) (d n : ℕ) (room : n < 256) where
+  code-read : {r k : ℕ} {ns : List ℕ} → Row t r (k ∷ ns) → k ≤ 11 → (handler && eqb k 11) ≡ false → codeAt t handler (suc d) n r ≡ found k (r + 1)
+  unfolding codeAt
+  code-read {k = k} w h f = rw (row-read w, le-ltb 11 k h, f, ne-eqb (suc d) 0 (λ z. omega arith), lt-leb 256 n room)
+
+  known-read : {r k : ℕ} {ns : List ℕ} → Row t r (k ∷ ns) → k ≤ 10 → partsFit vars cs t r k ≡ true
+      → headAt vars cs t handler (suc d) n r ≡ partsAt vars t r k (r + 1)
+  unfolding headAt
+  known-read {k = k} w h f = rw (code-read w (omega arith) (rw (ne-eqb k 11 (λ z. omega arith)) (and-false handler)), f)
+
+  own-read : (own : Own) (within : ℕ) {r m : ℕ} → ownWithin vars cs handler false own within ≡ true → Stands t r (ownRows own within) m
+      → headAt vars cs t handler (suc d) n r ≡ found (head own within) m
+  unfolding ownWithin ownRows exchangeNumbers partsFit partsAt withExpression headAt
+  own-read empty within h (cons w nil) = known-read w (omega arith) (w .shape) ∙ rw (eqb-true within 0 h)
+  own-read (send p o vs) within h (cons w nil) =
+      both (eqb within 0) _ h (λ z x. let y : Tupled4 t _ p o vs = tuple4-read {vs = vs} w in
+      known-read w (omega arith) (message-read vars false {vs = vs} x w) ∙ rw (y .all, y .two, y .three, eqb-true within 0 z))
+  own-read (receive p o vs) within h (cons w nil) =
+      both (eqb within 0) _ h (λ z x. let y : Tupled4 t _ p o vs = tuple4-read {vs = vs} w in
+      known-read w (omega arith) (message-read vars true {vs = vs} x w) ∙ rw (y .all, y .two, y .three, eqb-true within 0 z))
+  own-read (set v e) within h (cons w x) =
+      both (eqb within 0) _ h (λ z h1. both (ltb v vars) _ h1 (λ a h2. both (not (among v cs)) _ h2 (λ b q.
+      known-read w (omega arith) (rw (second-read w, a, b) (w .shape)) ∙ rw (expression-read vars t e 8 q x, second-read w, eqb-true within 0 z))))
+  own-read raise within h (cons w nil) = known-read w (omega arith) (w .shape) ∙ rw (eqb-true within 0 h)
+  own-read leave within h (cons w nil) = known-read w (omega arith) (w .shape) ∙ rw (eqb-true within 0 h)
+  own-read (choose e) within h (cons w x) =
+      both (eqb within 2) _ h (λ z q. known-read w (omega arith) (w .shape) ∙ rw (expression-read vars t e 8 q x, eqb-true within 2 z))
+  own-read (repeat e) within h (cons w x) =
+      both (eqb within 1) _ h (λ z q. known-read w (omega arith) (w .shape) ∙ rw (expression-read vars t e 8 q x, eqb-true within 1 z))
+  own-read sequence within h (cons w nil) = known-read w (omega arith) (rw (second-read w, h) (w .shape)) ∙ rw (second-read w)
+  own-read flow within h (cons w nil) = known-read w (omega arith) (rw (second-read w, h) (w .shape)) ∙ rw (second-read w)
+  own-read pick within h (cons w nil) = known-read w (omega arith) (rw (second-read w, h) (w .shape)) ∙ rw (second-read w)
+  own-read scope within h (cons w nil) =
+      both (eqb within 3) _ h (λ z x. rw (code-read w (omega arith) (rw (not-true handler x)), w .shape, eqb-true within 3 z))
+  own-read (arm p o vs) within h x = absurd (false≢true h)
+
+  arm-own-read : (own : Own) (within : ℕ) {r m : ℕ} → ownWithin vars cs handler true own within ≡ true → Stands t r (ownRows own within) m
+      → (kind own ≡ 12) × (armAt vars t n r ≡ found (head own within) m)
+  unfolding ownWithin ownRows exchangeNumbers armAt exchangeFits kind
+  arm-own-read (arm p o vs) within {r} h (cons w nil) =
+      both (eqb within 1) _ h (λ z q.
+      let x = exchange-of vars true p o vs q in
+      let y : Tupled3 t r o vs = tuple3-read {vs = vs} w in
+      let k : 3 + length vs ≡ suc (suc (suc (length vs))) = omega arith in
+      (refl, rw (row-read w, x .partner, lt-leb 256 n room, y .all, y .two, x .operation, y .three, x .some, x .most, x .each, k, w .shape, eqb-true within 1 z)))
+  arm-own-read empty within h x = absurd (false≢true h)
+  arm-own-read (send p o vs) within h x = absurd (false≢true h)
+  arm-own-read (receive p o vs) within h x = absurd (false≢true h)
+  arm-own-read (set v e) within h x = absurd (false≢true h)
+  arm-own-read raise within h x = absurd (false≢true h)
+  arm-own-read leave within h x = absurd (false≢true h)
+  arm-own-read (choose e) within h x = absurd (false≢true h)
+  arm-own-read (repeat e) within h x = absurd (false≢true h)
+  arm-own-read sequence within h x = absurd (false≢true h)
+  arm-own-read flow within h x = absurd (false≢true h)
+  arm-own-read pick within h x = absurd (false≢true h)
+  arm-own-read scope within h x = absurd (false≢true h)
+
+-- Activities and arms with those within them.
+
+module _ (vars : ℕ) (cs t : List ℕ) where
+  ReadsAct : Act → Type 0
+  ReadsAct a = (arms handler : Bool) (depth n r m : ℕ) → n + size a ≤ 256 → actWithin vars cs handler arms a depth ≡ true → Stands t r (actRows a) m
+      → readsAt arms (actAt depth vars cs t) vars t handler n r ≡ found a m
+
+  ReadsAll : Acts → Type 0
+  ReadsAll l = (arms handler later : Bool) (depth n r m : ℕ) → n + sizes l ≤ 256 → actsWithin vars cs handler later arms l depth ≡ true → Stands t r (actsRows l) m
+      → manyIn (readsAt arms (actAt depth vars cs t) vars t) handler later (count l) n r ≡ found l m
+
+  act-read : (own : Own) (l : Acts) → ReadsAll l → ReadsAct (act own l)
+  unfolding ReadsAct ReadsAll actWithin actRows size actAt armWith
+  act-read own l all true handler depth n r m room h x =
+      both (ownWithin vars cs handler true own (count l)) _ h (λ a b.
+      let s = stands-split t (ownRows own (count l)) (actsRows l) x in
+      let (k, o) = arm-own-read vars cs t handler 0 n (omega arith) own (count l) a (s .first) in
+      rw (o, all false handler handler depth (n + 1) (s .m) m (omega arith) (rw k at b) (s .second)))
+  act-read own l all false handler zero n r m room h x = absurd (false≢true h)
+  act-read own l all false handler (suc d) n r m room h x =
+      both (ltb 0 (suc d)) _ h (λ _ h1. both (ownWithin vars cs handler false own (count l)) _ h1 (λ a b.
+      let s = stands-split t (ownRows own (count l)) (actsRows l) x in
+      rw (
+        own-read vars cs t handler d n (omega arith) own (count l) a (s .first),
+        all (eqb (kind own) 10) handler (laterOf own handler) d (n + 1) (s .m) m (omega arith) (rw (sub-one (suc d)) at b) (s .second),
+      )))
+
+  more-read : (a : Act) (l : Acts) → ReadsAct a → ReadsAll l → ReadsAll (more a l)
+  unfolding ReadsAct ReadsAll actsWithin actsRows sizes count manyIn
+  more-read a l one all arms handler later depth n r m room h x =
+      both (actWithin vars cs handler arms a depth) _ h (λ p q.
+      let s = stands-split t (actRows a) (actsRows l) x in
+      rw (one-add (count l), one arms handler depth n r (s .m) (omega arith) p (s .first), all arms later later depth (n + size a) (s .m) m (omega arith) q (s .second)))
+
+  none-read : ReadsAll none
+  unfolding ReadsAll actsRows count manyIn
+  none-read arms handler later depth n r m room h nil = refl
+
+  mutual
+    reads-act : (a : Act) → ReadsAct a
+    reads-act (act own l) = act-read own l (reads-all l)
+
+    reads-all : (l : Acts) → ReadsAll l
+    reads-all none = none-read
+    reads-all (more a l) = more-read a l (reads-act a) (reads-all l)
+
+-- Plans.
+
+-- each of the correlation variables is above the one before, so that there are no more of them than variables
+pub ascending-few : (vars least : ℕ) (l : List ℕ) → least ≤ vars → ascending vars least l ≡ true → least + length l ≤ vars
+unfolding ascending
+ascending-few vars least [] k h = omega arith
+ascending-few vars least (v ∷ l) k h =
+    both (leb least v) _ h (λ x h1. both (ltb v vars) _ h1 (λ y z.
+    let a = leb-true least v x in
+    let b = ltb-true v vars y in
+    omega (arith, ascending-few vars (v + 1) l (omega arith) z)))
+
+pub record Limits (p : Plan) : Type 0 where
+  pub short : length (spelling p) ≤ 4096
+  pub some : leb 1 (p .variables) ≡ true
+  pub few : leb (p .variables) 16 ≡ true
+  pub ordered : ascending (p .variables) 0 (p .correlation) ≡ true
+  pub body : actWithin (p .variables) (p .correlation) false false (p .body) 16 ≡ true
+  pub fault : actWithin (p .variables) (p .correlation) true false (p .fault) 16 ≡ true
+  pub room : size (p .body) + size (p .fault) ≤ 256
+  pub start : startForm (p .body) ≡ true
+
+pub limits : (p : Plan) → planWithin p ≡ true → Limits p
+unfolding planWithin
+limits p h =
+    both (leb (length (spelling p)) 4096) _ h (λ a h1.
+    both (from1 16 (p .variables)) _ h1 (λ b h2.
+    both (leb 1 (p .variables)) _ b (λ b1 b2.
+    both (ascending (p .variables) 0 (p .correlation)) _ h2 (λ c h3.
+    both (actWithin (p .variables) (p .correlation) false false (p .body) 16) _ h3 (λ d h4.
+    both (actWithin (p .variables) (p .correlation) true false (p .fault) 16) _ h4 (λ e h5.
+    both (leb (size (p .body) + size (p .fault)) 256) _ h5 (λ f g. record {
+      short = leb-true _ _ a;
+      some = b1;
+      few = b2;
+      ordered = c;
+      body = d;
+      fault = e;
+      room = leb-true _ _ f;
+      start = g;
+    })))))))
+
+-- A table in which the rows of a plan within the limits stand, and no more, is read as that plan.
+pub standing-is-read : (t : List ℕ) (p : Plan) {m : ℕ} → planWithin p ≡ true → Stands t 0 (planRows p) m → length t ≤ m * 20 → readRows t ≡ found p m
+unfolding planRows readRows planAt rootAt headFits ReadsAct
+standing-is-read t p {m} h (cons w x) last =
+    let l = limits p h in
+    let cs = p .correlation in
+    let y : Tupled3 t 0 (p .variables) cs = tuple3-read {vs = cs} w in
+    let k : 3 + length cs ≡ suc (suc (suc (length cs))) = omega arith in
+    let f : leb (length cs) (p .variables) ≡ true =
+    le-leb (length cs) (p .variables) (omega (arith, ascending-few (p .variables) 0 cs (omega arith) (l .ordered))) in
+    let s = stands-split t (actRows (p .body)) (actRows (p .fault)) x in
+    rw (
+      row-read w,
+      y .all,
+      y .two,
+      y .three,
+      l .some,
+      l .few,
+      f,
+      l .ordered,
+      k,
+      w .shape,
+      reads-act (p .variables) cs t (p .body) false false 16 0 1 (s .m) (omega (arith, l .room)) (l .body) (s .first),
+      reads-act (p .variables) cs t (p .fault) false true 16 (size (p .body)) (s .m) m (l .room) (l .fault) (s .second),
+      le-ltb (m * 20) (length t) last,
+      l .start,
+      le-ltb 4096 (length (spelling p)) (l .short),
+    )
+
+-- no row of a plan within the limits has more than 19 numbers
+pub short-append : (a b : List (List ℕ)) → Short a → Short b → Short (a ++ b)
+unfolding Short
+short-append [] b x y = y
+short-append (ns ∷ a) b x y = (x .0, short-append a b (x .1) y)
+
+short-expression : (e : Exp) → Short (expressionRows e)
+unfolding Short expressionRows
+short-expression (constant v) = (omega arith, tt)
+short-expression (variable v) = (omega arith, tt)
+short-expression (binary o l r) = (omega arith, short-append (expressionRows l) (expressionRows r) (short-expression l) (short-expression r))
+
+short-exchange : (vars : ℕ) (once : Bool) (p o : ℕ) (vs : List ℕ) → exchangeWithin vars once p o vs ≡ true → length vs ≤ 4
+short-exchange vars once p o vs h = leb-true _ _ (exchange-of vars once p o vs h .most)
+
+short-own : (vars : ℕ) (cs : List ℕ) (handler arms : Bool) (own : Own) (within : ℕ) → ownWithin vars cs handler arms own within ≡ true → Short (ownRows own within)
+unfolding Short ownRows ownWithin exchangeNumbers
+short-own vars cs handler arms empty within h = (omega arith, tt)
+short-own vars cs handler arms (send p o vs) within h =
+    both (not arms) _ h (λ a h1. both (eqb within 0) _ h1 (λ b x. (omega (arith, short-exchange vars false p o vs x), tt)))
+short-own vars cs handler arms (receive p o vs) within h =
+    both (not arms) _ h (λ a h1. both (eqb within 0) _ h1 (λ b x. (omega (arith, short-exchange vars true p o vs x), tt)))
+short-own vars cs handler arms (set v e) within h = (omega arith, short-expression e)
+short-own vars cs handler arms raise within h = (omega arith, tt)
+short-own vars cs handler arms leave within h = (omega arith, tt)
+short-own vars cs handler arms (choose e) within h = (omega arith, short-expression e)
+short-own vars cs handler arms (repeat e) within h = (omega arith, short-expression e)
+short-own vars cs handler arms sequence within h = (omega arith, tt)
+short-own vars cs handler arms flow within h = (omega arith, tt)
+short-own vars cs handler arms pick within h = (omega arith, tt)
+short-own vars cs handler arms scope within h = (omega arith, tt)
+short-own vars cs handler arms (arm p o vs) within h =
+    both arms _ h (λ a h1. both (eqb within 1) _ h1 (λ b x. (omega (arith, short-exchange vars true p o vs x), tt)))
+
+mutual
+  unfolding actRows actsRows actWithin actsWithin Short
+
+  short-act : (vars : ℕ) (cs : List ℕ) (handler arms : Bool) (a : Act) (depth : ℕ) → actWithin vars cs handler arms a depth ≡ true → Short (actRows a)
+  short-act vars cs handler arms (act own l) depth h =
+      both (arms || ltb 0 depth) _ h (λ a h1. both (ownWithin vars cs handler arms own (count l)) _ h1 (λ b c.
+      short-append (ownRows own (count l)) (actsRows l) (short-own vars cs handler arms own (count l) b) (short-acts vars cs handler _ _ l _ c)))
+
+  short-acts : (vars : ℕ) (cs : List ℕ) (handler later arms : Bool) (l : Acts) (depth : ℕ) → actsWithin vars cs handler later arms l depth ≡ true → Short (actsRows l)
+  short-acts vars cs handler later arms none depth h = tt
+  short-acts vars cs handler later arms (more a l) depth h =
+      both (actWithin vars cs handler arms a depth) _ h (λ b c.
+      short-append (actRows a) (actsRows l) (short-act vars cs handler arms a depth b) (short-acts vars cs later later arms l depth c))
+
+pub short-plan : (p : Plan) → Limits p → Short (planRows p)
+unfolding planRows Short
+short-plan p l =
+    let few : p .variables ≤ 16 = leb-true (p .variables) 16 (l .few) in (
+      omega (arith, ascending-few (p .variables) 0 (p .correlation) (omega arith) (l .ordered)),
+      short-append (actRows (p .body)) (actRows (p .fault)) (short-act _ _ _ _ (p .body) _ (l .body)) (short-act _ _ _ _ (p .fault) _ (l .fault)),
+    )
+
+pub lines-long : (l : List (List ℕ)) → Short l → length (lines l) ≡ length l * 20
+unfolding lines Short
+lines-long [] s = refl
+lines-long (ns ∷ l) s = length-append (line ns) (lines l) ∙ omega (arith, line-long ns (s .0), lines-long l (s .1))
+
+-- The table of every plan within the limits is read as that plan.
+pub rows-are-read : (p : Plan) → planWithin p ≡ true → readRows (rowsOf p) ≡ found p (length (planRows p))
+unfolding rowsOf
+rows-are-read p h =
+    let s = short-plan p (limits p h) in
+    let z : 0 + length (planRows p) ≡ length (planRows p) = omega arith in
+    standing-is-read (lines (planRows p)) p h (rw z at (lines-stand (lines (planRows p)) 0 (planRows p) s (omega arith) refl)) (omega (arith, lines-long (planRows p) s))

@@ -1,0 +1,8 @@
+-- What other crates' proofs, and readers, cite of this one.
+pub mod CutReturns
+pub mod Tables
+pub mod TableLimits
+pub mod Completes
+pub mod Cuts
+pub mod RowsReturns
+pub mod Exact

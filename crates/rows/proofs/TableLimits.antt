@@ -1,0 +1,187 @@
+-- What a table is read as is within the limits of document 01, so that what is written of it is accepted. Assumes nothing.
+use borrow.Author.Tests.{ltb-true, ltb-false, leb-true, leb-false, eqb-true, eqb-false, lt-ltb, le-leb, not-true}
+use native.Mathlib.Omega.{arith}
+use native.Mathlib.Numerals.{sub-one}
+use mathlib.Core.Path.{_≡_, refl, sym, ap, _∙_}
+use mathlib.Core.Bool.{Bool, true, false, cond, not, _&&_, _||_, and-true}
+use mathlib.Core.List.{List, [], _∷_, _++_}
+use Prim.Native.Nat.{ℕ, zero, suc, _+_, _*_, _-_, _/_, _≤_, _<_}
+use lib.Dec.{eqb, ltb, leb}
+use lib.ListN.{length, getD, take, drop}
+use Rattle.plan.specs.Found.{Found, refused, found, andThen, among}
+use Rattle.plan.specs.Read.{operationOf, Head, head, manyIn, wholeIn, laterOf, startForm, readPlan}
+use Rattle.plan.specs.Spell.{spelling}
+use Rattle.plan.specs.Tree.{Exp, constant, variable, binary, Own, empty, send, receive, set, raise, leave, choose, repeat, sequence, flow, pick, scope, arm, kind, Act, act, Acts, none, more, Plan, size, count}
+use Rattle.plan.specs.Within.{expressionWithin, variablesWithin, exchangeWithin, from1, ownWithin, levelsBelow, actWithin, actsWithin, ascending, planWithin}
+use Rattle.plan.proofs.Accepts.{both, spelled-is-accepted}
+use Rattle.plan.proofs.Bounds.{Numbered, whole-numbered}
+use Rattle.plan.proofs.Finds.{Finds, finds-refused, finds-itself, finds-found, finds-cond, finds-code, finds-then, finds-so, finds-both, cond-case}
+use Rattle.plan.proofs.Stands.{many-count}
+use Rattle.writer.specs.Reading.{cell, shaped, tuple, rowIn, expressionFits, expressionHead, expressionAt, exchangeFits, armAt, codeAt, partsFit, withExpression, partsAt, headAt, armWith, readsAt, actAt, rootAt, headFits, planAt, readRows}
+use Rattle.writer.proofs.Lines.{tuple-long}
+use Rattle.writer.proofs.OwnReturns.{There, row-finds, Coded, code-finds}
+use Rattle.writer.proofs.ExpressionReturns.{Noded, node-finds}
+
+-- every number of the table is one of 32 bits, as in a slice of them
+abbrev pub Words : List ℕ → Type 0
+Words t = (i : ℕ) → getD t i 0 ≤ 4294967295
+
+fits-below : (vars : ℕ) (t : List ℕ) (r k : ℕ) → expressionFits vars t r k ≡ true → k ≡ 1 → ltb (cell t r 2) vars ≡ true
+unfolding expressionFits
+fits-below vars t r k h e = let g : (ltb (cell t r 2) vars && shaped t r 2) ≡ true = rw e at h in both (ltb (cell t r 2) vars) _ g (λ a b. a)
+
+module _ (t : List ℕ) (words : Words t) where
+  expression-within : (depth vars r : ℕ) → Finds (λ e next. expressionWithin vars e depth ≡ true) (expressionAt depth vars t r)
+  unfolding expressionAt expressionWithin
+  expression-within zero vars r = finds-then (finds-itself (expressionHead 0 vars t r)) (λ code next e. finds-refused)
+  expression-within (suc d) vars r =
+      finds-then (node-finds (suc d) vars t r) (λ k next w.
+      finds-cond (eqb k 0) (λ e. finds-found (rw (lt-ltb 0 (suc d) (omega arith), le-leb (cell t r 2) 4294967295 (words (r * 20 + 2)))))
+      (λ e. finds-cond (eqb k 1) (λ f. finds-found (rw (lt-ltb 0 (suc d) (omega arith), fits-below vars t r k (w .fits) (eqb-true k 1 f))))
+      (λ f. finds-then (expression-within d vars next) (λ left p x.
+      finds-then (expression-within d vars p) (λ right q y.
+      finds-found (rw (lt-ltb 0 (suc d) (omega arith), sub-one (suc d), x, y)))))))
+
+  exchange-within : (vars : ℕ) (once : Bool) (r c p : ℕ) → r < length t / 20 → c ≤ 3 → ltb p 64 ≡ true → exchangeFits vars once t r c ≡ true
+      → exchangeWithin vars once p (cell t r c) (tuple t r (c + 1)) ≡ true
+  unfolding exchangeFits exchangeWithin
+  exchange-within vars once r c p there l h k =
+      both (ltb (cell t r c) 64) _ k (λ a k1. both (from1 4 (cell t r (c + 1))) _ k1 (λ b k2.
+      both (leb 1 (cell t r (c + 1))) _ b (λ b1 b2. both (variablesWithin vars once (tuple t r (c + 1))) _ k2 (λ d s.
+      let m = leb-true (cell t r (c + 1)) 4 b2 in
+      let n : length (tuple t r (c + 1)) ≡ cell t r (c + 1) = tuple-long t r there (c + 1) (omega arith) (omega arith) in
+      rw (h, a, n, b1, b2, d)))))
+
+  module _ (vars : ℕ) (cs : List ℕ) (handler : Bool) where
+    abbrev Kept : Head → ℕ → Type 0
+    Kept h q = ownWithin vars cs handler false (h .own) (h .within) ≡ true
+
+    with-within : (own : Exp → Own) (within next : ℕ) → ((e : Exp) → expressionWithin vars e 8 ≡ true → ownWithin vars cs handler false (own e) within ≡ true)
+        → Finds Kept (withExpression vars t own within next)
+    unfolding withExpression
+    with-within own within next f = finds-then (expression-within 8 vars next) (λ e q x. finds-found (f e x))
+
+    message-within : (r k next : ℕ) → There t r k next → (once : Bool) → (ltb (cell t r 2) 64 && exchangeFits vars once t r 3) ≡ true
+        → exchangeWithin vars once (cell t r 2) (cell t r 3) (tuple t r 4) ≡ true
+    message-within r k next w once h = both (ltb (cell t r 2) 64) _ h (λ a b. exchange-within vars once r 3 (cell t r 2) (w .there) (omega arith) a b)
+
+    list-within : (most x : ℕ) (s : Bool) → (from1 most x && s) ≡ true → from1 most x ≡ true
+    list-within most x s h = both (from1 most x) s h (λ a b. a)
+
+    parts-within : (r k next : ℕ) → There t r k next → k ≤ 11 → (handler && eqb k 11) ≡ false → partsFit vars cs t r k ≡ true → Finds Kept (partsAt vars t r k next)
+    unfolding partsAt partsFit ownWithin
+    parts-within r k next w l g h =
+        finds-code k 0 (omega arith) (λ e. finds-found refl) (λ z.
+        finds-code k 1 (omega arith) (λ e. finds-found (message-within r k next w false (rw e at h))) (λ z.
+        finds-code k 2 (omega arith) (λ e. finds-found (message-within r k next w true (rw e at h))) (λ z.
+        finds-code k 3 (omega arith) (λ e.
+        let s : (ltb (cell t r 2) vars && (not (among (cell t r 2) cs) && shaped t r 2)) ≡ true = rw e at h in
+        both (ltb (cell t r 2) vars) _ s (λ a s1. both (not (among (cell t r 2) cs)) _ s1 (λ b s2.
+        with-within (set (cell t r 2)) 0 next (λ x y. rw (a, b, y))))) (λ z.
+        finds-code k 4 (omega arith) (λ e. finds-found refl) (λ z.
+        finds-code k 5 (omega arith) (λ e. finds-found refl) (λ z.
+        finds-code k 6 (omega arith) (λ e. with-within choose 2 next (λ x y. y)) (λ z.
+        finds-code k 7 (omega arith) (λ e. with-within repeat 1 next (λ x y. y)) (λ z.
+        finds-code k 8 (omega arith) (λ e. finds-found (list-within 32 (cell t r 2) _ (rw e at h))) (λ z.
+        finds-code k 9 (omega arith) (λ e. finds-found (list-within 32 (cell t r 2) _ (rw e at h))) (λ z.
+        finds-code k 10 (omega arith) (λ e. finds-found (list-within 8 (cell t r 2) _ (rw e at h))) (λ z.
+        let e : k ≡ 11 = omega arith in finds-found (rw (sym (and-true handler) ∙ rw e at g)))))))))))))
+
+    head-within : (depth n r : ℕ) → Finds (λ h q. Kept h q × (n < 256)) (headAt vars cs t handler depth n r)
+    unfolding headAt
+    head-within depth n r =
+        finds-then (code-finds t handler depth n r) (λ k next c.
+        finds-cond (partsFit vars cs t r k) (λ e. finds-so (parts-within r k next (c .row) (c .known) (c .placed) e) (λ h q x. (x, c .numbered))) (λ e. finds-refused))
+
+    arm-within : (n r : ℕ) → Finds (λ h q. (kind (h .own) ≡ 12) × ((ownWithin vars cs handler true (h .own) (h .within) ≡ true) × (n < 256))) (armAt vars t n r)
+    unfolding armAt ownWithin kind
+    arm-within n r =
+        finds-then (row-finds t r) (λ p next w.
+        finds-cond (ltb p 64) (λ e.
+        finds-cond (leb 256 n) (λ f. finds-refused) (λ f.
+        finds-cond (exchangeFits vars true t r 2) (λ g. finds-found (refl, (exchange-within vars true r 2 p (w .there) (omega arith) e g, leb-false _ _ f))) (λ g. finds-refused)))
+        (λ e. finds-refused))
+
+  module _ (vars : ℕ) (cs : List ℕ) where
+    abbrev Keeps : (arms : Bool) (depth : ℕ) → (Bool → ℕ → ℕ → Found Act) → Type 0
+    Keeps arms depth read = (handler : Bool) (n r : ℕ) → Finds (λ a next. actWithin vars cs handler arms a depth ≡ true) (read handler n r)
+
+    many-within : (arms : Bool) (depth : ℕ) (read : Bool → ℕ → ℕ → Found Act) → Keeps arms depth read → (handler later : Bool) (left n r : ℕ)
+        → Finds (λ l next. actsWithin vars cs handler later arms l depth ≡ true) (manyIn read handler later left n r)
+    unfolding manyIn actsWithin
+    many-within arms depth read k handler later zero n r = finds-found refl
+    many-within arms depth read k handler later (suc left) n r =
+        finds-then (k handler n r)
+        (λ a p h. finds-then (many-within arms depth read k later later left (n + size a) p) (λ l q m. finds-found (rw (h, m))))
+
+    arm-act-within : (depth : ℕ) (read : Bool → ℕ → ℕ → Found Act) → Keeps false depth read → Keeps true depth (armWith read vars t)
+    unfolding armWith actWithin
+    arm-act-within depth read k handler n r =
+        finds-then (arm-within vars cs handler n r)
+        (λ h p w. finds-then
+        (finds-both (many-count read handler handler (h .within) (n + 1) p) (many-within false depth read k handler handler (h .within) (n + 1) p))
+        (λ l q m. finds-found (rw (m .0, w .1 .0, w .0, m .1))))
+
+    reads-within : (depth : ℕ) (read : Bool → ℕ → ℕ → Found Act) → Keeps false depth read → (arms : Bool) → Keeps arms depth (readsAt arms read vars t)
+    reads-within depth read k true = arm-act-within depth read k
+    reads-within depth read k false = k
+
+    act-within : (depth : ℕ) → Keeps false depth (actAt depth vars cs t)
+    unfolding actAt actWithin
+    act-within zero handler n r = finds-then (finds-itself (headAt vars cs t handler 0 n r)) (λ h p w. finds-refused)
+    act-within (suc depth) handler n r =
+        finds-then (head-within vars cs handler (suc depth) n r)
+        (λ h p w.
+        let arms = eqb (kind (h .own)) 10 in
+        let later = laterOf (h .own) handler in
+        let read = readsAt arms (actAt depth vars cs t) vars t in
+        finds-then
+        (finds-both (many-count read handler later (h .within) (n + 1) p)
+        (many-within arms depth read (reads-within depth (actAt depth vars cs t) (act-within depth) arms) handler later (h .within) (n + 1) p))
+        (λ l q m. finds-found (rw (lt-ltb 0 (suc depth) (omega arith), m .0, w .0, sub-one (suc depth), m .1))))
+
+    arm-numbered : (read : Bool → ℕ → ℕ → Found Act) → Numbered read → Numbered (armWith read vars t)
+    unfolding armWith
+    arm-numbered read k handler n r = finds-then (arm-within vars cs handler n r) (λ h next w. whole-numbered read k handler handler n h next (w .1 .1))
+
+    act-numbered : (depth : ℕ) → Numbered (actAt depth vars cs t)
+    unfolding actAt
+    act-numbered zero handler n r = finds-then (finds-itself (headAt vars cs t handler 0 n r)) (λ h p w. finds-refused)
+    act-numbered (suc depth) handler n r =
+        finds-then (head-within vars cs handler (suc depth) n r)
+        (λ h p w. whole-numbered (readsAt (eqb (kind (h .own)) 10) (actAt depth vars cs t) vars t)
+        (cond-case Numbered (eqb (kind (h .own)) 10) (λ e. arm-numbered (actAt depth vars cs t) (act-numbered depth)) (λ e. act-numbered depth))
+        handler (laterOf (h .own) handler) n h p (w .1))
+
+    root-within : (r : ℕ) → from1 16 vars ≡ true → ascending vars 0 cs ≡ true → Finds (λ p next. length (spelling p) ≤ 4096 → planWithin p ≡ true) (rootAt vars cs t r)
+    unfolding rootAt planWithin
+    root-within r a c =
+        finds-then (act-within 16 false 0 r)
+        (λ body p x. finds-then (finds-both (act-within 16 true (size body) p) (act-numbered 16 true (size body) p))
+        (λ fault q y. finds-cond (ltb (q * 20) (length t)) (λ e. finds-refused)
+        (λ e. finds-cond (startForm body)
+        (λ u. finds-found (λ k. rw (le-leb _ 4096 k, a, c, x, y .0, le-leb (size body + size fault) 256 (y .1), u)))
+        (λ u. finds-refused))))
+
+  plan-within : Finds (λ p next. length (spelling p) ≤ 4096 → planWithin p ≡ true) (planAt t)
+  unfolding planAt headFits
+  plan-within =
+      finds-then (finds-itself (rowIn t 0)) (λ v r w.
+      finds-cond (eqb v 1) (λ e.
+      finds-cond (headFits t) (λ f.
+      both (from1 16 (cell t 0 2)) _ f (λ a f1. both (leb (cell t 0 3) (cell t 0 2)) _ f1 (λ b f2. both (ascending (cell t 0 2) 0 (tuple t 0 3)) _ f2 (λ c s.
+      root-within (cell t 0 2) (tuple t 0 3) r a c))))
+      (λ f. finds-refused))
+      (λ e. finds-refused))
+
+  rows-within : Finds (λ p next. planWithin p ≡ true) (readRows t)
+  unfolding readRows
+  rows-within = finds-then plan-within (λ p next k. finds-cond (ltb 4096 (length (spelling p))) (λ e. finds-refused) (λ e. finds-found (k (ltb-false _ _ e))))
+
+  -- What a table is read as is within the limits.
+  pub read-is-within : {p : Plan} {next : ℕ} → readRows t ≡ found p next → planWithin p ≡ true
+  read-is-within e = rows-within .holds e
+
+  -- What is written is accepted, as the plan that the table was read as.
+  pub written-is-accepted : {p : Plan} {next : ℕ} → readRows t ≡ found p next → readPlan (spelling p) ≡ found p (length (spelling p))
+  written-is-accepted {p} e = spelled-is-accepted p (read-is-within e)
