@@ -1,25 +1,24 @@
 -- The returns of the functions that find the part of an activity in which another stands, and go on after it. Assumes nothing.
 use mathlib.Core.Path.{_≡_, refl, sym, ap, _∙_}
-use mathlib.Core.Bool.{Bool, true, false, cond, not, _&&_, _||_, false≢true, or-false, and-false}
+use mathlib.Core.Bool.{Bool, true, false, or-false, and-false}
 use mathlib.Core.List.{List}
-use Prim.Native.Nat.{ℕ, _+_, _*_, _-_, _<_, _≤_}
+use Prim.Native.Nat.{ℕ, _+_, _-_, _<_, _≤_}
 use native.Mathlib.Omega.{arith}
-use borrow.Author.Tests.{eq-eqb, ne-eqb, eqb-true, eqb-false, lt-ltb, le-ltb, ltb-true, ltb-false}
+use borrow.Author.Tests.{eq-eqb, ne-eqb, lt-ltb, le-ltb}
 use lib.Dec.{eqb, ltb}
-use lib.ListN.{length, getD}
-use Rattle.plan.specs.Tree.{Own, kind, Act, act, Acts, none, more, size, sizes, count}
+use Rattle.plan.specs.Tree.{kind, Act, Acts, none, more, size, sizes}
 use Rattle.order.specs.declared.Entered.{Entered}
 use Rattle.order.specs.declared.Order.{Order}
 use Rattle.order.specs.declared.Went.{Went}
 use Rattle.order.specs.Acting.{finishes, isPart, arms, joins, stepIn, stepAmong}
-use Rattle.order.specs.Answering.{entered, went, isOver, begunOf, BeginsInTurn, runsOf, finishesOf, Child, NoChild, Among, ChildWith, Arms, BeginsAfter, Follows, JoinsAt}
-use Rattle.order.specs.Begin.{Begun, nothingBegun, beginInTurn, beginAfter, quiet}
+use Rattle.order.specs.Answering.{KindOf, Quiets, entered, went, isOver, begunOf, BeginsInTurn, runsOf, finishesOf, Among, ChildWith, Arms, BeginsAfter, Follows, JoinsAt}
+use Rattle.order.specs.Begin.{beginInTurn, beginAfter, quiet}
 use Rattle.order.specs.Room.{roomIn, roomAmong}
-use Rattle.order.specs.Scope.{Outcome, runs, begunIn, whereOver}
-use Rattle.order.specs.Stands.{End, Stands, StandAll}
+use Rattle.order.specs.Scope.{runs, begunIn}
+use Rattle.order.specs.Stands.{End}
 use Rattle.order.specs.State.{marked}
 use Rattle.order.proofs.Deciding.{yes, no, goes-on, stays}
-use Rattle.order.proofs.Standing.{size-pos, stands-end, if-none, if-more}
+use Rattle.order.proofs.Standing.{size-pos, stands-end, row-kind, if-none, if-more}
 
 -- what is numbered before all is none of them
 part-before : (l : Acts) (c x : ℕ) → x < c → isPart l c x ≡ false
@@ -105,8 +104,8 @@ module _ {t : List ℕ} {c e x j : ℕ} (w : Seeing t c e x j) where
           });
     })
 
-    pub seeing-again : n ≤ x → Seeing t c e x n
-    seeing-again g = record {
+    pub seeing-again : e ≤ 256 → n ≤ x → Seeing t c e x n
+    seeing-again f g = record {
       later = omega (arith, w .later, z .past);
       on = λ r y. w .on r (record {
         after = λ v. omega (arith, y .after v, z .past);
@@ -141,16 +140,12 @@ module _ {t : List ℕ} {c e x j : ℕ} (w : Seeing t c e x j) where
             }
 
 -- `arms`
-module _ (t : List ℕ) (k e child x : ℕ) (o : Order) {kd : ℕ} (q : kd ≡ getD t (k * 13) 0) where
-  row-kind : (own : Own) (l : Acts) → Stands (act own l) k t → kd ≡ kind own
-  unfolding Stands
-  row-kind own l s = q ∙ s .first .row .kind
-
+module _ (t : List ℕ) (k e child x : ℕ) (o : Order) {kd : ℕ} (q : KindOf t k kd) where
   pub arms-taken : kd ≡ 10 → child < e → child ≡ x → {p : Order} → p ≡ marked k 2 o → Arms t k e child x o p
   unfolding arms
   arms-taken h g i {p} y = record {
     is = λ own l s w.
-        let m : eqb (kind own) 10 ≡ true = eq-eqb _ _ (sym (row-kind own l s) ∙ h) in
+        let m : eqb (kind own) 10 ≡ true = eq-eqb _ _ (sym (row-kind q own l s) ∙ h) in
         let n : isPart l (k + 1) x ≡ true = w .found g .direct ∙ eq-eqb _ _ i in
         rw (m, n) y;
   }
@@ -175,7 +170,7 @@ module _ (t : List ℕ) (k e child x : ℕ) (o : Order) {kd : ℕ} (q : kd ≡ g
   unfolding arms
   arms-no-pick h = record {
     is = λ own l s w.
-        let m : eqb (kind own) 10 ≡ false = ne-eqb _ _ (λ g. h (row-kind own l s ∙ g)) in
+        let m : eqb (kind own) 10 ≡ false = ne-eqb _ _ (λ g. h (row-kind q own l s ∙ g)) in
         rw m;
   }
 
@@ -208,9 +203,9 @@ module _ (t : List ℕ) (k e child : ℕ) (o : Order) {b : Entered} (x : BeginsA
   }
 
 -- `joins`
-module _ (k e : ℕ) (o : Order) {v : Bool} (q : v ≡ quiet (k + 1) (e - (k + 1)) (o .marks)) where
+module _ (k e : ℕ) (o : Order) {v : Bool} (q : Quiets (k + 1) e (o .marks) v) (f : e ≤ 256) where
   all-quiet : (l : Acts) → e ≡ k + 1 + sizes l → quiet (k + 1) (sizes l) (o .marks) ≡ v
-  all-quiet l i = let m : e - (k + 1) ≡ sizes l = omega arith in sym (rw m at q)
+  all-quiet l i = let m : e - (k + 1) ≡ sizes l = omega arith in sym (rw m at (q .is f))
 
   pub joins-over : v ≡ true → {p : Went} → p ≡ finishesOf k o → JoinsAt k e o p
   unfolding joins

@@ -1,30 +1,30 @@
 -- The returns of the functions by which an activity goes on after a step within it, and of a step in an activity. Assumes nothing.
 use mathlib.Core.Path.{_≡_, refl, sym, ap, _∙_}
-use mathlib.Core.Bool.{Bool, true, false, cond, not, _&&_, _||_, false≢true}
+use mathlib.Core.Bool.{Bool, true, false, cond, not, _&&_, false≢true}
 use mathlib.Core.List.{List, []}
-use Prim.Native.Nat.{ℕ, _+_, _*_, _-_, _<_, _≤_}
+use Prim.Native.Nat.{ℕ, _+_, _*_, _<_, _≤_}
 use native.Mathlib.Omega.{arith}
-use borrow.Author.Tests.{eq-eqb, ne-eqb, eqb-true, eqb-false, lt-ltb, le-ltb, ltb-true}
+use borrow.Author.Tests.{eq-eqb, ne-eqb, lt-ltb, le-ltb, ltb-true}
 use lib.Dec.{eqb, ltb}
 use lib.ListN.{length, getD}
-use Rattle.plan.specs.Tree.{Own, empty, send, receive, set as setting, raise, leave, choose, repeat, sequence, flow, pick, scope, arm, kind, Act, act, Acts, none, more, size, sizes, count}
+use Rattle.plan.specs.Tree.{Own, empty, send, receive, set as setting, raise, leave, choose, repeat, sequence, flow, pick, scope, arm, kind, Act, act, Acts, none, more, size, sizes}
 use Rattle.order.specs.declared.Order.{Order}
 use Rattle.order.specs.declared.Spot.{Spot}
 use Rattle.order.specs.declared.Way.{Way}
 use Rattle.order.specs.declared.Way.the-variants.{Running, Over, Raising, Leaving, Undone, UndoRaising}
 use Rattle.order.specs.declared.Went.{Went}
 use Rattle.order.specs.Acting.{finishes, again, isPart, joins, goesOn, inScope, combines, itself, arms, stepIn, stepAmong}
-use Rattle.order.specs.Answering.{went, outcome, isOver, scopeAct, scopeOf, SpotAt, Makes, runsOf, finishesOf, StepsAt, Among, ChildWith, Arms, Follows, JoinsAt, InScope, hasParts, GoesOn, Combines, StepsIn}
+use Rattle.order.specs.Answering.{KindOf, went, outcome, isOver, scopeAct, SpotAt, Makes, runsOf, finishesOf, StepsAt, Among, ChildWith, Arms, Follows, JoinsAt, InScope, hasParts, GoesOn, Combines, StepsIn}
 use Rattle.order.specs.Begin.{part, partAt, beginAfter}
 use Rattle.order.specs.Event.{Event}
 use Rattle.order.specs.Lists.{only}
 use Rattle.order.specs.Room.{hasRoom, roomIn, roomAmong}
-use Rattle.order.specs.Scope.{Scope, Outcome, Result, runs, begunIn, whereOver, isScope, isFor, forgetting, scopeAt, fromBody, fromFault, fromUndo}
-use Rattle.order.specs.Stands.{End, Stands, StandAll}
+use Rattle.order.specs.Scope.{Scope, Outcome, runs, begunIn, whereOver, isScope, isFor, forgetting, scopeAt, fromBody, fromFault, fromUndo}
+use Rattle.order.specs.Stands.{End, Stands}
 use Rattle.order.specs.State.{closings, markAt, marked}
-use Rattle.order.proofs.Deciding.{yes, no, where-over, where-not}
-use Rattle.order.proofs.Owns.{Case, of-kind}
-use Rattle.order.proofs.Standing.{size-pos, stands-end, stands-inside, if-scope}
+use Rattle.order.proofs.Deciding.{yes, no, where-not}
+use Rattle.order.proofs.Owns.{of-kind}
+use Rattle.order.proofs.Standing.{stands-end, row-kind, if-scope}
 use Rattle.order.proofs.MemoryReturns.{closings-are}
 
 -- `has_parts`
@@ -93,11 +93,7 @@ module _ (t : List ℕ) (k x : ℕ) (r : Went) {z : Spot} (y : SpotAt t k z) whe
 abbrev overAt : Order → Outcome
 overAt o = record { result = Over; order = o; log = [] }
 
-module _ (t : List ℕ) (k e child : ℕ) (o : Order) {kd : ℕ} (q : kd ≡ getD t (k * 13) 0) {m : ℕ} (j : m ≡ markAt k o) where
-  row-kind : (own : Own) (l : Acts) → Stands (act own l) k t → kd ≡ kind own
-  unfolding Stands
-  row-kind own l s = q ∙ s .first .row .kind
-
+module _ (t : List ℕ) (k e child : ℕ) (o : Order) {kd : ℕ} (q : KindOf t k kd) {m : ℕ} (j : m ≡ markAt k o) where
   has-mark : (n : ℕ) → m ≡ n → eqb (markAt k o) n ≡ true
   has-mark n h = eq-eqb _ _ (sym j ∙ h)
 
@@ -110,7 +106,7 @@ module _ (t : List ℕ) (k e child : ℕ) (o : Order) {kd : ℕ} (q : kd ≡ get
     is = λ own l x s c w d.
         of-kind 8 (λ y. p ≡ went (combines y l k x (overAt o)))
         (g .is l x w ∙ sym (ap went (yes (eqb (markAt k o) 1) (whereOver (finishes k) (begunIn o (beginAfter l (k + 1) x (o .marks)))) (runs o) (has-mark 1 i))))
-        own (sym (row-kind own l s) ∙ h);
+        own (sym (row-kind q own l s) ∙ h);
   }
 
   pub sequence-stays : kd ≡ 8 → (m ≡ 1 → ⊥) → {p : Went} → p ≡ runsOf o → GoesOn t k e child o p
@@ -119,7 +115,7 @@ module _ (t : List ℕ) (k e child : ℕ) (o : Order) {kd : ℕ} (q : kd ≡ get
     is = λ own l x s c w d.
         of-kind 8 (λ y. p ≡ went (combines y l k x (overAt o)))
         (g ∙ sym (ap went (no (eqb (markAt k o) 1) (whereOver (finishes k) (begunIn o (beginAfter l (k + 1) x (o .marks)))) (runs o) (no-mark 1 i))))
-        own (sym (row-kind own l s) ∙ h);
+        own (sym (row-kind q own l s) ∙ h);
   }
 
   pub flow-joins : kd ≡ 9 → m ≡ 1 → {p : Went} → JoinsAt k e o p → GoesOn t k e child o p
@@ -128,7 +124,7 @@ module _ (t : List ℕ) (k e child : ℕ) (o : Order) {kd : ℕ} (q : kd ≡ get
     is = λ own l x s c w d.
         of-kind 9 (λ y. p ≡ went (combines y l k x (overAt o)))
         (g .is l c ∙ sym (ap went (yes (eqb (markAt k o) 1) (joins k l o) (runs o) (has-mark 1 i))))
-        own (sym (row-kind own l s) ∙ h);
+        own (sym (row-kind q own l s) ∙ h);
   }
 
   pub flow-stays : kd ≡ 9 → (m ≡ 1 → ⊥) → {p : Went} → p ≡ runsOf o → GoesOn t k e child o p
@@ -137,7 +133,7 @@ module _ (t : List ℕ) (k e child : ℕ) (o : Order) {kd : ℕ} (q : kd ≡ get
     is = λ own l x s c w d.
         of-kind 9 (λ y. p ≡ went (combines y l k x (overAt o)))
         (g ∙ sym (ap went (no (eqb (markAt k o) 1) (joins k l o) (runs o) (no-mark 1 i))))
-        own (sym (row-kind own l s) ∙ h);
+        own (sym (row-kind q own l s) ∙ h);
   }
 
   pub repeat-decides : kd ≡ 7 → m ≡ 2 → {p : Went} → p ≡ runsOf (marked k 1 o) → GoesOn t k e child o p
@@ -146,7 +142,7 @@ module _ (t : List ℕ) (k e child : ℕ) (o : Order) {kd : ℕ} (q : kd ≡ get
     is = λ own l x s c w d.
         of-kind 7 (λ y. p ≡ went (combines y l k x (overAt o)))
         (λ v. g ∙ sym (ap went (yes (eqb (markAt k o) 2) (again k o) (runs o) (has-mark 2 i))))
-        own (sym (row-kind own l s) ∙ h);
+        own (sym (row-kind q own l s) ∙ h);
   }
 
   pub repeat-stays : kd ≡ 7 → (m ≡ 2 → ⊥) → {p : Went} → p ≡ runsOf o → GoesOn t k e child o p
@@ -155,7 +151,7 @@ module _ (t : List ℕ) (k e child : ℕ) (o : Order) {kd : ℕ} (q : kd ≡ get
     is = λ own l x s c w d.
         of-kind 7 (λ y. p ≡ went (combines y l k x (overAt o)))
         (λ v. g ∙ sym (ap went (no (eqb (markAt k o) 2) (again k o) (runs o) (no-mark 2 i))))
-        own (sym (row-kind own l s) ∙ h);
+        own (sym (row-kind q own l s) ∙ h);
   }
 
   -- a choose or a pick
@@ -181,14 +177,14 @@ module _ (t : List ℕ) (k e child : ℕ) (o : Order) {kd : ℕ} (q : kd ≡ get
     unfolding goesOn
     inside-finishes i g = record {
       is = λ own l x s c w d.
-          g ∙ sym (ap went (inside-over own l x (row-kind own l s) d ∙ yes (eqb (markAt k o) 2) (finishes k o) (runs o) (has-mark 2 i)));
+          g ∙ sym (ap went (inside-over own l x (row-kind q own l s) d ∙ yes (eqb (markAt k o) 2) (finishes k o) (runs o) (has-mark 2 i)));
     }
 
     pub inside-stays : (m ≡ 2 → ⊥) → {p : Went} → p ≡ runsOf o → GoesOn t k e child o p
     unfolding goesOn
     inside-stays i g = record {
       is = λ own l x s c w d.
-          g ∙ sym (ap went (inside-over own l x (row-kind own l s) d ∙ no (eqb (markAt k o) 2) (finishes k o) (runs o) (no-mark 2 i)));
+          g ∙ sym (ap went (inside-over own l x (row-kind q own l s) d ∙ no (eqb (markAt k o) 2) (finishes k o) (runs o) (no-mark 2 i)));
     }
 
 -- `combines`
@@ -237,24 +233,20 @@ combines-plain pick l k x R n h = absurd (false≢true (sym h))
 combines-plain scope l k x R n h = absurd (n refl)
 combines-plain (arm p q vs) l k x R n h = refl
 
-module _ (t : List ℕ) (k e child x : ℕ) (r : Went) {kd : ℕ} (q : kd ≡ getD t (k * 13) 0) where
-  kind-of-row : (own : Own) (l : Acts) → Stands (act own l) k t → kd ≡ kind own
-  unfolding Stands
-  kind-of-row own l s = q ∙ s .first .row .kind
-
+module _ (t : List ℕ) (k e child x : ℕ) (r : Went) {kd : ℕ} (q : KindOf t k kd) where
   pub combines-scope : kd ≡ 11 → {p : Went} → InScope t k x r p → Combines t k e child x r p
   unfolding combines
   combines-scope h {p} g = record {
     is = λ own l s c w.
-        of-kind 11 (λ y. Stands (act y l) k t → p ≡ went (combines y l k x (outcome r))) (λ s. g .is l s) own (sym (kind-of-row own l s) ∙ h) s;
+        of-kind 11 (λ y. Stands (act y l) k t → p ≡ went (combines y l k x (outcome r))) (λ s. g .is l s) own (sym (row-kind q own l s) ∙ h) s;
   }
 
   module _ (n : kd ≡ 11 → ⊥) {v : Bool} (i : v ≡ hasParts kd) where
     no-scope : (own : Own) (l : Acts) → Stands (act own l) k t → kind own ≡ 11 → ⊥
-    no-scope own l s g = n (kind-of-row own l s ∙ g)
+    no-scope own l s g = n (row-kind q own l s ∙ g)
 
     parts-are : (own : Own) (l : Acts) → Stands (act own l) k t → hasParts (kind own) ≡ v
-    parts-are own l s = rw (← kind-of-row own l s) (sym i)
+    parts-are own l s = rw (← row-kind q own l s) (sym i)
 
     pub combines-goes : v ≡ true → {u : Bool} → u ≡ isOver (r .way) → u ≡ true → {p : Went} → GoesOn t k e child (r .order) p → Combines t k e child x r p
     combines-goes h {u} j y {p} g = record {

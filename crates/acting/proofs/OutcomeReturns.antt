@@ -1,21 +1,16 @@
 -- The returns of the functions by which a scope answers a fault and what runs in it. Assumes nothing.
-use mathlib.Core.Path.{_≡_, refl, sym, ap, _∙_}
-use mathlib.Core.Bool.{Bool, true, false, cond, not, _&&_, _||_, false≢true}
+use mathlib.Core.Path.{_≡_, sym, ap, _∙_}
+use mathlib.Core.Bool.{Bool, true, false, _||_}
 use mathlib.Core.List.{List}
-use Prim.Native.Nat.{ℕ, _+_, _*_, _-_, _<_, _≤_}
-use native.Mathlib.Omega.{arith}
-use borrow.Author.Tests.{eq-eqb, ne-eqb, eqb-true, eqb-false}
+use Prim.Native.Nat.{ℕ}
+use borrow.Author.Tests.{eq-eqb, ne-eqb}
 use lib.Dec.{eqb}
-use lib.ListN.{length, getD}
-use Rattle.plan.specs.Tree.{Act}
 use Rattle.order.specs.declared.Order.{Order}
 use Rattle.order.specs.declared.Spot.{Spot}
-use Rattle.order.specs.declared.Way.{Way}
 use Rattle.order.specs.declared.Way.the-variants.{Running, Over, Raising, Leaving, Undone, UndoRaising}
 use Rattle.order.specs.declared.Went.{Went}
-use Rattle.order.specs.Answering.{runsOf, went, outcome, nameOf, scopeOf, Held, Stops, Turns, Undoes, Forgets, endsOf, Leads, Makes, PartOver}
-use Rattle.order.specs.Begin.{cleared}
-use Rattle.order.specs.Scope.{Scope, Outcome, runs, forgetting, turns, undoes, isOpen, stop, ends, faults, breaks, looksAgain, bodyOver, bodyRaised, undoOver, undoRaised, fromBody, partOver, partRaised, fromFault, fromUndo}
+use Rattle.order.specs.Answering.{runsOf, went, outcome, nameOf, scopeOf, Clears, Stops, Turns, Undoes, Forgets, endsOf, Leads, Makes, PartOver}
+use Rattle.order.specs.Scope.{forgetting, isOpen, stop, faults, breaks, looksAgain, bodyOver, bodyRaised, undoOver, undoRaised, fromBody, partOver, partRaised, fromFault, fromUndo}
 use Rattle.order.proofs.Deciding.{yes, no}
 use Rattle.order.specs.State.{markOf, marking, withMarks}
 
@@ -31,13 +26,13 @@ faults-is t z o {o₁} e {p} x {r} y = record {
 
 -- `breaks`
 pub breaks-is : (t : List ℕ) (z : Spot) (o : Order) {o₁ : Order} → o₁ ≡ marking (nameOf z) 0 o → {p : Order} → Forgets t (z .body) (z .fault) o₁ p
-    → {n : List ℕ} → n ≡ cleared (z .first) (z .end - z .first) (p .marks) → {q : Order} → q ≡ withMarks n p
+    → {n : List ℕ} → Clears (z .first) (z .end) (p .marks) n → {q : Order} → q ≡ withMarks n p
     → Leads t z breaks o (record { way = Raising; order = q })
 unfolding breaks forgetting
 breaks-is t z o {o₁} e {p} x {n} i {q} j = record {
   is = λ b f h.
       let a : p ≡ forgetting (scopeOf z b f) o₁ = x .is b (h .body) (h .next) in
-      rw (j, i, a, e);
+      rw (j, i .is (h .end), a, e);
 }
 
 -- by the mark of the scope

@@ -2,7 +2,7 @@
 use mathlib.Core.Path.{_≡_, refl, sym, ap, _∙_}
 use mathlib.Core.Bool.{Bool, true, false, cond}
 use mathlib.Core.List.{List, []}
-use Prim.Native.Nat.{ℕ, _+_, _*_, _-_, _<_, _≤_}
+use Prim.Native.Nat.{ℕ, _+_, _-_, _<_, _≤_}
 use native.Mathlib.Omega.{arith}
 use borrow.Author.Tests.{eq-eqb, ne-eqb, lt-ltb, le-ltb, ltb-false}
 use lib.Dec.{eqb, ltb}
@@ -18,13 +18,13 @@ use Rattle.order.specs.declared.Way.{Way}
 use Rattle.order.specs.declared.Way.the-variants.{Running, Over, Raising, Leaving, Undone, UndoRaising}
 use Rattle.order.specs.declared.Went.{Went}
 use Rattle.order.specs.Acting.{stepIn, stepRoot, endOf, movedTo, stepOrder, begunOrder, startedOrder}
-use Rattle.order.specs.Answering.{went, outcome, entered, nextOf, endedOf, Begins, scopeOf, Held, Makes, StepsIn, RootSpot, Spelled, StepsOrder, StartsOrder}
+use Rattle.order.specs.Answering.{went, outcome, entered, nextOf, endedOf, Begins, Makes, StepsIn, RootSpot, StepsOrder, StartsOrder}
 use Rattle.order.specs.Begin.{begin}
 use Rattle.order.specs.Event.{Event}
 use Rattle.order.specs.Room.{hasRoom, roomIn, roomAmong, roomPlan}
 use Rattle.order.specs.Scope.{Scope, Outcome, rootOf, fromBody, fromFault}
 use Rattle.order.specs.Stands as standing
-use Rattle.order.specs.Stands.{Stands, PlanStands}
+use Rattle.order.specs.Stands.{PlanStands}
 use Rattle.order.specs.State.{closings, noOrder, withMarks, withRoot}
 use Rattle.order.proofs.Deciding.{yes, no}
 use Rattle.acting.proofs.CombineReturns.{body-same, fault-same}
@@ -86,8 +86,8 @@ moved-same R = go (R .result) (R .order) (R .log)
 pub root-is : (t : List ℕ) (activities : ℕ) {e : ℕ} → e ≤ 256 → (activities ≤ 256 → e ≡ activities) → {n f : ℕ} → standing.End t 0 n → f < 256 → (n < 256 → f ≡ n)
     → RootSpot t activities (record { root = true; first = 0; end = e; body = 0; fault = f })
 root-is t activities {e} h i {n} {f} z u j = record {
-  bounded = record { first = omega arith; end = h; body = omega arith; fault = u };
-  held = λ p s. record { body = s .body; next = omega (arith, fault-at p s); fault = rw (fault-at p s) (s .fault) };
+  low = u;
+  held = λ p s. record { end = h; body = s .body; next = omega (arith, fault-at p s); fault = rw (fault-at p s) (s .fault) };
   same = λ p s.
       let m : activities ≤ 256 = omega (arith, s .many, stands-inside (p .fault) (size (p .body)) t (s .fault)) in
       let c : e - 0 ≡ size (p .body) + size (p .fault) = omega (arith, s .many, i m) in

@@ -1,40 +1,39 @@
 -- The returns of the functions by which an activity has its step. Assumes nothing.
 use mathlib.Core.Path.{_≡_, refl, sym, ap, _∙_}
-use mathlib.Core.Bool.{Bool, true, false, cond, not, _&&_, _||_, false≢true}
+use mathlib.Core.Bool.{Bool, true, false, cond, not, _&&_}
 use mathlib.Core.List.{List, [], _∷_, _++_}
 use Prim.Native.Nat.{ℕ, zero, suc, _+_, _*_, _-_, _<_, _≤_}
 use native.Mathlib.Numerals.{add-one}
 use native.Mathlib.Omega.{arith}
-use borrow.Author.Tests.{eq-eqb, ne-eqb, eqb-true, eqb-false, lt-ltb, le-ltb, ltb-true, leb-true}
+use borrow.Author.Tests.{eq-eqb, ne-eqb, eqb-true, ltb-true, leb-true}
 use lib.Dec.{eqb, ltb, leb}
-use lib.ListN.{length, getD, drop, set, drop-of-length-le}
+use lib.ListN.{length, getD, drop, drop-of-length-le}
 use lib.Seq.{drop-cons}
 use Rattle.plan.specs.Found.{among}
-use Rattle.plan.specs.Spells.{SpellsExp, SpellsOwn, Row, variablesOf}
+use Rattle.plan.specs.Spells.{SpellsOwn, variablesOf}
 use Rattle.plan.specs.Table.{rowOf}
 use Rattle.plan.specs.Tree.{Exp, Own, empty, send, receive, set as setting, raise, leave, choose, repeat, sequence, flow, pick, scope, arm, kind, Act, act, Acts, none, more, size, sizes, count}
-use Rattle.plan.specs.Within.{ownWithin, expressionWithin, exchangeWithin, variablesWithin}
+use Rattle.plan.specs.Within.{ownWithin, exchangeWithin, variablesWithin}
 use Rattle.plan.proofs.Accepts.{both}
 use Rattle.order.specs.declared.Entered.{Entered}
 use Rattle.order.specs.declared.Order.{Order}
 use Rattle.order.specs.declared.Spot.{Spot}
-use Rattle.order.specs.declared.Way.{Way}
-use Rattle.order.specs.declared.Way.the-variants.{Running, Over, Raising, Leaving, Undone, UndoRaising}
+use Rattle.order.specs.declared.Way.the-variants.{Over, Raising, Leaving}
 use Rattle.order.specs.declared.Went.{Went}
 use Rattle.order.specs.declared.Worth.{Worth}
-use Rattle.order.specs.Acting.{finishes, raises, leaves, orRaises, enters, again, repeats, allBound, itself}
-use Rattle.order.specs.Answering.{entered, went, isOver, worthOf, Evaluates, begunOf, Begins, AfterRow, Forgets, Pushes, SpotAt, scopeAct, scopeOf, runsOf, finishesOf, raisesOf, leavesOf, Bound, CountOf, Names, AllBound, Binds, Enters, StepOf, Roomy, Closes, StepsAt, Repeats, WorthAt}
-use Rattle.order.specs.Begin.{begin, part, partAt, beginPart, cleared}
+use Rattle.order.specs.Acting.{finishes, enters, again, repeats, itself}
+use Rattle.order.specs.Answering.{went, isOver, worthOf, Evaluates, begunOf, Begins, Clears, KindOf, Forgets, Pushes, SpotAt, scopeAct, runsOf, finishesOf, raisesOf, leavesOf, Bound, CountOf, VariableOf, Names, AllBound, Binds, Enters, StepOf, Roomy, Closes, StepsAt, Repeats, WorthAt}
+use Rattle.order.specs.Begin.{begin, part, partAt, beginPart}
 use Rattle.order.specs.Expression.{Value, fault, value, evaluate, isTrue}
 use Rattle.order.specs.Lists.{only, every}
-use Rattle.order.specs.Scope.{Scope, Outcome, runs, begunIn, whereOver, scopeAt, isFor, forgetting, closing}
-use Rattle.order.specs.Stands.{End, Line, Stands, StandAll}
+use Rattle.order.specs.Scope.{Scope, begunIn, whereOver, scopeAt, isFor, forgetting, closing}
+use Rattle.order.specs.Stands.{End, Line, Stands}
 use Rattle.order.specs.State.{closings, remembering, marked, withMarks, isBound, binding}
 use Rattle.order.proofs.EvaluationReturns.{fault-known, value-known}
-use Rattle.order.proofs.Owns.{Case, of-kind}
+use Rattle.order.proofs.Owns.{of-kind}
 use Rattle.order.proofs.MemoryReturns.{closings-are}
 use Rattle.order.proofs.Deciding.{yes, no, goes-on, stays}
-use Rattle.order.proofs.Standing.{size-pos, stands-end, stands-inside, if-two, if-one, if-scope}
+use Rattle.order.proofs.Standing.{size-pos, stands-end, stands-inside, row-kind, if-two, if-one, if-scope}
 
 -- `finishes`, `raises`, `leaves`, `again`
 module _ (k : ℕ) (o : Order) where
@@ -85,7 +84,7 @@ module _ (t : List ℕ) (k c : ℕ) (o : Order) {o₁ : Order} (e : o₁ ≡ mar
 
 -- the count of a row is that of the variables it names
 pub names-count : {t : List ℕ} {k n : ℕ} {vs : List ℕ} → CountOf t k n → Names t k vs → n ≡ length vs
-names-count c m = c .is (omega (arith, m .count, m .few)) ∙ m .count
+names-count c m = c .is (m .row) (omega (arith, m .count, m .few)) ∙ m .count
 
 -- the loop of `all_bound`: those before are bound
 pub record Checking (t : List ℕ) (k : ℕ) (o : Order) (i : ℕ) : Type 0 where
@@ -105,12 +104,13 @@ module _ {t : List ℕ} {k : ℕ} {o : Order} {i n : ℕ} (w : Checking t k o i)
     beyond = λ g. absurd (omega arith);
   }
 
-  module _ (h : i < n) {v : ℕ} (q : v ≡ getD t (k * 13 + 4 + i) 0) {b : Bool} (x : Bound o v b) where
+  module _ (h : i < n) {v : ℕ} (q : VariableOf t k i v) {b : Bool} (x : Bound o v b) where
     next-bound : (vs : List ℕ) → Names t k vs → every (isBound o) (drop i vs) ≡ (b && every (isBound o) (drop (i + 1) vs))
     unfolding every
     next-bound vs m =
         let g : i < length vs = omega (arith, names-count c m) in
-        let u : v ≡ getD vs i 0 = q ∙ m .variables i (omega (arith, m .few)) in
+        let f : i < 4 = omega (arith, m .few) in
+        let u : v ≡ getD vs i 0 = q .is (m .row) f ∙ m .variables i f in
         let y : b ≡ isBound o (getD vs i 0) = rw u at (x .is (rw u (m .small i g))) in
         rw (y, add-one, drop-cons vs i 0 g)
 
@@ -251,7 +251,7 @@ module _ (t : List ℕ) (k : ℕ) (o : Order) {w : Worth} (x : WorthAt t k o w) 
           l (choose-row t k o e l x s .two) s) own n s;
     }
 
-    pub choose-second : y ≡ 0 → {c : ℕ} → AfterRow t (k + 1) c → {r : Went} → Enters t k c o r → StepOf 6 t k o r
+    pub choose-second : y ≡ 0 → {c : ℕ} → End t (k + 1) c → {r : Went} → Enters t k c o r → StepOf 6 t k o r
     unfolding Stands
     choose-second z {c} f {r} g = record {
       is = λ own l n s.
@@ -260,13 +260,13 @@ module _ (t : List ℕ) (k : ℕ) (o : Order) {w : Worth} (x : WorthAt t k o w) 
           (λ a b s.
           let i : evaluate e o ≡ value y = value-known (evaluate e o) (choose-row t k o e _ x s .worth) h in
           let m : isTrue y ≡ false = rw (eq-eqb _ _ z) in
-          let j : c ≡ k + 1 + size a = f .is a (s .rest .first) in
+          let j : c ≡ k + 1 + size a = stands-end a (k + 1) t (s .rest .first) f in
           (rw j at (g .is b (rw j (s .rest .rest .first)))) ∙ sym (ap went (chosen e a b k o y i false m)))
           l (choose-row t k o e l x s .two) s) own n s;
     }
 
 -- `repeats`
-module _ (t : List ℕ) (k : ℕ) (o : Order) {e : ℕ} (z : End t k e) {n : List ℕ} (i : n ≡ cleared (k + 1) (e - (k + 1)) (o .marks)) {o₁ o₂ : Order}
+module _ (t : List ℕ) (k : ℕ) (o : Order) {e : ℕ} (z : End t k e) {n : List ℕ} (i : Clears (k + 1) e (o .marks) n) {o₁ o₂ : Order}
     (d : o₁ ≡ withMarks n o) (j : o₂ ≡ marked k 2 o₁) {b : Entered} (x : Begins t (k + 1) (o₂ .marks) b) {r : Went} (y : r ≡ begunOf o₂ b)
     {v : Bool} (q : v ≡ isOver (r .way)) where
   repeated : (own : Own) (a : Act) → Stands (act own (more a none)) k t
@@ -274,7 +274,7 @@ module _ (t : List ℕ) (k : ℕ) (o : Order) {e : ℕ} (z : End t k e) {n : Lis
   unfolding repeats beginPart part partAt size
   repeated own a s =
       let f : e - (k + 1) ≡ sizes (more a none) = omega (arith, stands-end (act own (more a none)) k t s z) in
-      rw (j, d, i, f)
+      rw (j, d, i .is (z .within), f)
 
   body-begun : (own : Own) (a : Act) → Stands (act own (more a none)) k t → r ≡ went (begunIn o₂ (begin a (k + 1) (o₂ .marks)))
   unfolding Stands
@@ -377,12 +377,13 @@ module _ (t : List ℕ) (k : ℕ) (o : Order) {z : Spot} (x : SpotAt t k z) {f :
       let e : f ≡ forgetting (scopeAt k (more b (more g (more u none)))) o = forgotten b g u s in
       ap (λ (w : Order). w .kept) e ∙ ap length (sym (closings-are (only (λ e. not (isFor (scopeAt k (more b (more g (more u none)))) e)) (closings o)) o))
 
-  pushed-on : (b g u : Act) → Stands (scopeAct b g u) k t → {p : Order} → Pushes f k p
+  pushed-on : (b g u : Act) → Stands (scopeAct b g u) k t → f .kept < 32 → {p : Order} → Pushes f k p
       → p ≡ remembering (closings (forgetting (scopeAt k (more b (more g (more u none)))) o) ++ (k ∷ [])) o
   unfolding forgetting
-  pushed-on b g u s j =
+  pushed-on b g u s i j =
+      let h : k < 256 = omega (arith, stands-inside (scopeAct b g u) k t s, size-pos (scopeAct b g u)) in
       let l = only (λ e. not (isFor (scopeAt k (more b (more g (more u none)))) e)) (closings o) in
-      rw (closings-are l o) (j .is l o (forgotten b g u s))
+      rw (closings-are l o) (j .is i h l o (forgotten b g u s))
 
   StepsAct : Went → Act → Type 0
   StepsAct r (act own l) = Roomy own l k o → r ≡ went (itself own l k o)
@@ -396,7 +397,7 @@ module _ (t : List ℕ) (k : ℕ) (o : Order) {z : Spot} (x : SpotAt t k z) {f :
       closed : (b c u : Act) → Stands (scopeAct b c u) k t → r ≡ went (itself scope (more b (more c (more u none))) k o)
       closed b c u s =
           let m : p ≡ remembering (closings (forgetting (scopeAt k (more b (more c (more u none)))) o) ++ (k ∷ [])) o
-          = pushed-on b c u s j in
+          = pushed-on b c u s i j in
           rw m at g
 
   pub closes-full : 32 ≤ f .kept → {r : Went} → Closes t k o r
@@ -410,30 +411,26 @@ module _ (t : List ℕ) (k : ℕ) (o : Order) {z : Spot} (x : SpotAt t k z) {f :
       full b c u s room = absurd (omega (arith, kept-all b c u s, room scope-kind))
 
 -- `itself`: by the kind of the row
-module _ (t : List ℕ) (k : ℕ) (o : Order) {kd : ℕ} (q : kd ≡ getD t (k * 13) 0) where
-  kind-is : (own : Own) (l : Acts) → Stands (act own l) k t → kd ≡ kind own
-  unfolding Stands
-  kind-is own l s = q ∙ s .first .row .kind
-
+module _ (t : List ℕ) (k : ℕ) (o : Order) {kd : ℕ} (q : KindOf t k kd) where
   pub itself-of : (n : ℕ) → kd ≡ n → {r : Went} → StepOf n t k o r → StepsAt t k o r
-  itself-of n e x = record { is = λ own l s room. x .is own l (sym (kind-is own l s) ∙ e) s }
+  itself-of n e x = record { is = λ own l s room. x .is own l (sym (row-kind q own l s) ∙ e) s }
 
   pub itself-closes : kd ≡ 11 → {r : Went} → Closes t k o r → StepsAt t k o r
-  itself-closes e x = record { is = λ own l s room. x .is own l (sym (kind-is own l s) ∙ e) s room }
+  itself-closes e x = record { is = λ own l s room. x .is own l (sym (row-kind q own l s) ∙ e) s room }
 
   pub itself-receives : kd ≡ 2 → {r : Went} → r ≡ finishesOf k o → StepsAt t k o r
   unfolding itself
   itself-receives e {r} g = record {
-    is = λ own l s room. of-kind 2 (λ w. r ≡ went (itself w l k o)) (λ p q vs. g) own (sym (kind-is own l s) ∙ e);
+    is = λ own l s room. of-kind 2 (λ w. r ≡ went (itself w l k o)) (λ p q vs. g) own (sym (row-kind q own l s) ∙ e);
   }
 
   pub itself-raises : kd ≡ 4 → {r : Went} → r ≡ raisesOf k o → StepsAt t k o r
   unfolding itself
-  itself-raises e {r} g = record { is = λ own l s room. of-kind 4 (λ w. r ≡ went (itself w l k o)) g own (sym (kind-is own l s) ∙ e) }
+  itself-raises e {r} g = record { is = λ own l s room. of-kind 4 (λ w. r ≡ went (itself w l k o)) g own (sym (row-kind q own l s) ∙ e) }
 
   pub itself-leaves : kd ≡ 5 → {r : Went} → r ≡ leavesOf k o → StepsAt t k o r
   unfolding itself
-  itself-leaves e {r} g = record { is = λ own l s room. of-kind 5 (λ w. r ≡ went (itself w l k o)) g own (sym (kind-is own l s) ∙ e) }
+  itself-leaves e {r} g = record { is = λ own l s room. of-kind 5 (λ w. r ≡ went (itself w l k o)) g own (sym (row-kind q own l s) ∙ e) }
 
   module _ (h1 : kd ≡ 1 → ⊥) (h2 : kd ≡ 2 → ⊥) (h3 : kd ≡ 3 → ⊥) (h4 : kd ≡ 4 → ⊥) (h5 : kd ≡ 5 → ⊥) (h6 : kd ≡ 6 → ⊥) (h7 : kd ≡ 7 → ⊥)
       (h11 : kd ≡ 11 → ⊥) (h12 : kd ≡ 12 → ⊥) where
@@ -454,4 +451,4 @@ module _ (t : List ℕ) (k : ℕ) (o : Order) {kd : ℕ} (q : kd ≡ getD t (k *
     runs-itself g (arm p q vs) l e = absurd (h12 e)
 
     pub itself-runs : {r : Went} → r ≡ runsOf o → StepsAt t k o r
-    itself-runs g = record { is = λ own l s room. runs-itself g own l (kind-is own l s) }
+    itself-runs g = record { is = λ own l s room. runs-itself g own l (row-kind q own l s) }

@@ -1,27 +1,27 @@
 -- The returns of the functions by which an order takes a message. Assumes nothing.
 use mathlib.Core.Path.{_≡_, refl, sym, ap, _∙_}
-use mathlib.Core.Bool.{Bool, true, false, not}
-use mathlib.Core.List.{List, [], _∷_}
-use Prim.Native.Nat.{ℕ, suc, _+_, _*_, _<_, _≤_}
+use mathlib.Core.Bool.{true, not}
+use mathlib.Core.List.{List, _∷_}
+use Prim.Native.Nat.{ℕ, _+_, _<_, _≤_}
 use native.Mathlib.Numerals.{add-one}
 use native.Mathlib.Omega.{arith}
-use borrow.Author.Tests.{eq-eqb, ne-eqb, eqb-true, eqb-false, lt-ltb, le-ltb, ltb-true, ltb-false, leb-true}
-use lib.Dec.{eqb, ltb, leb}
+use borrow.Author.Tests.{le-ltb}
+use lib.Dec.{eqb, ltb}
 use lib.ListN.{length, getD, drop, drop-of-length-le}
 use lib.Seq.{drop-cons, drop-drop, getD-drop}
 use Rattle.plan.specs.Spells.{variablesOf}
-use Rattle.plan.specs.Tree.{Own, empty, send, receive, set as setting, raise, leave, choose, repeat, sequence, flow, pick, scope, arm, kind, Act, act, Acts, none, more, Plan, size, sizes, count}
-use Rattle.plan.specs.Within.{ownWithin, exchangeWithin, variablesWithin}
+use Rattle.plan.specs.Tree.{Own, empty, send, receive, set as setting, raise, leave, choose, repeat, sequence, flow, pick, scope, arm, kind, Act, act, Acts, none, more, size, sizes, count}
+use Rattle.plan.specs.Within.{ownWithin}
 use Rattle.plan.proofs.Accepts.{both}
 use Rattle.order.specs.declared.Order.{Order}
-use Rattle.order.specs.Answering.{CountOf, Names, Binds, BindsRow, Spelled, TakesOrder}
-use Rattle.order.specs.Stands.{Stands, StandAll, PlanStands}
+use Rattle.order.specs.Answering.{KindOf, CountOf, VariableOf, Names, Binds, BindsRow, TakesOrder}
+use Rattle.order.specs.Stands.{Stands}
 use Rattle.order.specs.State.{binding}
-use Rattle.order.specs.Taking.{actIn, actAmong, actAt, bindAll, bindOwn, bindAct, taking}
-use Rattle.order.proofs.Deciding.{yes, no}
-use Rattle.order.proofs.Owns.{Case, of-kind}
+use Rattle.order.specs.Taking.{actIn, actAmong, actAt, bindAll, bindOwn, bindAct}
+use Rattle.order.proofs.Deciding.{no}
+use Rattle.order.proofs.Owns.{of-kind}
 use Rattle.order.proofs.PlanStands.{plan-stands, plan-size, plan-at}
-use Rattle.order.proofs.Standing.{size-pos, stands-inside}
+use Rattle.order.proofs.Standing.{size-pos, stands-inside, row-kind}
 use Rattle.acting.proofs.StepReturns.{line-names, names-count}
 
 -- `bind_row`
@@ -42,11 +42,12 @@ module _ {t : List ℕ} {k : ℕ} {xs : List ℕ} {o₀ : Order} {i : ℕ} {o : 
     is = λ vs m. let g : length vs ≤ i = omega (arith, names-count c m) in sym (w .is vs m ∙ rw (drop-of-length-le vs g));
   }
 
-  pub taking-again : i < n → {v : ℕ} → v ≡ getD t (k * 13 + 4 + i) 0 → {p : Order} → Binds v (getD xs i 0) o p → Taking t k xs o₀ (i + 1) p
+  pub taking-again : i < n → {v : ℕ} → VariableOf t k i v → {p : Order} → Binds v (getD xs i 0) o p → Taking t k xs o₀ (i + 1) p
   taking-again h {v} q {p} b = record {
     is = λ vs m.
         let g : i < length vs = omega (arith, names-count c m) in
-        let u : v ≡ getD vs i 0 = q ∙ m .variables i (omega (arith, m .few)) in
+        let z : i < 4 = omega (arith, m .few) in
+        let u : v ≡ getD vs i 0 = q .is (m .row) z ∙ m .variables i z in
         let y : p ≡ binding (getD vs i 0) (getD xs i 0) o = rw u at (b .is (rw u (m .small i g))) in
         let c : drop i vs ≡ getD vs i 0 ∷ drop (i + 1) vs = rw add-one (drop-cons vs i 0 g) in
         let d : drop 1 (drop i xs) ≡ drop (i + 1) xs = drop-drop 1 i xs in
@@ -91,11 +92,7 @@ module _ (t : List ℕ) (n x : ℕ) (xs : List ℕ) (o : Order) where
     is = λ p s. let a = plan-at p n t (plan-stands s) x g in absurd (omega (arith, stands-inside (actAt p x) x t a, size-pos (actAt p x)));
   }
 
-  module _ (g : x < n) {kd : ℕ} (q : kd ≡ getD t (x * 13) 0) where
-    row-kind : (own : Own) (l : Acts) → Stands (act own l) x t → kind own ≡ kd
-    unfolding Stands
-    row-kind own l s = sym (q ∙ s .first .row .kind)
-
+  module _ (g : x < n) {kd : ℕ} (q : KindOf t x kd) where
     by-row : {r : Order} → ((own : Own) (l : Acts) → Stands (act own l) x t → r ≡ bindOwn own xs o) → TakesOrder t n x xs o r
     by-row {r} f = record { is = λ p s. go (actAt p x) (plan-at p n t (plan-stands s) x g) }
       where
@@ -105,12 +102,12 @@ module _ (t : List ℕ) (n x : ℕ) (xs : List ℕ) (o : Order) where
     pub takes-receive : kd ≡ 2 → {r : Order} → BindsRow t x xs o r → TakesOrder t n x xs o r
     unfolding bindOwn
     takes-receive h {r} b = by-row (λ own l s.
-        of-kind 2 (λ w. Stands (act w l) x t → r ≡ bindOwn w xs o) (λ p y vs s. b .is vs (receive-names t x p y vs l s)) own (row-kind own l s ∙ h) s)
+        of-kind 2 (λ w. Stands (act w l) x t → r ≡ bindOwn w xs o) (λ p y vs s. b .is vs (receive-names t x p y vs l s)) own (sym (row-kind q own l s) ∙ h) s)
 
     pub takes-arm : kd ≡ 12 → {r : Order} → BindsRow t x xs o r → TakesOrder t n x xs o r
     unfolding bindOwn
     takes-arm h {r} b = by-row (λ own l s.
-        of-kind 12 (λ w. Stands (act w l) x t → r ≡ bindOwn w xs o) (λ p y vs s. b .is vs (arm-names t x p y vs l s)) own (row-kind own l s ∙ h) s)
+        of-kind 12 (λ w. Stands (act w l) x t → r ≡ bindOwn w xs o) (λ p y vs s. b .is vs (arm-names t x p y vs l s)) own (sym (row-kind q own l s) ∙ h) s)
 
     no-take : (kd ≡ 2 → ⊥) → (kd ≡ 12 → ⊥) → (own : Own) → kind own ≡ kd → o ≡ bindOwn own xs o
     unfolding bindOwn kind
@@ -129,4 +126,4 @@ module _ (t : List ℕ) (n x : ℕ) (xs : List ℕ) (o : Order) where
     no-take h i (arm p y vs) e = absurd (i (sym e))
 
     pub takes-none : (kd ≡ 2 → ⊥) → (kd ≡ 12 → ⊥) → TakesOrder t n x xs o o
-    takes-none h i = by-row (λ own l s. no-take h i own (row-kind own l s))
+    takes-none h i = by-row (λ own l s. no-take h i own (sym (row-kind q own l s)))

@@ -42,7 +42,6 @@ fn child_with(table: &[u32; 11584], c: usize, e: usize, t: usize) -> usize
 
 // A pick one of whose arms takes its message is no longer active.
 fn arms(table: &[u32; 11584], k: usize, e: usize, child: usize, t: usize, order: Order) -> Order
-    requires { ⌜ k < 256 ⌝ }
     ensures { λ p. ⌜ Arms (now (table .entry)) k e child t order p ⌝ }
 {
     if kind_of(table, k) == kind::PICK {
@@ -57,7 +56,6 @@ fn arms(table: &[u32; 11584], k: usize, e: usize, child: usize, t: usize, order:
 
 // What follows the part in row `child` begins, in turn, as far as row e.
 fn begin_after(table: &[u32; 11584], e: usize, child: usize, marks: [u8; 256]) -> Entered
-    requires { ⌜ e ≤ 256 ⌝ }
     ensures { λ p. ⌜ BeginsAfter (now (table .entry)) e child marks p ⌝ }
 {
     if child < e {
@@ -68,7 +66,6 @@ fn begin_after(table: &[u32; 11584], e: usize, child: usize, marks: [u8; 256]) -
 
 // Sequence k goes on after its part in row `child`.
 fn follows(table: &[u32; 11584], k: usize, e: usize, child: usize, order: Order) -> Went
-    requires { ⌜ (k < 256) × (e ≤ 256) ⌝ }
     ensures { λ p. ⌜ Follows (now (table .entry)) k e child order p ⌝ }
 {
     let m = order.marks;
@@ -95,7 +92,6 @@ fn joins(k: usize, e: usize, order: Order) -> Went
 
 // What scope k makes of a step t within it.
 fn in_scope(table: &[u32; 11584], k: usize, t: usize, r: Went) -> Went
-    requires { ⌜ k < 256 ⌝ }
     ensures { λ p. ⌜ InScope (now (table .entry)) k t r p ⌝ }
 {
     let s = spot_at(table, k);

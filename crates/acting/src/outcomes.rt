@@ -16,12 +16,11 @@ use scopes::scopes::undoes;
 use scopes::stopping::is_open;
 use scopes::stopping::stop;
 ghost use mathlib.Core.Path.{_≡_};
-ghost use Rattle.order.specs.Answering.{Bounded, Leads, Makes, PartOver, went, outcome};
+ghost use Rattle.order.specs.Answering.{Leads, Makes, PartOver, went, outcome};
 ghost use Rattle.order.specs.Scope.{faults as faultsOf, breaks as breaksOf, looksAgain, bodyOver, bodyRaised, undoOver, undoRaised, fromBody, partOver, partRaised, fromFault, fromUndo};
 
 // The scope faults.
 fn faults(table: &[u32; 11584], spot: Spot, order: Order) -> Went
-    requires { ⌜ Bounded spot ⌝ }
     ensures { λ p. ⌜ Leads (now (table .entry)) spot faultsOf order p ⌝ }
 {
     let o = marking(spot, mark::FAULTY, order);
@@ -31,7 +30,6 @@ fn faults(table: &[u32; 11584], spot: Spot, order: Order) -> Went
 
 // The scope ends with a fault that goes on to the scope around it.
 fn breaks(table: &[u32; 11584], spot: Spot, order: Order) -> Went
-    requires { ⌜ Bounded spot ⌝ }
     ensures { λ p. ⌜ Leads (now (table .entry)) spot breaksOf order p ⌝ }
 {
     let o = forgetting(
@@ -51,7 +49,6 @@ fn breaks(table: &[u32; 11584], spot: Spot, order: Order) -> Went
 
 // The scope looks again where it waits for its inner scopes.
 fn looks_again(table: &[u32; 11584], spot: Spot, order: Order) -> Went
-    requires { ⌜ Bounded spot ⌝ }
     ensures { λ p. ⌜ Leads (now (table .entry)) spot looksAgain order p ⌝ }
 {
     let m = mark_of(spot, order);
@@ -66,7 +63,6 @@ fn looks_again(table: &[u32; 11584], spot: Spot, order: Order) -> Went
 
 // The body is over.
 fn body_over(table: &[u32; 11584], spot: Spot, order: Order) -> Went
-    requires { ⌜ Bounded spot ⌝ }
     ensures { λ p. ⌜ Leads (now (table .entry)) spot bodyOver order p ⌝ }
 {
     if mark_of(spot, order) == mark::ACTIVE {
@@ -78,7 +74,6 @@ fn body_over(table: &[u32; 11584], spot: Spot, order: Order) -> Went
 
 // A fault came out of the body.
 fn body_raised(table: &[u32; 11584], spot: Spot, order: Order) -> Went
-    requires { ⌜ Bounded spot ⌝ }
     ensures { λ p. ⌜ Leads (now (table .entry)) spot bodyRaised order p ⌝ }
 {
     if is_open(mark_of(spot, order)) {
@@ -89,7 +84,6 @@ fn body_raised(table: &[u32; 11584], spot: Spot, order: Order) -> Went
 
 // An undo part that the scope is running is over.
 fn undo_over(table: &[u32; 11584], spot: Spot, order: Order) -> Went
-    requires { ⌜ Bounded spot ⌝ }
     ensures { λ p. ⌜ Leads (now (table .entry)) spot undoOver order p ⌝ }
 {
     let m = mark_of(spot, order);
@@ -104,7 +98,6 @@ fn undo_over(table: &[u32; 11584], spot: Spot, order: Order) -> Went
 
 // A fault came out of an undo part that the scope is running.
 fn undo_raised(table: &[u32; 11584], spot: Spot, order: Order) -> Went
-    requires { ⌜ Bounded spot ⌝ }
     ensures { λ p. ⌜ Leads (now (table .entry)) spot undoRaised order p ⌝ }
 {
     let m = mark_of(spot, order);
@@ -119,7 +112,6 @@ fn undo_raised(table: &[u32; 11584], spot: Spot, order: Order) -> Went
 
 // What a scope makes of a step in its body.
 pub(crate) fn from_body(table: &[u32; 11584], spot: Spot, r: Went) -> Went
-    requires { ⌜ Bounded spot ⌝ }
     ensures { λ p. ⌜ Makes (now (table .entry)) spot fromBody r p ⌝ }
 {
     let w = r.way;
@@ -139,7 +131,6 @@ pub(crate) fn from_body(table: &[u32; 11584], spot: Spot, r: Went) -> Went
 
 // The fault part that the scope is running is over.
 fn part_over(spot: Spot, order: Order) -> Went
-    requires { ⌜ Bounded spot ⌝ }
     ensures { λ p. ⌜ PartOver spot order p ⌝ }
 {
     if mark_of(spot, order) == mark::HANDLING {
@@ -150,7 +141,6 @@ fn part_over(spot: Spot, order: Order) -> Went
 
 // A fault came out of the fault part that the scope is running.
 fn part_raised(table: &[u32; 11584], spot: Spot, order: Order) -> Went
-    requires { ⌜ Bounded spot ⌝ }
     ensures { λ p. ⌜ Leads (now (table .entry)) spot partRaised order p ⌝ }
 {
     if mark_of(spot, order) == mark::HANDLING {
@@ -161,7 +151,6 @@ fn part_raised(table: &[u32; 11584], spot: Spot, order: Order) -> Went
 
 // What a scope makes of a step in its fault part.
 pub(crate) fn from_fault(table: &[u32; 11584], spot: Spot, r: Went) -> Went
-    requires { ⌜ Bounded spot ⌝ }
     ensures { λ p. ⌜ Makes (now (table .entry)) spot fromFault r p ⌝ }
 {
     let w = r.way;

@@ -7,8 +7,7 @@ use order::Way;
 use order::Went;
 use order::mark;
 use order::rows::end_of;
-use scopes::scopes::some_row;
-ghost use Prim.Native.Nat.{_≤_};
+ghost use Prim.Native.Nat.{_≤_, _<_};
 ghost use mathlib.Core.Path.{_≡_};
 ghost use Rattle.order.specs.Acting.{endOf, movedTo};
 ghost use Rattle.order.specs.Answering.{outcome, nextOf, endedOf, RootSpot};
@@ -71,6 +70,13 @@ fn capped(x: usize) -> usize
     ensures { λ r. ⌜ (r ≤ 256) × (x ≤ 256 → r ≡ x) ⌝ }
 {
     if x <= 256 { x } else { 256 }
+}
+
+// A row of the table, 0 where x is none.
+fn some_row(x: usize) -> usize
+    ensures { λ r. ⌜ (r < 256) × (x < 256 → r ≡ x) ⌝ }
+{
+    if x < 256 { x } else { 0 }
 }
 
 // The root as a scope.

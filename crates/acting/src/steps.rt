@@ -17,9 +17,8 @@ use order::memory::forgetting;
 use order::memory::pushed;
 use order::rows::end_of;
 use order::rows::kind_of;
+use scopes::beginning::begin;
 use scopes::scopes::spot_at;
-use scopes::undoing::after_row;
-use scopes::undoing::begin_row;
 ghost use Prim.Native.Nat.{_<_};
 ghost use mathlib.Core.Path.{_≡_};
 ghost use Rattle.order.specs.State.{marked as markedOf};
@@ -27,7 +26,6 @@ ghost use Rattle.order.specs.Answering.{runsOf, finishesOf, raisesOf, leavesOf,
 
 // Activity k is over.
 pub(crate) fn finishes(k: usize, order: Order) -> Went
-    requires { ⌜ k < 256 ⌝ }
     ensures { λ r. ⌜ r ≡ finishesOf k order ⌝ }
 {
     let o = marked(k, mark::IDLE, order);
@@ -39,7 +37,6 @@ pub(crate) fn finishes(k: usize, order: Order) -> Went
 
 // Activity k raises.
 fn raises(k: usize, order: Order) -> Went
-    requires { ⌜ k < 256 ⌝ }
     ensures { λ r. ⌜ r ≡ raisesOf k order ⌝ }
 {
     let o = marked(k, mark::IDLE, order);
@@ -51,7 +48,6 @@ fn raises(k: usize, order: Order) -> Went
 
 // Activity k lets the order leave.
 fn leaves(k: usize, order: Order) -> Went
-    requires { ⌜ k < 256 ⌝ }
     ensures { λ r. ⌜ r ≡ leavesOf k order ⌝ }
 {
     let o = marked(k, mark::IDLE, order);
@@ -88,12 +84,11 @@ pub(crate) fn binding(v: u32, x: u32, order: Order) -> Order
 
 // What stands within activity k from row c on begins.
 fn enters(table: &[u32; 11584], k: usize, c: usize, order: Order) -> Went
-    requires { ⌜ k < 256 ⌝ }
     ensures { λ r. ⌜ Enters (now (table .entry)) k c order r ⌝ }
 {
     let o = marked(k, mark::INSIDE, order);
     let m = o.marks;
-    let r = begun_in(o, begin_row(table, c, m));
+    let r = begun_in(o, begin(table, c, m));
     let w = r.way;
     if is_over(w) {
         let p = r.order;
@@ -104,7 +99,6 @@ fn enters(table: &[u32; 11584], k: usize, c: usize, order: Order) -> Went
 
 // Repeat k decides again.
 pub(crate) fn again(k: usize, order: Order) -> Went
-    requires { ⌜ k < 256 ⌝ }
     ensures { λ r. ⌜ r ≡ runsOf (markedOf k 1 order) ⌝ }
 {
     let o = marked(k, mark::ACTIVE, order);
@@ -121,7 +115,7 @@ fn repeats(table: &[u32; 11584], k: usize, order: Order) -> Went
     let n = cleared(k + 1, e, m);
     let o = marked(k, mark::INSIDE, with_marks(n, order));
     let q = o.marks;
-    let r = begun_in(o, begin_row(table, k + 1, q));
+    let r = begun_in(o, begin(table, k + 1, q));
     let w = r.way;
     if is_over(w) {
         let p = r.order;
@@ -132,7 +126,6 @@ fn repeats(table: &[u32; 11584], k: usize, order: Order) -> Went
 
 // Scope k closes. Where it has no room, which no step that is offered leads to, the order stays as it is.
 fn closes(table: &[u32; 11584], k: usize, order: Order) -> Went
-    requires { ⌜ k < 256 ⌝ }
     ensures { λ r. ⌜ Closes (now (table .entry)) k order r ⌝ }
 {
     let s = spot_at(table, k);
@@ -147,7 +140,6 @@ fn closes(table: &[u32; 11584], k: usize, order: Order) -> Went
 
 // A send.
 fn sends(table: &[u32; 11584], k: usize, order: Order) -> Went
-    requires { ⌜ k < 256 ⌝ }
     ensures { λ r. ⌜ StepOf 1 (now (table .entry)) k order r ⌝ }
 {
     if all_bound(table, k, order) {
@@ -198,7 +190,7 @@ fn chooses(table: &[u32; 11584], k: usize, order: Order) -> Went
         Worth::Fault => raises(k, order),
         Worth::Value { value } => {
             if value == 0 {
-                let c = after_row(table, k + 1);
+                let c = end_of(table, k + 1);
                 return enters(table, k, c, order);
             }
             enters(table, k, k + 1, order)
@@ -229,7 +221,7 @@ fn takes(table: &[u32; 11584], k: usize, order: Order) -> Went
     ensures { λ r. ⌜ StepOf 12 (now (table .entry)) k order r ⌝ }
 {
     let m = order.marks;
-    begun_in(order, begin_row(table, k + 1, m))
+    begun_in(order, begin(table, k + 1, m))
 }
 
 // Activity k has its step.

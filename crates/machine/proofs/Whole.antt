@@ -1,50 +1,18 @@
--- What is known of every state, message, order and tally there is: each number fits its type, and each array has its length. Assumes nothing.
-use mathlib.Core.Path.{_≡_, sym, _∙_}
-use mathlib.Core.List.{List, [], _∷_, map}
-use Prim.Native.Nat.{ℕ, _^_, _<_}
-use lib.ListN.{length, length-map}
+-- What is known of every state, message and tally there is: each number fits its type, and each array has its length. Assumes nothing.
+use mathlib.Core.Path.{_≡_}
+use mathlib.Core.List.{List}
+use lib.ListN.{length}
 use mir.Val.{Val}
-use denote.Array.{Array, each}
 use denote.Laws.{Is}
-use denote.Shadow.{shadow}
 use denote.Struct.Declared.{row, field}
-use denote.Struct.Field.{Field, u8-field, u32-field}
-use Rattle.order.specs.declared.Order.{Order}
 use Rattle.order.proofs.Order as order
+use Rattle.order.proofs.Whole.{Each, Word, Long, array-of, bytes-of, words-of, WholeOrder, order-whole}
 use Rattle.machine.specs.declared.Message.{Message}
 use Rattle.machine.proofs.Message as message
 use Rattle.machine.specs.declared.State.{State}
 use Rattle.machine.proofs.State as state
 use Rattle.machine.specs.declared.Tally.{Tally}
 use Rattle.machine.proofs.Tally as tally
-
--- what holds of each
-abbrev pub Each : {A : Type 0} → (A → Type 0) → List A → Type 0
-Each P [] = Unit
-Each P (x ∷ l) = P x × Each P l
-
-abbrev pub Word : ℕ → Type 0
-Word n = n < 256 ^ 4
-
-abbrev pub Long : ℕ → Type 0
-Long n = n < 256 ^ 8
-
--- an array has its length, and what is known of each value of its type holds of each element
-module _ (F : Field) (P : F .Value → Type 0) (h : (x : F .Value) (vs : List Val) → Is (F .row) (F .into x) vs → P x) where
-  each-of : (xs : List (F .Value)) (us : List Val) → shadow (each (F .row .Denot) (F .row .own) (map (F .into) xs) us) → Each P xs
-  each-of [] us s = tt
-  each-of (x ∷ xs) [] s = absurd s
-  each-of (x ∷ xs) (u ∷ us) s = (h x (u ∷ []) (s .0), each-of xs us (s .1))
-
-  array-of : (n : ℕ) (xs : List (F .Value)) (vs : List Val) → Is (Array (F .row) n) (map (F .into) xs) vs → Each P xs × (length xs ≡ n)
-  array-of n xs vs p = (each-of xs (p .0) (p .1 .1), sym (length-map xs (F .into)) ∙ p .1 .0 .1)
-
--- an array of bytes, of numbers
-bytes-of : (n : ℕ) (xs : List ℕ) (vs : List Val) → Is (Array (u8-field .row) n) (map (u8-field .into) xs) vs → length xs ≡ n
-bytes-of n xs vs p = array-of u8-field (λ x. Unit) (λ x us s. tt) n xs vs p .1
-
-words-of : (n : ℕ) (xs : List ℕ) (vs : List Val) → Is (Array (u32-field .row) n) (map (u32-field .into) xs) vs → Each Word xs × (length xs ≡ n)
-words-of = array-of u32-field Word (λ x us s. s .1)
 
 pub record WholeTally (t : Tally) : Type 0 where
   pub started : Word (t .started)
@@ -59,14 +27,6 @@ pub record WholeMessage (m : Message) : Type 0 where
   pub count : Word (m .count)
   pub values : Each Word (m .values)
   pub values-long : length (m .values) ≡ 4
-
-pub record WholeOrder (o : Order) : Type 0 where
-  pub marks-long : length (o .marks) ≡ 256
-  pub values : Each Word (o .values)
-  pub values-long : length (o .values) ≡ 16
-  pub bound-long : length (o .bound) ≡ 16
-  pub remembered-long : length (o .remembered) ≡ 32
-  pub kept : Long (o .kept)
 
 pub record WholeState (s : State) : Type 0 where
   pub plan-long : length (s .plan) ≡ 4096
@@ -87,19 +47,6 @@ message-whole m vs p =
     let a = p .1 .1 in
     let v = words-of 4 (m .values) _ (a .1 .1 .1 .0) in
     record { partner = a .0 .1; operation = a .1 .0 .1; count = a .1 .1 .0 .1; values = v .0; values-long = v .1 }
-
-pub order-whole : (o : Order) (vs : List Val) → Is (row order.the-type) o vs → WholeOrder o
-order-whole o vs p =
-    let a = p .1 .1 .1 in
-    let v = words-of 16 (o .values) _ (a .1 .0) in
-    record {
-      marks-long = bytes-of 256 (o .marks) _ (a .0);
-      values = v .0;
-      values-long = v .1;
-      bound-long = bytes-of 16 (o .bound) _ (a .1 .1 .0);
-      remembered-long = bytes-of 32 (o .remembered) _ (a .1 .1 .1 .0);
-      kept = a .1 .1 .1 .1 .0 .1;
-    }
 
 pub state-whole : (s : State) (vs : List Val) → Is (row state.the-type) s vs → WholeState s
 state-whole s vs p =

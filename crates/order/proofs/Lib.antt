@@ -1,3 +1,4 @@
+pub mod Whole
 pub mod Standing
 pub mod Deciding
 mod MarkReturns

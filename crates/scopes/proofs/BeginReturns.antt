@@ -2,19 +2,18 @@
 use mathlib.Core.Path.{_≡_, refl, sym, ap, _∙_}
 use mathlib.Core.Bool.{Bool, true, false, cond, _&&_, false≢true, and-assoc, and-true}
 use mathlib.Core.List.{List}
-use Prim.Native.Nat.{ℕ, _+_, _*_, _-_, _<_, _≤_}
+use Prim.Native.Nat.{ℕ, _+_, _<_, _≤_}
 use native.Mathlib.Omega.{arith}
-use borrow.Author.Tests.{eq-eqb, ne-eqb}
+use borrow.Author.Tests.{ne-eqb}
 use lib.Dec.{eqb}
-use lib.ListN.{getD, set}
-use Rattle.plan.specs.Within.{ownWithin}
-use Rattle.plan.specs.Tree.{Own, empty, send, receive, set as setting, raise, leave, choose, repeat, sequence, flow, pick, scope, arm, kind, Act, act, Acts, none, more, size, sizes, count}
+use lib.ListN.{set}
+use Rattle.plan.specs.Tree.{Own, empty, send, receive, set as setting, raise, leave, choose, repeat, sequence, flow, pick, scope, arm, kind, Act, act, Acts, none, more, size, sizes}
 use Rattle.order.specs.declared.Entered.{Entered}
-use Rattle.order.specs.Answering.{entered, throughoutOf, aroundOf, Begins, BeginsInTurn, BeginsAll}
-use Rattle.order.specs.Begin.{Begun, throughout, around, inTurn, sideBySide, begin, beginInTurn, beginAll, beginFirst}
+use Rattle.order.specs.Answering.{KindOf, entered, throughoutOf, aroundOf, Begins, BeginsInTurn, BeginsAll}
+use Rattle.order.specs.Begin.{Begun, throughout, around, inTurn, begin, beginInTurn, beginAll, beginFirst}
 use Rattle.order.specs.Event.{Event}
-use Rattle.order.specs.Stands.{End, Line, Stands, StandAll}
-use Rattle.order.proofs.Standing.{size-pos, stands-end, if-none, if-first, if-more, if-scope}
+use Rattle.order.specs.Stands.{End, Stands, StandAll}
+use Rattle.order.proofs.Standing.{size-pos, stands-inside, all-inside, stands-end, kind-at, row-kind, if-none, if-first, if-more, if-scope}
 
 -- `throughout`, `around`
 pub throughout-over : (k : ℕ) (r : Entered) → r .over ≡ true → _≡_ {A = Entered} (record { marks = set (r .marks) k 0; over = true }) (throughoutOf k r)
@@ -70,10 +69,12 @@ by-kind pick l k ms = refl
 by-kind scope l k ms = around-entered k (beginFirst l (k + 1) (set ms k 1))
 by-kind (arm p o vs) l k ms = refl
 
-module _ (t : List ℕ) (k : ℕ) (ms : List ℕ) {kd : ℕ} (q : kd ≡ getD t (k * 13) 0) where
+pub begin-far : (t : List ℕ) (k : ℕ) (ms : List ℕ) {r : Entered} → 256 ≤ k → Begins t k ms r
+begin-far t k ms h = record { is = λ a s. absurd (omega (arith, stands-inside a k t s, size-pos a)) }
+
+module _ (t : List ℕ) (k : ℕ) (ms : List ℕ) {kd : ℕ} (q : KindOf t k kd) where
   begin-row : (own : Own) (l : Acts) → Stands (act own l) k t → entered (begin (act own l) k ms) ≡ beginKind kd l k ms
-  unfolding Stands
-  begin-row own l s = by-kind own l k ms ∙ rw (q, s .first .row .kind)
+  begin-row own l s = by-kind own l k ms ∙ rw (row-kind q own l s)
 
   pub begin-empty : kd ≡ 0 → Begins t k ms (record { marks = ms; over = true })
   begin-empty e = record { is = is }
@@ -109,16 +110,16 @@ module _ (t : List ℕ) (k : ℕ) (ms : List ℕ) {kd : ℕ} (q : kd ≡ getD t 
     pub begin-scope : kd ≡ 11 → {r p : Entered} → Begins t (k + 1) (set ms k 1) r → p ≡ aroundOf k r → Begins t k ms p
     unfolding begin kind
     begin-scope h {r} {p} b g = record {
-      is = if-scope (λ a. p ≡ entered (begin a k ms)) t k (sym q ∙ h)
-          (λ x f u sx sf su s. g ∙ (ap (aroundOf k) (b .is x sx) ∙ sym (by-kind scope (more x (more f (more u none))) k ms)));
+      is = λ a s. if-scope (λ a. p ≡ entered (begin a k ms)) t k (sym (kind-at q a s) ∙ h)
+          (λ x f u sx sf su s. g ∙ (ap (aroundOf k) (b .is x sx) ∙ sym (by-kind scope (more x (more f (more u none))) k ms))) a s;
     }
 
     -- no scope has no body
     pub begin-bare : kd ≡ 11 → e ≤ k + 1 → {p : Entered} → Begins t k ms p
     unfolding size
     begin-bare h g {p} = record {
-      is = if-scope (λ a. p ≡ entered (begin a k ms)) t k (sym q ∙ h)
-          (λ x f u sx sf su s. absurd (omega (arith, stands-end _ k t s z, size-pos x)));
+      is = λ a s. if-scope (λ a. p ≡ entered (begin a k ms)) t k (sym (kind-at q a s) ∙ h)
+          (λ x f u sx sf su s. absurd (omega (arith, stands-end _ k t s z, size-pos x))) a s;
     }
 
     pub begin-awaiting : (kd ≡ 0 → ⊥) → (kd ≡ 12 → ⊥) → (kd ≡ 8 → ⊥) → (kd ≡ 9 → ⊥) → (kd ≡ 11 → ⊥)
@@ -131,6 +132,14 @@ module _ (t : List ℕ) (k : ℕ) (ms : List ℕ) {kd : ℕ} (q : kd ≡ getD t 
 -- the loop of `begin_in_turn`: how those that are left begin is how all begin
 pub record Turning (t : List ℕ) (e c : ℕ) (ms : List ℕ) (j : ℕ) (m : List ℕ) : Type 0 where
   pub on : (r : Entered) → BeginsInTurn t j e m r → BeginsInTurn t c e ms r
+
+pub turning-far : (t : List ℕ) (c e : ℕ) (ms : List ℕ) → 256 < e → BeginsInTurn t c e ms (record { marks = ms; over = true })
+unfolding begin size
+turning-far t c e ms h = record { is = is }
+  where
+    is : (l : Acts) → StandAll l c t → e ≡ c + sizes l → record { marks = ms; over = true } ≡ entered (beginInTurn l c ms)
+    is none s g = refl
+    is (more a l) s g = absurd (omega (arith, all-inside (more a l) c t s (omega (arith, size-pos a))))
 
 pub turning-starts : (t : List ℕ) (e c : ℕ) (ms : List ℕ) → Turning t e c ms c ms
 turning-starts t e c ms = record { on = λ r x. x }

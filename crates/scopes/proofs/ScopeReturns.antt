@@ -1,22 +1,20 @@
 -- The returns of the functions by which a scope ends, handles its fault, undoes and turns. Assumes nothing.
-use mathlib.Core.Path.{_≡_, refl, sym, ap, _∙_}
-use mathlib.Core.Bool.{Bool, true, false, cond, not, _&&_, _||_, false≢true}
+use mathlib.Core.Path.{_≡_, sym, ap, _∙_}
+use mathlib.Core.Bool.{Bool, true, false}
 use mathlib.Core.List.{List}
-use Prim.Native.Nat.{ℕ, _+_, _*_, _-_, _<_, _≤_}
+use Prim.Native.Nat.{ℕ, _+_, _-_, _≤_}
 use native.Mathlib.Omega.{arith}
-use lib.ListN.{length, getD}
-use Rattle.plan.specs.Tree.{Own, scope, kind, Act, act, Acts, none, more, size, sizes, count}
+use Rattle.plan.specs.Tree.{Act, none, more, size, sizes}
 use Rattle.order.specs.declared.Entered.{Entered}
 use Rattle.order.specs.declared.Order.{Order}
 use Rattle.order.specs.declared.Spot.{Spot}
-use Rattle.order.specs.declared.Way.{Way}
-use Rattle.order.specs.declared.Way.the-variants.{Running, Over, Raising, Leaving, Undone, UndoRaising}
+use Rattle.order.specs.declared.Way.the-variants.{Over}
 use Rattle.order.specs.declared.Went.{Went}
-use Rattle.order.specs.Answering.{runsOf, entered, went, isOver, begunOf, Begins, AfterRow, RunsInside, Bounded, nameOf, scopeOf, Held, UndoesList, endsOf, Handles, Undoes, Turns, scopeAct, SpotAt}
+use Rattle.order.specs.Answering.{runsOf, went, isOver, begunOf, Begins, RunsInside, nameOf, scopeOf, Held, UndoesList, endsOf, Handles, Undoes, Turns, scopeAct, SpotAt}
 use Rattle.order.specs.Begin.{begin, part, partAt}
-use Rattle.order.specs.Scope.{Scope, Outcome, begunIn, whereOver, ends, rememberedFor, undo, handle, undoes, turns, innerRuns, scopeAt}
-use Rattle.order.specs.Stands.{End, Stands, StandAll}
-use Rattle.order.specs.State.{marking, withMarks}
+use Rattle.order.specs.Scope.{begunIn, whereOver, ends, rememberedFor, undo, handle, undoes, turns, innerRuns}
+use Rattle.order.specs.Stands.{End, Stands}
+use Rattle.order.specs.State.{marking}
 use Rattle.order.proofs.Standing.{size-pos, stands-end, stands-inside}
 use Rattle.order.proofs.Deciding.{yes, no, goes-on, stays}
 
@@ -95,39 +93,24 @@ module _ (t : List ℕ) (b : Bool) (z : Spot) (o : Order) {v : Bool} (x : RunsIn
   }
 
 -- `spot_at`
-pub spot-is : (t : List ℕ) (k : ℕ) → k < 256 → {e b n f : ℕ} → End t k e → b < 256 → (k + 1 < 256 → b ≡ k + 1) → AfterRow t b n → f < 256 → (n < 256 → f ≡ n)
-    → SpotAt t k (record { root = false; first = k; end = e; body = b; fault = f })
+pub spot-far : (t : List ℕ) (k : ℕ) {z : Spot} → 256 ≤ k → SpotAt t k z
+spot-far t k h = record {
+  held = λ b f u s. absurd (omega (arith, stands-inside (scopeAct b f u) k t s, size-pos (scopeAct b f u)));
+  same = λ b f u s. absurd (omega (arith, stands-inside (scopeAct b f u) k t s, size-pos (scopeAct b f u)));
+}
+
+pub spot-is : (t : List ℕ) (k : ℕ) {e f : ℕ} → End t k e → End t (k + 1) f → SpotAt t k (record { root = false; first = k; end = e; body = k + 1; fault = f })
 unfolding Stands size part partAt
-spot-is t k h {e} {b} {n} {f} x y i z u j = record {
-  bounded = record { first = h; end = x .within; body = y; fault = u };
-  held = held;
-  same = same;
+spot-is t k {e} {f} x y = record {
+  held = λ c d w s. let q : f ≡ k + 1 + size c = fault-at c d w s in record { end = x .within; body = s .rest .first; next = q; fault = rw q (s .rest .rest .first) };
+  same = λ c d w s.
+      let q : f ≡ k + 1 + size c = fault-at c d w s in
+      let g : e - k ≡ 1 + sizes (more c (more d (more w none))) = omega (arith, stands-end (scopeAct c d w) k t s x) in
+      rw (q, g);
 }
   where
-    body-at : (c d w : Act) → Stands (scopeAct c d w) k t → b ≡ k + 1
-    body-at c d w s = i (omega (arith, stands-inside c (k + 1) t (s .rest .first), size-pos c))
-
-    next-at : (c d w : Act) → Stands (scopeAct c d w) k t → n ≡ k + 1 + size c
-    next-at c d w s = let p : b ≡ k + 1 = body-at c d w s in z .is c (rw p (s .rest .first)) ∙ rw p
-
     fault-at : (c d w : Act) → Stands (scopeAct c d w) k t → f ≡ k + 1 + size c
-    fault-at c d w s =
-        let p : n ≡ k + 1 + size c = next-at c d w s in
-        j (omega (arith, stands-inside d (k + 1 + size c) t (s .rest .rest .first), size-pos d)) ∙ p
-
-    held : (c d w : Act) → Stands (scopeAct c d w) k t → Held (record { root = false; first = k; end = e; body = b; fault = f }) c d t
-    held c d w s =
-        let p : b ≡ k + 1 = body-at c d w s in
-        let q : f ≡ k + 1 + size c = fault-at c d w s in
-        record { body = rw p (s .rest .first); next = omega arith; fault = rw q (s .rest .rest .first) }
-
-    same : (c d w : Act) → Stands (scopeAct c d w) k t
-        → scopeOf (record { root = false; first = k; end = e; body = b; fault = f }) c d ≡ scopeAt k (more c (more d (more w none)))
-    same c d w s =
-        let p : b ≡ k + 1 = body-at c d w s in
-        let q : f ≡ k + 1 + size c = fault-at c d w s in
-        let g : e - k ≡ 1 + sizes (more c (more d (more w none))) = omega (arith, stands-end (scopeAct c d w) k t s x) in
-        rw (p, q, g)
+    fault-at c d w s = stands-end c (k + 1) t (s .rest .first) y
 
 -- `ends`
 pub ends-is : (z : Spot) (o : Order) {p : Order} → p ≡ marking (nameOf z) 0 o → _≡_ {A = Went} (record { way = Over; order = p }) (endsOf z o)

@@ -1,21 +1,21 @@
 -- The returns of the functions that stop an activity. Assumes nothing.
 use mathlib.Core.Path.{_≡_, refl, sym, ap, _∙_}
-use mathlib.Core.Bool.{Bool, true, false, cond, not, _&&_, _||_, false≢true}
+use mathlib.Core.Bool.{Bool, true, false}
 use mathlib.Core.List.{List}
-use Prim.Native.Nat.{ℕ, _+_, _*_, _-_, _<_, _≤_}
+use Prim.Native.Nat.{ℕ, _+_, _<_, _≤_}
 use native.Mathlib.Omega.{arith}
-use borrow.Author.Tests.{eq-eqb, ne-eqb, eqb-true, eqb-false}
+use borrow.Author.Tests.{ne-eqb}
 use lib.Dec.{eqb}
-use lib.ListN.{length, getD}
-use Rattle.plan.specs.Tree.{Own, scope, kind, Act, act, Acts, none, more, size, sizes, count}
+use Rattle.plan.specs.Tree.{Own, kind, Act, act, Acts, none, more, size, sizes}
 use Rattle.order.specs.declared.Order.{Order}
 use Rattle.order.specs.declared.Spot.{Spot}
 use Rattle.order.specs.declared.Went.{Went}
-use Rattle.order.specs.Answering.{went, scopeAct, scopeOf, Held, SpotAt, Turns, Withdraws, Stops, StopsAll}
-use Rattle.order.specs.Scope.{Scope, isScope, scopeAt, isOpen, turns, Stopped, untouched, withdraws, stop, stopAll, stopFirst}
-use Rattle.order.specs.Stands.{End, Stands, StandAll}
+use Rattle.order.specs.Answering.{KindOf, scopeAct, SpotAt, Turns, Withdraws, Stops, StopsAll}
+use Rattle.order.specs.Scope.{Scope, isScope, scopeAt, isOpen, turns, Stopped, untouched, withdraws, stop, stopAll}
+use Rattle.order.specs.Stands.{End, Stands}
 use Rattle.order.specs.State.{markAt, marked}
-use Rattle.order.proofs.Standing.{size-pos, stands-end, stands-inside, if-none, if-more, if-scope}
+use Rattle.order.proofs.Deciding.{yes, no}
+use Rattle.order.proofs.Standing.{size-pos, stands-end, stands-inside, kind-at, row-kind, if-none, if-more, if-scope}
 
 -- `is_open`
 pub open-active : {m : ℕ} → m ≡ 1 → true ≡ isOpen m
@@ -32,52 +32,47 @@ withdrawn-is {t} {k} {z} x {o} {r} y = record {
       ∙ ap (λ (c : Scope). turns false c o .order) (x .same b f u s);
 }
 
-on-true : (x : Bool) (p q : Stopped) → x ≡ true → _≡_ {A = Stopped} (elim x [ true ↦ p | false ↦ q ]) p
-on-true true p q e = refl
-on-true false p q e = absurd (false≢true e)
-
-on-false : (x : Bool) (p q : Stopped) → x ≡ false → _≡_ {A = Stopped} (elim x [ true ↦ p | false ↦ q ]) q
-on-false true p q e = absurd (false≢true (sym e))
-on-false false p q e = refl
-
 -- a scope that is open, one that is not, and any other activity
 stop-scope : (b f u : Act) (k : ℕ) (o : Order) → isOpen (markAt k o) ≡ true
     → stop (scopeAct b f u) k o ≡ withdraws k (scopeAt k (more b (more f (more u none)))) (stop b (k + 1) (marked k 7 o))
 unfolding stop kind
-stop-scope b f u k o e = on-true (isOpen (markAt k o)) _ (untouched o) e
+stop-scope b f u k o e = yes (isOpen (markAt k o)) _ (untouched o) e
 
 stop-shut : (b f u : Act) (k : ℕ) (o : Order) → isOpen (markAt k o) ≡ false → stop (scopeAct b f u) k o ≡ untouched o
 unfolding stop kind
-stop-shut b f u k o e = on-false (isOpen (markAt k o)) _ (untouched o) e
+stop-shut b f u k o e = no (isOpen (markAt k o)) _ (untouched o) e
 
 stop-other : (own : Own) (l : Acts) (k : ℕ) (o : Order) → isScope own ≡ false → stop (act own l) k o ≡ stopAll l (k + 1) (marked k 0 o)
 unfolding stop
-stop-other own l k o e = on-false (isScope own) _ (stopAll l (k + 1) (marked k 0 o)) e
+stop-other own l k o e = no (isScope own) _ (stopAll l (k + 1) (marked k 0 o)) e
 
-module _ (t : List ℕ) (k : ℕ) (o : Order) {kd : ℕ} (q : kd ≡ getD t (k * 13) 0) where
+pub stop-far : (t : List ℕ) (k : ℕ) (o : Order) {r : Order} → 256 ≤ k → Stops t k o r
+stop-far t k o h = record { is = λ a s. absurd (omega (arith, stands-inside a k t s, size-pos a)) }
+
+module _ (t : List ℕ) (k : ℕ) (o : Order) {kd : ℕ} (q : KindOf t k kd) where
   module _ (h : kd ≡ 11) {m : ℕ} (i : m ≡ markAt k o) {v : Bool} (j : v ≡ isOpen m) where
     pub stop-opened : v ≡ true → {o₁ : Order} → o₁ ≡ marked k 7 o → {p : Order} → Stops t (k + 1) o₁ p → {r : Order} → Withdraws t k p r → Stops t k o r
     unfolding withdraws
     stop-opened g {o₁} e {p} x {r} y = record {
-      is = if-scope (λ a. r ≡ stop a k o .order) t k (sym q ∙ h) (λ b f u sb sf su s.
+      is = λ a s. if-scope (λ a. r ≡ stop a k o .order) t k (sym (kind-at q a s) ∙ h) (λ b f u sb sf su s.
           let a : p ≡ stop b (k + 1) (marked k 7 o) .order = rw e at (x .is b sb) in
           let c : isOpen (markAt k o) ≡ true = rw (← i) (sym j ∙ g) in
-          (rw a at (y .is b f u s)) ∙ ap (λ (d : Stopped). d .order) (sym (stop-scope b f u k o c)));
+          (rw a at (y .is b f u s)) ∙ ap (λ (d : Stopped). d .order) (sym (stop-scope b f u k o c))) a s;
     }
 
     pub stop-closed : v ≡ false → Stops t k o o
     stop-closed g = record {
-      is = if-scope (λ a. o ≡ stop a k o .order) t k (sym q ∙ h) (λ b f u sb sf su s.
+      is = λ a s. if-scope (λ a. o ≡ stop a k o .order) t k (sym (kind-at q a s) ∙ h) (λ b f u sb sf su s.
           let c : isOpen (markAt k o) ≡ false = rw (← i) (sym j ∙ g) in
-          ap (λ (d : Stopped). d .order) (sym (stop-shut b f u k o c)));
+          ap (λ (d : Stopped). d .order) (sym (stop-shut b f u k o c))) a s;
     }
 
   -- no scope has no body
   pub stop-bare : kd ≡ 11 → {e : ℕ} → End t k e → e ≤ k + 1 → {r : Order} → Stops t k o r
   unfolding size
   stop-bare h z g {r} = record {
-    is = if-scope (λ a. r ≡ stop a k o .order) t k (sym q ∙ h)
-        (λ x f u sx sf su s. absurd (omega (arith, stands-end (scopeAct x f u) k t s z, size-pos x)));
+    is = λ a s. if-scope (λ a. r ≡ stop a k o .order) t k (sym (kind-at q a s) ∙ h)
+        (λ x f u sx sf su s. absurd (omega (arith, stands-end (scopeAct x f u) k t s z, size-pos x))) a s;
   }
 
   pub stop-all : (kd ≡ 11 → ⊥) → {e : ℕ} → End t k e → {o₁ : Order} → o₁ ≡ marked k 0 o → {r : Order} → StopsAll t (k + 1) e o₁ r → Stops t k o r
@@ -86,7 +81,7 @@ module _ (t : List ℕ) (k : ℕ) (o : Order) {kd : ℕ} (q : kd ≡ getD t (k *
     where
       is : (a : Act) → Stands a k t → r ≡ stop a k o .order
       is (act own l) s =
-          let n : isScope own ≡ false = ne-eqb _ _ (λ g. h (q ∙ (s .first .row .kind ∙ g))) in
+          let n : isScope own ≡ false = ne-eqb _ _ (λ g. h (row-kind q own l s ∙ g)) in
           let m : e ≡ k + 1 + sizes l = omega (arith, stands-end (act own l) k t s z) in
           (rw i at (x .is l (s .rest) m)) ∙ ap (λ (d : Stopped). d .order) (sym (stop-other own l k o n))
 
@@ -103,9 +98,9 @@ module _ {t : List ℕ} {e c : ℕ} {o : Order} {j : ℕ} {p : Order} (w : Stopp
   unfolding stop
   stopping-done h = w .on p (record { is = if-none (λ l. p ≡ stopAll l j p .order) t j e h refl })
 
-  pub stopping-again : j < e → {r : Order} → Stops t j p r → {n : ℕ} → End t j n → Stopping t e c o n r
+  pub stopping-again : e ≤ 256 → j < e → {r : Order} → Stops t j p r → {n : ℕ} → End t j n → Stopping t e c o n r
   unfolding stop
-  stopping-again h {r} b {n} z = record {
+  stopping-again f h {r} b {n} z = record {
     later = omega (arith, w .later, z .past);
     on = λ v x. w .on v (record {
       is = if-more (λ l. v ≡ stopAll l j p .order) t j e h z

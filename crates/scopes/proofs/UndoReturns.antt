@@ -1,43 +1,30 @@
 -- The returns of the functions that undo. Assumes nothing.
 use mathlib.Core.Path.{_≡_, refl, sym, ap, _∙_}
-use mathlib.Core.Bool.{Bool, true, false, cond, not, _&&_, _||_, false≢true}
+use mathlib.Core.Bool.{Bool, true, false, cond, _&&_, _||_, false≢true}
 use mathlib.Core.List.{List, [], _∷_, _++_, reverse, append-assoc, append-nil, reverse-append, reverse-cons, reverse-reverse}
-use Prim.Native.Nat.{ℕ, zero, suc, _+_, _*_, _-_, _<_, _≤_}
+use Prim.Native.Nat.{ℕ, zero, suc, _+_, _*_, _<_, _≤_}
 use native.Mathlib.Numerals.{add-one}
 use native.Mathlib.Omega.{arith}
-use borrow.Author.Tests.{eq-eqb, ne-eqb, eqb-true, eqb-false, lt-ltb, le-ltb}
+use borrow.Author.Tests.{eq-eqb, ne-eqb, eqb-true, lt-ltb, le-ltb}
 use lib.Dec.{eqb, ltb}
 use lib.ListN.{length, getD, take, drop}
-use lib.Seq.{drop-cons}
-use Rattle.plan.specs.Tree.{Own, scope, kind, Act, act, Acts, none, more, size, sizes, count}
+use Rattle.plan.specs.Tree.{Own, scope, kind, Act, act, Acts, none, more, size, sizes}
 use Rattle.order.specs.declared.Entered.{Entered}
 use Rattle.order.specs.declared.Order.{Order}
 use Rattle.order.specs.declared.Found.{Found}
 use Rattle.order.specs.declared.Found.the-variants.{At, Nothing}
 use Rattle.order.specs.declared.Spot.{Spot}
-use Rattle.order.specs.declared.Way.{Way}
-use Rattle.order.specs.declared.Way.the-variants.{Running, Over, Raising, Leaving, Undone, UndoRaising}
+use Rattle.order.specs.declared.Way.the-variants.{Over}
 use Rattle.order.specs.declared.Went.{Went}
-use Rattle.order.specs.Answering.{entered, went, isOver, begunOf, Begins, AfterRow, BeginsUndo, Entry, Without, LastAt, Last, FindsLast, StartsUndo, Held, scopeOf, UndoesList}
+use Rattle.order.specs.Answering.{entered, went, isOver, begunOf, Begins, BeginsUndo, Entry, Without, LastAt, Last, FindsLast, StartsUndo, Held, scopeOf, UndoesList}
 use Rattle.order.specs.Begin.{Begun, begin, part, partAt, beginPart}
-use Rattle.order.specs.Event.{Event}
-use Rattle.order.specs.Lists.{only, withoutFirst, withoutLast, stored}
-use Rattle.order.specs.Scope.{Scope, Outcome, isScope, directly, directlyIn, isFor, rememberedFor, begunIn, beginUndo, beginUndoIn, whereOver, startUndo, undo}
+use Rattle.order.specs.Lists.{only, withoutFirst, withoutLast}
+use Rattle.order.specs.Scope.{Scope, isScope, directly, directlyIn, isFor, rememberedFor, beginUndo, beginUndoIn, startUndo, undo}
 use Rattle.order.specs.Stands.{End, Stands, StandAll}
-use Rattle.order.specs.State.{closings, remembering, withMarks}
-use Rattle.order.proofs.Standing.{size-pos, stands-end, stands-inside, if-scope}
+use Rattle.order.specs.State.{closings, remembering}
+use Rattle.order.proofs.Standing.{stands-end, if-scope}
 use Rattle.order.proofs.Deciding.{yes, no, where-over, where-not}
-use Rattle.order.proofs.MemoryReturns.{closings-are, only-append, only-skips, only-takes}
-
--- `after_row`, `begin_row`
-pub after-is : {t : List ℕ} {c r : ℕ} → End t c r → AfterRow t c r
-after-is {t} {c} z = record { is = λ a s. stands-end a c t s z }
-
-pub after-beyond : (t : List ℕ) (c : ℕ) {r : ℕ} → 256 ≤ c → AfterRow t c r
-after-beyond t c h = record { is = λ a s. absurd (omega (arith, stands-inside a c t s, size-pos a)) }
-
-pub begins-beyond : (t : List ℕ) (k : ℕ) (ms : List ℕ) {r : Entered} → 256 ≤ k → Begins t k ms r
-begins-beyond t k ms h = record { is = λ a s. absurd (omega (arith, stands-inside a k t s, size-pos a)) }
+use Rattle.order.proofs.MemoryReturns.{closings-are, only-append, only-takes}
 
 -- a scope directly inside stands among the rows
 mutual
@@ -142,7 +129,7 @@ mutual
       by-test false q g f m = reached-by (m g) (beginUndoIn (more a l) c e) (λ ms. undo-later a l c e ms (directly-in-low l (c + size a) e g))
 
 -- `begin_undo`
-pub begin-undo-is : {t : List ℕ} {e : ℕ} {ms : List ℕ} {fault undone : ℕ} → AfterRow t (e + 1) fault → AfterRow t fault undone
+pub begin-undo-is : {t : List ℕ} {e : ℕ} {ms : List ℕ} {fault undone : ℕ} → End t (e + 1) fault → End t fault undone
     → {r : Entered} → Begins t undone ms r → BeginsUndo t e ms r
 unfolding Stands
 begin-undo-is {t} {e} {ms} {fault} {undone} x y {r} b = record { is = λ a k s h. go (reached t a k e s h) }
@@ -150,8 +137,8 @@ begin-undo-is {t} {e} {ms} {fault} {undone} x y {r} b = record { is = λ a k s h
     go : {B : List ℕ → Begun} → Reached t e B → r ≡ entered (B ms)
     go w =
         let sb = w .stands .rest in
-        let p : fault ≡ e + 1 + size (w .body) = x .is (w .body) (sb .first) in
-        let q : undone ≡ fault + size (w .fault) = y .is (w .fault) (rw p (sb .rest .first)) in
+        let p : fault ≡ e + 1 + size (w .body) = stands-end (w .body) (e + 1) t (sb .first) x in
+        let q : undone ≡ fault + size (w .fault) = stands-end (w .fault) fault t (rw p (sb .rest .first)) y in
         let z : undone ≡ e + 1 + size (w .body) + size (w .fault) = omega arith in
         b .is (w .undone) (rw z (sb .rest .rest .first)) ∙ rw (w .same ms, z)
 
@@ -201,15 +188,15 @@ module _ {P : ℕ → Bool} {xs : List ℕ} {i : ℕ} (w : LastAt P xs i) where
           rw (q, only-append P ys (e ∷ zs), only-takes P e zs h, n, reverse-append (only P ys) (e ∷ []), only-append P ys zs, n, append-nil (only P ys))
 
 -- `start_undo`
-pub start-is : {t : List ℕ} {o : Order} {i e : ℕ} → Entry o i e → {p : Order} → Without o i p → {b : Entered} → BeginsUndo t e (p .marks) b
+pub start-is : {t : List ℕ} {o : Order} {i e : ℕ} → i < length (closings o) → Entry o i e → {p : Order} → Without o i p → {b : Entered} → BeginsUndo t e (p .marks) b
     → {r : Went} → r ≡ begunOf p b → StartsUndo t o i r
 unfolding startUndo
-start-is {t} {o} {i} {e} x {p} y {b} z {r} q = record { is = is; fewer = rw (ap (λ (w : Went). w .order .kept) q) (y .fewer) }
+start-is {t} {o} {i} {e} h x {p} y {b} z {r} q = record { is = is; fewer = rw (ap (λ (w : Went). w .order .kept) q) (y .fewer h) }
   where
     is : (s : Scope) → Stands (s .body) (s .bodyAt) t → LastAt (isFor s) (closings o) i → r ≡ went (startUndo (getD (closings o) i 0) s o)
     is s st w =
         let g : e ≡ getD (closings o) i 0 = x .is (w .within) in
-        let a : p ≡ remembering (withoutLast e (closings o)) o = y .is ∙ rw (g, without-last w) in
+        let a : p ≡ remembering (withoutLast e (closings o)) o = y .is h ∙ rw (g, without-last w) in
         let d : b ≡ entered (beginUndo (s .body) (s .bodyAt) e (p .marks)) = z .is (s .body) (s .bodyAt) st (rw g (w .holds)) in
         q ∙ rw (d, ← g, a)
 
@@ -278,6 +265,3 @@ module _ {t : List ℕ} {z : Spot} {o₀ o : Order} (w : Undoing t z o₀ o) {f 
 
 pub found-inside : {t : List ℕ} {from to : ℕ} {o : Order} {f : Found} {i : ℕ} → FindsLast t from to o f → f ≡ At i → i < length (closings o)
 found-inside {i = i} x e = x .inside i e
-
-pub found-small : {t : List ℕ} {from to : ℕ} {o : Order} {f : Found} {i : ℕ} → FindsLast t from to o f → f ≡ At i → i < 32
-found-small {i = i} x e = x .small i e

@@ -45,12 +45,17 @@ fn around(k: usize, r: Entered) -> Entered
     }
 }
 
-// Activity k begins.
+// Activity k begins, where there is one.
 pub fn begin(table: &[u32; 11584], k: usize, marks: [u8; 256]) -> Entered
-    requires { ⌜ k < 256 ⌝ }
     ensures { λ r. ⌜ Begins (now (table .entry)) k marks r ⌝ }
 {
     let mut m = marks;
+    if 256 <= k {
+        return Entered {
+            marks: m,
+            over: true,
+        };
+    }
     let kind = kind_of(table, k);
     if kind == kind::EMPTY {
         return Entered {
@@ -85,10 +90,15 @@ pub fn begin(table: &[u32; 11584], k: usize, marks: [u8; 256]) -> Entered
 
 // The activities from row c to row e begin, one after the other.
 pub fn begin_in_turn(table: &[u32; 11584], c: usize, e: usize, marks: [u8; 256]) -> Entered
-    requires { ⌜ e ≤ 256 ⌝ }
     ensures { λ r. ⌜ BeginsInTurn (now (table .entry)) c e marks r ⌝ }
 {
     let mut m = marks;
+    if 256 < e {
+        return Entered {
+            marks: m,
+            over: true,
+        };
+    }
     let mut j = c;
     while j < e {
         let r = begin(table, j, m);

@@ -1,6 +1,5 @@
 // How a scope ends, handles its fault, undoes and turns.
 use super::beginning::begin;
-use super::undoing::after_row;
 use super::undoing::undo;
 use order::Order;
 use order::Spot;
@@ -13,14 +12,12 @@ use order::marks::is_over;
 use order::marks::marking;
 use order::marks::runs;
 use order::rows::end_of;
-ghost use Prim.Native.Nat.{_<_};
 ghost use mathlib.Core.Bool.{true, false};
 ghost use mathlib.Core.Path.{_≡_};
-ghost use Rattle.order.specs.Answering.{Bounded, endsOf, Handles, Undoes, Turns, SpotAt};
+ghost use Rattle.order.specs.Answering.{endsOf, Handles, Undoes, Turns, SpotAt};
 
 // The scope ends without closing.
 pub fn ends(spot: Spot, order: Order) -> Went
-    requires { ⌜ Bounded spot ⌝ }
     ensures { λ r. ⌜ r ≡ endsOf spot order ⌝ }
 {
     let o = marking(spot, mark::IDLE, order);
@@ -32,7 +29,6 @@ pub fn ends(spot: Spot, order: Order) -> Went
 
 // The scope runs its fault part.
 fn handle(table: &[u32; 11584], spot: Spot, order: Order) -> Went
-    requires { ⌜ Bounded spot ⌝ }
     ensures { λ r. ⌜ Handles (now (table .entry)) spot order r ⌝ }
 {
     let o = marking(spot, mark::HANDLING, order);
@@ -48,7 +44,6 @@ fn handle(table: &[u32; 11584], spot: Spot, order: Order) -> Went
 
 // The scope undoes, and then runs its fault part.
 fn undoes_handling(table: &[u32; 11584], spot: Spot, order: Order) -> Went
-    requires { ⌜ Bounded spot ⌝ }
     ensures { λ r. ⌜ Undoes (now (table .entry)) true spot order r ⌝ }
 {
     let o = marking(spot, mark::UNDOING, order);
@@ -63,7 +58,6 @@ fn undoes_handling(table: &[u32; 11584], spot: Spot, order: Order) -> Went
 
 // The scope undoes, and then ends.
 fn undoes_ending(table: &[u32; 11584], spot: Spot, order: Order) -> Went
-    requires { ⌜ Bounded spot ⌝ }
     ensures { λ r. ⌜ Undoes (now (table .entry)) false spot order r ⌝ }
 {
     let o = marking(spot, mark::WITHDRAWING, order);
@@ -78,7 +72,6 @@ fn undoes_ending(table: &[u32; 11584], spot: Spot, order: Order) -> Went
 
 // The scope undoes: after its list it runs its fault part, or where it was stopped it ends.
 pub fn undoes(table: &[u32; 11584], handling: bool, spot: Spot, order: Order) -> Went
-    requires { ⌜ Bounded spot ⌝ }
     ensures { λ r. ⌜ Undoes (now (table .entry)) handling spot order r ⌝ }
 {
     if handling {
@@ -89,7 +82,6 @@ pub fn undoes(table: &[u32; 11584], handling: bool, spot: Spot, order: Order) ->
 
 // The scope undoes where none of its inner scopes is left running.
 pub fn turns(table: &[u32; 11584], handling: bool, spot: Spot, order: Order) -> Went
-    requires { ⌜ Bounded spot ⌝ }
     ensures { λ r. ⌜ Turns (now (table .entry)) handling spot order r ⌝ }
 {
     let m = order.marks;
@@ -99,22 +91,22 @@ pub fn turns(table: &[u32; 11584], handling: bool, spot: Spot, order: Order) -> 
     undoes(table, handling, spot, order)
 }
 
-// A row of the table, 0 where x is none.
-pub fn some_row(x: usize) -> usize
-    ensures { λ r. ⌜ (r < 256) × (x < 256 → r ≡ x) ⌝ }
-{
-    if x < 256 { x } else { 0 }
-}
-
 // The scope in row k.
 pub fn spot_at(table: &[u32; 11584], k: usize) -> Spot
-    requires { ⌜ k < 256 ⌝ }
     ensures { λ r. ⌜ SpotAt (now (table .entry)) k r ⌝ }
 {
+    if 256 <= k {
+        return Spot {
+            root: false,
+            first: 256,
+            end: 256,
+            body: 256,
+            fault: 256,
+        };
+    }
     let end = end_of(table, k);
-    let body = some_row(k + 1);
-    let next = after_row(table, body);
-    let fault = some_row(next);
+    let body = k + 1;
+    let fault = end_of(table, body);
     Spot {
         root: false,
         first: k,

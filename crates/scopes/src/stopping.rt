@@ -8,7 +8,6 @@ use order::marks::mark_at;
 use order::marks::marked;
 use order::rows::end_of;
 use order::rows::kind_of;
-ghost use Prim.Native.Nat.{_<_};
 ghost use mathlib.Core.Path.{_≡_};
 ghost use Rattle.order.specs.Answering.{Withdraws, Stops};
 ghost use Rattle.order.specs.Scope.{isOpen};
@@ -25,7 +24,6 @@ pub fn is_open(mark: u8) -> bool
 
 // Scope k, whose body has stopped, turns to undoing.
 fn withdrawn(table: &[u32; 11584], k: usize, order: Order) -> Order
-    requires { ⌜ k < 256 ⌝ }
     ensures { λ r. ⌜ Withdraws (now (table .entry)) k order r ⌝ }
 {
     let spot = spot_at(table, k);
@@ -34,11 +32,13 @@ fn withdrawn(table: &[u32; 11584], k: usize, order: Order) -> Order
     o
 }
 
-// The activity in row k stops.
+// The activity in row k stops, where there is one.
 pub fn stop(table: &[u32; 11584], k: usize, order: Order) -> Order
-    requires { ⌜ k < 256 ⌝ }
     ensures { λ r. ⌜ Stops (now (table .entry)) k order r ⌝ }
 {
+    if 256 <= k {
+        return order;
+    }
     let e = end_of(table, k);
     let kind = kind_of(table, k);
     if kind == kind::SCOPE {

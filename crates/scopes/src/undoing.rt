@@ -14,40 +14,22 @@ use order::memory::without;
 use order::rows::end_of;
 ghost use Prim.Native.Nat.{_<_};
 ghost use lib.ListN.{length};
-ghost use Rattle.order.specs.Answering.{Begins, AfterRow, BeginsUndo, StartsUndo, Bounded, UndoesList};
+ghost use Rattle.order.specs.Answering.{BeginsUndo, StartsUndo, UndoesList};
 ghost use Rattle.order.specs.State.{closings};
-
-// The row after the activity in row c.
-pub fn after_row(table: &[u32; 11584], c: usize) -> usize
-    ensures { λ r. ⌜ AfterRow (now (table .entry)) c r ⌝ }
-{
-    if c < 256 { end_of(table, c) } else { c }
-}
-
-// The activity in row k begins, where there is such a row.
-pub fn begin_row(table: &[u32; 11584], k: usize, marks: [u8; 256]) -> Entered
-    ensures { λ r. ⌜ Begins (now (table .entry)) k marks r ⌝ }
-{
-    if k < 256 {
-        begin(table, k, marks)
-    } else {
-        Entered { marks, over: true }
-    }
-}
 
 // The undo part of scope e begins.
 fn begin_undo(table: &[u32; 11584], e: usize, marks: [u8; 256]) -> Entered
     requires { ⌜ e < 256 ⌝ }
     ensures { λ r. ⌜ BeginsUndo (now (table .entry)) e marks r ⌝ }
 {
-    let fault = after_row(table, e + 1);
-    let undo = after_row(table, fault);
-    begin_row(table, undo, marks)
+    let fault = end_of(table, e + 1);
+    let undo = end_of(table, fault);
+    begin(table, undo, marks)
 }
 
 // The i-th closing is removed and the undo part of its scope started.
 fn start_undo(table: &[u32; 11584], order: Order, i: usize) -> Went
-    requires { ⌜ (i < length (closings order)) × (i < 32) ⌝ }
+    requires { ⌜ i < length (closings order) ⌝ }
     ensures { λ r. ⌜ StartsUndo (now (table .entry)) order i r ⌝ }
 {
     let e = entry(order, i);
@@ -58,7 +40,6 @@ fn start_undo(table: &[u32; 11584], order: Order, i: usize) -> Went
 
 // What is remembered for the scope is undone, the last first.
 pub(crate) fn undo(table: &[u32; 11584], spot: Spot, order: Order) -> Went
-    requires { ⌜ Bounded spot ⌝ }
     ensures { λ r. ⌜ UndoesList (now (table .entry)) spot order r ⌝ }
 {
     let mut o = order;

@@ -17,7 +17,8 @@ use Rattle.machine.specs.declared.Tally.{Tally}
 use Rattle.store.specs.Bytes.{spelled, valued, numberIn, manyIn}
 use Rattle.store.specs.Packed.{mark, tallyBytes, messageBytes, orderBytes, stateBytes, packed, tallyIn, messageIn, orderIn, stateIn, holds, keptAs, unpacked}
 use Rattle.store.proofs.Numbers.{spelled-long, spelled-valued, number-back}
-use Rattle.machine.proofs.Whole.{Each, Word, WholeTally, WholeMessage, WholeOrder, WholeState}
+use Rattle.machine.proofs.Whole.{WholeTally, WholeMessage, WholeState}
+use Rattle.order.proofs.Whole.{Each, Word, WholeOrder}
 
 -- past a part of n bytes
 past : (n m : ℕ) (a b : List ℕ) → length a ≡ n → drop (n + m) (a ++ b) ≡ drop m b

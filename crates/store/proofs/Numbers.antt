@@ -8,7 +8,7 @@ use native.Mathlib.Numerals.{add-one}
 use lib.ListN.{length, getD, drop}
 use lib.Seq.{take-at, drop-cons}
 use Rattle.store.specs.Bytes.{spelled, valued, numberIn}
-use Rattle.machine.proofs.Whole.{Each}
+use Rattle.order.proofs.Whole.{Each}
 
 pub spelled-long : (w n : ℕ) → length (spelled w n) ≡ w
 unfolding spelled

@@ -15,7 +15,8 @@ use Rattle.store.specs.Bytes.{spelled}
 use Rattle.store.specs.Packed.{tallyBytes, messageBytes, orderBytes, stateBytes, packed, packedInto, messageInto}
 use Rattle.store.specs.Putting.{Put}
 use Rattle.store.proofs.Puts.{then, put-all}
-use Rattle.machine.proofs.Whole.{WholeMessage, WholeOrder, WholeState}
+use Rattle.machine.proofs.Whole.{WholeMessage, WholeState}
+use Rattle.order.proofs.Whole.{WholeOrder}
 
 module _ {l m n o p : List ℕ} {at : ℕ} where
   pub message-put : (x : Message) → WholeMessage x → Put l m at 4 (spelled 4 (x .partner)) → Put m n (at + 4) 4 (spelled 4 (x .operation))

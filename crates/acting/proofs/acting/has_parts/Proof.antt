@@ -1,5 +1,4 @@
 -- `acting::acting::has_parts` meets its contract. Assumes nothing.
-use borrow.Author.Needs.{needs}
 use Rattle.acting.proofs.CombineReturns.{parts-low, parts-high}
 use Rattle.acting.proofs.acting.has_parts.Statement.{statement}
 use Rattle.acting.proofs.acting.has_parts.Tie as tie

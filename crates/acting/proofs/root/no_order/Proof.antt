@@ -1,5 +1,4 @@
 -- `acting::root::no_order` meets its contract. Assumes nothing.
-use borrow.Author.Needs.{needs}
 use Rattle.acting.proofs.RootReturns.{no-order-is}
 use Rattle.acting.proofs.root.no_order.Statement.{statement}
 use Rattle.acting.proofs.root.no_order.Tie as tie

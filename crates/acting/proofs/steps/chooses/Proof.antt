@@ -17,9 +17,9 @@ chooses-spec =
     (λ c κs. search needs)
     -- enum-known-w
     (λ c. search needs)
-    -- add-after-row
+    -- add-end-of
     (λ c. search needs)
-    -- after-row-requires
+    -- end-of-requires
     (λ c κs. search needs)
     -- enters-requires
     (λ c κs. search needs)

@@ -11,7 +11,7 @@ enters-spec =
     tie.close (tie.spec
     -- marked-requires
     (λ c κs. search needs)
-    -- begin-row-requires
+    -- begin-requires
     (λ c κs. search needs)
     -- begun-in-requires
     (λ c κs. search needs)

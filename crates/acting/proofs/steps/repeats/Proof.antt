@@ -19,9 +19,9 @@ repeats-spec =
     (λ c κs. search needs)
     -- marked-requires
     (λ c κs. search needs)
-    -- add-begin-row
+    -- add-begin
     (λ c. search needs)
-    -- begin-row-requires
+    -- begin-requires
     (λ c κs. search needs)
     -- begun-in-requires
     (λ c κs. search needs)

@@ -9,9 +9,9 @@ ruleset cases = (takes-is)
 pub takes-spec : {M : Type 1} → statement M
 takes-spec =
     tie.close (tie.spec
-    -- add-begin-row
+    -- add-begin
     (λ c. search needs)
-    -- begin-row-requires
+    -- begin-requires
     (λ c κs. search needs)
     -- begun-in-requires
     (λ c κs. search needs)

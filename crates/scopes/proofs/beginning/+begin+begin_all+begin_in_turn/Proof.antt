@@ -1,7 +1,6 @@
 -- `scopes::beginning::begin`, `begin_all` and `begin_in_turn` meet their contracts. Assumes nothing.
 use borrow.Author.Needs.{needs}
-use native.Mathlib.Omega.{arith}
-use Rattle.scopes.proofs.BeginReturns.{begin-empty, begin-arm, begin-sequence, begin-flow, begin-scope, begin-bare, begin-awaiting, Turning, turning-starts, turning-done, turning-stops, turning-again, Joining, joining-starts, joining-done, joining-again}
+use Rattle.scopes.proofs.BeginReturns.{begin-far, begin-empty, begin-arm, begin-sequence, begin-flow, begin-scope, begin-bare, begin-awaiting, Turning, turning-far, turning-starts, turning-done, turning-stops, turning-again, Joining, joining-starts, joining-done, joining-again}
 use Prim.Native.Nat.{ℕ, _+_, _*_, _-_, _<_, _≤_}
 use borrow.Fn.Kinds.{In}
 use borrow.Fn.PlainCycle.{Measures, is, falls, and}
@@ -22,7 +21,7 @@ use Rattle.order.proofs.rows.kind_of.Reads as kind-of-reads
 use Rattle.scopes.proofs.beginning.+begin+begin_all+begin_in_turn.{statement}
 use Rattle.scopes.proofs.beginning.+begin+begin_all+begin_in_turn.Tie.{close}
 
-ruleset cases = (begin-empty, begin-arm, begin-sequence, begin-flow, begin-scope, begin-bare, begin-awaiting, turning-starts, turning-done, turning-stops, turning-again, joining-starts, joining-done, joining-again)
+ruleset cases = (begin-far, begin-empty, begin-arm, begin-sequence, begin-flow, begin-scope, begin-bare, begin-awaiting, turning-far, turning-starts, turning-done, turning-stops, turning-again, joining-starts, joining-done, joining-again)
 
 abbrev μ-begin : Measures 1 begin-kinds.ps ℕ
 μ-begin κs a = (256 - a .1 .0) * 2
@@ -82,11 +81,13 @@ begin-in-turn-claims t = (begin-below t, begin.Post, end-of-reads.Asked, end-of-
 pub +begin+begin-all+begin-in-turn-spec : {M : Type 1} → statement M
 +begin+begin-all+begin-in-turn-spec = close μ-begin μ-begin-all μ-begin-in-turn
     (λ t. begin-lts.spec (begin-claims t) (begin-at t) begin.Post
-    -- kind-of-requires
-    (λ c κs. search needs)
     -- returns
     (λ c. search cases)
+    -- kind-of-requires
+    (λ c κs. search needs)
     -- returns-2
+    (λ c. search cases)
+    -- returns-3
     (λ c. search cases)
     -- array-write-m
     (λ c. search needs)
@@ -98,7 +99,7 @@ pub +begin+begin-all+begin-in-turn-spec : {M : Type 1} → statement M
     (λ c κs. search needs)
     -- throughout-requires
     (λ c κs. search needs)
-    -- returns-3
+    -- returns-4
     (λ c. search cases)
     -- add-begin-all
     (λ c. search needs)
@@ -106,7 +107,7 @@ pub +begin+begin-all+begin-in-turn-spec : {M : Type 1} → statement M
     (λ c κs. search needs)
     -- throughout-requires-2
     (λ c κs. search needs)
-    -- returns-4
+    -- returns-5
     (λ c. search cases)
     -- add-if6
     (λ c. search needs)
@@ -116,11 +117,11 @@ pub +begin+begin-all+begin-in-turn-spec : {M : Type 1} → statement M
     (λ c κs. search needs)
     -- around-requires
     (λ c κs. search needs)
-    -- returns-5
-    (λ c. search cases)
     -- returns-6
     (λ c. search cases)
     -- returns-7
+    (λ c. search cases)
+    -- returns-8
     (λ c. search cases))
     (λ t. begin-all-lts.spec (begin-all-claims t) (begin-all-at t) begin-all.Post begin-all-Inv-loop begin-all-μ-loop
     -- loop-holds
@@ -138,6 +139,8 @@ pub +begin+begin-all+begin-in-turn-spec : {M : Type 1} → statement M
     -- returns
     (λ c. search cases))
     (λ t. begin-in-turn-lts.spec (begin-in-turn-claims t) (begin-in-turn-at t) begin-in-turn.Post begin-in-turn-Inv-loop begin-in-turn-μ-loop
+    -- returns
+    (λ c. search cases)
     -- loop-holds
     (λ c. (search needs, search cases))
     -- begin-requires
@@ -148,7 +151,7 @@ pub +begin+begin-all+begin-in-turn-spec : {M : Type 1} → statement M
     (λ c. search needs)
     -- loop-again
     (λ c. (search needs, search cases))
-    -- returns
-    (λ c. search cases)
     -- returns-2
+    (λ c. search cases)
+    -- returns-3
     (λ c. search cases))

@@ -1,23 +1,21 @@
 -- `scopes::scopes::spot_at` meets its contract. Assumes nothing.
 use borrow.Author.Needs.{needs}
-use Rattle.scopes.proofs.ScopeReturns.{spot-is}
+use Rattle.scopes.proofs.ScopeReturns.{spot-far, spot-is}
 use Rattle.scopes.proofs.scopes.spot_at.Statement.{statement}
 use Rattle.scopes.proofs.scopes.spot_at.Tie as tie
 
-ruleset cases = (spot-is)
+ruleset cases = (spot-far, spot-is)
 
 pub spot-at-spec : {M : Type 1} → statement M
 spot-at-spec =
     tie.close (tie.spec
+    -- returns
+    (λ c. search cases)
     -- end-of-requires
     (λ c κs. search needs)
-    -- add-some-row
+    -- add-body
     (λ c. search needs)
-    -- some-row-requires
+    -- end-of-requires-2
     (λ c κs. search needs)
-    -- after-row-requires
-    (λ c κs. search needs)
-    -- some-row-requires-2
-    (λ c κs. search needs)
-    -- returns
+    -- returns-2
     (λ c. search cases))

@@ -1,8 +1,7 @@
 -- `scopes::stopping::stop` meet their contracts. Assumes nothing.
 use borrow.Author.Needs.{needs}
-use native.Mathlib.Omega.{arith}
-use Rattle.scopes.proofs.StopReturns.{stop-opened, stop-closed, stop-bare, stop-all, Stopping, stopping-starts, stopping-done, stopping-again}
-use Prim.Native.Nat.{ℕ, _+_, _*_, _-_, _<_, _≤_}
+use Rattle.scopes.proofs.StopReturns.{stop-far, stop-opened, stop-closed, stop-bare, stop-all, Stopping, stopping-starts, stopping-done, stopping-again}
+use Prim.Native.Nat.{ℕ, _-_, _<_}
 use borrow.Fn.Kinds.{In}
 use borrow.Fn.PlainCycle.{Measures, is, falls, and}
 use Rattle.scopes.proofs.stopping.stop.Reads as stop
@@ -17,7 +16,7 @@ use Rattle.scopes.proofs.stopping.withdrawn.Reads as withdrawn-reads
 use Rattle.scopes.proofs.stopping.+stop.{statement}
 use Rattle.scopes.proofs.stopping.+stop.Tie.{close}
 
-ruleset cases = (stop-opened, stop-closed, stop-bare, stop-all, stopping-starts, stopping-done, stopping-again)
+ruleset cases = (stop-far, stop-opened, stop-closed, stop-bare, stop-all, stopping-starts, stopping-done, stopping-again)
 
 abbrev μ-stop : Measures 1 stop-kinds.ps ℕ
 μ-stop κs a = 256 - a .1 .0
@@ -40,6 +39,8 @@ stop-claims t = (end-of-reads.Asked, end-of-reads.Learnt, kind-of-reads.Asked, k
 pub +stop-spec : {M : Type 1} → statement M
 +stop-spec = close μ-stop
     (λ t. stop-lts.spec (stop-claims t) (stop-at t) stop.Post stop-Inv-loop stop-μ-loop
+    -- returns
+    (λ c. search cases)
     -- end-of-requires
     (λ c κs. search needs)
     -- kind-of-requires
@@ -58,11 +59,11 @@ pub +stop-spec : {M : Type 1} → statement M
     (λ c κs. search needs)
     -- withdrawn-requires
     (λ c κs. search needs)
-    -- returns
-    (λ c. search cases)
     -- returns-2
     (λ c. search cases)
     -- returns-3
+    (λ c. search cases)
+    -- returns-4
     (λ c. search cases)
     -- marked-requires-2
     (λ c κs. search needs)
@@ -78,5 +79,5 @@ pub +stop-spec : {M : Type 1} → statement M
     (λ c. search needs)
     -- loop-again
     (λ c. search cases)
-    -- returns-4
+    -- returns-5
     (λ c. search cases))

@@ -1,5 +1,4 @@
 -- `scopes::stopping::is_open` meets its contract. Assumes nothing.
-use borrow.Author.Needs.{needs}
 use Rattle.scopes.proofs.StopReturns.{open-active, open-done}
 use Rattle.scopes.proofs.stopping.is_open.Statement.{statement}
 use Rattle.scopes.proofs.stopping.is_open.Tie as tie

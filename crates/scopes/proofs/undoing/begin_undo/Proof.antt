@@ -9,13 +9,13 @@ ruleset cases = (begin-undo-is)
 pub begin-undo-spec : {M : Type 1} → statement M
 begin-undo-spec =
     tie.close (tie.spec
-    -- add-after-row
+    -- add-end-of
     (λ c. search needs)
-    -- after-row-requires
+    -- end-of-requires
     (λ c κs. search needs)
-    -- after-row-requires-2
+    -- end-of-requires-2
     (λ c κs. search needs)
-    -- begin-row-requires
+    -- begin-requires
     (λ c κs. search needs)
     -- returns
     (λ c. search cases))

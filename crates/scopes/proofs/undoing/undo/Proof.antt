@@ -1,12 +1,12 @@
 -- `scopes::undoing::undo` meets its contract. Assumes nothing.
 use borrow.Author.Needs.{needs}
-use Rattle.scopes.proofs.UndoReturns.{Undoing, undoing-starts, undoing-done, undoing-stops, undoing-again, found-inside, found-small}
+use Rattle.scopes.proofs.UndoReturns.{Undoing, undoing-starts, undoing-done, undoing-stops, undoing-again, found-inside}
 use Rattle.scopes.proofs.undoing.undo.Statement.{statement}
 use Rattle.scopes.proofs.undoing.undo.Tie as tie
 
 ruleset cases = (undoing-starts, undoing-done, undoing-stops, undoing-again)
 
-ruleset room = (found-inside, found-small)
+ruleset room = (found-inside)
 
 abbrev Inv-loop : tie.InvT-loop
 Inv-loop table spot o₀ o = Undoing table spot o₀ o
@@ -28,7 +28,7 @@ undo-spec =
     -- enum-known-f
     (λ c. search needs)
     -- start-undo-requires
-    (λ c κs. (search room, search room))
+    (λ c κs. search room)
     -- is-over-requires
     (λ c κs. search needs)
     -- loop-less

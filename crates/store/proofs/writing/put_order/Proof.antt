@@ -3,7 +3,7 @@ use borrow.Author.Needs.{needs}
 use Rattle.store.proofs.Parts.{room-bytes, room-fours, order-put}
 use mathlib.Core.Path.{sym}
 use native.Mathlib.Omega.{arith}
-use Rattle.machine.proofs.Whole.{order-whole}
+use Rattle.order.proofs.Whole.{order-whole}
 use Rattle.store.proofs.writing.put_order.Statement.{statement}
 use Rattle.store.proofs.writing.put_order.Tie as tie
 
