@@ -23,7 +23,7 @@ use Rattle.fit.specs.Lines.{Line, linesOf, isReady, readyAt, Stands, Tab
 use Rattle.fit.specs.Receiving.{leastLine, leastLive, Slots, Across, Flagged, Lent, OpensRow, Least, LeastLetter, LeastLetters, LeastRow, LeastRows, LeastSlot, Leasts}
 use Rattle.fit.proofs.Crossed.{Crossing, crossing-starts, crossing-again, crossing-done, slot-free}
 use Rattle.fit.proofs.FitReturns.{asks-asking}
-use Rattle.fit.proofs.Lines.{fold-append, fold-each, fold-same, fold-ready, Rowing, rowing-starts, rowing-again, rowing-done}
+use Rattle.fit.proofs.Lines.{fold-append, fold-each, fold-same, fold-ready, size-short, Rowing, rowing-starts, rowing-again, rowing-done}
 use Rattle.fit.proofs.SearchReturns.{stands-exchange, catch-open}
 
 one-fitting : (b : Bool) (u c : ℕ) → folded lesser (cond b (u ∷ []) []) c ≡ cond b (lesser u c) c
@@ -36,18 +36,18 @@ cond-and true b x y = refl
 cond-and false b x y = refl
 
 -- `least_letter`
-module _ (t : List ℕ) (k : ℕ) (asked letters : List ℕ) (j u c : ℕ) {b : Bool} (w : FitsRow t k asked letters j b) where
+module _ (t : List ℕ) (k : ℕ) (asked letters : List ℕ) (j u c : ℕ) (few : j < 64) {b : Bool} (w : FitsRow t k asked letters j b) where
   pub least-unfit : b ≡ false → LeastLetter t k asked letters j u c c
-  least-unfit e = record { is = λ p o a d vs v g x. rw (sym (w .is p o a d vs g x) ∙ e) }
+  least-unfit e = record { is = λ p o a d vs v g x. rw (sym (w .is few p o a d vs g x) ∙ e) }
 
   module _ (e : b ≡ true) where
     pub least-less : u < c → LeastLetter t k asked letters j u c u
     unfolding lesser
-    least-less h = record { is = λ p o a d vs v g x. rw (sym (w .is p o a d vs g x) ∙ e, ← v .is p o a d vs g x, lt-ltb _ _ h) }
+    least-less h = record { is = λ p o a d vs v g x. rw (sym (w .is few p o a d vs g x) ∙ e, ← v .is p o a d vs g x, lt-ltb _ _ h) }
 
     pub least-more : c ≤ u → LeastLetter t k asked letters j u c c
     unfolding lesser
-    least-more h = record { is = λ p o a d vs v g x. rw (sym (w .is p o a d vs g x) ∙ e, ← v .is p o a d vs g x, le-ltb _ _ h) }
+    least-more h = record { is = λ p o a d vs v g x. rw (sym (w .is few p o a d vs g x) ∙ e, ← v .is p o a d vs g x, le-ltb _ _ h) }
 
 -- the loop of `least_letters`
 pub record Lessening (t : List ℕ) (k : ℕ) (asked : List ℕ) (u : ℕ) (letters : List ℕ) (waiting : ℕ) (start : List ℕ) (j : ℕ) (out : List ℕ) : Type 0 where
@@ -150,16 +150,23 @@ least-lines p l o m i c =
     ∙ fold-same _ _ (λ x s. least-line p l o m x s) (linesOf p (o .marks)) c
 
 -- `least_slot`
+pub least-beyond : (t flags picks : List ℕ) (o : Order) {n : ℕ} (letters : List ℕ) (waiting : ℕ) (c : List ℕ) → 256 < n → LeastSlot t flags picks o n letters waiting c c
+least-beyond t flags picks o letters waiting c h =
+    record { long = refl; is = λ few q j g i. record { is = λ p l x y. absurd (omega (arith, size-short p (y .limited), y .many)) } }
+
+pub least-full : (t flags picks : List ℕ) (o : Order) (n : ℕ) (letters : List ℕ) {waiting : ℕ} (c : List ℕ) → 64 < waiting → LeastSlot t flags picks o n letters waiting c c
+least-full t flags picks o n letters c h = record { long = refl; is = λ few q j g i. absurd (omega arith) }
+
 pub least-free : (t flags picks : List ℕ) {o : Order} (n : ℕ) (letters : List ℕ) (waiting : ℕ) (c : List ℕ) → o .root ≡ 0
     → LeastSlot t flags picks o n letters waiting c c
 least-free t flags picks n letters waiting c e =
-    record { long = refl; is = λ q j h i. slot-free t n (Flagged t picks flags) (leastLive (messageAt letters j)) i (getD c j 0) e }
+    record { long = refl; is = λ few q j h i. slot-free t n (Flagged t picks flags) (leastLive (messageAt letters j)) i (getD c j 0) e }
 
 pub least-live : {t flags picks known : List ℕ} {o : Order} {n : ℕ} {letters : List ℕ} {waiting : ℕ} {c r : List ℕ} → (o .root ≡ 0 → ⊥) → KnowsOrder flags o known
     → LeastRows t picks (o .marks) known n letters waiting c r → LeastSlot t flags picks o n letters waiting c r
 least-live {o = o} {letters = letters} {c = c} h v w = record {
   long = w .long;
-  is = λ q j g i. record {
+  is = λ few q j g i. record {
     is = λ p l x y.
         rw (ne-eqb _ _ h)
         (w .is q j g .is o p l (record { picked = x .picked; marked = refl; knows = v .is p (x .correlated) }) y
@@ -169,12 +176,14 @@ least-live {o = o} {letters = letters} {c = c} h v w = record {
 
 -- `leasts`
 pub record Lowering (t flags picks : List ℕ) (orders : List Order) (n : ℕ) (letters : List ℕ) (waiting slot : ℕ) (c : List ℕ) : Type 0 where
+  pub few : waiting ≤ 64
   pub long : length c ≡ 64
   pub is : (j : ℕ) → j < waiting → Crossing t n (Flagged t picks flags) (leastLive (messageAt letters j)) orders 5 slot (getD c j 0)
 
 pub lowering-starts : (t flags picks : List ℕ) (orders : List Order) (n : ℕ) (letters : List ℕ) (waiting : ℕ) → waiting ≤ 64 → length orders ≡ 16
     → Lowering t flags picks orders n letters waiting 0 (replicate 64 5)
 lowering-starts t flags picks orders n letters waiting few e = record {
+  few = few;
   long = length-replicate {A = ℕ} 64 5;
   is = λ j h.
       rw (getD-replicate {A = ℕ} 64 j 5 0 (omega arith)) (crossing-starts t n (Flagged t picks flags) (leastLive (messageAt letters j)) orders 5 e);
@@ -194,10 +203,10 @@ module _ {t flags picks : List ℕ} {orders : List Order} {n : ℕ} {letters : L
     (w : Lowering t flags picks orders n letters waiting slot c) where
   pub lowering-again : (d : Order) → slot < 16 → {r : List ℕ} → LeastSlot t flags picks (getD orders slot d) n letters waiting c r
       → Lowering t flags picks orders n letters waiting (slot + 1) r
-  lowering-again d h y = record { long = y .long ∙ w .long; is = λ j g. crossing-again (w .is j g) d h (y .is (w .long) j g slot) }
+  lowering-again d h y = record { few = w .few; long = y .long ∙ w .long; is = λ j g. crossing-again (w .is j g) d h (y .is (w .few) (w .long) j g slot) }
 
   pub lowering-passes : (d : Order) → slot < 16 → getD orders slot d .root ≡ 0 → Lowering t flags picks orders n letters waiting (slot + 1) c
   lowering-passes d h e = lowering-again d h (least-free t flags picks n letters waiting c e)
 
   pub lowering-done : 16 ≤ slot → Leasts t flags picks orders n letters waiting c
-  lowering-done h = record { is = λ j g v. least-all (messageAt letters j) (w .is j g) h v }
+  lowering-done h = record { few = w .few; is = λ j g v. least-all (messageAt letters j) (w .is j g) h v }

@@ -88,8 +88,11 @@ module _ (messages : List Message) (out : List ℕ) (n : ℕ) (f : (i : ℕ) →
         ← v,
       )
 
+pub writing-full : {messages : List Message} (n : ℕ) (out : List ℕ) → length messages ≡ 64 → 64 < n → Letters messages n out
+writing-full n out e h = record { held = e; is = λ few j g. absurd (omega arith) }
+
 pub writing-done : {messages : List Message} {n : ℕ} {out : List ℕ} {i : ℕ} → Filling (Numbered messages) 448 out i → length messages ≡ 64 → n * 7 ≤ i → Letters messages n out
-writing-done {messages} {n} {out} w e h = record { held = e; is = λ j g. message-says messages out n (λ i z. w .filled i (omega arith)) j g }
+writing-done {messages} {n} {out} w e h = record { held = e; is = λ few j g. message-says messages out n (λ i z. w .filled i (omega arith)) j g }
 
 -- `known_value`
 module _ (f b x : ℕ) where
@@ -145,13 +148,16 @@ module _ {t known : List ℕ} {k : ℕ} {out : List ℕ} {i : ℕ} (w : Filling 
   asking-again h y = filling-again w h (record { is = y })
 
   pub asking-done : 4 ≤ i → AsksRow t known k out
-  asking-done h = record { is = λ j g. filling-done w h j g .is }
+  asking-done h = record { is = λ z j g. filling-done w h j g .is }
+
+pub asking-beyond : (t known : List ℕ) {k : ℕ} (out : List ℕ) → 256 ≤ k → AsksRow t known k out
+asking-beyond t known out h = record { is = λ z j g. absurd (omega arith) }
 
 pub asks-asking : {t known : List ℕ} {k : ℕ} {asked : List ℕ} → AsksRow t known k asked → {p : Plan} {o : Order} → Knows known p o
     → {a b : ℕ} {vs : List ℕ} → Exchange a b vs k t → length vs ≤ 4 → Asking asked p o vs
 asks-asking w g e few = record {
   few = few;
-  is = λ i h. w .is i (omega arith) ∙ (g .is _ ∙ rw (e .variables i (omega arith)));
+  is = λ i h. w .is (e .inside) i (omega arith) ∙ (g .is _ ∙ rw (e .variables i (omega arith)));
 }
 
 -- what is asked of a value, and what it costs
@@ -240,15 +246,21 @@ module _ {asked letters : List ℕ} {j count i : ℕ} (w : Agreeing asked letter
 
 -- `fits_at`
 module _ (t : List ℕ) (k : ℕ) (asked letters : List ℕ) (j : ℕ) where
+  pub fits-beyond : 256 ≤ k → FitsRow t k asked letters j false
+  fits-beyond h = record { is = λ few p o a b vs c e. absurd (omega (arith, e .inside)) }
+
+  pub fits-nothing : 64 ≤ j → FitsRow t k asked letters j false
+  fits-nothing h = record { is = λ few p o a b vs c e. absurd (omega arith) }
+
   pub fits-partner : (getD letters (j * 7) 0 ≡ getD t (k * 13 + 1) 0 → ⊥) → FitsRow t k asked letters j false
   unfolding fits messageAt
-  fits-partner n = record { is = λ p o a b vs c e. rw (ne-eqb (getD letters (j * 7) 0) a (λ q. n (q ∙ sym (e .partner)))) }
+  fits-partner n = record { is = λ few p o a b vs c e. rw (ne-eqb (getD letters (j * 7) 0) a (λ q. n (q ∙ sym (e .partner)))) }
 
   module _ (y : getD letters (j * 7) 0 ≡ getD t (k * 13 + 1) 0) where
     pub fits-operation : (getD letters (j * 7 + 1) 0 ≡ getD t (k * 13 + 2) 0 → ⊥) → FitsRow t k asked letters j false
     unfolding fits messageAt
     fits-operation n = record {
-      is = λ p o a b vs c e.
+      is = λ few p o a b vs c e.
           rw (eq-eqb (getD letters (j * 7) 0) a (y ∙ e .partner), ne-eqb (getD letters (j * 7 + 1) 0) b (λ q. n (q ∙ sym (e .operation))));
     }
 
@@ -256,7 +268,7 @@ module _ (t : List ℕ) (k : ℕ) (asked letters : List ℕ) (j : ℕ) where
       pub fits-count : (getD letters (j * 7 + 2) 0 ≡ getD t (k * 13 + 3) 0 → ⊥) → FitsRow t k asked letters j false
       unfolding fits messageAt
       fits-count n = record {
-        is = λ p o a b vs c e.
+        is = λ few p o a b vs c e.
             rw (
               eq-eqb (getD letters (j * 7) 0) a (y ∙ e .partner),
               eq-eqb (getD letters (j * 7 + 1) 0) b (z ∙ e .operation),
@@ -266,12 +278,12 @@ module _ (t : List ℕ) (k : ℕ) (asked letters : List ℕ) (j : ℕ) where
 
       module _ (n : getD letters (j * 7 + 2) 0 ≡ getD t (k * 13 + 3) 0) where
         pub fits-many : 4 < getD letters (j * 7 + 2) 0 → FitsRow t k asked letters j false
-        fits-many h = record { is = λ p o a b vs c e. absurd (omega (arith, c .few, n ∙ e .count)) }
+        fits-many h = record { is = λ few p o a b vs c e. absurd (omega (arith, c .few, n ∙ e .count)) }
 
         pub fits-values : {r : Bool} → Agrees asked letters j (getD letters (j * 7 + 2) 0) r → FitsRow t k asked letters j r
         unfolding fits messageAt
         fits-values g = record {
-          is = λ p o a b vs c e.
+          is = λ few p o a b vs c e.
               rw (
                 eq-eqb (getD letters (j * 7) 0) a (y ∙ e .partner),
                 eq-eqb (getD letters (j * 7 + 1) 0) b (z ∙ e .operation),
@@ -285,6 +297,9 @@ pub record Counting (t : List ℕ) (k : ℕ) (asked : List ℕ) (count n i : ℕ
   pub within : i ≤ count
   pub most : n ≤ i
   pub same : (p : Plan) (o : Order) (a b : ℕ) (vs : List ℕ) → Asking asked p o vs → Exchange a b vs k t → unchecked p o vs ≡ n + unchecked p o (drop i vs)
+
+pub unchecked-beyond : (t : List ℕ) (k : ℕ) (asked : List ℕ) → 256 ≤ k → UncheckedRow t k asked 0
+unchecked-beyond t k asked h = record { is = λ p o a b vs c e. absurd (omega (arith, e .inside)) }
 
 pub unchecked-many : (t : List ℕ) (k : ℕ) (asked : List ℕ) → 4 < getD t (k * 13 + 3) 0 → UncheckedRow t k asked 0
 unchecked-many t k asked h = record { is = λ p o a b vs c e. absurd (omega (arith, e .count, c .few)) }

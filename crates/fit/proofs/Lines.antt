@@ -117,6 +117,17 @@ plan-long p ms =
     length-append (linesIn (p .body) 0 false ms) (linesIn (p .fault) (size (p .body)) false ms)
     ∙ rw (lines-long (p .body) 0 false ms, lines-long (p .fault) (size (p .body)) false ms)
 
+-- and no more than 256
+pub size-short : (p : Plan) → planWithin p ≡ true → size (p .body) + size (p .fault) ≤ 256
+unfolding planWithin
+size-short p y =
+    both (leb (length (spelling p)) 4096) _ y
+    (λ y1 z1. both (from1 16 (p .variables)) _ z1
+    (λ y2 z2. both (ascending (p .variables) 0 (p .correlation)) _ z2
+    (λ y3 z3. both (actWithin (p .variables) (p .correlation) false false (p .body) 16) _ z3
+    (λ y4 z4. both (actWithin (p .variables) (p .correlation) true false (p .fault) 16) _ z4
+    (λ y5 z5. both (leb (size (p .body) + size (p .fault)) 256) _ z5 (λ y6 z6. leb-true (size (p .body) + size (p .fault)) 256 y6))))))
+
 -- no activity within the limits names more than four variables
 few-exchange : (vars : ℕ) (once : Bool) (a b : ℕ) (vs : List ℕ) → exchangeWithin vars once a b vs ≡ true → length vs ≤ 4
 unfolding exchangeWithin
@@ -241,26 +252,26 @@ module _ (t ms : List ℕ) where
   mutual
     unfolding Spells size linesIn actWithin
 
-    standing-in : (a : Act) (at n q : ℕ) (b : Bool) (vars : ℕ) (cs : List ℕ) (h ar : Bool) (d : ℕ) → Spells a at n q t → armsFrom t ms n n ≡ b
+    standing-in : (a : Act) (at n q : ℕ) (b : Bool) (vars : ℕ) (cs : List ℕ) (h ar : Bool) (d : ℕ) → Spells a at n q t → n + size a ≤ 256 → armsFrom t ms n n ≡ b
         → actWithin vars cs h ar a d ≡ true → Standing t ms n (linesIn a n b ms)
-    standing-in (act own l) at n q b vars cs h ar d s e y =
+    standing-in (act own l) at n q b vars cs h ar d s g e y =
         both (ar || ltb 0 d) _ y
         (λ y1 z1. both (ownWithin vars cs h ar own (count l)) _ z1
         (λ y2 z2.
-        also (record { place = at; node = q; activity = refl; spelled = s; arms = sym e; few = few-own vars cs h ar own (count l) y2; parts = parts-own vars cs h ar own (count l) y2 })
-        (standing-among l _ (n + 1) _ n _ vars cs h (laterOf own h) (eqb (kind own) 10) (levelsBelow ar d) (under-first own l at n q s) (s .within) z2)))
+        also (record { place = at; node = q; inside = omega arith; activity = refl; spelled = s; arms = sym e; few = few-own vars cs h ar own (count l) y2; parts = parts-own vars cs h ar own (count l) y2 })
+        (standing-among l _ (n + 1) _ n _ vars cs h (laterOf own h) (eqb (kind own) 10) (levelsBelow ar d) (under-first own l at n q s) (s .within) (omega arith) z2)))
 
-    standing-among : (l : Acts) (at c q n : ℕ) (b : Bool) (vars : ℕ) (cs : List ℕ) (h h′ ar : Bool) (d : ℕ) → Under n c (c + sizes l) b → SpellsAll l at c q t
+    standing-among : (l : Acts) (at c q n : ℕ) (b : Bool) (vars : ℕ) (cs : List ℕ) (h h′ ar : Bool) (d : ℕ) → Under n c (c + sizes l) b → SpellsAll l at c q t → c + sizes l ≤ 256
         → actsWithin vars cs h h′ ar l d ≡ true → Standing t ms c (linesAmong l c b ms)
-    standing-among none at c q n b vars cs h h′ ar d u s y = nothing
-    standing-among (more a l) at c q n b vars cs h h′ ar d u s y =
+    standing-among none at c q n b vars cs h h′ ar d u s g y = nothing
+    standing-among (more a l) at c q n b vars cs h h′ ar d u s g y =
         let z = size-some a in
         let w : c + (size a + sizes l) ≡ c + size a + sizes l = omega arith in
         let v : c + length (linesIn a c b ms) ≡ c + size a = rw (lines-long a c b ms) in
         both (actWithin vars cs h ar a d) _ y
         (λ y1 z1.
-        standing-append _ (standing-in a at c q b vars cs h ar d (s .first) (open-under u (omega arith)) y1)
-        (rw v (standing-among l _ (c + size a) _ n b vars cs h′ h′ ar d (under-next a at q (rw w at u) (s .first)) (s .rest) z1)))
+        standing-append _ (standing-in a at c q b vars cs h ar d (s .first) (omega arith) (open-under u (omega arith)) y1)
+        (rw v (standing-among l _ (c + size a) _ n b vars cs h′ h′ ar d (under-next a at q (rw w at u) (s .first)) (s .rest) (omega arith) z1)))
 
   module _ (p : Plan) (s : SpellsPlan p t) where
     body-flag : armsFrom t ms 0 0 ≡ false
@@ -277,6 +288,7 @@ module _ (t ms : List ℕ) where
     unfolding SpellsAll linesOf planWithin
     standing-plan y =
         let e : 0 + size (p .body) ≡ size (p .body) = omega arith in
+        let few = size-short p y in
         let v : 0 + length (linesIn (p .body) 0 false ms) ≡ size (p .body) = omega (arith, lines-long (p .body) 0 false ms) in
         both (leb (length (spelling p)) 4096) _ y
         (λ y1 z1. both (from1 16 (p .variables)) _ z1
@@ -284,8 +296,8 @@ module _ (t ms : List ℕ) where
         (λ y3 z3. both (actWithin (p .variables) (p .correlation) false false (p .body) 16) _ z3
         (λ y4 z4. both (actWithin (p .variables) (p .correlation) true false (p .fault) 16) _ z4
         (λ y5 z5.
-        standing-append _ (standing-in (p .body) _ 0 _ false (p .variables) (p .correlation) false false 16 (s .first) body-flag y4)
-        (rw v (standing-in (p .fault) _ (size (p .body)) _ false (p .variables) (p .correlation) true false 16 (rw e at (s .rest .first)) fault-flag y5)))))))
+        standing-append _ (standing-in (p .body) _ 0 _ false (p .variables) (p .correlation) false false 16 (s .first) (omega (arith, few)) body-flag y4)
+        (rw v (standing-in (p .fault) _ (size (p .body)) _ false (p .variables) (p .correlation) true false 16 (rw e at (s .rest .first)) (omega (arith, few)) fault-flag y5)))))))
 
 pub line-stands : {p : Plan} {t : List ℕ} {n : ℕ} (ms : List ℕ) (d : Line) → Tabled p t n → (k : ℕ) → k < n → Stands t ms k (getD (linesOf p ms) k d)
 line-stands {p} {t} {n} ms d y k h =
@@ -327,3 +339,8 @@ module _ {S : Type 0} {t : List ℕ} {n : ℕ} {G : Order → Plan → List Lett
         let long : length (linesOf p (o .marks)) ≤ k = omega (arith, plan-long p (o .marks), q .many) in
         sym (w .same o p l g q ∙ ap (λ x. folded (f o p l) x c) (drop-of-length-le (linesOf p (o .marks)) long));
   }
+
+-- no plan has more than 256 activities and arms
+pub wholes-beyond : {S : Type 0} (t : List ℕ) {n : ℕ} (G : Order → Plan → List Letter → Type 0) (f : Order → Plan → List Letter → Line → S → S) (c r : S)
+    → 256 < n → Wholes t n G f c r
+wholes-beyond t G f c r h = record { is = λ o p l g q. absurd (omega (arith, size-short p (q .limited), q .many)) }

@@ -35,14 +35,6 @@ rows-free o n e = rw (eq-eqb _ _ e)
 pub rows-live : (o : Order) (n : ℕ) → (o .root ≡ 0 → ⊥) → n ≡ cond (isLive o) n 0
 rows-live o n e = rw (ne-eqb _ _ e)
 
--- an order has as many rows as the plan has activities and arms, or none where its slot is free
-pub rows-below : {r n k : ℕ} (o : Order) → r ≡ cond (isLive o) n 0 → n ≤ 256 → k < r → k < 256
-rows-below {r} {n} {k} o e h l = by-test (isLive o) e
-  where
-    by-test : (b : Bool) → r ≡ cond b n 0 → k < 256
-    by-test true q = omega arith
-    by-test false q = omega arith
-
 -- the loop of `row_around`: no row passed reaches beyond row k
 pub record Climbing (t : List ℕ) (k j : ℕ) : Type 0 where
   pub within : j ≤ k
@@ -97,15 +89,18 @@ arms-around t ms k (suc j) h = by-test (arms-around t ms k j (omega arith)) (ltb
     by-test e true = rw (lt-ltb j 256 (omega arith))
     by-test e false = e
 
+pub arms-beyond : (t picks ms : List ℕ) (k : ℕ) → 256 ≤ k → ArmsRow t picks ms k false
+arms-beyond t picks ms k h = record { is = λ g w z. absurd (omega arith) }
+
 module _ {t picks : List ℕ} (ms : List ℕ) {k : ℕ} (h : k < 256) where
   arms-say : Picks t picks → getD t (k * 13) 0 ≡ 12 → armsFrom t ms k k ≡ cond (ltb (getD picks k 0) 256) (openPick t ms (getD picks k 0)) false
   arms-say w z = arms-around t ms k k (omega arith) ∙ rw (← w .is k h .is z)
 
   pub arms-some : {r : Bool} → getD picks k 0 < 256 → r ≡ openPick t ms (getD picks k 0) → ArmsRow t picks ms k r
-  arms-some l e = record { is = λ w z. e ∙ sym (arms-say w z ∙ rw (lt-ltb _ _ l)) }
+  arms-some l e = record { is = λ g w z. e ∙ sym (arms-say w z ∙ rw (lt-ltb _ _ l)) }
 
   pub arms-none : 256 ≤ getD picks k 0 → ArmsRow t picks ms k false
-  arms-none l = record { is = λ w z. sym (arms-say w z ∙ rw (le-ltb _ _ l)) }
+  arms-none l = record { is = λ g w z. sym (arms-say w z ∙ rw (le-ltb _ _ l)) }
 
 -- what a row says of its line
 pub stands-kind : {t ms : List ℕ} {k : ℕ} {x : Line} → Stands t ms k x → getD t (k * 13) 0 ≡ kind (x .own)
@@ -116,7 +111,7 @@ stands-kind y = y .spelled .row .kind
 pub stands-exchange : {t ms : List ℕ} {k : ℕ} {x : Line} → Stands t ms k x
     → Exchange (getD t (k * 13 + 1) 0) (getD t (k * 13 + 2) 0) (variablesOf (x .own)) k t
 unfolding Spells
-stands-exchange y = record { partner = refl; operation = refl; count = y .spelled .row .count; variables = y .spelled .row .variables }
+stands-exchange y = record { inside = y .inside; partner = refl; operation = refl; count = y .spelled .row .count; variables = y .spelled .row .variables }
 
 and-true : (b : Bool) → b ≡ (b && true)
 and-true true = refl
@@ -138,7 +133,7 @@ module _ (t picks ms : List ℕ) (k : ℕ) where
 
   pub opens-arm : {b : Bool} → getD t (k * 13) 0 ≡ 12 → ArmsRow t picks ms k b → OpensRow t picks ms k b
   unfolding awaits
-  opens-arm {b} z q = record { is = λ x w y. rw (sym (stands-kind y) ∙ z) (q .is w z ∙ (sym (y .arms) ∙ and-true (x .arms))) }
+  opens-arm {b} z q = record { is = λ x w y. rw (sym (stands-kind y) ∙ z) (q .is (y .inside) w z ∙ (sym (y .arms) ∙ and-true (x .arms))) }
 
   pub opens-other : (getD t (k * 13) 0 ≡ 2 → ⊥) → (getD t (k * 13) 0 ≡ 12 → ⊥) → OpensRow t picks ms k false
   opens-other z v = record {
@@ -180,14 +175,17 @@ catch-open {ms = ms} {b = b} v w o e {x} y p m =
     let n : b ≡ (isReady (o .marks) x && receives (x .own)) = rw (← e) at v .is x w y in
     ap (λ z. isReady (o .marks) x && z) (stands-fits p o m y) ∙ (and-assoc (isReady (o .marks) x) (receives (x .own)) _ ∙ rw (← n))
 
+pub takes-beyond : (t picks marks known : List ℕ) (k : ℕ) (letters : List ℕ) (j : ℕ) → 256 ≤ k → TakesRow t picks marks known k letters j false
+takes-beyond t picks marks known k letters j h = record { is = λ few o p l x g y. absurd (omega (arith, y .inside)) }
+
 module _ {t picks marks : List ℕ} {k : ℕ} {b : Bool} (v : OpensRow t picks marks k b) where
   pub takes-shut : (known letters : List ℕ) (j : ℕ) → b ≡ false → TakesRow t picks marks known k letters j false
-  takes-shut known letters j e = record { is = λ o p l x g y. sym (catch-open v (g .picked) o (g .marked) y p (messageAt letters j) ∙ rw e) }
+  takes-shut known letters j e = record { is = λ few o p l x g y. sym (catch-open v (g .picked) o (g .marked) y p (messageAt letters j) ∙ rw e) }
 
   pub takes-open : {known asked letters : List ℕ} {j : ℕ} {r : Bool} → b ≡ true → AsksRow t known k asked → FitsRow t k asked letters j r
       → TakesRow t picks marks known k letters j r
   takes-open {letters = letters} {j} e a f = record {
-    is = λ o p l x g y.
-        f .is p o _ _ (variablesOf (x .own)) (asks-asking a (g .knows) (stands-exchange y) (y .few)) (stands-exchange y)
+    is = λ few o p l x g y.
+        f .is few p o _ _ (variablesOf (x .own)) (asks-asking a (g .knows) (stands-exchange y) (y .few)) (stands-exchange y)
         ∙ sym (catch-open v (g .picked) o (g .marked) y p (messageAt letters j) ∙ rw e);
   }

@@ -124,47 +124,47 @@ live-stays : (p : Plan) (m : Message) (l : List Letter) (live : List Live) (j k 
 unfolding catchLive
 live-stays p m l live j k = else-stays (λ (x : Live). firstOf p (x .slot) (x .order) m (x .ready)) live j k
 
--- the inner loop: no row passed takes the message
+-- the inner loop: no row passed takes the message, which is one of 64
 pub record Looking (t picks marks known : List ℕ) (i rows : ℕ) (letters : List ℕ) (j : ℕ) (found : Receiver) (k : ℕ) : Type 0 where
   pub nothing : found ≡ Receiver.Nothing
-  pub row : Rowing t rows (Lent t picks marks known) (catchLine i (messageAt letters j)) Receiver.Nothing k Receiver.Nothing
+  pub row : j < 64 → Rowing t rows (Lent t picks marks known) (catchLine i (messageAt letters j)) Receiver.Nothing k Receiver.Nothing
 
 -- the outer loop: no slot passed has a row that takes the message
 pub record Searching (t flags picks : List ℕ) (orders : List Order) (n : ℕ) (letters : List ℕ) (j : ℕ) (found : Receiver) (slot : ℕ) : Type 0 where
   pub nothing : found ≡ Receiver.Nothing
-  pub slots : Crossing t n (Flagged t picks flags) (catchLive (messageAt letters j)) orders Receiver.Nothing slot Receiver.Nothing
+  pub slots : j < 64 → Crossing t n (Flagged t picks flags) (catchLive (messageAt letters j)) orders Receiver.Nothing slot Receiver.Nothing
 
 pub searching-starts : (t flags picks : List ℕ) (orders : List Order) (n : ℕ) (letters : List ℕ) (j : ℕ) → length orders ≡ 16
     → Searching t flags picks orders n letters j Receiver.Nothing 0
 searching-starts t flags picks orders n letters j e =
-    record { nothing = refl; slots = crossing-starts t n (Flagged t picks flags) (catchLive (messageAt letters j)) orders Receiver.Nothing e }
+    record { nothing = refl; slots = λ few. crossing-starts t n (Flagged t picks flags) (catchLive (messageAt letters j)) orders Receiver.Nothing e }
 
 pub looking-starts : (t picks marks known : List ℕ) (i rows : ℕ) (letters : List ℕ) (j : ℕ) {found : Receiver} → found ≡ Receiver.Nothing
     → Looking t picks marks known i rows letters j found 0
 looking-starts t picks marks known i rows letters j e =
-    record { nothing = e; row = rowing-starts t rows (Lent t picks marks known) (catchLine i (messageAt letters j)) Receiver.Nothing }
+    record { nothing = e; row = λ few. rowing-starts t rows (Lent t picks marks known) (catchLine i (messageAt letters j)) Receiver.Nothing }
 
 module _ {t picks marks known : List ℕ} {i rows : ℕ} {letters : List ℕ} {j : ℕ} {found : Receiver} {k : ℕ} (w : Looking t picks marks known i rows letters j found k)
     (h : k < rows) {b : Bool} (y : TakesRow t picks marks known k letters j b) where
   pub looking-again : b ≡ false → Looking t picks marks known i rows letters j found (k + 1)
   looking-again e = record {
     nothing = w .nothing;
-    row = rowing-again (w .row) h
-        (record { is = λ o p l x g z. catch-none i o (messageAt letters j) p l x (sym (y .is o p l x g z) ∙ e) });
+    row = λ few. rowing-again (w .row few) h
+        (record { is = λ o p l x g z. catch-none i o (messageAt letters j) p l x (sym (y .is few o p l x g z) ∙ e) });
   }
 
-  looking-found : b ≡ true → Rowing t rows (Lent t picks marks known) (catchLine i (messageAt letters j)) Receiver.Nothing (k + 1) (Receiver.At i k)
-  looking-found e = rowing-again (w .row) h
-      (record { is = λ o p l x g z. catch-here i o (messageAt letters j) p l x (z .activity) (sym (y .is o p l x g z) ∙ e) })
+  looking-found : b ≡ true → j < 64 → Rowing t rows (Lent t picks marks known) (catchLine i (messageAt letters j)) Receiver.Nothing (k + 1) (Receiver.At i k)
+  looking-found e few = rowing-again (w .row few) h
+      (record { is = λ o p l x g z. catch-here i o (messageAt letters j) p l x (z .activity) (sym (y .is few o p l x g z) ∙ e) })
 
 module _ {t flags picks : List ℕ} {orders : List Order} {n : ℕ} {letters : List ℕ} {j : ℕ} {before : Receiver} {slot : ℕ}
     (w : Searching t flags picks orders n letters j before slot) where
   pub searching-done : 16 ≤ slot → Receives t flags picks orders n letters j before
   unfolding orElse
   searching-done h = record {
-    is = λ p cor v y.
+    is = λ few p cor v y.
         w .nothing
-        ∙ (crossing-done (w .slots) h .is p [] (record { correlated = cor; picked = v }) y ∙ live-fold p (messageAt letters j) [] (liveFrom p 0 orders) Receiver.Nothing);
+        ∙ (crossing-done (w .slots few) h .is p [] (record { correlated = cor; picked = v }) y ∙ live-fold p (messageAt letters j) [] (liveFrom p 0 orders) Receiver.Nothing);
   }
 
   module _ (d : Order) {rows : ℕ} (many : rows ≡ cond (isLive (getD orders slot d)) n 0) (h : slot < 16) {known : List ℕ}
@@ -180,36 +180,36 @@ module _ {t flags picks : List ℕ} {orders : List Order} {n : ℕ} {letters : L
     pub searching-again : rows ≤ k → Searching t flags picks orders n letters j found (slot + 1)
     searching-again g = record {
       nothing = v .nothing;
-      slots = crossing-again (w .slots) d h (record { is = λ p l x y. by-test p l x y (isLive (getD orders slot d)) refl });
+      slots = λ few. crossing-again (w .slots few) d h (record { is = λ p l x y. by-test few p l x y (isLive (getD orders slot d)) refl });
     }
       where
-        by-test : (p : Plan) (l : List Letter) → Flagged t picks flags p l → Tabled p t n → (b : Bool) → isLive (getD orders slot d) ≡ b
+        by-test : j < 64 → (p : Plan) (l : List Letter) → Flagged t picks flags p l → Tabled p t n → (b : Bool) → isLive (getD orders slot d) ≡ b
             → Receiver.Nothing
             ≡ cond b (catchLive (messageAt letters j) p l (record { slot = slot; order = getD orders slot d; ready = readyOf p (getD orders slot d) }) Receiver.Nothing) Receiver.Nothing
-        by-test p l x y true e =
-            rowing-done (v .row) g .is (getD orders slot d) p l (lends p l x) (tabled (isLive (getD orders slot d)) many e y)
+        by-test few p l x y true e =
+            rowing-done (v .row few) g .is (getD orders slot d) p l (lends p l x) (tabled (isLive (getD orders slot d)) many e y)
             ∙ first-lines slot (getD orders slot d) (messageAt letters j) p l Receiver.Nothing
-        by-test p l x y false e = refl
+        by-test few p l x y false e = refl
 
     pub searching-found : k < rows → {b : Bool} → TakesRow t picks (getD orders slot d .marks) known k letters j b → b ≡ true
         → Receives t flags picks orders n letters j (Receiver.At slot k)
     unfolding orElse
     searching-found g {b} y z = record {
-      is = λ p cor u q.
-          let c = crossing-again (w .slots) d h here in
+      is = λ few p cor u q.
+          let c = crossing-again (w .slots few) d h (here few) in
           sym (sym (live-fold p (messageAt letters j) [] (liveFrom p 0 orders) Receiver.Nothing)
           ∙ (c .same p [] (record { correlated = cor; picked = u }) q
           ∙ live-stays p (messageAt letters j) [] (liveFrom p (slot + 1) (drop (slot + 1) orders)) slot k));
     }
       where
-        by-test : (p : Plan) (l : List Letter) → Flagged t picks flags p l → Tabled p t n → (b : Bool) → isLive (getD orders slot d) ≡ b → rows ≡ cond b n 0
+        by-test : j < 64 → (p : Plan) (l : List Letter) → Flagged t picks flags p l → Tabled p t n → (b : Bool) → isLive (getD orders slot d) ≡ b → rows ≡ cond b n 0
             → Receiver.At slot k
             ≡ cond b (catchLive (messageAt letters j) p l (record { slot = slot; order = getD orders slot d; ready = readyOf p (getD orders slot d) }) Receiver.Nothing) Receiver.Nothing
-        by-test p l x u true e r =
+        by-test few p l x u true e r =
             sym (sym (first-lines slot (getD orders slot d) (messageAt letters j) p l Receiver.Nothing)
-            ∙ (looking-found v g y z .same (getD orders slot d) p l (lends p l x) (tabled (isLive (getD orders slot d)) many e u)
+            ∙ (looking-found v g y z few .same (getD orders slot d) p l (lends p l x) (tabled (isLive (getD orders slot d)) many e u)
             ∙ line-stays slot (getD orders slot d) (messageAt letters j) p l (drop (k + 1) (linesOf p (getD orders slot d .marks))) slot k))
-        by-test p l x u false e r = absurd (omega arith)
+        by-test few p l x u false e r = absurd (omega arith)
 
-        here : Slots t n (Flagged t picks flags) (catchLive (messageAt letters j)) slot (getD orders slot d) Receiver.Nothing (Receiver.At slot k)
-        here = record { is = λ p l x u. by-test p l x u (isLive (getD orders slot d)) refl many }
+        here : j < 64 → Slots t n (Flagged t picks flags) (catchLive (messageAt letters j)) slot (getD orders slot d) Receiver.Nothing (Receiver.At slot k)
+        here few = record { is = λ p l x u. by-test few p l x u (isLive (getD orders slot d)) refl many }

@@ -1,4 +1,4 @@
--- The code's answers, by what the definitions say. Assumes nothing: these are definitions.
+-- The code's answers, by what the definitions say: of the 256 rows of a table, and of the 64 messages that may wait. Assumes nothing: these are definitions.
 use Prim.Native.Nat.{ℕ, zero, suc, _+_, _*_, _-_, _≤_, _<_}
 use mathlib.Core.Bool.{Bool, true, false, cond, not, _&&_, _||_}
 use mathlib.Core.List.{List, [], _∷_}
@@ -18,8 +18,9 @@ pub record Correlated (p : Plan) (flags : List ℕ) : Type 0 where
   pub known : (v : ℕ) → v < 16 → eqb (getD flags v 0) 1 ≡ among v (p .correlation)
   pub beyond : (v : ℕ) → 16 ≤ v → among v (p .correlation) ≡ false
 
--- row k of the table t names the partner a, the operation b and the variables vs
+-- row k of the table t, one of its 256, names the partner a, the operation b and the variables vs
 pub record Exchange (a b : ℕ) (vs : List ℕ) (k : ℕ) (t : List ℕ) : Type 0 where
+  pub inside : k < 256
   pub partner : getD t (k * 13 + 1) 0 ≡ a
   pub operation : getD t (k * 13 + 2) 0 ≡ b
   pub count : getD t (k * 13 + 3) 0 ≡ length vs
@@ -49,7 +50,7 @@ pub record KnowsOrder (flags : List ℕ) (o : Order) (r : List ℕ) : Type 0 whe
 
 -- r is what row k asks at its places
 pub record AsksRow (t known : List ℕ) (k : ℕ) (r : List ℕ) : Type 0 where
-  pub is : (i : ℕ) → i < 4 → getD r i 0 ≡ sixteenth known (getD t (k * 13 + 4 + i) 0)
+  pub is : k < 256 → (i : ℕ) → i < 4 → getD r i 0 ≡ sixteenth known (getD t (k * 13 + 4 + i) 0)
 
 -- `asked` is what is asked at the places of some variables
 pub record Asking (asked : List ℕ) (p : Plan) (o : Order) (vs : List ℕ) : Type 0 where
@@ -78,7 +79,7 @@ messageAt l j =
 -- r has the numbers of the messages that wait
 pub record Letters (messages : List Message) (waiting : ℕ) (r : List ℕ) : Type 0 where
   pub held : length messages ≡ 64
-  pub is : (j : ℕ) → j < waiting → getD messages j noMessage ≡ messageAt r j
+  pub is : waiting ≤ 64 → (j : ℕ) → j < waiting → getD messages j noMessage ≡ messageAt r j
 
 -- r says whether the values of the message at place j, of which there are `count`, are those that are asked
 pub record Agrees (asked letters : List ℕ) (j count : ℕ) (r : Bool) : Type 0 where
@@ -86,7 +87,7 @@ pub record Agrees (asked letters : List ℕ) (j count : ℕ) (r : Bool) : Type 0
 
 -- r says whether the message at place j fits the receive or arm in row k
 pub record FitsRow (t : List ℕ) (k : ℕ) (asked letters : List ℕ) (j : ℕ) (r : Bool) : Type 0 where
-  pub is : (p : Plan) (o : Order) (a b : ℕ) (vs : List ℕ) → Asking asked p o vs → Exchange a b vs k t → r ≡ fits p o a b vs (messageAt letters j)
+  pub is : j < 64 → (p : Plan) (o : Order) (a b : ℕ) (vs : List ℕ) → Asking asked p o vs → Exchange a b vs k t → r ≡ fits p o a b vs (messageAt letters j)
 
 -- r is 1 where any value will do and 0 where not
 pub record Costs (asked r : ℕ) : Type 0 where
@@ -121,7 +122,7 @@ pub record Picks (t picks : List ℕ) : Type 0 where
 
 -- r says whether the arm in row k is open
 pub record ArmsRow (t picks ms : List ℕ) (k : ℕ) (r : Bool) : Type 0 where
-  pub is : Picks t picks → getD t (k * 13) 0 ≡ 12 → r ≡ armsFrom t ms k k
+  pub is : k < 256 → Picks t picks → getD t (k * 13) 0 ≡ 12 → r ≡ armsFrom t ms k k
 
 -- whether a message fits what an activity or arm says of itself: a receive or an arm
 unfoldable pub fitsOwn : Plan → Order → Message → Own → Bool

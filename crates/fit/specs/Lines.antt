@@ -46,10 +46,11 @@ readyAt x = record { activity = x .activity; step = doingOf (x .own) (x .within)
 unfoldable pub readyLine : List ℕ → Line → List Ready
 readyLine ms x = cond (isReady ms x) (readyAt x ∷ []) []
 
--- row k of the table spells the line x
+-- row k of the table, one of its 256, spells the line x
 pub record Stands (t ms : List ℕ) (k : ℕ) (x : Line) : Type 0 where
   pub place : ℕ
   pub node : ℕ
+  pub inside : k < 256
   pub activity : x .activity ≡ k
   pub spelled : Spells (act (x .own) (x .within)) place k node t
   pub arms : x .arms ≡ armsFrom t ms k k

@@ -62,12 +62,12 @@ pub record OpensRow (t picks ms : List ℕ) (k : ℕ) (r : Bool) : Type 0 where
 
 -- r says whether it is one that the message at place j fits
 pub record TakesRow (t picks marks known : List ℕ) (k : ℕ) (letters : List ℕ) (j : ℕ) (r : Bool) : Type 0 where
-  pub is : (o : Order) (p : Plan) (l : List Letter) (x : Line) → Lent t picks marks known o p l → Stands t (o .marks) k x
+  pub is : j < 64 → (o : Order) (p : Plan) (l : List Letter) (x : Line) → Lent t picks marks known o p l → Stands t (o .marks) k x
       → r ≡ catches p o (messageAt letters j) (x .own) (x .arms) (x .activity)
 
 -- r is the first open receive that the message at place j fits
 pub record Receives (t flags picks : List ℕ) (orders : List Order) (activities : ℕ) (letters : List ℕ) (j : ℕ) (r : Receiver) : Type 0 where
-  pub is : (p : Plan) → Correlated p flags → Picks t picks → Tabled p t activities → r ≡ firstReceiver p (liveFrom p 0 orders) (messageAt letters j)
+  pub is : j < 64 → (p : Plan) → Correlated p flags → Picks t picks → Tabled p t activities → r ≡ firstReceiver p (liveFrom p 0 orders) (messageAt letters j)
 
 -- the fewest unchecked places of the open receives that a message fits
 pub record Least (t flags : List ℕ) (activities : ℕ) (orders : List Order) (m : Message) (r : ℕ) : Type 0 where
@@ -97,8 +97,9 @@ pub record LeastRows (t picks marks known : List ℕ) (activities : ℕ) (letter
 -- after the order in a slot
 pub record LeastSlot (t flags picks : List ℕ) (o : Order) (activities : ℕ) (letters : List ℕ) (waiting : ℕ) (c r : List ℕ) : Type 0 where
   pub long : length r ≡ length c
-  pub is : length c ≡ 64 → (j : ℕ) → j < waiting → (slot : ℕ) → Slots t activities (Flagged t picks flags) (leastLive (messageAt letters j)) slot o (getD c j 0) (getD r j 0)
+  pub is : waiting ≤ 64 → length c ≡ 64 → (j : ℕ) → j < waiting → (slot : ℕ) → Slots t activities (Flagged t picks flags) (leastLive (messageAt letters j)) slot o (getD c j 0) (getD r j 0)
 
 -- after all
 pub record Leasts (t flags picks : List ℕ) (orders : List Order) (activities : ℕ) (letters : List ℕ) (waiting : ℕ) (r : List ℕ) : Type 0 where
+  pub few : waiting ≤ 64
   pub is : (j : ℕ) → j < waiting → Picks t picks → Least t flags activities orders (messageAt letters j) (getD r j 0)

@@ -1,4 +1,5 @@
-// Whether a message fits a receive or an arm of the plan, and how many of its places are unchecked.
+// Whether a message fits a receive or an arm of the plan, and how many of its places are unchecked. A table has 256 rows, and 64 messages may wait: beyond them
+// nothing is read, and the answer says nothing.
 use order::Order;
 ghost use Prim.Native.Nat.{_+_, _≤_, _<_};
 ghost use lib.Dec.{eqb};
@@ -44,10 +45,12 @@ fn known_at(known: &[u64; 16], v: u32) -> u64
 
 // What is asked at the places of row k.
 pub fn asked_at(table: &[u32; 11584], known: &[u64; 16], k: usize) -> [u64; 4]
-    requires { ⌜ k < 256 ⌝ }
     ensures { λ r. ⌜ AsksRow (now (table .entry)) (now (known .entry)) k r ⌝ }
 {
     let mut out = [0u64; 4];
+    if 256 <= k {
+        return out;
+    }
     let mut i: usize = 0;
     while i < 4 {
         out[i] = known_at(known, table[k * 13 + 4 + i]);
@@ -90,9 +93,14 @@ pub fn fits_at(
     letters: &[u32; 448],
     j: usize,
 ) -> bool
-    requires { ⌜ (k < 256) × (j < 64) ⌝ }
     ensures { λ r. ⌜ FitsRow (now (table .entry)) k (now (asked .entry)) (now (letters .entry)) j r ⌝ }
 {
+    if 256 <= k {
+        return false;
+    }
+    if 64 <= j {
+        return false;
+    }
     if letters[j * 7] != table[k * 13 + 1] {
         return false;
     }
@@ -118,9 +126,11 @@ fn unchecked_place(asked: u64) -> usize
 
 // How many places of the receive or arm in row k are unchecked.
 pub fn unchecked_at(table: &[u32; 11584], k: usize, asked: &[u64; 4]) -> usize
-    requires { ⌜ k < 256 ⌝ }
     ensures { λ r. ⌜ UncheckedRow (now (table .entry)) k (now (asked .entry)) r ⌝ }
 {
+    if 256 <= k {
+        return 0;
+    }
     let count = table[k * 13 + 3];
     if 4 < count {
         return 0;

@@ -103,9 +103,14 @@ pub fn least_slot(
     waiting: usize,
     least: &mut [usize; 64],
 )
-    requires { ⌜ (activities ≤ 256) × (waiting ≤ 64) ⌝ }
     ensures { λ _. ⌜ LeastSlot (now (table .entry)) (now (flags .entry)) (now (picks .entry)) order activities (now (letters .entry)) waiting (now (least .entry)) (now (least .exit)) ⌝ }
 {
+    if 256 < activities {
+        return;
+    }
+    if 64 < waiting {
+        return;
+    }
     if order.root == 0 {
         return;
     }

@@ -1,6 +1,5 @@
 // The messages as plain numbers, seven for each, which can be lent.
 use machine::Message;
-ghost use Prim.Native.Nat.{_≤_};
 ghost use Rattle.fit.specs.Answering.{Numbers, Letters};
 
 // One of the seven numbers of a message: its partner, its operation, its count, its four values.
@@ -24,10 +23,12 @@ fn number_of(message: Message, i: usize) -> u32
 
 // The numbers of the messages that wait.
 pub fn letters_of(messages: [Message; 64], waiting: usize) -> [u32; 448]
-    requires { ⌜ waiting ≤ 64 ⌝ }
     ensures { λ r. ⌜ Letters messages waiting r ⌝ }
 {
     let mut out = [0u32; 448];
+    if 64 < waiting {
+        return out;
+    }
     let many = waiting * 7;
     let mut i: usize = 0;
     while i < many {

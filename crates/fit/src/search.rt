@@ -4,7 +4,7 @@ use super::fitness::asked_at;
 use super::fitness::fits_at;
 use super::fitness::known_of;
 use order::Order;
-ghost use Prim.Native.Nat.{_≤_, _<_};
+ghost use Prim.Native.Nat.{_<_};
 ghost use mathlib.Core.Bool.{cond};
 ghost use mathlib.Core.Path.{_≡_};
 ghost use Rattle.order.specs.State.{isLive};
@@ -57,9 +57,11 @@ pub fn picks_of(table: &[u32; 11584]) -> [usize; 256]
 
 // Whether the arm in row k is open: the row that it stands within is an active pick.
 pub fn arm_open(table: &[u32; 11584], picks: &[usize; 256], marks: &[u8; 256], k: usize) -> bool
-    requires { ⌜ k < 256 ⌝ }
     ensures { λ r. ⌜ ArmsRow (now (table .entry)) (now (picks .entry)) (now (marks .entry)) k r ⌝ }
 {
+    if 256 <= k {
+        return false;
+    }
     let j = picks[k];
     if j < 256 {
         return open_pick(table, marks, j);
@@ -97,9 +99,11 @@ pub fn takes_at(
     letters: &[u32; 448],
     j: usize,
 ) -> bool
-    requires { ⌜ (k < 256) × (j < 64) ⌝ }
     ensures { λ r. ⌜ TakesRow (now (table .entry)) (now (picks .entry)) (now (marks .entry)) (now (known .entry)) k (now (letters .entry)) j r ⌝ }
 {
+    if 256 <= k {
+        return false;
+    }
     if open_at(table, picks, marks, k) {
         let asked = asked_at(table, known, k);
         return fits_at(table, k, &asked, letters, j);
@@ -124,7 +128,6 @@ pub fn first_receiver(
     letters: &[u32; 448],
     j: usize,
 ) -> Receiver
-    requires { ⌜ (activities ≤ 256) × (j < 64) ⌝ }
     ensures { λ r. ⌜ Receives (now (table .entry)) (now (flags .entry)) (now (picks .entry)) orders activities (now (letters .entry)) j r ⌝ }
 {
     let mut found = Receiver::Nothing;

@@ -5,14 +5,11 @@ use mathlib.Core.List.{List, [], _∷_, _++_, map}
 use Prim.Native.Nat.{ℕ, zero, suc, _+_, _*_, _-_, _<_, _≤_}
 use native.Mathlib.Nat.{mul-suc}
 use native.Mathlib.Omega.{arith}
-use borrow.Author.Tests.{leb-true}
 use lib.Dec.{leb}
 use lib.ListN.{length, getD, take, length-append, length-map}
 use lib.Seq.{length-take-le}
-use Rattle.plan.specs.Spell.{spelling}
 use Rattle.plan.specs.Tree.{Plan, size}
-use Rattle.plan.specs.Within.{from1, ascending, actWithin, planWithin}
-use Rattle.plan.proofs.Accepts.{both}
+use Rattle.plan.specs.Within.{planWithin}
 use Rattle.machine.specs.declared.Message.{Message}
 use Rattle.order.specs.declared.Order.{Order}
 use Rattle.machine.specs.declared.State.{State}
@@ -23,7 +20,7 @@ use Rattle.machine.specs.Offer.{Offer, offering, Offers, allOf, unlessHeld, isC
 use Rattle.order.specs.State.{isLive}
 use Rattle.machine.specs.State.{letters}
 use Rattle.fit.specs.Lines.{Line, linesOf, isReady, readyAt, readyLine, Tabled}
-use Rattle.fit.proofs.Lines.{ready-lines, plan-long}
+use Rattle.fit.proofs.Lines.{ready-lines, size-short, plan-long}
 use Rattle.offer.proofs.Starting.{letters-long}
 
 only-short : {A : Type 0} (f : A → Bool) (l : List A) → length (only f l) ≤ length l
@@ -78,16 +75,6 @@ line-short ms x = by-test (isReady ms x)
     by-test : (b : Bool) → length (cond b (readyAt x ∷ []) []) ≤ 1
     by-test true = omega arith
     by-test false = omega arith
-
-pub size-short : (p : Plan) → planWithin p ≡ true → size (p .body) + size (p .fault) ≤ 256
-unfolding planWithin
-size-short p y =
-    both (leb (length (spelling p)) 4096) _ y
-    (λ y1 z1. both (from1 16 (p .variables)) _ z1
-    (λ y2 z2. both (ascending (p .variables) 0 (p .correlation)) _ z2
-    (λ y3 z3. both (actWithin (p .variables) (p .correlation) false false (p .body) 16) _ z3
-    (λ y4 z4. both (actWithin (p .variables) (p .correlation) true false (p .fault) 16) _ z4
-    (λ y5 z5. both (leb (size (p .body) + size (p .fault)) 256) _ z5 (λ y6 z6. leb-true (size (p .body) + size (p .fault)) 256 y6))))))
 
 module _ (p : Plan) (y : planWithin p ≡ true) where
   ready-short : (o : Order) → length (readyOf p o) ≤ 256

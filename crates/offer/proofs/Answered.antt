@@ -142,7 +142,7 @@ least-leb u (x ∷ l) c = least-leb u l (lesser x c) ∙ (ap (λ b. b && every (
 mailed : {messages : List Message} {letters : List ℕ} {waiting : ℕ} → Letters messages waiting letters → waiting ≤ 64 → Mailed letters waiting (take waiting messages)
 mailed {messages} {waiting = waiting} m few = record {
   long = length-take-le waiting messages (omega (arith, m .held));
-  is = λ j h. getD-take waiting messages j noMessage h ∙ m .is j h;
+  is = λ j h. getD-take waiting messages j noMessage h ∙ m .is few j h;
 }
 
 module _ {t flags picks : List ℕ} {orders : List Order} {n : ℕ} {letters : List ℕ} {waiting : ℕ} {least : List ℕ} (w : Leasts t flags picks orders n letters waiting least) where
@@ -150,6 +150,7 @@ module _ {t flags picks : List ℕ} {orders : List Order} {n : ℕ} {letters : L
       → Told (lettersFrom p (liveFrom p 0 orders) 0 ms) letters waiting least
   told p ms cor u q m =
       record {
+        few = w .few;
         long = letters-long p (liveFrom p 0 orders) 0 ms ∙ m .long;
         tells = λ j h.
             let z : 0 + j ≡ j = omega arith in

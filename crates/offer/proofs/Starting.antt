@@ -60,19 +60,19 @@ module _ {orders : List Order} {i : ℕ} (w : Freeing orders i) where
     freeing-again e = record { long = w .long; within = omega arith; same = free-step d h ∙ rw (ne-eqb (getD orders i d .root) 0 e) }
 
 -- `start_row`
-module _ {t picks marks known : List ℕ} (free : ℕ) {k : ℕ} {letters : List ℕ} {j : ℕ} (s : Sight) {b : Bool} (w : TakesRow t picks marks known k letters j b) where
+module _ {t picks marks known : List ℕ} (free : ℕ) {k : ℕ} {letters : List ℕ} {j : ℕ} (s : Sight) (few : j < 64) {b : Bool} (w : TakesRow t picks marks known k letters j b) where
   pub start-none : b ≡ false → Rows t k (Lent t picks marks known) (startLine free j (messageAt letters j)) s s
   unfolding startLine
-  start-none e = record { is = λ o p l x g y. rw (sym (w .is o p l x g y) ∙ e) }
+  start-none e = record { is = λ o p l x g y. rw (sym (w .is few o p l x g y) ∙ e) }
 
   module _ (e : b ≡ true) {r : Sight} where
     pub start-shown : free < 16 → r ≡ showing free k j s → Rows t k (Lent t picks marks known) (startLine free j (messageAt letters j)) s r
     unfolding startLine
-    start-shown h q = record { is = λ o p l x g y. q ∙ rw (sym (w .is o p l x g y) ∙ e, lt-ltb _ _ h, y .activity) }
+    start-shown h q = record { is = λ o p l x g y. q ∙ rw (sym (w .is few o p l x g y) ∙ e, lt-ltb _ _ h, y .activity) }
 
     pub start-held : 16 ≤ free → r ≡ withholding s → Rows t k (Lent t picks marks known) (startLine free j (messageAt letters j)) s r
     unfolding startLine
-    start-held h q = record { is = λ o p l x g y. q ∙ rw (sym (w .is o p l x g y) ∙ e, le-ltb _ _ h) }
+    start-held h q = record { is = λ o p l x g y. q ∙ rw (sym (w .is few o p l x g y) ∙ e, le-ltb _ _ h) }
 
 -- `could_start`: no row passed takes the message
 pub record Passing (t picks marks known : List ℕ) (n : ℕ) (letters : List ℕ) (j k : ℕ) : Type 0 where
@@ -85,8 +85,8 @@ pub could-take : (t picks marks known : List ℕ) (n : ℕ) (letters : List ℕ)
 could-take t picks marks known n letters j = record { not = λ e. absurd (false≢true (sym e)) }
 
 module _ {t picks marks known : List ℕ} {n : ℕ} {letters : List ℕ} {j k : ℕ} (w : Passing t picks marks known n letters j k) where
-  pub passing-again : k < n → {b : Bool} → TakesRow t picks marks known k letters j b → b ≡ false → Passing t picks marks known n letters j (k + 1)
-  passing-again h y e = record { none = λ free s. rowing-again (w .none free s) h (start-none free s y e) }
+  pub passing-again : k < n → j < 64 → {b : Bool} → TakesRow t picks marks known k letters j b → b ≡ false → Passing t picks marks known n letters j (k + 1)
+  passing-again h few y e = record { none = λ free s. rowing-again (w .none free s) h (start-none free s few y e) }
 
   pub passing-done : n ≤ k → Could t picks marks known n letters j false
   passing-done h = record { not = λ e free s. rowing-done (w .none free s) h }
@@ -166,10 +166,10 @@ start-whole : {t picks marks known : List ℕ} {n : ℕ} (free : ℕ) (letters :
 start-whole free letters j {s} g o p y lent q place message =
     g .is o p [] lent q ∙ rw (← message, ← place) (sym (start-lines free p [] o y s))
 
-fits-none : {t flags picks : List ℕ} {orders : List Order} {n : ℕ} {letters : List ℕ} {j : ℕ} {r : Receiver} → Receives t flags picks orders n letters j r
+fits-none : {t flags picks : List ℕ} {orders : List Order} {n : ℕ} {letters : List ℕ} {j : ℕ} {r : Receiver} → j < 64 → Receives t flags picks orders n letters j r
     → (p : Plan) → Correlated p flags → Picks t picks → Tabled p t n → isNothing r ≡ empties (fittings p (liveFrom p 0 orders) (messageAt letters j))
-fits-none {orders = orders} {letters = letters} {j} w p cor v y =
-    ap isNothing (w .is p cor v y) ∙ first-exactly p (liveFrom p 0 orders) (messageAt letters j)
+fits-none {orders = orders} {letters = letters} {j} few w p cor v y =
+    ap isNothing (w .is few p cor v y) ∙ first-exactly p (liveFrom p 0 orders) (messageAt letters j)
 
 pub start-unlike : {t picks marks known : List ℕ} (flags : List ℕ) (orders : List Order) {n : ℕ} (free : ℕ) {letters : List ℕ} {j : ℕ} (s : Sight) {b : Bool}
     → Could t picks marks known n letters j b → b ≡ false → StartsLetter t flags picks orders marks known free n letters j s s
@@ -185,13 +185,13 @@ start-unlike flags orders free s w e = record {
     by-test o p y true u = sym u
     by-test o p y false u = refl
 
-module _ {t flags picks : List ℕ} {orders : List Order} {n : ℕ} {letters : List ℕ} {j : ℕ} {r : Receiver} (w : Receives t flags picks orders n letters j r) where
+module _ {t flags picks : List ℕ} {orders : List Order} {n : ℕ} {letters : List ℕ} {j : ℕ} {r : Receiver} (few : j < 64) (w : Receives t flags picks orders n letters j r) where
   pub start-not : (marks known : List ℕ) (free : ℕ) (s : Sight) (i k : ℕ) → r ≡ Receiver.At i k
       → StartsLetter t flags picks orders marks known free n letters j s s
   unfolding isNothing folded
   start-not marks known free s i k e = record {
     is = λ o p y cor lent q place message fitted.
-        let z : empties (y .fitted) ≡ false = ap empties fitted ∙ (sym (fits-none w p cor (lent .picked) q) ∙ rw e) in
+        let z : empties (y .fitted) ≡ false = ap empties fitted ∙ (sym (fits-none few w p cor (lent .picked) q) ∙ rw e) in
         sym (starts-empty free o s p y ∙ rw z);
   }
 
@@ -201,7 +201,7 @@ module _ {t flags picks : List ℕ} {orders : List Order} {n : ℕ} {letters : L
   unfolding isNothing
   start-may free {s} e g = record {
     is = λ o p y cor lent q place message fitted.
-        let z : empties (y .fitted) ≡ true = ap empties fitted ∙ (sym (fits-none w p cor (lent .picked) q) ∙ rw e) in
+        let z : empties (y .fitted) ≡ true = ap empties fitted ∙ (sym (fits-none few w p cor (lent .picked) q) ∙ rw e) in
         start-whole free letters j g o p y lent q place message ∙ sym (starts-empty free o s p y ∙ rw z);
   }
 

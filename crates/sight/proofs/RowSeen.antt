@@ -18,7 +18,7 @@ use Rattle.order.specs.Scope.{Scope, scopeAt}
 use Rattle.sight.specs.declared.Sight.{Sight}
 use Rattle.fit.specs.Folds.{folded}
 use Rattle.fit.specs.Answering.{Picks}
-use Rattle.fit.specs.Lines.{Line, isReady, Stands, Rows}
+use Rattle.fit.specs.Lines.{Line, isReady, Stands, Rows, Wholes}
 use Rattle.sight.specs.Sights.{pointed, seen, showing, withholding, Heeding, Serving, Opening, doingBy, AwaitsRow, CutRow, BoundRow, ClosesRow, takeLetter, takeLine, doingLine, offerLine}
 use Rattle.fit.proofs.Lines.{fold-only}
 use Rattle.fit.proofs.SearchReturns.{stands-kind, stands-exchange}
@@ -214,3 +214,8 @@ module _ {t picks marks : List ℕ} (known bound remembered : List ℕ) (kept i 
       offer-aside q = record {
         is = λ o p l x g y. rw (ready-says o x (g .picked) (g .marked) y ∙ e, z, sym (v .is (o .marks) x y) ∙ q);
       }
+
+-- `offer_rows`: of more than 64 messages nothing is known
+pub offer-full : (t picks marks known bound remembered : List ℕ) (kept i n : ℕ) (cutting : Bool) (letters : List ℕ) {wait : ℕ} (least : List ℕ) (s : Sight) → 64 < wait
+    → Wholes t n (Opening t picks marks known bound remembered kept letters wait least) (offerLine cutting wait i) s s
+offer-full t picks marks known bound remembered kept i n cutting letters least s h = record { is = λ o p l g q. absurd (omega (arith, g .serving .heeding .told .few)) }

@@ -31,7 +31,7 @@ use Rattle.fit.proofs.SearchReturns.{stands-kind, stands-exchange, and-false}
 module _ (t picks ms : List ℕ) (k : ℕ) where
   pub awaits-arm : {b : Bool} → getD t (k * 13) 0 ≡ 12 → ArmsRow t picks ms k b → AwaitsRow t picks ms k b
   unfolding awaits
-  awaits-arm z q = record { is = λ x w y. rw (sym (stands-kind y) ∙ z) (q .is w z ∙ sym (y .arms)) }
+  awaits-arm z q = record { is = λ x w y. rw (sym (stands-kind y) ∙ z) (q .is (y .inside) w z ∙ sym (y .arms)) }
 
   pub awaits-scope : getD t (k * 13) 0 ≡ 11 → AwaitsRow t picks ms k (eqb (getD ms k 0) 3)
   unfolding awaits
@@ -193,19 +193,19 @@ module _ (t : List ℕ) (i k : ℕ) (asked : List ℕ) (u : ℕ) (letters : List
     is = λ o p x y g a z v. rw (may-take o p x y g a z v, lt-leb _ _ h, ← and-false (fits p o (getD t (k * 13 + 1) 0) (getD t (k * 13 + 2) 0) (variablesOf (x .own)) (messageAt letters j)));
   }
 
-  module _ (h : u ≤ least) {b : Bool} (w : FitsRow t k asked letters j b) where
+  module _ (h : u ≤ least) (few : j < 64) {b : Bool} (w : FitsRow t k asked letters j b) where
     pub take-unfit : b ≡ false → TakesLetter t i k asked u letters j least s s
     unfolding takeLetter
     take-unfit e = record {
       is = λ o p x y g a z v.
-          rw (may-take o p x y g a z v, sym (w .is p o _ _ (variablesOf (x .own)) a (stands-exchange z)) ∙ e);
+          rw (may-take o p x y g a z v, sym (w .is few p o _ _ (variablesOf (x .own)) a (stands-exchange z)) ∙ e);
     }
 
     pub take-least : {r : Sight} → b ≡ true → r ≡ showing i k j s → TakesLetter t i k asked u letters j least s r
     unfolding takeLetter
     take-least e q = record {
       is = λ o p x y g a z v.
-          q ∙ rw (may-take o p x y g a z v, sym (w .is p o _ _ (variablesOf (x .own)) a (stands-exchange z)) ∙ e, le-leb _ _ h, z .activity, v .place);
+          q ∙ rw (may-take o p x y g a z v, sym (w .is few p o _ _ (variablesOf (x .own)) a (stands-exchange z)) ∙ e, le-leb _ _ h, z .activity, v .place);
     }
 
 -- `take_row`

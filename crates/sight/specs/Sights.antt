@@ -70,8 +70,9 @@ pub record Tells (x : Letter) (j : ℕ) (m : Message) (least : ℕ) : Type 0 whe
 abbrev pub noLetter : Letter
 noLetter = record { place = 0; message = noMessage; fitted = [] }
 
--- the letters are the messages that wait
+-- the letters are the messages that wait, of which there are at most 64
 pub record Told (l : List Letter) (letters : List ℕ) (waiting : ℕ) (least : List ℕ) : Type 0 where
+  pub few : waiting ≤ 64
   pub long : length l ≡ waiting
   pub tells : (j : ℕ) → j < waiting → Tells (getD l j noLetter) j (messageAt letters j) (getD least j 0)
 

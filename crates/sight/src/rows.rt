@@ -58,9 +58,11 @@ fn cut_row(table: &[u32; 11584], marks: &[u8; 256], k: usize, before: bool) -> b
 
 // Whether an order has an active raise or leave.
 pub fn cut_rows(table: &[u32; 11584], marks: &[u8; 256], activities: usize) -> bool
-    requires { ⌜ activities ≤ 256 ⌝ }
     ensures { λ r. ⌜ Wholes (now (table .entry)) activities (Marked (now (marks .entry))) cutLine false r ⌝ }
 {
+    if 256 < activities {
+        return false;
+    }
     let mut c = false;
     let mut k: usize = 0;
     while k < activities {
@@ -321,9 +323,14 @@ pub fn offer_rows(
     least: &[usize; 64],
     s: Sight,
 ) -> Sight
-    requires { ⌜ (activities ≤ 256) × (waiting ≤ 64) ⌝ }
     ensures { λ r. ⌜ Wholes (now (table .entry)) activities (Opening (now (table .entry)) (now (picks .entry)) (now (marks .entry)) (now (known .entry)) (now (bound .entry)) (now (remembered .entry)) kept (now (letters .entry)) waiting (now (least .entry))) (offerLine cutting waiting slot) s r ⌝ }
 {
+    if 256 < activities {
+        return s;
+    }
+    if 64 < waiting {
+        return s;
+    }
     let mut c = s;
     let mut k: usize = 0;
     while k < activities {

@@ -2,11 +2,11 @@
 use borrow.Author.Needs.{needs}
 use Prim.Native.Nat.{_-_}
 use Rattle.fit.proofs.Filled.{Filling, filling-starts}
-use Rattle.fit.proofs.FitReturns.{Asked, asking-again, asking-done}
+use Rattle.fit.proofs.FitReturns.{Asked, asking-beyond, asking-again, asking-done}
 use Rattle.fit.proofs.fitness.asked_at.Statement.{statement}
 use Rattle.fit.proofs.fitness.asked_at.Tie as tie
 
-ruleset cases = (asking-again, asking-done)
+ruleset cases = (asking-beyond, asking-again, asking-done)
 
 abbrev Inv-loop : tie.InvT-loop
 Inv-loop table known k out₀ i₀ out i = Filling (Asked table known k) 4 out i
@@ -17,6 +17,8 @@ abbrev μ-loop : tie.MeasureT-loop
 pub asked-at-spec : {M : Type 1} → statement M
 asked-at-spec =
     tie.close (tie.spec Inv-loop μ-loop
+    -- returns
+    (λ c. search cases)
     -- loop-holds
     (λ c. filling-starts _ _ _ (search needs))
     -- mul-known-at
@@ -41,5 +43,5 @@ asked-at-spec =
     (λ c. search needs)
     -- loop-again
     (λ c. search cases)
-    -- returns
+    -- returns-2
     (λ c. search cases))

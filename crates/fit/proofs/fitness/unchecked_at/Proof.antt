@@ -3,11 +3,11 @@ use borrow.Author.Needs.{needs}
 use Prim.Native.Nat.{_-_}
 use Prim.Native.Nat.{_+_, _*_}
 use lib.ListN.{getD}
-use Rattle.fit.proofs.FitReturns.{Counting, counting-fits, unchecked-many, counting-starts, counting-done, counting-again}
+use Rattle.fit.proofs.FitReturns.{Counting, counting-fits, unchecked-beyond, unchecked-many, counting-starts, counting-done, counting-again}
 use Rattle.fit.proofs.fitness.unchecked_at.Statement.{statement}
 use Rattle.fit.proofs.fitness.unchecked_at.Tie as tie
 
-ruleset cases = (unchecked-many, counting-starts, counting-done, counting-again)
+ruleset cases = (unchecked-beyond, unchecked-many, counting-starts, counting-done, counting-again)
 
 ruleset room = (counting-fits)
 
@@ -20,6 +20,8 @@ abbrev μ-loop : tie.MeasureT-loop
 pub unchecked-at-spec : {M : Type 1} → statement M
 unchecked-at-spec =
     tie.close (tie.spec Inv-loop μ-loop
+    -- returns
+    (λ c. search cases)
     -- mul-count
     (λ c. search needs)
     -- add-count
@@ -28,7 +30,7 @@ unchecked-at-spec =
     (λ c. search needs)
     -- element-copy-out-count
     (λ c. search needs)
-    -- returns
+    -- returns-2
     (λ c. search cases)
     -- cast-many
     (λ c. search needs)
@@ -48,5 +50,5 @@ unchecked-at-spec =
     (λ c. search needs)
     -- loop-again
     (λ c. search cases)
-    -- returns-2
+    -- returns-3
     (λ c. search cases))

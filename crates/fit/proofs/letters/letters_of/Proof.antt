@@ -2,7 +2,7 @@
 use borrow.Author.Needs.{needs}
 use Prim.Native.Nat.{_*_, _-_}
 use Rattle.fit.proofs.Filled.{Filling, filling-starts}
-use Rattle.fit.proofs.FitReturns.{Numbered, writing-again, writing-done}
+use Rattle.fit.proofs.FitReturns.{Numbered, writing-full, writing-again, writing-done}
 use Rattle.fit.proofs.letters.letters_of.Statement.{statement}
 use Rattle.fit.proofs.letters.letters_of.Tie as tie
 
@@ -15,6 +15,8 @@ abbrev μ-loop : tie.MeasureT-loop
 pub letters-of-spec : {M : Type 1} → statement M
 letters-of-spec =
     tie.close (tie.spec Inv-loop μ-loop
+    -- returns
+    (λ c. search (writing-full, needs))
     -- mul-many
     (λ c. search needs)
     -- loop-holds
@@ -35,5 +37,5 @@ letters-of-spec =
     (λ c. search needs)
     -- loop-again
     (λ c. search (writing-again, needs))
-    -- returns
+    -- returns-2
     (λ c. search (writing-done, needs)))

@@ -1,14 +1,11 @@
 -- `fit::search::first_receiver` meets its contract. Assumes nothing.
 use borrow.Author.Needs.{needs}
 use Prim.Native.Nat.{_-_}
-use Rattle.fit.proofs.SearchReturns.{rows-below}
 use Rattle.fit.proofs.Searched.{Looking, Searching, searching-starts, looking-starts, looking-again, searching-again, searching-done, searching-found}
 use Rattle.fit.proofs.search.first_receiver.Statement.{statement}
 use Rattle.fit.proofs.search.first_receiver.Tie as tie
 
 ruleset cases = (looking-starts, looking-again, searching-again, searching-done, searching-found)
-
-ruleset room = (rows-below)
 
 abbrev Inv-loop : tie.InvT-loop
 Inv-loop table flags picks activities letters j orders found₀ slot rows marks known k₀ found k = Looking table picks marks known slot rows letters j found k
@@ -38,7 +35,7 @@ first-receiver-spec =
     -- loop-holds
     (λ c. search cases)
     -- takes-at-requires
-    (λ c κs. (search room, search needs))
+    (λ c κs. search needs)
     -- add-k
     (λ c. search needs)
     -- loop-less

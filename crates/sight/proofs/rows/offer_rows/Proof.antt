@@ -2,11 +2,12 @@
 use borrow.Author.Needs.{needs}
 use Prim.Native.Nat.{_-_}
 use Rattle.sight.specs.Sights.{Opening, offerLine}
-use Rattle.fit.proofs.Lines.{Rowing, rowing-starts, rowing-again, rowing-done}
+use Rattle.fit.proofs.Lines.{wholes-beyond, Rowing, rowing-starts, rowing-again, rowing-done}
+use Rattle.sight.proofs.RowSeen.{offer-full}
 use Rattle.sight.proofs.rows.offer_rows.Statement.{statement}
 use Rattle.sight.proofs.rows.offer_rows.Tie as tie
 
-ruleset cases = (rowing-starts, rowing-again, rowing-done)
+ruleset cases = (wholes-beyond, offer-full, rowing-starts, rowing-again, rowing-done)
 
 abbrev Inv-loop : tie.InvT-loop
 Inv-loop table picks marks known bound remembered kept slot activities cutting letters waiting least c₀ k₀ c k = Rowing table activities (Opening table picks marks known bound remembered kept letters waiting least) (offerLine cutting waiting slot) c₀ k c
@@ -17,6 +18,10 @@ abbrev μ-loop : tie.MeasureT-loop
 pub offer-rows-spec : {M : Type 1} → statement M
 offer-rows-spec =
     tie.close (tie.spec Inv-loop μ-loop
+    -- returns
+    (λ c. search cases)
+    -- returns-2
+    (λ c. search cases)
     -- loop-holds
     (λ c. search cases)
     -- offer-row-requires
@@ -27,5 +32,5 @@ offer-rows-spec =
     (λ c. search needs)
     -- loop-again
     (λ c. search cases)
-    -- returns
+    -- returns-3
     (λ c. search cases))
