@@ -2,7 +2,7 @@
 use mathlib.Core.Path.{_≡_, refl, sym, ap, _∙_}
 use mathlib.Core.Bool.{Bool, true, false, cond, true≢false, _&&_, _||_}
 use mathlib.Core.List.{List, [], _∷_}
-use Prim.Native.Nat.{ℕ, _+_, _<_, _≤_}
+use Prim.Native.Nat.{ℕ, zero, suc, _+_, _<_, _≤_}
 use native.Mathlib.Nat.{add-zero}
 use native.Mathlib.Omega.{arith}
 use borrow.Author.Tests.{ltb-false, leb-false, eqb-false, lt-ltb, le-ltb, le-leb, lt-leb, eq-eqb, ne-eqb}
@@ -292,6 +292,13 @@ module _ (vars : ℕ) (once : Bool) (s : List ℕ) (k partner within at place n 
         (then-found (fieldIn s 0 64 at) _ (field-got _ e o) ∙ then-found (tupleIn vars once s next) _ (y .is))
         (rw (← y .many, ← y .stored) w)
 
+-- a code below 3 that is not 0 is that of a send or a receive
+pub message-kind : (k : ℕ) → (k ≡ 0 → ⊥) → k < 3 → IsMessage k
+message-kind zero i l = absurd (i refl)
+message-kind (suc zero) i l = sends
+message-kind (suc (suc zero)) i l = receives
+message-kind (suc (suc (suc k))) i l = absurd (omega arith)
+
 -- `parts_own`: the table of codes
 module _ (vars : ℕ) (cs s : List ℕ) (k at place n m : ℕ) (t u : List ℕ) {r : code.Own} where
   pub parts-empty : k ≡ 0 → r ≡ code.Own.Read 0 0 at m → u ≡ putRow n (row 0 0 0 [] 0 0 place) t → OwnRead (partsIn vars cs s k at) place n m r t u
@@ -306,19 +313,25 @@ module _ (vars : ℕ) (cs s : List ℕ) (k at place n m : ℕ) (t u : List ℕ) 
   unfolding partsIn kind ownNodes putOwnNodes rowOf
   parts-leave h i w = rw (h, i) (own-row _ place n m t u leave refl refl refl refl w)
 
-  pub parts-scope : (k ≡ 0 → ⊥) → (k ≡ 1 → ⊥) → (k ≡ 2 → ⊥) → (k ≡ 3 → ⊥) → (k ≡ 4 → ⊥) → (k ≡ 5 → ⊥) → (k ≡ 6 → ⊥) → (k ≡ 7 → ⊥) → (k ≡ 8 → ⊥) → (k ≡ 9 → ⊥) → (k ≡ 10 → ⊥)
+  pub parts-scope : (k ≡ 0 → ⊥) → 3 ≤ k → (k ≡ 3 → ⊥) → (k ≡ 4 → ⊥) → (k ≡ 5 → ⊥) → (k ≡ 6 → ⊥) → (k ≡ 7 → ⊥) → (k ≡ 8 → ⊥) → (k ≡ 9 → ⊥) → (k ≡ 10 → ⊥)
       → r ≡ code.Own.Read 11 3 at m → u ≡ putRow n (row 11 0 0 [] 0 0 place) t → OwnRead (partsIn vars cs s k at) place n m r t u
   unfolding partsIn kind ownNodes putOwnNodes rowOf
-  parts-scope n0 n1 n2 n3 n4 n5 n6 n7 n8 n9 n10 i w =
+  parts-scope n0 l n3 n4 n5 n6 n7 n8 n9 n10 i w =
+      let n1 : k ≡ 1 → ⊥ = λ e. omega (arith, l, e) in
+      let n2 : k ≡ 2 → ⊥ = λ e. omega (arith, l, e) in
       rw i (simp (ne-eqb _ _ n0, ne-eqb _ _ n1, ne-eqb _ _ n2, ne-eqb _ _ n3, ne-eqb _ _ n4, ne-eqb _ _ n5, ne-eqb _ _ n6, ne-eqb _ _ n7, ne-eqb _ _ n8, ne-eqb _ _ n9, ne-eqb _ _ n10) (own-row _ place n m t u scope refl refl refl refl w))
 
-  pub parts-send : k ≡ 1 → OwnRead (partnerIn vars false s (messageOwn 1) at) place n m r t u → OwnRead (partsIn vars cs s k at) place n m r t u
+  pub parts-message : (k ≡ 0 → ⊥) → k < 3 → OwnRead (partnerIn vars (eqb k 2) s (messageOwn k) at) place n m r t u
+      → OwnRead (partsIn vars cs s k at) place n m r t u
   unfolding partsIn messageOwn
-  parts-send h a = rw h a
-
-  pub parts-receive : k ≡ 2 → OwnRead (partnerIn vars true s (messageOwn 2) at) place n m r t u → OwnRead (partsIn vars cs s k at) place n m r t u
-  unfolding partsIn messageOwn
-  parts-receive h a = rw h a
+  parts-message = go k
+    where
+      go : (j : ℕ) → (j ≡ 0 → ⊥) → j < 3 → OwnRead (partnerIn vars (eqb j 2) s (messageOwn j) at) place n m r t u
+          → OwnRead (partsIn vars cs s j at) place n m r t u
+      go zero i l a = absurd (i refl)
+      go (suc zero) i l a = a
+      go (suc (suc zero)) i l a = a
+      go (suc (suc (suc j))) i l a = absurd (omega arith)
 
   pub parts-set : k ≡ 3 → OwnRead (setIn vars cs s at) place n m r t u → OwnRead (partsIn vars cs s k at) place n m r t u
   unfolding partsIn

@@ -296,8 +296,7 @@ fn parts_own(
 {
     match code {
         0 => plain_own(at, 0, 0, n, m, place, table),
-        1 => partner_own(s, at, 1, false, vars, n, m, place, table),
-        2 => partner_own(s, at, 2, true, vars, n, m, place, table),
+        1 | 2 => partner_own(s, at, code, code == 2, vars, n, m, place, table),
         3 => set_own(s, at, vars, correlation, n, m, place, table),
         4 => plain_own(at, 4, 0, n, m, place, table),
         5 => plain_own(at, 5, 0, n, m, place, table),
