@@ -1,4 +1,3 @@
-pub mod StepReturns
 mod ChildReturns
 mod CombineReturns
 mod RootReturns

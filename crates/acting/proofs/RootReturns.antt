@@ -6,26 +6,23 @@ use Prim.Native.Nat.{ℕ, _+_, _-_, _<_, _≤_}
 use native.Mathlib.Omega.{arith}
 use borrow.Author.Tests.{eq-eqb, ne-eqb, lt-ltb, le-ltb, ltb-false}
 use lib.Dec.{eqb, ltb}
-use lib.ListN.{replicate}
 use Rattle.plan.specs.Tree.{Act, act, Acts, none, more, Plan, size, sizes}
 use Rattle.order.specs.declared.End.{End}
 use Rattle.order.specs.declared.End.the-variants.{None, Well, Handled, Failed, Left}
-use Rattle.order.specs.declared.Entered.{Entered}
 use Rattle.order.specs.declared.Next.{Next}
 use Rattle.order.specs.declared.Order.{Order}
 use Rattle.order.specs.declared.Spot.{Spot}
 use Rattle.order.specs.declared.Way.{Way}
 use Rattle.order.specs.declared.Way.the-variants.{Running, Over, Raising, Leaving, Undone, UndoRaising}
 use Rattle.order.specs.declared.Went.{Went}
-use Rattle.order.specs.Acting.{stepIn, stepRoot, endOf, movedTo, stepOrder, begunOrder, startedOrder}
-use Rattle.order.specs.Answering.{went, outcome, entered, nextOf, endedOf, Begins, Makes, StepsIn, RootSpot, StepsOrder, StartsOrder}
-use Rattle.order.specs.Begin.{begin}
+use Rattle.order.specs.Acting.{stepIn, stepRoot, endOf, movedTo, stepOrder}
+use Rattle.order.specs.Answering.{went, outcome, nextOf, endedOf, Makes, StepsIn, RootSpot, StepsOrder}
 use Rattle.order.specs.Event.{Event}
 use Rattle.order.specs.Room.{hasRoom, roomIn, roomAmong, roomPlan}
 use Rattle.order.specs.Scope.{Scope, Outcome, rootOf, fromBody, fromFault}
 use Rattle.order.specs.Stands as standing
 use Rattle.order.specs.Stands.{PlanStands}
-use Rattle.order.specs.State.{closings, noOrder, withMarks, withRoot}
+use Rattle.order.specs.State.{closings, noOrder}
 use Rattle.order.proofs.Deciding.{yes, no}
 use Rattle.acting.proofs.CombineReturns.{body-same, fault-same}
 use Rattle.order.proofs.PlanStands.{plan-stands}
@@ -170,23 +167,6 @@ module _ (t : List ℕ) (activities x : ℕ) (o : Order) {z : Spot} (y : RootSpo
         (rw f at c) ∙ sym (moved-same (stepRoot q x o));
   }
 
--- `started_order`
-pub started-is : {t : List ℕ} {e : Order} → e ≡ noOrder → {b : Entered} → Begins t 0 (e .marks) b → {p : Order} → p ≡ withMarks (b .marks) e
-    → StartsOrder t (withRoot 1 p)
-unfolding startedOrder begunOrder
-started-is {t} {e} i {b} x {p} y = record {
-  is = λ q n s.
-      let w = plan-stands s in
-      let d : b ≡ entered (begin (q .body) 0 (noOrder .marks)) = rw i at (x .is (q .body) (w .body)) in
-      rw (y, d, i);
-}
-
--- `no_order`, `ended`
-pub no-order-is : _≡_ {A = Order}
-    (record { root = 0; marks = replicate 256 0; values = replicate 16 0; bound = replicate 16 0; remembered = replicate 32 0; kept = 0 })
-    noOrder
-unfolding noOrder
-no-order-is = refl
-
+-- `ended`
 pub ended-is : (e : End) {o : Order} → o ≡ noOrder → _≡_ {A = Next} (record { end = e; order = o }) (endedOf e)
 ended-is e i = rw i

@@ -22,7 +22,7 @@ use Rattle.order.proofs.Deciding.{no}
 use Rattle.order.proofs.Owns.{of-kind}
 use Rattle.order.proofs.PlanStands.{plan-stands, plan-size, plan-at}
 use Rattle.order.proofs.Standing.{size-pos, stands-inside, row-kind}
-use Rattle.acting.proofs.StepReturns.{line-names, names-count}
+use Rattle.activity.proofs.StepReturns.{line-names, names-count}
 
 -- `bind_row`
 bind-next : (v : ℕ) (l ys zs : List ℕ) (x : ℕ) (o p : Order) → drop 1 ys ≡ zs → getD ys 0 0 ≡ x → p ≡ binding v x o → bindAll (v ∷ l) ys o ≡ bindAll l zs p

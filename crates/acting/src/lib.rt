@@ -1,20 +1,14 @@
-// One order: what a step in it leads to, how it starts, and what it takes.
+// One order: what a step in it leads to, and what it takes.
 mod acting;
 mod outcomes;
 mod root;
-mod steps;
 mod taking;
 
 use order::Next;
 use order::Order;
 use order::kind;
-use order::mark;
-use order::marks::with_marks;
-use order::rows::count_of;
 use order::rows::kind_of;
-use order::rows::variable_of;
-use scopes::beginning::begin;
-ghost use Rattle.order.specs.Answering.{StepsOrder, StartsOrder, TakesOrder, AllBound};
+ghost use Rattle.order.specs.Answering.{StepsOrder, TakesOrder};
 
 // The calls below answer what the definitions say of the plan that the table spells. On a table that spells no plan they are safe and end, and
 // nothing more is said of their answers (docs/DECISIONS.md).
@@ -34,19 +28,6 @@ pub fn step_order(table: &[u32; 11584], activities: usize, order: Order, t: usiz
     let r = acting::step_in(table, fault, t, order);
     let p = outcomes::from_fault(table, s, r);
     root::moved_to(p)
-}
-
-// An order as it starts: its body begun.
-pub fn started_order(table: &[u32; 11584]) -> Order
-    ensures { λ r. ⌜ StartsOrder (now (table .entry)) r ⌝ }
-{
-    let o = root::no_order();
-    let m = o.marks;
-    let r = begin(table, 0, m);
-    let n = r.marks;
-    let mut p = with_marks(n, o);
-    p.root = mark::ACTIVE;
-    p
 }
 
 // The order that takes a message with these values by activity t: the variables of a receive or an arm are bound. Its step comes after.
@@ -73,23 +54,4 @@ pub fn taken_order(
         return taking::bind_row(table, t, values, order);
     }
     order
-}
-
-// Whether all variables that row k names are bound; false where there is no row k.
-pub fn all_bound(table: &[u32; 11584], k: usize, order: Order) -> bool
-    ensures { λ r. ⌜ AllBound (now (table .entry)) k order r ⌝ }
-{
-    if 256 <= k {
-        return false;
-    }
-    let n = count_of(table, k);
-    let mut i: usize = 0;
-    while i < n {
-        if steps::is_bound(order, variable_of(table, k, i)) {
-            i += 1;
-        } else {
-            return false;
-        }
-    }
-    true
 }

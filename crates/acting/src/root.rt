@@ -1,4 +1,5 @@
 // The root as a scope, and how an order stands after a step.
+use beginning::no_order;
 use order::End;
 use order::Next;
 use order::Order;
@@ -11,21 +12,6 @@ ghost use Prim.Native.Nat.{_≤_, _<_};
 ghost use mathlib.Core.Path.{_≡_};
 ghost use Rattle.order.specs.Acting.{endOf, movedTo};
 ghost use Rattle.order.specs.Answering.{outcome, nextOf, endedOf, RootSpot};
-ghost use Rattle.order.specs.State.{noOrder};
-
-// No order.
-pub(crate) fn no_order() -> Order
-    ensures { λ r. ⌜ r ≡ noOrder ⌝ }
-{
-    Order {
-        root: mark::IDLE,
-        marks: [mark::IDLE; 256],
-        values: [0u32; 16],
-        bound: [0u8; 16],
-        remembered: [0u8; 32],
-        kept: 0,
-    }
-}
 
 // An order that ended so: its slot is free.
 fn ended(end: End) -> Next

@@ -1,5 +1,5 @@
 // What a take binds.
-use super::steps::binding;
+use activity::binding;
 use order::Order;
 use order::rows::count_of;
 use order::rows::variable_of;

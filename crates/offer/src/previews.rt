@@ -2,7 +2,7 @@
 use super::Amount;
 use super::slots::offer_slot;
 use super::slots::starts;
-use acting::started_order;
+use beginning::started_order;
 use fit::least::least_slot;
 use fit::letters::letters_of;
 use fit::search::picks_of;

@@ -1,6 +1,7 @@
 pub mod Whole
 pub mod Standing
 pub mod Deciding
+mod RowReturns
 mod MarkReturns
 mod InsideReturns
 pub mod MemoryReturns

@@ -1,4 +1,3 @@
-mod BeginReturns
 mod UndoReturns
 mod ScopeReturns
 mod StopReturns

@@ -2,20 +2,17 @@
 use mathlib.Core.Path.{_≡_, sym, ap, _∙_}
 use mathlib.Core.Bool.{Bool, true, false}
 use mathlib.Core.List.{List}
-use Prim.Native.Nat.{ℕ, _+_, _-_, _≤_}
-use native.Mathlib.Omega.{arith}
-use Rattle.plan.specs.Tree.{Act, none, more, size, sizes}
+use Prim.Native.Nat.{ℕ}
+use Rattle.plan.specs.Tree.{Act}
 use Rattle.order.specs.declared.Entered.{Entered}
 use Rattle.order.specs.declared.Order.{Order}
 use Rattle.order.specs.declared.Spot.{Spot}
 use Rattle.order.specs.declared.Way.the-variants.{Over}
 use Rattle.order.specs.declared.Went.{Went}
-use Rattle.order.specs.Answering.{runsOf, went, isOver, begunOf, Begins, RunsInside, nameOf, scopeOf, Held, UndoesList, endsOf, Handles, Undoes, Turns, scopeAct, SpotAt}
-use Rattle.order.specs.Begin.{begin, part, partAt}
+use Rattle.order.specs.Answering.{runsOf, went, isOver, begunOf, Begins, RunsInside, nameOf, scopeOf, Held, UndoesList, endsOf, Handles, Undoes, Turns}
+use Rattle.order.specs.Begin.{begin}
 use Rattle.order.specs.Scope.{begunIn, whereOver, ends, rememberedFor, undo, handle, undoes, turns, innerRuns}
-use Rattle.order.specs.Stands.{End, Stands}
 use Rattle.order.specs.State.{marking}
-use Rattle.order.proofs.Standing.{size-pos, stands-end, stands-inside}
 use Rattle.order.proofs.Deciding.{yes, no, goes-on, stays}
 
 -- `handle`
@@ -91,26 +88,6 @@ module _ (t : List ℕ) (b : Bool) (z : Spot) (o : Order) {v : Bool} (x : RunsIn
         u .is c f k
         ∙ sym (ap went (no (innerRuns c (z .body) (o .marks)) _ (undoes b (scopeOf z c f) o) (sym (x .is c (k .body) (k .next)) ∙ h)));
   }
-
--- `spot_at`
-pub spot-far : (t : List ℕ) (k : ℕ) {z : Spot} → 256 ≤ k → SpotAt t k z
-spot-far t k h = record {
-  held = λ b f u s. absurd (omega (arith, stands-inside (scopeAct b f u) k t s, size-pos (scopeAct b f u)));
-  same = λ b f u s. absurd (omega (arith, stands-inside (scopeAct b f u) k t s, size-pos (scopeAct b f u)));
-}
-
-pub spot-is : (t : List ℕ) (k : ℕ) {e f : ℕ} → End t k e → End t (k + 1) f → SpotAt t k (record { root = false; first = k; end = e; body = k + 1; fault = f })
-unfolding Stands size part partAt
-spot-is t k {e} {f} x y = record {
-  held = λ c d w s. let q : f ≡ k + 1 + size c = fault-at c d w s in record { end = x .within; body = s .rest .first; next = q; fault = rw q (s .rest .rest .first) };
-  same = λ c d w s.
-      let q : f ≡ k + 1 + size c = fault-at c d w s in
-      let g : e - k ≡ 1 + sizes (more c (more d (more w none))) = omega (arith, stands-end (scopeAct c d w) k t s x) in
-      rw (q, g);
-}
-  where
-    fault-at : (c d w : Act) → Stands (scopeAct c d w) k t → f ≡ k + 1 + size c
-    fault-at c d w s = stands-end c (k + 1) t (s .rest .first) y
 
 -- `ends`
 pub ends-is : (z : Spot) (o : Order) {p : Order} → p ≡ marking (nameOf z) 0 o → _≡_ {A = Went} (record { way = Over; order = p }) (endsOf z o)

@@ -1,5 +1,4 @@
-// The scopes of an order: how their activities begin and stop, how a scope ends, handles its fault and undoes, and when it turns to undoing.
-pub mod beginning;
+// The scopes of an order: how a scope undoes, handles its fault and ends, when it turns to undoing, and how an activity with scopes in it stops.
 pub mod scopes;
 pub mod stopping;
 pub mod undoing;

@@ -1,6 +1,6 @@
 // How a scope ends, handles its fault, undoes and turns.
-use super::beginning::begin;
 use super::undoing::undo;
+use beginning::begin;
 use order::Order;
 use order::Spot;
 use order::Way;
@@ -11,10 +11,9 @@ use order::marks::begun_in;
 use order::marks::is_over;
 use order::marks::marking;
 use order::marks::runs;
-use order::rows::end_of;
 ghost use mathlib.Core.Bool.{true, false};
 ghost use mathlib.Core.Path.{_≡_};
-ghost use Rattle.order.specs.Answering.{endsOf, Handles, Undoes, Turns, SpotAt};
+ghost use Rattle.order.specs.Answering.{endsOf, Handles, Undoes, Turns};
 
 // The scope ends without closing.
 pub fn ends(spot: Spot, order: Order) -> Went
@@ -89,29 +88,4 @@ pub fn turns(table: &[u32; 11584], handling: bool, spot: Spot, order: Order) -> 
         return runs(order);
     }
     undoes(table, handling, spot, order)
-}
-
-// The scope in row k.
-pub fn spot_at(table: &[u32; 11584], k: usize) -> Spot
-    ensures { λ r. ⌜ SpotAt (now (table .entry)) k r ⌝ }
-{
-    if 256 <= k {
-        return Spot {
-            root: false,
-            first: 256,
-            end: 256,
-            body: 256,
-            fault: 256,
-        };
-    }
-    let end = end_of(table, k);
-    let body = k + 1;
-    let fault = end_of(table, body);
-    Spot {
-        root: false,
-        first: k,
-        end,
-        body,
-        fault,
-    }
 }

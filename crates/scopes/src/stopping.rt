@@ -1,5 +1,4 @@
 // How an activity stops.
-use super::scopes::spot_at;
 use super::scopes::turns;
 use order::Order;
 use order::kind;
@@ -8,6 +7,7 @@ use order::marks::mark_at;
 use order::marks::marked;
 use order::rows::end_of;
 use order::rows::kind_of;
+use order::rows::spot_at;
 ghost use mathlib.Core.Path.{_≡_};
 ghost use Rattle.order.specs.Answering.{Withdraws, Stops};
 ghost use Rattle.order.specs.Scope.{isOpen};

@@ -1,5 +1,5 @@
 // How a scope undoes what is remembered for it.
-use super::beginning::begin;
+use beginning::begin;
 use order::Entered;
 use order::Found;
 use order::Order;

@@ -26,7 +26,7 @@ use Rattle.order.specs.Taking.{actIn, actAmong, actAt, taking}
 use Rattle.order.proofs.Owns.{of-kind}
 use Rattle.order.proofs.PlanStands.{plan-stands, plan-at}
 use Rattle.order.proofs.Standing.{size-pos, stands-inside}
-use Rattle.acting.proofs.StepReturns.{send-names}
+use Rattle.activity.proofs.StepReturns.{send-names}
 use Rattle.machine.specs.declared.Mail.{Mail}
 use Rattle.machine.specs.declared.Message.{Message}
 use Rattle.machine.specs.declared.State.{State}

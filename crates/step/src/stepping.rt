@@ -58,7 +58,7 @@ fn sent(
     requires { ⌜ k < 256 ⌝ }
     ensures { λ r. ⌜ SendsMail (now (table .entry)) k order messages waiting r ⌝ }
 {
-    if acting::all_bound(table, k, order) {
+    if activity::all_bound(table, k, order) {
         let values = sent_values(table, k, order);
         let m = Message {
             partner: table[k * 13 + 1],
@@ -250,7 +250,7 @@ pub(crate) fn moved(
     ensures { λ r. ⌜ Moves (now (table .entry)) activities order messages waiting slot activity place tally r ⌝ }
 {
     if order.root == 0 {
-        let new = acting::started_order(table);
+        let new = beginning::started_order(table);
         let y = count_start(tally);
         return moved_from(
             table,

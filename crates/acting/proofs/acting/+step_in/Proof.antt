@@ -12,7 +12,7 @@ use Rattle.acting.proofs.acting.arms.Reads as arms-reads
 use Rattle.acting.proofs.acting.child_with.Reads as child-with-reads
 use Rattle.acting.proofs.acting.combines.Reads as combines-reads
 use Rattle.order.proofs.rows.end_of.Reads as end-of-reads
-use Rattle.acting.proofs.steps.itself.Reads as itself-reads
+use Rattle.activity.proofs.itself.Reads as itself-reads
 use Rattle.order.proofs.marks.runs.Reads as runs-reads
 use Rattle.acting.proofs.acting.+step_in.{statement}
 use Rattle.acting.proofs.acting.+step_in.Tie.{close}

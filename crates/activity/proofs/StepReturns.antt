@@ -1,0 +1,457 @@
+-- The returns of the functions by which an activity has its step. Assumes nothing.
+use mathlib.Core.Path.{_≡_, refl, sym, ap, _∙_}
+use mathlib.Core.Bool.{Bool, true, false, cond, not, _&&_}
+use mathlib.Core.List.{List, [], _∷_, _++_}
+use Prim.Native.Nat.{ℕ, zero, suc, _+_, _*_, _-_, _<_, _≤_}
+use native.Mathlib.Numerals.{add-one}
+use native.Mathlib.Omega.{arith}
+use borrow.Author.Tests.{eq-eqb, ne-eqb, eqb-true, ltb-true, leb-true}
+use lib.Dec.{eqb, ltb, leb}
+use lib.ListN.{length, getD, drop, drop-of-length-le}
+use lib.Seq.{drop-cons}
+use Rattle.plan.specs.Found.{among}
+use Rattle.plan.specs.Spells.{SpellsOwn, variablesOf}
+use Rattle.plan.specs.Table.{rowOf}
+use Rattle.plan.specs.Tree.{Exp, Own, empty, send, receive, set as setting, raise, leave, choose, repeat, sequence, flow, pick, scope, arm, kind, Act, act, Acts, none, more, size, sizes, count}
+use Rattle.plan.specs.Within.{ownWithin, exchangeWithin, variablesWithin}
+use Rattle.plan.proofs.Accepts.{both}
+use Rattle.order.specs.declared.Entered.{Entered}
+use Rattle.order.specs.declared.Order.{Order}
+use Rattle.order.specs.declared.Spot.{Spot}
+use Rattle.order.specs.declared.Way.the-variants.{Over, Raising, Leaving}
+use Rattle.order.specs.declared.Went.{Went}
+use Rattle.order.specs.declared.Worth.{Worth}
+use Rattle.order.specs.Acting.{finishes, enters, again, repeats, itself}
+use Rattle.order.specs.Answering.{went, isOver, worthOf, Evaluates, begunOf, Begins, Clears, KindOf, Forgets, Pushes, SpotAt, scopeAct, runsOf, finishesOf, raisesOf, leavesOf, Bound, CountOf, VariableOf, Names, AllBound, Binds, Enters, StepOf, Roomy, Closes, StepsAt, Repeats, WorthAt}
+use Rattle.order.specs.Begin.{begin, part, partAt, beginPart}
+use Rattle.order.specs.Expression.{Value, fault, value, evaluate, isTrue}
+use Rattle.order.specs.Lists.{only, every}
+use Rattle.order.specs.Scope.{Scope, begunIn, whereOver, scopeAt, isFor, forgetting, closing}
+use Rattle.order.specs.Stands.{End, Line, Stands}
+use Rattle.order.specs.State.{closings, remembering, marked, withMarks, isBound, binding}
+use Rattle.order.proofs.EvaluationReturns.{fault-known, value-known}
+use Rattle.order.proofs.Owns.{of-kind}
+use Rattle.order.proofs.MemoryReturns.{closings-are}
+use Rattle.order.proofs.Deciding.{yes, no, goes-on, stays}
+use Rattle.order.proofs.Standing.{size-pos, stands-end, stands-inside, row-kind, if-two, if-one, if-scope}
+
+-- `finishes`, `raises`, `leaves`, `again`
+module _ (k : ℕ) (o : Order) where
+  pub finish-is : {p : Order} → p ≡ marked k 0 o → _≡_ {A = Went} (record { way = Over; order = p }) (finishesOf k o)
+  finish-is e = rw e
+
+  pub raise-is : {p : Order} → p ≡ marked k 0 o → _≡_ {A = Went} (record { way = Raising; order = p }) (raisesOf k o)
+  raise-is e = rw e
+
+  pub leave-is : {p : Order} → p ≡ marked k 0 o → _≡_ {A = Went} (record { way = Leaving; order = p }) (leavesOf k o)
+  leave-is e = rw e
+
+  pub again-is : {p : Order} → p ≡ marked k 1 o → {r : Went} → r ≡ runsOf p → r ≡ runsOf (marked k 1 o)
+  again-is e g = g ∙ rw e
+
+-- `is_bound`, `binding`
+pub bound-far : (o : Order) (v : ℕ) {r : Bool} → 16 ≤ v → Bound o v r
+bound-far o v h = record { is = λ l. absurd (omega arith) }
+
+pub bound-is : (o : Order) (v : ℕ) → Bound o v (eqb (getD (o .bound) v 0) 1)
+bound-is o v = record { is = λ l. refl }
+
+pub binds-far : (v x : ℕ) (o : Order) {r : Order} → 16 ≤ v → Binds v x o r
+binds-far v x o h = record { is = λ l. absurd (omega arith) }
+
+pub binds-is : (v x : ℕ) (o : Order) → Binds v x o (binding v x o)
+binds-is v x o = record { is = λ l. refl }
+
+-- `worth_at`
+pub worth-is : {t : List ℕ} {k : ℕ} {o : Order} {n : ℕ} {w : Worth} → n ≡ getD t (k * 13 + 9) 0 → Evaluates t o n 8 w → WorthAt t k o w
+worth-is q x = record { is = λ long e m vars h f s l. x .is long e vars f (rw (q, h) s) l }
+
+-- `enters`
+module _ (t : List ℕ) (k c : ℕ) (o : Order) {o₁ : Order} (e : o₁ ≡ marked k 2 o) {b : Entered} (x : Begins t c (o₁ .marks) b)
+    {r : Went} (y : r ≡ begunOf o₁ b) {v : Bool} (q : v ≡ isOver (r .way)) where
+  part-begun : (a : Act) → Stands a c t → r ≡ went (begunIn (marked k 2 o) (begin a c (marked k 2 o .marks)))
+  part-begun a s = rw e at (rw (x .is a s) at y)
+
+  pub enters-over : v ≡ true → {p : Went} → p ≡ finishesOf k (r .order) → Enters t k c o p
+  enters-over h g = record {
+    is = λ a s. goes-on (finishes k) (begunIn (marked k 2 o) (begin a c (marked k 2 o .marks))) (part-begun a s) q h g;
+  }
+
+  pub enters-runs : v ≡ false → Enters t k c o r
+  enters-runs h = record {
+    is = λ a s. stays (finishes k) (begunIn (marked k 2 o) (begin a c (marked k 2 o .marks))) (part-begun a s) q h;
+  }
+
+-- the count of a row is that of the variables it names
+pub names-count : {t : List ℕ} {k n : ℕ} {vs : List ℕ} → CountOf t k n → Names t k vs → n ≡ length vs
+names-count c m = c .is (m .row) (omega (arith, m .count, m .few)) ∙ m .count
+
+-- the loop of `all_bound`: those before are bound
+pub record Checking (t : List ℕ) (k : ℕ) (o : Order) (i : ℕ) : Type 0 where
+  pub is : (vs : List ℕ) → Names t k vs → every (isBound o) vs ≡ every (isBound o) (drop i vs)
+
+pub checking-starts : (t : List ℕ) (k : ℕ) (o : Order) → Checking t k o 0
+checking-starts t k o = record { is = λ vs n. refl }
+
+pub bound-beyond : (t : List ℕ) (k : ℕ) (o : Order) → 256 ≤ k → AllBound t k o false
+bound-beyond t k o h = record { is = λ vs n. absurd (omega (arith, n .row)); beyond = λ g. refl }
+
+module _ {t : List ℕ} {k : ℕ} {o : Order} {i n : ℕ} (w : Checking t k o i) (c : CountOf t k n) where
+  pub checking-done : k < 256 → n ≤ i → AllBound t k o true
+  unfolding every
+  checking-done f h = record {
+    is = λ vs m. let g : length vs ≤ i = omega (arith, names-count c m) in sym (w .is vs m ∙ rw (drop-of-length-le vs g));
+    beyond = λ g. absurd (omega arith);
+  }
+
+  module _ (h : i < n) {v : ℕ} (q : VariableOf t k i v) {b : Bool} (x : Bound o v b) where
+    next-bound : (vs : List ℕ) → Names t k vs → every (isBound o) (drop i vs) ≡ (b && every (isBound o) (drop (i + 1) vs))
+    unfolding every
+    next-bound vs m =
+        let g : i < length vs = omega (arith, names-count c m) in
+        let f : i < 4 = omega (arith, m .few) in
+        let u : v ≡ getD vs i 0 = q .is (m .row) f ∙ m .variables i f in
+        let y : b ≡ isBound o (getD vs i 0) = rw u at (x .is (rw u (m .small i g))) in
+        rw (y, add-one, drop-cons vs i 0 g)
+
+    pub checking-again : b ≡ true → Checking t k o (i + 1)
+    checking-again e = record { is = λ vs m. w .is vs m ∙ (rw e at (next-bound vs m)) }
+
+    pub checking-fails : b ≡ false → AllBound t k o false
+    checking-fails e = record { is = λ vs m. sym (w .is vs m ∙ (rw e at (next-bound vs m))); beyond = λ g. refl }
+
+-- what the limits say of the variables of a tuple
+pub variables-small : (vars : ℕ) (once : Bool) (vs : List ℕ) → variablesWithin vars once vs ≡ true → vars ≤ 16 → (i : ℕ) → i < length vs → getD vs i 0 < 16
+unfolding variablesWithin
+variables-small vars once [] h f i g = absurd (omega arith)
+variables-small vars once (v ∷ l) h f zero g = both (ltb v vars) _ h (λ a b. omega (arith, ltb-true v vars a))
+variables-small vars once (v ∷ l) h f (suc i) g =
+    both (ltb v vars) _ h (λ a b. both (not (once && among v l)) _ b (λ c d. variables-small vars once l d f i (omega arith)))
+
+-- what the limits say of the tuple of a send, a receive or an arm
+pub line-names : {own : Own} {n k e : ℕ} {t : List ℕ} (w : Line own n k e t) (once : Bool) (p q : ℕ) → k < e
+    → exchangeWithin (w .variables) once p q (variablesOf own) ≡ true → Names t k (variablesOf own)
+unfolding exchangeWithin
+line-names {own} w once p q z h =
+    both (ltb p 64) _ h (λ a b.
+    both (ltb q 64) _ b (λ c d.
+    both (leb 1 (length (variablesOf own))) _ d (λ e f.
+    both (leb (length (variablesOf own)) 4) _ f (λ g i. record {
+      row = omega (arith, w .inside);
+      count = w .row .count;
+      variables = w .row .variables;
+      few = leb-true (length (variablesOf own)) 4 g;
+      small = variables-small (w .variables) once (variablesOf own) i (w .few);
+    }))))
+
+-- `sends`
+pub send-names : (t : List ℕ) (k p q : ℕ) (vs : List ℕ) (l : Acts) → Stands (act (send p q vs) l) k t → Names t k vs
+unfolding Stands variablesOf ownWithin
+send-names t k p q vs l s =
+    both (not (s .first .arms)) _ (s .first .limits) (λ a b.
+    both (eqb (count l) 0) _ b (λ c d. line-names (s .first) false p q (omega arith) d))
+
+module _ (t : List ℕ) (k : ℕ) (o : Order) {b : Bool} (x : AllBound t k o b) where
+  pub send-sends : b ≡ true → {r : Went} → r ≡ finishesOf k o → StepOf 1 t k o r
+  unfolding itself
+  send-sends e {r} g = record {
+    is = λ own l n s.
+        of-kind 1 (λ w. Stands (act w l) k t → r ≡ went (itself w l k o))
+        (λ p q vs s. rw (← x .is vs (send-names t k p q vs l s), e) g) own n s;
+  }
+
+  pub send-raises : b ≡ false → {r : Went} → r ≡ raisesOf k o → StepOf 1 t k o r
+  unfolding itself
+  send-raises e {r} g = record {
+    is = λ own l n s.
+        of-kind 1 (λ w. Stands (act w l) k t → r ≡ went (itself w l k o))
+        (λ p q vs s. rw (← x .is vs (send-names t k p q vs l s), e) g) own n s;
+  }
+
+-- `sets`
+pub record SetRow (t : List ℕ) (k v : ℕ) (o : Order) (e : Exp) (w : Worth) : Type 0 where
+  pub variable : getD t (k * 13 + 8) 0 ≡ v
+  pub small : v < 16
+  pub worth : w ≡ worthOf (evaluate e o)
+
+set-row : (t : List ℕ) (k v : ℕ) (o : Order) (e : Exp) (l : Acts) {w : Worth} → WorthAt t k o w → Stands (act (setting v e) l) k t → SetRow t k v o e w
+unfolding Stands rowOf SpellsOwn ownWithin
+set-row t k v o e l x s =
+    both (not (s .first .arms)) _ (s .first .limits) (λ a b.
+    both (eqb (count l) 0) _ b (λ c d.
+    both (ltb v (s .first .variables)) _ d (λ f g.
+    both (not (among v (s .first .correlation))) _ g (λ h i. record {
+      variable = s .first .row .variable;
+      small = omega (arith, ltb-true v (s .first .variables) f, s .first .few);
+      worth = x .is (s .first .long) e (s .first .node) (s .first .variables) (s .first .row .expression) (s .first .few) (s .first .expression) i;
+    }))))
+
+module _ (t : List ℕ) (k : ℕ) (o : Order) {w : Worth} (x : WorthAt t k o w) where
+  pub set-raises : w ≡ Worth.Fault → {r : Went} → r ≡ raisesOf k o → StepOf 3 t k o r
+  unfolding itself
+  set-raises h {r} g = record {
+    is = λ own l n s.
+        of-kind 3 (λ y. Stands (act y l) k t → r ≡ went (itself y l k o))
+        (λ v e s. rw (fault-known (evaluate e o) (set-row t k v o e l x s .worth) h) g) own n s;
+  }
+
+  pub set-binds : {y : ℕ} → w ≡ Worth.Value y → {v : ℕ} → v ≡ getD t (k * 13 + 8) 0 → {p : Order} → Binds v y o p → {r : Went} → r ≡ finishesOf k p → StepOf 3 t k o r
+  unfolding itself
+  set-binds {y} h {v} q {p} z {r} g = record {
+    is = λ own l n s.
+        of-kind 3 (λ y. Stands (act y l) k t → r ≡ went (itself y l k o))
+        (λ u e s.
+        let i = set-row t k u o e l x s in
+        let j : v ≡ u = q ∙ i .variable in
+        let m : p ≡ binding u y o = rw j at (z .is (omega (arith, i .small))) in
+        rw (value-known (evaluate e o) (i .worth) h) (rw m at g)) own n s;
+  }
+
+-- `chooses`
+pub record ChooseRow (o : Order) (e : Exp) (l : Acts) (w : Worth) : Type 0 where
+  pub two : count l ≡ 2
+  pub worth : w ≡ worthOf (evaluate e o)
+
+choose-row : (t : List ℕ) (k : ℕ) (o : Order) (e : Exp) (l : Acts) {w : Worth} → WorthAt t k o w → Stands (act (choose e) l) k t → ChooseRow o e l w
+unfolding Stands rowOf SpellsOwn ownWithin
+choose-row t k o e l x s =
+    both (not (s .first .arms)) _ (s .first .limits) (λ a b.
+    both (eqb (count l) 2) _ b (λ c d. record {
+      two = eqb-true (count l) 2 c;
+      worth = x .is (s .first .long) e (s .first .node) (s .first .variables) (s .first .row .expression) (s .first .few) (s .first .expression) d;
+    }))
+
+-- which part a choose enters
+chosen : (e : Exp) (a b : Act) (k : ℕ) (o : Order) (y : ℕ) → evaluate e o ≡ value y → (x : Bool) → isTrue y ≡ x
+    → itself (choose e) (more a (more b none)) k o ≡ enters k o (begin (cond x a b) (cond x (k + 1) (k + 1 + size a)) (marked k 2 o .marks))
+unfolding itself beginPart part partAt
+chosen e a b k o y h true i = rw (h, i)
+chosen e a b k o y h false i = rw (h, i)
+
+module _ (t : List ℕ) (k : ℕ) (o : Order) {w : Worth} (x : WorthAt t k o w) where
+  pub choose-raises : w ≡ Worth.Fault → {r : Went} → r ≡ raisesOf k o → StepOf 6 t k o r
+  unfolding itself
+  choose-raises h {r} g = record {
+    is = λ own l n s.
+        of-kind 6 (λ y. Stands (act y l) k t → r ≡ went (itself y l k o))
+        (λ e s. rw (fault-known (evaluate e o) (choose-row t k o e l x s .worth) h) g) own n s;
+  }
+
+  module _ {y : ℕ} (h : w ≡ Worth.Value y) where
+    pub choose-first : (y ≡ 0 → ⊥) → {r : Went} → Enters t k (k + 1) o r → StepOf 6 t k o r
+    unfolding Stands
+    choose-first z {r} g = record {
+      is = λ own l n s.
+          of-kind 6 (λ y. Stands (act y l) k t → r ≡ went (itself y l k o))
+          (λ e s. if-two (λ l. Stands (act (choose e) l) k t → r ≡ went (itself (choose e) l k o))
+          (λ a b s.
+          let i : evaluate e o ≡ value y = value-known (evaluate e o) (choose-row t k o e _ x s .worth) h in
+          let m : isTrue y ≡ true = rw (ne-eqb _ _ z) in
+          g .is a (s .rest .first) ∙ sym (ap went (chosen e a b k o y i true m)))
+          l (choose-row t k o e l x s .two) s) own n s;
+    }
+
+    pub choose-second : y ≡ 0 → {c : ℕ} → End t (k + 1) c → {r : Went} → Enters t k c o r → StepOf 6 t k o r
+    unfolding Stands
+    choose-second z {c} f {r} g = record {
+      is = λ own l n s.
+          of-kind 6 (λ y. Stands (act y l) k t → r ≡ went (itself y l k o))
+          (λ e s. if-two (λ l. Stands (act (choose e) l) k t → r ≡ went (itself (choose e) l k o))
+          (λ a b s.
+          let i : evaluate e o ≡ value y = value-known (evaluate e o) (choose-row t k o e _ x s .worth) h in
+          let m : isTrue y ≡ false = rw (eq-eqb _ _ z) in
+          let j : c ≡ k + 1 + size a = stands-end a (k + 1) t (s .rest .first) f in
+          (rw j at (g .is b (rw j (s .rest .rest .first)))) ∙ sym (ap went (chosen e a b k o y i false m)))
+          l (choose-row t k o e l x s .two) s) own n s;
+    }
+
+-- `repeats`
+module _ (t : List ℕ) (k : ℕ) (o : Order) {e : ℕ} (z : End t k e) {n : List ℕ} (i : Clears (k + 1) e (o .marks) n) {o₁ o₂ : Order}
+    (d : o₁ ≡ withMarks n o) (j : o₂ ≡ marked k 2 o₁) {b : Entered} (x : Begins t (k + 1) (o₂ .marks) b) {r : Went} (y : r ≡ begunOf o₂ b)
+    {v : Bool} (q : v ≡ isOver (r .way)) where
+  repeated : (own : Own) (a : Act) → Stands (act own (more a none)) k t
+      → went (repeats k (more a none) o) ≡ went (whereOver (again k) (begunIn o₂ (begin a (k + 1) (o₂ .marks))))
+  unfolding repeats beginPart part partAt size
+  repeated own a s =
+      let f : e - (k + 1) ≡ sizes (more a none) = omega (arith, stands-end (act own (more a none)) k t s z) in
+      rw (j, d, i .is (z .within), f)
+
+  body-begun : (own : Own) (a : Act) → Stands (act own (more a none)) k t → r ≡ went (begunIn o₂ (begin a (k + 1) (o₂ .marks)))
+  unfolding Stands
+  body-begun own a s = rw (x .is a (s .rest .first)) at y
+
+  pub repeat-over : v ≡ true → {p : Went} → p ≡ runsOf (marked k 1 (r .order)) → Repeats t k o p
+  repeat-over h g = record {
+    is = λ own a s. goes-on (again k) (begunIn o₂ (begin a (k + 1) (o₂ .marks))) (body-begun own a s) q h g ∙ sym (repeated own a s);
+  }
+
+  pub repeat-runs : v ≡ false → Repeats t k o r
+  repeat-runs h = record {
+    is = λ own a s. stays (again k) (begunIn o₂ (begin a (k + 1) (o₂ .marks))) (body-begun own a s) q h ∙ sym (repeated own a s);
+  }
+
+-- `decides`
+pub record RepeatRow (o : Order) (e : Exp) (l : Acts) (w : Worth) : Type 0 where
+  pub one : count l ≡ 1
+  pub worth : w ≡ worthOf (evaluate e o)
+
+repeat-row : (t : List ℕ) (k : ℕ) (o : Order) (e : Exp) (l : Acts) {w : Worth} → WorthAt t k o w → Stands (act (repeat e) l) k t → RepeatRow o e l w
+unfolding Stands rowOf SpellsOwn ownWithin
+repeat-row t k o e l x s =
+    both (not (s .first .arms)) _ (s .first .limits) (λ a b.
+    both (eqb (count l) 1) _ b (λ c d. record {
+      one = eqb-true (count l) 1 c;
+      worth = x .is (s .first .long) e (s .first .node) (s .first .variables) (s .first .row .expression) (s .first .few) (s .first .expression) d;
+    }))
+
+decided : (e : Exp) (l : Acts) (k : ℕ) (o : Order) (y : ℕ) → evaluate e o ≡ value y → (x : Bool) → isTrue y ≡ x
+    → itself (repeat e) l k o ≡ cond x (repeats k l o) (finishes k o)
+unfolding itself
+decided e l k o y h true i = rw h (yes (isTrue y) (repeats k l o) (finishes k o) i)
+decided e l k o y h false i = rw h (no (isTrue y) (repeats k l o) (finishes k o) i)
+
+module _ (t : List ℕ) (k : ℕ) (o : Order) {w : Worth} (x : WorthAt t k o w) where
+  pub decide-raises : w ≡ Worth.Fault → {r : Went} → r ≡ raisesOf k o → StepOf 7 t k o r
+  unfolding itself
+  decide-raises h {r} g = record {
+    is = λ own l n s.
+        of-kind 7 (λ y. Stands (act y l) k t → r ≡ went (itself y l k o))
+        (λ e s. rw (fault-known (evaluate e o) (repeat-row t k o e l x s .worth) h) g) own n s;
+  }
+
+  module _ {y : ℕ} (h : w ≡ Worth.Value y) where
+    pub decide-over : y ≡ 0 → {r : Went} → r ≡ finishesOf k o → StepOf 7 t k o r
+    decide-over z {r} g = record {
+      is = λ own l n s.
+          of-kind 7 (λ y. Stands (act y l) k t → r ≡ went (itself y l k o))
+          (λ e s.
+          let i : evaluate e o ≡ value y = value-known (evaluate e o) (repeat-row t k o e l x s .worth) h in
+          let m : isTrue y ≡ false = rw (eq-eqb _ _ z) in
+          g ∙ sym (ap went (decided e l k o y i false m))) own n s;
+    }
+
+    pub decide-again : (y ≡ 0 → ⊥) → {r : Went} → Repeats t k o r → StepOf 7 t k o r
+    decide-again z {r} g = record {
+      is = λ own l n s.
+          of-kind 7 (λ y. Stands (act y l) k t → r ≡ went (itself y l k o))
+          (λ e s. if-one (λ l. Stands (act (repeat e) l) k t → r ≡ went (itself (repeat e) l k o))
+          (λ a s.
+          let i : evaluate e o ≡ value y = value-known (evaluate e o) (repeat-row t k o e _ x s .worth) h in
+          let m : isTrue y ≡ true = rw (ne-eqb _ _ z) in
+          g .is (repeat e) a s ∙ sym (ap went (decided e (more a none) k o y i true m)))
+          l (repeat-row t k o e l x s .one) s) own n s;
+    }
+
+-- `takes`
+arm-one : (t : List ℕ) (k p q : ℕ) (vs : List ℕ) (l : Acts) → Stands (act (arm p q vs) l) k t → count l ≡ 1
+unfolding Stands ownWithin
+arm-one t k p q vs l s =
+    both (s .first .arms) _ (s .first .limits) (λ a b. both (eqb (count l) 1) _ b (λ c d. eqb-true (count l) 1 c))
+
+pub takes-is : (t : List ℕ) (k : ℕ) (o : Order) {b : Entered} → Begins t (k + 1) (o .marks) b → {r : Went} → r ≡ begunOf o b → StepOf 12 t k o r
+unfolding itself beginPart part partAt Stands
+takes-is t k o {b} x {r} y = record {
+  is = λ own l n s.
+      of-kind 12 (λ w. Stands (act w l) k t → r ≡ went (itself w l k o))
+      (λ p q vs s. if-one (λ l. Stands (act (arm p q vs) l) k t → r ≡ went (itself (arm p q vs) l k o))
+      (λ a s. rw (x .is a (s .rest .first)) at y)
+      l (arm-one t k p q vs l s) s) own n s;
+}
+
+-- `closes`
+scope-kind : kind scope ≡ 11
+unfolding kind
+scope-kind = refl
+
+module _ (t : List ℕ) (k : ℕ) (o : Order) {z : Spot} (x : SpotAt t k z) {f : Order} (y : Forgets t (z .body) (z .fault) o f) where
+  forgotten : (b g u : Act) → Stands (scopeAct b g u) k t → f ≡ forgetting (scopeAt k (more b (more g (more u none)))) o
+  unfolding forgetting
+  forgotten b g u s =
+      let h = x .held b g u s in
+      y .is b (h .body) (h .next) ∙ ap (λ (c : Scope). forgetting c o) (x .same b g u s)
+
+  -- what is remembered before and after k is remembered
+  kept-all : (b g u : Act) → Stands (scopeAct b g u) k t → f .kept ≡ length (closings (forgetting (scopeAt k (more b (more g (more u none)))) o))
+  unfolding forgetting
+  kept-all b g u s =
+      let e : f ≡ forgetting (scopeAt k (more b (more g (more u none)))) o = forgotten b g u s in
+      ap (λ (w : Order). w .kept) e ∙ ap length (sym (closings-are (only (λ e. not (isFor (scopeAt k (more b (more g (more u none)))) e)) (closings o)) o))
+
+  pushed-on : (b g u : Act) → Stands (scopeAct b g u) k t → f .kept < 32 → {p : Order} → Pushes f k p
+      → p ≡ remembering (closings (forgetting (scopeAt k (more b (more g (more u none)))) o) ++ (k ∷ [])) o
+  unfolding forgetting
+  pushed-on b g u s i j =
+      let h : k < 256 = omega (arith, stands-inside (scopeAct b g u) k t s, size-pos (scopeAct b g u)) in
+      let l = only (λ e. not (isFor (scopeAt k (more b (more g (more u none)))) e)) (closings o) in
+      rw (closings-are l o) (j .is i h l o (forgotten b g u s))
+
+  StepsAct : Went → Act → Type 0
+  StepsAct r (act own l) = Roomy own l k o → r ≡ went (itself own l k o)
+
+  pub closes-is : f .kept < 32 → {p : Order} → Pushes f k p → {r : Went} → r ≡ finishesOf k p → Closes t k o r
+  unfolding itself closing Stands StepsAct
+  closes-is i {p} j {r} g = record {
+    is = λ own l n s room. if-scope (StepsAct r) t k (s .first .row .kind ∙ n) (λ b c u sb sc su s room. closed b c u s) (act own l) s room;
+  }
+    where
+      closed : (b c u : Act) → Stands (scopeAct b c u) k t → r ≡ went (itself scope (more b (more c (more u none))) k o)
+      closed b c u s =
+          let m : p ≡ remembering (closings (forgetting (scopeAt k (more b (more c (more u none)))) o) ++ (k ∷ [])) o
+          = pushed-on b c u s i j in
+          rw m at g
+
+  pub closes-full : 32 ≤ f .kept → {r : Went} → Closes t k o r
+  unfolding Stands StepsAct
+  closes-full i {r} = record {
+    is = λ own l n s room. if-scope (StepsAct r) t k (s .first .row .kind ∙ n) (λ b c u sb sc su s room. full b c u s room) (act own l) s room;
+  }
+    where
+      full : (b c u : Act) → Stands (scopeAct b c u) k t → Roomy scope (more b (more c (more u none))) k o
+          → r ≡ went (itself scope (more b (more c (more u none))) k o)
+      full b c u s room = absurd (omega (arith, kept-all b c u s, room scope-kind))
+
+-- `itself`: by the kind of the row
+pub itself-far : (t : List ℕ) (k : ℕ) (o : Order) {r : Went} → 256 ≤ k → StepsAt t k o r
+itself-far t k o h = record { is = λ own l s room. absurd (omega (arith, stands-inside (act own l) k t s, size-pos (act own l))) }
+
+module _ (t : List ℕ) (k : ℕ) (o : Order) {kd : ℕ} (q : KindOf t k kd) where
+  pub itself-of : (n : ℕ) → kd ≡ n → {r : Went} → StepOf n t k o r → StepsAt t k o r
+  itself-of n e x = record { is = λ own l s room. x .is own l (sym (row-kind q own l s) ∙ e) s }
+
+  pub itself-closes : kd ≡ 11 → {r : Went} → Closes t k o r → StepsAt t k o r
+  itself-closes e x = record { is = λ own l s room. x .is own l (sym (row-kind q own l s) ∙ e) s room }
+
+  pub itself-receives : kd ≡ 2 → {r : Went} → r ≡ finishesOf k o → StepsAt t k o r
+  unfolding itself
+  itself-receives e {r} g = record {
+    is = λ own l s room. of-kind 2 (λ w. r ≡ went (itself w l k o)) (λ p q vs. g) own (sym (row-kind q own l s) ∙ e);
+  }
+
+  pub itself-raises : kd ≡ 4 → {r : Went} → r ≡ raisesOf k o → StepsAt t k o r
+  unfolding itself
+  itself-raises e {r} g = record { is = λ own l s room. of-kind 4 (λ w. r ≡ went (itself w l k o)) g own (sym (row-kind q own l s) ∙ e) }
+
+  pub itself-leaves : kd ≡ 5 → {r : Went} → r ≡ leavesOf k o → StepsAt t k o r
+  unfolding itself
+  itself-leaves e {r} g = record { is = λ own l s room. of-kind 5 (λ w. r ≡ went (itself w l k o)) g own (sym (row-kind q own l s) ∙ e) }
+
+  module _ (h1 : kd ≡ 1 → ⊥) (h2 : kd ≡ 2 → ⊥) (h3 : kd ≡ 3 → ⊥) (h4 : kd ≡ 4 → ⊥) (h5 : kd ≡ 5 → ⊥) (h6 : kd ≡ 6 → ⊥) (h7 : kd ≡ 7 → ⊥)
+      (h11 : kd ≡ 11 → ⊥) (h12 : kd ≡ 12 → ⊥) where
+    runs-itself : {r : Went} → r ≡ runsOf o → (own : Own) (l : Acts) → kd ≡ kind own → r ≡ went (itself own l k o)
+    unfolding itself kind
+    runs-itself g empty l e = g
+    runs-itself g (send p q vs) l e = absurd (h1 e)
+    runs-itself g (receive p q vs) l e = absurd (h2 e)
+    runs-itself g (setting v x) l e = absurd (h3 e)
+    runs-itself g raise l e = absurd (h4 e)
+    runs-itself g leave l e = absurd (h5 e)
+    runs-itself g (choose x) l e = absurd (h6 e)
+    runs-itself g (repeat x) l e = absurd (h7 e)
+    runs-itself g sequence l e = g
+    runs-itself g flow l e = g
+    runs-itself g pick l e = g
+    runs-itself g scope l e = absurd (h11 e)
+    runs-itself g (arm p q vs) l e = absurd (h12 e)
+
+    pub itself-runs : {r : Went} → r ≡ runsOf o → StepsAt t k o r
+    itself-runs g = record { is = λ own l s room. runs-itself g own l (row-kind q own l s) }

@@ -1,0 +1,21 @@
+-- `activity::sends` meets its contract. Assumes nothing.
+use borrow.Author.Needs.{needs}
+use Rattle.activity.proofs.StepReturns.{send-sends, send-raises}
+use Rattle.activity.proofs.sends.Statement.{statement}
+use Rattle.activity.proofs.sends.Tie as tie
+
+ruleset cases = (send-sends, send-raises)
+
+pub sends-spec : {M : Type 1} → statement M
+sends-spec =
+    tie.close (tie.spec
+    -- all-bound-requires
+    (λ c κs. search needs)
+    -- finishes-requires
+    (λ c κs. search needs)
+    -- returns
+    (λ c. search cases)
+    -- raises-requires
+    (λ c κs. search needs)
+    -- returns-2
+    (λ c. search cases))

@@ -1,0 +1,267 @@
+// The step that an activity has by itself, and the variables that a row asks for and binds.
+use beginning::begin;
+use order::Order;
+use order::Way;
+use order::Went;
+use order::Worth;
+use order::evaluation::evaluate_at;
+use order::kind;
+use order::mark;
+use order::marks::begun_in;
+use order::marks::cleared;
+use order::marks::is_over;
+use order::marks::marked;
+use order::marks::runs;
+use order::marks::with_marks;
+use order::memory::forgetting;
+use order::memory::pushed;
+use order::rows::count_of;
+use order::rows::end_of;
+use order::rows::kind_of;
+use order::rows::spot_at;
+use order::rows::variable_of;
+ghost use Prim.Native.Nat.{_<_};
+ghost use mathlib.Core.Path.{_≡_};
+ghost use Rattle.order.specs.State.{marked as markedOf};
+ghost use Rattle.order.specs.Answering.{runsOf, finishesOf, raisesOf, leavesOf, Bound, AllBound, Binds, Enters, Repeats, StepOf, Closes, StepsAt, WorthAt};
+
+// Activity k is over.
+pub fn finishes(k: usize, order: Order) -> Went
+    ensures { λ r. ⌜ r ≡ finishesOf k order ⌝ }
+{
+    let o = marked(k, mark::IDLE, order);
+    Went {
+        way: Way::Over,
+        order: o,
+    }
+}
+
+// Activity k raises.
+fn raises(k: usize, order: Order) -> Went
+    ensures { λ r. ⌜ r ≡ raisesOf k order ⌝ }
+{
+    let o = marked(k, mark::IDLE, order);
+    Went {
+        way: Way::Raising,
+        order: o,
+    }
+}
+
+// Activity k lets the order leave.
+fn leaves(k: usize, order: Order) -> Went
+    ensures { λ r. ⌜ r ≡ leavesOf k order ⌝ }
+{
+    let o = marked(k, mark::IDLE, order);
+    Went {
+        way: Way::Leaving,
+        order: o,
+    }
+}
+
+// Whether variable v is bound.
+fn is_bound(order: Order, v: u32) -> bool
+    ensures { λ r. ⌜ Bound order v r ⌝ }
+{
+    if 16 <= v {
+        return false;
+    }
+    let i = v as usize;
+    order.bound[i] == 1
+}
+
+// Whether all variables that row k names are bound; false where there is no row k.
+pub fn all_bound(table: &[u32; 11584], k: usize, order: Order) -> bool
+    ensures { λ r. ⌜ AllBound (now (table .entry)) k order r ⌝ }
+{
+    if 256 <= k {
+        return false;
+    }
+    let n = count_of(table, k);
+    let mut i: usize = 0;
+    while i < n {
+        if is_bound(order, variable_of(table, k, i)) {
+            i += 1;
+        } else {
+            return false;
+        }
+    }
+    true
+}
+
+// The order with variable v bound to x.
+pub fn binding(v: u32, x: u32, order: Order) -> Order
+    ensures { λ r. ⌜ Binds v x order r ⌝ }
+{
+    if 16 <= v {
+        return order;
+    }
+    let i = v as usize;
+    let mut o = order;
+    o.values[i] = x;
+    o.bound[i] = 1;
+    o
+}
+
+// What stands within activity k from row c on begins.
+fn enters(table: &[u32; 11584], k: usize, c: usize, order: Order) -> Went
+    ensures { λ r. ⌜ Enters (now (table .entry)) k c order r ⌝ }
+{
+    let o = marked(k, mark::INSIDE, order);
+    let m = o.marks;
+    let r = begun_in(o, begin(table, c, m));
+    let w = r.way;
+    if is_over(w) {
+        let p = r.order;
+        return finishes(k, p);
+    }
+    r
+}
+
+// Repeat k decides again.
+pub fn again(k: usize, order: Order) -> Went
+    ensures { λ r. ⌜ r ≡ runsOf (markedOf k 1 order) ⌝ }
+{
+    let o = marked(k, mark::ACTIVE, order);
+    runs(o)
+}
+
+// Repeat k begins its body afresh.
+fn repeats(table: &[u32; 11584], k: usize, order: Order) -> Went
+    requires { ⌜ k < 256 ⌝ }
+    ensures { λ r. ⌜ Repeats (now (table .entry)) k order r ⌝ }
+{
+    let e = end_of(table, k);
+    let m = order.marks;
+    let n = cleared(k + 1, e, m);
+    let o = marked(k, mark::INSIDE, with_marks(n, order));
+    let q = o.marks;
+    let r = begun_in(o, begin(table, k + 1, q));
+    let w = r.way;
+    if is_over(w) {
+        let p = r.order;
+        return again(k, p);
+    }
+    r
+}
+
+// Scope k closes. Where it has no room, which no step that is offered leads to, the order stays as it is.
+fn closes(table: &[u32; 11584], k: usize, order: Order) -> Went
+    ensures { λ r. ⌜ Closes (now (table .entry)) k order r ⌝ }
+{
+    let s = spot_at(table, k);
+    let f = forgetting(table, s.body, s.fault, order);
+    let n = f.kept;
+    if n < 32 {
+        let p = pushed(f, k);
+        return finishes(k, p);
+    }
+    runs(order)
+}
+
+// A send.
+fn sends(table: &[u32; 11584], k: usize, order: Order) -> Went
+    ensures { λ r. ⌜ StepOf 1 (now (table .entry)) k order r ⌝ }
+{
+    if all_bound(table, k, order) {
+        return finishes(k, order);
+    }
+    raises(k, order)
+}
+
+// The number of a node, as an index.
+fn node_of(m: u32) -> usize
+    ensures { λ r. ⌜ r ≡ m ⌝ }
+{
+    m as usize
+}
+
+// What the expression of row k comes to.
+fn worth_at(table: &[u32; 11584], k: usize, order: Order) -> Worth
+    requires { ⌜ k < 256 ⌝ }
+    ensures { λ r. ⌜ WorthAt (now (table .entry)) k order r ⌝ }
+{
+    let m = node_of(table[k * 13 + 9]);
+    evaluate_at(table, order, m, 8)
+}
+
+// A set.
+fn sets(table: &[u32; 11584], k: usize, order: Order) -> Went
+    requires { ⌜ k < 256 ⌝ }
+    ensures { λ r. ⌜ StepOf 3 (now (table .entry)) k order r ⌝ }
+{
+    let v = table[k * 13 + 8];
+    let w = worth_at(table, k, order);
+    match w {
+        Worth::Fault => raises(k, order),
+        Worth::Value { value } => {
+            let o = binding(v, value, order);
+            finishes(k, o)
+        }
+    }
+}
+
+// A choose decides.
+fn chooses(table: &[u32; 11584], k: usize, order: Order) -> Went
+    requires { ⌜ k < 256 ⌝ }
+    ensures { λ r. ⌜ StepOf 6 (now (table .entry)) k order r ⌝ }
+{
+    let w = worth_at(table, k, order);
+    match w {
+        Worth::Fault => raises(k, order),
+        Worth::Value { value } => {
+            if value == 0 {
+                let c = end_of(table, k + 1);
+                return enters(table, k, c, order);
+            }
+            enters(table, k, k + 1, order)
+        }
+    }
+}
+
+// A repeat decides.
+fn decides(table: &[u32; 11584], k: usize, order: Order) -> Went
+    requires { ⌜ k < 256 ⌝ }
+    ensures { λ r. ⌜ StepOf 7 (now (table .entry)) k order r ⌝ }
+{
+    let w = worth_at(table, k, order);
+    match w {
+        Worth::Fault => raises(k, order),
+        Worth::Value { value } => {
+            if value == 0 {
+                return finishes(k, order);
+            }
+            repeats(table, k, order)
+        }
+    }
+}
+
+// An arm of a pick takes its message.
+fn takes(table: &[u32; 11584], k: usize, order: Order) -> Went
+    requires { ⌜ k < 256 ⌝ }
+    ensures { λ r. ⌜ StepOf 12 (now (table .entry)) k order r ⌝ }
+{
+    let m = order.marks;
+    begun_in(order, begin(table, k + 1, m))
+}
+
+// Activity k has its step, where there is one.
+pub fn itself(table: &[u32; 11584], k: usize, order: Order) -> Went
+    ensures { λ r. ⌜ StepsAt (now (table .entry)) k order r ⌝ }
+{
+    if 256 <= k {
+        return runs(order);
+    }
+    let kind = kind_of(table, k);
+    match kind {
+        kind::SEND => sends(table, k, order),
+        kind::RECEIVE => finishes(k, order),
+        kind::SET => sets(table, k, order),
+        kind::RAISE => raises(k, order),
+        kind::LEAVE => leaves(k, order),
+        kind::CHOOSE => chooses(table, k, order),
+        kind::REPEAT => decides(table, k, order),
+        kind::SCOPE => closes(table, k, order),
+        kind::ARM => takes(table, k, order),
+        _ => runs(order),
+    }
+}
