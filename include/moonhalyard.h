@@ -20,7 +20,10 @@
      7  body no start form                         16  show: no activity k
      8  scope in a fault or undo part              17  state without an accepted plan, or with a number outside
      9  bytes after the plan                           its limit; or bytes that hold no state
-                                                   18  too little room, or too much (load)
+    21  receives that disagree: a count that       18  too little room, or too much (load)
+        differs from an earlier one for the
+        same partner and operation, last of
+        all plan refusals
    For each call 18 comes before 17, and 17 before the others. */
 #ifndef MOONHALYARD_H
 #define MOONHALYARD_H
@@ -70,14 +73,14 @@ extern "C" {
 /* The bytes of a message: partner, operation, count, four values, 4 bytes each. */
 #define MOONHALYARD_MESSAGE 28
 
-/* Whether n bytes are a plan: how many activities and arms it has; or its refusal (1 to 9) times 2^32, and the refusal's place. */
+/* Whether n bytes are a plan: how many activities and arms it has; or its refusal (1 to 9, 21) times 2^32, and the refusal's place. */
 uint64_t moonhalyard_accept(const uint8_t *plan, size_t n);
 
-/* Where activity or arm k of a plan stands: its first byte's place times 2^24, and how many bytes spell it; or a refusal (1 to 9, 16) times
-   2^48. */
+/* Where activity or arm k of a plan stands: its first byte's place times 2^24, and how many bytes spell it; or a refusal (1 to 9, 16, 21)
+   times 2^48. */
 uint64_t moonhalyard_show(const uint8_t *plan, size_t n, uint32_t k);
 
-/* Loads a plan. The answer is 0; or its refusal (1 to 9) times 2^32, and the refusal's place. The state is a fresh one with the plan, with no
+/* Loads a plan. The answer is 0; or its refusal (1 to 9, 21) times 2^32, and the refusal's place. The state is a fresh one with the plan, with no
    order and no message, or, where the plan is refused, one with no plan; nothing is counted. Whatever `state` held before does not matter.
    Where `size` is not 11,964 the answer is 18 times 2^32, and nothing is written. */
 uint64_t moonhalyard_load(const uint8_t *plan, size_t n, uint8_t *state, size_t size);
@@ -122,17 +125,17 @@ uint32_t moonhalyard_run(uint8_t *state, size_t size, const uint64_t *choices, s
      an expression         0 and a value, or 1 and a variable, or 2 sum, 3 difference, 4 equal, 5 less alone, with the rows of both operands next */
 #define MOONHALYARD_ROW 20
 
-/* Writes the plan of a table into the front of `plan`. The answer is how many bytes it has; or its refusal (1, 2, 4 to 9, 18) times 2^32, and the row in
-   trouble (0 for 1 and 18; for 2 the number of rows). A refused write changes nothing in `plan`, and bytes behind the plan never change. */
+/* Writes the plan of a table into the front of `plan`. The answer is how many bytes it has; or its refusal (1, 2, 4 to 9, 18, 21) times 2^32, and the row
+   in trouble (0 for 1 and 18; for 2 the number of rows). A refused write changes nothing in `plan`, and bytes behind the plan never change. */
 uint64_t moonhalyard_write(const uint32_t *table, size_t numbers, uint8_t *plan, size_t room);
 
-/* The table of a plan, into the front of `table`. The answer is how many numbers it has, 20 for each row; or its refusal (1 to 9 with its place, 18)
-   times 2^32. Refused, nothing in `table` changes, and numbers behind the table never change. */
+/* The table of a plan, into the front of `table`. The answer is how many numbers it has, 20 for each row; or its refusal (1 to 9 and 21 with its
+   place, 18) times 2^32. Refused, nothing in `table` changes, and numbers behind the table never change. */
 uint64_t moonhalyard_rows(const uint8_t *plan, size_t n, uint32_t *table, size_t room);
 
 /* Mends a plan whose numbers are padded with zero groups, up to ten groups each: the same numbers in shortest form, into the front of `out`. The answer
-   is the groups cut times 2^16 and how many bytes were written; or the refusal (1 to 9, with its place in `plan`; 18) times 2^32, and its place. A refused
-   mend changes nothing in `out`, and bytes behind the plan never change. */
+   is the groups cut times 2^16 and how many bytes were written; or the refusal (1 to 9 and 21, with its place in `plan`; 18) times 2^32, and its place. A
+   refused mend changes nothing in `out`, and bytes behind the plan never change. */
 uint64_t moonhalyard_mend(const uint8_t *plan, size_t n, uint8_t *out, size_t room);
 
 #ifdef __cplusplus

@@ -284,9 +284,9 @@ pub fn every_code() -> Sheet {
     let pick = sheet.begin();
     sheet.put(Kind::Code, 10);
     sheet.put(Kind::ListCount, 2);
-    for variables in [&[1, 0][..], &[2]] {
+    for (operation, variables) in [(8, &[1, 0][..]), (9, &[2])] {
         let arm = sheet.begin();
-        sheet.message(None, 7, 8, variables);
+        sheet.message(None, 7, operation, variables);
         one(&mut sheet, 0);
         sheet.end(arm);
     }
@@ -330,6 +330,7 @@ pub fn all() -> Vec<Case> {
     scopes(&mut cases);
     start_forms(&mut cases);
     orders(&mut cases);
+    agreement(&mut cases);
     swaps(&mut cases);
     cases.0
 }
@@ -1274,6 +1275,67 @@ fn orders(cases: &mut Cases) {
         Refused(9, 6),
     );
     cases.add("empty body", join(&[HEAD, &[0, 0]]), Refused(7, 4));
+}
+
+/// Document 02, request 8: two receives or arms of one pair have one count. `THEN` has partner 3, operation 5 and count 1.
+fn agreement(cases: &mut Cases) {
+    let refused = |cases: &mut Cases, name: &str, activity: &[u8], place| {
+        cases.add(name, after_receive(activity), Refused(21, place));
+    };
+    cases.good("the same count", &after_receive(&[2, 3, 5, 1, 1]), 4);
+    cases.good("another operation", &after_receive(&[2, 3, 4, 2, 0, 1]), 4);
+    cases.good("another partner", &after_receive(&[2, 2, 5, 2, 0, 1]), 4);
+    cases.good(
+        "the pair turned round",
+        &after_receive(&[2, 5, 3, 2, 0, 1]),
+        4,
+    );
+    cases.good("a send", &after_receive(&[1, 3, 5, 2, 0, 1]), 4);
+    refused(cases, "another count", &[2, 3, 5, 2, 0, 1], 14);
+    refused(
+        cases,
+        "another count in an arm",
+        &[10, 1, 3, 5, 2, 0, 1, 0],
+        15,
+    );
+    refused(
+        cases,
+        "another count in the second arm",
+        &[10, 2, 3, 5, 1, 0, 0, 3, 5, 2, 0, 1, 0],
+        20,
+    );
+    refused(
+        cases,
+        "the later pair disagrees first",
+        &[8, 3, 2, 0, 0, 2, 0, 1, 2, 0, 0, 1, 0, 2, 3, 5, 2, 0, 1],
+        22,
+    );
+    refused(
+        cases,
+        "a third that agrees with the second",
+        &[8, 2, 2, 3, 5, 2, 0, 1, 2, 3, 5, 2, 0, 1],
+        16,
+    );
+    cases.add(
+        "another count in the fault part",
+        as_fault(&[2, 3, 5, 2, 0, 1]),
+        Refused(21, 12),
+    );
+    cases.add(
+        "another count, and a byte more",
+        join(&[&after_receive(&[2, 3, 5, 2, 0, 1]), EMPTY]),
+        Refused(9, 18),
+    );
+    cases.add(
+        "another count, and no start form",
+        join(&[HEAD, &[8, 3, 0], RECEIVE, &[2, 3, 5, 2, 0, 1], EMPTY]),
+        Refused(7, 4),
+    );
+    cases.add(
+        "another count, and a bad code after it",
+        join(&[HEAD, THEN, &[2, 3, 5, 2, 0, 1], &[12]]),
+        Refused(4, 17),
+    );
 }
 
 /// Each number of a plan made each telling value, and each byte each byte: compared only.

@@ -74,6 +74,8 @@ pub struct Sheet {
     pub numbers: Vec<(usize, Kind, u32)>,
     pub deepest: u32,
     pub deepest_expression: u32,
+    /// Partner, operation and count of the receives and arms so far.
+    pub asked: Vec<(u32, u32, usize)>,
 }
 
 /// The bytes of one number.
@@ -115,8 +117,17 @@ impl Sheet {
         }
     }
 
+    /// The count that a receive or an arm of this pair must have, where there is one already.
+    pub fn count_of(&self, partner: u32, operation: u32) -> Option<usize> {
+        let same = |asked: &&(u32, u32, usize)| (asked.0, asked.1) == (partner, operation);
+        self.asked.iter().find(same).map(|asked| asked.2)
+    }
+
     /// Code, partner, operation, count and variables; or an arm's, without the code.
     pub fn message(&mut self, code: Option<u32>, partner: u32, operation: u32, variables: &[u32]) {
+        if code != Some(1) {
+            self.asked.push((partner, operation, variables.len()));
+        }
         if let Some(code) = code {
             self.put(Kind::Code, code);
         }
@@ -187,6 +198,11 @@ impl Writer<'_> {
     /// A chance in 60 to break a rule, in a loose plan.
     fn slip(&mut self) -> bool {
         self.shape.loose && self.random.below(60) == 0
+    }
+
+    /// A chance in 6 to let receives disagree, in a loose plan.
+    fn careless(&mut self) -> bool {
+        self.shape.loose && self.random.below(6) == 0
     }
 
     fn variable(&mut self) -> u32 {
@@ -270,10 +286,30 @@ impl Writer<'_> {
 
     /// Partner, operation and tuple, after the code if there is one.
     fn message(&mut self, code: Option<u32>, distinct: bool) {
-        let partner = self.random.below(64) as u32;
-        let operation = self.random.below(64) as u32;
-        let count = self.random.from_to(1, 4);
+        let mut partner = self.random.below(64) as u32;
+        let mut operation = self.random.below(64) as u32;
+        // Now and then a pair, or a partner, that was there before.
+        if !self.sheet.asked.is_empty() && self.random.percent(30) {
+            let before = self.sheet.asked[self.random.below(self.sheet.asked.len())];
+            partner = before.0;
+            if self.random.percent(70) {
+                operation = before.1;
+            }
+        }
         let mut variables: Vec<u32> = Vec::new();
+        // A loose receive that names a variable twice may have more places than there are variables.
+        let agreed = self.sheet.count_of(partner, operation);
+        let able = distinct && agreed.is_some_and(|count| count <= self.variables as usize);
+        if let Some(count) = agreed.filter(|_| able && !self.careless()) {
+            while variables.len() < count {
+                let variable = self.variable();
+                if !variables.contains(&variable) {
+                    variables.push(variable);
+                }
+            }
+            return self.sheet.message(code, partner, operation, &variables);
+        }
+        let count = self.random.from_to(1, 4);
         for _ in 0..count {
             let variable = self.variable();
             if !distinct || !variables.contains(&variable) || self.slip() {

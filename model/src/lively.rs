@@ -333,6 +333,18 @@ impl Writer<'_> {
             self.most_places
         };
         let mut variables = Vec::new();
+        let agreed = self.sheet.count_of(partner as u32, operation as u32);
+        if let Some(count) = agreed.filter(|_| distinct) {
+            while variables.len() < count {
+                let variable = self.variable();
+                if !variables.contains(&variable) {
+                    variables.push(variable);
+                }
+            }
+            return self
+                .sheet
+                .message(code, partner as u32, operation as u32, &variables);
+        }
         for _ in 0..self.random.from_to(1, most) {
             let variable = self.variable();
             if !distinct || !variables.contains(&variable) {

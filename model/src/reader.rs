@@ -1,4 +1,4 @@
-//! The model of the plan reader: one pass over the bytes, written from document 01 alone.
+//! The model of the plan reader: one pass over the bytes, written from document 01 and from document 02's eighth request.
 
 pub const MAX_BYTES: usize = 4096;
 pub const MAX_ACTIVITIES: usize = 256;
@@ -106,6 +106,8 @@ fn read_parts(bytes: &[u8], numbers: impl Numbers, parts: &mut Vec<Part>) -> Res
         variables: 0,
         correlation: 0,
         parts,
+        asked: Vec::new(),
+        differs: None,
     };
     reading.header()?;
     let body = reading.place;
@@ -117,7 +119,10 @@ fn read_parts(bytes: &[u8], numbers: impl Numbers, parts: &mut Vec<Part>) -> Res
     if !starts {
         return refuse(7, body);
     }
-    Ok(())
+    match reading.differs {
+        Some(place) => refuse(21, place),
+        None => Ok(()),
+    }
 }
 
 /// The reading of one plan: where it stands and what it has seen.
@@ -130,6 +135,10 @@ struct Reading<'a, N> {
     /// Bit v is set when variable v is for correlation.
     correlation: u32,
     parts: &'a mut Vec<Part>,
+    /// Partner, operation and count of the receives and arms so far, each pair once.
+    asked: Vec<(u32, u32, u32)>,
+    /// The place of the first count that differs from an earlier one for its pair.
+    differs: Option<usize>,
 }
 
 impl<N: Numbers> Reading<'_, N> {
@@ -211,14 +220,14 @@ impl<N: Numbers> Reading<'_, N> {
         let starts = match code {
             // send
             1 => {
-                self.within(0, 63)?;
-                self.operation_and_tuple(false)?;
+                let partner = self.within(0, 63)?;
+                self.operation_and_tuple(partner, false)?;
                 false
             }
             // receive
             2 => {
-                self.within(0, 63)?;
-                self.operation_and_tuple(true)?;
+                let partner = self.within(0, 63)?;
+                self.operation_and_tuple(partner, true)?;
                 true
             }
             // set
@@ -287,18 +296,22 @@ impl<N: Numbers> Reading<'_, N> {
     /// An arm of a pick at `depth`. The arm itself adds no depth.
     fn arm(&mut self, depth: u32, handler: bool) -> Result<(), Refusal> {
         let start = self.place;
-        self.within(0, 63)?;
+        let partner = self.within(0, 63)?;
         let k = self.add(start)?;
-        self.operation_and_tuple(true)?;
+        self.operation_and_tuple(partner, true)?;
         self.activity(depth + 1, handler)?;
         self.end(k);
         Ok(())
     }
 
-    /// What follows a partner: operation, count and variables.
-    fn operation_and_tuple(&mut self, distinct: bool) -> Result<(), Refusal> {
-        self.within(0, 63)?;
+    /// What follows a partner: operation, count and variables; `distinct` in a receive and in an arm.
+    fn operation_and_tuple(&mut self, partner: u32, distinct: bool) -> Result<(), Refusal> {
+        let operation = self.within(0, 63)?;
+        let place = self.place;
         let count = self.within(1, 4)?;
+        if distinct {
+            self.ask(partner, operation, count, place);
+        }
         let mut seen = 0u32;
         for _ in 0..count {
             let place = self.place;
@@ -309,6 +322,16 @@ impl<N: Numbers> Reading<'_, N> {
             seen |= 1 << variable;
         }
         Ok(())
+    }
+
+    /// A receive or an arm whose count is at `place`.
+    fn ask(&mut self, partner: u32, operation: u32, count: u32, place: usize) {
+        let same = |asked: &&(u32, u32, u32)| asked.0 == partner && asked.1 == operation;
+        match self.asked.iter().find(same) {
+            None => self.asked.push((partner, operation, count)),
+            Some(first) if first.2 != count && self.differs.is_none() => self.differs = Some(place),
+            Some(_) => {}
+        }
     }
 
     fn expression(&mut self, depth: u32) -> Result<(), Refusal> {

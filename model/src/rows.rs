@@ -143,6 +143,7 @@ fn spelled(table: &[u32]) -> Result<Vec<u8>, Refusal> {
         variables: 0,
         correlation: Vec::new(),
         count: 0,
+        asked: Vec::new(),
         bytes: Vec::new(),
     };
     rows.head()?;
@@ -154,10 +155,24 @@ fn spelled(table: &[u32]) -> Result<Vec<u8>, Refusal> {
     if !starts {
         return refuse(7, 1);
     }
+    if let Some(row) = disagreeing(&rows.asked) {
+        return refuse(21, row);
+    }
     if rows.bytes.len() > MAX_BYTES {
         return refuse(1, 0);
     }
     Ok(rows.bytes)
+}
+
+/// The row of the first receive or arm whose count differs from that of an earlier one for the same pair.
+fn disagreeing(asked: &[(usize, [u32; 3])]) -> Option<usize> {
+    let differs = |&(i, (_, [partner, operation, count])): &(usize, &(usize, [u32; 3]))| {
+        asked[..i]
+            .iter()
+            .any(|(_, [p, o, c])| p == partner && o == operation && c != count)
+    };
+    let first = asked.iter().enumerate().find(differs)?;
+    Some(first.1.0)
 }
 
 /// The reading of a table: the next row, and what the rows before it said.
@@ -168,6 +183,8 @@ struct Rows<'a> {
     correlation: Vec<u32>,
     /// Activities and arms so far.
     count: usize,
+    /// The row of each receive and arm, with its partner, its operation and its count.
+    asked: Vec<(usize, [u32; 3])>,
     bytes: Vec<u8>,
 }
 
@@ -276,6 +293,9 @@ impl<'a> Rows<'a> {
         if !legal {
             return refuse(5, at);
         }
+        if code == 2 {
+            self.asked.push((at, [row[2], row[3], row[4]]));
+        }
         if let 3 | 6 | 7 = code {
             self.expression(1)?;
         }
@@ -313,6 +333,7 @@ impl<'a> Rows<'a> {
         if !self.exchange(row, 2, true) {
             return refuse(5, at);
         }
+        self.asked.push((at, [row[1], row[2], row[3]]));
         Ok(())
     }
 }
@@ -383,5 +404,26 @@ mod tests {
         let mut other = table.clone();
         other[20..40].copy_from_slice(&row(&[0]));
         tried(&other, 0, 7, 1);
+    }
+
+    #[test]
+    fn receives_that_disagree() {
+        let plan = |operation| -> Vec<u32> {
+            let rows: [&[u32]; 5] = [
+                &[1, 2, 0],
+                &[8, 2],
+                &[2, 3, 5, 2, 0, 1],
+                &[2, 3, operation, 1, 0],
+                &[0],
+            ];
+            rows.iter().flat_map(|numbers| row(numbers)).collect()
+        };
+        let mut out = [9; 17];
+        let refused = Refusal {
+            number: 21,
+            place: 3,
+        };
+        assert_eq!(write(&plan(5), &mut out[..0]), Err(refused));
+        assert_eq!(write(&plan(6), &mut out), Ok(17));
     }
 }

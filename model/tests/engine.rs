@@ -54,7 +54,7 @@ fn plays(text: &str, scenarios: usize) {
 
 #[test]
 fn every_scenario() {
-    plays(TEXT, 90);
+    plays(TEXT, 69);
 }
 
 #[test]

@@ -12,7 +12,8 @@ use Rattle.plan.specs.declared.Answer.{Answer}
 use Rattle.plan.specs.declared.Answer.the-variants.{Accepted}
 use Rattle.plan.specs.Answers.{answerOf, tableInto, tableFor, flagsFor}
 use Rattle.plan.specs.Found.{Found, refused, found, andThen}
-use Rattle.plan.specs.Read.{readPlan}
+use Rattle.plan.specs.Read.{readAny, readPlan}
+use Rattle.plan.proofs.Agreeing.{accepted-any}
 use Rattle.plan.specs.Tree.{Plan}
 use Rattle.plan.proofs.Accepts.{both}
 use Rattle.machine.specs.declared.Message.{Message}
@@ -87,8 +88,8 @@ ruled-length s {b} e t l =
 
 -- `load`
 pub short-found : (s : List ℕ) {p : Plan} {next : ℕ} → readPlan s ≡ found p next → length s ≤ 4096
-unfolding readPlan
-short-found s {p} {next} q = ltb-false 4096 (length s) (go (ltb 4096 (length s)) _ q)
+unfolding readAny
+short-found s {p} {next} q = ltb-false 4096 (length s) (go (ltb 4096 (length s)) _ (accepted-any s q))
   where
     go : (b : Bool) (x : Found Plan) → cond b (refused 1 0) x ≡ found p next → b ≡ false
     go true x e = let z : _≡_ {A = ℕ} 0 1 = cc in absurd (omega arith)

@@ -18,7 +18,7 @@ use Rattle.numbers.proofs.Laws.{shortest-is-read, shortest-long}
 use Rattle.plan.specs.Found.{Found, refused, found, andThen, foundNumber, numberIn, fieldIn, among}
 use Rattle.plan.specs.Spell.{spell}
 use Rattle.plan.specs.Tree.{Exp, Own, send, receive, set, choose, repeat, sequence, flow, pick, arm, kind, Act, Plan, size}
-use Rattle.plan.specs.Read.{expressionCodeIn, operationOf, leafIn, expressionIn, variablesIn, tupleIn, Head, head, exchangeIn, armIn, partnerIn, withExpressionIn, setIn, listIn, codeIn, partsIn, headIn, manyIn, wholeIn, readArm, readsIn, laterOf, readAct, startForm, correlationIn, versionIn, closing, rootIn, readPlan}
+use Rattle.plan.specs.Read.{expressionCodeIn, operationOf, leafIn, expressionIn, variablesIn, tupleIn, Head, head, exchangeIn, armIn, partnerIn, withExpressionIn, setIn, listIn, codeIn, partsIn, headIn, manyIn, wholeIn, readArm, readsIn, laterOf, readAct, startForm, correlationIn, versionIn, closing, rootIn, readAny}
 use Rattle.mend.specs.Padded.{groupsAt, paddedAt, numbersFrom, numbersOf, shortened, placeFrom, placeOf, lastPlace, noNumber, original, readPadded}
 use Rattle.mend.proofs.PaddedLaws.{next-below, padded-bounds, padded-end}
 use Rattle.mend.proofs.RunReturns.{None, short, bad, none-as, end-none, numbers-none, spell-some, place-none, place-there, place-further, Left, left-over}
@@ -84,6 +84,10 @@ pub stands-start : (o : List ℕ) → Stands o 0 0
 unfolding placeOf shortened numbersOf
 stands-start o = record { left = length o; enough = omega arith; inside = omega arith; within = omega arith; there = refl; same = λ i h. refl }
 
+pub start-left : (o : List ℕ) → stands-start o .left ≡ length o
+unfolding stands-start
+start-left o = refl
+
 module _ {o : List ℕ} {at q : ℕ} (r : Stands o at q) where
   pub stands-place : placeOf o q ≡ at
   stands-place = r .same q (omega arith) ∙ place-there (r .left) o at q q (omega arith)
@@ -97,10 +101,10 @@ module _ {o : List ℕ} {at q : ℕ} (r : Stands o at q) where
       (omega (arith, r .within), r .same (length (shortened o)) (r .within) ∙ place-none (r .left) o at q (length (shortened o)) h)
 
   module _ {v next : ℕ} (e : paddedAt o at ≡ Value v next) where
-    over : Left o at v next (r .left)
+    pub over : Left o at v next (r .left)
     over = left-over o at v next (r .left) e (r .enough)
 
-    spelled-there : drop q (shortened o) ≡ shortest v ++ spell (numbersFrom (over .rest) o next)
+    pub spelled-there : drop q (shortened o) ≡ shortest v ++ spell (numbersFrom (over .rest) o next)
     spelled-there = r .there ∙ ap (λ k. spell (numbersFrom k o at)) (over .is) ∙ spell-some (over .rest) o at e
 
     room : q + length (shortest v) ≤ length (shortened o)
@@ -124,6 +128,10 @@ module _ {o : List ℕ} {at q : ℕ} (r : Stands o at q) where
           ∙ place-further (over .rest) o at q i (omega (arith, h, shortest-long v .0)) e;
     }
 
+    pub stands-left : stands-next .left ≡ over .rest
+    unfolding stands-next
+    stands-left = refl
+
 -- What plain reading makes of o, and what it makes of the shortened bytes.
 data Goes (o : List ℕ) {A : Type 0} : Found A → Found A → Type 0 where
   same : {a : A} {next q : ℕ} → Stands o next q → Goes o (found a next) (found a q)
@@ -142,7 +150,7 @@ module _ {o : List ℕ} where
   goes-cond false f g = g
 
   -- a refusal at a number
-  kept : {A : Type 0} {number at q : ℕ} → eqb number 2 ≡ false → eqb number 7 ≡ false → Stands o at q → Goes o {A = A} (refused number at) (refused number q)
+  kept : {A : Type 0} {number at q : ℕ} → eqb number 2 ≡ false → (eqb number 7 || eqb number 21) ≡ false → Stands o at q → Goes o {A = A} (refused number at) (refused number q)
   unfolding original
   kept {number = n} {at} {q} i j r =
       let e : original o (refused n q) ≡ refused n at = rw (i, j) (ap (refused n) (stands-place r)) in
@@ -347,7 +355,7 @@ module _ (o : List ℕ) where
         ]
 
 -- What plain reading makes of a whole plan, and what it makes of its shortened bytes.
-data Ends (o : List ℕ) : Found Plan → Found Plan → Type 0 where
+pub data Ends (o : List ℕ) : Found Plan → Found Plan → Type 0 where
   three : {place : ℕ} {y : Found Plan} → Ends o (refused 3 place) y
   alike : {x y : Found Plan} → original o y ≡ x → Ends o x y
 
@@ -363,28 +371,11 @@ root o vars cs {at} {q} r =
     ends-then (activity o 16 vars cs false 0 at q r) (λ body i j m.
     ends-then (activity o 16 vars cs true (size body) i j m) (λ fault u v w. alike (closing-kept o _ r w)))
 
-plan-ends : (o : List ℕ) → length o ≤ 4096 → Ends o (readPlan o) (readPlan (shortened o))
-unfolding readPlan
-plan-ends o l =
+pub any-ends : (o : List ℕ) → length o ≤ 4096 → Ends o (readAny o) (readAny (shortened o))
+unfolding readAny
+any-ends o l =
     rw (le-ltb 4096 (length o) l, le-ltb 4096 (length (shortened o)) (omega (arith, shortened-fits o)))
     (ends-then (version o) (λ number i j a.
     ends-then (field o 1 17 a) (λ vars k m b.
     ends-then (field o 0 (vars + 1) b) (λ count u v c.
     ends-then (correlation o vars count 0 [] c) (λ cs x y d. root o vars cs d)))))
-
--- Plain reading refuses with 3, or padded reading finds the very same: the plan, or the refusal with its number and place.
-pub data PlainKept (o : List ℕ) : Type 0 where
-  three : (place : ℕ) → readPlan o ≡ refused 3 place → PlainKept o
-  keeps : readPadded o ≡ readPlan o → PlainKept o
-
-by-ends : (o : List ℕ) (x y : Found Plan) → readPlan o ≡ x → readPadded o ≡ original o y → Ends o x y → PlainKept o
-by-ends o _ _ e f (three {place}) = three place e
-by-ends o x y e f (alike i) = keeps (f ∙ i ∙ sym e)
-
-pub plain-kept : (o : List ℕ) → PlainKept o
-unfolding readPadded readPlan
-plain-kept o =
-    elim (decLt 4096 (length o)) [
-      | yes l ↦ keeps (rw (lt-ltb 4096 (length o) l))
-      | no l ↦ by-ends o (readPlan o) (readPlan (shortened o)) refl (rw (le-ltb 4096 (length o) (omega (arith, l)))) (plan-ends o (omega (arith, l)))
-    ]

@@ -4,6 +4,8 @@ pub mod PaddedLaws
 pub mod RunReturns
 pub mod RunLaws
 pub mod Alike
+pub mod Numbers
+pub mod Kept
 pub mod MendReturns
 pub mod Request11
 mod CopyReturns

@@ -2,7 +2,7 @@
 use borrow.Author.Tests.{le-ltb, lt-ltb, ltb-false, eq-eqb, ne-eqb}
 use native.Mathlib.Omega.{arith}
 use mathlib.Core.Path.{_≡_, refl, sym, ap, _∙_}
-use mathlib.Core.Bool.{Bool, true, false, cond}
+use mathlib.Core.Bool.{Bool, true, false, cond, _||_}
 use mathlib.Core.List.{List, [], _∷_}
 use Prim.Native.Nat.{ℕ, suc, _+_, _-_, _<_, _≤_}
 use lib.Dec.{ltb, eqb}
@@ -52,19 +52,30 @@ module _ (s : List ℕ) (last number place : ℕ) (l : last ≡ lastPlace s) whe
   refusal-wanted h e = rw (← l, eq-eqb number 2 h) e
 
   module _ (h : number ≡ 2 → ⊥) where
-    pub refusal-after : number ≡ 7 → last < length s → Reading.Refused 9 last ≡ readingOf (original s (refused number place))
-    unfolding original readingOf
-    refusal-after g f = rw (← l, ne-eqb number 2 h, eq-eqb number 7 g, lt-ltb last (length s) f)
+    module _ {b : Bool} (k : b ≡ (eqb number 7 || eqb number 21)) where
+      pub refusal-after : b ≡ true → last < length s → Reading.Refused 9 last ≡ readingOf (original s (refused number place))
+      unfolding original readingOf
+      refusal-after g f = rw (← l, ne-eqb number 2 h, sym k ∙ g, lt-ltb last (length s) f)
 
-    pub refusal-start : number ≡ 7 → length s ≤ last → {there : ℕ} → there ≡ placeOf s place
-        → Reading.Refused number there ≡ readingOf (original s (refused number place))
-    unfolding original readingOf
-    refusal-start g f e = rw (← l, ne-eqb number 2 h, eq-eqb number 7 g, le-ltb last (length s) f, e, g)
+      pub refusal-start : b ≡ true → length s ≤ last → {there : ℕ} → there ≡ placeOf s place
+          → Reading.Refused number there ≡ readingOf (original s (refused number place))
+      unfolding original readingOf
+      refusal-start g f e = rw (← l, ne-eqb number 2 h, sym k ∙ g, le-ltb last (length s) f, e)
 
-    pub refusal-other : (number ≡ 7 → ⊥) → {there : ℕ} → there ≡ placeOf s place
-        → Reading.Refused number there ≡ readingOf (original s (refused number place))
-    unfolding original readingOf
-    refusal-other g e = rw (ne-eqb number 2 h, ne-eqb number 7 g, e)
+      pub refusal-other : b ≡ false → {there : ℕ} → there ≡ placeOf s place
+          → Reading.Refused number there ≡ readingOf (original s (refused number place))
+      unfolding original readingOf
+      refusal-other g e = rw (ne-eqb number 2 h, sym k ∙ g, e)
+
+-- `comes_last`
+pub last-seven : (number : ℕ) → number ≡ 7 → true ≡ (eqb number 7 || eqb number 21)
+last-seven number e = rw e
+
+pub last-differing : (number : ℕ) → number ≡ 21 → true ≡ (eqb number 7 || eqb number 21)
+last-differing number e = rw e
+
+pub last-none : (number : ℕ) → (number ≡ 7 → ⊥) → (number ≡ 21 → ⊥) → false ≡ (eqb number 7 || eqb number 21)
+last-none number a b = rw (ne-eqb number 7 a, ne-eqb number 21 b)
 
 -- what an answer of the plan reader tells of what is read
 answer-no : (x : Found Plan) {a : plan.Answer} {number place : ℕ} → a ≡ planAnswers.answerOf x → a ≡ plan.Answer.Refused number place
@@ -179,7 +190,7 @@ original-found s (found q m) f e =
     (λ t g. record { next = m; read = f ∙ ap (λ q. found q m) (plan-of g); whole = ltb-false (lastPlace s) (length s) t })
 original-found s (refused number place) f e =
     cond-elim (eqb number 2) e (λ t g. no-number-none s (lastPlace s) (paddedAt s (lastPlace s)) g)
-    (λ t g. cond-elim (eqb number 7) g (λ u k. cond-elim (ltb (lastPlace s) (length s)) k (λ x y. no-plan y) (λ x y. no-plan y)) (λ u k. no-plan k))
+    (λ t g. cond-elim (eqb number 7 || eqb number 21) g (λ u k. cond-elim (ltb (lastPlace s) (length s)) k (λ x y. no-plan y) (λ x y. no-plan y)) (λ u k. no-plan k))
 
 module _ {s : List ℕ} {p : Plan} (w : WholePlan s p) where
   pub whole-spelled : shortened s ≡ spelling p

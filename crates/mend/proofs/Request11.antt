@@ -19,13 +19,15 @@ use Rattle.plan.specs.Read.{readPlan}
 use Rattle.plan.specs.Spell.{spell, planNumbers, spelling}
 use Rattle.plan.specs.Tree.{Plan}
 use Rattle.plan.specs.Within.{planWithin}
-use Rattle.plan.proofs.Accepts.{spelled-is-accepted}
+use Rattle.plan.specs.Agree.{agree}
+use Rattle.plan.proofs.Agreeing.{accepted-agrees, spelled-is-accepted}
 use Rattle.plan.proofs.Limits.{accepted-is-within}
 use Rattle.plan.proofs.Spelled.{accepted-length, accepted-is-spelled}
 use Rattle.mend.specs.Outcome.{putAnswer, putBuffer, answerOf, bufferOf}
 use Rattle.mend.specs.Padded.{paddedAt, numbersFrom, numbersOf, shortened, groupsCut, lastPlace, original, readPadded}
 use Rattle.mend.specs.declared.Answer.{Answer}
-use Rattle.mend.proofs.Alike.{Pair, plain, cut, pair, number-there, PlainKept, three, keeps, plain-kept}
+use Rattle.mend.proofs.Kept.{PlainKept, three, keeps, plain-kept}
+use Rattle.mend.proofs.Numbers.{numbers-small, numbers-back, spell-same}
 use Rattle.mend.proofs.MendReturns.{WholePlan, original-found, whole-spelled, whole-cut, padded-is, no-plan}
 use Rattle.mend.proofs.PaddedLaws.{padded-bounds}
 use Rattle.mend.proofs.RunLaws.{View, none, one, view, spell-bytes, last-place, last-inside}
@@ -52,16 +54,16 @@ pub cut-is-difference : (s : List ℕ) {p : Plan} {next : ℕ} → readPadded s 
 cut-is-difference s e = whole-cut (mended s e)
 
 -- A plan that mends and was refused before was refused with 3.
-pub refused-before : (s : List ℕ) {p : Plan} {next number place : ℕ} → readPadded s ≡ found p next → readPlan s ≡ refused number place → number ≡ 3
-refused-before s {p} {next} {number} {place} e f = by-kept (plain-kept s)
+pub refused-before : (s : List ℕ) {p : Plan} {next number place : ℕ} → Bytes s → readPadded s ≡ found p next → readPlan s ≡ refused number place → number ≡ 3
+refused-before s {p} {next} {number} {place} y e f = by-kept (plain-kept s y)
   where
     by-kept : PlainKept s → number ≡ 3
     by-kept (three q g) = let z : _≡_ {A = Found Plan} (refused 3 q) (refused number place) = sym g ∙ f in cc
     by-kept (keeps g) = no-plan (sym f ∙ sym g ∙ e)
 
 -- "every other trouble keeps its own number and place in the original": whatever plain reading refuses, but not with 3.
-pub other-trouble : (s : List ℕ) {number place : ℕ} → readPlan s ≡ refused number place → (number ≡ 3 → ⊥) → readPadded s ≡ refused number place
-other-trouble s {number} {place} f n = by-kept (plain-kept s)
+pub other-trouble : (s : List ℕ) {number place : ℕ} → Bytes s → readPlan s ≡ refused number place → (number ≡ 3 → ⊥) → readPadded s ≡ refused number place
+other-trouble s {number} {place} y f n = by-kept (plain-kept s y)
   where
     by-kept : PlainKept s → readPadded s ≡ refused number place
     by-kept (three q g) = let z : _≡_ {A = Found Plan} (refused 3 q) (refused number place) = sym g ∙ f in absurd (n cc)
@@ -76,7 +78,7 @@ pub record Identical (s : List ℕ) (p : Plan) : Type 0 where
 pub accepted-identical : (s : List ℕ) {p : Plan} {next : ℕ} → Bytes s → readPlan s ≡ found p next → Identical s p
 accepted-identical s {p} {next} y f =
     let b = sym (accepted-is-spelled s y f) in
-    let r = by-kept (plain-kept s) in
+    let r = by-kept (plain-kept s y) in
     record { read = r; bytes = b; uncut = omega (arith, cut-is-difference s r, ap length b) }
   where
     by-kept : PlainKept s → readPadded s ≡ found p (length s)
@@ -98,106 +100,17 @@ accepted-put s out y f =
 
 -- "Values and order stay": the numbers of what comes out are those of what went in.
 
--- numbers that fit
-data Small : List ℕ → Type 0 where
-  none-small : Small []
-  more-small : {v : ℕ} {ns : List ℕ} → v ≤ 4294967295 → Small ns → Small (v ∷ ns)
-
-small-view : (k : ℕ) (s : List ℕ) (at : ℕ) → View s at → ((next : ℕ) → Small (numbersFrom k s next)) → Small (numbersFrom (suc k) s at)
-small-view k s at (none h) rest = rw (numbers-none (suc k) s at h) none-small
-small-view k s at (one v next e) rest = rw (numbers-some k s at e) (more-small (padded-bounds s at e .small) (rest next))
-
-numbers-small : (left : ℕ) (s : List ℕ) (at : ℕ) → Small (numbersFrom left s at)
-unfolding numbersFrom
-numbers-small zero s at = none-small
-numbers-small (suc k) s at = small-view k s at (view s at) (numbers-small k s)
-
-value-padded : {v next : ℕ} (x y : Number) → x ≡ Value v next → Pair x y → y ≡ Value v next
-value-padded _ _ e plain = e
-value-padded _ _ e cut = let z : _≡_ {A = ℕ} 0 1 = cc in absurd (omega arith)
-value-padded _ _ e three = let z : _≡_ {A = ℕ} 0 1 = cc in absurd (omega arith)
-
-numbers-back : (ns t : List ℕ) (at left : ℕ) → Small ns → at ≤ length t → length t ≤ at + left → drop at t ≡ spell ns → numbersFrom left t at ≡ ns
-unfolding spell
-numbers-back [] t at left _ i n e =
-    let l : length t - at ≡ 0 = simp length-drop at (ap length e) in
-    numbers-none left t at (end-none t at (omega arith))
-numbers-back (v ∷ ns) t at left (more-small h m) i n e =
-    let p = value-padded (numberAt t at) (paddedAt t at) (number-there t (spell ns) at v i e h) (pair t at) in
-    let k : Left t at v (at + length (shortest v)) left = left-over t at v (at + length (shortest v)) left p n in
-    let l : length t - at ≡ length (shortest v) + length (spell ns) = simp (length-drop, length-append) at (ap length e) in
-    let d : drop (at + length (shortest v)) t ≡ spell ns =
-    sym (drop-drop (length (shortest v)) at t) ∙ rw e (drop-append-seam (shortest v) (spell ns)) in
-    ap (λ x. numbersFrom x t at) (k .is) ∙ numbers-some (k .rest) t at p
-    ∙ ap (λ l. v ∷ l) (numbers-back ns t (at + length (shortest v)) (k .rest) m (padded-bounds t at p .inside) (k .enough) d)
-
 pub values-stay : (s : List ℕ) {p : Plan} {next : ℕ} → readPadded s ≡ found p next → numbersOf (spelling p) ≡ numbersOf s
 unfolding numbersOf shortened
 values-stay s {p} e =
     numbers-back (numbersOf s) (spelling p) 0 (length (spelling p)) (numbers-small (length s) s 0) (omega arith) (omega arith) (sym (whole-spelled (mended s e)))
 
--- A shortest form is told apart from every other, whatever follows.
-Cancels : ℕ → Type 0
-Cancels k = (v w : ℕ) (a b : List ℕ) → 0 < k → v < values k → spelled k v ++ a ≡ spelled k w ++ b → (v ≡ w) × (a ≡ b)
-
-some-left : (k v : ℕ) → v < values (suc k) → 128 ≤ v → 0 < k
-unfolding values
-some-left zero v h l = absurd (omega arith)
-some-left (suc k) v h l = omega arith
-
-cancels-more : (k : ℕ) → Cancels k → Cancels (suc k)
-unfolding Cancels values
-cancels-more k rest v w a b _ h e =
-    elim (decLt v 128) [
-      | yes l ↦ elim (decLt w 128) [
-        | yes m ↦ let f : v ∷ a ≡ w ∷ b = rw (spelled-last k v l, spelled-last k w m) at e in (cc, cc)
-        | no m ↦
-            let n : 128 ≤ w = omega (arith, m) in
-            let f : v ∷ a ≡ (w % 128 + 128) ∷ (spelled k (w / 128) ++ b) = rw (spelled-last k v l, spelled-more k w n) at e in
-            let i : v ≡ w % 128 + 128 = cc in
-            absurd (omega arith)
-      ]
-      | no l ↦
-          let g : 128 ≤ v = omega (arith, l) in
-          elim (decLt w 128) [
-            | yes m ↦
-                let f : (v % 128 + 128) ∷ (spelled k (v / 128) ++ a) ≡ w ∷ b = rw (spelled-more k v g, spelled-last k w m) at e in
-                let i : v % 128 + 128 ≡ w = cc in
-                absurd (omega arith)
-            | no m ↦
-                let n : 128 ≤ w = omega (arith, m) in
-                let f : (v % 128 + 128) ∷ (spelled k (v / 128) ++ a) ≡ (w % 128 + 128) ∷ (spelled k (w / 128) ++ b) =
-                rw (spelled-more k v g, spelled-more k w n) at e in
-                let i : v % 128 + 128 ≡ w % 128 + 128 = cc in
-                let j : spelled k (v / 128) ++ a ≡ spelled k (w / 128) ++ b = cc in
-                let (x, y) = rest (v / 128) (w / 128) a b (some-left k v h g) (omega arith) j in
-                (omega (arith, x, i), y)
-          ]
-    ]
-
-cancels : (k : ℕ) → Cancels k
-unfolding Cancels
-cancels zero = λ v w a b h. absurd (omega arith)
-cancels (suc k) = cancels-more k (cancels k)
-
-spell-some-bytes : (v : ℕ) (ns : List ℕ) → spell (v ∷ ns) ≡ [] → ⊥
-unfolding spell
-spell-some-bytes v ns e = omega (arith, shortest-long v .0, length-append (shortest v) (spell ns), ap length e)
-
-spell-same : (ms ns : List ℕ) → Small ms → spell ms ≡ spell ns → ms ≡ ns
-unfolding spell shortest values Cancels
-spell-same [] [] _ e = refl
-spell-same [] (w ∷ ns) _ e = absurd (spell-some-bytes w ns (sym e))
-spell-same (v ∷ ms) [] _ e = absurd (spell-some-bytes v ms e)
-spell-same (v ∷ ms) (w ∷ ns) (more-small h m) e =
-    let (i, j) = cancels 5 v w (spell ms) (spell ns) (omega arith) (omega arith) e in
-    rw i (ap (λ l. w ∷ l) (spell-same ms ns m j))
-
 -- What bytes mend as the plan p: at most 4,096 of them that are, one after the other and to the end, padded forms of the numbers of p, a plan within the
--- limits of document 01.
+-- limits of document 01 whose receives agree.
 pub record Pads (s : List ℕ) (p : Plan) : Type 0 where
   pub short : length s ≤ 4096
   pub within : planWithin p ≡ true
+  pub agreeing : agree p ≡ true
   pub numbers : numbersOf s ≡ planNumbers p
   pub whole : lastPlace s ≡ length s
 
@@ -208,6 +121,7 @@ pads-of s p e =
     record {
       short = elim (decLt 4096 (length s)) [ yes l ↦ no-plan (rw (lt-ltb 4096 (length s) l) at e) | no l ↦ omega (arith, l) ];
       within = accepted-is-within (shortened s) (w .read);
+      agreeing = accepted-agrees (shortened s) (w .read);
       numbers = spell-same (numbersOf s) (planNumbers p) (numbers-small (length s) s 0) (whole-spelled w);
       whole = omega (arith, w .whole, last-inside s);
     }
@@ -216,7 +130,7 @@ read-of : (s : List ℕ) (p : Plan) → Pads s p → readPadded s ≡ found p (l
 unfolding original shortened spelling
 read-of s p x =
     let t : shortened s ≡ spelling p = ap spell (x .numbers) in
-    let r : readPlan (shortened s) ≡ found p (length (spelling p)) = rw t (spelled-is-accepted p (x .within)) in
+    let r : readPlan (shortened s) ≡ found p (length (spelling p)) = rw t (spelled-is-accepted p (x .within) (x .agreeing)) in
     padded-is s (x .short) ∙ rw (r, le-ltb (lastPlace s) (length s) (omega (arith, x .whole)))
 
 -- Bytes are read as the padded plan p exactly where they are one.

@@ -1,7 +1,7 @@
 -- What a padded plan is: document 02, request 11, "Some partners pad numbers with zero groups". Assumes nothing: these are definitions.
 -- s are the bytes and `at` is a place in them.
 use Prim.Native.Nat.{ℕ, zero, suc, _+_, _-_, _*_, _%_}
-use mathlib.Core.Bool.{cond}
+use mathlib.Core.Bool.{cond, _||_}
 use mathlib.Core.List.{List, [], _∷_}
 use lib.ListN.{length, getD}
 use lib.Dec.{ltb, leb, eqb}
@@ -78,12 +78,12 @@ noNumber s at (Value value next) = refused 2 (length s)
 abbrev pub ended : List ℕ → (at : ℕ) → Found Plan → Found Plan
 ended s at x = cond (ltb at (length s)) (refused 9 at) x
 
--- What s says, where its shortened bytes say this. 2 comes where a number is wanted after the last one; 7, as a plan, only where nothing follows.
+-- What s says, where its shortened bytes say this. 2 comes where a number is wanted after the last one; 7 and 21, as a plan, only where nothing follows.
 unfoldable pub original : List ℕ → Found Plan → Found Plan
 original s (found p next) = ended s (lastPlace s) (found p (length s))
 original s (refused number place) =
     cond (eqb number 2) (noNumber s (lastPlace s) (paddedAt s (lastPlace s)))
-    (cond (eqb number 7) (ended s (lastPlace s) (refused 7 (placeOf s place)))
+    (cond (eqb number 7 || eqb number 21) (ended s (lastPlace s) (refused number (placeOf s place)))
     (refused number (placeOf s place)))
 
 -- What bytes say, read as a padded plan; 1: longer than 4,096 bytes, at 0

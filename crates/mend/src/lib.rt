@@ -2,8 +2,10 @@
 mod padded;
 
 ghost use Prim.Native.Nat.{_-_, _≤_};
+ghost use lib.Dec.{eqb};
 ghost use lib.ListN.{length, take};
 ghost use lib.Seq.{sets};
+ghost use mathlib.Core.Bool.{_||_};
 ghost use mathlib.Core.Path.{_≡_};
 ghost use Rattle.mend.specs.Outcome.{answerOf, bufferOf, putAnswer, putBuffer, readingOf};
 ghost use Rattle.mend.specs.Padded.{readPadded, original, noNumber, paddedAt, shortened, lastPlace};
@@ -55,6 +57,17 @@ fn no_number(s: &[u8], at: usize) -> Reading
     }
 }
 
+// Whether a refusal comes only where nothing follows the plan: 7 and 21.
+fn comes_last(number: u32) -> bool
+    ensures { λ r. ⌜ r ≡ (eqb number 7 || eqb number 21) ⌝ }
+{
+    match number {
+        7 => true,
+        21 => true,
+        _ => false,
+    }
+}
+
 // A refusal of the shortened bytes as one of s, whose numbers end at `last`.
 fn refusal(s: &[u8], last: usize, number: u32, place: usize) -> Reading
     requires { ⌜ last ≡ lastPlace (now s) ⌝ }
@@ -64,7 +77,7 @@ fn refusal(s: &[u8], last: usize, number: u32, place: usize) -> Reading
         return no_number(s, last);
     }
     let there = padded::place_of(s, place);
-    if number == 7 {
+    if comes_last(number) {
         if last < s.len() {
             return Reading::Refused {
                 number: 9,

@@ -1,4 +1,4 @@
--- The spelling of every plan within the limits is accepted as that plan. Assumes nothing.
+-- The spelling of every plan within the limits is read as that plan. Assumes nothing.
 use borrow.Author.Tests.{ltb-true, leb-true, eqb-true, not-true, le-ltb, lt-leb, eq-eqb, ne-eqb}
 use native.Mathlib.Omega.{arith}
 use native.Mathlib.Numerals.{one-add, sub-one}
@@ -14,7 +14,7 @@ use Rattle.numbers.specs.Shortest.{shortest}
 use Rattle.numbers.specs.declared.Number.the-variants.{Value}
 use Rattle.numbers.proofs.Laws.{shortest-is-read}
 use Rattle.plan.specs.Found.{Found, found, andThen, numberIn, fieldIn, among}
-use Rattle.plan.specs.Read.{expressionCodeIn, operationOf, leafIn, expressionIn, variablesIn, tupleIn, Head, head, exchangeIn, armIn, partnerIn, withExpressionIn, setIn, listIn, codeIn, partsIn, headIn, manyIn, readArm, laterOf, readAct, startForm, correlationIn, versionIn, rootIn, readPlan}
+use Rattle.plan.specs.Read.{expressionCodeIn, operationOf, leafIn, expressionIn, variablesIn, tupleIn, Head, head, exchangeIn, armIn, partnerIn, withExpressionIn, setIn, listIn, codeIn, partsIn, headIn, manyIn, readArm, laterOf, readAct, startForm, correlationIn, versionIn, rootIn, readAny}
 use Rattle.plan.specs.Spell.{spell, operationCode, expressionNumbers, exchangeNumbers, ownNumbers, actNumbers, actsNumbers, planNumbers, spelling}
 use Rattle.plan.specs.Tree.{Operation, sum, difference, equal, less, Exp, constant, variable, binary, Own, empty, send, receive, set, raise, leave, choose, repeat, sequence, flow, pick, scope, arm, kind, Act, act, Acts, none, more, Plan, size, sizes, count}
 use Rattle.plan.specs.Within.{expressionWithin, variablesWithin, exchangeWithin, from1, ownWithin, actWithin, actsWithin, ascending, planWithin}
@@ -388,8 +388,8 @@ module _ (p : Plan) (l : Limits p) where
       and-then _ (read (p .fault) false true 16 (size (p .body)) q [] (l .room) (l .fault) (rw (append-nil (actNumbers (p .fault))) u)) (λ e w.
       rw (le-ltb e (length s) (omega (arith, at-end s e w)), l .start) (ends w)))
 
-  plan : {s : List ℕ} → length s ≤ 4096 → Left [] s 0 (planNumbers p) → Gives [] s (readPlan s) p []
-  unfolding readPlan versionIn planNumbers
+  plan : {s : List ℕ} → length s ≤ 4096 → Left [] s 0 (planNumbers p) → Gives [] s (readAny s) p []
+  unfolding readAny versionIn planNumbers
   plan {s} short t =
       let many = ascending-few (p .variables) 0 (p .correlation) (omega arith) (l .ordered) in
       rw (le-ltb 4096 (length s) short)
@@ -398,10 +398,10 @@ module _ (p : Plan) (l : Limits p) where
       and-then _ (field (omega arith) (omega arith) (omega arith) t2) (λ c t3.
       and-then _ (correlation (p .variables) (l .few) 0 [] (p .correlation) (l .ordered) t3) (λ d t4. root t4)))))
 
--- The spelling of a plan within the limits is accepted as that plan.
-pub spelled-is-accepted : (p : Plan) → planWithin p ≡ true → readPlan (spelling p) ≡ found p (length (spelling p))
+-- The spelling of a plan within the limits is read as that plan, whether or not its receives agree.
+pub spelled-is-read : (p : Plan) → planWithin p ≡ true → readAny (spelling p) ≡ found p (length (spelling p))
 unfolding spelling
-spelled-is-accepted p h =
+spelled-is-read p h =
     let l = limits p h in
     let r = plan p l (l .short) (record { inside = omega arith; there = sym (append-nil (spell (planNumbers p))) }) in
     rw (at-end (spelling p) (r .next) (r .after)) at (r .finds)

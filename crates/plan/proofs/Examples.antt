@@ -5,8 +5,11 @@ use mathlib.Core.Bool.{Bool, true, false}
 use mathlib.Core.List.{List, [], _∷_}
 use lib.ListN.{replicate}
 use Rattle.numbers.specs.Shortest.{spelled, shortest}
-use Rattle.plan.specs.Found.{among}
-use Rattle.plan.specs.Read.{starts, startForm, firstStarts, everyStarts}
+use Rattle.numbers.specs.Number.{lastGroup, groups, numberAt}
+use Rattle.plan.specs.Agree.{inBytes, askedOwn, spanOf, spanAll, askedIn, askedAll, asked, agreesWith, judged}
+use Rattle.plan.specs.Found as found
+use Rattle.plan.specs.Found.{Found, numberIn, fieldIn, among}
+use Rattle.plan.specs.Read.{expressionCodeIn, leafIn, expressionIn, variablesIn, tupleIn, exchangeIn, armIn, partnerIn, withExpressionIn, setIn, listIn, codeIn, partsIn, headIn, manyIn, readArm, readAct, starts, startForm, firstStarts, everyStarts, correlationIn, versionIn, rootIn, readAny, readPlan}
 use Rattle.plan.specs.Spell.{spell, operationCode, expressionNumbers, exchangeNumbers, ownNumbers, actNumbers, actsNumbers, planNumbers, spelling}
 use Rattle.plan.specs.Tree.{less, Exp, constant, variable, binary, Own, empty, send, receive, set, raise, leave, choose, sequence, flow, pick, scope, arm, kind, Act, act, Acts, none, more, Plan, size, sizes, count}
 use Rattle.plan.specs.Within.{expressionWithin, variablesWithin, exchangeWithin, ownWithin, actWithin, actsWithin, ascending, planWithin}
@@ -87,3 +90,25 @@ refused =
 pub both-sides : (flagged allowed ≡ replicate 6 true) × (flagged refused ≡ replicate 11 false)
 unfolding planWithin spelling planNumbers actNumbers actsNumbers ownNumbers exchangeNumbers spell shortest spelled count ascending actWithin actsWithin ownWithin exchangeWithin variablesWithin among size sizes startForm firstStarts everyStarts starts kind expressionNumbers operationCode expressionWithin
 both-sides = (refl, refl)
+
+-- Receives that disagree: document 02, request 8.
+
+-- a sequence of two: a receive of partner 3, operation 5 and two variables, and what these bytes say
+abbrev after : List ℕ → List ℕ
+after l = 1 ∷ 2 ∷ 0 ∷ 8 ∷ 2 ∷ 2 ∷ 3 ∷ 5 ∷ 2 ∷ 0 ∷ 1 ∷ l
+
+abbrev told : Found Plan → List ℕ
+told (found.refused number place) = number ∷ place ∷ []
+told (found.found p next) = 0 ∷ next ∷ []
+
+abbrev all : List (List ℕ) → List (List ℕ)
+all [] = []
+all (l ∷ ls) = told (readPlan (after l)) ∷ all ls
+
+-- a receive of the same pair with one variable: 21, at its count; of another operation, and of another partner: none; an arm of the same pair with one
+-- variable: 21, at its count; a send: none; a byte after the plan: 9 comes first
+pub disagree : all ((2 ∷ 3 ∷ 5 ∷ 1 ∷ 0 ∷ 0 ∷ []) ∷ (2 ∷ 3 ∷ 6 ∷ 1 ∷ 0 ∷ 0 ∷ []) ∷ (2 ∷ 4 ∷ 5 ∷ 1 ∷ 0 ∷ 0 ∷ []) ∷ (10 ∷ 1 ∷ 3 ∷ 5 ∷ 1 ∷ 0 ∷ 0 ∷ 0 ∷ [])
+    ∷ (1 ∷ 3 ∷ 5 ∷ 1 ∷ 0 ∷ 0 ∷ []) ∷ (2 ∷ 3 ∷ 5 ∷ 1 ∷ 0 ∷ 0 ∷ 0 ∷ []) ∷ [])
+    ≡ (21 ∷ 14 ∷ []) ∷ (0 ∷ 17 ∷ []) ∷ (0 ∷ 17 ∷ []) ∷ (21 ∷ 15 ∷ []) ∷ (0 ∷ 17 ∷ []) ∷ (9 ∷ 17 ∷ []) ∷ []
+unfolding lastGroup groups numberAt numberIn fieldIn among kind size count expressionCodeIn leafIn expressionIn variablesIn tupleIn exchangeIn armIn partnerIn withExpressionIn setIn listIn codeIn partsIn headIn manyIn readArm readAct starts startForm firstStarts everyStarts correlationIn versionIn rootIn readAny readPlan inBytes askedOwn spanOf spanAll askedIn askedAll asked agreesWith judged spelled shortest spell operationCode expressionNumbers exchangeNumbers ownNumbers
+disagree = refl

@@ -1,6 +1,7 @@
 -- What other crates' proofs cite of this one.
 pub mod Examples
 pub mod Accepts
+pub mod Agreeing
 pub mod Finds
 pub mod Stands
 pub mod Spelled
@@ -12,7 +13,12 @@ pub mod TableSpells
 pub mod ExpressionReads
 pub mod OwnReads
 pub mod Stores
+pub mod TableLong
 pub mod TupleReads
 pub mod HeadReads
 pub mod TreeReads
 pub mod RootReads
+pub mod HearReturns
+pub mod Hears
+pub mod RowsAsked
+pub mod AgreedReads

@@ -14,12 +14,14 @@ use Rattle.numbers.specs.Shortest.{Bytes}
 use Rattle.numbers.specs.declared.Number.{Number}
 use Rattle.numbers.specs.declared.Number.the-variants.{Value, Short, Bad}
 use Rattle.numbers.proofs.Laws.{value-bounds}
+use Rattle.plan.specs.Agree.{agree}
 use Rattle.plan.specs.Found.{Found, found, foundNumber, numberIn, fieldIn, among}
-use Rattle.plan.specs.Read.{expressionCodeIn, leafIn, expressionIn, variablesIn, tupleIn, Head, head, exchangeIn, armIn, partnerIn, withExpressionIn, setIn, listIn, codeIn, partsIn, headIn, manyIn, readArm, laterOf, readAct, startForm, correlationIn, versionIn, rootIn, readPlan}
+use Rattle.plan.specs.Read.{expressionCodeIn, leafIn, expressionIn, variablesIn, tupleIn, Head, head, exchangeIn, armIn, partnerIn, withExpressionIn, setIn, listIn, codeIn, partsIn, headIn, manyIn, readArm, laterOf, readAct, startForm, correlationIn, versionIn, rootIn, readAny, readPlan}
 use Rattle.plan.specs.Spell.{spelling}
 use Rattle.plan.specs.Tree.{Exp, Own, send, receive, set, choose, repeat, sequence, flow, pick, arm, kind, Act, Plan, size}
 use Rattle.plan.specs.Within.{expressionWithin, variablesWithin, exchangeWithin, from1, ownWithin, actWithin, actsWithin, ascending, planWithin}
-use Rattle.plan.proofs.Accepts.{both, among-append, reader, spelled-is-accepted}
+use Rattle.plan.proofs.Accepts.{both, among-append, reader, spelled-is-read}
+use Rattle.plan.proofs.Agreeing.{accepted-any, accepted-agrees, spelled-is-accepted}
 use Rattle.plan.proofs.Finds.{Finds, finds-refused, finds-itself, finds-found, finds-cond, finds-code, finds-then, finds-both, finds-so}
 use Rattle.plan.proofs.Stands.{many-count, plan-stands}
 use Rattle.plan.proofs.Spelled.{accepted-is-spelled}
@@ -261,8 +263,8 @@ root-within vars cs s at a b c =
     (λ u. finds-found (λ k. rw (le-leb _ 4096 k, le-leb 1 vars a, le-leb vars 16 b, c, x, y .0, le-leb (size body + size fault) 256 (y .1), u)))
     (λ u. finds-refused))))
 
-plan-within : (s : List ℕ) → Finds (λ p next. (length s ≤ 4096) × Kept p) (readPlan s)
-unfolding readPlan
+plan-within : (s : List ℕ) → Finds (λ p next. (length s ≤ 4096) × Kept p) (readAny s)
+unfolding readAny
 plan-within s =
     finds-cond (ltb 4096 (length s)) (λ t. finds-refused)
     (λ t. finds-so (finds-then (finds-itself (versionIn s))
@@ -272,22 +274,26 @@ plan-within s =
     (λ cs at c. root-within vars cs s at (w .0) (omega (arith, w .1)) (rw (c .all) (c .rise)))))))
     (λ p next k. (ltb-false 4096 (length s) t, k)))
 
--- What is accepted is within the limits.
-pub accepted-is-within : (s : List ℕ) {p : Plan} {next : ℕ} → readPlan s ≡ found p next → planWithin p ≡ true
+-- What is read is within the limits, whether or not its receives agree.
+pub any-is-within : (s : List ℕ) {p : Plan} {next : ℕ} → readAny s ≡ found p next → planWithin p ≡ true
 unfolding spelling
-accepted-is-within s e =
+any-is-within s e =
     let (short, kept) = plan-within s .holds e in
     let r = plan-stands s .holds e in
     kept (omega (arith, r .last, r .plan .ends))
 
--- Bytes are accepted as a plan exactly where they spell it and it is within the limits.
-pub accepted-exactly : (s : List ℕ) (p : Plan) → Bytes s → (readPlan s ≡ found p (length s)) ↔ ((planWithin p ≡ true) × (s ≡ spelling p))
+-- What is accepted is within the limits.
+pub accepted-is-within : (s : List ℕ) {p : Plan} {next : ℕ} → readPlan s ≡ found p next → planWithin p ≡ true
+accepted-is-within s e = any-is-within s (accepted-any s e)
+
+-- Bytes are accepted as a plan exactly where they spell it, it is within the limits, and its receives agree.
+pub accepted-exactly : (s : List ℕ) (p : Plan) → Bytes s → (readPlan s ≡ found p (length s)) ↔ ((planWithin p ≡ true) × ((agree p ≡ true) × (s ≡ spelling p)))
 accepted-exactly s p y =
-    (λ e. (accepted-is-within s e, accepted-is-spelled s y e), λ k. rw (k .1) (spelled-is-accepted p (k .0)))
+    (λ e. (accepted-is-within s e, (accepted-agrees s e, accepted-is-spelled s y e)), λ k. rw (k .1 .1) (spelled-is-accepted p (k .0) (k .1 .0)))
 
 -- Plans within the limits that are spelled alike are the same.
 pub spelling-tells : (p q : Plan) → planWithin p ≡ true → planWithin q ≡ true → spelling p ≡ spelling q → p ≡ q
 spelling-tells p q h k e =
-    let a = spelled-is-accepted p h in
-    let b = spelled-is-accepted q k in
+    let a = spelled-is-read p h in
+    let b = spelled-is-read q k in
     cc

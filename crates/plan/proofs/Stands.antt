@@ -17,7 +17,7 @@ use Rattle.numbers.proofs.Laws.{read-ends, read-is-shortest, value-bounds, shor
 use Rattle.plan.specs.Found.{Found, foundNumber, numberIn, fieldIn, among}
 use Rattle.plan.specs.Tree.{Exp, constant, variable, binary, Own, empty, send, receive, set, raise, leave, choose, repeat, sequence, flow, pick, scope, arm, kind, Act, act, Plan, size, count}
 use Rattle.plan.specs.Spell.{spell, operationCode, expressionNumbers, exchangeNumbers, ownNumbers, actNumbers, actsNumbers, planNumbers}
-use Rattle.plan.specs.Read.{expressionCodeIn, operationOf, leafIn, expressionIn, variablesIn, tupleIn, Head, exchangeIn, armIn, partnerIn, withExpressionIn, setIn, listIn, codeIn, partsIn, headIn, manyIn, wholeIn, readArm, readsIn, laterOf, readAct, startForm, correlationIn, versionIn, rootIn, readPlan}
+use Rattle.plan.specs.Read.{expressionCodeIn, operationOf, leafIn, expressionIn, variablesIn, tupleIn, Head, exchangeIn, armIn, partnerIn, withExpressionIn, setIn, listIn, codeIn, partsIn, headIn, manyIn, wholeIn, readArm, readsIn, laterOf, readAct, startForm, correlationIn, versionIn, rootIn, readAny}
 use Rattle.plan.proofs.Finds.{Finds, finds-refused, finds-itself, finds-found, finds-cond, finds-code, finds-then, finds-both, finds-so, cond-case, code-case}
 
 -- From `at` to `next` the numbers ns stand in their spelling, each in the shortest form.
@@ -338,8 +338,8 @@ version-stands s =
     finds-then (number-stands s 0)
     (λ version next h. finds-cond (eqb version 1) (λ t. finds-found (rw (eqb-true version 1 t) at h)) (λ t. finds-refused))
 
-pub plan-stands : (s : List ℕ) → Finds (PlanStands s) (readPlan s)
-unfolding readPlan
+pub plan-stands : (s : List ℕ) → Finds (PlanStands s) (readAny s)
+unfolding readAny
 plan-stands s =
     finds-cond (ltb 4096 (length s)) (λ t. finds-refused)
     (λ t. finds-then (version-stands s)

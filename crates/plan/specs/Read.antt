@@ -1,4 +1,5 @@
--- What a list of bytes says, read as a plan: document 01, "The plan on file" and refusals 1 to 9. Assumes nothing: these are definitions.
+-- What a list of bytes says, read as a plan: document 01, "The plan on file" and refusals 1 to 9, and refusal 21 of document 02. Assumes nothing: these
+-- are definitions.
 -- `vars` is the count V of variables, cs the correlation variables, s the bytes, `at` the place read at and n the number of the activity or arm there.
 -- `handler` holds inside a fault part or an undo part.
 use Prim.Native.Nat.{ℕ, zero, suc, _+_}
@@ -6,6 +7,7 @@ use mathlib.Core.Bool.{Bool, true, false, cond, _&&_, _||_}
 use mathlib.Core.List.{List, [], _∷_, _++_}
 use lib.ListN.{length}
 use lib.Dec.{ltb, leb, eqb}
+use Rattle.plan.specs.Agree.{asked, judged}
 use Rattle.plan.specs.Found.{Found, refused, found, andThen, numberIn, fieldIn, among}
 use Rattle.plan.specs.Tree.{Operation, sum, difference, equal, less, Exp, constant, variable, binary, Own, empty, send, receive, set, raise, leave, choose, repeat, sequence, flow, pick, scope, arm, kind, Act, act, Acts, none, more, Plan, size, sizes}
 
@@ -193,12 +195,16 @@ rootIn vars cs s at =
     andThen (readAct 16 vars cs s true (size body) p) (λ fault q.
     closing s (record { variables = vars; correlation = cs; body = body; fault = fault }) at q))
 
--- a plan; 1: plan longer than 4,096 bytes, at 0
-unfoldable pub readPlan : List ℕ → Found Plan
-readPlan s =
+-- a plan, whether or not its receives agree; 1: plan longer than 4,096 bytes, at 0
+unfoldable pub readAny : List ℕ → Found Plan
+readAny s =
     cond (ltb 4096 (length s)) (refused 1 0)
     (andThen (versionIn s) (λ version p.
     andThen (fieldIn s 1 17 p) (λ vars q.
     andThen (fieldIn s 0 (vars + 1) q) (λ count r.
     andThen (correlationIn vars s count 0 [] r) (λ cs at.
     rootIn vars cs s at)))))
+
+-- a plan; 21, "last of all plan refusals"
+unfoldable pub readPlan : List ℕ → Found Plan
+readPlan s = andThen (readAny s) (λ p next. judged [] (asked p) (found p next))

@@ -1,4 +1,5 @@
 // Reads plans: document 01, "The plan on file". The public calls are `accept` and `accept_over`.
+pub mod agree;
 mod expressions;
 mod fields;
 mod owns;
@@ -86,7 +87,7 @@ pub fn accept_over(s: &[u8], table: &mut [u32; 11584], correlation: &mut [u8; 16
     ensures flags { λ _. ⌜ now (correlation .exit) ≡ flagsFor (readPlan (now (s .entry))) ⌝ }
 {
     *correlation = [0u8; 16];
-    let a = root::plan_at(s, table, correlation);
+    let a = root::agreed_at(s, table, correlation);
     match a {
         Answer::Accepted {
             variables: _,

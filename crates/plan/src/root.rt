@@ -2,6 +2,7 @@
 use super::Answer;
 use super::Field;
 use super::Out;
+use super::agree::first_differing;
 use super::fields::field_at;
 use super::fields::number_at;
 use super::tree::activities_at;
@@ -11,7 +12,7 @@ ghost use mathlib.Core.Path.{_≡_};
 ghost use Rattle.plan.specs.Answers.{fieldOf, CorrelationRead, RootRead, FlaggedRead, PlanRead, flaggedIn};
 ghost use Rattle.plan.specs.Fits.{NumberFits};
 ghost use Rattle.plan.specs.Nodes.{Base};
-ghost use Rattle.plan.specs.Read.{versionIn, correlationIn, rootIn, readPlan};
+ghost use Rattle.plan.specs.Read.{versionIn, correlationIn, rootIn, readAny, readPlan};
 ghost use Rattle.plan.specs.Store.{chosen};
 ghost use Rattle.plan.specs.Table.{blankFlags};
 
@@ -133,10 +134,10 @@ fn flagged_at(
     }
 }
 
-// The whole plan, over what the table held and into flags that are blank.
-pub(crate) fn plan_at(s: &[u8], table: &mut [u32; 11584], flags: &mut [u8; 16]) -> Answer
+// The whole plan, whether or not its receives agree, over what the table held and into flags that are blank.
+fn plan_at(s: &[u8], table: &mut [u32; 11584], flags: &mut [u8; 16]) -> Answer
     requires { ⌜ now flags ≡ blankFlags ⌝ }
-    ensures { λ r. ⌜ PlanRead (readPlan (now (s .entry))) r (now (table .entry)) (now (table .exit)) (now (flags .exit)) ⌝ }
+    ensures { λ r. ⌜ PlanRead (readAny (now (s .entry))) r (now (table .entry)) (now (table .exit)) (now (flags .exit)) ⌝ }
 {
     if 4096 < s.len() {
         return Answer::Refused {
@@ -156,6 +157,32 @@ pub(crate) fn plan_at(s: &[u8], table: &mut [u32; 11584], flags: &mut [u8; 16]) 
                     next: after,
                 } => flagged_at(s, after, vars, table, flags),
             }
+        }
+    }
+}
+
+// The whole plan, whose receives agree.
+pub(crate) fn agreed_at(s: &[u8], table: &mut [u32; 11584], flags: &mut [u8; 16]) -> Answer
+    requires { ⌜ now flags ≡ blankFlags ⌝ }
+    ensures { λ r. ⌜ PlanRead (readPlan (now (s .entry))) r (now (table .entry)) (now (table .exit)) (now (flags .exit)) ⌝ }
+{
+    let a = plan_at(s, table, flags);
+    match a {
+        Answer::Refused { number, place } => Answer::Refused { number, place },
+        Answer::Accepted {
+            variables,
+            activities,
+            nodes,
+        } => {
+            let place = first_differing(table, activities);
+            if place == 0 {
+                return Answer::Accepted {
+                    variables,
+                    activities,
+                    nodes,
+                };
+            }
+            Answer::Refused { number: 21, place }
         }
     }
 }

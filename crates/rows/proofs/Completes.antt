@@ -14,11 +14,14 @@ use Rattle.plan.specs.Found.{Found, refused, found, andThen, among}
 use Rattle.plan.specs.Read.{operationOf, Head, head, manyIn, laterOf, startForm}
 use Rattle.plan.specs.Spell.{operationCode, exchangeNumbers, spelling}
 use Rattle.plan.specs.Tree.{Operation, sum, difference, equal, less, Exp, constant, variable, binary, Own, empty, send, receive, set, raise, leave, choose, repeat, sequence, flow, pick, scope, arm, kind, Act, act, Acts, none, more, Plan, size, sizes, count}
+use Rattle.plan.specs.Agree.{askedFrom, agree, judged}
 use Rattle.plan.specs.Within.{expressionWithin, variablesWithin, exchangeWithin, from1, ownWithin, actWithin, actsWithin, ascending, planWithin}
 use Rattle.plan.proofs.Accepts.{both}
 use Rattle.writer.specs.Rows.{line, lines, expressionRows, ownRows, actRows, actsRows, planRows, rowsOf}
-use Rattle.writer.specs.Reading.{cell, zeros, shaped, tuple, rowIn, expressionFits, expressionHead, expressionAt, exchangeFits, armAt, codeAt, partsFit, withExpression, partsAt, headAt, armWith, readsAt, actAt, rootAt, headFits, planAt, readRows}
+use Rattle.plan.proofs.Agreeing.{judged-agrees}
+use Rattle.writer.specs.Reading.{cell, zeros, shaped, tuple, rowIn, expressionFits, expressionHead, expressionAt, exchangeFits, armAt, codeAt, partsFit, withExpression, partsAt, headAt, armWith, readsAt, actAt, rootAt, headFits, planAt, inRows, agreedAt, readRows}
 use Rattle.writer.proofs.Lines.{Row, Stands, nil, cons, stands-append, cells-cons, line-long}
+use Rattle.rows.proofs.SamePlaces.{rows-agree}
 
 -- Rows written one after another stand in the table.
 
@@ -344,10 +347,10 @@ limits p h =
       start = g;
     })))))))
 
--- A table in which the rows of a plan within the limits stand, and no more, is read as that plan.
-pub standing-is-read : (t : List ℕ) (p : Plan) {m : ℕ} → planWithin p ≡ true → Stands t 0 (planRows p) m → length t ≤ m * 20 → readRows t ≡ found p m
-unfolding planRows readRows planAt rootAt headFits ReadsAct
-standing-is-read t p {m} h (cons w x) last =
+-- A table in which the rows of a plan within the limits stand, and no more, is read as that plan, whether or not its receives agree.
+standing-is-any : (t : List ℕ) (p : Plan) {m : ℕ} → planWithin p ≡ true → Stands t 0 (planRows p) m → length t ≤ m * 20 → planAt t ≡ found p m
+unfolding planRows planAt rootAt headFits ReadsAct
+standing-is-any t p {m} h (cons w x) last =
     let l = limits p h in
     let cs = p .correlation in
     let y : Tupled3 t 0 (p .variables) cs = tuple3-read {vs = cs} w in
@@ -370,7 +373,16 @@ standing-is-read t p {m} h (cons w x) last =
       reads-act (p .variables) cs t (p .fault) false true 16 (size (p .body)) (s .m) m (l .room) (l .fault) (s .second),
       le-ltb (m * 20) (length t) last,
       l .start,
-      le-ltb 4096 (length (spelling p)) (l .short),
+    )
+
+-- A table in which the rows of a plan within the limits stand, and no more, is read as that plan, where its receives agree.
+pub standing-is-read : (t : List ℕ) (p : Plan) {m : ℕ} → planWithin p ≡ true → agree p ≡ true → Stands t 0 (planRows p) m → length t ≤ m * 20 → readRows t ≡ found p m
+unfolding readRows agreedAt
+standing-is-read t p {m} h k x last =
+    rw (
+      standing-is-any t p h x last,
+      judged-agrees [] (askedFrom inRows p 1) (found p m) (rows-agree p ∙ k),
+      le-ltb 4096 (length (spelling p)) (limits p h .short),
     )
 
 -- no row of a plan within the limits has more than 19 numbers
@@ -434,10 +446,10 @@ unfolding lines Short
 lines-long [] s = refl
 lines-long (ns ∷ l) s = length-append (line ns) (lines l) ∙ omega (arith, line-long ns (s .0), lines-long l (s .1))
 
--- The table of every plan within the limits is read as that plan.
-pub rows-are-read : (p : Plan) → planWithin p ≡ true → readRows (rowsOf p) ≡ found p (length (planRows p))
+-- The table of every plan within the limits whose receives agree is read as that plan.
+pub rows-are-read : (p : Plan) → planWithin p ≡ true → agree p ≡ true → readRows (rowsOf p) ≡ found p (length (planRows p))
 unfolding rowsOf
-rows-are-read p h =
+rows-are-read p h k =
     let s = short-plan p (limits p h) in
     let z : 0 + length (planRows p) ≡ length (planRows p) = omega arith in
-    standing-is-read (lines (planRows p)) p h (rw z at (lines-stand (lines (planRows p)) 0 (planRows p) s (omega arith) refl)) (omega (arith, lines-long (planRows p) s))
+    standing-is-read (lines (planRows p)) p h k (rw z at (lines-stand (lines (planRows p)) 0 (planRows p) s (omega arith) refl)) (omega (arith, lines-long (planRows p) s))

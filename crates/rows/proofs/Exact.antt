@@ -13,16 +13,19 @@ use Rattle.plan.specs.Read.{readPlan}
 use Rattle.plan.specs.Spell.{spelling}
 use Rattle.plan.specs.Tree.{Plan}
 use Rattle.plan.specs.Within.{planWithin}
+use Rattle.plan.specs.Agree.{agree}
+use Rattle.plan.proofs.Agreeing.{accepted-agrees}
 use Rattle.plan.proofs.Limits.{accepted-is-within}
 use Rattle.plan.proofs.Spelled.{accepted-is-spelled}
 use Rattle.plan.proofs.Finds.{Finds, finds-refused, finds-found, finds-cond, finds-then, finds-itself}
-use Rattle.writer.specs.Reading.{planAt, readRows}
+use Rattle.writer.specs.Reading.{planAt, agreedAt, readRows}
 use Rattle.writer.specs.Rows.{planRows, rowsOf}
 use Rattle.writer.specs.Written.{answerFor, bytesFor, rowsAnswer, rowsFor}
+use Rattle.writer.proofs.WriteReturns.{agreed-is-read}
 use Rattle.writer.specs.declared.Answer.{Answer}
 use Rattle.writer.specs.declared.Answer.the-variants.{Wrote}
 use Rattle.rows.proofs.Completes.{rows-are-read}
-use Rattle.rows.proofs.TableLimits.{Words, read-is-within, written-is-accepted}
+use Rattle.rows.proofs.TableLimits.{Words, read-is-within, read-agrees, written-is-accepted}
 use Rattle.rows.proofs.Tables.{read-is-rows}
 use lib.Dec.{ltb}
 use mathlib.Core.Bool.{Bool, true, false, cond}
@@ -30,17 +33,19 @@ use mathlib.Core.Logic.{_↔_}
 
 rows-planned : (t : List ℕ) → Finds (λ p next. planAt t ≡ found p next) (readRows t)
 unfolding readRows
-rows-planned t = finds-then (finds-itself (planAt t)) (λ p next e. finds-cond (ltb 4096 (length (spelling p))) (λ f. finds-refused) (λ f. finds-found e))
+rows-planned t =
+    finds-then (finds-itself (agreedAt t)) (λ p next e.
+    finds-cond (ltb 4096 (length (spelling p))) (λ f. finds-refused) (λ f. finds-found (agreed-is-read t e)))
 
--- A table of numbers of 32 bits is read as a plan exactly where it is the table of a plan within the limits.
-pub read-exactly : (t : List ℕ) (p : Plan) → Words t → (readRows t ≡ found p (length (planRows p))) ↔ ((planWithin p ≡ true) × (t ≡ rowsOf p))
+-- A table of numbers of 32 bits is read as a plan exactly where it is the table of a plan within the limits whose receives agree.
+pub read-exactly : (t : List ℕ) (p : Plan) → Words t → (readRows t ≡ found p (length (planRows p))) ↔ ((planWithin p ≡ true) × ((agree p ≡ true) × (t ≡ rowsOf p)))
 read-exactly t p words =
-    (λ e. (read-is-within t words e, read-is-rows t (rows-planned t .holds e)), λ k. rw (k .1) (rows-are-read p (k .0)))
+    (λ e. (read-is-within t words e, (read-agrees t e, read-is-rows t (rows-planned t .holds e))), λ k. rw (k .1 .1) (rows-are-read p (k .0) (k .1 .0)))
 
 -- The table of an accepted plan is read as that plan, and what is written of it are the plan's bytes.
 pub accepted-comes-back : (s : List ℕ) {p : Plan} {next : ℕ} → Bytes s → readPlan s ≡ found p next
     → (readRows (rowsOf p) ≡ found p (length (planRows p))) × (spelling p ≡ s)
-accepted-comes-back s {p} y e = (rows-are-read p (accepted-is-within s e), sym (accepted-is-spelled s y e))
+accepted-comes-back s {p} y e = (rows-are-read p (accepted-is-within s e) (accepted-agrees s e), sym (accepted-is-spelled s y e))
 
 -- The public calls, one after the other.
 

@@ -8,19 +8,23 @@ use mathlib.Core.List.{List, [], _∷_, _++_}
 use Prim.Native.Nat.{ℕ, zero, suc, _+_, _*_, _-_, _/_, _≤_, _<_}
 use lib.Dec.{eqb, ltb, leb}
 use lib.ListN.{length, getD, take, drop}
+use Rattle.plan.specs.Agree.{askedFrom, agree, judged}
 use Rattle.plan.specs.Found.{Found, refused, found, andThen, among}
 use Rattle.plan.specs.Read.{operationOf, Head, head, manyIn, wholeIn, laterOf, startForm, readPlan}
 use Rattle.plan.specs.Spell.{spelling}
 use Rattle.plan.specs.Tree.{Exp, constant, variable, binary, Own, empty, send, receive, set, raise, leave, choose, repeat, sequence, flow, pick, scope, arm, kind, Act, act, Acts, none, more, Plan, size, count}
 use Rattle.plan.specs.Within.{expressionWithin, variablesWithin, exchangeWithin, from1, ownWithin, levelsBelow, actWithin, actsWithin, ascending, planWithin}
-use Rattle.plan.proofs.Accepts.{both, spelled-is-accepted}
+use Rattle.plan.proofs.Accepts.{both}
+use Rattle.plan.proofs.Agreeing.{judged-found, spelled-is-accepted}
 use Rattle.plan.proofs.Bounds.{Numbered, whole-numbered}
 use Rattle.plan.proofs.Finds.{Finds, finds-refused, finds-itself, finds-found, finds-cond, finds-code, finds-then, finds-so, finds-both, cond-case}
 use Rattle.plan.proofs.Stands.{many-count}
-use Rattle.writer.specs.Reading.{cell, shaped, tuple, rowIn, expressionFits, expressionHead, expressionAt, exchangeFits, armAt, codeAt, partsFit, withExpression, partsAt, headAt, armWith, readsAt, actAt, rootAt, headFits, planAt, readRows}
+use Rattle.writer.specs.Reading.{cell, shaped, tuple, rowIn, expressionFits, expressionHead, expressionAt, exchangeFits, armAt, codeAt, partsFit, withExpression, partsAt, headAt, armWith, readsAt, actAt, rootAt, headFits, planAt, inRows, agreedAt, readRows}
 use Rattle.writer.proofs.Lines.{tuple-long}
+use Rattle.writer.proofs.WriteReturns.{agreed-is-read}
 use Rattle.writer.proofs.OwnReturns.{There, row-finds, Coded, code-finds}
 use Rattle.writer.proofs.ExpressionReturns.{Noded, node-finds}
+use Rattle.rows.proofs.SamePlaces.{rows-agree}
 
 -- every number of the table is one of 32 bits, as in a slice of them
 abbrev pub Words : List ℕ → Type 0
@@ -29,6 +33,24 @@ Words t = (i : ℕ) → getD t i 0 ≤ 4294967295
 fits-below : (vars : ℕ) (t : List ℕ) (r k : ℕ) → expressionFits vars t r k ≡ true → k ≡ 1 → ltb (cell t r 2) vars ≡ true
 unfolding expressionFits
 fits-below vars t r k h e = let g : (ltb (cell t r 2) vars && shaped t r 2) ≡ true = rw e at h in both (ltb (cell t r 2) vars) _ g (λ a b. a)
+
+-- the receives of what a table is read as agree
+agreed-agrees : (x : Found Plan) {p : Plan} {next : ℕ} → andThen x (λ q m. judged [] (askedFrom inRows q 1) (found q m)) ≡ found p next → agree p ≡ true
+agreed-agrees (refused n m) e = let z : _≡_ {A = ℕ} 0 1 = cc in absurd (omega arith)
+agreed-agrees (found q m) {p} e =
+    let r = judged-found [] (askedFrom inRows q 1) (found q m) e in
+    let i = r .was in
+    let j : q ≡ p = cc in
+    rw j at (sym (rows-agree q) ∙ r .agreed)
+
+rows-agreed : (t : List ℕ) → Finds (λ p next. agree p ≡ true) (readRows t)
+unfolding readRows agreedAt
+rows-agreed t =
+    finds-then (finds-itself (agreedAt t)) (λ p next x.
+    finds-cond (ltb 4096 (length (spelling p))) (λ e. finds-refused) (λ e. finds-found (agreed-agrees (planAt t) x)))
+
+pub read-agrees : (t : List ℕ) {p : Plan} {next : ℕ} → readRows t ≡ found p next → agree p ≡ true
+read-agrees t e = rows-agreed t .holds e
 
 module _ (t : List ℕ) (words : Words t) where
   expression-within : (depth vars r : ℕ) → Finds (λ e next. expressionWithin vars e depth ≡ true) (expressionAt depth vars t r)
@@ -176,7 +198,9 @@ module _ (t : List ℕ) (words : Words t) where
 
   rows-within : Finds (λ p next. planWithin p ≡ true) (readRows t)
   unfolding readRows
-  rows-within = finds-then plan-within (λ p next k. finds-cond (ltb 4096 (length (spelling p))) (λ e. finds-refused) (λ e. finds-found (k (ltb-false _ _ e))))
+  rows-within =
+      finds-then (finds-itself (agreedAt t)) (λ p next x.
+      finds-cond (ltb 4096 (length (spelling p))) (λ e. finds-refused) (λ e. finds-found (plan-within .holds (agreed-is-read t x) (ltb-false _ _ e))))
 
   -- What a table is read as is within the limits.
   pub read-is-within : {p : Plan} {next : ℕ} → readRows t ≡ found p next → planWithin p ≡ true
@@ -184,4 +208,4 @@ module _ (t : List ℕ) (words : Words t) where
 
   -- What is written is accepted, as the plan that the table was read as.
   pub written-is-accepted : {p : Plan} {next : ℕ} → readRows t ≡ found p next → readPlan (spelling p) ≡ found p (length (spelling p))
-  written-is-accepted {p} e = spelled-is-accepted p (read-is-within e)
+  written-is-accepted {p} e = spelled-is-accepted p (read-is-within e) (read-agrees t e)

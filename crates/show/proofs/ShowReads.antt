@@ -18,6 +18,7 @@ use Rattle.plan.specs.Spells.{Part, partPlan, stopOf}
 use Rattle.plan.specs.Table.{tableOf}
 use Rattle.plan.specs.Tree.{Plan, size}
 use Rattle.plan.proofs.Finds.{Finds}
+use Rattle.plan.proofs.Agreeing.{accepted-any}
 use Rattle.plan.proofs.Limits.{accepted-is-within}
 use Rattle.show.proofs.Places.{plan-start, plan-stop, plan-inside}
 use Rattle.plan.proofs.Stands.{plan-stands}
@@ -78,7 +79,7 @@ module _ (s : List ℕ) (k : ℕ) {r : Answer} {vars acts m : ℕ} {t : List ℕ
   placed =
       let a = accepted-spells s (x .is) in
       let i = plan-inside (x .p) k few in
-      let b = plan-stands s .holds (x .is) in
+      let b = plan-stands s .holds (accepted-any s (x .is)) in
       record {
         start = ap (λ u. getD u (k * 13 + 10) 0) (x .rows) ∙ plan-start (x .p) k few (tableOf (x .p)) a;
         stop = ap (λ u. getD u (k * 13 + 12) 0) (x .rows) ∙ plan-stop (x .p) k few (tableOf (x .p)) a;

@@ -19,7 +19,7 @@ struct Comparison {
     library: Library,
     plan: Plan,
     /// Accepted at 0, refusals at their numbers.
-    tally: [u64; 10],
+    tally: [u64; 22],
     parts: u64,
     /// Chooses the parts to show.
     random: Random,
@@ -44,7 +44,7 @@ fn main() {
     let mut comparison = Comparison {
         library: Library::start(&command),
         plan: Plan::default(),
-        tally: [0; 10],
+        tally: [0; 22],
         parts: 0,
         random: Random::new(!seed),
     };
@@ -68,8 +68,10 @@ fn main() {
     }
 
     let tally = &comparison.tally;
-    let refusals: Vec<String> = (1..10)
-        .map(|number| format!("{number}: {}", tally[number]))
+    let earned = [1, 2, 3, 4, 5, 6, 7, 8, 9, 21];
+    let refusals: Vec<String> = earned
+        .iter()
+        .map(|&number| format!("{number}: {}", tally[number]))
         .collect();
     println!(
         "{} plans alike ({} edge cases, {} vectors, {count} of seed {seed}), {} parts shown, {:.1} s",
@@ -80,7 +82,7 @@ fn main() {
         began.elapsed().as_secs_f64(),
     );
     println!("accepted {}, refused {}", tally[0], refusals.join(", "));
-    if tally.contains(&0) {
+    if tally[0] == 0 || earned.iter().any(|&number| tally[number] == 0) {
         println!("FAILED: an answer that no plan got");
         exit(1);
     }

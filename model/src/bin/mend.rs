@@ -58,7 +58,7 @@ fn main() {
         library: Library {
             process: Process::start(&command),
         },
-        tally: [0; 19],
+        tally: [0; 22],
         cut: 0,
         random: Random::new(!seed),
     };
@@ -80,7 +80,7 @@ fn main() {
     }
 
     let tally = &comparison.tally;
-    let some = [1, 2, 3, 4, 5, 6, 7, 8, 9, 18];
+    let some = [1, 2, 3, 4, 5, 6, 7, 8, 9, 18, 21];
     let refusals: Vec<String> = some
         .iter()
         .map(|&number| format!("{number}: {}", tally[number]))
@@ -105,7 +105,7 @@ fn main() {
 struct Comparison {
     library: Library,
     /// Mended at 0, refusals at their numbers.
-    tally: [u64; 19],
+    tally: [u64; 22],
     /// How many of the mended had groups cut.
     cut: u64,
     random: Random,

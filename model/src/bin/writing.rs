@@ -84,7 +84,7 @@ fn main() {
     });
     let mut comparison = Comparison {
         library: Library::start(&command),
-        tally: [0; 19],
+        tally: [0; 22],
         given: 0,
         random: Random::new(!seed),
     };
@@ -106,7 +106,7 @@ fn main() {
     }
 
     let tally = &comparison.tally;
-    let some = [1, 2, 4, 5, 6, 7, 8, 9, 18];
+    let some = [1, 2, 4, 5, 6, 7, 8, 9, 18, 21];
     let refusals: Vec<String> = some
         .iter()
         .map(|&number| format!("{number}: {}", tally[number]))
@@ -127,7 +127,7 @@ fn main() {
 struct Comparison {
     library: Library,
     /// Written at 0, refusals at their numbers.
-    tally: [u64; 19],
+    tally: [u64; 22],
     given: u64,
     random: Random,
 }
@@ -298,7 +298,7 @@ fn damage(random: &mut Random, table: &mut Vec<u32>) {
     }
     let at = random.below(count);
     let place = at * PLACES + random.below(8);
-    match random.below(12) {
+    match random.below(14) {
         0 => table[place] = random.value(),
         1 => table[place] = table[place].wrapping_add(1),
         2 => table[place] = table[place].wrapping_sub(1),
@@ -329,6 +329,18 @@ fn damage(random: &mut Random, table: &mut Vec<u32>) {
         10 => {
             for _ in 0..random.from_to(1, 2 * PLACES) {
                 table.push(random.below(3) as u32);
+            }
+        }
+        // A receive, or what looks like one, with the partner and the operation of another.
+        11 | 12 => {
+            let receives: Vec<usize> = (1..count)
+                .map(|row| row * PLACES)
+                .filter(|&row| table[row + 1] == 2 && table[row] > 4)
+                .collect();
+            if let Some(last) = receives.len().checked_sub(1) {
+                let from = receives[random.below(last + 1)];
+                let to = receives[random.below(last + 1)];
+                table.copy_within(from + 2..from + 4, to + 2);
             }
         }
         // A body that is no start form: its first activity made empty.

@@ -15,6 +15,8 @@ refusal-spec =
     (λ c. search cases)
     -- place-of-requires
     (λ c κs. search needs)
+    -- comes-last-requires
+    (λ c κs. search needs)
     -- returns-2
     (λ c. search cases)
     -- returns-3

@@ -1,0 +1,257 @@
+-- Plain reading refuses with 3, or padded reading finds the very same. Assumes nothing.
+use borrow.Author.Tests.{lt-ltb, le-ltb}
+use native.Mathlib.Omega.{arith}
+use native.Mathlib.Decide.{decLt}
+use native.Mathlib.Nat.{add-zero, zero-add}
+use mathlib.Core.Path.{_≡_, refl, sym, ap, _∙_}
+use mathlib.Core.Bool.{Bool, true, false, cond, _||_}
+use mathlib.Core.List.{List, [], _∷_, _++_, append-assoc, append-nil}
+use Prim.Native.Nat.{ℕ, zero, suc, _+_, _-_, _≤_, _<_}
+use lib.Dec.{eqb, ltb}
+use lib.ListN.{length, drop, length-append}
+use Rattle.numbers.specs.Number.{numberAt}
+use Rattle.numbers.specs.Shortest.{Bytes, shortest}
+use Rattle.numbers.specs.declared.Number.{Number}
+use Rattle.numbers.specs.declared.Number.the-variants.{Value, Short, Bad}
+use Rattle.plan.specs.Agree.{Asked, inBytes, askedOwn, spanOf, askedIn, askedAll, asked, agreesWith, judged}
+use Rattle.plan.specs.Found.{Found, refused, found, andThen}
+use Rattle.plan.specs.Read.{readAny, readPlan}
+use Rattle.plan.specs.Spell.{spell, exchangeNumbers, ownNumbers, actNumbers, actsNumbers, planNumbers, spelling}
+use Rattle.plan.specs.Table.{bodyPlace}
+use Rattle.plan.specs.Tree.{Own, empty, send, receive, set, raise, leave, choose, repeat, sequence, flow, pick, scope, arm, Act, act, Acts, none, more, Plan, count}
+use Rattle.plan.proofs.Agreeing.{Among, here, later}
+use Rattle.plan.proofs.Finds.{cond-case}
+use Rattle.plan.proofs.RowsAsked.{span-bytes}
+use Rattle.plan.proofs.Spelled.{any-is-spelled}
+use Rattle.plan.proofs.Stands.{spell-append}
+use Rattle.mend.specs.Padded.{paddedAt, numbersFrom, numbersOf, shortened, placeOf, lastPlace, noNumber, ended, original, readPadded}
+use Rattle.mend.proofs.Alike.{pair, number-there, Stands, stands-start, start-left, stands-place, over, spelled-there, stands-next, stands-left, Ends, any-ends}
+use Rattle.mend.proofs.Alike as alike
+use Rattle.mend.proofs.Numbers.{numbers-small, value-padded, spell-same}
+use Rattle.mend.proofs.PaddedLaws.{padded-bounds}
+use Rattle.mend.proofs.RunLaws.{View, view, spell-bytes}
+use Rattle.mend.proofs.RunLaws as run
+use Rattle.mend.proofs.RunReturns.{numbers-none, numbers-some}
+
+-- Places of numbers in bytes that are in shortest form stay.
+
+next-of : {v w n m : ℕ} → Value v n ≡ Value w m → n ≡ m
+next-of e = cc
+
+-- the number that comes first is in shortest form
+first-number : (o : List ℕ) → shortened o ≡ o → {at : ℕ} (r : Stands o at at) (v : ℕ) (ms : List ℕ) → numbersFrom (r .left) o at ≡ v ∷ ms → View o at
+    → paddedAt o at ≡ Value v (at + length (shortest v))
+first-number o same {at} r v ms e (run.none h) =
+    let f : _≡_ {A = List ℕ} [] (v ∷ ms) = sym (numbers-none (r .left) o at h) ∙ e in
+    let z : _≡_ {A = ℕ} 0 1 = cc in
+    absurd (omega arith)
+first-number o same {at} r v ms e (run.one w next p) =
+    let k = over r p in
+    let f : w ∷ numbersFrom (k .rest) o next ≡ v ∷ ms = sym (ap (λ x. numbersFrom x o at) (k .is) ∙ numbers-some (k .rest) o at p) ∙ e in
+    let i : w ≡ v = cc in
+    let d : drop at o ≡ shortest w ++ spell (numbersFrom (k .rest) o next) = rw same at (spelled-there r p) in
+    let n = number-there o _ at w (r .inside) d (padded-bounds o at p .small) in
+    rw i at (value-padded (numberAt o at) (paddedAt o at) n (pair o at))
+
+rest-of : {v w : ℕ} {l m : List ℕ} → v ∷ l ≡ w ∷ m → l ≡ m
+rest-of e = cc
+
+walk : (o : List ℕ) → shortened o ≡ o → (ns rest : List ℕ) {at : ℕ} (r : Stands o at at) → numbersFrom (r .left) o at ≡ ns ++ rest
+    → Stands o (at + length (spell ns)) (at + length (spell ns))
+unfolding spell
+walk o same [] rest {at} r e = rw (add-zero at) r
+walk o same (v ∷ ns) rest {at} r e =
+    let p = first-number o same r v (ns ++ rest) e (view o at) in
+    let k = over r p in
+    let f : numbersFrom (k .rest) o (at + length (shortest v)) ≡ ns ++ rest =
+    rest-of (sym (ap (λ x. numbersFrom x o at) (k .is) ∙ numbers-some (k .rest) o at p) ∙ e) in
+    let i : at + length (shortest v ++ spell ns) ≡ at + length (shortest v) + length (spell ns) = omega (arith, length-append (shortest v) (spell ns)) in
+    rw i (walk o same ns rest (stands-next r p) (rw (stands-left r p) f))
+
+-- Where a count stands in the numbers of a plan.
+record Within (ns : List ℕ) (at q : ℕ) : Type 0 where
+  before : List ℕ
+  after : List ℕ
+  is : ns ≡ before ++ after
+  place : q ≡ at + length (spell before)
+
+within-left : {ns : List ℕ} (ms : List ℕ) {at q : ℕ} → Within ns at q → Within (ns ++ ms) at q
+within-left ms w = record { before = w .before; after = w .after ++ ms; is = rw (w .is) (append-assoc (w .before) (w .after) ms); place = w .place }
+
+within-right : (ns : List ℕ) {ms : List ℕ} {at q : ℕ} → Within ms (at + length (spell ns)) q → Within (ns ++ ms) at q
+within-right ns w = record {
+  before = ns ++ w .before;
+  after = w .after;
+  is = rw (w .is) (sym (append-assoc ns (w .before) (w .after)));
+  place = omega (arith, w .place, ap length (spell-append ns (w .before)), length-append (spell ns) (spell (w .before)));
+}
+
+-- one of two lists
+data Either (a : Asked) (l m : List Asked) : Type 0 where
+  left : Among a l → Either a l m
+  right : Among a m → Either a l m
+
+either-more : {a b : Asked} {l m : List Asked} → Either a l m → Either a (b ∷ l) m
+either-more (left x) = left (later x)
+either-more (right x) = right x
+
+either : (a : Asked) (l m : List Asked) → Among a (l ++ m) → Either a l m
+either a [] m x = right x
+either a (b ∷ l) m here = left here
+either a (b ∷ l) m (later x) = either-more (either a l m x)
+
+no-one : {P : Type 0} {a : Asked} → Among a [] → P
+no-one m = elim m [ ]
+
+only-one : (P : Asked → Type 0) (b : Asked) {a : Asked} → P b → Among a (b ∷ []) → P a
+only-one P b h here = h
+only-one P b h (later m) = no-one m
+
+own-within : (own : Own) (within at : ℕ) {a : Asked} → Among a (askedOwn inBytes own at) → Within (ownNumbers own within) at (a .place)
+unfolding askedOwn inBytes ownNumbers exchangeNumbers
+own-within empty within at m = no-one m
+own-within (send p o vs) within at m = no-one m
+own-within (receive p o vs) within at m =
+    only-one (λ x. Within (2 ∷ p ∷ o ∷ length vs ∷ vs) at (x .place)) _ (record { before = 2 ∷ p ∷ o ∷ []; after = length vs ∷ vs; is = refl; place = refl }) m
+own-within (set v e) within at m = no-one m
+own-within raise within at m = no-one m
+own-within leave within at m = no-one m
+own-within (choose e) within at m = no-one m
+own-within (repeat e) within at m = no-one m
+own-within sequence within at m = no-one m
+own-within flow within at m = no-one m
+own-within pick within at m = no-one m
+own-within scope within at m = no-one m
+own-within (arm p o vs) within at m =
+    only-one (λ x. Within (p ∷ o ∷ length vs ∷ vs) at (x .place)) _ (record { before = p ∷ o ∷ []; after = length vs ∷ vs; is = refl; place = refl }) m
+
+by-either : {P : Type 0} {a : Asked} {l m : List Asked} → Either a l m → (Among a l → P) → (Among a m → P) → P
+by-either (left x) f g = f x
+by-either (right x) f g = g x
+
+mutual
+  unfolding askedIn inBytes actNumbers
+
+  act-within : (b : Act) (at : ℕ) {a : Asked} → Among a (askedIn inBytes b at) → Within (actNumbers b) at (a .place)
+  act-within (act own l) at {a} m =
+      by-either (either a (askedOwn inBytes own at) _ m)
+      (λ x. within-left (actsNumbers l) (own-within own (count l) at x))
+      (λ x. within-right (ownNumbers own (count l)) (acts-within l (at + length (spell (ownNumbers own (count l)))) x))
+
+  acts-within : (l : Acts) (at : ℕ) {a : Asked} → Among a (askedAll inBytes l at) → Within (actsNumbers l) at (a .place)
+  acts-within none at m = no-one m
+  acts-within (more b l) at {a} m =
+      by-either (either a (askedIn inBytes b at) _ m)
+      (λ x. within-left (actsNumbers l) (act-within b at x))
+      (λ x. within-right (actNumbers b) (rw (span-bytes b) at (acts-within l (at + spanOf inBytes b) x)))
+
+plan-within : (p : Plan) {a : Asked} → Among a (asked p) → Within (planNumbers p) 0 (a .place)
+unfolding asked planNumbers actsNumbers
+plan-within p {a} m =
+    let w = acts-within (more (p .body) (more (p .fault) none)) (bodyPlace p) m in
+    let v : Within (actNumbers (p .body) ++ actNumbers (p .fault)) (bodyPlace p) (a .place) = rw (append-nil (actNumbers (p .fault))) at w in
+    within-right (1 ∷ p .variables ∷ length (p .correlation) ∷ p .correlation) (rw (sym (zero-add (bodyPlace p))) at v)
+
+-- a count of what plain reading reads stands where it stood
+count-stays : (o : List ℕ) → Bytes o → {p : Plan} {next : ℕ} → readAny o ≡ found p next → shortened o ≡ spelling p → {a : Asked} → Among a (asked p)
+    → placeOf o (a .place) ≡ a .place
+unfolding spelling shortened numbersOf
+count-stays o y {p} e s {a} m =
+    let b = any-is-spelled o y e in
+    let same : shortened o ≡ o = s ∙ sym b in
+    let n : numbersFrom (length o) o 0 ≡ planNumbers p = spell-same (numbersOf o) (planNumbers p) (numbers-small (length o) o 0) s in
+    let w = plan-within p m in
+    let z : 0 + length (spell (w .before)) ≡ a .place = sym (w .place) in
+    let t = walk o same (w .before) (w .after) (stands-start o) (rw (start-left o) (n ∙ w .is)) in
+    rw z at (stands-place t)
+
+-- What is judged, whatever was found.
+data Verdict (earlier l : List Asked) : Type 0 where
+  fine : ((x : Found Plan) → judged earlier l x ≡ x) → Verdict earlier l
+  differs : (a : Asked) → Among a l → ((x : Found Plan) → judged earlier l x ≡ refused 21 (a .place)) → Verdict earlier l
+
+verdict-more : (a : Asked) (earlier l : List Asked) (b : Bool) → agreesWith earlier a ≡ b → Verdict (a ∷ earlier) l → Verdict earlier (a ∷ l)
+unfolding judged
+verdict-more a earlier l true e (fine f) = fine (λ x. rw e (f x))
+verdict-more a earlier l true e (differs d m f) = differs d (later m) (λ x. rw e (f x))
+verdict-more a earlier l false e v = differs a here (λ x. rw e)
+
+verdict : (earlier l : List Asked) → Verdict earlier l
+unfolding judged
+verdict earlier [] = fine (λ x. refl)
+verdict earlier (a ∷ l) = verdict-more a earlier l (agreesWith earlier a) refl (verdict (a ∷ earlier) l)
+
+-- a refusal of the shortened bytes is one of the original
+record Refusal (x : Found Plan) : Type 0 where
+  number : ℕ
+  place : ℕ
+  is : x ≡ refused number place
+
+is-refusal : (number place : ℕ) → Refusal (refused number place)
+is-refusal n p = record { number = n; place = p; is = refl }
+
+no-number-refused : (s : List ℕ) (at : ℕ) (n : Number) → Refusal (noNumber s at n)
+no-number-refused s at Bad = is-refusal 3 at
+no-number-refused s at Short = is-refusal 2 (length s)
+no-number-refused s at (Value v q) = is-refusal 2 (length s)
+
+original-refused : (o : List ℕ) (n q : ℕ) → Refusal (original o (refused n q))
+unfolding original
+original-refused o n q =
+    cond-case Refusal (eqb n 2) (λ e. no-number-refused o (lastPlace o) (paddedAt o (lastPlace o)))
+    (λ e. cond-case Refusal (eqb n 7 || eqb n 21)
+    (λ f. cond-case Refusal (ltb (lastPlace o) (length o)) (λ g. is-refusal 9 (lastPlace o)) (λ g. is-refusal n (placeOf o q)))
+    (λ f. is-refusal n (placeOf o q)))
+
+plan-refused : (s : List ℕ) {n q : ℕ} → readAny s ≡ refused n q → readPlan s ≡ refused n q
+unfolding readPlan
+plan-refused s e = rw e
+
+plan-judged : (s : List ℕ) {p : Plan} {next : ℕ} → readAny s ≡ found p next → readPlan s ≡ judged [] (asked p) (found p next)
+unfolding readPlan
+plan-judged s e = rw e
+
+module _ (o : List ℕ) (y : Bytes o) where
+  module _ {p : Plan} {q : ℕ} (e : readAny (shortened o) ≡ found p q) where
+    -- something follows the plan
+    followed : ltb (lastPlace o) (length o) ≡ true → readAny o ≡ refused 9 (lastPlace o) → Verdict [] (asked p) → original o (readPlan (shortened o)) ≡ readPlan o
+    unfolding original
+    followed h x (fine f) = rw (plan-judged (shortened o) e ∙ f _, h) (sym (plan-refused o x))
+    followed h x (differs a m f) = rw (plan-judged (shortened o) e ∙ f _, h) (sym (plan-refused o x))
+
+    -- nothing follows it
+    alone : ltb (lastPlace o) (length o) ≡ false → readAny o ≡ found p (length o) → Verdict [] (asked p) → original o (readPlan (shortened o)) ≡ readPlan o
+    unfolding original shortened
+    alone h x (fine f) = rw (plan-judged (shortened o) e ∙ f _, h) (sym (plan-judged o x ∙ f _))
+    alone h x (differs a m f) =
+        let s : shortened o ≡ spelling p = any-is-spelled (shortened o) (spell-bytes _) e in
+        rw (plan-judged (shortened o) e ∙ f _, h) (ap (refused 21) (count-stays o y x s m) ∙ sym (plan-judged o x ∙ f _))
+
+    by-last : (b : Bool) → ltb (lastPlace o) (length o) ≡ b → original o (found p q) ≡ readAny o → original o (readPlan (shortened o)) ≡ readPlan o
+    unfolding original
+    by-last true h i = followed h (sym i ∙ rw h) (verdict [] (asked p))
+    by-last false h i = alone h (sym i ∙ rw h) (verdict [] (asked p))
+
+  by-found : (x : Found Plan) → readAny (shortened o) ≡ x → original o x ≡ readAny o → original o (readPlan (shortened o)) ≡ readPlan o
+  by-found (refused n q) e i =
+      let r = original-refused o n q in
+      ap (original o) (plan-refused (shortened o) e) ∙ (r .is ∙ sym (plan-refused o (sym i ∙ r .is)))
+  by-found (found p q) e i = by-last e (ltb (lastPlace o) (length o)) refl i
+
+-- Plain reading refuses with 3, or padded reading finds the very same: the plan, or the refusal with its number and place.
+pub data PlainKept (o : List ℕ) : Type 0 where
+  three : (place : ℕ) → readPlan o ≡ refused 3 place → PlainKept o
+  keeps : readPadded o ≡ readPlan o → PlainKept o
+
+by-ends : (o : List ℕ) → Bytes o → (x z : Found Plan) → readAny o ≡ x → readAny (shortened o) ≡ z → readPadded o ≡ original o (readPlan (shortened o)) → Ends o x z
+    → PlainKept o
+by-ends o y _ _ e g f (alike.three {place}) = three place (plan-refused o e)
+by-ends o y x z e g f (alike.alike i) = keeps (f ∙ by-found o y z g (i ∙ sym e))
+
+pub plain-kept : (o : List ℕ) → Bytes o → PlainKept o
+unfolding readPadded readPlan readAny
+plain-kept o y =
+    elim (decLt 4096 (length o)) [
+      | yes l ↦ keeps (rw (lt-ltb 4096 (length o) l))
+      | no l ↦ by-ends o y (readAny o) (readAny (shortened o)) refl refl (rw (le-ltb 4096 (length o) (omega (arith, l)))) (any-ends o (omega (arith, l)))
+    ]

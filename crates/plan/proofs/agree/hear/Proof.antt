@@ -1,0 +1,35 @@
+-- `plan::agree::hear` meets its contract. Assumes nothing.
+use borrow.Author.Needs.{needs}
+use Rattle.plan.proofs.HearReturns.{hear-first, hear-same, hear-differs, hear-later}
+use Rattle.plan.proofs.agree.hear.Statement.{statement}
+use Rattle.plan.proofs.agree.hear.Tie as tie
+
+ruleset cases = (hear-first, hear-same, hear-differs, hear-later)
+
+pub hear-spec : {M : Type 1} → statement M
+hear-spec =
+    tie.close (tie.spec
+    -- mul-i
+    (λ c. search needs)
+    -- add-i
+    (λ c. search needs)
+    -- mul-first
+    (λ c. search needs)
+    -- element-copy-out-first
+    (λ c. search needs)
+    -- mul-seen
+    (λ c. search needs)
+    -- element-write-seen
+    (λ c. search needs)
+    -- element-copy-out-if3
+    (λ c. search needs)
+    -- element-write-seen-2
+    (λ c. search needs)
+    -- returns
+    (λ c. search cases)
+    -- returns-2
+    (λ c. search cases)
+    -- returns-3
+    (λ c. search cases)
+    -- returns-4
+    (λ c. search cases))

@@ -1,0 +1,46 @@
+-- How receives that disagree are found in one pass: what was heard so far. Assumes nothing: these are definitions.
+-- It is 4,097 numbers: for each pair of a partner and an operation the count of its first receive or arm, 0 where there is none yet; and last the
+-- place of the first count that differs from that one, 0 where none does.
+use Prim.Native.Nat.{ℕ, zero, suc, _+_, _*_, _%_}
+use mathlib.Core.Bool.{cond}
+use mathlib.Core.List.{List, [], _∷_, _++_}
+use lib.Dec.{eqb}
+use lib.ListN.{getD, set, replicate}
+use Rattle.plan.specs.Agree.{Asked, asking}
+
+abbrev pub blankHeard : List ℕ
+blankHeard = replicate 4097 0
+
+-- where a pair has its number
+abbrev pub pairOf : (partner operation : ℕ) → ℕ
+pairOf partner operation = partner % 64 * 64 + operation % 64
+
+unfoldable pub heard : Asked → List ℕ → List ℕ
+heard a t =
+    cond (eqb (getD t (pairOf (a .partner) (a .operation)) 0) 0) (set t (pairOf (a .partner) (a .operation)) (a .many))
+    (cond (eqb (getD t (pairOf (a .partner) (a .operation)) 0) (a .many)) t
+    (cond (eqb (getD t 4096 0) 0) (set t 4096 (a .place)) t))
+
+-- one after the other
+unfoldable pub heardAll : List Asked → List ℕ → List ℕ
+heardAll [] t = t
+heardAll (a ∷ l) t = heardAll l (heard a t)
+
+-- how many bytes stand before the count of a receive, or of an arm: its code, its partner and its operation have one each
+unfoldable pub aheadOf : (kind : ℕ) → ℕ
+aheadOf kind = cond (eqb kind 2) 3 (cond (eqb kind 12) 2 0)
+
+-- what row k of a plan's table asks for
+unfoldable pub rowAsked : List ℕ → (k : ℕ) → List Asked
+rowAsked t k =
+    cond (eqb (aheadOf (getD t (k * 13 + 0) 0)) 0) []
+    (asking (getD t (k * 13 + 1) 0) (getD t (k * 13 + 2) 0) (getD t (k * 13 + 3) 0) (getD t (k * 13 + 10) 0 + aheadOf (getD t (k * 13 + 0) 0)) ∷ [])
+
+-- what `left` rows from k on ask for
+unfoldable pub rowsAsked : (left : ℕ) → List ℕ → (k : ℕ) → List Asked
+rowsAsked zero t k = []
+rowsAsked (suc left) t k = rowAsked t k ++ rowsAsked left t (k + 1)
+
+-- the place of the first count that differs, 0 where none does
+unfoldable pub differing : List Asked → ℕ
+differing l = getD (heardAll l blankHeard) 4096 0

@@ -1,0 +1,242 @@
+-- What is heard by the functions that check rows. Assumes nothing.
+use borrow.Author.Tests.{eq-eqb, ne-eqb}
+use native.Mathlib.Omega.{arith}
+use mathlib.Core.Path.{_≡_, refl, sym, ap, _∙_}
+use mathlib.Core.Bool.{Bool, true, false, cond, _&&_, _||_}
+use mathlib.Core.List.{List, [], _∷_, _++_}
+use Prim.Native.Nat.{ℕ, zero, suc, _+_, _-_, _*_, _/_, _≤_, _<_}
+use lib.Dec.{eqb, ltb, leb}
+use lib.ListN.{length, getD, take, drop}
+use Rattle.plan.specs.Agree.{Asked, asking, askedOwn, spanOf, askedIn, askedAll, askedFrom, judged}
+use Rattle.plan.specs.Found.{Found, refused, found, andThen}
+use Rattle.plan.specs.Heard.{blankHeard, heard, heardAll, differing}
+use Rattle.plan.specs.Read.{Head, manyIn, startForm}
+use Rattle.plan.specs.Tree.{Own, kind, Act, act, Acts, none, more, Plan, size, count}
+use Rattle.plan.specs.Within.{levelsBelow}
+use Rattle.plan.proofs.Finds.{Finds, finds-refused, finds-itself, finds-found, finds-cond, finds-then, finds-so, finds-both}
+use Rattle.plan.proofs.HearReturns.{heard-append}
+use Rattle.plan.proofs.Hears.{Told, judged-by}
+use Rattle.plan.proofs.OneNumber.{then-found, then-refused}
+use Rattle.plan.proofs.RowsAsked.{AsksAll, fit-all}
+use Rattle.plan.proofs.Stands.{many-count}
+use Rattle.writer.specs.declared.Field.{Field}
+use Rattle.writer.specs.declared.Field.the-variants.{Got}
+use Rattle.writer.specs.declared.Out.{Out}
+use Rattle.writer.specs.declared.Own as code
+use Rattle.writer.specs.declared.Step.{Step}
+use Rattle.writer.specs.declared.Step.the-variants.{Next}
+use Rattle.writer.specs.Reading.{cell, rowIn, exchangeFits, armAt, partsFit, partsAt, headAt, nodeHeadAt, actAt, nodeAt, closingAt, rootAt, headFits, planAt, inRows, rowAsks, agreedAt}
+use Rattle.writer.specs.Rows.{ownRows, actRows}
+use Rattle.writer.specs.Written.{fieldFor, stepFor, ownFor, outFor, outAllFor, HeardAct, HeardActs, HeardPlan, ActHears, ActsHear, PlanHears}
+use Rattle.writer.proofs.Lines.{Stands, stands-ends}
+use Rattle.writer.proofs.OwnReturns.{field-got, row-finds, code-finds, Stepped, step-got, step-no}
+use Rattle.writer.proofs.RootReturns.{root-no-parts, root-after, root-no-start, plan-no, plan-version, plan-head}
+use Rattle.writer.proofs.RootReturns as root
+use Rattle.writer.proofs.RowStands.{node-stands, node-head-stands}
+use Rattle.writer.proofs.RowsAsk.{own-asked, span-rows, plan-asks}
+use Rattle.writer.proofs.TreeReturns.{act-no-own, act-no-within, acts-no-first, acts-no-rest, acts-got, said, inside, first-read, opened}
+
+-- `hear_row`
+module _ (t : List ℕ) (r : ℕ) {k : ℕ} (s : List ℕ) where
+  pub hears-receive : k ≡ 2 → {p o m : ℕ} {u : List ℕ} → u ≡ heard (asking p o m r) s → p ≡ cell t r 2 → o ≡ cell t r 3 → m ≡ cell t r 4
+      → u ≡ heardAll (rowAsks t r k) s
+  unfolding heardAll rowAsks
+  hears-receive e h a b c = rw e (h ∙ rw (a, b, c))
+
+  pub hears-arm : k ≡ 12 → {p o m : ℕ} {u : List ℕ} → u ≡ heard (asking p o m r) s → p ≡ cell t r 1 → o ≡ cell t r 2 → m ≡ cell t r 3
+      → u ≡ heardAll (rowAsks t r k) s
+  unfolding heardAll rowAsks
+  hears-arm e h a b c = rw e (h ∙ rw (a, b, c))
+
+  pub hears-none : (k ≡ 2 → ⊥) → (k ≡ 12 → ⊥) → s ≡ heardAll (rowAsks t r k) s
+  unfolding heardAll rowAsks
+  hears-none n m = rw (ne-eqb k 2 n, ne-eqb k 12 m)
+
+-- of what is refused nothing is to be heard
+act-silent : (n : ℕ) (g : Found Act) (r : ℕ) (s u : List ℕ) {number place : ℕ} → Out.Refused number place ≡ outFor n g → ActHears g r s u
+unfolding outFor HeardAct
+act-silent n (refused x p) r s u e = record { heard = tt }
+act-silent n (found a q) r s u e = let z : _≡_ {A = ℕ} 0 1 = cc in absurd (omega arith)
+
+acts-silent : (n : ℕ) (g : Found Acts) (r : ℕ) (s u : List ℕ) {number place : ℕ} → Out.Refused number place ≡ outAllFor n g → ActsHear g r s u
+unfolding outAllFor HeardActs
+acts-silent n (refused x p) r s u e = record { heard = tt }
+acts-silent n (found a q) r s u e = let z : _≡_ {A = ℕ} 0 1 = cc in absurd (omega arith)
+
+plan-silent : (g : Found Plan) (r : ℕ) (s u : List ℕ) {number place : ℕ} → Step.Refused number place ≡ stepFor g → PlanHears g r s u
+unfolding stepFor HeardPlan
+plan-silent (refused x p) r s u e = record { heard = tt }
+plan-silent (found a q) r s u e = let z : _≡_ {A = ℕ} 0 1 = cc in absurd (omega arith)
+
+-- what was heard of what is found
+act-heard : (g : Found Act) (r : ℕ) (s u : List ℕ) {a : Act} {next : ℕ} → g ≡ found a next → ActHears g r s u → u ≡ heardAll (askedIn inRows a r) s
+unfolding HeardAct
+act-heard g r s u e h = let w = rw e at h in w .heard
+
+acts-heard : (g : Found Acts) (r : ℕ) (s u : List ℕ) {l : Acts} {next : ℕ} → g ≡ found l next → ActsHear g r s u → u ≡ heardAll (askedAll inRows l r) s
+unfolding HeardActs
+acts-heard g r s u e h = let w = rw e at h in w .heard
+
+act-hears : (g : Found Act) (r : ℕ) (s u : List ℕ) {a : Act} {next : ℕ} → g ≡ found a next → u ≡ heardAll (askedIn inRows a r) s → ActHears g r s u
+unfolding HeardAct
+act-hears g r s u e h = rw e (record { heard = h })
+
+acts-hear : (g : Found Acts) (r : ℕ) (s u : List ℕ) {l : Acts} {next : ℕ} → g ≡ found l next → u ≡ heardAll (askedAll inRows l r) s → ActsHear g r s u
+unfolding HeardActs
+acts-hear g r s u e h = rw e (record { heard = h })
+
+-- an activity or arm: what it asks for by itself, and then what those within it ask for
+whole-heard : (t : List ℕ) (own : Own) (l : Acts) (r k within next : ℕ) (s v u : List ℕ) → Stands t r (ownRows own within) next → k ≡ kind own → count l ≡ within
+    → v ≡ heardAll (rowAsks t r k) s → u ≡ heardAll (askedAll inRows l next) v → u ≡ heardAll (askedIn inRows (act own l) r) s
+unfolding askedIn inRows
+whole-heard t own l r k within next s v u x i c h f =
+    let e : next ≡ r + length (ownRows own (count l)) = stands-ends x .0 ∙ rw c in
+    let w : v ≡ heardAll (askedOwn inRows own r) s = h ∙ rw (i, own-asked t r own within x) in
+    f ∙ (rw (w, e) (sym (heard-append (askedOwn inRows own r) (askedAll inRows l (r + length (ownRows own (count l)))) s)))
+
+-- a list: the first of them, and then the others
+more-heard : (t : List ℕ) (a : Act) (l : Acts) (r next : ℕ) (s v u : List ℕ) → Stands t r (actRows a) next → v ≡ heardAll (askedIn inRows a r) s
+    → u ≡ heardAll (askedAll inRows l next) v → u ≡ heardAll (askedAll inRows (more a l) r) s
+unfolding askedAll
+more-heard t a l r next s v u x h f =
+    let e : next ≡ r + spanOf inRows a = stands-ends x .0 ∙ rw (span-rows a) in
+    f ∙ (rw (h, e) (sym (heard-append (askedIn inRows a r) (askedAll inRows l (r + spanOf inRows a)) s)))
+
+-- a row that is read is there
+node-there : (arm : Bool) (vars : ℕ) (cs t : List ℕ) (handler : Bool) (depth n r : ℕ) → Finds (λ h next. r < length t / 20) (nodeHeadAt arm vars cs t handler depth n r)
+unfolding armAt headAt
+node-there true vars cs t handler depth n r =
+    finds-then (row-finds t r) (λ p next w.
+    finds-cond (ltb p 64) (λ e.
+    finds-cond (leb 256 n) (λ f. finds-refused) (λ f.
+    finds-cond (exchangeFits vars true t r 2) (λ g. finds-found (w .there)) (λ g. finds-refused)))
+    (λ e. finds-refused))
+node-there false vars cs t handler depth n r =
+    finds-then (code-finds t handler depth n r) (λ k next c.
+    finds-cond (partsFit vars cs t r k) (λ e. finds-so (finds-itself (partsAt vars t r k next)) (λ h q x. c .row .there)) (λ e. finds-refused))
+
+-- `activity_at`
+module _ (arm : Bool) (depth vars : ℕ) (cs t : List ℕ) (handler : Bool) (n r : ℕ) {own : code.Own}
+    (a : own ≡ ownFor (nodeHeadAt arm vars cs t handler depth n r)) where
+  pub one-no-own : (s u : List ℕ) {number place : ℕ} → own ≡ code.Own.Refused number place → ActHears (nodeAt arm depth vars cs t handler n r) r s u
+  one-no-own s u o = act-silent n _ r s u (act-no-own arm depth vars cs t handler n r a o)
+
+  module _ {k within next : ℕ} (o : own ≡ code.Own.Read k within next) where
+    pub own-there : r < length t / 20
+    own-there = node-there arm vars cs t handler depth n r .holds (said arm depth vars cs t handler n r a o .is)
+
+    module _ {later : Bool} {below : ℕ} (x : later ≡ (eqb k 11 || handler)) (y : below ≡ levelsBelow arm depth) {all : Out}
+        (b : all ≡ outAllFor (n + 1) (manyIn (nodeAt (eqb k 10) below vars cs t) handler later within (n + 1) next)) (s u : List ℕ) where
+      pub one-no-within : {number place : ℕ} → all ≡ Out.Refused number place → ActHears (nodeAt arm depth vars cs t handler n r) r s u
+      one-no-within p = act-silent n _ r s u (act-no-within arm depth vars cs t handler n r a o x y b p)
+
+      pub one-whole : {stop end : ℕ} {first every : Bool} → all ≡ Out.Read stop end first every → {v : List ℕ} → v ≡ heardAll (rowAsks t r k) s
+          → ActsHear (manyIn (nodeAt (eqb k 10) below vars cs t) handler later within (n + 1) next) next v u
+          → ActHears (nodeAt arm depth vars cs t handler n r) r s u
+      one-whole p {v} h f =
+          let w = said arm depth vars cs t handler n r a o in
+          let z = acts-got (n + 1) (manyIn (nodeAt (eqb k 10) below vars cs t) handler later within (n + 1) next) b p in
+          let c = many-count (nodeAt (eqb k 10) below vars cs t) handler later within (n + 1) next .holds (z .is) in
+          act-hears _ r s u (inside arm depth vars cs t handler n r a o x y b ∙ then-found _ _ (z .is))
+          (whole-heard t (w .h .own) (z .l) r k (w .h .within) next s v u (node-head-stands arm vars cs t handler depth n r .holds (w .is)) (w .same) (c ∙ w .many) h
+          (acts-heard _ next v u (z .is) f))
+
+-- `activities_at`
+module _ (arms : Bool) (depth vars : ℕ) (cs t : List ℕ) (handler later : Bool) (left n r : ℕ) where
+  pub all-none : (s : List ℕ) → left ≡ 0 → ActsHear (manyIn (nodeAt arms depth vars cs t) handler later left n r) r s s
+  unfolding manyIn HeardActs askedAll heardAll
+  all-none s z = rw z (record { heard = refl })
+
+  module _ (z : left ≡ 0 → ⊥) {one : Out} (a : one ≡ outFor n (nodeAt arms depth vars cs t handler n r)) where
+    pub all-no-first : (s u : List ℕ) {number place : ℕ} → one ≡ Out.Refused number place → ActsHear (manyIn (nodeAt arms depth vars cs t) handler later left n r) r s u
+    all-no-first s u o = acts-silent n _ r s u (acts-no-first arms depth vars cs t handler later left n r z a o)
+
+    module _ {next end : ℕ} {first every₁ : Bool} (o : one ≡ Out.Read next end first every₁) {rest : Out}
+        (b : rest ≡ outAllFor end (manyIn (nodeAt arms depth vars cs t) later later (left - 1) end next)) (s u : List ℕ) where
+      pub all-no-rest : {number place : ℕ} → rest ≡ Out.Refused number place → ActsHear (manyIn (nodeAt arms depth vars cs t) handler later left n r) r s u
+      all-no-rest p = acts-silent n _ r s u (acts-no-rest arms depth vars cs t handler later left n r z a o b p)
+
+      pub all-more : {stop last : ℕ} {first₂ every : Bool} → rest ≡ Out.Read stop last first₂ every → {v : List ℕ}
+          → ActHears (nodeAt arms depth vars cs t handler n r) r s v → ActsHear (manyIn (nodeAt arms depth vars cs t) later later (left - 1) end next) next v u
+          → ActsHear (manyIn (nodeAt arms depth vars cs t) handler later left n r) r s u
+      all-more p {v} h f =
+          let y = acts-got end (manyIn (nodeAt arms depth vars cs t) later later (left - 1) end next) b p in
+          let x = first-read arms depth vars cs t handler later left n r z a o b in
+          acts-hear _ r s u (opened arms depth vars cs t handler later left n r z a o b ∙ then-found _ _ (y .is))
+          (more-heard t (x .a) (y .l) r next s v u (node-stands arms depth vars cs t handler n r .holds (x .is)) (act-heard _ r s v (x .is) h) (acts-heard _ next v u (y .is) f))
+
+-- `root_at`
+module _ (vars : ℕ) (cs t : List ℕ) (r : ℕ) {parts : Out} (a : parts ≡ outAllFor 0 (manyIn (nodeAt false 16 vars cs t) false true 2 0 r)) (s u : List ℕ) where
+  pub root-silent-parts : {number place : ℕ} → parts ≡ Out.Refused number place → PlanHears (rootAt vars cs t r) r s u
+  root-silent-parts o = plan-silent _ r s u (root-no-parts vars cs t r a o)
+
+  module _ {next k : ℕ} {first every : Bool} (o : parts ≡ Out.Read next k first every) {b : Bool} (x : b ≡ ltb (next * 20) (length t)) where
+    pub root-silent-after : b ≡ true → PlanHears (rootAt vars cs t r) r s u
+    root-silent-after y = plan-silent _ r s u (root-after vars cs t r a o x y)
+
+    pub root-silent-start : b ≡ false → first ≡ false → PlanHears (rootAt vars cs t r) r s u
+    root-silent-start y f = plan-silent _ r s u (root-no-start vars cs t r a o x y f)
+
+    pub root-hears : b ≡ false → first ≡ true → ActsHear (manyIn (nodeAt false 16 vars cs t) false true 2 0 r) r s u → PlanHears (rootAt vars cs t r) r s u
+    unfolding HeardPlan
+    root-hears y f h =
+        let w = root.parted vars cs t r a o in
+        let z = root.all-read vars cs t r a o in
+        let e : rootAt vars cs t r ≡ found (record { variables = vars; correlation = cs; body = w .a; fault = w .b }) next =
+        root.closed vars cs t r a o ∙ rw (sym x ∙ y, sym (root.started vars cs t r a o) ∙ f) in
+        let l : u ≡ heardAll (askedAll inRows (more (w .a) (more (w .b) none)) r) s = acts-heard _ r s u (z .is) h ∙ rw (w .all) in
+        rw e (record { heard = l })
+
+from-row : (g : Found Plan) {r q : ℕ} {s u : List ℕ} → PlanHears g r s u → r ≡ q → PlanHears g q s u
+from-row g h e = rw e at h
+
+-- `plan_at`
+module _ (t : List ℕ) {f : Field} (e : f ≡ fieldFor (rowIn t 0)) (s u : List ℕ) where
+  pub plan-silent-row : {number place : ℕ} → f ≡ Field.Refused number place → PlanHears (planAt t) 1 s u
+  plan-silent-row o = plan-silent _ 1 s u (plan-no t e o)
+
+  module _ {v next : ℕ} (o : f ≡ Got v next) where
+    pub plan-silent-version : (v ≡ 1 → ⊥) → PlanHears (planAt t) 1 s u
+    plan-silent-version n = plan-silent _ 1 s u (plan-version t e o n)
+
+    module _ (n : v ≡ 1) {b : Bool} (x : b ≡ headFits t) where
+      pub plan-silent-head : b ≡ false → PlanHears (planAt t) 1 s u
+      plan-silent-head y = plan-silent _ 1 s u (plan-head t e o n x y)
+
+      pub plan-hears : b ≡ true → {p w : ℕ} → p ≡ cell t 0 2 → w ≡ cell t 0 3 → PlanHears (rootAt p (take w (drop 4 t)) t next) next s u → PlanHears (planAt t) 1 s u
+      unfolding planAt
+      plan-hears y g h z =
+          let i : next ≡ 1 = row-finds t 0 .holds (field-got (rowIn t 0) e o) .next-is in
+          let k : PlanHears (rootAt (cell t 0 2) (take (cell t 0 3) (drop 4 t)) t next) 1 s u = from-row _ (rw (g, h) at z) i in
+          rw (field-got (rowIn t 0) e o, eq-eqb v 1 n, sym x ∙ y) k
+
+-- `agreed_at`
+plan-heard : (g : Found Plan) (s u : List ℕ) {p : Plan} {next : ℕ} → g ≡ found p next → PlanHears g 1 s u → u ≡ heardAll (askedFrom inRows p 1) s
+unfolding HeardPlan
+plan-heard g s u e h = let w = rw e at h in w .heard
+
+module _ (t : List ℕ) {c : Step} (e : c ≡ stepFor (planAt t)) where
+  pub agreed-no : {number place : ℕ} → c ≡ Step.Refused number place → Step.Refused number place ≡ stepFor (agreedAt t)
+  unfolding agreedAt stepFor
+  agreed-no o = rw (step-no (planAt t) e o)
+
+  module _ {row : ℕ} (o : c ≡ Next row) {u : List ℕ} (h : PlanHears (planAt t) 1 blankHeard u) where
+    got : Stepped (planAt t) row
+    got = step-got (planAt t) e o
+
+    place-is : getD u 4096 0 ≡ differing (askedFrom inRows (got .a) 1)
+    unfolding differing
+    place-is = ap (λ x. getD x 4096 0) (plan-heard (planAt t) blankHeard u (got .is) h)
+
+    told : Told (getD u 4096 0) (judged [] (askedFrom inRows (got .a) 1) (found (got .a) row)) (found (got .a) row)
+    told =
+        rw place-is (judged-by (askedFrom inRows (got .a) 1) (found (got .a) row)
+        (fit-all inRows (more (got .a .body) (more (got .a .fault) none)) 1 (omega arith) (plan-asks t .holds (got .is))))
+
+    pub agreed-yes : getD u 4096 0 ≡ 0 → Next row ≡ stepFor (agreedAt t)
+    unfolding agreedAt stepFor
+    agreed-yes z = rw (got .is, told .agreed z)
+
+    pub agreed-differs : (getD u 4096 0 ≡ 0 → ⊥) → Step.Refused 21 (getD u 4096 0) ≡ stepFor (agreedAt t)
+    unfolding agreedAt stepFor
+    agreed-differs z = rw (got .is, told .differed z)
