@@ -28,11 +28,11 @@ use Rattle.undoing.proofs.Told.{slot-after}
 
 -- whether something in activity k awaits its step, by its mark: a pick, for its arms
 unfoldable mutual
-  awaitsIn : Act → (k : ℕ) → (marks : List ℕ) → Bool
+  pub awaitsIn : Act → (k : ℕ) → (marks : List ℕ) → Bool
   awaitsIn (act own within) k ms =
       (isDoer own && eqb (getD ms k 0) active) || ((isScope own && eqb (getD ms k 0) done) || awaitsAmong within (k + 1) ms)
 
-  awaitsAmong : Acts → (c : ℕ) → (marks : List ℕ) → Bool
+  pub awaitsAmong : Acts → (c : ℕ) → (marks : List ℕ) → Bool
   awaitsAmong none c ms = false
   awaitsAmong (more a l) c ms = awaitsIn a c ms || awaitsAmong l (c + size a) ms
 
@@ -98,7 +98,7 @@ module _ (ms : List ℕ) where
 
   mutual
     -- what runs
-    run-waits : {a : Act} {k : ℕ} → Run ms a k → awaitsIn a k ms ≡ true
+    pub run-waits : {a : Act} {k : ℕ} → Run ms a k → awaitsIn a k ms ≡ true
     run-waits (run-awaits {own} {within} {k} s i e q) = itself-awaits own within k i e
     run-waits (run-one {own} {within} {k} s e r) = within-awaits own within k (one-waits r)
     run-waits (run-all {within} {k} e r z) = within-awaits flow within k (all-waits r z)
@@ -106,23 +106,23 @@ module _ (ms : List ℕ) where
     run-waits (run-done {b} {f} {u} {k} e q) = done-awaits (trio b f u) k e
     run-waits (run-turned {b} {f} {u} {k} t q) = either-awaits b f u k (turned-waits-so t)
 
-    one-waits : {l : Acts} {c : ℕ} → One ms l c → awaitsAmong l c ms ≡ true
+    pub one-waits : {l : Acts} {c : ℕ} → One ms l c → awaitsAmong l c ms ≡ true
     one-waits (one-here {a} {l} {c} r q) = first-awaits a l c (run-waits r)
     one-waits (one-later {a} {l} {c} q r) = later-awaits a l c (one-waits r)
 
-    all-waits : {l : Acts} {c : ℕ} → All ms l c → (Quiet ms c (sizes l) → ⊥) → awaitsAmong l c ms ≡ true
+    pub all-waits : {l : Acts} {c : ℕ} → All ms l c → (Quiet ms c (sizes l) → ⊥) → awaitsAmong l c ms ≡ true
     all-waits (all-none {c}) z = absurd (z (nothing-quiet c))
     all-waits (all-run {a} {l} {c} r x) z = first-awaits a l c (run-waits r)
     all-waits (all-quiet {a} {l} {c} q x) z = later-awaits a l c (all-waits x (λ y. z (more-quiet a l c q y)))
 
     -- a scope that turned
-    turned-waits-so : {m kb kf : ℕ} {b f : Act} → Turned ms m b kb f kf → (awaitsIn b kb ms || awaitsIn f kf ms) ≡ true
+    pub turned-waits-so : {m kb kf : ℕ} {b f : Act} → Turned ms m b kb f kf → (awaitsIn b kb ms || awaitsIn f kf ms) ≡ true
     turned-waits-so (turned-waits e s n q) = rw (stopped-waits-so s n)
     turned-waits-so (turned-undoes e u q) = rw (undoing-waits-so u)
     turned-waits-so (turned-heals e q r) = rw (run-waits r, or-true)
 
     -- a stopped body in which a scope runs
-    stopped-waits-so : {a : Act} {k : ℕ} → Stopped ms a k → innerRuns a k ms ≡ true → awaitsIn a k ms ≡ true
+    pub stopped-waits-so : {a : Act} {k : ℕ} → Stopped ms a k → innerRuns a k ms ≡ true → awaitsIn a k ms ≡ true
     stopped-waits-so (stopped-part {own} {within} {k} s e l) n = within-awaits own within k (stopped-in-waits l (sym (inner-is own within k ms false s) ∙ n))
     stopped-waits-so (stopped-quiet {a} {k} q) n = absurd (quiet-not a k q n)
     stopped-waits-so (stopped-scope {b} {f} {u} {k} t q) n = either-awaits b f u k (turned-waits-so t)
@@ -132,7 +132,7 @@ module _ (ms : List ℕ) where
     stopped-in-waits (stopped-more {a} {l} {c} s x) n = list-either a l c n (λ e. stopped-waits-so s e) (λ e. stopped-in-waits x e)
 
     -- one of which an undo part runs
-    undoing-waits-so : {a : Act} {k : ℕ} → Undoing ms a k → awaitsIn a k ms ≡ true
+    pub undoing-waits-so : {a : Act} {k : ℕ} → Undoing ms a k → awaitsIn a k ms ≡ true
     undoing-waits-so (undoing-part {own} {within} {k} s e l) = within-awaits own within k (undoing-in-waits l)
     undoing-waits-so (undoing-scope {b} {f} {u} {k} e q r) = undo-awaits b f u k (run-waits r)
 
@@ -141,11 +141,11 @@ module _ (ms : List ℕ) where
     undoing-in-waits (undoing-later {a} {l} {c} q r) = later-awaits a l c (undoing-in-waits r)
 
   -- What awaits so is found among those that are ready, where the tree has its form.
-  stepping : Ready → Bool
+  unfoldable pub stepping : Ready → Bool
   stepping r = isStep (r .step)
 
   -- one more is ready, or not
-  ready-is : (own : Own) (within : Acts) (k : ℕ) (b v : Bool) → awaits own b (getD ms k 0) ≡ v
+  pub ready-is : (own : Own) (within : Acts) (k : ℕ) (b v : Bool) → awaits own b (getD ms k 0) ≡ v
       → readyIn (act own within) k b ms
       ≡ elim v [
         | true ↦ record { activity = k; step = doingOf own within k } ∷ readyAmong within (k + 1) (eqb (kind own) 10 && eqb (getD ms k 0) active) ms
@@ -252,7 +252,7 @@ module _ (ms : List ℕ) where
   none-awaits c e = false≢true e
 
   mutual
-    ready-some : {h r : Bool} {a : Act} → Formed h r a → (k : ℕ) (b : Bool) → awaitsIn a k ms ≡ true → some stepping (readyIn a k b ms) ≡ true
+    pub ready-some : {h r : Bool} {a : Act} → Formed h r a → (k : ℕ) (b : Bool) → awaitsIn a k ms ≡ true → some stepping (readyIn a k b ms) ≡ true
     ready-some (formed-part {own = own} {within = within} s i g f) k b e =
         part-cases own within k e s (λ j d. doer-ready own within k b f g j d) (λ d. within-ready own within k b (ready-among f (k + 1) _ d))
     ready-some (formed-scope {b = x} {f = y} {u = z} fx fy fz) k b e =
@@ -264,7 +264,7 @@ module _ (ms : List ℕ) where
         (λ w. later-ready y (more z none) (k + 1 + size x) _ (more-cases z none (k + 1 + size x + size y) w
         (λ t. first-ready z none (k + 1 + size x + size y) _ (ready-some fz (k + 1 + size x + size y) _ t)) (λ t. absurd (none-awaits (k + 1 + size x + size y + size z) t))))))))
 
-    ready-among : {h r : Bool} {l : Acts} → FormedIn h r l → (c : ℕ) (b : Bool) → awaitsAmong l c ms ≡ true → some stepping (readyAmong l c b ms) ≡ true
+    pub ready-among : {h r : Bool} {l : Acts} → FormedIn h r l → (c : ℕ) (b : Bool) → awaitsAmong l c ms ≡ true → some stepping (readyAmong l c b ms) ≡ true
     ready-among formed-none c b e = absurd (none-awaits c e)
     ready-among (formed-more {a = a} {l = l} x y) c b e =
         more-cases a l c e (λ d. first-ready a l c b (ready-some x c b d)) (λ d. later-ready a l c b (ready-among y (c + size a) b d))

@@ -103,12 +103,12 @@ module _ (f : ℕ → ℕ) where
         knows-more (knows-in x c (λ t u v. d t (omega arith) (omega arith) ∙ kind-first a l c t (omega arith)))
         (knows-all y (c + size a) (λ t u v. d t (omega arith) (omega arith) ∙ kind-later a l c t (omega arith)))
 
-body-knows : (p : Plan) → Promised p → Knows (kindAt p) (p .body) 0
+pub body-knows : (p : Plan) → Promised p → Knows (kindAt p) (p .body) 0
 unfolding kindAt
 body-knows p h =
     knows-in (kindAt p) (h .body) 0 (λ t u v. first-of (ltb t (size (p .body))) (kindIn (p .body) 0 t) (kindIn (p .fault) (size (p .body)) t) (kindAt p t) refl (lt-ltb t (size (p .body)) (omega arith)))
 
-fault-knows : (p : Plan) → Promised p → Knows (kindAt p) (p .fault) (size (p .body))
+pub fault-knows : (p : Plan) → Promised p → Knows (kindAt p) (p .fault) (size (p .body))
 unfolding kindAt
 fault-knows p h =
     knows-in (kindAt p) (h .fault) (size (p .body)) (λ t u v. second-of (ltb t (size (p .body))) (kindIn (p .body) 0 t) (kindIn (p .fault) (size (p .body)) t) (kindAt p t) refl (le-ltb t (size (p .body)) u))
@@ -286,7 +286,7 @@ module _ (p : Plan) (h : Promised p) where
       (order-steps (kindAt p) p kb kf t (withMessage p t m (startedOrder p))
       (subst (λ (ms : List ℕ). size (p .body) + size (p .fault) ≤ length ms) (sym (like .marks)) (order-starts p h t past z a .1 .many)) v)
 
-  start-began : Began (kindAt p) 0 (size (p .body)) (noOrder .marks) (begunOrder p)
+  pub start-began : Began (kindAt p) 0 (size (p .body)) (noOrder .marks) (begunOrder p)
   unfolding begunOrder noOrder
   start-began = begin-began (kindAt p) kb (noOrder .marks) (omega (arith, h .few, length-replicate 256 idle))
 

@@ -633,7 +633,7 @@ module _ (f : ℕ → ℕ) where
 
   module _ (p : Plan) (kb : Knows f (p .body) 0) (kf : Knows f (p .fault) (size (p .body))) where
     -- From the root.
-    root-steps : (t : ℕ) (o : Order) → size (p .body) + size (p .fault) ≤ length (o .marks) → Steps (ownsAt p t) 0 o (stepRoot p t o)
+    pub root-steps : (t : ℕ) (o : Order) → size (p .body) + size (p .fault) ≤ length (o .marks) → Steps (ownsAt p t) 0 o (stepRoot p t o)
     unfolding stepRoot ownsAt
     root-steps t o m =
         decide (ltb t (size (p .body)))

@@ -75,7 +75,7 @@ module _ (f : ℕ → ℕ) where
   mutual
     unfolding beginUndo size
 
-    undo-began : {a : Act} {k : ℕ} → Knows f a k → (e : ℕ) (ms : List ℕ) → k + size a ≤ length ms → Began f k (size a) ms (beginUndo a k e ms)
+    pub undo-began : {a : Act} {k : ℕ} → Knows f a k → (e : ℕ) (ms : List ℕ) → k + size a ≤ length ms → Began f k (size a) ms (beginUndo a k e ms)
     undo-began (knows {own} {within} {k} x n r y) e ms h =
         either-began (isScope own && eqb k e) (beginPart 2 within (k + 1) ms) (beginUndoIn within (k + 1) e ms) _ refl
         (λ t. both (isScope own) (eqb k e) t (λ s v. began-wider f (part-began y 2 (let z = scope-needs own (count within) s n in omega arith) ms (omega arith)) (omega arith) (omega arith)))
@@ -340,13 +340,13 @@ module _ (f : ℕ → ℕ) where
         (λ v. untouched-halts k _ o))
         (λ s. halts-marked {k = k} {c = k + 1} {m = sizes within} o (stopAll within (k + 1) (marked k idle o)) (omega arith) (omega arith) (stop-all-halts y (marked k idle o) (omega (arith, length-set (o .marks) k idle))))
 
-    stop-all-halts : {l : Acts} {c : ℕ} → KnowsIn f l c → (o : Order) → c + sizes l ≤ length (o .marks) → Halts c (sizes l) o (stopAll l c o)
+    pub stop-all-halts : {l : Acts} {c : ℕ} → KnowsIn f l c → (o : Order) → c + sizes l ≤ length (o .marks) → Halts c (sizes l) o (stopAll l c o)
     stop-all-halts (knows-none {c}) o h = untouched-halts c 0 o
     stop-all-halts (knows-more {a} {l} {c} x y) o h =
         let w = stop-halts x o (omega arith) in
         also-halts o (stopAll l (c + size a)) (stop a c o) w (stop-all-halts y (stop a c o .order) (omega (arith, w .long)))
 
-    stop-first-halts : {l : Acts} {c : ℕ} → KnowsIn f l c → (o : Order) → c + sizes l ≤ length (o .marks) → Halts c (sizes l) o (stopFirst l c o)
+    pub stop-first-halts : {l : Acts} {c : ℕ} → KnowsIn f l c → (o : Order) → c + sizes l ≤ length (o .marks) → Halts c (sizes l) o (stopFirst l c o)
     stop-first-halts (knows-none {c}) o h = untouched-halts c 0 o
     stop-first-halts (knows-more {a} {l} {c} x y) o h =
         let w = stop-halts x o (omega arith) in

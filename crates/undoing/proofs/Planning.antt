@@ -656,7 +656,7 @@ pub record Promised (p : Plan) : Type 0 where
 
 module _ (p : Plan) (x : Formed false false (p .body)) (y : Formed true false (p .fault)) where
   -- the scopes of the plan are those of its body
-  whole : scopesOf p ≡ scopesIn (p .body) 0 root
+  pub whole : scopesOf p ≡ scopesIn (p .body) 0 root
   unfolding scopesOf
   whole = rw (bare-formed y refl .1 (size (p .body)) root, append-nil)
 

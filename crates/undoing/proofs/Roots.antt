@@ -64,7 +64,7 @@ weaker {p} {s} {o} {r} v = record { apart = v .apart; comes = go (r .result) (v 
     go undoRaising c = c
 
 module _ (p : Plan) (distinct : Distinct p) (h : Seat p (rootOf p)) where
-  root-steps : (t : ℕ) (o : Order) → Awaited p (o .marks) t → Standing p o → (o .root ≡ halted → ⊥) → (o .root ≡ withdrawing → ⊥)
+  pub root-steps : (t : ℕ) (o : Order) → Awaited p (o .marks) t → Standing p o → (o .root ≡ halted → ⊥) → (o .root ≡ withdrawing → ⊥)
       → Steps p (rootOf p) (Running (rootOf p)) o (stepRoot p t o)
   root-steps t o (in-body e w) st x y =
       subst (λ (r : Outcome). Steps p (rootOf p) (Running (rootOf p)) o r) (sym (root-is p t o true (lt-ltb t (size (p .body)) e))) (go (st .runs))
@@ -167,7 +167,7 @@ module _ (p : Plan) (distinct : Distinct p) (h : Seat p (rootOf p)) where
       record { does = λ past x. (rw (root-well p (momentOf p o) (momentOf p o) past x (ap phase e) (inside-rest p (rootOf p) o h (quiet-inner (p .body) 0 q))), (rw (root-unturned p (momentOf p o) (momentOf p o) past x (ap phase e)), tied-at p (momentOf p o) (momentOf p o) past x live root refl (ap phase e) .2)) }
 
   -- a root that is done has a quiet body
-  done-quiet : (ms : List ℕ) (m : ℕ) → m ≡ done → Running (rootOf p) ms m → Quiet ms 0 (size (p .body))
+  pub done-quiet : (ms : List ℕ) (m : ℕ) → m ≡ done → Running (rootOf p) ms m → Quiet ms 0 (size (p .body))
   done-quiet ms m e (scope-live d r q) = absurd (let z : _≡_ {A = ℕ} 1 3 = sym d ∙ e in omega arith)
   done-quiet ms m e (scope-done d r q) = r
   done-quiet ms m e (scope-turned (turned-waits {w = a} d r _ q)) = absurd (let z : live ≡ waits a = sym (ap phase e) ∙ d in let x : _≡_ {A = ℕ} 0 1 = cc in omega arith)

@@ -89,7 +89,7 @@ taking-alike p cuts m o = alike-itself p o
 taking-alike p (closes s) m o = alike-itself p o
 
 -- a root within its limits is neither stopped nor withdrawing
-root-mild : (m : ℕ) → rootInLimits m ≡ true → (m ≡ halted → ⊥) × (m ≡ withdrawing → ⊥)
+pub root-mild : (m : ℕ) → rootInLimits m ≡ true → (m ≡ halted → ⊥) × (m ≡ withdrawing → ⊥)
 unfolding rootInLimits among
 root-mild m e = ((λ d. false≢true (rw d at e)), (λ d. false≢true (rw d at e)))
 

@@ -339,7 +339,7 @@ module _ (p : Plan) (distinct : Distinct p) where
     part-one h e w = part-within h o (arms-held own within k t o e) (combines-one p own within k t o (stepAmong within (k + 1) t o) s z (u .before) i l e m w)
 
   -- what has one running in it has no open arms
-  opens-held : (own : Own) (m : ℕ) → m ≡ holding own → opens own m ≡ false
+  pub opens-held : (own : Own) (m : ℕ) → m ≡ holding own → opens own m ≡ false
   opens-held own m e =
       decide (eqb (kind own) 10) (λ t. rw (t, e, arms-holding own t)) (λ t. rw t)
 
@@ -375,11 +375,11 @@ module _ (p : Plan) (distinct : Distinct p) where
   -- Scopes.
 
   module _ (b f u : Act) (k : ℕ) where
-    Whole : Act
+    unfoldable pub Whole : Act
     Whole = act scope (trio b f u)
 
     -- as a scope
-    Its : Scope
+    unfoldable pub Its : Scope
     Its = scopeAt k (trio b f u)
 
     -- its numbers
@@ -402,20 +402,20 @@ module _ (p : Plan) (distinct : Distinct p) where
     scope-step t o h = step-is scope (trio b f u) k t o false (ne-eqb k t (omega arith))
 
     -- in its body
-    body-step : (t : ℕ) (o : Order) → k < t → t < k + 1 + size b → stepIn Whole k t o ≡ fromBody Its (stepIn b (k + 1) t o)
+    pub body-step : (t : ℕ) (o : Order) → k < t → t < k + 1 + size b → stepIn Whole k t o ≡ fromBody Its (stepIn b (k + 1) t o)
     body-step t o h e =
         scope-step t o h ∙ (in-is t _ true (ltb t (k + 1 + size b + size f)) (lt-ltb t (k + 1 + size b) e) refl
         ∙ ap (fromBody Its) (among-is b (more f (more u none)) (k + 1) t o true (lt-ltb t (k + 1 + size b) e)))
 
     -- in its fault part
-    fault-step : (t : ℕ) (o : Order) → k + 1 + size b ≤ t → t < k + 1 + size b + size f → stepIn Whole k t o ≡ fromFault Its (stepIn f (k + 1 + size b) t o)
+    pub fault-step : (t : ℕ) (o : Order) → k + 1 + size b ≤ t → t < k + 1 + size b + size f → stepIn Whole k t o ≡ fromFault Its (stepIn f (k + 1 + size b) t o)
     fault-step t o h e =
         scope-step t o (omega arith) ∙ (in-is t _ false true (le-ltb t (k + 1 + size b) h) (lt-ltb t (k + 1 + size b + size f) e)
         ∙ ap (fromFault Its) (among-is b (more f (more u none)) (k + 1) t o false (le-ltb t (k + 1 + size b) h)
         ∙ among-is f (more u none) (k + 1 + size b) t o true (lt-ltb t (k + 1 + size b + size f) e)))
 
     -- in its undo part
-    undo-step : (t : ℕ) (o : Order) → k + 1 + size b + size f ≤ t → t < k + 1 + size b + size f + size u
+    pub undo-step : (t : ℕ) (o : Order) → k + 1 + size b + size f ≤ t → t < k + 1 + size b + size f + size u
         → stepIn Whole k t o ≡ fromUndo (stepIn u (k + 1 + size b + size f) t o)
     undo-step t o h e =
         scope-step t o (omega arith) ∙ (in-is t _ false false (le-ltb t (k + 1 + size b) (omega arith)) (le-ltb t (k + 1 + size b + size f) h)
@@ -726,14 +726,14 @@ module _ (p : Plan) (distinct : Distinct p) where
   unfolding size
   positive (act own within) = omega arith
 
-  stopped-part-not : {ms : List ℕ} {l : Acts} {c t : ℕ} {b : Bool} → StoppedIn ms l c → WaitsIn ms l c t b → b ≡ false → isPart l c t ≡ false
+  pub stopped-part-not : {ms : List ℕ} {l : Acts} {c t : ℕ} {b : Bool} → StoppedIn ms l c → WaitsIn ms l c t b → b ≡ false → isPart l c t ≡ false
   unfolding isPart
   stopped-part-not (stopped-more {a} {l} {c} x y) (waits-first {t = t} h w) f =
       rw (ne-eqb c t (omega (arith, stopped-waits x w f)), not-part l (c + size a) t h)
   stopped-part-not (stopped-more {a} {l} {c} x y) (waits-later {t = t} h w) f =
       rw (ne-eqb c t (omega (arith, positive a)), stopped-part-not y w f)
 
-  undoing-part-not : {ms : List ℕ} {l : Acts} {c t : ℕ} {b : Bool} → UndoingIn ms l c → WaitsIn ms l c t b → b ≡ false → isPart l c t ≡ false
+  pub undoing-part-not : {ms : List ℕ} {l : Acts} {c t : ℕ} {b : Bool} → UndoingIn ms l c → WaitsIn ms l c t b → b ≡ false → isPart l c t ≡ false
   unfolding isPart size
   undoing-part-not (undoing-here {a} {l} {c} x y) (waits-first {t = t} h w) f =
       rw (ne-eqb c t (omega (arith, undoing-waits x w f)), not-part l (c + size a) t h)

@@ -7,3 +7,5 @@ pub mod Buyer
 pub mod UndoneRight
 pub mod Compiled
 pub mod Computing
+pub mod Entirely
+pub mod Weighing

@@ -1,0 +1,106 @@
+-- The steps of every slot over any run break none of the statements of Entirely. Assumes nothing.
+use Prim.Native.Nat.{ℕ, _+_}
+use mathlib.Core.Path.{_≡_, refl, sym, ap, subst, _∙_}
+use mathlib.Core.Bool.{Bool, true, false, cond, _&&_, _||_, or-true}
+use mathlib.Core.List.{List, [], _∷_, _++_}
+use lib.ListN.{getD}
+use lib.Dec.{eqb}
+use borrow.Author.Tests.{eq-eqb}
+use Rattle.plan.specs.Found.{Found, found}
+use Rattle.plan.specs.Read.{readPlan}
+use Rattle.plan.specs.Tree.{Own, kind, Act, act, Acts, more, Plan, size}
+use Rattle.plan.proofs.Limits.{accepted-is-within}
+use Rattle.order.specs.declared.Order.{Order}
+use Rattle.machine.specs.declared.State.{State}
+use Rattle.machine.specs.declared.Tally.{Tally}
+use Rattle.order.specs.Lists.{every, some}
+use Rattle.order.specs.State.{active, isLive}
+use Rattle.machine.specs.State.{fresh}
+use Rattle.order.specs.Event.{Event}
+use Rattle.order.specs.Acting.{startedOrder}
+use Rattle.machine.specs.Fit.{Ready, readyIn, readyAmong, readyOf, awaits}
+use Rattle.machine.specs.Calls.{loaded, loadedAs, load, post, collect, Stepped, step, Call, posting, collecting, stepping}
+use Rattle.undoing.specs.History.{logOf}
+use Rattle.undoing.specs.Ties.{orderAfter, isTaken}
+use Rattle.undoing.specs.Begun.{Taken, takenBy, stepsTaken}
+use Rattle.undoing.specs.Entirely.{BegunTrulyEver, BegunOnce, BegunEntirely, LeftToFinish, isAwaited, AwaitedTold, Chained, StoppedTold, AllGoOn, loose, UndoneFirmly}
+use Rattle.undoing.proofs.Parts.{decide, every-append, some-append}
+use Rattle.undoing.proofs.Orders.{onto}
+use Rattle.undoing.proofs.Planning.{Promised, promised}
+use Rattle.undoing.proofs.Waiting.{Waits, waits-itself, waits-within, WaitsIn, waits-first, waits-later}
+use Rattle.undoing.proofs.Roots.{Awaited, in-body, in-fault}
+use Rattle.undoing.proofs.Slots.{standing-live, post-same, collect-same, Sane, same-sane, fresh-sane}
+use Rattle.undoing.proofs.Happening.{orderIn, Happens, nothing-here, goes-here, starts-here, step-happens}
+use Rattle.undoing.proofs.Demanded.{step-after}
+use Rattle.undoing.proofs.Awaiting.{ready-is}
+use Rattle.undoing.proofs.Alone.{chained-told}
+use Rattle.undoing.proofs.EntirelyTold.{begun-truly-ever, begun-entirely}
+use Rattle.undoing.proofs.OnceOver.{begun-once}
+use Rattle.undoing.proofs.NearTold.{left-to-finish}
+use Rattle.undoing.proofs.Calming.{stopped-told}
+use Rattle.undoing.proofs.Coming.{all-go-on}
+
+-- what awaits its step is among those that are ready
+abbrev Its : (t : ℕ) → Ready → Bool
+Its t r = eqb (r .activity) t
+
+mutual
+  unfolding readyIn some
+
+  waits-ready : {ms : List ℕ} {a : Act} {k t : ℕ} {b : Bool} → Waits ms a k t b → some (Its t) (readyIn a k b ms) ≡ true
+  waits-ready {ms} (waits-itself {own} {within} {k} {t} {b} e h) = ap (some (Its t)) (ready-is ms own within k b true h) ∙ rw (eq-eqb k t e)
+  waits-ready {ms} {b = b} (waits-within {own} {within} {k} {t} h w) =
+      decide (awaits own b (getD ms k 0))
+      (λ d. ap (some (Its t)) (ready-is ms own within k b true d) ∙ rw (waits-in-ready w, or-true))
+      (λ d. ap (some (Its t)) (ready-is ms own within k b false d) ∙ waits-in-ready w)
+
+  waits-in-ready : {ms : List ℕ} {l : Acts} {c t : ℕ} {b : Bool} → WaitsIn ms l c t b → some (Its t) (readyAmong l c b ms) ≡ true
+  waits-in-ready {ms} {t = t} {b = b} (waits-first {a} {l} {c} h w) = some-append (Its t) (readyIn a c b ms) (readyAmong l (c + size a) b ms) ∙ rw (waits-ready w)
+  waits-in-ready {ms} {t = t} {b = b} (waits-later {a} {l} {c} h w) = some-append (Its t) (readyIn a c b ms) (readyAmong l (c + size a) b ms) ∙ rw (waits-in-ready w, or-true)
+
+awaited-ready : (p : Plan) (o : Order) (t : ℕ) → Awaited p (o .marks) t → some (Its t) (readyOf p o) ≡ true
+unfolding readyOf
+awaited-ready p o t (in-body e w) = some-append (Its t) (readyIn (p .body) 0 false (o .marks)) (readyIn (p .fault) (size (p .body)) false (o .marks)) ∙ rw (waits-ready w)
+awaited-ready p o t (in-fault e w) = some-append (Its t) (readyIn (p .body) 0 false (o .marks)) (readyIn (p .fault) (size (p .body)) false (o .marks)) ∙ rw (waits-ready w, or-true)
+
+module _ (p : Plan) (h : Promised p) (i : ℕ) where
+  happens-awaited : (s : State) (past : List Event) (r : Stepped) → Happens p i s past r → every (isAwaited p) (takenBy i s r) ≡ true
+  unfolding every isAwaited
+  happens-awaited s past r (nothing-here n l e d) = rw n
+  happens-awaited s past r (goes-here t m q x st c y l e d) = rw (q .0, q .1, standing-live p (orderIn s i) st, awaited-ready p (orderIn s i) t x)
+  happens-awaited s past r (starts-here t m q x z n l e d) = rw (q .0, q .1, z, awaited-ready p (startedOrder p) t x)
+
+  module _ (bytes : List ℕ) (next : ℕ) (accepted : readPlan bytes ≡ found p next) where
+    all-awaited : (calls : List Call) (s : State) (t : Tally) (past : List Event) → Sane p bytes next i accepted h s past → every (isAwaited p) (stepsTaken calls i s t) ≡ true
+    unfolding stepsTaken every
+    all-awaited [] s t past g = refl
+    all-awaited (posting m ∷ l) s t past g = all-awaited l (post m s .state) t past (same-sane p bytes next i accepted h s (post m s .state) past (post-same m s) g)
+    all-awaited (collecting ∷ l) s t past g = all-awaited l (collect s .state) t past (same-sane p bytes next i accepted h s (collect s .state) past (collect-same s) g)
+    all-awaited (stepping c ∷ l) s t past g =
+        let r = step c s t in
+        every-append (isAwaited p) (takenBy i s r) (stepsTaken l i (r .state) (r .tally)) (happens-awaited s past r (step-happens p bytes next i accepted h c s t past g .happens))
+        (all-awaited l (r .state) (r .tally) (onto (logOf i r) past) (step-after p bytes next i accepted h c s t past g .1))
+
+-- Every step taken was awaited.
+pub awaited-told : AwaitedTold
+unfolding AwaitedTold load
+awaited-told bytes p next e calls slot t =
+    subst (λ (f : Found Plan). every (isAwaited p) (stepsTaken calls slot (loadedAs bytes f .state) t) ≡ true) (sym e)
+    (let h = promised p (accepted-is-within bytes e) in all-awaited p h slot bytes next e calls (fresh bytes) t [] (fresh-sane p bytes next slot e h))
+
+-- The one statement.
+pub undone-firmly : UndoneFirmly
+unfolding UndoneFirmly loose BegunTrulyEver BegunOnce BegunEntirely LeftToFinish AwaitedTold Chained StoppedTold AllGoOn
+undone-firmly bytes p next e calls slot t =
+    rw (
+      begun-truly-ever bytes p next e calls slot t,
+      begun-once bytes p next e calls slot t,
+      begun-entirely bytes p next e calls slot t,
+      left-to-finish bytes p next e calls slot t,
+      awaited-told bytes p next e calls slot t,
+      chained-told bytes p next e calls slot t,
+    )
+    (decide (isLive o) (λ v. rw (v, stopped-told bytes p next e calls slot t v, all-go-on bytes p next e calls slot t v)) (λ v. rw v))
+  where
+    o : Order
+    o = orderAfter calls slot (loaded bytes) t

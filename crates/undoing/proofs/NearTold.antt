@@ -1,0 +1,157 @@
+-- What is left to finish is, over any run. Assumes nothing.
+use Prim.Native.Nat.{ℕ, _+_, _≤_, _<_}
+use native.Mathlib.Omega.{arith}
+use mathlib.Core.Path.{_≡_, refl, sym, ap, subst, _∙_}
+use mathlib.Core.Bool.{Bool, true, false, not, _&&_, _||_, false≢true, or-true}
+use mathlib.Core.List.{List, [], _∷_, _++_}
+use lib.Dec.{eqb, ltb, leb}
+use borrow.Author.Tests.{eqb-true, eq-eqb, lt-ltb, le-leb, ltb-true}
+use Rattle.plan.specs.Found.{Found, found}
+use Rattle.plan.specs.Read.{readPlan}
+use Rattle.plan.specs.Tree.{Own, kind, Act, act, Acts, none, more, Plan, size, sizes, scope}
+use Rattle.plan.proofs.Limits.{accepted-is-within}
+use Rattle.order.specs.declared.Order.{Order}
+use Rattle.order.specs.declared.End.{End}
+use Rattle.order.specs.declared.End.the-variants.{None, Well, Handled, Failed, Left}
+use Rattle.machine.specs.declared.State.{State}
+use Rattle.machine.specs.declared.Tally.{Tally}
+use Rattle.order.specs.Lists.{every, some}
+use Rattle.order.specs.State.{Name, root, inner, noOrder}
+use Rattle.machine.specs.State.{fresh}
+use Rattle.order.specs.Event.{Event, started, began, closed, faulted, stopped, ended, raised, left}
+use Rattle.order.specs.Begin.{part, partAt, begin}
+use Rattle.order.specs.Scope.{isScope}
+use Rattle.order.specs.Acting.{stepRoot, endOf, movedTo, stepOrder, begunOrder, startedOrder}
+use Rattle.machine.specs.Calls.{loadedAs, load, post, collect, Stepped, step, Call, posting, collecting, stepping}
+use Rattle.undoing.specs.History.{logOf}
+use Rattle.undoing.specs.Demand3.{Inner, scopesIn, scopesAmong, scopesOf}
+use Rattle.undoing.specs.Ties.{isTaken}
+use Rattle.undoing.specs.Orderly.{isBeganOf}
+use Rattle.undoing.specs.Begun.{kindAt, hasBegan, Taken, takenBy, stepsTaken}
+use Rattle.undoing.specs.Entirely.{times, isStopOf, isLocal, LeftToFinish}
+use Rattle.undoing.proofs.Parts.{both, decide, every-append}
+use Rattle.undoing.proofs.Marks.{trio}
+use Rattle.undoing.proofs.Orders.{onto, innerAt}
+use Rattle.undoing.proofs.Planning.{Formed, formed-part, formed-scope, FormedIn, formed-none, formed-more, scopes-is, bare-formed, Promised, promised, whole}
+use Rattle.undoing.proofs.Waiting.{Waits, waits-itself, waits-within, WaitsIn, waits-first, waits-later}
+use Rattle.undoing.proofs.Roots.{Awaited, in-body, in-fault}
+use Rattle.undoing.proofs.Slots.{post-same, collect-same, Sane, same-sane, fresh-sane}
+use Rattle.undoing.proofs.Happening.{orderIn, withMessage, Happens, nothing-here, goes-here, starts-here, step-happens}
+use Rattle.undoing.proofs.Demanded.{step-after}
+use Rattle.undoing.proofs.BegunTold.{body-knows, fault-knows}
+use Rattle.undoing.proofs.Entire.{Two}
+use Rattle.undoing.proofs.EntirelyTold.{formed-named}
+use Rattle.undoing.proofs.Nearing.{Near, near-stands, near-began, near-stopped, near-none, Local, LocalIn, in-append, in-none, all, root-local, start-local}
+
+-- what awaits has one of the numbers
+mutual
+  unfolding size
+
+  waits-to : {ms : List ℕ} {a : Act} {k t : ℕ} {b : Bool} → Waits ms a k t b → t < k + size a
+  waits-to (waits-itself e h) = omega arith
+  waits-to (waits-within h w) = let z = waits-in-to w in omega arith
+
+  waits-in-to : {ms : List ℕ} {l : Acts} {c t : ℕ} {b : Bool} → WaitsIn ms l c t b → t < c + sizes l
+  waits-in-to (waits-first h w) = omega arith
+  waits-in-to (waits-later h w) = let z = waits-in-to w in omega arith
+
+awaited-to : {p : Plan} {ms : List ℕ} {t : ℕ} → Awaited p ms t → t < size (p .body) + size (p .fault)
+awaited-to (in-body e w) = omega arith
+awaited-to (in-fault e w) = waits-to w
+
+-- none begins between two numbers
+none-some : (k u : ℕ) (l : List Event) → ((j : ℕ) → k < j → j < u → times j l ≡ 0) → some (isBeganOf (λ j. ltb k j && ltb j u)) l ≡ false
+unfolding some times isBeganOf
+none-some k u [] z = refl
+none-some k u (started ∷ l) z = none-some k u l (λ j x y. let e = z j x y in omega arith)
+none-some k u (began i ∷ l) z =
+    decide (ltb k i && ltb i u)
+    (λ e. both (ltb k i) (ltb i u) e (λ a b. absurd (let y = z i (ltb-true k i a) (ltb-true i u b) in let w : 1 + times i l ≡ 0 = rw (eq-eqb i i refl) at y in omega arith)))
+    (λ e. rw e (none-some k u l (λ j x y. decide (eqb j i)
+    (λ d. absurd (let v = z j x y in let w : 1 + times j l ≡ 0 = rw d at v in omega arith))
+    (λ d. let v = z j x y in let w : 0 + times j l ≡ 0 = rw d at v in omega arith))))
+none-some k u (closed i ∷ l) z = none-some k u l (λ j x y. let e = z j x y in omega arith)
+none-some k u (faulted n ∷ l) z = none-some k u l (λ j x y. let e = z j x y in omega arith)
+none-some k u (stopped i ∷ l) z = none-some k u l (λ j x y. let e = z j x y in omega arith)
+none-some k u (ended n ∷ l) z = none-some k u l (λ j x y. let e = z j x y in omega arith)
+none-some k u (raised i ∷ l) z = none-some k u l (λ j x y. let e = z j x y in omega arith)
+none-some k u (left ∷ l) z = none-some k u l (λ j x y. let e = z j x y in omega arith)
+
+module _ (x : Taken) where
+  near-told : (b g u : Act) (k : ℕ) (n : Name) → Near (x .activity) (x .log) k (partAt 2 (trio b g u) (k + 1)) (k + size (act scope (trio b g u))) → isLocal x (innerAt k n (trio b g u)) ≡ true
+  unfolding isLocal part partAt size
+  near-told b g u k n (near-stands h e) = rw (le-leb k (x .activity) h, lt-ltb (x .activity) (k + 1 + size b + size g + size u) (omega arith))
+  near-told b g u k n (near-began h) = rw (h, or-true)
+  near-told b g u k n (near-stopped h) = rw (h, or-true, or-true)
+  near-told b g u k n (near-none h) = rw (none-some k (k + 1 + size b + size g) (x .log) h, or-true, or-true)
+
+  mutual
+    unfolding Local scopesIn every kind
+
+    local-told : {h r : Bool} {a : Act} → Formed h r a → (k : ℕ) (n : Name) → Local (x .activity) (x .log) a k → every (isLocal x) (scopesIn a k n) ≡ true
+    local-told (formed-part {own = own} {within = within} s i g y) k n w = subst (λ (l : List Inner). every (isLocal x) l ≡ true) (sym (scopes-is own within k n false s)) (in-told y (k + 1) n (w .other))
+    local-told (formed-scope {b = b} {f = g} {u = u} fb fg fu) k n w =
+        rw (near-told b g u k n (w .one refl))
+        (every-append (isLocal x) (scopesIn b (k + 1) (inner k)) _ (local-told fb (k + 1) (inner k) (w .other .one))
+        (rw (bare-formed fg refl .1 (k + 1 + size b) (inner k), bare-formed fu refl .1 (k + 1 + size b + size g) (inner k))))
+
+    in-told : {h r : Bool} {l : Acts} → FormedIn h r l → (c : ℕ) (n : Name) → LocalIn (x .activity) (x .log) l c → every (isLocal x) (scopesAmong l c n) ≡ true
+    in-told formed-none c n w = refl
+    in-told (formed-more {a = a} {l = l} y z) c n w = every-append (isLocal x) (scopesIn a c n) (scopesAmong l (c + size a) n) (local-told y c n (w .one)) (in-told z (c + size a) n (w .other))
+
+module _ (p : Plan) (h : Promised p) where
+  order-local : (t : ℕ) (o : Order) → t < size (p .body) + size (p .fault) → LocalIn t (stepOrder p t o .log) (more (p .body) (more (p .fault) none)) 0
+  unfolding stepOrder movedTo times isBeganOf
+  order-local t o n = go (endOf (stepRoot p t o))
+    where
+      w : LocalIn t (stepRoot p t o .log) (more (p .body) (more (p .fault) none)) 0
+      w = root-local t (kindAt p) p (body-knows p h) (fault-knows p h) (formed-named (kindAt p) (h .fault)) o n
+
+      go : (e : End) → LocalIn t (movedTo (stepRoot p t o) e .log) (more (p .body) (more (p .fault) none)) 0
+      go None = w
+      go Well = in-append t (stepRoot p t o .log) (ended root ∷ []) _ 0 w (in-none t (ended root ∷ []) _ 0 (λ j. refl))
+      go Handled = w
+      go Failed = w
+      go Left = w
+
+  starts-local : (t : ℕ) (o : Order) → t < size (p .body) + size (p .fault) → LocalIn t ((started ∷ begunOrder p .log) ++ stepOrder p t o .log) (more (p .body) (more (p .fault) none)) 0
+  unfolding begunOrder times isBeganOf
+  starts-local t o n =
+      in-append t (started ∷ begin (p .body) 0 (noOrder .marks) .log) (stepOrder p t o .log) _ 0
+      (in-append t (started ∷ []) (begin (p .body) 0 (noOrder .marks) .log) _ 0 (in-none t (started ∷ []) _ 0 (λ j. refl))
+      (start-local t (kindAt p) p (body-knows p h) (fault-knows p h) (formed-named (kindAt p) (h .fault)) (formed-named (kindAt p) (h .body)) (noOrder .marks)))
+      (order-local t o n)
+
+  taken-local : (x : Taken) → LocalIn (x .activity) (x .log) (more (p .body) (more (p .fault) none)) 0 → every (isLocal x) (scopesOf p) ≡ true
+  unfolding Local
+  taken-local x w = subst (λ (l : List Inner). every (isLocal x) l ≡ true) (sym (whole p (h .body) (h .fault))) (local-told x (h .body) 0 root (w .one))
+
+  module _ (i : ℕ) where
+    abbrev one : State → (t : ℕ) → Stepped → Taken
+    one s t r = record { activity = t; before = orderIn s i; after = orderIn (r .state) i; log = logOf i r }
+
+    happens-local : (s : State) (past : List Event) (r : Stepped) → Happens p i s past r → every (λ x. every (isLocal x) (scopesOf p)) (takenBy i s r) ≡ true
+    unfolding every
+    happens-local s past r (nothing-here n l e d) = rw n
+    happens-local s past r (goes-here t m q x st c y l e d) =
+        rw (q .0, q .1, taken-local (one s t r) (subst (λ (g : List Event). LocalIn t g (more (p .body) (more (p .fault) none)) 0) (sym l) (order-local t (withMessage p t m (orderIn s i)) (awaited-to x))))
+    happens-local s past r (starts-here t m q x z n l e d) =
+        rw (q .0, q .1, taken-local (one s t r) (subst (λ (g : List Event). LocalIn t g (more (p .body) (more (p .fault) none)) 0) (sym l) (starts-local t (withMessage p t m (startedOrder p)) (awaited-to x))))
+
+    module _ (bytes : List ℕ) (next : ℕ) (accepted : readPlan bytes ≡ found p next) where
+      all-near : (calls : List Call) (s : State) (t : Tally) (past : List Event) → Sane p bytes next i accepted h s past → every (λ x. every (isLocal x) (scopesOf p)) (stepsTaken calls i s t) ≡ true
+      unfolding stepsTaken every
+      all-near [] s t past g = refl
+      all-near (posting m ∷ l) s t past g = all-near l (post m s .state) t past (same-sane p bytes next i accepted h s (post m s .state) past (post-same m s) g)
+      all-near (collecting ∷ l) s t past g = all-near l (collect s .state) t past (same-sane p bytes next i accepted h s (collect s .state) past (collect-same s) g)
+      all-near (stepping c ∷ l) s t past g =
+          let r = step c s t in
+          every-append (λ x. every (isLocal x) (scopesOf p)) (takenBy i s r) (stepsTaken l i (r .state) (r .tally)) (happens-local s past r (step-happens p bytes next i accepted h c s t past g .happens))
+          (all-near l (r .state) (r .tally) (onto (logOf i r) past) (step-after p bytes next i accepted h c s t past g .1))
+
+-- Left to finish.
+pub left-to-finish : LeftToFinish
+unfolding LeftToFinish load
+left-to-finish bytes p next e calls slot t =
+    subst (λ (f : Found Plan). every (λ x. every (isLocal x) (scopesOf p)) (stepsTaken calls slot (loadedAs bytes f .state) t) ≡ true) (sym e)
+    (let h = promised p (accepted-is-within bytes e) in all-near p h slot bytes next e calls (fresh bytes) t [] (fresh-sane p bytes next slot e h))

@@ -1,0 +1,520 @@
+-- Nothing begins in a scope in which the step does not stand, unless the scope begins or is stopped with it. Read off the logs alone. Assumes nothing.
+use Prim.Native.Nat.{ℕ, zero, suc, _+_, _≤_, _<_}
+use native.Mathlib.Omega.{arith}
+use mathlib.Core.Path.{_≡_, refl, sym, ap, subst, _∙_}
+use mathlib.Core.Bool.{Bool, true, false, cond, not, _&&_, _||_, false≢true, or-true}
+use mathlib.Core.List.{List, [], _∷_, _++_, reverse, reverse-cons}
+use lib.ListN.{set}
+use lib.Dec.{eqb, ltb, leb}
+use borrow.Author.Tests.{eqb-true, eqb-false, eq-eqb, ltb-true, ltb-false, lt-ltb, le-ltb}
+use Rattle.plan.specs.Tree.{Own, empty, send, receive, set as setting, raise, leave, choose, repeat, sequence, flow, pick, scope, arm, kind, Act, act, Acts, none, more, Plan, size, sizes, count}
+use Rattle.order.specs.declared.Order.{Order}
+use Rattle.order.specs.Lists.{every, some, only, withoutLast}
+use Rattle.order.specs.State.{idle, active, inside, faulty, undoing, handling, halted, withdrawing, done, withMarks, closings, remembering, markAt, marked, markOf, marking, binding}
+use Rattle.order.specs.Event.{Event, began, stopped, faulted, ended}
+use Rattle.order.specs.Expression.{Value, fault, value, evaluate, isTrue}
+use Rattle.order.specs.Begin.{Begun, throughout, around, itsBeginning, inTurn, begin, beginInTurn, beginAll, beginFirst, beginAfter, part, partAt, beginPart, cleared, quiet}
+use Rattle.order.specs.declared.Way.{Way as Result}
+use Rattle.order.specs.declared.Way.the-variants.{Running as running, Over as over, Raising as raising, Leaving as leaving, Undone as undone, UndoRaising as undoRaising}
+use Rattle.order.specs.Scope.{Outcome, rootOf, runs, begunIn, whereOver, Scope, scopeAt, isScope, isOpen, isFor, directly, directlyIn, innerRuns, closing, beginUndo, beginUndoIn, startUndo, undo, ends, handle, undoes, turns, rememberedFor, untouched, withdraws, stop, stopAll, stopFirst, faults, breaks, looksAgain, bodyOver, bodyRaised, undoOver, undoRaised, fromBody, partOver, partRaised, fromFault, fromUndo}
+use Rattle.order.specs.Scope as definitions
+use Rattle.order.specs.Acting.{finishes, raises, orRaises, enters, again, repeats, allBound, itself, arms, goesOn, joins, inScope, combines, stepIn, stepAmong, stepRoot}
+use Rattle.undoing.specs.Orderly.{isBeganOf}
+use Rattle.undoing.specs.Begun.{hasBegan}
+use Rattle.undoing.specs.Entirely.{times, isStopOf}
+use Rattle.undoing.proofs.Parts.{both, decide, every-append, some-append}
+use Rattle.undoing.proofs.Orders.{isArm, least}
+use Rattle.undoing.proofs.Places.{first-of, second-of}
+use Rattle.undoing.proofs.Seats.{directly-is, directly-range, directly-range-in}
+use Rattle.undoing.proofs.Truly.{Arms, needs, Knows, knows, KnowsIn, knows-none, knows-more}
+use Rattle.undoing.proofs.Entire.{Two, times-append, times-event, Zero, zero-part, Starts, Ranks, Named, begin-starts, turn-starts, all-starts}
+use Rattle.undoing.proofs.Entering.{scope-kind, scope-arms, scope-three, Strict, StrictIn, InList, part-list, undo-strict, undo-in-strict, stop-strict, stop-all-strict, StepsAt, StepsIn, step-at, among-at}
+
+abbrev log-of : Outcome → List Event
+log-of o = o .log
+
+every-only-so : {A : Type 0} (f : A → Bool) (l : List A) → every f (only f l) ≡ true
+unfolding every only
+every-only-so f [] = refl
+every-only-so f (a ∷ l) = decide (f a) (λ e. rw (e, every-only-so f l) (rw e)) (λ e. rw (e, every-only-so f l))
+
+every-reverse : {A : Type 0} (f : A → Bool) (l : List A) → every f l ≡ true → every f (reverse l) ≡ true
+unfolding every
+every-reverse f [] e = refl
+every-reverse f (a ∷ l) e = both (f a) (every f l) e (λ x y. subst (λ (m : List _). every f m ≡ true) (sym (reverse-cons a l)) (every-append f (reverse l) (a ∷ []) (every-reverse f l y) (rw x)))
+
+module _ (t : ℕ) where
+  pub data Near (l : List Event) (k u e : ℕ) : Type 0 where
+    near-stands : k ≤ t → t < e → Near l k u e
+    near-began : hasBegan k l ≡ true → Near l k u e
+    near-stopped : some (isStopOf k) l ≡ true → Near l k u e
+    near-none : ((j : ℕ) → k < j → j < u → times j l ≡ 0) → Near l k u e
+
+  near-append : (l m : List Event) (k u e : ℕ) → Near l k u e → Near m k u e → Near (l ++ m) k u e
+  near-append l m k u e (near-stands a b) y = near-stands a b
+  near-append l m k u e (near-began a) y = near-began (some-append (isBeganOf (eqb k)) l m ∙ rw a)
+  near-append l m k u e (near-stopped a) y = near-stopped (some-append (isStopOf k) l m ∙ rw a)
+  near-append l m k u e (near-none a) (near-stands b c) = near-stands b c
+  near-append l m k u e (near-none a) (near-began b) = near-began (some-append (isBeganOf (eqb k)) l m ∙ rw (b, or-true))
+  near-append l m k u e (near-none a) (near-stopped b) = near-stopped (some-append (isStopOf k) l m ∙ rw (b, or-true))
+  near-append l m k u e (near-none a) (near-none b) = near-none (λ j x y. let z = times-append j l m in let c = a j x y in let d = b j x y in omega arith)
+
+  unfoldable mutual
+    pub Local : List Event → Act → (k : ℕ) → Type 0
+    Local l (act own within) k = Two (isScope own ≡ true → Near l k (partAt 2 within (k + 1)) (k + size (act own within))) (LocalIn l within (k + 1))
+
+    pub LocalIn : List Event → Acts → (c : ℕ) → Type 0
+    LocalIn l none c = Unit {0}
+    LocalIn l (more a r) c = Two (Local l a c) (LocalIn l r (c + size a))
+
+  part-to : (i : ℕ) (l : Acts) (c : ℕ) → partAt i l c ≤ c + sizes l
+  unfolding partAt size
+  part-to i none c = omega arith
+  part-to zero (more a l) c = omega arith
+  part-to (suc i) (more a l) c = let z = part-to i l (c + size a) in omega arith
+
+  mutual
+    unfolding Local size
+
+    local-zero : (l : List Event) (a : Act) (k : ℕ) → Zero l k (size a) → Local l a k
+    local-zero l (act own within) k z =
+        record { one = λ s. near-none (λ j x y. z .at j (omega arith) (omega (arith, part-to 2 within (k + 1)))); other = in-zero l within (k + 1) (zero-part z (omega arith) (omega arith)) }
+
+    in-zero : (l : List Event) (r : Acts) (c : ℕ) → Zero l c (sizes r) → LocalIn l r c
+    in-zero l none c z = tt
+    in-zero l (more a r) c z = record { one = local-zero l a c (zero-part z (omega arith) (omega arith)); other = in-zero l r (c + size a) (zero-part z (omega arith) (omega arith)) }
+
+  mutual
+    unfolding Local
+
+    local-append : (l m : List Event) (a : Act) (k : ℕ) → Local l a k → Local m a k → Local (l ++ m) a k
+    local-append l m (act own within) k h g =
+        record { one = λ s. near-append l m k (partAt 2 within (k + 1)) (k + size (act own within)) (h .one s) (g .one s); other = in-append l m within (k + 1) (h .other) (g .other) }
+
+    pub in-append : (l m : List Event) (r : Acts) (c : ℕ) → LocalIn l r c → LocalIn m r c → LocalIn (l ++ m) r c
+    in-append l m none c h g = tt
+    in-append l m (more a r) c h g = record { one = local-append l m a c (h .one) (g .one); other = in-append l m r (c + size a) (h .other) (g .other) }
+
+  -- an event before it
+  in-event : (e : Event) (l : List Event) (r : Acts) (c : ℕ) → Zero (e ∷ []) c (sizes r) → LocalIn l r c → LocalIn (e ∷ l) r c
+  in-event e l r c z h = in-append (e ∷ []) l r c (in-zero (e ∷ []) r c z) h
+
+  pub in-none : (l : List Event) (r : Acts) (c : ℕ) → ((j : ℕ) → times j l ≡ 0) → LocalIn l r c
+  in-none l r c z = in-zero l r c (record { at = λ j x y. z j })
+
+  -- in an activity other than a scope
+  plain-local : (own : Own) (within : Acts) (k : ℕ) (l : List Event) → isScope own ≡ false → LocalIn l within (k + 1) → Local l (act own within) k
+  unfolding Local
+  plain-local own within k l s h = record { one = λ e. absurd (false≢true (sym s ∙ e)); other = h }
+
+  -- of the first of a list, with nothing in the others; of the others, with nothing in the first
+  head-in : (a : Act) (r : Acts) (c : ℕ) (l : List Event) → Local l a c → ((j : ℕ) → c + size a ≤ j → times j l ≡ 0) → LocalIn l (more a r) c
+  unfolding Local
+  head-in a r c l h z = record { one = h; other = in-zero l r (c + size a) (record { at = λ j x y. z j x }) }
+
+  tail-in : (a : Act) (r : Acts) (c : ℕ) (l : List Event) → LocalIn l r (c + size a) → ((j : ℕ) → j < c + size a → times j l ≡ 0) → LocalIn l (more a r) c
+  unfolding Local
+  tail-in a r c l h z = record { one = local-zero l a c (record { at = λ j x y. z j y }); other = h }
+
+  single : (k c n : ℕ) → k < c → Zero (began k ∷ []) c n
+  unfolding times isBeganOf
+  single k c n h = record { at = λ j x y. decide (eqb j k) (λ e. absurd (let z = eqb-true j k e in omega arith)) (λ e. rw e (omega arith)) }
+
+  module _ (f : ℕ → ℕ) where
+    through-log : (k : ℕ) (r : Begun) → throughout k r .log ≡ r .log
+    through-log k r = go (r .over)
+      where
+        go : (v : Bool) → throughout k (record { marks = r .marks; over = v; log = r .log }) .log ≡ r .log
+        go true = refl
+        go false = refl
+
+    around-log : (k : ℕ) (r : Begun) → around k r .log ≡ r .log
+    around-log k r = go (r .over)
+      where
+        go : (v : Bool) → around k (record { marks = r .marks; over = v; log = r .log }) .log ≡ r .log
+        go true = refl
+        go false = refl
+
+    own-local : (own : Own) (within : Acts) (k : ℕ) (ms : List ℕ)
+        → (eqb (kind own) 10 ≡ false → (ns : List ℕ) → LocalIn (beginInTurn within (k + 1) ns .log) within (k + 1)) → (eqb (kind own) 10 ≡ false → (ns : List ℕ) → LocalIn (beginAll within (k + 1) ns .log) within (k + 1))
+        → (eqb (kind own) 10 ≡ false → (ns : List ℕ) → LocalIn (beginFirst within (k + 1) ns .log) within (k + 1)) → Local (begin (act own within) k ms .log) (act own within) k
+    unfolding begin kind Local some isBeganOf times
+    own-local empty within k ms a b c = plain-local empty within k _ refl (in-zero _ within (k + 1) (single k (k + 1) (sizes within) (omega arith)))
+    own-local (send p o vs) within k ms a b c = plain-local (send p o vs) within k _ refl (in-zero _ within (k + 1) (single k (k + 1) (sizes within) (omega arith)))
+    own-local (receive p o vs) within k ms a b c = plain-local (receive p o vs) within k _ refl (in-zero _ within (k + 1) (single k (k + 1) (sizes within) (omega arith)))
+    own-local (setting v e) within k ms a b c = plain-local (setting v e) within k _ refl (in-zero _ within (k + 1) (single k (k + 1) (sizes within) (omega arith)))
+    own-local raise within k ms a b c = plain-local raise within k _ refl (in-zero _ within (k + 1) (single k (k + 1) (sizes within) (omega arith)))
+    own-local leave within k ms a b c = plain-local leave within k _ refl (in-zero _ within (k + 1) (single k (k + 1) (sizes within) (omega arith)))
+    own-local (choose e) within k ms a b c = plain-local (choose e) within k _ refl (in-zero _ within (k + 1) (single k (k + 1) (sizes within) (omega arith)))
+    own-local (repeat e) within k ms a b c = plain-local (repeat e) within k _ refl (in-zero _ within (k + 1) (single k (k + 1) (sizes within) (omega arith)))
+    own-local sequence within k ms a b c =
+        plain-local sequence within k _ refl (in-event (began k) _ within (k + 1) (single k (k + 1) (sizes within) (omega arith)) (subst (λ (l : List Event). LocalIn l within (k + 1)) (sym (through-log k (beginInTurn within (k + 1) (set ms k active)))) (a refl (set ms k active))))
+    own-local flow within k ms a b c =
+        plain-local flow within k _ refl (in-event (began k) _ within (k + 1) (single k (k + 1) (sizes within) (omega arith)) (subst (λ (l : List Event). LocalIn l within (k + 1)) (sym (through-log k (beginAll within (k + 1) (set ms k active)))) (b refl (set ms k active))))
+    own-local pick within k ms a b c = plain-local pick within k _ refl (in-zero _ within (k + 1) (single k (k + 1) (sizes within) (omega arith)))
+    own-local scope within k ms a b c =
+        record {
+          one = λ s. near-began (rw (eq-eqb k k refl));
+          other = in-event (began k) _ within (k + 1) (single k (k + 1) (sizes within) (omega arith)) (subst (λ (l : List Event). LocalIn l within (k + 1)) (sym (around-log k (beginFirst within (k + 1) (set ms k active)))) (c refl (set ms k active)));
+        }
+    own-local (arm p o vs) within k ms a b c = plain-local (arm p o vs) within k _ refl (in-none [] within (k + 1) (λ j. refl))
+
+    mutual
+      unfolding begin Local times
+
+      begin-local : {a : Act} {k : ℕ} → Knows f a k → (ms : List ℕ) → Local (begin a k ms .log) a k
+      begin-local (knows {own} {within} {k} e n r y) ms =
+          own-local own within k ms (λ d ns. turn-local y (subst (λ (b : Bool). Arms b within) d r) ns) (λ d ns. all-local y (subst (λ (b : Bool). Arms b within) d r) ns) (λ d ns. first-local y (subst (λ (b : Bool). Arms b within) d r) ns)
+
+      turn-local : {l : Acts} {c : ℕ} → KnowsIn f l c → Arms false l → (ms : List ℕ) → LocalIn (beginInTurn l c ms .log) l c
+      turn-local (knows-none {c}) r ms = tt
+      turn-local (knows-more {a = act own w} {l} {c} x y) r ms =
+          go (begin (act own w) c ms .over) (head-in (act own w) l c (begin (act own w) c ms .log) (begin-local x ms) (begin-starts f x (r .0) ms .above))
+          (tail-in (act own w) l c _ (turn-local y (r .1) (begin (act own w) c ms .marks)) (turn-starts f y (r .1) (begin (act own w) c ms .marks) .below))
+        where
+          go : (v : Bool) → LocalIn (begin (act own w) c ms .log) (more (act own w) l) c → LocalIn (beginInTurn l (c + size (act own w)) (begin (act own w) c ms .marks) .log) (more (act own w) l) c
+              → LocalIn (inTurn (beginInTurn l (c + size (act own w))) (record { marks = begin (act own w) c ms .marks; over = v; log = begin (act own w) c ms .log }) .log) (more (act own w) l) c
+          go true a b = in-append _ _ (more (act own w) l) c a b
+          go false a b = a
+
+      all-local : {l : Acts} {c : ℕ} → KnowsIn f l c → Arms false l → (ms : List ℕ) → LocalIn (beginAll l c ms .log) l c
+      all-local (knows-none {c}) r ms = tt
+      all-local (knows-more {a = act own w} {l} {c} x y) r ms =
+          in-append _ _ (more (act own w) l) c (head-in (act own w) l c (begin (act own w) c ms .log) (begin-local x ms) (begin-starts f x (r .0) ms .above))
+          (tail-in (act own w) l c _ (all-local y (r .1) (begin (act own w) c ms .marks)) (all-starts f y (r .1) (begin (act own w) c ms .marks) .below))
+
+      first-local : {l : Acts} {c : ℕ} → KnowsIn f l c → Arms false l → (ms : List ℕ) → LocalIn (beginFirst l c ms .log) l c
+      first-local (knows-none {c}) r ms = tt
+      first-local (knows-more {a = act own w} {l} {c} x y) r ms = head-in (act own w) l c (begin (act own w) c ms .log) (begin-local x ms) (begin-starts f x (r .0) ms .above)
+
+    part-local : {l : Acts} {c : ℕ} → KnowsIn f l c → Arms false l → (i : ℕ) → i < count l → (ms : List ℕ) → LocalIn (beginPart i l c ms .log) l c × ((j : ℕ) → j < partAt i l c → times j (beginPart i l c ms .log) ≡ 0)
+    unfolding beginPart part partAt count
+    part-local knows-none r i h ms = absurd (omega arith)
+    part-local (knows-more {a = act own w} {l} {c} x y) r zero h ms =
+        (head-in (act own w) l c (begin (act own w) c ms .log) (begin-local x ms) (begin-starts f x (r .0) ms .above), begin-starts f x (r .0) ms .below)
+    part-local (knows-more {a = act own w} {l} {c} x y) r (suc i) h ms =
+        let z = part-local y (r .1) i (omega arith) ms in
+        (tail-in (act own w) l c _ (z .0) (λ j q. part-list f y (r .1) i (omega arith) ms .below j q), z .1)
+
+    -- an undo part of a scope directly in it
+    mutual
+      unfolding beginUndo Local directly
+
+      undo-local : {a : Act} {k : ℕ} → Knows f a k → (e : ℕ) → directly a k e ≡ true → (ms : List ℕ) → Local (beginUndo a k e ms .log) a k
+      undo-local (knows {own} {within} {k} x n r y) e d ms =
+          decide (isScope own)
+          (λ s. let z = part-local y (scope-arms own within s r) 2 (let v = scope-three own within s n in omega arith) ms in
+          subst (λ (b : Begun). Local (b .log) (act own within) k)
+          (sym (first-of (isScope own && eqb k e) (beginPart 2 within (k + 1) ms) (beginUndoIn within (k + 1) e ms) (beginUndo (act own within) k e ms) refl (rw (s, sym (directly-is own within k e true s) ∙ d))))
+          (record { one = λ c. near-none (λ j u v. z .1 j v); other = z .0 }))
+          (λ s. subst (λ (b : Begun). Local (b .log) (act own within) k)
+          (sym (second-of (isScope own && eqb k e) (beginPart 2 within (k + 1) ms) (beginUndoIn within (k + 1) e ms) (beginUndo (act own within) k e ms) refl (rw s)))
+          (plain-local own within k _ s (undo-in-local y e (sym (directly-is own within k e false s) ∙ d) ms)))
+
+      undo-in-local : {l : Acts} {c : ℕ} → KnowsIn f l c → (e : ℕ) → directlyIn l c e ≡ true → (ms : List ℕ) → LocalIn (beginUndoIn l c e ms .log) l c
+      undo-in-local (knows-none {c}) e d ms = tt
+      undo-in-local (knows-more {a} {l} {c} x y) e d ms =
+          decide (directly a c e)
+          (λ b. subst (λ (z : Begun). LocalIn (z .log) (more a l) c)
+          (sym (first-of (ltb e (c + size a)) (beginUndo a c e ms) (beginUndoIn l (c + size a) e ms) (beginUndoIn (more a l) c e ms) refl (lt-ltb e (c + size a) (directly-range a c e b .1))))
+          (head-in a l c _ (undo-local x e b ms) (undo-strict f x e ms .above)))
+          (λ b. let g : directlyIn l (c + size a) e ≡ true = rw b at d in
+          subst (λ (z : Begun). LocalIn (z .log) (more a l) c)
+          (sym (second-of (ltb e (c + size a)) (beginUndo a c e ms) (beginUndoIn l (c + size a) e ms) (beginUndoIn (more a l) c e ms) refl (le-ltb e (c + size a) (directly-range-in l (c + size a) e g .0))))
+          (tail-in a l c _ (undo-in-local y e g ms) (undo-in-strict f y e ms .below)))
+
+    -- A scope whose body and fault part are the first two of a list.
+    record Sits (s : Scope) (r : Acts) (c : ℕ) : Type 0 where
+      body : Knows f (s .body) (s .bodyAt)
+      fault : Knows f (s .fault) (s .faultAt)
+      named : Named f (s .fault)
+      inBody : (l : List Event) → Local l (s .body) (s .bodyAt) → ((j : ℕ) → s .bodyAt + size (s .body) ≤ j → times j l ≡ 0) → LocalIn l r c
+      inFault : (l : List Event) → Local l (s .fault) (s .faultAt) → Starts (s .fault) (s .faultAt) l → LocalIn l r c
+
+    sits-scope : {within : Acts} {k : ℕ} → KnowsIn f within (k + 1) → Arms false within → 3 ≤ count within → Sits (scopeAt k within) within (k + 1)
+    unfolding part partAt count
+    sits-scope knows-none r n = absurd (omega arith)
+    sits-scope (knows-more x knows-none) r n = absurd (omega arith)
+    sits-scope {k = k} (knows-more {a = act own₀ w₀} x (knows-more {a = act own w} {l} y z)) r n =
+        record {
+          body = x;
+          fault = y;
+          named = r .1 .0;
+          inBody = λ m h e. head-in (act own₀ w₀) (more (act own w) l) (k + 1) m h e;
+          inFault = λ m h e. tail-in (act own₀ w₀) (more (act own w) l) (k + 1) m (head-in (act own w) l (k + 1 + size (act own₀ w₀)) m h (e .above)) (e .below);
+        }
+
+    module _ (r : Acts) (c : ℕ) where
+      where-local : (g : Order → Outcome) (o : Outcome) → LocalIn (o .log) r c → ((q : Order) → LocalIn (g q .log) r c) → LocalIn (whereOver g o .log) r c
+      where-local g o w h = go (o .result)
+        where
+          go : (x : Result) → LocalIn (whereOver g (record { result = x; order = o .order; log = o .log }) .log) r c
+          go running = w
+          go over = in-append (o .log) (g (o .order) .log) r c w (h (o .order))
+          go raising = w
+          go leaving = w
+          go undone = w
+          go undoRaising = w
+
+      either-local : (v : Bool) (x y z : Outcome) → z ≡ elim v [ true ↦ x | false ↦ y ] → LocalIn (x .log) r c → LocalIn (y .log) r c → LocalIn (z .log) r c
+      either-local true x y z e g h = subst (λ (q : Outcome). LocalIn (q .log) r c) (sym e) g
+      either-local false x y z e g h = subst (λ (q : Outcome). LocalIn (q .log) r c) (sym e) h
+
+      runs-local : (o : Order) → LocalIn (runs o .log) r c
+      unfolding times
+      runs-local o = in-none [] r c (λ j. refl)
+
+    -- what is remembered for a scope stands directly in its body
+    all-directly : (s : Scope) (o : Order) → every (isFor s) (rememberedFor s o) ≡ true
+    unfolding rememberedFor
+    all-directly s o = every-reverse (isFor s) (only (isFor s) (closings o)) (every-only-so (isFor s) (closings o))
+
+    module _ (s : Scope) (r : Acts) (c : ℕ) (h : Sits s r c) where
+      ends-local : (o : Order) → LocalIn (ends s o .log) r c
+      unfolding times isBeganOf
+      ends-local o = in-none _ r c (λ j. refl)
+
+      list-local : (l : List ℕ) (o : Order) → every (isFor s) l ≡ true → LocalIn (undo l s o .log) r c
+      unfolding undo startUndo times every
+      list-local [] o e = in-none [] r c (λ j. refl)
+      list-local (x ∷ l) o e =
+          both (isFor s x) (every (isFor s) l) e (λ d g. where-local r c (undo l s) (startUndo x s o) (h .inBody _ (undo-local (h .body) x d (o .marks)) (undo-strict f (h .body) x (o .marks) .above)) (λ q. list-local l q g))
+
+      handle-local : (o : Order) → LocalIn (handle s o .log) r c
+      unfolding handle
+      handle-local o =
+          let o₁ = marking (s .name) handling o in
+          where-local r c (ends s) (begunIn o₁ (begin (s .fault) (s .faultAt) (o₁ .marks))) (h .inFault _ (begin-local (h .fault) (o₁ .marks)) (begin-starts f (h .fault) (h .named) (o₁ .marks))) (λ q. ends-local q)
+
+      undoes-local : (w : Bool) (o : Order) → LocalIn (undoes w s o .log) r c
+      unfolding undoes
+      undoes-local true o = let o₁ = marking (s .name) undoing o in where-local r c (handle s) (undo (rememberedFor s o₁) s o₁) (list-local (rememberedFor s o₁) o₁ (all-directly s o₁)) (λ q. handle-local q)
+      undoes-local false o = let o₁ = marking (s .name) withdrawing o in where-local r c (ends s) (undo (rememberedFor s o₁) s o₁) (list-local (rememberedFor s o₁) o₁ (all-directly s o₁)) (λ q. ends-local q)
+
+      turns-local : (w : Bool) (o : Order) → LocalIn (turns w s o .log) r c
+      unfolding turns
+      turns-local w o = either-local r c (innerRuns (s .body) (s .bodyAt) (o .marks)) (runs o) (undoes w s o) (turns w s o) refl (runs-local r c o) (undoes-local w o)
+
+      looks-local : (o : Order) → LocalIn (looksAgain s o .log) r c
+      unfolding looksAgain
+      looks-local o =
+          either-local r c (eqb (markOf (s .name) o) faulty) (turns true s o) (elim (eqb (markOf (s .name) o) halted) [ true ↦ turns false s o | false ↦ runs o ]) (looksAgain s o) refl (turns-local true o)
+          (either-local r c (eqb (markOf (s .name) o) halted) (turns false s o) (runs o) _ refl (turns-local false o) (runs-local r c o))
+
+      over-local : (o : Order) → LocalIn (bodyOver s o .log) r c
+      unfolding bodyOver
+      over-local o = either-local r c (eqb (markOf (s .name) o) active) (runs (marking (s .name) done o)) (looksAgain s o) (bodyOver s o) refl (runs-local r c (marking (s .name) done o)) (looks-local o)
+
+      undone-local : (o : Order) → LocalIn (undoOver s o .log) r c
+      unfolding undoOver
+      undone-local o =
+          either-local r c (eqb (markOf (s .name) o) undoing) (undoes true s o) (elim (eqb (markOf (s .name) o) withdrawing) [ true ↦ undoes false s o | false ↦ runs o ]) (undoOver s o) refl (undoes-local true o)
+          (either-local r c (eqb (markOf (s .name) o) withdrawing) (undoes false s o) (runs o) _ refl (undoes-local false o) (runs-local r c o))
+
+      breaks-local : (o : Order) → LocalIn (breaks s o .log) r c
+      unfolding breaks times isBeganOf
+      breaks-local o = in-none _ r c (λ j. refl)
+
+      undo-raised-local : (o : Order) → LocalIn (undoRaised s o .log) r c
+      unfolding undoRaised
+      undo-raised-local o = either-local r c (eqb (markOf (s .name) o) undoing || eqb (markOf (s .name) o) withdrawing) (breaks s o) (runs o) (undoRaised s o) refl (breaks-local o) (runs-local r c o)
+
+      part-over-local : (o : Order) → LocalIn (partOver s o .log) r c
+      unfolding partOver
+      part-over-local o = either-local r c (eqb (markOf (s .name) o) handling) (ends s o) (runs o) (partOver s o) refl (ends-local o) (runs-local r c o)
+
+      part-raised-local : (o : Order) → LocalIn (partRaised s o .log) r c
+      unfolding partRaised
+      part-raised-local o = either-local r c (eqb (markOf (s .name) o) handling) (breaks s o) (runs o) (partRaised s o) refl (breaks-local o) (runs-local r c o)
+
+    -- Stopping.
+    halt-local : (a : Act) (k : ℕ) (v : Bool) (x y z : definitions.Stopped) → z ≡ elim v [ true ↦ x | false ↦ y ] → (v ≡ true → Local (x .log) a k) → (v ≡ false → Local (y .log) a k) → Local (z .log) a k
+    halt-local a k true x y z e g h = subst (λ (r : definitions.Stopped). Local (r .log) a k) (sym e) (g refl)
+    halt-local a k false x y z e g h = subst (λ (r : definitions.Stopped). Local (r .log) a k) (sym e) (h refl)
+
+    mutual
+      unfolding stop withdraws Local times isBeganOf isStopOf some
+
+      stop-local : {a : Act} {k : ℕ} → Knows f a k → (o : Order) → Local (stop a k o .log) a k
+      stop-local (knows {own} {within} {k} x n r y) o =
+          halt-local (act own within) k (isScope own) (elim (isOpen (markAt k o)) [ true ↦ withdraws k (scopeAt k within) (stopFirst within (k + 1) (marked k halted o)) | false ↦ untouched o ]) (stopAll within (k + 1) (marked k idle o)) _ refl
+          (λ s. halt-local (act own within) k (isOpen (markAt k o)) (withdraws k (scopeAt k within) (stopFirst within (k + 1) (marked k halted o))) (untouched o) _ refl
+          (λ v. record {
+            one = λ e. near-stopped (rw (eq-eqb k k refl));
+            other = in-event (stopped k) _ within (k + 1) (record { at = λ j p q. refl }) (in-append _ _ within (k + 1) (stop-first-local y (marked k halted o))
+                (turns-local (scopeAt k within) within (k + 1) (sits-scope y (scope-arms own within s r) (scope-three own within s n)) false _));
+          })
+          (λ v. local-zero [] (act own within) k (record { at = λ j p q. refl })))
+          (λ s. plain-local own within k _ s (stop-all-local y (marked k idle o)))
+
+      stop-all-local : {l : Acts} {c : ℕ} → KnowsIn f l c → (o : Order) → LocalIn (stopAll l c o .log) l c
+      stop-all-local (knows-none {c}) o = tt
+      stop-all-local (knows-more {a} {l} {c} x y) o =
+          in-append (stop a c o .log) (stopAll l (c + size a) (stop a c o .order) .log) (more a l) c (head-in a l c _ (stop-local x o) (stop-strict f x o .above))
+          (tail-in a l c _ (stop-all-local y (stop a c o .order)) (stop-all-strict f y (stop a c o .order) .below))
+
+      stop-first-local : {l : Acts} {c : ℕ} → KnowsIn f l c → (o : Order) → LocalIn (stopFirst l c o .log) l c
+      stop-first-local (knows-none {c}) o = tt
+      stop-first-local (knows-more {a} {l} {c} x y) o = head-in a l c _ (stop-local x o) (stop-strict f x o .above)
+
+    module _ (s : Scope) (r : Acts) (c : ℕ) (h : Sits s r c) where
+      faults-local : (o : Order) → LocalIn (faults s o .log) r c
+      unfolding faults times isBeganOf
+      faults-local o =
+          let o₁ = marking (s .name) faulty o in
+          let q = stop (s .body) (s .bodyAt) o₁ in
+          in-event (faulted (s .name)) _ r c (record { at = λ j x y. refl }) (in-append (q .log) (turns true s (q .order) .log) r c (h .inBody _ (stop-local (h .body) o₁) (stop-strict f (h .body) o₁ .above)) (turns-local s r c h true (q .order)))
+
+      raised-local : (o : Order) → LocalIn (bodyRaised s o .log) r c
+      unfolding bodyRaised
+      raised-local o = either-local r c (isOpen (markOf (s .name) o)) (faults s o) (looksAgain s o) (bodyRaised s o) refl (faults-local o) (looks-local s r c h o)
+
+      body-local : (q : Outcome) → LocalIn (q .log) r c → LocalIn (fromBody s q .log) r c
+      unfolding fromBody
+      body-local q w = go (q .result)
+        where
+          later : (x : Outcome) → LocalIn (x .log) r c → LocalIn (q .log ++ x .log) r c
+          later x v = in-append (q .log) (x .log) r c w v
+
+          go : (y : Result) → LocalIn (fromBody s (record { result = y; order = q .order; log = q .log }) .log) r c
+          go running = later (looksAgain s (q .order)) (looks-local s r c h (q .order))
+          go over = later (bodyOver s (q .order)) (over-local s r c h (q .order))
+          go raising = later (bodyRaised s (q .order)) (raised-local (q .order))
+          go leaving = w
+          go undone = later (undoOver s (q .order)) (undone-local s r c h (q .order))
+          go undoRaising = later (undoRaised s (q .order)) (undo-raised-local s r c h (q .order))
+
+      fault-local : (q : Outcome) → LocalIn (q .log) r c → LocalIn (fromFault s q .log) r c
+      unfolding fromFault
+      fault-local q w = go (q .result)
+        where
+          go : (y : Result) → LocalIn (fromFault s (record { result = y; order = q .order; log = q .log }) .log) r c
+          go running = w
+          go over = in-append (q .log) (partOver s (q .order) .log) r c w (part-over-local s r c h (q .order))
+          go raising = in-append (q .log) (partRaised s (q .order) .log) r c w (part-raised-local s r c h (q .order))
+          go leaving = w
+          go undone = w
+          go undoRaising = w
+
+    -- A step.
+    after-local : {l : Acts} {c : ℕ} → KnowsIn f l c → Arms false l → (ms : List ℕ) → LocalIn (beginAfter l c t ms .log) l c × ((j : ℕ) → j < c → times j (beginAfter l c t ms .log) ≡ 0)
+    unfolding beginAfter Local times
+    after-local (knows-none {c}) r ms = (tt, λ j h. refl)
+    after-local (knows-more {a = act own w} {l} {c} x y) r ms =
+        decide (ltb t (c + size (act own w)))
+        (λ d. rw (beginAfter, d) (tail-in (act own w) l c _ (turn-local y (r .1) ms) (turn-starts f y (r .1) ms .below), λ j h. turn-starts f y (r .1) ms .below j (omega arith)))
+        (λ d. let z = after-local y (r .1) ms in rw (beginAfter, d) (tail-in (act own w) l c _ (z .0) (z .1), λ j h. z .1 j (omega arith)))
+
+    on-local : (r : Acts) (c : ℕ) (k v : ℕ) (g : Order → Outcome) (q : Outcome) → LocalIn (q .log) r c → ((o : Order) → LocalIn (g o .log) r c) → LocalIn (goesOn k v g q .log) r c
+    unfolding goesOn
+    on-local r c k v g q w h = where-local r c (λ o. elim (eqb (markAt k o) v) [ true ↦ g o | false ↦ runs o ]) q w (λ o. either-local r c (eqb (markAt k o) v) (g o) (runs o) _ refl (h o) (runs-local r c o))
+
+    joins-local : (r : Acts) (c : ℕ) (k : ℕ) (within : Acts) (o : Order) → LocalIn (joins k within o .log) r c
+    unfolding joins times
+    joins-local r c k within o = either-local r c (quiet (k + 1) (sizes within) (o .marks)) (finishes k o) (runs o) (joins k within o) refl (in-none [] r c (λ j. refl)) (runs-local r c o)
+
+    or-local : (r : Acts) (c : ℕ) (k : ℕ) (o : Order) (g : ℕ → Outcome) (v : Value) → ((n : ℕ) → LocalIn (g n .log) r c) → LocalIn (orRaises k o g v .log) r c
+    unfolding times isBeganOf
+    or-local r c k o g fault h = in-none _ r c (λ j. refl)
+    or-local r c k o g (value n) h = h n
+
+    itself-local : (own : Own) (within : Acts) (k : ℕ) (o : Order) → needs own ≤ count within → Arms (eqb (kind own) 10) within → KnowsIn f within (k + 1) → LocalIn (itself own within k o .log) within (k + 1)
+    unfolding itself needs least kind times isBeganOf closing repeats
+    itself-local empty within k o n r y = in-none [] within (k + 1) (λ j. refl)
+    itself-local (send a b vs) within k o n r y = decide (allBound o vs) (λ e. rw e (in-none [] within (k + 1) (λ j. refl))) (λ e. rw e (in-none _ within (k + 1) (λ j. refl)))
+    itself-local (receive a b vs) within k o n r y = in-none [] within (k + 1) (λ j. refl)
+    itself-local (setting v e) within k o n r y = or-local within (k + 1) k o _ (evaluate e o) (λ i. in-none [] within (k + 1) (λ j. refl))
+    itself-local raise within k o n r y = in-none _ within (k + 1) (λ j. refl)
+    itself-local leave within k o n r y = in-none _ within (k + 1) (λ j. refl)
+    itself-local (choose e) within k o n r y = or-local within (k + 1) k o _ (evaluate e o) (λ z. let o₁ = marked k inside o in
+        where-local within (k + 1) (finishes k) (begunIn o₁ (beginPart (cond (isTrue z) 0 1) within (k + 1) (o₁ .marks))) (part-local y r (cond (isTrue z) 0 1) (second (isTrue z)) (o₁ .marks) .0) (λ q. in-none [] within (k + 1) (λ j. refl)))
+      where
+        second : (b : Bool) → cond b 0 1 < count within
+        second true = omega arith
+        second false = omega arith
+    itself-local (repeat e) within k o n r y = or-local within (k + 1) k o _ (evaluate e o) (λ z. either-local within (k + 1) (isTrue z) (repeats k within o) (finishes k o) _ refl body (in-none [] within (k + 1) (λ j. refl)))
+      where
+        body : LocalIn (repeats k within o .log) within (k + 1)
+        body =
+            let o₁ = marked k inside (withMarks (cleared (k + 1) (sizes within) (o .marks)) o) in
+            where-local within (k + 1) (again k) (begunIn o₁ (beginPart 0 within (k + 1) (o₁ .marks))) (part-local y r 0 (omega arith) (o₁ .marks) .0) (λ q. in-none [] within (k + 1) (λ j. refl))
+    itself-local sequence within k o n r y = in-none [] within (k + 1) (λ j. refl)
+    itself-local flow within k o n r y = in-none [] within (k + 1) (λ j. refl)
+    itself-local pick within k o n r y = in-none [] within (k + 1) (λ j. refl)
+    itself-local scope within k o n r y = in-none _ within (k + 1) (λ j. refl)
+    itself-local (arm a b vs) within k o n r y = part-local y r 0 (omega arith) (o .marks) .0
+
+    combines-local : (own : Own) (within : Acts) (k : ℕ) (q : Outcome) → needs own ≤ count within → Arms (eqb (kind own) 10) within → KnowsIn f within (k + 1) → LocalIn (q .log) within (k + 1)
+        → LocalIn (combines own within k t q .log) within (k + 1)
+    unfolding combines needs kind times inScope fromUndo
+    combines-local empty within k q n r y w = w
+    combines-local (send a b vs) within k q n r y w = w
+    combines-local (receive a b vs) within k q n r y w = w
+    combines-local (setting v e) within k q n r y w = w
+    combines-local raise within k q n r y w = w
+    combines-local leave within k q n r y w = w
+    combines-local (choose e) within k q n r y w = on-local within (k + 1) k inside (finishes k) q w (λ o. in-none [] within (k + 1) (λ j. refl))
+    combines-local (repeat e) within k q n r y w = on-local within (k + 1) k inside (again k) q w (λ o. in-none [] within (k + 1) (λ j. refl))
+    combines-local sequence within k q n r y w =
+        on-local within (k + 1) k active _ q w (λ o. where-local within (k + 1) (finishes k) (begunIn o (beginAfter within (k + 1) t (o .marks))) (after-local y r (o .marks) .0) (λ o₁. in-none [] within (k + 1) (λ j. refl)))
+    combines-local flow within k q n r y w = on-local within (k + 1) k active (joins k within) q w (λ o. joins-local within (k + 1) k within o)
+    combines-local pick within k q n r y w = on-local within (k + 1) k inside (finishes k) q w (λ o. in-none [] within (k + 1) (λ j. refl))
+    combines-local scope within k q n r y w =
+        let s = scopeAt k within in
+        let i = sits-scope y r n in
+        either-local within (k + 1) (ltb t (partAt 1 within (k + 1))) (fromBody s q) (elim (ltb t (partAt 2 within (k + 1))) [ true ↦ fromFault s q | false ↦ fromUndo q ]) _ refl (body-local s within (k + 1) i q w)
+        (either-local within (k + 1) (ltb t (partAt 2 within (k + 1))) (fromFault s q) (fromUndo q) _ refl (fault-local s within (k + 1) i q w) w)
+    combines-local (arm a b vs) within k q n r y w = w
+
+    case-local : (r : Acts) (c : ℕ) (v : Bool) (x y z : Outcome) → z ≡ elim v [ true ↦ x | false ↦ y ] → (v ≡ true → LocalIn (x .log) r c) → (v ≡ false → LocalIn (y .log) r c) → LocalIn (z .log) r c
+    case-local r c true x y z e g h = subst (λ (q : Outcome). LocalIn (q .log) r c) (sym e) (g refl)
+    case-local r c false x y z e g h = subst (λ (q : Outcome). LocalIn (q .log) r c) (sym e) (h refl)
+
+    mutual
+      unfolding stepIn Local times size
+
+      step-local : {a : Act} {k : ℕ} → Knows f a k → (o : Order) → k ≤ t → t < k + size a → Local (stepIn a k t o .log) a k
+      step-local (knows {own} {within} {k} x n r y) o h e =
+          record {
+            one = λ s. near-stands h e;
+            other = case-local within (k + 1) (eqb k t) (itself own within k o) (combines own within k t (stepAmong within (k + 1) t (arms own within k t o))) _ refl (λ d. itself-local own within k o n r y)
+                (λ d. combines-local own within k (stepAmong within (k + 1) t (arms own within k t o)) n r y (among-local y (arms own within k t o) (let z = eqb-false k t d in omega arith)));
+          }
+
+      among-local : {l : Acts} {c : ℕ} → KnowsIn f l c → (o : Order) → c ≤ t → LocalIn (stepAmong l c t o .log) l c
+      among-local (knows-none {c}) o h = tt
+      among-local (knows-more {a} {l} {c} x y) o h =
+          case-local (more a l) c (ltb t (c + size a)) (stepIn a c t o) (stepAmong l (c + size a) t o) _ refl
+          (λ e. head-in a l c _ (step-local x o h (ltb-true t (c + size a) e)) (step-at f t x o h .strict .above))
+          (λ e. tail-in a l c _ (among-local y o (ltb-false t (c + size a) e)) (λ j q. among-at f t y o (ltb-false t (c + size a) e) .strict .below j q))
+
+    -- From the root.
+    module _ (p : Plan) (kb : Knows f (p .body) 0) (kf : Knows f (p .fault) (size (p .body))) (named : Named f (p .fault)) where
+      abbrev pub all : Acts
+      all = more (p .body) (more (p .fault) none)
+
+      fault-in : (l : List Event) → Local l (p .fault) (size (p .body)) → ((j : ℕ) → j < size (p .body) → times j l ≡ 0) → ((j : ℕ) → size (p .body) + size (p .fault) ≤ j → times j l ≡ 0) → LocalIn l all 0
+      fault-in l h z y =
+          tail-in (p .body) (more (p .fault) none) 0 l (subst (λ (c : ℕ). LocalIn l (more (p .fault) none) c) (omega arith) (head-in (p .fault) none (size (p .body)) l h y)) (λ j x. z j (omega arith))
+
+      sits-root : Sits (rootOf p) all 0
+      sits-root =
+          record {
+            body = kb;
+            fault = kf;
+            named = named;
+            inBody = λ l h e. head-in (p .body) (more (p .fault) none) 0 l h e;
+            inFault = λ l h e. fault-in l h (e .below) (e .above);
+          }
+
+      pub root-local : (o : Order) → t < size (p .body) + size (p .fault) → LocalIn (stepRoot p t o .log) all 0
+      unfolding stepRoot
+      root-local o n =
+          case-local all 0 (ltb t (size (p .body))) (fromBody (rootOf p) (stepIn (p .body) 0 t o)) (fromFault (rootOf p) (stepIn (p .fault) (size (p .body)) t o)) (stepRoot p t o) refl
+          (λ e. body-local (rootOf p) all 0 sits-root (stepIn (p .body) 0 t o) (head-in (p .body) (more (p .fault) none) 0 _ (step-local kb o (omega arith) (let z = ltb-true t (size (p .body)) e in omega arith)) (step-at f t kb o (omega arith) .strict .above)))
+          (λ e. let z = ltb-false t (size (p .body)) e in
+          let w = step-at f t kf o z .strict in
+          fault-local (rootOf p) all 0 sits-root (stepIn (p .fault) (size (p .body)) t o) (fault-in _ (step-local kf o z n) (λ j x. w .below j (omega arith)) (w .above)))
+
+      pub start-local : Named f (p .body) → (ms : List ℕ) → LocalIn (begin (p .body) 0 ms .log) all 0
+      start-local i ms = head-in (p .body) (more (p .fault) none) 0 _ (begin-local kb ms) (begin-starts f kb i ms .above)
