@@ -97,18 +97,30 @@ both-sides = (refl, refl)
 abbrev after : List ℕ → List ℕ
 after l = 1 ∷ 2 ∷ 0 ∷ 8 ∷ 2 ∷ 2 ∷ 3 ∷ 5 ∷ 2 ∷ 0 ∷ 1 ∷ l
 
+-- a sequence that is no start form, whose two receives disagree, and then these bytes
+abbrev unstarted : List ℕ → List ℕ
+unstarted l = 1 ∷ 2 ∷ 0 ∷ 8 ∷ 3 ∷ 0 ∷ 2 ∷ 3 ∷ 5 ∷ 2 ∷ 0 ∷ 1 ∷ 2 ∷ 3 ∷ 5 ∷ 1 ∷ 0 ∷ 0 ∷ l
+
 abbrev told : Found Plan → List ℕ
 told (found.refused number place) = number ∷ place ∷ []
 told (found.found p next) = 0 ∷ next ∷ []
 
 abbrev all : List (List ℕ) → List (List ℕ)
 all [] = []
-all (l ∷ ls) = told (readPlan (after l)) ∷ all ls
+all (l ∷ ls) = told (readPlan l) ∷ all ls
 
 -- a receive of the same pair with one variable: 21, at its count; of another operation, and of another partner: none; an arm of the same pair with one
--- variable: 21, at its count; a send: none; a byte after the plan: 9 comes first
-pub disagree : all ((2 ∷ 3 ∷ 5 ∷ 1 ∷ 0 ∷ 0 ∷ []) ∷ (2 ∷ 3 ∷ 6 ∷ 1 ∷ 0 ∷ 0 ∷ []) ∷ (2 ∷ 4 ∷ 5 ∷ 1 ∷ 0 ∷ 0 ∷ []) ∷ (10 ∷ 1 ∷ 3 ∷ 5 ∷ 1 ∷ 0 ∷ 0 ∷ 0 ∷ [])
-    ∷ (1 ∷ 3 ∷ 5 ∷ 1 ∷ 0 ∷ 0 ∷ []) ∷ (2 ∷ 3 ∷ 5 ∷ 1 ∷ 0 ∷ 0 ∷ 0 ∷ []) ∷ [])
-    ≡ (21 ∷ 14 ∷ []) ∷ (0 ∷ 17 ∷ []) ∷ (0 ∷ 17 ∷ []) ∷ (21 ∷ 15 ∷ []) ∷ (0 ∷ 17 ∷ []) ∷ (9 ∷ 17 ∷ []) ∷ []
+-- variable: 21, at its count; a send: none; a byte after the plan: 9 comes first; a body that is no start form: 7 comes first, at its code; both: 9
+pub disagree : all (
+    after (2 ∷ 3 ∷ 5 ∷ 1 ∷ 0 ∷ 0 ∷ [])
+    ∷ after (2 ∷ 3 ∷ 6 ∷ 1 ∷ 0 ∷ 0 ∷ [])
+    ∷ after (2 ∷ 4 ∷ 5 ∷ 1 ∷ 0 ∷ 0 ∷ [])
+    ∷ after (10 ∷ 1 ∷ 3 ∷ 5 ∷ 1 ∷ 0 ∷ 0 ∷ 0 ∷ [])
+    ∷ after (1 ∷ 3 ∷ 5 ∷ 1 ∷ 0 ∷ 0 ∷ [])
+    ∷ after (2 ∷ 3 ∷ 5 ∷ 1 ∷ 0 ∷ 0 ∷ 0 ∷ [])
+    ∷ unstarted []
+    ∷ unstarted (0 ∷ [])
+    ∷ [])
+    ≡ (21 ∷ 14 ∷ []) ∷ (0 ∷ 17 ∷ []) ∷ (0 ∷ 17 ∷ []) ∷ (21 ∷ 15 ∷ []) ∷ (0 ∷ 17 ∷ []) ∷ (9 ∷ 17 ∷ []) ∷ (7 ∷ 3 ∷ []) ∷ (9 ∷ 18 ∷ []) ∷ []
 unfolding lastGroup groups numberAt numberIn fieldIn among kind size count expressionCodeIn leafIn expressionIn variablesIn tupleIn exchangeIn armIn partnerIn withExpressionIn setIn listIn codeIn partsIn headIn manyIn readArm readAct starts startForm firstStarts everyStarts correlationIn versionIn rootIn readAny readPlan inBytes askedOwn spanOf spanAll askedIn askedAll asked agreesWith judged spelled shortest spell operationCode expressionNumbers exchangeNumbers ownNumbers
 disagree = refl

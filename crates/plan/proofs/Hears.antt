@@ -10,7 +10,7 @@ use lib.ListN.{length, getD, set, replicate, length-replicate, getD-replicate, l
 use lib.Seq.{getD-set-same, getD-set-other}
 use Rattle.plan.specs.Agree.{Asked, samePair, agrees, agreesWith, judged}
 use Rattle.plan.specs.Found.{Found, refused}
-use Rattle.plan.specs.Heard.{blankHeard, pairOf, heard, heardAll, differing}
+use Rattle.plan.specs.Heard.{Noted, noted, blankHeard, pairOf, heard, heardAll, differing}
 use Rattle.plan.proofs.Agreeing.{Among, here, later}
 
 -- what a receive or an arm of a plan within the limits asks for
@@ -18,6 +18,7 @@ pub record Fits (a : Asked) : Type 0 where
   pub partner : a .partner < 64
   pub operation : a .operation < 64
   pub some : 1 ≤ a .many
+  pub few : a .many < 256
   pub placed : 1 ≤ a .place
 
 pub data AllFit : List Asked → Type 0 where
@@ -34,6 +35,10 @@ pair a = pairOf (a .partner) (a .operation)
 
 below : (a : Asked) → pair a < 4096
 below a = omega arith
+
+-- a count within the limits is a byte
+in-byte : (a : Asked) → Fits a → a .many % 256 ≡ a .many
+in-byte a f = omega (arith, f .few)
 
 -- of two within the limits, the places are the same only where the pairs are
 pairs : (a b : Asked) → Fits a → Fits b → pair a ≡ pair b → (a .partner ≡ b .partner) × (a .operation ≡ b .operation)
@@ -75,56 +80,59 @@ record First (earlier : List Asked) (i c : ℕ) : Type 0 where
   many-is : which .many ≡ c
 
 -- what was heard of those earlier, which agree
-record Kept (earlier : List Asked) (t : List ℕ) : Type 0 where
-  long : length t ≡ 4097
-  quiet : getD t 4096 0 ≡ 0
+record Kept (earlier : List Asked) (t : Noted) : Type 0 where
+  long : length (t .counts) ≡ 4096
+  quiet : t .first ≡ 0
   fits : (b : Asked) → Among b earlier → Fits b
-  each : (b : Asked) → Among b earlier → getD t (pair b) 0 ≡ b .many
-  first : (i : ℕ) → i < 4096 → (getD t i 0 ≡ 0 → ⊥) → First earlier i (getD t i 0)
+  each : (b : Asked) → Among b earlier → getD (t .counts) (pair b) 0 ≡ b .many
+  first : (i : ℕ) → i < 4096 → (getD (t .counts) i 0 ≡ 0 → ⊥) → First earlier i (getD (t .counts) i 0)
 
 -- one more
 more-fits : (a : Asked) {earlier : List Asked} → Fits a → ((b : Asked) → Among b earlier → Fits b) → (b : Asked) → Among b (a ∷ earlier) → Fits b
 more-fits a f k b here = f
 more-fits a f k b (later m) = k b m
 
-more-each : (a : Asked) {earlier : List Asked} (t : List ℕ) → getD t (pair a) 0 ≡ a .many → ((b : Asked) → Among b earlier → getD t (pair b) 0 ≡ b .many)
-    → (b : Asked) → Among b (a ∷ earlier) → getD t (pair b) 0 ≡ b .many
+more-each : (a : Asked) {earlier : List Asked} (t : Noted) → getD (t .counts) (pair a) 0 ≡ a .many → ((b : Asked) → Among b earlier → getD (t .counts) (pair b) 0 ≡ b .many)
+    → (b : Asked) → Among b (a ∷ earlier) → getD (t .counts) (pair b) 0 ≡ b .many
 more-each a t e k b here = e
 more-each a t e k b (later m) = k b m
 
 more-first : (a : Asked) {earlier : List Asked} {i c : ℕ} → First earlier i c → First (a ∷ earlier) i c
 more-first a f = record { which = f .which; among = later (f .among); at-pair = f .at-pair; many-is = f .many-is }
 
-module _ (a : Asked) (f : Fits a) (earlier t : List _) (k : Kept earlier t) where
+module _ (a : Asked) (f : Fits a) (earlier : List Asked) (t : Noted) (k : Kept earlier t) where
   -- the first of its pair
-  module _ (e : getD t (pair a) 0 ≡ 0) where
+  module _ (e : getD (t .counts) (pair a) 0 ≡ 0) where
     other : (b : Asked) → Among b earlier → pair b ≡ pair a → ⊥
-    other b m q = let z : getD t (pair b) 0 ≡ 0 = rw q e in omega (arith, z, k .each b m, k .fits b m .some)
+    other b m q = let z : getD (t .counts) (pair b) 0 ≡ 0 = rw q e in omega (arith, z, k .each b m, k .fits b m .some)
 
     new-agrees : agreesWith earlier a ≡ true
     new-agrees = with-all earlier a (λ b m. agrees-by b a (λ p o. absurd (other b m (rw (p, o)))))
 
-    new-kept : Kept (a ∷ earlier) (set t (pair a) (a .many))
+    abbrev new : Noted
+    new = noted (set (t .counts) (pair a) (a .many)) (t .first)
+
+    new-kept : Kept (a ∷ earlier) new
     new-kept = record {
-      long = length-set t (pair a) (a .many) ∙ k .long;
-      quiet = getD-set-other t (pair a) 4096 (a .many) 0 (λ q. omega (arith, q, below a)) ∙ k .quiet;
+      long = length-set (t .counts) (pair a) (a .many) ∙ k .long;
+      quiet = k .quiet;
       fits = more-fits a f (k .fits);
-      each = more-each a (set t (pair a) (a .many)) (getD-set-same t (pair a) (a .many) 0 (omega (arith, below a, k .long)))
-          (λ b m. getD-set-other t (pair a) (pair b) (a .many) 0 (λ q. other b m q) ∙ k .each b m);
+      each = more-each a new (getD-set-same (t .counts) (pair a) (a .many) 0 (omega (arith, below a, k .long)))
+          (λ b m. getD-set-other (t .counts) (pair a) (pair b) (a .many) 0 (λ q. other b m q) ∙ k .each b m);
       first = λ i h n. by-place i h n (eqb i (pair a)) refl;
     }
       where
-        by-place : (i : ℕ) → i < 4096 → (getD (set t (pair a) (a .many)) i 0 ≡ 0 → ⊥) → (b : Bool) → eqb i (pair a) ≡ b
-            → First (a ∷ earlier) i (getD (set t (pair a) (a .many)) i 0)
+        by-place : (i : ℕ) → i < 4096 → (getD (new .counts) i 0 ≡ 0 → ⊥) → (b : Bool) → eqb i (pair a) ≡ b
+            → First (a ∷ earlier) i (getD (new .counts) i 0)
         by-place i h n true q =
             let j = eqb-true i (pair a) q in
-            record { which = a; among = here; at-pair = sym j; many-is = rw j (sym (getD-set-same t (pair a) (a .many) 0 (omega (arith, below a, k .long)))) }
+            record { which = a; among = here; at-pair = sym j; many-is = rw j (sym (getD-set-same (t .counts) (pair a) (a .many) 0 (omega (arith, below a, k .long)))) }
         by-place i h n false q =
-            let s = getD-set-other t (pair a) i (a .many) 0 (eqb-false i (pair a) q) in
+            let s = getD-set-other (t .counts) (pair a) i (a .many) 0 (eqb-false i (pair a) q) in
             rw s (more-first a (k .first i h (λ z. n (s ∙ z))))
 
   -- the same count as the first of its pair
-  module _ (e : getD t (pair a) 0 ≡ a .many) where
+  module _ (e : getD (t .counts) (pair a) 0 ≡ a .many) where
     same-agrees : agreesWith earlier a ≡ true
     same-agrees = with-all earlier a (λ b m. agrees-by b a (λ p o. sym (k .each b m) ∙ rw (p, o) e))
 
@@ -138,7 +146,7 @@ module _ (a : Asked) (f : Fits a) (earlier t : List _) (k : Kept earlier t) wher
     }
 
   -- another count
-  module _ (n : getD t (pair a) 0 ≡ 0 → ⊥) (d : getD t (pair a) 0 ≡ a .many → ⊥) where
+  module _ (n : getD (t .counts) (pair a) 0 ≡ 0 → ⊥) (d : getD (t .counts) (pair a) 0 ≡ a .many → ⊥) where
     differs : agreesWith earlier a ≡ false
     differs =
         let w = k .first (pair a) (below a) n in
@@ -147,26 +155,23 @@ module _ (a : Asked) (f : Fits a) (earlier t : List _) (k : Kept earlier t) wher
 
 -- a place that was found stays
 abbrev Stay : List Asked → Type 0
-Stay l = (t : List ℕ) → (getD t 4096 0 ≡ 0 → ⊥) → getD (heardAll l t) 4096 0 ≡ getD t 4096 0
+Stay l = (t : Noted) → (t .first ≡ 0 → ⊥) → heardAll l t .first ≡ t .first
 
-module _ (a : Asked) (l : List Asked) (rest : Stay l) (t : List ℕ) (n : getD t 4096 0 ≡ 0 → ⊥) where
-  unheard : getD (set t (pair a) (a .many)) 4096 0 ≡ getD t 4096 0
-  unheard = getD-set-other t (pair a) 4096 (a .many) 0 (λ q. omega (arith, q, below a))
-
-  stays-count : eqb (getD t (pair a) 0) 0 ≡ false → (b : Bool) → eqb (getD t (pair a) 0) (a .many) ≡ b → getD (heardAll l (heard a t)) 4096 0 ≡ getD t 4096 0
+module _ (a : Asked) (l : List Asked) (rest : Stay l) (t : Noted) (n : t .first ≡ 0 → ⊥) where
+  stays-count : eqb (getD (t .counts) (pair a) 0) 0 ≡ false → (b : Bool) → eqb (getD (t .counts) (pair a) 0) (a .many) ≡ b → heardAll l (heard a t) .first ≡ t .first
   unfolding heard
   stays-count g true e = rw (g, e) (rest t n)
-  stays-count g false e = rw (g, e, ne-eqb (getD t 4096 0) 0 n) (rest t n)
+  stays-count g false e = rw (g, e, ne-eqb (t .first) 0 n) (rest t n)
 
-  stays-first : (b : Bool) → eqb (getD t (pair a) 0) 0 ≡ b → getD (heardAll l (heard a t)) 4096 0 ≡ getD t 4096 0
+  stays-first : (b : Bool) → eqb (getD (t .counts) (pair a) 0) 0 ≡ b → heardAll l (heard a t) .first ≡ t .first
   unfolding heard
-  stays-first true e = rw e (rest (set t (pair a) (a .many)) (λ z. n (sym unheard ∙ z)) ∙ unheard)
-  stays-first false e = stays-count e (eqb (getD t (pair a) 0) (a .many)) refl
+  stays-first true e = rw e (rest (noted (set (t .counts) (pair a) (a .many % 256)) (t .first)) n)
+  stays-first false e = stays-count e (eqb (getD (t .counts) (pair a) 0) (a .many)) refl
 
 stays : (l : List Asked) → Stay l
 unfolding heardAll
 stays [] t n = refl
-stays (a ∷ l) t n = stays-first a l (stays l) t n (eqb (getD t (pair a) 0) 0) refl
+stays (a ∷ l) t n = stays-first a l (stays l) t n (eqb (getD (t .counts) (pair a) 0) 0) refl
 
 -- what is judged by the place that was found
 pub record Told {A : Type 0} (place : ℕ) (y x : Found A) : Type 0 where
@@ -174,47 +179,46 @@ pub record Told {A : Type 0} (place : ℕ) (y x : Found A) : Type 0 where
   pub differed : (place ≡ 0 → ⊥) → y ≡ refused 21 place
 
 abbrev Hear : {A : Type 0} → Found A → List Asked → Type 0
-Hear x l = (earlier : List Asked) (t : List ℕ) → Kept earlier t → Told (getD (heardAll l t) 4096 0) (judged earlier l x) x
+Hear x l = (earlier : List Asked) (t : Noted) → Kept earlier t → Told (heardAll l t .first) (judged earlier l x) x
 
-module _ {A : Type 0} (x : Found A) (a : Asked) (l : List Asked) (f : Fits a) (rest : Hear x l) (earlier : List Asked) (t : List ℕ) (k : Kept earlier t) where
-  hears-count : eqb (getD t (pair a) 0) 0 ≡ false → (b : Bool) → eqb (getD t (pair a) 0) (a .many) ≡ b
-      → Told (getD (heardAll l (heard a t)) 4096 0) (judged earlier (a ∷ l) x) x
+module _ {A : Type 0} (x : Found A) (a : Asked) (l : List Asked) (f : Fits a) (rest : Hear x l) (earlier : List Asked) (t : Noted) (k : Kept earlier t) where
+  hears-count : eqb (getD (t .counts) (pair a) 0) 0 ≡ false → (b : Bool) → eqb (getD (t .counts) (pair a) 0) (a .many) ≡ b
+      → Told (heardAll l (heard a t) .first) (judged earlier (a ∷ l) x) x
   unfolding heard judged
   hears-count g true e =
-      let i = eqb-true (getD t (pair a) 0) (a .many) e in
+      let i = eqb-true (getD (t .counts) (pair a) 0) (a .many) e in
       rw (g, e, same-agrees a f earlier t k i) (rest (a ∷ earlier) t (same-kept a f earlier t k i))
   hears-count g false e =
-      let u : getD (set t 4096 (a .place)) 4096 0 ≡ a .place = getD-set-same t 4096 (a .place) 0 (omega (arith, k .long)) in
-      let s : getD (heardAll l (set t 4096 (a .place))) 4096 0 ≡ a .place = stays l (set t 4096 (a .place)) (λ z. omega (arith, z, u, f .placed)) ∙ u in
-      rw (g, e, eq-eqb (getD t 4096 0) 0 (k .quiet), differs a f earlier t k (eqb-false _ _ g) (eqb-false _ _ e), s)
+      let s : heardAll l (noted (t .counts) (a .place)) .first ≡ a .place = stays l (noted (t .counts) (a .place)) (λ z. omega (arith, z, f .placed)) in
+      rw (g, e, eq-eqb (t .first) 0 (k .quiet), differs a f earlier t k (eqb-false _ _ g) (eqb-false _ _ e), s)
       (record { agreed = λ z. absurd (omega (arith, z, f .placed)); differed = λ z. refl })
 
-  hears-first : (b : Bool) → eqb (getD t (pair a) 0) 0 ≡ b → Told (getD (heardAll l (heard a t)) 4096 0) (judged earlier (a ∷ l) x) x
+  hears-first : (b : Bool) → eqb (getD (t .counts) (pair a) 0) 0 ≡ b → Told (heardAll l (heard a t) .first) (judged earlier (a ∷ l) x) x
   unfolding heard judged
   hears-first true e =
-      let i = eqb-true (getD t (pair a) 0) 0 e in
-      rw (e, new-agrees a f earlier t k i) (rest (a ∷ earlier) (set t (pair a) (a .many)) (new-kept a f earlier t k i))
-  hears-first false e = hears-count e (eqb (getD t (pair a) 0) (a .many)) refl
+      let i = eqb-true (getD (t .counts) (pair a) 0) 0 e in
+      rw (e, in-byte a f, new-agrees a f earlier t k i) (rest (a ∷ earlier) (new a f earlier t k i) (new-kept a f earlier t k i))
+  hears-first false e = hears-count e (eqb (getD (t .counts) (pair a) 0) (a .many)) refl
 
 hears : {A : Type 0} (x : Found A) (l : List Asked) → AllFit l → Hear x l
 unfolding heardAll judged
 hears x [] w earlier t k = record { agreed = λ e. refl; differed = λ n. absurd (n (k .quiet)) }
-hears x (a ∷ l) (more f w) earlier t k = hears-first x a l f (hears x l w) earlier t k (eqb (getD t (pair a) 0) 0) refl
+hears x (a ∷ l) (more f w) earlier t k = hears-first x a l f (hears x l w) earlier t k (eqb (getD (t .counts) (pair a) 0) 0) refl
 
 -- nothing was heard yet
 blank-kept : Kept [] blankHeard
 blank-kept = record {
-  long = length-replicate {A = ℕ} 4097 0;
-  quiet = getD-replicate {A = ℕ} 4097 4096 0 0 (omega arith);
+  long = length-replicate {A = ℕ} 4096 0;
+  quiet = refl;
   fits = λ b m. no-fits b m;
   each = λ b m. no-each b m;
-  first = λ i h n. absurd (n (getD-replicate {A = ℕ} 4097 i 0 0 (omega arith)));
+  first = λ i h n. absurd (n (getD-replicate {A = ℕ} 4096 i 0 0 (omega arith)));
 }
   where
     no-fits : (b : Asked) → Among b [] → Fits b
     no-fits b m = elim m [ ]
 
-    no-each : (b : Asked) → Among b [] → getD blankHeard (pair b) 0 ≡ b .many
+    no-each : (b : Asked) → Among b [] → getD (blankHeard .counts) (pair b) 0 ≡ b .many
     no-each b m = elim m [ ]
 
 -- What is asked for within the limits is judged by the place of the first that differs.

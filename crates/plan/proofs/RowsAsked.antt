@@ -35,6 +35,7 @@ pub record Exchanged (p o : ℕ) (vs : List ℕ) : Type 0 where
   pub partner : p < 64
   pub operation : o < 64
   pub some : 1 ≤ length vs
+  pub few : length vs ≤ 4
 
 -- what an activity or arm asks for is within the limits
 unfoldable pub AsksOwn : Own → Type 0
@@ -63,8 +64,8 @@ unfoldable mutual
 exchanged : (vars : ℕ) (once : Bool) (p o : ℕ) (vs : List ℕ) → exchangeWithin vars once p o vs ≡ true → Exchanged p o vs
 unfolding exchangeWithin
 exchanged vars once p o vs h =
-    both (ltb p 64) _ h (λ a h1. both (ltb o 64) _ h1 (λ b h2. both (leb 1 (length vs)) _ h2 (λ c h3.
-    record { partner = ltb-true p 64 a; operation = ltb-true o 64 b; some = leb-true 1 (length vs) c })))
+    both (ltb p 64) _ h (λ a h1. both (ltb o 64) _ h1 (λ b h2. both (leb 1 (length vs)) _ h2 (λ c h3. both (leb (length vs) 4) _ h3 (λ d h4.
+    record { partner = ltb-true p 64 a; operation = ltb-true o 64 b; some = leb-true 1 (length vs) c; few = leb-true (length vs) 4 d }))))
 
 own-asks : (vars : ℕ) (cs : List ℕ) (handler arms : Bool) (own : Own) (within : ℕ) → ownWithin vars cs handler arms own within ≡ true → AsksOwn own
 unfolding ownWithin AsksOwn
@@ -99,7 +100,7 @@ mutual
 
 fit-one : (p o q : ℕ) (vs : List ℕ) → 1 ≤ q → Exchanged p o vs → AllFit (asking p o (length vs) q ∷ [])
 fit-one p o q vs h x =
-    let f : Fits (asking p o (length vs) q) = record { partner = x .partner; operation = x .operation; some = x .some; placed = h } in
+    let f : Fits (asking p o (length vs) q) = record { partner = x .partner; operation = x .operation; some = x .some; few = omega (arith, x .few); placed = h } in
     hears.more f hears.none
 
 -- What is asked for within the limits, whatever places are counted.

@@ -1,6 +1,4 @@
 -- How receives that disagree are found in one pass: what was heard so far. Assumes nothing: these are definitions.
--- It is 4,097 numbers: for each pair of a partner and an operation the count of its first receive or arm, 0 where there is none yet; and last the
--- place of the first count that differs from that one, 0 where none does.
 use Prim.Native.Nat.{ℕ, zero, suc, _+_, _*_, _%_}
 use mathlib.Core.Bool.{cond}
 use mathlib.Core.List.{List, [], _∷_, _++_}
@@ -8,21 +6,30 @@ use lib.Dec.{eqb}
 use lib.ListN.{getD, set, replicate}
 use Rattle.plan.specs.Agree.{Asked, asking}
 
-abbrev pub blankHeard : List ℕ
-blankHeard = replicate 4097 0
+-- For each pair of a partner and an operation the count of its first receive or arm, in a byte, 0 where there is none yet; and the place of the first
+-- count that differs from that one, 0 where none does.
+pub record Noted : Type 0 where
+  pub counts : List ℕ
+  pub first : ℕ
 
--- where a pair has its number
+abbrev pub noted : (counts : List ℕ) → (first : ℕ) → Noted
+noted counts first = record { counts = counts; first = first }
+
+abbrev pub blankHeard : Noted
+blankHeard = noted (replicate 4096 0) 0
+
+-- where a pair has its count
 abbrev pub pairOf : (partner operation : ℕ) → ℕ
 pairOf partner operation = partner % 64 * 64 + operation % 64
 
-unfoldable pub heard : Asked → List ℕ → List ℕ
+unfoldable pub heard : Asked → Noted → Noted
 heard a t =
-    cond (eqb (getD t (pairOf (a .partner) (a .operation)) 0) 0) (set t (pairOf (a .partner) (a .operation)) (a .many))
-    (cond (eqb (getD t (pairOf (a .partner) (a .operation)) 0) (a .many)) t
-    (cond (eqb (getD t 4096 0) 0) (set t 4096 (a .place)) t))
+    cond (eqb (getD (t .counts) (pairOf (a .partner) (a .operation)) 0) 0) (noted (set (t .counts) (pairOf (a .partner) (a .operation)) (a .many % 256)) (t .first))
+    (cond (eqb (getD (t .counts) (pairOf (a .partner) (a .operation)) 0) (a .many)) t
+    (cond (eqb (t .first) 0) (noted (t .counts) (a .place)) t))
 
 -- one after the other
-unfoldable pub heardAll : List Asked → List ℕ → List ℕ
+unfoldable pub heardAll : List Asked → Noted → Noted
 heardAll [] t = t
 heardAll (a ∷ l) t = heardAll l (heard a t)
 
@@ -43,4 +50,4 @@ rowsAsked (suc left) t k = rowAsked t k ++ rowsAsked left t (k + 1)
 
 -- the place of the first count that differs, 0 where none does
 unfoldable pub differing : List Asked → ℕ
-differing l = getD (heardAll l blankHeard) 4096 0
+differing l = heardAll l blankHeard .first

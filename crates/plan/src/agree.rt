@@ -1,9 +1,9 @@
 // Finds receives that disagree: document 02, request 8.
-ghost use Prim.Native.Nat.{_+_, _*_, _≤_, _<_};
+ghost use Prim.Native.Nat.{_+_, _*_, _%_, _≤_, _<_};
 ghost use lib.ListN.{length, getD};
 ghost use mathlib.Core.Path.{_≡_};
 ghost use Rattle.plan.specs.Agree.{asking};
-ghost use Rattle.plan.specs.Heard.{heard, heardAll, aheadOf, rowAsked, rowsAsked, differing};
+ghost use Rattle.plan.specs.Heard.{noted, heard, heardAll, aheadOf, rowAsked, rowsAsked, differing};
 
 fn wide(x: u32) -> usize
     ensures is { λ r. ⌜ r ≡ x ⌝ }
@@ -12,18 +12,38 @@ fn wide(x: u32) -> usize
     x as usize
 }
 
+fn number(x: u8) -> usize
+    ensures { λ r. ⌜ r ≡ x ⌝ }
+{
+    x as usize
+}
+
+// A count as a byte: those of a plan are 1 to 4.
+fn byte(many: usize) -> u8
+    ensures { λ r. ⌜ r ≡ many % 256 ⌝ }
+{
+    (many % 256) as u8
+}
+
 // A receive or an arm is heard: its count where it is the first for its pair, and its place where it is the first that differs.
-pub fn hear(seen: &mut [usize; 4097], partner: usize, operation: usize, many: usize, place: usize)
-    ensures { λ _. ⌜ now (seen .exit) ≡ heard (asking partner operation many place) (now (seen .entry)) ⌝ }
+pub fn hear(
+    counts: &mut [u8; 4096],
+    differs: &mut usize,
+    partner: usize,
+    operation: usize,
+    many: usize,
+    place: usize,
+)
+    ensures { λ _. ⌜ noted (now (counts .exit)) (now (differs .exit)) ≡ heard (asking partner operation many place) (noted (now (counts .entry)) (now (differs .entry))) ⌝ }
 {
     let i = partner % 64 * 64 + operation % 64;
-    let first = seen[i];
-    if first == 0 {
-        seen[i] = many;
+    let before = number(counts[i]);
+    if before == 0 {
+        counts[i] = byte(many);
     } else {
-        if first != many {
-            if seen[4096] == 0 {
-                seen[4096] = place;
+        if before != many {
+            if *differs == 0 {
+                *differs = place;
             }
         }
     }
@@ -51,14 +71,15 @@ fn ahead(kind: usize) -> usize
 }
 
 // What row k of the table asks for is heard.
-fn hear_row(table: &[u32], k: usize, seen: &mut [usize; 4097])
+fn hear_row(table: &[u32], k: usize, counts: &mut [u8; 4096], differs: &mut usize)
     requires { ⌜ (k < 256) × (length (now table) ≡ 11584) ⌝ }
-    ensures { λ _. ⌜ now (seen .exit) ≡ heardAll (rowAsked (now (table .entry)) k) (now (seen .entry)) ⌝ }
+    ensures { λ _. ⌜ noted (now (counts .exit)) (now (differs .exit)) ≡ heardAll (rowAsked (now (table .entry)) k) (noted (now (counts .entry)) (now (differs .entry))) ⌝ }
 {
     let skip = ahead(column(table, k, 0));
     if skip > 0 {
         hear(
-            seen,
+            counts,
+            differs,
             column(table, k, 1),
             column(table, k, 2),
             column(table, k, 3),
@@ -74,11 +95,12 @@ pub(crate) fn first_differing(table: &[u32], n: usize) -> usize
     ensures is { λ r. ⌜ r ≡ differing (rowsAsked n (now (table .entry)) 0) ⌝ }
     ensures long { λ _. ⌜ length (now (table .entry)) ≡ 11584 ⌝ }
 {
-    let mut seen = [0usize; 4097];
+    let mut counts = [0u8; 4096];
+    let mut differs: usize = 0;
     let mut k: usize = 0;
     while k < n {
-        hear_row(table, k, &mut seen);
+        hear_row(table, k, &mut counts, &mut differs);
         k += 1;
     }
-    seen[4096]
+    differs
 }

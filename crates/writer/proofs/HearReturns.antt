@@ -9,7 +9,7 @@ use lib.Dec.{eqb, ltb, leb}
 use lib.ListN.{length, getD, take, drop}
 use Rattle.plan.specs.Agree.{Asked, asking, askedOwn, spanOf, askedIn, askedAll, askedFrom, judged}
 use Rattle.plan.specs.Found.{Found, refused, found, andThen}
-use Rattle.plan.specs.Heard.{blankHeard, heard, heardAll, differing}
+use Rattle.plan.specs.Heard.{Noted, noted, blankHeard, heard, heardAll, differing}
 use Rattle.plan.specs.Read.{Head, manyIn, startForm}
 use Rattle.plan.specs.Tree.{Own, kind, Act, act, Acts, none, more, Plan, size, count}
 use Rattle.plan.specs.Within.{levelsBelow}
@@ -37,13 +37,13 @@ use Rattle.writer.proofs.RowsAsk.{own-asked, span-rows, plan-asks}
 use Rattle.writer.proofs.TreeReturns.{act-no-own, act-no-within, acts-no-first, acts-no-rest, acts-got, said, inside, first-read, opened}
 
 -- `hear_row`
-module _ (t : List ℕ) (r : ℕ) {k : ℕ} (s : List ℕ) where
-  pub hears-receive : k ≡ 2 → {p o m : ℕ} {u : List ℕ} → u ≡ heard (asking p o m r) s → p ≡ cell t r 2 → o ≡ cell t r 3 → m ≡ cell t r 4
+module _ (t : List ℕ) (r : ℕ) {k : ℕ} (s : Noted) where
+  pub hears-receive : k ≡ 2 → {p o m : ℕ} {u : Noted} → u ≡ heard (asking p o m r) s → p ≡ cell t r 2 → o ≡ cell t r 3 → m ≡ cell t r 4
       → u ≡ heardAll (rowAsks t r k) s
   unfolding heardAll rowAsks
   hears-receive e h a b c = rw e (h ∙ rw (a, b, c))
 
-  pub hears-arm : k ≡ 12 → {p o m : ℕ} {u : List ℕ} → u ≡ heard (asking p o m r) s → p ≡ cell t r 1 → o ≡ cell t r 2 → m ≡ cell t r 3
+  pub hears-arm : k ≡ 12 → {p o m : ℕ} {u : Noted} → u ≡ heard (asking p o m r) s → p ≡ cell t r 1 → o ≡ cell t r 2 → m ≡ cell t r 3
       → u ≡ heardAll (rowAsks t r k) s
   unfolding heardAll rowAsks
   hears-arm e h a b c = rw e (h ∙ rw (a, b, c))
@@ -53,40 +53,40 @@ module _ (t : List ℕ) (r : ℕ) {k : ℕ} (s : List ℕ) where
   hears-none n m = rw (ne-eqb k 2 n, ne-eqb k 12 m)
 
 -- of what is refused nothing is to be heard
-act-silent : (n : ℕ) (g : Found Act) (r : ℕ) (s u : List ℕ) {number place : ℕ} → Out.Refused number place ≡ outFor n g → ActHears g r s u
+act-silent : (n : ℕ) (g : Found Act) (r : ℕ) (s u : Noted) {number place : ℕ} → Out.Refused number place ≡ outFor n g → ActHears g r s u
 unfolding outFor HeardAct
 act-silent n (refused x p) r s u e = record { heard = tt }
 act-silent n (found a q) r s u e = let z : _≡_ {A = ℕ} 0 1 = cc in absurd (omega arith)
 
-acts-silent : (n : ℕ) (g : Found Acts) (r : ℕ) (s u : List ℕ) {number place : ℕ} → Out.Refused number place ≡ outAllFor n g → ActsHear g r s u
+acts-silent : (n : ℕ) (g : Found Acts) (r : ℕ) (s u : Noted) {number place : ℕ} → Out.Refused number place ≡ outAllFor n g → ActsHear g r s u
 unfolding outAllFor HeardActs
 acts-silent n (refused x p) r s u e = record { heard = tt }
 acts-silent n (found a q) r s u e = let z : _≡_ {A = ℕ} 0 1 = cc in absurd (omega arith)
 
-plan-silent : (g : Found Plan) (r : ℕ) (s u : List ℕ) {number place : ℕ} → Step.Refused number place ≡ stepFor g → PlanHears g r s u
+plan-silent : (g : Found Plan) (r : ℕ) (s u : Noted) {number place : ℕ} → Step.Refused number place ≡ stepFor g → PlanHears g r s u
 unfolding stepFor HeardPlan
 plan-silent (refused x p) r s u e = record { heard = tt }
 plan-silent (found a q) r s u e = let z : _≡_ {A = ℕ} 0 1 = cc in absurd (omega arith)
 
 -- what was heard of what is found
-act-heard : (g : Found Act) (r : ℕ) (s u : List ℕ) {a : Act} {next : ℕ} → g ≡ found a next → ActHears g r s u → u ≡ heardAll (askedIn inRows a r) s
+act-heard : (g : Found Act) (r : ℕ) (s u : Noted) {a : Act} {next : ℕ} → g ≡ found a next → ActHears g r s u → u ≡ heardAll (askedIn inRows a r) s
 unfolding HeardAct
 act-heard g r s u e h = let w = rw e at h in w .heard
 
-acts-heard : (g : Found Acts) (r : ℕ) (s u : List ℕ) {l : Acts} {next : ℕ} → g ≡ found l next → ActsHear g r s u → u ≡ heardAll (askedAll inRows l r) s
+acts-heard : (g : Found Acts) (r : ℕ) (s u : Noted) {l : Acts} {next : ℕ} → g ≡ found l next → ActsHear g r s u → u ≡ heardAll (askedAll inRows l r) s
 unfolding HeardActs
 acts-heard g r s u e h = let w = rw e at h in w .heard
 
-act-hears : (g : Found Act) (r : ℕ) (s u : List ℕ) {a : Act} {next : ℕ} → g ≡ found a next → u ≡ heardAll (askedIn inRows a r) s → ActHears g r s u
+act-hears : (g : Found Act) (r : ℕ) (s u : Noted) {a : Act} {next : ℕ} → g ≡ found a next → u ≡ heardAll (askedIn inRows a r) s → ActHears g r s u
 unfolding HeardAct
 act-hears g r s u e h = rw e (record { heard = h })
 
-acts-hear : (g : Found Acts) (r : ℕ) (s u : List ℕ) {l : Acts} {next : ℕ} → g ≡ found l next → u ≡ heardAll (askedAll inRows l r) s → ActsHear g r s u
+acts-hear : (g : Found Acts) (r : ℕ) (s u : Noted) {l : Acts} {next : ℕ} → g ≡ found l next → u ≡ heardAll (askedAll inRows l r) s → ActsHear g r s u
 unfolding HeardActs
 acts-hear g r s u e h = rw e (record { heard = h })
 
 -- an activity or arm: what it asks for by itself, and then what those within it ask for
-whole-heard : (t : List ℕ) (own : Own) (l : Acts) (r k within next : ℕ) (s v u : List ℕ) → Stands t r (ownRows own within) next → k ≡ kind own → count l ≡ within
+whole-heard : (t : List ℕ) (own : Own) (l : Acts) (r k within next : ℕ) (s v u : Noted) → Stands t r (ownRows own within) next → k ≡ kind own → count l ≡ within
     → v ≡ heardAll (rowAsks t r k) s → u ≡ heardAll (askedAll inRows l next) v → u ≡ heardAll (askedIn inRows (act own l) r) s
 unfolding askedIn inRows
 whole-heard t own l r k within next s v u x i c h f =
@@ -95,7 +95,7 @@ whole-heard t own l r k within next s v u x i c h f =
     f ∙ (rw (w, e) (sym (heard-append (askedOwn inRows own r) (askedAll inRows l (r + length (ownRows own (count l)))) s)))
 
 -- a list: the first of them, and then the others
-more-heard : (t : List ℕ) (a : Act) (l : Acts) (r next : ℕ) (s v u : List ℕ) → Stands t r (actRows a) next → v ≡ heardAll (askedIn inRows a r) s
+more-heard : (t : List ℕ) (a : Act) (l : Acts) (r next : ℕ) (s v u : Noted) → Stands t r (actRows a) next → v ≡ heardAll (askedIn inRows a r) s
     → u ≡ heardAll (askedAll inRows l next) v → u ≡ heardAll (askedAll inRows (more a l) r) s
 unfolding askedAll
 more-heard t a l r next s v u x h f =
@@ -118,7 +118,7 @@ node-there false vars cs t handler depth n r =
 -- `activity_at`
 module _ (arm : Bool) (depth vars : ℕ) (cs t : List ℕ) (handler : Bool) (n r : ℕ) {own : code.Own}
     (a : own ≡ ownFor (nodeHeadAt arm vars cs t handler depth n r)) where
-  pub one-no-own : (s u : List ℕ) {number place : ℕ} → own ≡ code.Own.Refused number place → ActHears (nodeAt arm depth vars cs t handler n r) r s u
+  pub one-no-own : (s u : Noted) {number place : ℕ} → own ≡ code.Own.Refused number place → ActHears (nodeAt arm depth vars cs t handler n r) r s u
   one-no-own s u o = act-silent n _ r s u (act-no-own arm depth vars cs t handler n r a o)
 
   module _ {k within next : ℕ} (o : own ≡ code.Own.Read k within next) where
@@ -126,11 +126,11 @@ module _ (arm : Bool) (depth vars : ℕ) (cs t : List ℕ) (handler : Bool) (n r
     own-there = node-there arm vars cs t handler depth n r .holds (said arm depth vars cs t handler n r a o .is)
 
     module _ {later : Bool} {below : ℕ} (x : later ≡ (eqb k 11 || handler)) (y : below ≡ levelsBelow arm depth) {all : Out}
-        (b : all ≡ outAllFor (n + 1) (manyIn (nodeAt (eqb k 10) below vars cs t) handler later within (n + 1) next)) (s u : List ℕ) where
+        (b : all ≡ outAllFor (n + 1) (manyIn (nodeAt (eqb k 10) below vars cs t) handler later within (n + 1) next)) (s u : Noted) where
       pub one-no-within : {number place : ℕ} → all ≡ Out.Refused number place → ActHears (nodeAt arm depth vars cs t handler n r) r s u
       one-no-within p = act-silent n _ r s u (act-no-within arm depth vars cs t handler n r a o x y b p)
 
-      pub one-whole : {stop end : ℕ} {first every : Bool} → all ≡ Out.Read stop end first every → {v : List ℕ} → v ≡ heardAll (rowAsks t r k) s
+      pub one-whole : {stop end : ℕ} {first every : Bool} → all ≡ Out.Read stop end first every → {v : Noted} → v ≡ heardAll (rowAsks t r k) s
           → ActsHear (manyIn (nodeAt (eqb k 10) below vars cs t) handler later within (n + 1) next) next v u
           → ActHears (nodeAt arm depth vars cs t handler n r) r s u
       one-whole p {v} h f =
@@ -143,20 +143,20 @@ module _ (arm : Bool) (depth vars : ℕ) (cs t : List ℕ) (handler : Bool) (n r
 
 -- `activities_at`
 module _ (arms : Bool) (depth vars : ℕ) (cs t : List ℕ) (handler later : Bool) (left n r : ℕ) where
-  pub all-none : (s : List ℕ) → left ≡ 0 → ActsHear (manyIn (nodeAt arms depth vars cs t) handler later left n r) r s s
+  pub all-none : (s : Noted) → left ≡ 0 → ActsHear (manyIn (nodeAt arms depth vars cs t) handler later left n r) r s s
   unfolding manyIn HeardActs askedAll heardAll
   all-none s z = rw z (record { heard = refl })
 
   module _ (z : left ≡ 0 → ⊥) {one : Out} (a : one ≡ outFor n (nodeAt arms depth vars cs t handler n r)) where
-    pub all-no-first : (s u : List ℕ) {number place : ℕ} → one ≡ Out.Refused number place → ActsHear (manyIn (nodeAt arms depth vars cs t) handler later left n r) r s u
+    pub all-no-first : (s u : Noted) {number place : ℕ} → one ≡ Out.Refused number place → ActsHear (manyIn (nodeAt arms depth vars cs t) handler later left n r) r s u
     all-no-first s u o = acts-silent n _ r s u (acts-no-first arms depth vars cs t handler later left n r z a o)
 
     module _ {next end : ℕ} {first every₁ : Bool} (o : one ≡ Out.Read next end first every₁) {rest : Out}
-        (b : rest ≡ outAllFor end (manyIn (nodeAt arms depth vars cs t) later later (left - 1) end next)) (s u : List ℕ) where
+        (b : rest ≡ outAllFor end (manyIn (nodeAt arms depth vars cs t) later later (left - 1) end next)) (s u : Noted) where
       pub all-no-rest : {number place : ℕ} → rest ≡ Out.Refused number place → ActsHear (manyIn (nodeAt arms depth vars cs t) handler later left n r) r s u
       all-no-rest p = acts-silent n _ r s u (acts-no-rest arms depth vars cs t handler later left n r z a o b p)
 
-      pub all-more : {stop last : ℕ} {first₂ every : Bool} → rest ≡ Out.Read stop last first₂ every → {v : List ℕ}
+      pub all-more : {stop last : ℕ} {first₂ every : Bool} → rest ≡ Out.Read stop last first₂ every → {v : Noted}
           → ActHears (nodeAt arms depth vars cs t handler n r) r s v → ActsHear (manyIn (nodeAt arms depth vars cs t) later later (left - 1) end next) next v u
           → ActsHear (manyIn (nodeAt arms depth vars cs t) handler later left n r) r s u
       all-more p {v} h f =
@@ -166,7 +166,7 @@ module _ (arms : Bool) (depth vars : ℕ) (cs t : List ℕ) (handler later : Boo
           (more-heard t (x .a) (y .l) r next s v u (node-stands arms depth vars cs t handler n r .holds (x .is)) (act-heard _ r s v (x .is) h) (acts-heard _ next v u (y .is) f))
 
 -- `root_at`
-module _ (vars : ℕ) (cs t : List ℕ) (r : ℕ) {parts : Out} (a : parts ≡ outAllFor 0 (manyIn (nodeAt false 16 vars cs t) false true 2 0 r)) (s u : List ℕ) where
+module _ (vars : ℕ) (cs t : List ℕ) (r : ℕ) {parts : Out} (a : parts ≡ outAllFor 0 (manyIn (nodeAt false 16 vars cs t) false true 2 0 r)) (s u : Noted) where
   pub root-silent-parts : {number place : ℕ} → parts ≡ Out.Refused number place → PlanHears (rootAt vars cs t r) r s u
   root-silent-parts o = plan-silent _ r s u (root-no-parts vars cs t r a o)
 
@@ -187,11 +187,11 @@ module _ (vars : ℕ) (cs t : List ℕ) (r : ℕ) {parts : Out} (a : parts ≡ o
         let l : u ≡ heardAll (askedAll inRows (more (w .a) (more (w .b) none)) r) s = acts-heard _ r s u (z .is) h ∙ rw (w .all) in
         rw e (record { heard = l })
 
-from-row : (g : Found Plan) {r q : ℕ} {s u : List ℕ} → PlanHears g r s u → r ≡ q → PlanHears g q s u
+from-row : (g : Found Plan) {r q : ℕ} {s u : Noted} → PlanHears g r s u → r ≡ q → PlanHears g q s u
 from-row g h e = rw e at h
 
 -- `plan_at`
-module _ (t : List ℕ) {f : Field} (e : f ≡ fieldFor (rowIn t 0)) (s u : List ℕ) where
+module _ (t : List ℕ) {f : Field} (e : f ≡ fieldFor (rowIn t 0)) (s u : Noted) where
   pub plan-silent-row : {number place : ℕ} → f ≡ Field.Refused number place → PlanHears (planAt t) 1 s u
   plan-silent-row o = plan-silent _ 1 s u (plan-no t e o)
 
@@ -211,32 +211,35 @@ module _ (t : List ℕ) {f : Field} (e : f ≡ fieldFor (rowIn t 0)) (s u : List
           rw (field-got (rowIn t 0) e o, eq-eqb v 1 n, sym x ∙ y) k
 
 -- `agreed_at`
-plan-heard : (g : Found Plan) (s u : List ℕ) {p : Plan} {next : ℕ} → g ≡ found p next → PlanHears g 1 s u → u ≡ heardAll (askedFrom inRows p 1) s
+plan-heard : (g : Found Plan) (s u : Noted) {p : Plan} {next : ℕ} → g ≡ found p next → PlanHears g 1 s u → u ≡ heardAll (askedFrom inRows p 1) s
 unfolding HeardPlan
 plan-heard g s u e h = let w = rw e at h in w .heard
+
+told-by : {d k : ℕ} {y x : Found Plan} → d ≡ k → Told k y x → Told d y x
+told-by e h = rw e h
 
 module _ (t : List ℕ) {c : Step} (e : c ≡ stepFor (planAt t)) where
   pub agreed-no : {number place : ℕ} → c ≡ Step.Refused number place → Step.Refused number place ≡ stepFor (agreedAt t)
   unfolding agreedAt stepFor
   agreed-no o = rw (step-no (planAt t) e o)
 
-  module _ {row : ℕ} (o : c ≡ Next row) {u : List ℕ} (h : PlanHears (planAt t) 1 blankHeard u) where
+  module _ {row : ℕ} (o : c ≡ Next row) {counts : List ℕ} {first : ℕ} (h : PlanHears (planAt t) 1 blankHeard (noted counts first)) where
     got : Stepped (planAt t) row
     got = step-got (planAt t) e o
 
-    place-is : getD u 4096 0 ≡ differing (askedFrom inRows (got .a) 1)
+    place-is : first ≡ differing (askedFrom inRows (got .a) 1)
     unfolding differing
-    place-is = ap (λ x. getD x 4096 0) (plan-heard (planAt t) blankHeard u (got .is) h)
+    place-is = ap (λ x. x .first) (plan-heard (planAt t) blankHeard (noted counts first) (got .is) h)
 
-    told : Told (getD u 4096 0) (judged [] (askedFrom inRows (got .a) 1) (found (got .a) row)) (found (got .a) row)
+    told : Told (first) (judged [] (askedFrom inRows (got .a) 1) (found (got .a) row)) (found (got .a) row)
     told =
-        rw place-is (judged-by (askedFrom inRows (got .a) 1) (found (got .a) row)
+        told-by place-is (judged-by (askedFrom inRows (got .a) 1) (found (got .a) row)
         (fit-all inRows (more (got .a .body) (more (got .a .fault) none)) 1 (omega arith) (plan-asks t .holds (got .is))))
 
-    pub agreed-yes : getD u 4096 0 ≡ 0 → Next row ≡ stepFor (agreedAt t)
+    pub agreed-yes : first ≡ 0 → Next row ≡ stepFor (agreedAt t)
     unfolding agreedAt stepFor
     agreed-yes z = rw (got .is, told .agreed z)
 
-    pub agreed-differs : (getD u 4096 0 ≡ 0 → ⊥) → Step.Refused 21 (getD u 4096 0) ≡ stepFor (agreedAt t)
+    pub agreed-differs : (first ≡ 0 → ⊥) → Step.Refused 21 (first) ≡ stepFor (agreedAt t)
     unfolding agreedAt stepFor
     agreed-differs z = rw (got .is, told .differed z)

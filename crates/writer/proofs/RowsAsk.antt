@@ -34,7 +34,7 @@ exchange-asks vars t r c p there small h e =
     let m : cell t r (c + 1) ≤ 4 = leb-true _ _ b2 in
     let j : 1 ≤ cell t r (c + 1) = leb-true _ _ b1 in
     let l = tuple-long t r there (c + 1) (omega arith) (omega arith) in
-    record { partner = h; operation = ltb-true _ _ a; some = omega (arith, l) })))
+    record { partner = h; operation = ltb-true _ _ a; some = omega (arith, l); few = omega (arith, l) })))
 
 with-asks : (vars : ℕ) (t : List ℕ) (own : Exp → Own) (within r : ℕ) → ((e : Exp) → AsksOwn (own e)) → Finds (λ h next. AsksOwn (h .own)) (withExpression vars t own within r)
 unfolding withExpression

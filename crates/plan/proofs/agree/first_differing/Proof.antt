@@ -2,6 +2,7 @@
 -- Assumes nothing.
 use borrow.Author.Needs.{needs}
 use Prim.Native.Nat.{_-_}
+use Rattle.plan.specs.Heard.{noted}
 use Rattle.plan.proofs.HearReturns.{Hearing, hearing-starts, hearing-again, hearing-done}
 use Rattle.plan.proofs.agree.first_differing.Statement.{statement}
 use Rattle.plan.proofs.agree.first_differing.Tie as tie
@@ -9,10 +10,10 @@ use Rattle.plan.proofs.agree.first_differing.Tie as tie
 ruleset cases = (hearing-starts, hearing-again, hearing-done)
 
 abbrev Inv-loop : tie.InvT-loop
-Inv-loop table n seen₀ k₀ seen k = Hearing table n seen k
+Inv-loop table n counts₀ differs₀ k₀ counts differs k = Hearing table n (noted counts differs) k
 
 abbrev μ-loop : tie.MeasureT-loop
-μ-loop table n seen₀ k₀ seen k = n - k
+μ-loop table n counts₀ differs₀ k₀ counts differs k = n - k
 
 pub first-differing-spec : {M : Type 1} → statement M
 first-differing-spec =
@@ -27,7 +28,5 @@ first-differing-spec =
     (λ c. search needs)
     -- loop-again
     (λ c. search cases)
-    -- array-read-result
-    (λ c. search needs)
     -- returns
     (λ c. search cases))

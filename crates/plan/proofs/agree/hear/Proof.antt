@@ -13,17 +13,13 @@ hear-spec =
     (λ c. search needs)
     -- add-i
     (λ c. search needs)
-    -- mul-first
+    -- element-copy-out-number
     (λ c. search needs)
-    -- element-copy-out-first
-    (λ c. search needs)
-    -- mul-seen
-    (λ c. search needs)
-    -- element-write-seen
-    (λ c. search needs)
-    -- element-copy-out-if3
-    (λ c. search needs)
-    -- element-write-seen-2
+    -- number-requires
+    (λ c κs. search needs)
+    -- byte-requires
+    (λ c κs. search needs)
+    -- element-write-counts
     (λ c. search needs)
     -- returns
     (λ c. search cases)

@@ -15,8 +15,6 @@ agreed-at-spec =
     (λ c. search needs)
     -- enum-known-c-2
     (λ c. search needs)
-    -- array-read-place
-    (λ c. search needs)
     -- returns
     (λ c. search cases)
     -- returns-2
