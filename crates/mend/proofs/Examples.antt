@@ -6,8 +6,15 @@ use lib.ListN.{replicate}
 use Rattle.numbers.specs.Shortest.{shortest, spelled}
 use Rattle.numbers.specs.declared.Number.{Number}
 use Rattle.numbers.specs.declared.Number.the-variants.{Value, Short, Bad}
-use Rattle.plan.specs.Spell.{spell}
-use Rattle.mend.specs.Padded.{groupsAt, paddedAt, numbersFrom, numbersOf, shortened, cutFrom, groupsCut, placeFrom, placeOf}
+use Rattle.numbers.specs.Number.{lastGroup, groups, numberAt}
+use Rattle.plan.specs.Agree.{inBytes, askedOwn, spanOf, spanAll, askedIn, askedAll, asked, agreesWith, judged}
+use Rattle.plan.specs.Found.{numberIn, fieldIn, among}
+use Rattle.plan.specs.Read.{expressionCodeIn, leafIn, expressionIn, variablesIn, tupleIn, exchangeIn, armIn, partnerIn, withExpressionIn, setIn, listIn, codeIn, partsIn, headIn, manyIn, readArm, readAct, starts, startForm, firstStarts, everyStarts, correlationIn, versionIn, rootIn, readAny, readPlan}
+use Rattle.plan.specs.Spell.{spell, operationCode, expressionNumbers, exchangeNumbers, ownNumbers}
+use Rattle.plan.specs.Tree.{kind, size, count}
+use Rattle.mend.specs.Outcome.{answerOf}
+use Rattle.mend.specs.Padded.{groupsAt, paddedAt, numbersFrom, numbersOf, shortened, cutFrom, groupsCut, placeFrom, placeOf, lastPlace, original, readPadded}
+use Rattle.mend.specs.declared.Answer.{Answer}
 
 -- 1 in one, two and ten groups, and 4,294,967,295 in ten; 0 in two; an eleventh group asked for, also where the bytes end there; bytes that end
 -- after nine groups; too large in the fifth group and in the sixth, also where the bytes end there
@@ -53,3 +60,15 @@ places (q ∷ l) = placeOf a q ∷ places l
 a-places : places (4 ∷ 6 ∷ 8 ∷ 11 ∷ []) ≡ 5 ∷ 7 ∷ 11 ∷ 14 ∷ []
 unfolding placeOf placeFrom paddedAt groupsAt shortest spelled
 a-places = refl
+
+-- Receives that disagree: document 02, request 8. A sequence of two receives of partner 3 and operation 5, of two variables and of one, with its version in
+-- two groups and the second operation in three, and then these bytes.
+abbrev disagreeing : List ℕ → List ℕ
+disagreeing l = 129 ∷ 0 ∷ 2 ∷ 0 ∷ 8 ∷ 2 ∷ 2 ∷ 3 ∷ 5 ∷ 2 ∷ 0 ∷ 1 ∷ 2 ∷ 3 ∷ 133 ∷ 128 ∷ 0 ∷ 1 ∷ 0 ∷ 0 ∷ l
+
+-- 21, at the second count's place in what came in, also where there is no room for what would come out; 9 where a byte follows
+disagreement : answerOf (disagreeing []) (readPadded (disagreeing [])) 4096 ∷ answerOf (disagreeing []) (readPadded (disagreeing [])) 0
+    ∷ answerOf (disagreeing (0 ∷ [])) (readPadded (disagreeing (0 ∷ []))) 4096 ∷ []
+    ≡ Answer.Refused 21 17 ∷ Answer.Refused 21 17 ∷ Answer.Refused 9 20 ∷ []
+unfolding answerOf readPadded original shortened numbersOf numbersFrom paddedAt groupsAt placeOf lastPlace placeFrom spell shortest spelled lastGroup groups numberAt numberIn fieldIn among kind size count expressionCodeIn leafIn expressionIn variablesIn tupleIn exchangeIn armIn partnerIn withExpressionIn setIn listIn codeIn partsIn headIn manyIn readArm readAct starts startForm firstStarts everyStarts correlationIn versionIn rootIn readAny readPlan inBytes askedOwn spanOf spanAll askedIn askedAll asked agreesWith judged operationCode expressionNumbers exchangeNumbers ownNumbers
+disagreement = refl

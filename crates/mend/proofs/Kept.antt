@@ -8,9 +8,8 @@ use mathlib.Core.Bool.{Bool, true, false, cond, _||_}
 use mathlib.Core.List.{List, [], _∷_, _++_, append-assoc, append-nil}
 use Prim.Native.Nat.{ℕ, zero, suc, _+_, _-_, _≤_, _<_}
 use lib.Dec.{eqb, ltb}
-use lib.ListN.{length, drop, length-append}
-use Rattle.numbers.specs.Number.{numberAt}
-use Rattle.numbers.specs.Shortest.{Bytes, shortest}
+use lib.ListN.{length, length-append}
+use Rattle.numbers.specs.Shortest.{shortest}
 use Rattle.numbers.specs.declared.Number.{Number}
 use Rattle.numbers.specs.declared.Number.the-variants.{Value, Short, Bad}
 use Rattle.plan.specs.Agree.{Asked, inBytes, askedOwn, spanOf, askedIn, askedAll, asked, agreesWith, judged}
@@ -23,50 +22,72 @@ use Rattle.plan.proofs.Agreeing.{Among, here, later}
 use Rattle.plan.proofs.Finds.{cond-case}
 use Rattle.plan.proofs.RowsAsked.{span-bytes}
 use Rattle.plan.proofs.Spelled.{any-is-spelled}
-use Rattle.plan.proofs.Stands.{spell-append}
-use Rattle.mend.specs.Padded.{paddedAt, numbersFrom, numbersOf, shortened, placeOf, lastPlace, noNumber, ended, original, readPadded}
-use Rattle.mend.proofs.Alike.{pair, number-there, Stands, stands-start, start-left, stands-place, over, spelled-there, stands-next, stands-left, Ends, any-ends}
+use Rattle.plan.proofs.Stands.{spell-append, plan-stands}
+use Rattle.mend.specs.Padded.{paddedAt, numbersFrom, numbersOf, shortened, cutFrom, groupsCut, placeOf, lastPlace, noNumber, ended, original, readPadded}
+use Rattle.mend.proofs.Alike.{Stands, stands-start, start-left, stands-place, over, stands-next, stands-left, Ends, any-ends}
 use Rattle.mend.proofs.Alike as alike
-use Rattle.mend.proofs.Numbers.{numbers-small, value-padded, spell-same}
+use Rattle.mend.proofs.Numbers.{numbers-small, spell-same}
 use Rattle.mend.proofs.PaddedLaws.{padded-bounds}
-use Rattle.mend.proofs.RunLaws.{View, view, spell-bytes}
+use Rattle.mend.proofs.RunLaws.{View, view, spell-bytes, cut-some, last-place, last-inside}
 use Rattle.mend.proofs.RunLaws as run
 use Rattle.mend.proofs.RunReturns.{numbers-none, numbers-some}
 
--- Places of numbers in bytes that are in shortest form stay.
+-- Where no group is cut, the places of numbers stay.
 
-next-of : {v w n m : ℕ} → Value v n ≡ Value w m → n ≡ m
-next-of e = cc
+-- the number that comes first is in shortest form, and nothing is cut after it
+record Uncut (o : List ℕ) {at q : ℕ} (r : Stands o at q) (v : ℕ) (ms : List ℕ) : Type 0 where
+  value : ℕ
+  next : ℕ
+  first : paddedAt o at ≡ Value value next
+  same : value ≡ v
+  ends : next ≡ at + length (shortest value)
+  rest : numbersFrom (over r first .rest) o next ≡ ms
+  still : cutFrom (over r first .rest) o next ≡ 0
 
--- the number that comes first is in shortest form
-first-number : (o : List ℕ) → shortened o ≡ o → {at : ℕ} (r : Stands o at at) (v : ℕ) (ms : List ℕ) → numbersFrom (r .left) o at ≡ v ∷ ms → View o at
-    → paddedAt o at ≡ Value v (at + length (shortest v))
-first-number o same {at} r v ms e (run.none h) =
+first-of : {v w : ℕ} {l m : List ℕ} → v ∷ l ≡ w ∷ m → v ≡ w
+first-of g = cc
+
+rest-of : {v w : ℕ} {l m : List ℕ} → v ∷ l ≡ w ∷ m → l ≡ m
+rest-of g = cc
+
+uncut : (o : List ℕ) {at q : ℕ} (r : Stands o at q) (v : ℕ) (ms : List ℕ) → numbersFrom (r .left) o at ≡ v ∷ ms → cutFrom (r .left) o at ≡ 0 → View o at → Uncut o r v ms
+uncut o {at} r v ms e c (run.none h) =
     let f : _≡_ {A = List ℕ} [] (v ∷ ms) = sym (numbers-none (r .left) o at h) ∙ e in
     let z : _≡_ {A = ℕ} 0 1 = cc in
     absurd (omega arith)
-first-number o same {at} r v ms e (run.one w next p) =
+uncut o {at} r v ms e c (run.one w next p) =
     let k = over r p in
     let f : w ∷ numbersFrom (k .rest) o next ≡ v ∷ ms = sym (ap (λ x. numbersFrom x o at) (k .is) ∙ numbers-some (k .rest) o at p) ∙ e in
-    let i : w ≡ v = cc in
-    let d : drop at o ≡ shortest w ++ spell (numbersFrom (k .rest) o next) = rw same at (spelled-there r p) in
-    let n = number-there o _ at w (r .inside) d (padded-bounds o at p .small) in
-    rw i at (value-padded (numberAt o at) (paddedAt o at) n (pair o at))
+    let d : next - at - length (shortest w) + cutFrom (k .rest) o next ≡ 0 = sym (ap (λ x. cutFrom x o at) (k .is) ∙ cut-some (k .rest) o at p) ∙ c in
+    record {
+      value = w;
+      next = next;
+      first = p;
+      same = first-of f;
+      ends = omega (arith, d, padded-bounds o at p .long);
+      rest = rest-of f;
+      still = omega (arith, d);
+    }
 
-rest-of : {v w : ℕ} {l m : List ℕ} → v ∷ l ≡ w ∷ m → l ≡ m
-rest-of e = cc
+-- place p of o, where that is place q of its shortened bytes
+record Walked (o : List ℕ) (p q : ℕ) : Type 0 where
+  there : ℕ
+  stands : Stands o there q
+  is : there ≡ p
 
-walk : (o : List ℕ) → shortened o ≡ o → (ns rest : List ℕ) {at : ℕ} (r : Stands o at at) → numbersFrom (r .left) o at ≡ ns ++ rest
-    → Stands o (at + length (spell ns)) (at + length (spell ns))
+walked-as : {o : List ℕ} {p q i j : ℕ} → Walked o p q → p ≡ i → q ≡ j → Walked o i j
+walked-as w e f = rw (sym e, sym f) w
+
+walk : (o ns rest : List ℕ) {at q : ℕ} (r : Stands o at q) → numbersFrom (r .left) o at ≡ ns ++ rest → cutFrom (r .left) o at ≡ 0
+    → Walked o (at + length (spell ns)) (q + length (spell ns))
 unfolding spell
-walk o same [] rest {at} r e = rw (add-zero at) r
-walk o same (v ∷ ns) rest {at} r e =
-    let p = first-number o same r v (ns ++ rest) e (view o at) in
-    let k = over r p in
-    let f : numbersFrom (k .rest) o (at + length (shortest v)) ≡ ns ++ rest =
-    rest-of (sym (ap (λ x. numbersFrom x o at) (k .is) ∙ numbers-some (k .rest) o at p) ∙ e) in
-    let i : at + length (shortest v ++ spell ns) ≡ at + length (shortest v) + length (spell ns) = omega (arith, length-append (shortest v) (spell ns)) in
-    rw i (walk o same ns rest (stands-next r p) (rw (stands-left r p) f))
+walk o [] rest {at} {q} r e c = record { there = at; stands = rw (add-zero q) r; is = omega arith }
+walk o (v ∷ ns) rest {at} {q} r e c =
+    let u = uncut o r v (ns ++ rest) e c (view o at) in
+    let l = length-append (shortest v) (spell ns) in
+    let k = ap (λ x. length (shortest x)) (u .same) in
+    walked-as (walk o ns rest (stands-next r (u .first)) (rw (stands-left r (u .first)) (u .rest)) (rw (stands-left r (u .first)) (u .still)))
+    (omega (arith, l, k, u .ends)) (omega (arith, l, k))
 
 -- Where a count stands in the numbers of a plan.
 record Within (ns : List ℕ) (at q : ℕ) : Type 0 where
@@ -152,18 +173,20 @@ plan-within p {a} m =
     let v : Within (actNumbers (p .body) ++ actNumbers (p .fault)) (bodyPlace p) (a .place) = rw (append-nil (actNumbers (p .fault))) at w in
     within-right (1 ∷ p .variables ∷ length (p .correlation) ∷ p .correlation) (rw (sym (zero-add (bodyPlace p))) at v)
 
+-- What plain reading reads has no group to cut.
+no-cut : (o : List ℕ) {p : Plan} → readAny o ≡ found p (length o) → shortened o ≡ spelling p → groupsCut o ≡ 0
+unfolding spelling
+no-cut o e s = omega (arith, last-place o, last-inside o, ap length s, plan-stands o .holds e .plan .ends)
+
 -- a count of what plain reading reads stands where it stood
-count-stays : (o : List ℕ) → Bytes o → {p : Plan} {next : ℕ} → readAny o ≡ found p next → shortened o ≡ spelling p → {a : Asked} → Among a (asked p)
-    → placeOf o (a .place) ≡ a .place
-unfolding spelling shortened numbersOf
-count-stays o y {p} e s {a} m =
-    let b = any-is-spelled o y e in
-    let same : shortened o ≡ o = s ∙ sym b in
+count-stays : (o : List ℕ) {p : Plan} → readAny o ≡ found p (length o) → shortened o ≡ spelling p → {a : Asked} → Among a (asked p) → placeOf o (a .place) ≡ a .place
+unfolding spelling shortened numbersOf groupsCut
+count-stays o {p} e s {a} m =
     let n : numbersFrom (length o) o 0 ≡ planNumbers p = spell-same (numbersOf o) (planNumbers p) (numbers-small (length o) o 0) s in
+    let c : cutFrom (length o) o 0 ≡ 0 = no-cut o e s in
     let w = plan-within p m in
-    let z : 0 + length (spell (w .before)) ≡ a .place = sym (w .place) in
-    let t = walk o same (w .before) (w .after) (stands-start o) (rw (start-left o) (n ∙ w .is)) in
-    rw z at (stands-place t)
+    let t = walked-as (walk o (w .before) (w .after) (stands-start o) (rw (start-left o) (n ∙ w .is)) (rw (start-left o) c)) (sym (w .place)) (sym (w .place)) in
+    stands-place (t .stands) ∙ t .is
 
 -- What is judged, whatever was found.
 data Verdict (earlier l : List Asked) : Type 0 where
@@ -211,7 +234,7 @@ plan-judged : (s : List ℕ) {p : Plan} {next : ℕ} → readAny s ≡ found p n
 unfolding readPlan
 plan-judged s e = rw e
 
-module _ (o : List ℕ) (y : Bytes o) where
+module _ (o : List ℕ) where
   module _ {p : Plan} {q : ℕ} (e : readAny (shortened o) ≡ found p q) where
     -- something follows the plan
     followed : ltb (lastPlace o) (length o) ≡ true → readAny o ≡ refused 9 (lastPlace o) → Verdict [] (asked p) → original o (readPlan (shortened o)) ≡ readPlan o
@@ -225,7 +248,7 @@ module _ (o : List ℕ) (y : Bytes o) where
     alone h x (fine f) = rw (plan-judged (shortened o) e ∙ f _, h) (sym (plan-judged o x ∙ f _))
     alone h x (differs a m f) =
         let s : shortened o ≡ spelling p = any-is-spelled (shortened o) (spell-bytes _) e in
-        rw (plan-judged (shortened o) e ∙ f _, h) (ap (refused 21) (count-stays o y x s m) ∙ sym (plan-judged o x ∙ f _))
+        rw (plan-judged (shortened o) e ∙ f _, h) (ap (refused 21) (count-stays o x s m) ∙ sym (plan-judged o x ∙ f _))
 
     by-last : (b : Bool) → ltb (lastPlace o) (length o) ≡ b → original o (found p q) ≡ readAny o → original o (readPlan (shortened o)) ≡ readPlan o
     unfolding original
@@ -243,15 +266,15 @@ pub data PlainKept (o : List ℕ) : Type 0 where
   three : (place : ℕ) → readPlan o ≡ refused 3 place → PlainKept o
   keeps : readPadded o ≡ readPlan o → PlainKept o
 
-by-ends : (o : List ℕ) → Bytes o → (x z : Found Plan) → readAny o ≡ x → readAny (shortened o) ≡ z → readPadded o ≡ original o (readPlan (shortened o)) → Ends o x z
+by-ends : (o : List ℕ) (x z : Found Plan) → readAny o ≡ x → readAny (shortened o) ≡ z → readPadded o ≡ original o (readPlan (shortened o)) → Ends o x z
     → PlainKept o
-by-ends o y _ _ e g f (alike.three {place}) = three place (plan-refused o e)
-by-ends o y x z e g f (alike.alike i) = keeps (f ∙ by-found o y z g (i ∙ sym e))
+by-ends o _ _ e g f (alike.three {place}) = three place (plan-refused o e)
+by-ends o x z e g f (alike.alike i) = keeps (f ∙ by-found o z g (i ∙ sym e))
 
-pub plain-kept : (o : List ℕ) → Bytes o → PlainKept o
+pub plain-kept : (o : List ℕ) → PlainKept o
 unfolding readPadded readPlan readAny
-plain-kept o y =
+plain-kept o =
     elim (decLt 4096 (length o)) [
       | yes l ↦ keeps (rw (lt-ltb 4096 (length o) l))
-      | no l ↦ by-ends o y (readAny o) (readAny (shortened o)) refl refl (rw (le-ltb 4096 (length o) (omega (arith, l)))) (any-ends o (omega (arith, l)))
+      | no l ↦ by-ends o (readAny o) (readAny (shortened o)) refl refl (rw (le-ltb 4096 (length o) (omega (arith, l)))) (any-ends o (omega (arith, l)))
     ]

@@ -54,16 +54,16 @@ pub cut-is-difference : (s : List ℕ) {p : Plan} {next : ℕ} → readPadded s 
 cut-is-difference s e = whole-cut (mended s e)
 
 -- A plan that mends and was refused before was refused with 3.
-pub refused-before : (s : List ℕ) {p : Plan} {next number place : ℕ} → Bytes s → readPadded s ≡ found p next → readPlan s ≡ refused number place → number ≡ 3
-refused-before s {p} {next} {number} {place} y e f = by-kept (plain-kept s y)
+pub refused-before : (s : List ℕ) {p : Plan} {next number place : ℕ} → readPadded s ≡ found p next → readPlan s ≡ refused number place → number ≡ 3
+refused-before s {p} {next} {number} {place} e f = by-kept (plain-kept s)
   where
     by-kept : PlainKept s → number ≡ 3
     by-kept (three q g) = let z : _≡_ {A = Found Plan} (refused 3 q) (refused number place) = sym g ∙ f in cc
     by-kept (keeps g) = no-plan (sym f ∙ sym g ∙ e)
 
 -- "every other trouble keeps its own number and place in the original": whatever plain reading refuses, but not with 3.
-pub other-trouble : (s : List ℕ) {number place : ℕ} → Bytes s → readPlan s ≡ refused number place → (number ≡ 3 → ⊥) → readPadded s ≡ refused number place
-other-trouble s {number} {place} y f n = by-kept (plain-kept s y)
+pub other-trouble : (s : List ℕ) {number place : ℕ} → readPlan s ≡ refused number place → (number ≡ 3 → ⊥) → readPadded s ≡ refused number place
+other-trouble s {number} {place} f n = by-kept (plain-kept s)
   where
     by-kept : PlainKept s → readPadded s ≡ refused number place
     by-kept (three q g) = let z : _≡_ {A = Found Plan} (refused 3 q) (refused number place) = sym g ∙ f in absurd (n cc)
@@ -78,7 +78,7 @@ pub record Identical (s : List ℕ) (p : Plan) : Type 0 where
 pub accepted-identical : (s : List ℕ) {p : Plan} {next : ℕ} → Bytes s → readPlan s ≡ found p next → Identical s p
 accepted-identical s {p} {next} y f =
     let b = sym (accepted-is-spelled s y f) in
-    let r = by-kept (plain-kept s y) in
+    let r = by-kept (plain-kept s) in
     record { read = r; bytes = b; uncut = omega (arith, cut-is-difference s r, ap length b) }
   where
     by-kept : PlainKept s → readPadded s ≡ found p (length s)

@@ -41,7 +41,7 @@ unfolding cutFrom
 cut-none zero s at h = refl
 cut-none (suc left) s at h = no-more 0 _ h
 
-cut-some : (left : ℕ) (s : List ℕ) (at : ℕ) {v next : ℕ} → paddedAt s at ≡ Value v next
+pub cut-some : (left : ℕ) (s : List ℕ) (at : ℕ) {v next : ℕ} → paddedAt s at ≡ Value v next
     → cutFrom (suc left) s at ≡ next - at - length (shortest v) + cutFrom left s next
 unfolding cutFrom
 cut-some left s at e = rw e
