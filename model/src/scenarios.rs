@@ -1,12 +1,14 @@
-//! The scenarios of data/scenarios.txt and data/held.txt: calls on one engine from a fresh state, each with its answer.
+//! The scenarios of data/scenarios.txt, data/held.txt and data/hand.txt: calls on one engine from a fresh state, each with its answer.
 
 use crate::engine::{self, Taken};
+use crate::reader;
 use crate::state::{Message, State, Tally};
 use crate::vectors;
 
 /// The files, taken in when this package is built.
 pub const TEXT: &str = include_str!("../../data/scenarios.txt");
 pub const HELD: &str = include_str!("../../data/held.txt");
+pub const HAND: &str = include_str!("../../data/hand.txt");
 
 /// What a file came to: its scenarios and lines, each line whose answer differs, and the state at the end.
 pub struct Played {
@@ -25,6 +27,7 @@ pub fn play(text: &str) -> Played {
         state: State::without_plan(),
     };
     let mut tally = Tally::default();
+    let mut plan = Vec::new();
     for (at, line) in text.lines().enumerate() {
         if line.starts_with("# scenario") {
             played.scenarios += 1;
@@ -36,7 +39,7 @@ pub fn play(text: &str) -> Played {
         let (call, expected) = line.split_once('=').expect("an answer behind '='");
         let expected = expected.trim();
         let words: Vec<&str> = call.split_whitespace().collect();
-        let answer = call_of(&words, &mut played.state, &mut tally);
+        let answer = call_of(&words, &mut plan, &mut played.state, &mut tally);
         if answer != expected {
             played.wrong.push(format!(
                 "line {}: {} = {answer}, not {expected}",
@@ -59,19 +62,27 @@ fn written(message: &Message) -> String {
     joined(head.iter().chain(values))
 }
 
-/// Makes the call that the words spell. Answers what stands behind '='.
-fn call_of(words: &[&str], state: &mut State, tally: &mut Tally) -> String {
+/// Makes the call that the words spell; `plan` are the bytes of the last plan. Answers what stands behind '='.
+fn call_of(words: &[&str], plan: &mut Vec<u8>, state: &mut State, tally: &mut Tally) -> String {
     let number = |at: usize| words[at].parse::<u64>().expect("a number");
     match words[0] {
         "plan" => {
             *tally = Tally::default();
-            let loaded = engine::load(&vectors::bytes(words[1]).expect("a plan"));
+            *plan = vectors::bytes(words[1]).expect("a plan");
+            let loaded = engine::load(plan);
             *state = loaded.clone().unwrap_or_else(|_| State::without_plan());
             match loaded {
                 Ok(state) => format!("0 {}", state.passes().expect("an accepted plan").count()),
                 Err(refusal) => format!("{} {}", refusal.number, refusal.place),
             }
         }
+        "show" => match reader::read(plan) {
+            Err(refusal) => refusal.number.to_string(),
+            Ok(read) => match read.parts.get(number(1) as usize) {
+                Some(part) => format!("0 {}", vectors::hex(&plan[part.start as usize..part.end as usize])),
+                None => "16".to_string(),
+            },
+        },
         "post" => {
             let mut values = [0; 4];
             for at in 3..words.len().min(7) {
