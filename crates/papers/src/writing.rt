@@ -1,5 +1,6 @@
 // A plan as text: the crate sheet makes rows of it, the crate writer bytes. And the names that it declares, which stay as long as its plan does.
 use super::Desk;
+use super::disagreeing::put_disagreeing;
 use super::files::copied;
 use super::plans::fresh;
 use super::reasons::put_why;
@@ -53,7 +54,7 @@ pub(crate) fn forget(before: State, bytes: &[u8; 8000], length: usize, names: &m
 }
 
 // The number of a line of the text, where the write is line `number`.
-fn line_after(number: u64, line: u64) -> u64 {
+pub(crate) fn line_after(number: u64, line: u64) -> u64 {
     if number < 9223372036854775808 {
         if line < 4294967296 {
             return number + line;
@@ -142,6 +143,10 @@ fn write_rows(
             number: refusal,
             place,
         } => {
+            if refusal == 21 {
+                let used = put_disagreeing(text, number, rows, lines, place, out, desk.used);
+                return shown(desk, used);
+            }
             let line = line_after(number, line_of(lines, place));
             let used = put_pair(out, desk.used, b"write", wide(refusal), line);
             shown(desk, used)
