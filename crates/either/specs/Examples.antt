@@ -16,7 +16,7 @@ use Rattle.machine.specs.State.{noMessage, letters, withMessages, noTally}
 use Rattle.machine.specs.Fit.{Doing, noStep, sends, takes, moves, cuts, closes}
 use Rattle.machine.specs.Limits.{planIn, by}
 use Rattle.machine.specs.Offer.{Offer, offersOf}
-use Rattle.machine.specs.Calls.{doingAt, loaded, post, collect, preview, step, Call, posting, collecting, stepping}
+use Rattle.machine.specs.Calls.{doingAt, loaded, post, collect, dropAt, preview, step, Call, posting, collecting, dropping, stepping}
 use Rattle.machine.specs.Computing.{computing}
 use Rattle.either.specs.Independent.{independentAt, isTake, ofDifferentOrders}
 
@@ -25,6 +25,7 @@ unfoldable pub reached : List Call → State → State
 reached [] s = s
 reached (posting m ∷ l) s = reached l (post m s .state)
 reached (collecting ∷ l) s = reached l (collect s .state)
+reached (dropping i ∷ l) s = reached l (dropAt i s .state)
 reached (stepping c ∷ l) s = reached l (step c s noTally .state)
 
 abbrev pub holding : (partner operation : ℕ) → List ℕ → Message

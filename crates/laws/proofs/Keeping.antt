@@ -1,4 +1,4 @@
--- A state that passes 17 passes it after every call, and keeps its plan: what is posted, collected, and a step. Assumes nothing.
+-- A state that passes 17 passes it after every call, and keeps its plan: what is posted, collected or dropped, and a step. Assumes nothing.
 use mathlib.Core.Path.{_≡_, refl, sym, ap, _∙_, subst}
 use mathlib.Core.Bool.{Bool, true, false, cond, not, _&&_, _||_}
 use mathlib.Core.List.{List, [], _∷_, _++_}
@@ -31,7 +31,7 @@ use Rattle.machine.specs.declared.State.{State}
 use Rattle.machine.specs.declared.Tally.{Tally}
 use Rattle.machine.specs.declared.Posted.{Posted}
 use Rattle.machine.specs.declared.Collected.{Collected}
-use Rattle.machine.specs.Calls.{Stepped, doingAt, valuesOf, messagesAfter, orderTaking, stepped, taken, stepChosen, stepBy, step, choosing, Chosen, chosen, refusedChoice, refusing, nth, trimmed, postBy, post, collectBy, collect, load, foreign, partnersOf, countStart}
+use Rattle.machine.specs.Calls.{Stepped, doingAt, valuesOf, messagesAfter, orderTaking, stepped, taken, stepChosen, stepBy, step, choosing, Chosen, chosen, refusedChoice, refusing, nth, trimmed, postBy, post, handing, dropAt, collectBy, collect, load, foreign, partnersOf, countStart}
 use Rattle.machine.specs.Fit.{Doing, noStep, sends, takes, moves, cuts, closes, doingOf}
 use Rattle.machine.specs.Limits.{exchanged, messageInLimits, orderInLimits, inLimits, planIn, by}
 use Rattle.machine.specs.Offer.{Offer, Offers, sendHeld, offersOf}
@@ -336,16 +336,22 @@ module _ {p : Plan} {next : ℕ} {s : State} (f : Planned p next s) where
       ruled true e false g =
           plan-again (f .is) (add-passes (trimmed m) (leb-false 64 (s .waiting) g) (trimmed-limits m l e) (plan-passes f)) (record { plan = refl; length = refl })
 
+  handing-keeps : (i : ℕ) → Planned p next (handing i s .state)
+  unfolding handing
+  handing-keeps i = waits (ltb i (s .waiting)) refl
+    where
+      waits : (b : Bool) → ltb i (s .waiting) ≡ b
+          → CollectedPlan p next (cond b (record { refusal = 0; message = getD (s .messages) i noMessage; state = removing i s }) (record { refusal = 15; message = noMessage; state = s }))
+      waits true e = plan-again (f .is) (remove-passes i (ltb-true _ _ e) (plan-passes f)) (record { plan = refl; length = refl })
+      waits false e = f
+
   pub collect-keeps : Planned p next (collect s .state)
   unfolding collect collectBy
-  collect-keeps = rw (f .is) (found-at (ltb (foreign (partnersOf p) 0 (letters s)) (s .waiting)) refl)
-    where
-      found-at : (b : Bool) → ltb (foreign (partnersOf p) 0 (letters s)) (s .waiting) ≡ b
-          → CollectedPlan p next (cond b (record { refusal = 0; message = getD (s .messages) (foreign (partnersOf p) 0 (letters s)) noMessage; state = removing (foreign (partnersOf p) 0 (letters s)) s })
-          (record { refusal = 15; message = noMessage; state = s }))
-      found-at true e =
-          plan-again (f .is) (remove-passes (foreign (partnersOf p) 0 (letters s)) (ltb-true _ _ e) (plan-passes f)) (record { plan = refl; length = refl })
-      found-at false e = f
+  collect-keeps = rw (f .is) (handing-keeps (foreign (partnersOf p) 0 (letters s)))
+
+  pub drop-keeps : (i : ℕ) → Planned p next (dropAt i s .state)
+  unfolding dropAt
+  drop-keeps i = rw (f .is) (handing-keeps i)
 
 -- a state as it is loaded
 pub load-plans : (l : List ℕ) {p : Plan} {next : ℕ} → readPlan l ≡ found p next → Planned p next (load l .state)

@@ -23,17 +23,17 @@ use Rattle.machine.specs.declared.Collected.{Collected}
 use Rattle.machine.specs.declared.State.{State}
 use Rattle.machine.specs.declared.Step.{Step}
 use Rattle.machine.specs.declared.Tally.{Tally}
-use Rattle.machine.specs.Calls.{postBy, post, collectBy, collect, foreign, partnersOf, trimmed, Chosen, refusedChoice, chosen, nth, choosing, refusing, answering, doingAt, valuesOf, messagesAfter, countStart, Stepped, stepped, taken, stepChosen, stepBy, step, Ran, oneMore, ranOn, runBy, run}
+use Rattle.machine.specs.Calls.{postBy, post, handing, collectBy, collect, dropAt, foreign, partnersOf, trimmed, Chosen, refusedChoice, chosen, nth, choosing, refusing, answering, doingAt, valuesOf, messagesAfter, countStart, Stepped, stepped, taken, stepChosen, stepBy, step, Ran, oneMore, ranOn, runBy, run}
 use Rattle.machine.specs.Fit.{Doing, noStep, sends, takes, moves, cuts, closes, liveFrom, isChecked, agrees, fits, unchecked, fittings}
 use Rattle.machine.specs.Limits.{exchanged, planIn, by}
 use Rattle.machine.specs.Offer.{Offer, Offers, offering, offersOf}
 use Rattle.machine.specs.Planned.{Planned}
 use Rattle.machine.specs.State.{noMessage, letters, adding, removing, withOrder}
 use Rattle.laws.specs.Good.{Allowed, Heeds, actor}
-use Rattle.laws.specs.Promises.{OfferedIsTaken, TakenIsOffered, TakenInFull, TakenByFewest, StartsWhereNoneFits, RefusedPost, RefusedCollect, RefusedStep, walked, RunAsLastStep, Reached, loading, posting, collecting, stepping, running, Never17, lettersAfter, LettersMove}
+use Rattle.laws.specs.Promises.{OfferedIsTaken, TakenIsOffered, TakenInFull, TakenByFewest, StartsWhereNoneFits, RefusedPost, RefusedCollect, RefusedDrop, RefusedStep, walked, RunAsLastStep, Reached, loading, posting, collecting, dropping, stepping, running, Never17, lettersAfter, LettersMove}
 use Rattle.machine.proofs.Called.{plan-found}
 use Rattle.laws.proofs.Doing.{send-room}
-use Rattle.laws.proofs.Keeping.{passes, step-keeps, post-keeps, collect-keeps, load-plans}
+use Rattle.laws.proofs.Keeping.{passes, step-keeps, post-keeps, collect-keeps, drop-keeps, load-plans}
 use Rattle.laws.proofs.Offering.{pick-true, pick-false, chosen-fine}
 
 -- the entry with a count, or none
@@ -196,19 +196,29 @@ refused-post m s = go (planIn s)
     go (refused n k) f = refl
     go (found p n) f = ruled (exchanged (m .partner) (m .operation) (m .count)) (leb 64 (s .waiting)) f
 
+refused-handing : (i : ℕ) (s : State) → (handing i s .refusal ≡ 0 → ⊥) → handing i s .state ≡ s
+unfolding handing
+refused-handing i s = test (ltb i (s .waiting))
+  where
+    test : (b : Bool) → let r : Collected = cond b (record { refusal = 0; message = getD (s .messages) i noMessage; state = removing i s }) (record { refusal = 15; message = noMessage; state = s }) in
+        (r .refusal ≡ 0 → ⊥) → r .state ≡ s
+    test true f = absurd (f refl)
+    test false f = refl
+
+-- a message handed out by its place, where the place hangs on the plan or not
+refused-handed : (place : Plan → ℕ) (s : State) (g : Found Plan)
+    → (by {A = Collected} (record { refusal = 17; message = noMessage; state = s }) (λ p. handing (place p) s) g .refusal ≡ 0 → ⊥)
+    → by {A = Collected} (record { refusal = 17; message = noMessage; state = s }) (λ p. handing (place p) s) g .state ≡ s
+refused-handed place s (refused n k) f = refl
+refused-handed place s (found p n) f = refused-handing (place p) s f
+
 pub refused-collect : RefusedCollect
 unfolding RefusedCollect collect collectBy
-refused-collect s = go (planIn s)
-  where
-    test : (i : ℕ) (b : Bool) → let r : Collected = cond b (record { refusal = 0; message = getD (s .messages) i noMessage; state = removing i s }) (record { refusal = 15; message = noMessage; state = s }) in
-        (r .refusal ≡ 0 → ⊥) → r .state ≡ s
-    test i true f = absurd (f refl)
-    test i false f = refl
+refused-collect s = refused-handed (λ p. foreign (partnersOf p) 0 (letters s)) s (planIn s)
 
-    go : (g : Found Plan) → (by {A = Collected} (record { refusal = 17; message = noMessage; state = s }) (λ p. collectBy p s) g .refusal ≡ 0 → ⊥)
-        → by {A = Collected} (record { refusal = 17; message = noMessage; state = s }) (λ p. collectBy p s) g .state ≡ s
-    go (refused n k) f = refl
-    go (found p n) f = let i = foreign (partnersOf p) 0 (letters s) in test i (ltb i (s .waiting)) f
+pub refused-drop : RefusedDrop
+unfolding RefusedDrop dropAt
+refused-drop i s = refused-handed (λ p. i) s (planIn s)
 
 pub refused-step : RefusedStep
 unfolding RefusedStep step stepBy stepChosen
@@ -262,6 +272,7 @@ unfolding RunAsLastStep
 reached-plan (loading l e) = load-plans l e
 reached-plan (posting m l r) = post-keeps (reached-plan r) m l
 reached-plan (collecting r) = collect-keeps (reached-plan r)
+reached-plan (dropping i r) = drop-keeps (reached-plan r) i
 reached-plan (stepping c t r) = step-keeps (reached-plan r) c t
 reached-plan (running {s} cs b t r) = rw (run-as-last-step cs b s t .0) (walked-keeps (take (run cs b s t .taken) cs) s t (reached-plan r))
 

@@ -12,7 +12,7 @@ use Rattle.order.specs.Lists.{every}
 use Rattle.order.specs.State.{noOrder, marked, withRoot}
 use Rattle.machine.specs.State.{noMessage, fresh, unplanned, noTally, withOrder, withMessages, adding}
 use Rattle.machine.specs.Limits.{inLimits}
-use Rattle.machine.specs.Calls.{post, collect, preview, step, run}
+use Rattle.machine.specs.Calls.{post, collect, dropAt, preview, step, run}
 use Rattle.machine.specs.Computing.{computing}
 
 -- document 01's plan A, and a message that starts an order of it
@@ -90,7 +90,8 @@ refuses : State → Bool
 refuses s =
     eqb (post (letter 3 5 1 (7 ∷ 0 ∷ 0 ∷ 0 ∷ [])) s .refusal) 17
     && (eqb (collect s .refusal) 17
-    && (eqb (preview 0 s .refusal) 17 && (eqb (step 0 s noTally .answer .refusal) 17 && eqb (run [] 0 s noTally .refusal) 17)))
+    && (eqb (dropAt 0 s .refusal) 17
+    && (eqb (preview 0 s .refusal) 17 && (eqb (step 0 s noTally .answer .refusal) 17 && eqb (run [] 0 s noTally .refusal) 17))))
 
 allRefused : every refuses wrong ≡ true
 unfolding computing planA wrong refuses

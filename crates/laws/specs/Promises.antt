@@ -16,7 +16,7 @@ use Rattle.order.specs.State.{isLive, isBound, valueOf, noOrder}
 use Rattle.machine.specs.declared.Message.{Message}
 use Rattle.machine.specs.declared.State.{State}
 use Rattle.machine.specs.declared.Tally.{Tally}
-use Rattle.machine.specs.Calls.{load, post, collect, choosing, chosen, answering, doingAt, valuesOf, Stepped, step, run}
+use Rattle.machine.specs.Calls.{load, post, collect, dropAt, choosing, chosen, answering, doingAt, valuesOf, Stepped, step, run}
 use Rattle.machine.specs.Fit.{Doing, noStep, sends, takes, moves, cuts, closes, liveFrom, fits, unchecked, fittings}
 use Rattle.machine.specs.Limits.{planIn}
 use Rattle.machine.specs.Offer.{Offer, offering, offersOf}
@@ -69,6 +69,9 @@ RefusedPost = (m : Message) (s : State) → (post m s .refusal ≡ 0 → ⊥) �
 unfoldable pub RefusedCollect : Type 0
 RefusedCollect = (s : State) → (collect s .refusal ≡ 0 → ⊥) → collect s .state ≡ s
 
+unfoldable pub RefusedDrop : Type 0
+RefusedDrop = (place : ℕ) (s : State) → (dropAt place s .refusal ≡ 0 → ⊥) → dropAt place s .state ≡ s
+
 unfoldable pub RefusedStep : Type 0
 RefusedStep = (c : ℕ) (s : State) (t : Tally) → (step c s t .answer .refusal ≡ 0 → ⊥) → (step c s t .state ≡ s) × (step c s t .tally ≡ t)
 
@@ -89,6 +92,7 @@ pub data Reached (p : Plan) (next : ℕ) : State → Type 0 where
   loading : (bytes : List ℕ) → readPlan bytes ≡ found p next → Reached p next (load bytes .state)
   posting : {s : State} (m : Message) → length (m .values) ≡ 4 → Reached p next s → Reached p next (post m s .state)
   collecting : {s : State} → Reached p next s → Reached p next (collect s .state)
+  dropping : {s : State} (place : ℕ) → Reached p next s → Reached p next (dropAt place s .state)
   stepping : {s : State} (c : ℕ) (t : Tally) → Reached p next s → Reached p next (step c s t .state)
   running : {s : State} (cs : List ℕ) (budget : ℕ) (t : Tally) → Reached p next s → Reached p next (run cs budget s t .state)
 

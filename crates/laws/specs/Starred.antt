@@ -18,7 +18,7 @@ use Rattle.machine.specs.declared.Step.{Step}
 use Rattle.machine.specs.declared.Tally.{Tally}
 use Rattle.order.specs.Lists.{every, each, alike, stored}
 use Rattle.machine.specs.State.{letters, noTally}
-use Rattle.machine.specs.Calls.{endNumber, loaded, post, collect, Stepped, step, Call, posting, collecting, stepping}
+use Rattle.machine.specs.Calls.{endNumber, loaded, post, collect, dropAt, Stepped, step, Call, posting, collecting, dropping, stepping}
 use Rattle.machine.specs.Computing.{computing}
 
 -- A run: the bytes of a plan, calls on a fresh state of it, all that they answer in turn (a refusal, or 0 and the values), the messages that wait
@@ -65,6 +65,8 @@ answer (posting m ∷ l) answers waiting tally told s t =
     let r = post m s in answer l answers waiting tally (told ++ (r .refusal ∷ [])) (r .state) t
 answer (collecting ∷ l) answers waiting tally told s t =
     let r = collect s in answer l answers waiting tally (told ++ (r .refusal ∷ ofMessage (r .message))) (r .state) t
+answer (dropping i ∷ l) answers waiting tally told s t =
+    let r = dropAt i s in answer l answers waiting tally (told ++ (r .refusal ∷ ofMessage (r .message))) (r .state) t
 answer (stepping c ∷ l) answers waiting tally told s t =
     let r = step c s t in answer l answers waiting tally (told ++ ofStep (r .answer)) (r .state) (r .tally)
 

@@ -24,7 +24,7 @@ use Rattle.machine.specs.declared.Collected.{Collected}
 use Rattle.machine.specs.Heard.{Heard}
 use Rattle.machine.specs.Limits.{inLimits, planIn, by}
 use Rattle.machine.specs.State.{noMessage, fresh, unplanned}
-use Rattle.machine.specs.Calls.{load, loadedAs, postBy, post, partnersOf, collectBy, collect}
+use Rattle.machine.specs.Calls.{load, loadedAs, postBy, post, partnersOf, handing, collectBy, collect, dropAt}
 use Rattle.machine.proofs.Partners.{accepted-heard}
 
 -- what was found, where the answer is known
@@ -126,6 +126,17 @@ module _ (m : Message) (s : State) {a : Answer} (e : a ≡ answerOf (planIn s)) 
   pub post-planned : {v k n : ℕ} {r : Posted} → a ≡ Accepted v k n → ((p : Plan) → r ≡ postBy p m s) → r ≡ post m s
   unfolding post
   post-planned o f = let g = answer-got (planIn s) e o in rw (g .is) (f (g .plan))
+
+-- `drop_at`
+module _ (i : ℕ) (s : State) {a : Answer} (e : a ≡ answerOf (planIn s)) where
+  pub drop-unplanned : {number place : ℕ} {m : Message} → a ≡ Answer.Refused number place → m ≡ noMessage
+      → _≡_ {A = Collected} (record { refusal = 17; message = m; state = s }) (dropAt i s)
+  unfolding dropAt
+  drop-unplanned o q = rw (answer-no (planIn s) e o, q)
+
+  pub drop-planned : {v k n : ℕ} {r : Collected} → a ≡ Accepted v k n → r ≡ handing i s → r ≡ dropAt i s
+  unfolding dropAt
+  drop-planned o f = rw (answer-got (planIn s) e o .is) f
 
 -- `collect`
 module _ (s : State) {a : Answer} (e : a ≡ answerOf (planIn s)) where

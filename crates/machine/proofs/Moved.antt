@@ -20,7 +20,7 @@ use Rattle.machine.specs.Heard.{Heard}
 use Rattle.order.specs.Lists.{every}
 use Rattle.machine.specs.State.{noMessage, withMessages, adding, removing, letters}
 use Rattle.machine.specs.Limits.{exchanged, messageInLimits, orderInLimits, inLimits}
-use Rattle.machine.specs.Calls.{trimmed, postBy, partnersOf, foreign, collectBy}
+use Rattle.machine.specs.Calls.{trimmed, postBy, partnersOf, foreign, handing, collectBy}
 use Rattle.machine.specs.Planned.{addedTo, takenFrom, Adds, Removes}
 
 -- A gap at k is closed in a list of 64: its elements up to i are those of the list without the one at k, and those from i on are where they were.
@@ -213,16 +213,23 @@ pub letter-there : (l : List Message) (i : ℕ) → i < 64 → length l ≡ 64
     → getD l i (record { partner = 0; operation = 0; count = 0; values = [] }) ≡ getD l i noMessage
 letter-there l i h e = same-there l i _ noMessage (omega arith)
 
-module _ (t : List ℕ) (s : State) {i : ℕ} (f : (ps : List ℕ) → Heard t ps → i ≡ foreign ps 0 (take (s .waiting) (s .messages))) where
-  pub collect-none : {m : Message} → s .waiting ≤ i → m ≡ noMessage → (p : Plan) → Heard t (partnersOf p)
-      → _≡_ {A = Collected} (record { refusal = 15; message = m; state = s }) (collectBy p s)
-  unfolding collectBy
-  collect-none h q p x = rw (sym (f (partnersOf p) x), le-ltb _ _ h, q)
+-- `handed`
+module _ (s : State) (i : ℕ) where
+  pub handed-none : {m : Message} → s .waiting ≤ i → m ≡ noMessage
+      → _≡_ {A = Collected} (record { refusal = 15; message = m; state = s }) (handing i s)
+  unfolding handing
+  handed-none h q = rw (le-ltb _ _ h, q)
 
-  pub collect-one : {m : Message} {u : State} → i < s .waiting → m ≡ getD (s .messages) i noMessage → u ≡ removing i s
-      → (p : Plan) → Heard t (partnersOf p) → _≡_ {A = Collected} (record { refusal = 0; message = m; state = u }) (collectBy p s)
-  unfolding collectBy
-  collect-one h z q p x = rw (sym (f (partnersOf p) x), lt-ltb _ _ h, q, z)
+  pub handed-one : {m : Message} {u : State} → i < s .waiting → m ≡ getD (s .messages) i noMessage → u ≡ removing i s
+      → _≡_ {A = Collected} (record { refusal = 0; message = m; state = u }) (handing i s)
+  unfolding handing
+  handed-one h z q = rw (lt-ltb _ _ h, q, z)
+
+-- `collect_by`
+pub collect-handed : (t : List ℕ) (s : State) {i : ℕ} {r : Collected} → ((ps : List ℕ) → Heard t ps → i ≡ foreign ps 0 (take (s .waiting) (s .messages)))
+    → r ≡ handing i s → (p : Plan) → Heard t (partnersOf p) → r ≡ collectBy p s
+unfolding collectBy
+collect-handed t s f e p x = rw (sym (f (partnersOf p) x)) e
 
 -- the messages of a state are put back as they are
 pub kept-mail : (s : State) {l : List Message} {n : ℕ} → s .messages ≡ l → s .waiting ≡ n → withMessages l n s ≡ s

@@ -1,4 +1,4 @@
--- The calls on a state: post, collect, the offer shown, step and run, each with its refusals in order. Assumes nothing: these are definitions.
+-- The calls on a state: post, collect, drop, the offer shown, step and run, each with its refusals in order. Assumes nothing: these are definitions.
 use Prim.Native.Nat.{ℕ, zero, suc, _+_, _-_}
 use mathlib.Core.Bool.{Bool, true, false, cond, not, _&&_, _||_}
 use mathlib.Core.List.{List, [], _∷_, _++_}
@@ -79,16 +79,23 @@ unfoldable pub foreign : List ℕ → (i : ℕ) → List Message → ℕ
 foreign ps i [] = i
 foreign ps i (m ∷ l) = cond (among (m .partner) ps) (foreign ps (i + 1) l) i
 
--- Collect: the refusal or 0, the message handed out (one with no values where it is refused), and the state. "Collect hands out the oldest
--- such message." 15: "no message for a partner the plan never receives on"
-unfoldable pub collectBy : Plan → State → Collected
-collectBy p s =
-    let i = foreign (partnersOf p) 0 (letters s) in
+-- The message at a place is handed out, and waits no more: the refusal or 0, the message (one with no values where it is refused), and the state. 15:
+-- no message waits at that place
+unfoldable pub handing : (place : ℕ) → State → Collected
+handing i s =
     cond (ltb i (s .waiting)) (record { refusal = 0; message = getD (s .messages) i noMessage; state = removing i s })
     (record { refusal = 15; message = noMessage; state = s })
 
+-- Collect: "Collect hands out the oldest such message." 15: "no message for a partner the plan never receives on"
+unfoldable pub collectBy : Plan → State → Collected
+collectBy p s = handing (foreign (partnersOf p) 0 (letters s)) s
+
 unfoldable pub collect : State → Collected
 collect s = by (record { refusal = 17; message = noMessage; state = s }) (λ p. collectBy p s) (planIn s)
+
+-- Drop, no call of document 01: any message that waits is handed out, by its place, so that one that nothing will ever take does not stay for good
+unfoldable pub dropAt : (place : ℕ) → State → Collected
+dropAt i s = by (record { refusal = 17; message = noMessage; state = s }) (λ p. handing i s) (planIn s)
 
 -- a step's answer where it is refused; where an offer is shown
 abbrev pub refusing : ℕ → Step
@@ -256,4 +263,5 @@ run cs budget s t =
 pub data Call : Type 0 where
   posting : Message → Call
   collecting : Call
+  dropping : (place : ℕ) → Call
   stepping : (choice : ℕ) → Call

@@ -17,8 +17,8 @@ use Rattle.order.specs.Scope.{directly, rememberedFor, forgetting, closing, inn
 use Rattle.order.specs.Acting.{repeats, itself, isPart, arms, goesOn, joins, inScope, combines, stepIn, stepRoot, endOf, movedTo, stepOrder, begunOrder, startedOrder}
 use Rattle.machine.specs.Fit.{doingOf, awaits, readyIn, readyOf, liveFrom, agrees, fits, unchecked, fitting, fittings, lettersFrom, mayTake}
 use Rattle.machine.specs.Offer.{allOf, eager, stepOffers, orderOffers, startOf, startsOf, freeFrom, startOffers, offersOf}
-use Rattle.machine.specs.Calls.{load, postBy, post, partnerOf, partnersIn, partnersOf, foreign, collectBy, collect, endNumber, nth, choosing, previewBy, preview, countEnd, doingIn, doingAt, valuesOf, messagesAfter, orderTaking, stepped, taken, stepChosen, stepBy, step, runBy, run}
+use Rattle.machine.specs.Calls.{load, postBy, post, partnerOf, partnersIn, partnersOf, foreign, handing, collectBy, collect, dropAt, endNumber, nth, choosing, previewBy, preview, countEnd, doingIn, doingAt, valuesOf, messagesAfter, orderTaking, stepped, taken, stepChosen, stepBy, step, runBy, run}
 
 unfoldable pub computing : Unit {0}
-unfolding lastGroup groups numberAt numberIn fieldIn among kind size count expressionCodeIn leafIn expressionIn variablesIn tupleIn exchangeIn armIn partnerIn withExpressionIn setIn listIn codeIn partsIn headIn manyIn readArm readAct starts startForm correlationIn versionIn rootIn readAny inBytes askedOwn spanOf spanAll askedIn askedAll asked agreesWith judged spelled shortest spell operationCode expressionNumbers exchangeNumbers ownNumbers readPlan every some only each alike withoutFirst noOrder noMessage fresh exchanged messageInLimits rootInLimits orderInLimits inLimits planIn applied evaluate begin beginAfter part partAt beginPart cleared quiet directly rememberedFor forgetting closing innerRuns beginUndo startUndo undo handle undoes turns withdraws stop faults breaks looksAgain bodyOver bodyRaised undoOver undoRaised fromBody partOver partRaised fromFault fromUndo repeats itself isPart arms goesOn joins inScope combines stepIn stepRoot endOf movedTo stepOrder begunOrder startedOrder doingOf awaits readyIn readyOf liveFrom agrees fits unchecked fitting fittings lettersFrom mayTake allOf eager stepOffers orderOffers startOf startsOf freeFrom startOffers offersOf load postBy post partnerOf partnersIn partnersOf foreign collectBy collect endNumber nth choosing previewBy preview countEnd doingIn doingAt bindAll valuesOf messagesAfter orderTaking stepped taken stepChosen stepBy step runBy run
+unfolding lastGroup groups numberAt numberIn fieldIn among kind size count expressionCodeIn leafIn expressionIn variablesIn tupleIn exchangeIn armIn partnerIn withExpressionIn setIn listIn codeIn partsIn headIn manyIn readArm readAct starts startForm correlationIn versionIn rootIn readAny inBytes askedOwn spanOf spanAll askedIn askedAll asked agreesWith judged spelled shortest spell operationCode expressionNumbers exchangeNumbers ownNumbers readPlan every some only each alike withoutFirst noOrder noMessage fresh exchanged messageInLimits rootInLimits orderInLimits inLimits planIn applied evaluate begin beginAfter part partAt beginPart cleared quiet directly rememberedFor forgetting closing innerRuns beginUndo startUndo undo handle undoes turns withdraws stop faults breaks looksAgain bodyOver bodyRaised undoOver undoRaised fromBody partOver partRaised fromFault fromUndo repeats itself isPart arms goesOn joins inScope combines stepIn stepRoot endOf movedTo stepOrder begunOrder startedOrder doingOf awaits readyIn readyOf liveFrom agrees fits unchecked fitting fittings lettersFrom mayTake allOf eager stepOffers orderOffers startOf startsOf freeFrom startOffers offersOf load postBy post partnerOf partnersIn partnersOf foreign handing collectBy collect dropAt endNumber nth choosing previewBy preview countEnd doingIn doingAt bindAll valuesOf messagesAfter orderTaking stepped taken stepChosen stepBy step runBy run
 computing = tt

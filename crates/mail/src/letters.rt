@@ -18,7 +18,7 @@ ghost use Rattle.machine.specs.Limits.{messageInLimits, inLimits};
 ghost use Rattle.order.specs.Lists.{every, stored};
 ghost use Rattle.machine.specs.State.{noMessage, adding, removing};
 ghost use Rattle.machine.specs.Planned.{Adds, Removes};
-ghost use Rattle.machine.specs.Calls.{trimmed, postBy, partnersOf, foreign, collectBy};
+ghost use Rattle.machine.specs.Calls.{trimmed, postBy, partnersOf, foreign, handing, collectBy};
 
 // The first `count` values, with zeros behind them.
 fn first_values(values: [u32; 4], count: u32) -> [u32; 4]
@@ -186,17 +186,15 @@ fn letter_at(messages: [Message; 64], place: usize) -> Message
     messages[place]
 }
 
-// The oldest message for such a partner is handed out, from a state that has the plan with this table.
-pub(crate) fn collect_by(state: State, table: &[u32; 11584]) -> Collected
+// The message at a place is handed out, where one waits there.
+pub(crate) fn handed(state: State, place: usize) -> Collected
     requires { ⌜ inLimits state ≡ true ⌝ }
-    ensures { λ r. ⌜ ((p : Plan) → Heard (now (table .entry)) (partnersOf p) → r ≡ collectBy p state) ⌝ }
+    ensures { λ r. ⌜ r ≡ handing place state ⌝ }
 {
-    let messages = state.messages;
-    let n = state.waiting;
-    let i = foreign_place(messages, n, table);
-    if i < n {
-        let m = letter_at(messages, i);
-        let s = left(state, i);
+    if place < state.waiting {
+        let messages = state.messages;
+        let m = letter_at(messages, place);
+        let s = left(state, place);
         return Collected {
             refusal: 0,
             message: m,
@@ -209,4 +207,14 @@ pub(crate) fn collect_by(state: State, table: &[u32; 11584]) -> Collected
         message: none,
         state,
     }
+}
+
+// The oldest message for such a partner is handed out, from a state that has the plan with this table.
+pub(crate) fn collect_by(state: State, table: &[u32; 11584]) -> Collected
+    requires { ⌜ inLimits state ≡ true ⌝ }
+    ensures { λ r. ⌜ ((p : Plan) → Heard (now (table .entry)) (partnersOf p) → r ≡ collectBy p state) ⌝ }
+{
+    let messages = state.messages;
+    let i = foreign_place(messages, state.waiting, table);
+    handed(state, i)
 }

@@ -1,4 +1,4 @@
-// The messages of a state, and the calls that take no step: post and collect.
+// The messages of a state, and the calls that take no step: post, collect and drop.
 pub mod letters;
 
 use machine::Collected;
@@ -55,5 +55,32 @@ pub fn collect(state: State) -> Collected
             activities: _,
             nodes: _,
         } => letters::collect_by(state, &table),
+    }
+}
+
+// Hands out any message that waits, by its place.
+pub fn drop_at(state: State, place: usize) -> Collected
+    ensures { λ r. ⌜ r ≡ calls.dropAt place state ⌝ }
+{
+    let mut table = [0u32; 11584];
+    let mut flags = [0u8; 16];
+    let a = planned(state, &mut table, &mut flags);
+    match a {
+        Answer::Refused {
+            number: _,
+            place: _,
+        } => {
+            let none = no_message();
+            Collected {
+                refusal: 17,
+                message: none,
+                state,
+            }
+        }
+        Answer::Accepted {
+            variables: _,
+            activities: _,
+            nodes: _,
+        } => letters::handed(state, place),
     }
 }

@@ -19,12 +19,12 @@ use Rattle.order.specs.Event.{Event, started}
 use Rattle.order.specs.Acting.{stepOrder, begunOrder, startedOrder}
 use Rattle.machine.specs.Limits.{planIn, by}
 use Rattle.machine.specs.Offer.{Offer, offersOf}
-use Rattle.machine.specs.Calls.{refusing, Chosen, refusedChoice, chosen, choosing, countStart, loadedAs, load, post, collect, Stepped, doingAt, messagesAfter, stepped, taken, stepChosen, stepBy, step, Call, posting, collecting, stepping}
+use Rattle.machine.specs.Calls.{refusing, Chosen, refusedChoice, chosen, choosing, countStart, loadedAs, load, post, collect, dropAt, Stepped, doingAt, messagesAfter, stepped, taken, stepChosen, stepBy, step, Call, posting, collecting, dropping, stepping}
 use Rattle.undoing.specs.Ties.{stateAfter, isTaken}
 use Rattle.undoing.specs.Begun.{Taken, takenBy, stepsTaken}
 use Rattle.undoing.specs.Entirely.{sameOrder, chained, Chained, OthersKept}
 use Rattle.undoing.proofs.Parts.{decide, alike-itself}
-use Rattle.undoing.proofs.Slots.{Same, messages-same, post-same, collect-same, fresh-order}
+use Rattle.undoing.proofs.Slots.{Same, messages-same, post-same, collect-same, drop-same, fresh-order}
 use Rattle.undoing.proofs.Happening.{orderIn}
 
 -- A step that is taken changes the slot of its answer.
@@ -62,7 +62,7 @@ step-other c s t i = found-by (planIn s)
 
 pub others-kept : OthersKept
 unfolding OthersKept
-others-kept = (step-other, (λ m s. post-same m s .orders), λ s. collect-same s .orders)
+others-kept = (step-other, (λ m s. post-same m s .orders), (λ s. collect-same s .orders), λ j s. drop-same j s .orders)
 
 -- Over any calls.
 order-same : (o : Order) → sameOrder o o ≡ true
@@ -80,6 +80,9 @@ module _ (i : ℕ) where
   chain (collecting ∷ l) s t =
       subst (λ (o : Order). chained o (stepsTaken l i (collect s .state) t) (orderIn (stateAfter l (collect s .state) t) i) ≡ true)
       (ap (λ (os : List Order). getD os i noOrder) (collect-same s .orders)) (chain l (collect s .state) t)
+  chain (dropping j ∷ l) s t =
+      subst (λ (o : Order). chained o (stepsTaken l i (dropAt j s .state) t) (orderIn (stateAfter l (dropAt j s .state) t) i) ≡ true)
+      (ap (λ (os : List Order). getD os i noOrder) (drop-same j s .orders)) (chain l (dropAt j s .state) t)
   chain (stepping c ∷ l) s t =
       let r = step c s t in
       let y = chain l (r .state) (r .tally) in

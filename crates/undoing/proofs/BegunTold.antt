@@ -22,7 +22,7 @@ use Rattle.order.specs.Event.{Event, started, began, closed, faulted, stopped, 
 use Rattle.order.specs.declared.Way.the-variants.{Running as running}
 use Rattle.order.specs.Scope.{isScope}
 use Rattle.order.specs.Acting.{Moved, stepOrder, begunOrder, startedOrder}
-use Rattle.machine.specs.Calls.{loadedAs, load, post, collect, Stepped, doingAt, step, Call, posting, collecting, stepping}
+use Rattle.machine.specs.Calls.{loadedAs, load, post, collect, dropAt, Stepped, doingAt, step, Call, posting, collecting, dropping, stepping}
 use Rattle.undoing.specs.History.{logOf}
 use Rattle.undoing.specs.Demand3.{Inner, scopesIn, scopesAmong, scopesOf, isBegin, isFinish, isLeft, noneNow}
 use Rattle.undoing.specs.Ties.{isName, isTaken}
@@ -34,7 +34,7 @@ use Rattle.undoing.proofs.Orders.{least, onto}
 use Rattle.undoing.proofs.Places.{first-of, second-of}
 use Rattle.undoing.proofs.Planning.{Formed, formed-part, formed-scope, FormedIn, formed-none, formed-more, scopes-is, Promised, promised}
 use Rattle.undoing.proofs.Roots.{Awaited}
-use Rattle.undoing.proofs.Slots.{Slot, standing-live, Alike, taking-alike, idle-marks, order-starts, post-same, collect-same, Sane, same-sane, fresh-sane}
+use Rattle.undoing.proofs.Slots.{Slot, standing-live, Alike, taking-alike, idle-marks, order-starts, post-same, collect-same, drop-same, Sane, same-sane, fresh-sane}
 use Rattle.undoing.proofs.Happening.{orderIn, withMessage, Happens, nothing-here, goes-here, starts-here, step-happens}
 use Rattle.undoing.proofs.Demanded.{step-after}
 use Rattle.undoing.proofs.Told.{slot-marks}
@@ -425,6 +425,7 @@ module _ (p : Plan) (h : Promised p) where
       all-begun [] s t past g = (refl, refl, refl)
       all-begun (posting m ∷ l) s t past g = all-begun l (post m s .state) t past (same-sane p bytes next i accepted h s (post m s .state) past (post-same m s) g)
       all-begun (collecting ∷ l) s t past g = all-begun l (collect s .state) t past (same-sane p bytes next i accepted h s (collect s .state) past (collect-same s) g)
+      all-begun (dropping j ∷ l) s t past g = all-begun l (dropAt j s .state) t past (same-sane p bytes next i accepted h s (dropAt j s .state) past (drop-same j s) g)
       all-begun (stepping c ∷ l) s t past g =
           let r = step c s t in
           let g₁ = step-after p bytes next i accepted h c s t past g .1 in

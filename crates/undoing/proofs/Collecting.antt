@@ -16,7 +16,7 @@ use Rattle.machine.specs.declared.State.{State}
 use Rattle.machine.specs.declared.Collected.{Collected}
 use Rattle.machine.specs.State.{noMessage, letters, removing}
 use Rattle.machine.specs.Limits.{planIn, by}
-use Rattle.machine.specs.Calls.{partnersOf, foreign, collectBy, collect}
+use Rattle.machine.specs.Calls.{partnersOf, foreign, handing, collectBy, collect}
 use Rattle.undoing.specs.Entirely.{Oldest, CollectOldest}
 use Rattle.undoing.proofs.Parts.{decide}
 
@@ -93,7 +93,7 @@ by-plan p s n w true e h =
     (record { older = z .older; newer = z .newer; waited = z .is; passed = z .passed; strange = z .strange; stays = removed (s .messages) (s .waiting) i noMessage (z .it) (z .older) (z .newer) (z .is) (omega arith) at })
 
 pub collect-oldest : CollectOldest
-unfolding CollectOldest collect collectBy
+unfolding CollectOldest collect collectBy handing
 collect-oldest s p k e n w =
     subst (λ (f : Found Plan). by (record { refusal = 17; message = noMessage; state = s }) (λ p. collectBy p s) f .refusal ≡ 0 → Oldest (partnersOf p) (letters s) (by (record { refusal = 17; message = noMessage; state = s }) (λ p. collectBy p s) f .message) (letters (by (record { refusal = 17; message = noMessage; state = s }) (λ p. collectBy p s) f .state))) (sym e)
     (by-plan p s n w (ltb (foreign (partnersOf p) 0 (letters s)) (s .waiting)) refl)

@@ -21,7 +21,7 @@ use Rattle.machine.specs.State.{fresh}
 use Rattle.machine.specs.Limits.{rootInLimits}
 use Rattle.order.specs.Event.{Event, started, began, closed, faulted, stopped, ended, raised, left}
 use Rattle.order.specs.Acting.{allBound, stepOrder, begunOrder, startedOrder}
-use Rattle.machine.specs.Calls.{loadedAs, load, post, collect, Stepped, doingAt, step, Call, posting, collecting, stepping}
+use Rattle.machine.specs.Calls.{loadedAs, load, post, collect, dropAt, Stepped, doingAt, step, Call, posting, collecting, dropping, stepping}
 use Rattle.undoing.specs.History.{logOf, history}
 use Rattle.undoing.specs.Demand3.{closingsOf, noneNow, isOver, allowed}
 use Rattle.undoing.specs.Orderly.{orderly}
@@ -32,7 +32,7 @@ use Rattle.undoing.proofs.Moves.{HoldsAt, fair}
 use Rattle.undoing.proofs.Orders.{endsTurned, older, momentOf, fairAfter, onto}
 use Rattle.undoing.proofs.Roots.{Awaited, Standing, EndedAs, Passed, passes-on, passes-end}
 use Rattle.undoing.proofs.Planning.{Promised, promised}
-use Rattle.undoing.proofs.Slots.{Alike, taking-alike, taken-step, started-in-limits, order-starts, post-same, collect-same, Sane, same-sane, fresh-sane}
+use Rattle.undoing.proofs.Slots.{Alike, taking-alike, taken-step, started-in-limits, order-starts, post-same, collect-same, drop-same, Sane, same-sane, fresh-sane}
 use Rattle.undoing.proofs.Demanded.{step-after}
 use Rattle.undoing.proofs.Happening.{orderIn, withMessage, Happens, nothing-here, goes-here, starts-here, step-happens}
 use Rattle.undoing.proofs.Deeds.{order-deeds, start-deed}
@@ -331,6 +331,7 @@ module _ (p : Plan) (bytes : List ℕ) (next i : ℕ) (accepted : readPlan bytes
   all-ends [] s t past g c = (refl, λ f k. refl)
   all-ends (posting m ∷ l) s t past g c = all-ends l (post m s .state) t past (same-sane p bytes next i accepted h s (post m s .state) past (post-same m s) g) c
   all-ends (collecting ∷ l) s t past g c = all-ends l (collect s .state) t past (same-sane p bytes next i accepted h s (collect s .state) past (collect-same s) g) c
+  all-ends (dropping j ∷ l) s t past g c = all-ends l (dropAt j s .state) t past (same-sane p bytes next i accepted h s (dropAt j s .state) past (drop-same j s) g) c
   all-ends (stepping v ∷ l) s t past g c =
       let r = step v s t in
       let x = step-ends s past r (step-happens p bytes next i accepted h v s t past g .happens) c in

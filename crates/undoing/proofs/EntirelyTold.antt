@@ -27,7 +27,7 @@ use Rattle.order.specs.declared.Way.the-variants.{Running as running, Over as o
 use Rattle.order.specs.Begin.{begin}
 use Rattle.order.specs.Scope.{Outcome, rootOf, isScope}
 use Rattle.order.specs.Acting.{stepRoot, endOf, movedTo, stepOrder, begunOrder, startedOrder}
-use Rattle.machine.specs.Calls.{loadedAs, load, post, collect, Stepped, doingAt, step, Call, posting, collecting, stepping}
+use Rattle.machine.specs.Calls.{loadedAs, load, post, collect, dropAt, Stepped, doingAt, step, Call, posting, collecting, dropping, stepping}
 use Rattle.undoing.specs.History.{logOf}
 use Rattle.undoing.specs.Demand3.{noneNow}
 use Rattle.undoing.specs.Ties.{isTaken}
@@ -42,7 +42,7 @@ use Rattle.undoing.proofs.Planning.{Formed, formed-part, formed-scope, 
 use Rattle.undoing.proofs.Scoping.{scope-live, scope-done, scope-turned, Running, StepsAs}
 use Rattle.undoing.proofs.Roots.{Awaited, Standing}
 use Rattle.undoing.proofs.Roots as roots
-use Rattle.undoing.proofs.Slots.{Slot, standing-live, root-mild, Alike, taking-alike, order-starts, started-in-limits, post-same, collect-same, Sane, same-sane, fresh-sane}
+use Rattle.undoing.proofs.Slots.{Slot, standing-live, root-mild, Alike, taking-alike, order-starts, started-in-limits, post-same, collect-same, drop-same, Sane, same-sane, fresh-sane}
 use Rattle.undoing.proofs.Happening.{orderIn, withMessage, Happens, nothing-here, goes-here, starts-here, step-happens}
 use Rattle.undoing.proofs.Demanded.{step-after}
 use Rattle.undoing.proofs.Truly.{began-in, Up, Knows, Began}
@@ -336,6 +336,7 @@ module _ (p : Plan) (h : Promised p) where
       all-both [] s t past g z = record { one = refl; other = refl }
       all-both (posting m ∷ l) s t past g z = all-both l (post m s .state) t past (same-sane p bytes next i accepted h s (post m s .state) past (post-same m s) g) z
       all-both (collecting ∷ l) s t past g z = all-both l (collect s .state) t past (same-sane p bytes next i accepted h s (collect s .state) past (collect-same s) g) z
+      all-both (dropping j ∷ l) s t past g z = all-both l (dropAt j s .state) t past (same-sane p bytes next i accepted h s (dropAt j s .state) past (drop-same j s) g) z
       all-both (stepping c ∷ l) s t past g z =
           let r = step c s t in
           let u = every-apart (ofEach isMarked p) (takenBy i s r) (stepsTaken l i (r .state) (r .tally)) z in

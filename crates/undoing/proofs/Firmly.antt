@@ -19,7 +19,7 @@ use Rattle.machine.specs.State.{fresh}
 use Rattle.order.specs.Event.{Event}
 use Rattle.order.specs.Acting.{startedOrder}
 use Rattle.machine.specs.Fit.{Ready, readyIn, readyAmong, readyOf, awaits}
-use Rattle.machine.specs.Calls.{loaded, loadedAs, load, post, collect, Stepped, step, Call, posting, collecting, stepping}
+use Rattle.machine.specs.Calls.{loaded, loadedAs, load, post, collect, dropAt, Stepped, step, Call, posting, collecting, dropping, stepping}
 use Rattle.undoing.specs.History.{logOf}
 use Rattle.undoing.specs.Ties.{orderAfter, isTaken}
 use Rattle.undoing.specs.Begun.{Taken, takenBy, stepsTaken}
@@ -29,7 +29,7 @@ use Rattle.undoing.proofs.Orders.{onto}
 use Rattle.undoing.proofs.Planning.{Promised, promised}
 use Rattle.undoing.proofs.Waiting.{Waits, waits-itself, waits-within, WaitsIn, waits-first, waits-later}
 use Rattle.undoing.proofs.Roots.{Awaited, in-body, in-fault}
-use Rattle.undoing.proofs.Slots.{standing-live, post-same, collect-same, Sane, same-sane, fresh-sane}
+use Rattle.undoing.proofs.Slots.{standing-live, post-same, collect-same, drop-same, Sane, same-sane, fresh-sane}
 use Rattle.undoing.proofs.Happening.{orderIn, Happens, nothing-here, goes-here, starts-here, step-happens}
 use Rattle.undoing.proofs.Demanded.{step-after}
 use Rattle.undoing.proofs.Awaiting.{ready-is}
@@ -76,6 +76,7 @@ module _ (p : Plan) (h : Promised p) (i : ℕ) where
     all-awaited [] s t past g = refl
     all-awaited (posting m ∷ l) s t past g = all-awaited l (post m s .state) t past (same-sane p bytes next i accepted h s (post m s .state) past (post-same m s) g)
     all-awaited (collecting ∷ l) s t past g = all-awaited l (collect s .state) t past (same-sane p bytes next i accepted h s (collect s .state) past (collect-same s) g)
+    all-awaited (dropping j ∷ l) s t past g = all-awaited l (dropAt j s .state) t past (same-sane p bytes next i accepted h s (dropAt j s .state) past (drop-same j s) g)
     all-awaited (stepping c ∷ l) s t past g =
         let r = step c s t in
         every-append (isAwaited p) (takenBy i s r) (stepsTaken l i (r .state) (r .tally)) (happens-awaited s past r (step-happens p bytes next i accepted h c s t past g .happens))

@@ -19,7 +19,7 @@ use Rattle.machine.specs.State.{fresh}
 use Rattle.order.specs.Event.{Event, started, began, closed, faulted, stopped, ended, raised, left}
 use Rattle.order.specs.Scope.{isOpen, rootOf}
 use Rattle.order.specs.Acting.{stepOrder, begunOrder, startedOrder}
-use Rattle.machine.specs.Calls.{loadedAs, load, post, collect, Stepped, doingAt, step, Call, posting, collecting, stepping}
+use Rattle.machine.specs.Calls.{loadedAs, load, post, collect, dropAt, Stepped, doingAt, step, Call, posting, collecting, dropping, stepping}
 use Rattle.undoing.specs.History.{logOf, history}
 use Rattle.undoing.specs.Demand3.{mayTurn}
 use Rattle.undoing.specs.Ties.{isName, fits, Place, bodyOf, faultOf, undoOf, placeOf, Due, nothing, fault, end, dueFirst, dueSecond, dueEnded, due, isFaultOf, isEndOf, heeds, isNothing, heedsAfter, FaultsTold, isRaised}
@@ -34,7 +34,7 @@ use Rattle.undoing.proofs.Fitting.{standing-fits}
 use Rattle.undoing.proofs.Told.{told}
 use Rattle.undoing.proofs.Happening.{orderIn, withMessage, Happens, nothing-here, goes-here, starts-here, step-happens}
 use Rattle.undoing.proofs.Scoping.{Running}
-use Rattle.undoing.proofs.Slots.{Alike, taking-alike, order-starts, post-same, collect-same, Sane, same-sane, fresh-sane}
+use Rattle.undoing.proofs.Slots.{Alike, taking-alike, order-starts, post-same, collect-same, drop-same, Sane, same-sane, fresh-sane}
 use Rattle.undoing.proofs.Demanded.{step-after}
 
 -- nothing is due
@@ -207,6 +207,7 @@ module _ (p : Plan) (bytes : List ℕ) (next i : ℕ) (accepted : readPlan bytes
   heeding [] s t past g c = c
   heeding (posting m ∷ l) s t past g c = heeding l (post m s .state) t past (same-sane p bytes next i accepted h s (post m s .state) past (post-same m s) g) c
   heeding (collecting ∷ l) s t past g c = heeding l (collect s .state) t past (same-sane p bytes next i accepted h s (collect s .state) past (collect-same s) g) c
+  heeding (dropping j ∷ l) s t past g c = heeding l (dropAt j s .state) t past (same-sane p bytes next i accepted h s (dropAt j s .state) past (drop-same j s) g) c
   heeding (stepping v ∷ l) s t past g c =
       let r = step v s t in
       let z = step-heeds v s t past g c in

@@ -22,7 +22,7 @@ use Rattle.order.specs.Event.{Event, started, began, closed, faulted, stopped, 
 use Rattle.order.specs.Begin.{part, partAt, begin}
 use Rattle.order.specs.Scope.{isScope}
 use Rattle.order.specs.Acting.{stepRoot, endOf, movedTo, stepOrder, begunOrder, startedOrder}
-use Rattle.machine.specs.Calls.{loadedAs, load, post, collect, Stepped, step, Call, posting, collecting, stepping}
+use Rattle.machine.specs.Calls.{loadedAs, load, post, collect, dropAt, Stepped, step, Call, posting, collecting, dropping, stepping}
 use Rattle.undoing.specs.History.{logOf}
 use Rattle.undoing.specs.Demand3.{Inner, scopesIn, scopesAmong, scopesOf}
 use Rattle.undoing.specs.Ties.{isTaken}
@@ -35,7 +35,7 @@ use Rattle.undoing.proofs.Orders.{onto, innerAt}
 use Rattle.undoing.proofs.Planning.{Formed, formed-part, formed-scope, FormedIn, formed-none, formed-more, scopes-is, bare-formed, Promised, promised, whole}
 use Rattle.undoing.proofs.Waiting.{Waits, waits-itself, waits-within, WaitsIn, waits-first, waits-later}
 use Rattle.undoing.proofs.Roots.{Awaited, in-body, in-fault}
-use Rattle.undoing.proofs.Slots.{post-same, collect-same, Sane, same-sane, fresh-sane}
+use Rattle.undoing.proofs.Slots.{post-same, collect-same, drop-same, Sane, same-sane, fresh-sane}
 use Rattle.undoing.proofs.Happening.{orderIn, withMessage, Happens, nothing-here, goes-here, starts-here, step-happens}
 use Rattle.undoing.proofs.Demanded.{step-after}
 use Rattle.undoing.proofs.BegunTold.{body-knows, fault-knows}
@@ -144,6 +144,7 @@ module _ (p : Plan) (h : Promised p) where
       all-near [] s t past g = refl
       all-near (posting m ∷ l) s t past g = all-near l (post m s .state) t past (same-sane p bytes next i accepted h s (post m s .state) past (post-same m s) g)
       all-near (collecting ∷ l) s t past g = all-near l (collect s .state) t past (same-sane p bytes next i accepted h s (collect s .state) past (collect-same s) g)
+      all-near (dropping j ∷ l) s t past g = all-near l (dropAt j s .state) t past (same-sane p bytes next i accepted h s (dropAt j s .state) past (drop-same j s) g)
       all-near (stepping c ∷ l) s t past g =
           let r = step c s t in
           every-append (λ x. every (isLocal x) (scopesOf p)) (takenBy i s r) (stepsTaken l i (r .state) (r .tally)) (happens-local s past r (step-happens p bytes next i accepted h c s t past g .happens))

@@ -23,7 +23,7 @@ use Rattle.machine.specs.State.{fresh}
 use Rattle.order.specs.Event.{Event, started, ended}
 use Rattle.order.specs.Scope.{Outcome, rootOf, fromBody, fromFault}
 use Rattle.order.specs.Acting.{stepIn, stepRoot, endOf, movedTo, stepOrder, begunOrder, startedOrder}
-use Rattle.machine.specs.Calls.{loadedAs, load, post, collect, Stepped, doingAt, step, Call, posting, collecting, stepping}
+use Rattle.machine.specs.Calls.{loadedAs, load, post, collect, dropAt, Stepped, doingAt, step, Call, posting, collecting, dropping, stepping}
 use Rattle.undoing.specs.History.{logOf}
 use Rattle.undoing.specs.Ties.{isTaken}
 use Rattle.undoing.specs.Orderly.{isBeganOf}
@@ -39,7 +39,7 @@ use Rattle.undoing.proofs.Waiting.{quiet-waits}
 use Rattle.undoing.proofs.Scoping.{scope-live, scope-done, scope-turned, Running}
 use Rattle.undoing.proofs.Stepping.{steps, steps-stopped, steps-undoing}
 use Rattle.undoing.proofs.Roots.{Awaited, in-body, in-fault, Standing}
-use Rattle.undoing.proofs.Slots.{standing-live, Alike, taking-alike, order-starts, post-same, collect-same, Sane, same-sane, fresh-sane}
+use Rattle.undoing.proofs.Slots.{standing-live, Alike, taking-alike, order-starts, post-same, collect-same, drop-same, Sane, same-sane, fresh-sane}
 use Rattle.undoing.proofs.Happening.{orderIn, withMessage, Happens, nothing-here, goes-here, starts-here, step-happens}
 use Rattle.undoing.proofs.Demanded.{step-after}
 use Rattle.undoing.proofs.Truly.{Knows}
@@ -150,6 +150,7 @@ module _ (p : Plan) (h : Promised p) where
       all-once [] s t past g = refl
       all-once (posting m ∷ l) s t past g = all-once l (post m s .state) t past (same-sane p bytes next i accepted h s (post m s .state) past (post-same m s) g)
       all-once (collecting ∷ l) s t past g = all-once l (collect s .state) t past (same-sane p bytes next i accepted h s (collect s .state) past (collect-same s) g)
+      all-once (dropping j ∷ l) s t past g = all-once l (dropAt j s .state) t past (same-sane p bytes next i accepted h s (dropAt j s .state) past (drop-same j s) g)
       all-once (stepping c ∷ l) s t past g =
           let r = step c s t in
           every-append (ofAll isOnce p) (takenBy i s r) (stepsTaken l i (r .state) (r .tally)) (happens-once s past r (step-happens p bytes next i accepted h c s t past g .happens))

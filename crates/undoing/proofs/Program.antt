@@ -10,13 +10,14 @@ use Rattle.machine.specs.declared.Collected.{Collected}
 use Rattle.step.specs.declared.Stepped.{Stepped}
 use Rattle.machine.specs.Calls.{Call}
 use Rattle.undoing.specs.Ties.{stateAfter}
-use Rattle.undoing.specs.Compiled.{Runs, ends, posts, collects, steps, OfTheProgram}
+use Rattle.undoing.specs.Compiled.{Runs, ends, posts, collects, drops, steps, OfTheProgram}
 
 runs-after : {s s′ : State} {t : Tally} {l : List Call} → Runs s t l s′ → s′ ≡ stateAfter l s t
 unfolding stateAfter
 runs-after ends = refl
 runs-after {t = t} (posts {l = l} m r e w) = runs-after w ∙ ap (λ (x : Posted). stateAfter l (x .state) t) e
 runs-after {t = t} (collects {l = l} r e w) = runs-after w ∙ ap (λ (x : Collected). stateAfter l (x .state) t) e
+runs-after {t = t} (drops {l = l} i r e w) = runs-after w ∙ ap (λ (x : Collected). stateAfter l (x .state) t) e
 runs-after (steps {l = l} c r e w) = runs-after w ∙ ap (λ (x : Stepped). stateAfter l (x .state) (x .tally)) e
 
 pub of-the-program : OfTheProgram

@@ -24,7 +24,7 @@ use Rattle.order.specs.Scope.{rootOf}
 use Rattle.order.specs.Acting.{allBound, Moved, stepOrder, begunOrder, startedOrder}
 use Rattle.machine.specs.Fit.{Doing, noStep, sends, takes, moves, cuts, closes}
 use Rattle.order.specs.Taking.{bindAll}
-use Rattle.machine.specs.Calls.{postBy, post, partnersOf, foreign, collectBy, collect, messagesAfter, orderTaking}
+use Rattle.machine.specs.Calls.{postBy, post, partnersOf, foreign, handing, collectBy, collect, dropAt, messagesAfter, orderTaking}
 use Rattle.undoing.specs.Demand3.{noneNow}
 use Rattle.undoing.proofs.Parts.{both, decide}
 use Rattle.undoing.proofs.Accounts.{Phase, rest, waits, heals, phase}
@@ -190,15 +190,25 @@ post-same m s = go (planIn s)
         (λ t. rw t (same-itself s))
         (λ t. decide (leb 64 (s .waiting)) (λ u. rw (t, u) (same-itself s)) (λ u. rw (t, u) (record { plan = refl; long = refl; orders = refl })))
 
+-- handing out a message by its place
+handing-same : (i : ℕ) (s : State) → Same s (handing i s .state)
+unfolding handing
+handing-same i s = decide (ltb i (s .waiting)) (λ t. rw t (record { plan = refl; long = refl; orders = refl })) (λ t. rw t (same-itself s))
+
+handed-same : (place : Plan → ℕ) (s : State) (f : Found Plan)
+    → Same s (by (record { refusal = 17; message = noMessage; state = s }) (λ p. handing (place p) s) f .state)
+handed-same place s (refused n k) = same-itself s
+handed-same place s (found p n) = handing-same (place p) s
+
 -- collecting
 pub collect-same : (s : State) → Same s (collect s .state)
 unfolding collect collectBy
-collect-same s = go (planIn s)
-  where
-    go : (f : Found Plan) → Same s (by (record { refusal = 17; message = noMessage; state = s }) (λ p. collectBy p s) f .state)
-    go (refused n k) = same-itself s
-    go (found p n) =
-        decide (ltb (foreign (partnersOf p) 0 (letters s)) (s .waiting)) (λ t. rw t (record { plan = refl; long = refl; orders = refl })) (λ t. rw t (same-itself s))
+collect-same s = handed-same (λ p. foreign (partnersOf p) 0 (letters s)) s (planIn s)
+
+-- dropping
+pub drop-same : (i : ℕ) (s : State) → Same s (dropAt i s .state)
+unfolding dropAt
+drop-same i s = handed-same (λ p. i) s (planIn s)
 
 -- a test that holds of each holds of the i-th, and of what stands for it where there is none
 pub every-at : {A : Type 0} (f : A → Bool) (l : List A) (i : ℕ) (d : A) → f d ≡ true → every f l ≡ true → f (getD l i d) ≡ true

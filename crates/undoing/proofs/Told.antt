@@ -17,7 +17,7 @@ use Rattle.order.specs.State.{Name, idle, active, done, faulty, undoing, handli
 use Rattle.machine.specs.State.{fresh}
 use Rattle.order.specs.Event.{Event}
 use Rattle.order.specs.Scope.{isOpen}
-use Rattle.machine.specs.Calls.{loadedAs, load, post, collect, step, Call, posting, collecting, stepping}
+use Rattle.machine.specs.Calls.{loadedAs, load, post, collect, dropAt, step, Call, posting, collecting, dropping, stepping}
 use Rattle.undoing.specs.History.{logOf, history}
 use Rattle.undoing.specs.Demand3.{closingsOf, undoneOf, hasTurned, isLeft, mayTurn, noneNow}
 use Rattle.plan.specs.Tree.{Plan}
@@ -29,7 +29,7 @@ use Rattle.undoing.proofs.Roots.{Awaited, Standing}
 use Rattle.undoing.proofs.Offered.{Each, each-none, each-more, ready-awaited}
 use Rattle.undoing.proofs.Fitting.{standing-fits}
 use Rattle.undoing.proofs.Planning.{Promised, promised}
-use Rattle.undoing.proofs.Slots.{Slot, slot-free, slot-live, standing-live, post-same, collect-same, Sane, same-sane, fresh-sane}
+use Rattle.undoing.proofs.Slots.{Slot, slot-free, slot-live, standing-live, post-same, collect-same, drop-same, Sane, same-sane, fresh-sane}
 use Rattle.undoing.proofs.Demanded.{step-after}
 
 -- what a mark of each phase is
@@ -80,6 +80,7 @@ module _ (p : Plan) (bytes : List ℕ) (next i : ℕ) (accepted : readPlan bytes
   sanely [] s t past g = g
   sanely (posting m ∷ l) s t past g = sanely l (post m s .state) t past (same-sane p bytes next i accepted h s (post m s .state) past (post-same m s) g)
   sanely (collecting ∷ l) s t past g = sanely l (collect s .state) t past (same-sane p bytes next i accepted h s (collect s .state) past (collect-same s) g)
+  sanely (dropping j ∷ l) s t past g = sanely l (dropAt j s .state) t past (same-sane p bytes next i accepted h s (dropAt j s .state) past (drop-same j s) g)
   sanely (stepping c ∷ l) s t past g =
       subst (λ (z : List Event). Sane p bytes next i accepted h (stateAfter l (step c s t .state) (step c s t .tally)) z)
       (sym (onto-append past (logOf i (step c s t)) (history l i (step c s t .state) (step c s t .tally))))

@@ -17,7 +17,7 @@ use Rattle.order.specs.State.{idle, inside, markAt, isLive, noOrder}
 use Rattle.order.specs.Event.{Event}
 use Rattle.order.specs.Scope.{isScope}
 use Rattle.order.specs.Acting.{isPart, startedOrder}
-use Rattle.machine.specs.Calls.{loaded, post, collect, Stepped, step, Call, posting, collecting, stepping}
+use Rattle.machine.specs.Calls.{loaded, post, collect, dropAt, Stepped, step, Call, posting, collecting, dropping, stepping}
 use Rattle.undoing.specs.History.{logOf}
 use Rattle.undoing.specs.Ties.{isTaken}
 use Rattle.undoing.specs.Orderly.{isBeganOf}
@@ -164,6 +164,7 @@ unfoldable pub stepsTaken : List Call → (slot : ℕ) → State → Tally → L
 stepsTaken [] i s t = []
 stepsTaken (posting m ∷ l) i s t = stepsTaken l i (post m s .state) t
 stepsTaken (collecting ∷ l) i s t = stepsTaken l i (collect s .state) t
+stepsTaken (dropping j ∷ l) i s t = stepsTaken l i (dropAt j s .state) t
 stepsTaken (stepping c ∷ l) i s t = let r = step c s t in takenBy i s r ++ stepsTaken l i (r .state) (r .tally)
 
 -- What holds of every step taken, over any run of posts, collects and choices from a fresh start, for every accepted plan and every slot, where the order

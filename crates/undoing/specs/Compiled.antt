@@ -1,4 +1,4 @@
--- Runs of the compiled calls, as their contracts have them: the premises are the `ensures` of the public functions `load`, `post`, `collect` and `take_step`. Assumes nothing: these are definitions.
+-- Runs of the compiled calls, as their contracts have them: the premises are the `ensures` of the public functions `load`, `post`, `collect`, `drop_at` and `take_step`. Assumes nothing: these are definitions.
 use Prim.Native.Nat.{ℕ}
 use mathlib.Core.Path.{_≡_}
 use mathlib.Core.List.{List, [], _∷_}
@@ -11,7 +11,7 @@ use Rattle.machine.specs.declared.Loaded.{Loaded}
 use Rattle.machine.specs.declared.Posted.{Posted}
 use Rattle.machine.specs.declared.Collected.{Collected}
 use Rattle.step.specs.declared.Stepped.{Stepped}
-use Rattle.machine.specs.Calls.{load, post, collect, step, Call, posting, collecting, stepping}
+use Rattle.machine.specs.Calls.{load, post, collect, dropAt, step, Call, posting, collecting, dropping, stepping}
 use Rattle.step.specs.Stepping.{bare}
 use Rattle.undoing.specs.Ties.{orderAfter}
 
@@ -20,6 +20,7 @@ pub data Runs : State → Tally → List Call → State → Type 0 where
   ends : {s : State} {t : Tally} → Runs s t [] s
   posts : {s s′ : State} {t : Tally} {l : List Call} (m : Message) (r : Posted) → r ≡ post m s → Runs (r .state) t l s′ → Runs s t (posting m ∷ l) s′
   collects : {s s′ : State} {t : Tally} {l : List Call} (r : Collected) → r ≡ collect s → Runs (r .state) t l s′ → Runs s t (collecting ∷ l) s′
+  drops : {s s′ : State} {t : Tally} {l : List Call} (place : ℕ) (r : Collected) → r ≡ dropAt place s → Runs (r .state) t l s′ → Runs s t (dropping place ∷ l) s′
   steps : {s s′ : State} {t : Tally} {l : List Call} (choice : ℕ) (r : Stepped) → r ≡ bare (step choice s t) → Runs (r .state) (r .tally) l s′
       → Runs s t (stepping choice ∷ l) s′
 

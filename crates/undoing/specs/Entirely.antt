@@ -23,7 +23,7 @@ use Rattle.order.specs.Taking.{actAt}
 use Rattle.machine.specs.Fit.{readyOf}
 use Rattle.machine.specs.State.{letters}
 use Rattle.machine.specs.Limits.{planIn}
-use Rattle.machine.specs.Calls.{loaded, trimmed, post, partnersOf, collect, step, Call}
+use Rattle.machine.specs.Calls.{loaded, trimmed, post, partnersOf, collect, dropAt, step, Call}
 use Rattle.undoing.specs.Demand3.{Inner, scopesOf}
 use Rattle.undoing.specs.Ties.{Always, orderAfter, isTurned, isTaken, isStep}
 use Rattle.undoing.specs.Orderly.{isBeganOf}
@@ -145,6 +145,7 @@ OthersKept =
     → getD (step choice s t .state .orders) slot noOrder ≡ getD (s .orders) slot noOrder)
     × ((m : Message) (s : State) → post m s .state .orders ≡ s .orders)
     × ((s : State) → collect s .state .orders ≡ s .orders)
+    × ((place : ℕ) (s : State) → dropAt place s .state .orders ≡ s .orders)
 
 -- What is posted waits behind all that waited, with nothing beyond its count; and what is refused changes nothing. For every state with its 64 places.
 unfoldable pub PostAppends : Type 0

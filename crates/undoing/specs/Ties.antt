@@ -22,7 +22,7 @@ use Rattle.order.specs.Begin.{quiet}
 use Rattle.order.specs.Scope.{Scope, scopeAt, rootOf, isOpen, isScope, innerRuns}
 use Rattle.order.specs.Acting.{allBound, startedOrder}
 use Rattle.machine.specs.Fit.{Doing, noStep, sends, takes, moves, cuts, closes, readyOf}
-use Rattle.machine.specs.Calls.{loaded, post, collect, Stepped, step, Call, posting, collecting, stepping}
+use Rattle.machine.specs.Calls.{loaded, post, collect, dropAt, Stepped, step, Call, posting, collecting, dropping, stepping}
 use Rattle.undoing.specs.History.{history}
 use Rattle.undoing.specs.Demand3.{scopesOf, insideOf, closingsOf, undoneOf, hasTurned, isLeft, mayTurn, noneNow}
 
@@ -31,6 +31,7 @@ unfoldable pub stateAfter : List Call → State → Tally → State
 stateAfter [] s t = s
 stateAfter (posting m ∷ l) s t = stateAfter l (post m s .state) t
 stateAfter (collecting ∷ l) s t = stateAfter l (collect s .state) t
+stateAfter (dropping j ∷ l) s t = stateAfter l (dropAt j s .state) t
 stateAfter (stepping c ∷ l) s t = let r = step c s t in stateAfter l (r .state) (r .tally)
 
 -- what stands in a slot after these calls, and what happened in it, the newest first
@@ -147,6 +148,7 @@ unfoldable pub deedsTaken : Plan → List Call → (slot : ℕ) → State → Ta
 deedsTaken p [] i s t = []
 deedsTaken p (posting m ∷ l) i s t = deedsTaken p l i (post m s .state) t
 deedsTaken p (collecting ∷ l) i s t = deedsTaken p l i (collect s .state) t
+deedsTaken p (dropping j ∷ l) i s t = deedsTaken p l i (dropAt j s .state) t
 deedsTaken p (stepping c ∷ l) i s t = let r = step c s t in deedBy p i s r ++ deedsTaken p l i (r .state) (r .tally)
 
 unfoldable pub StepsTold : Type 0
@@ -334,6 +336,7 @@ unfoldable pub endsTaken : List Call → (slot : ℕ) → State → Tally → Li
 endsTaken [] i s t = []
 endsTaken (posting m ∷ l) i s t = endsTaken l i (post m s .state) t
 endsTaken (collecting ∷ l) i s t = endsTaken l i (collect s .state) t
+endsTaken (dropping j ∷ l) i s t = endsTaken l i (dropAt j s .state) t
 endsTaken (stepping c ∷ l) i s t = let r = step c s t in endBy i r ++ endsTaken l i (r .state) (r .tally)
 
 unfoldable pub EndsTold : Type 0
