@@ -66,6 +66,10 @@ impl Script {
         let read = text::read(text.as_bytes());
         match &read {
             Ok(bytes) => self.want(&format!("write 0 {}", hexadecimal(bytes)), text),
+            // the words behind the line may be any
+            Err(Wrong::Refused(21, at)) => {
+                self.want(&format!("write 21 {} - takes ..", line + at), text)
+            }
             Err(Wrong::Refused(number, at)) => {
                 self.want(&format!("write {number} {}", line + at), text)
             }
