@@ -1,12 +1,14 @@
 //! The independent model of the plan reader and of the engine, and what compares it with the proved library.
 //!
-//! The model is written from document 01 alone and shares no code with the proved crates.
+//! The model is written from document 01 and shares no code with the proved crates. Where document 01 leaves a state that no run reaches open it was made to
+//! answer as the proved engine does (the list stands in `order.rs`), and its reader of texts was written with the desk's in view.
 //!
 //! - `cargo test --offline` checks the model by itself; no library is needed.
 //! - `model/run compare [SEED] [COUNT]` asks the library in a process of its own.
 //! - `model/run writing [SEED] [COUNT]` does so for the writer.
 //! - `model/run texts [SEED] [COUNT]` asks the desk, for plans as text.
 //! - `model/run mend [SEED] [COUNT]` does so for the mending of padded plans.
+//! - `model/run engine [SEED] [COUNT]` does so for runs of the engine.
 //! - `model/run bench` links `libboundary.a`, on x86-64.
 
 #![deny(unsafe_code)]
