@@ -269,7 +269,7 @@ stepped-same : (p : Plan) (x : Offer) (s : State) (t : Tally) (o : Order) (l : L
 unfolding stepped
 stepped-same p x s t o l = let q = messages-same (doingAt p (x .activity)) (x .place) o s in record { plan = q .plan; length = q .length }
 
-by-same : (p : Plan) (c : ℕ) (s : State) (t : Tally) → Same s (stepBy p c s t .state)
+pub by-same : (p : Plan) (c : ℕ) (s : State) (t : Tally) → Same s (stepBy p c s t .state)
 unfolding stepBy stepChosen taken
 by-same p c s t = go (choosing (offersOf p s) c)
   where

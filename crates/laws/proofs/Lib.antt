@@ -4,4 +4,8 @@ pub mod Doing
 pub mod Staying
 pub mod Keeping
 pub mod Promised
+pub mod Variables
+pub mod Knowing
+pub mod Counting
 mod Seventeen
+mod Spoilt

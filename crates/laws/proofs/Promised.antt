@@ -69,17 +69,17 @@ refusal-some a c m e z = go (empties (a .offered)) (a .held) (nth-beyond _ (a .o
     go false y q = omega arith
 
 -- a step that is taken answers its entry
-step-at : {p : Plan} {next : ℕ} (s : State) → planIn s ≡ found p next → (c : ℕ) (t : Tally) → step c s t ≡ stepChosen p s t (choosing (offersOf p s) c)
+pub step-at : {p : Plan} {next : ℕ} (s : State) → planIn s ≡ found p next → (c : ℕ) (t : Tally) → step c s t ≡ stepChosen p s t (choosing (offersOf p s) c)
 unfolding step stepBy
 step-at s e c t = rw e
 
 -- a step in its slot: the order that has it, with some tally and log before it
-record TakenAs (p : Plan) (x : Offer) (s : State) (r : Stepped) : Type 0 where
-  tally : Tally
-  log : List Event
-  is : r ≡ stepped p x s tally (actor p (s .orders) (x .slot)) log
+pub record TakenAs (p : Plan) (x : Offer) (s : State) (r : Stepped) : Type 0 where
+  pub tally : Tally
+  pub log : List Event
+  pub is : r ≡ stepped p x s tally (actor p (s .orders) (x .slot)) log
 
-taken-as : (p : Plan) (x : Offer) (s : State) (t : Tally) → TakenAs p x s (taken p x s t)
+pub taken-as : (p : Plan) (x : Offer) (s : State) (t : Tally) → TakenAs p x s (taken p x s t)
 unfolding taken
 taken-as p x s t = go (isLive o) refl
   where
@@ -102,7 +102,7 @@ stepped-answer : (p : Plan) (x : Offer) (s : State) (t : Tally) (o : Order) (l :
 unfolding stepped
 stepped-answer p x s t o l = refl
 
-taken-answer : (p : Plan) (x : Offer) (s : State) (t : Tally) → taken p x s t .answer ≡ answering x (taken p x s t .answer .end)
+pub taken-answer : (p : Plan) (x : Offer) (s : State) (t : Tally) → taken p x s t .answer ≡ answering x (taken p x s t .answer .end)
 taken-answer p x s t = let w = taken-as p x s t in rw (w .is) (stepped-answer p x s (w .tally) (actor p (s .orders) (x .slot)) (w .log))
 
 pub offered-is-taken : OfferedIsTaken

@@ -1,3 +1,5 @@
 pub mod Good
 pub mod Promises
+pub mod Known
+pub mod Counted
 pub mod Starred

@@ -1,0 +1,41 @@
+-- Any two outcomes that the contract of a public call allows are equal, proved. Assumes nothing.
+use native.Mathlib.Omega.{arith}
+use mathlib.Core.Path.{_≡_, sym, ap, _∙_}
+use Rattle.step.specs.declared.Stepped.{Stepped}
+use Rattle.run.specs.declared.Ran.{Ran}
+use Rattle.boundary.specs.Outcomes.{Fixed, TakenStep, Run, AllFixed}
+
+-- what each is equal to
+pub equal : {A : Type 0} {a b f : A} → a ≡ f → b ≡ f → a ≡ b
+equal e d = e ∙ sym d
+
+pub both-equal : {A B : Type 0} (a b : A) (c d : B) → a ≡ b → c ≡ d → _≡_ {A = A × B} (a, c) (b, d)
+both-equal a b c d e f = cc
+
+all-equal : {A B C : Type 0} (a b : A) (c d : B) (x y : C) → a ≡ b → c ≡ d → x ≡ y → _≡_ {A = A × B × C} (a, c, x) (b, d, y)
+all-equal a b c d x y e f g = cc
+
+step-fixed : Fixed TakenStep
+step-fixed x a b f g =
+    let e : a .0 ≡ b .0 = equal (f .is .0) (g .is .0) in
+    both-equal (a .0) (b .0) (a .1) (b .1) e (f .is .1 ∙ (ap (λ (r : Stepped). r .tally) e ∙ sym (g .is .1)))
+
+run-fixed : Fixed Run
+run-fixed x a b f g =
+    let e : a .0 ≡ b .0 = equal (f .is) (g .is) in
+    let n : a .0 .taken ≡ b .0 .taken = ap (λ (r : Ran). r .taken) e in
+    both-equal (a .0) (b .0) (a .1) (b .1) e (omega (arith, f .left, g .left, n))
+
+pub all-fixed : AllFixed
+all-fixed = record {
+  accept = λ s a b f g. all-equal (a .0) (b .0) (a .1) (b .1) (a .2) (b .2) (equal (f .is) (g .is)) (equal (f .rows) (g .rows)) (equal (f .flags) (g .flags));
+  show = λ x a b f g. all-equal (a .0) (b .0) (a .1) (b .1) (a .2) (b .2) (equal (f .part) (g .part)) (equal (f .place) (g .place)) (equal (f .refused) (g .refused));
+  load = λ s a b f g. equal (f .is) (g .is);
+  post = λ x a b f g. equal (f .is) (g .is);
+  collect = λ s a b f g. equal (f .is) (g .is);
+  offer = λ x a b f g. equal (f .is) (g .is);
+  offers = λ s a b f g. equal (f .is) (g .is);
+  takeStep = λ x a b f g. equal (f .is) (g .is);
+  step = step-fixed;
+  run = run-fixed;
+}
