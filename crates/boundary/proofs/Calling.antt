@@ -28,7 +28,7 @@ use Rattle.run.specs.Running.{ranOf}
 use Rattle.store.specs.declared.Kept.{Kept}
 use Rattle.store.specs.Packed.{packedInto, messageInto, unpacked}
 use Rattle.boundary.specs.Packed.{pairOf}
-use Rattle.boundary.specs.Engine.{updated, loadNumber, loadBytes, postNumber, postBytes, collectNumber, collectBytes, collectMessage, stepNumber, offersNumber, offerNumber, offersOf, stepOf, stepBytes, ranIn, runBytes}
+use Rattle.boundary.specs.Engine.{updated, loadNumber, loadBytes, postNumber, postBytes, handedNumber, handedBytes, handedMessage, stepNumber, offersNumber, offerNumber, offersOf, stepOf, stepBytes, ranIn, runBytes}
 
 -- `end_of`
 module _ {e : End} where
@@ -112,34 +112,35 @@ module _ (m : Message) (l : List ℕ) {k : Kept} {r : Posted} (e : k ≡ unpacke
       let n = ap (λ (x : Posted). x .refusal) posted in
       (n, undone _ _ l (λ q. z (n ∙ q)))
 
--- `moonhalyard_collect`
-pub collect-short : (l m : List ℕ) → length m < 28 → (18 ≡ collectNumber l m) × ((l ≡ collectBytes l m) × (m ≡ collectMessage l m))
-unfolding collectNumber collectBytes collectMessage
-collect-short l m h = let z = lt-ltb (length m) 28 h in (rw z, (rw z, rw z))
+-- `moonhalyard_collect`, `moonhalyard_drop`: a call that hands out a message
+module _ (call : State → Collected) where
+  pub handed-short : (l m : List ℕ) → length m < 28 → (18 ≡ handedNumber call l m) × ((l ≡ handedBytes call l m) × (m ≡ handedMessage call l m))
+  unfolding handedNumber handedBytes handedMessage
+  handed-short l m h = let z = lt-ltb (length m) 28 h in (rw z, (rw z, rw z))
 
-module _ (l m : List ℕ) {k : Kept} {r : Collected} {w : List ℕ} (c : 28 ≤ length m) (e : k ≡ unpacked l) (f : r ≡ calls.collect (k .state))
-    (g : w ≡ messageInto (r .message) m) where
-  collected : r ≡ calls.collect (unpacked l .state)
-  collected = f ∙ ap (λ (x : Kept). calls.collect (x .state)) e
+  module _ (l m : List ℕ) {k : Kept} {r : Collected} {w : List ℕ} (c : 28 ≤ length m) (e : k ≡ unpacked l) (f : r ≡ call (k .state))
+      (g : w ≡ messageInto (r .message) m) where
+    called : r ≡ call (unpacked l .state)
+    called = f ∙ ap (λ (x : Kept). call (x .state)) e
 
-  handed : w ≡ collectMessage l m
-  unfolding collectMessage
-  handed = rw (le-ltb (length m) 28 c) (g ∙ ap (λ (x : Collected). messageInto (x .message) m) collected)
+    handed : w ≡ handedMessage call l m
+    unfolding handedMessage
+    handed = rw (le-ltb (length m) 28 c) (g ∙ ap (λ (x : Collected). messageInto (x .message) m) called)
 
-  pub collect-taken : {o : List ℕ} → r .refusal ≡ 0 → o ≡ packedInto (r .state) (k .tally) l
-      → (0 ≡ collectNumber l m) × ((o ≡ collectBytes l m) × (w ≡ collectMessage l m))
-  unfolding collectNumber collectBytes
-  collect-taken z h =
-      let y = le-ltb (length m) 28 c in
-      let n : calls.collect (unpacked l .state) .refusal ≡ 0 = sym (ap (λ (x : Collected). x .refusal) collected) ∙ z in
-      (rw y (sym n), (rw y (done l n h (ap (λ (x : Collected). x .state) collected) (ap (λ (x : Kept). x .tally) e)), handed))
+    pub handed-taken : {o : List ℕ} → r .refusal ≡ 0 → o ≡ packedInto (r .state) (k .tally) l
+        → (0 ≡ handedNumber call l m) × ((o ≡ handedBytes call l m) × (w ≡ handedMessage call l m))
+    unfolding handedNumber handedBytes
+    handed-taken z h =
+        let y = le-ltb (length m) 28 c in
+        let n : call (unpacked l .state) .refusal ≡ 0 = sym (ap (λ (x : Collected). x .refusal) called) ∙ z in
+        (rw y (sym n), (rw y (done l n h (ap (λ (x : Collected). x .state) called) (ap (λ (x : Kept). x .tally) e)), handed))
 
-  pub collect-refused : (r .refusal ≡ 0 → ⊥) → (r .refusal ≡ collectNumber l m) × ((l ≡ collectBytes l m) × (w ≡ collectMessage l m))
-  unfolding collectNumber collectBytes
-  collect-refused z =
-      let y = le-ltb (length m) 28 c in
-      let n = ap (λ (x : Collected). x .refusal) collected in
-      (rw y n, (rw y (undone _ _ l (λ q. z (n ∙ q))), handed))
+    pub handed-refused : (r .refusal ≡ 0 → ⊥) → (r .refusal ≡ handedNumber call l m) × ((l ≡ handedBytes call l m) × (w ≡ handedMessage call l m))
+    unfolding handedNumber handedBytes
+    handed-refused z =
+        let y = le-ltb (length m) 28 c in
+        let n = ap (λ (x : Collected). x .refusal) called in
+        (rw y n, (rw y (undone _ _ l (λ q. z (n ∙ q))), handed))
 
 -- `moonhalyard_offer`, `moonhalyard_offers`
 pub offer-is : (c : ℕ) (l : List ℕ) {k : Kept} {x : Step} {n : ℕ} → k ≡ unpacked l → x ≡ preview c (k .state) → n ≡ stepNumber x → n ≡ offerNumber c l

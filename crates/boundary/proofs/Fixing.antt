@@ -33,6 +33,7 @@ all-fixed = record {
   load = λ s a b f g. equal (f .is) (g .is);
   post = λ x a b f g. equal (f .is) (g .is);
   collect = λ s a b f g. equal (f .is) (g .is);
+  drop = λ x a b f g. equal (f .is) (g .is);
   offer = λ x a b f g. equal (f .is) (g .is);
   offers = λ s a b f g. equal (f .is) (g .is);
   takeStep = λ x a b f g. equal (f .is) (g .is);

@@ -47,18 +47,35 @@ postNumber m l = postedIn m l .refusal
 unfoldable pub postBytes : Message → List ℕ → List ℕ
 postBytes m l = updated (postedIn m l .refusal) (postedIn m l .state) (tallyOf l) l
 
--- collect: 18, and nothing changed, where there is no room for a message
-abbrev pub collectedIn : List ℕ → Collected
-collectedIn l = calls.collect (stateOf l)
+-- a call that hands out a message: 18, and nothing changed, where there is no room for one
+unfoldable pub handedNumber : (State → Collected) → List ℕ → (message : List ℕ) → ℕ
+handedNumber call l m = cond (ltb (length m) 28) 18 (call (stateOf l) .refusal)
 
-unfoldable pub collectNumber : List ℕ → (message : List ℕ) → ℕ
-collectNumber l m = cond (ltb (length m) 28) 18 (collectedIn l .refusal)
+unfoldable pub handedBytes : (State → Collected) → List ℕ → (message : List ℕ) → List ℕ
+handedBytes call l m = cond (ltb (length m) 28) l (updated (call (stateOf l) .refusal) (call (stateOf l) .state) (tallyOf l) l)
 
-unfoldable pub collectBytes : List ℕ → (message : List ℕ) → List ℕ
-collectBytes l m = cond (ltb (length m) 28) l (updated (collectedIn l .refusal) (collectedIn l .state) (tallyOf l) l)
+unfoldable pub handedMessage : (State → Collected) → List ℕ → (message : List ℕ) → List ℕ
+handedMessage call l m = cond (ltb (length m) 28) m (messageInto (call (stateOf l) .message) m)
 
-unfoldable pub collectMessage : List ℕ → (message : List ℕ) → List ℕ
-collectMessage l m = cond (ltb (length m) 28) m (messageInto (collectedIn l .message) m)
+-- collect
+abbrev pub collectNumber : List ℕ → (message : List ℕ) → ℕ
+collectNumber = handedNumber calls.collect
+
+abbrev pub collectBytes : List ℕ → (message : List ℕ) → List ℕ
+collectBytes = handedBytes calls.collect
+
+abbrev pub collectMessage : List ℕ → (message : List ℕ) → List ℕ
+collectMessage = handedMessage calls.collect
+
+-- drop
+abbrev pub dropNumber : (place : ℕ) → List ℕ → (message : List ℕ) → ℕ
+dropNumber i = handedNumber (calls.dropAt i)
+
+abbrev pub dropBytes : (place : ℕ) → List ℕ → (message : List ℕ) → List ℕ
+dropBytes i = handedBytes (calls.dropAt i)
+
+abbrev pub dropMessage : (place : ℕ) → List ℕ → (message : List ℕ) → List ℕ
+dropMessage i = handedMessage (calls.dropAt i)
 
 -- a step as one number; each part but the refusal within a byte
 unfoldable pub stepNumber : Step → ℕ

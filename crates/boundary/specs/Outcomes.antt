@@ -51,6 +51,10 @@ pub record Post (x : State × Message) (r : Posted) : Type 0 where
 pub record Collect (s : State) (r : Collected) : Type 0 where
   pub is : r ≡ calls.collect s
 
+-- `mail::drop_at` of a state and a place
+pub record Drop (x : State × ℕ) (r : Collected) : Type 0 where
+  pub is : r ≡ calls.dropAt (x .1) (x .0)
+
 -- `offer::offer` of a state and a choice, and `offer::offers`
 pub record Offer (x : State × ℕ) (r : Step) : Type 0 where
   pub is : r ≡ preview (x .1) (x .0)
@@ -70,13 +74,14 @@ pub record Run (x : State × List ℕ × ℕ × Tally) (o : Ran × ℕ) : Type 0
   pub is : o .0 ≡ ranOf (calls.run (x .1) (x .2) (x .0) (x .3))
   pub left : o .1 + o .0 .taken ≡ x .2
 
--- EVERY OUTCOME IS FIXED, of every public call of document 01.
+-- EVERY OUTCOME IS FIXED, of every public call of document 01, and of drop.
 pub record AllFixed : Type 0 where
   pub accept : Fixed Accept
   pub show : Fixed Show
   pub load : Fixed Load
   pub post : Fixed Post
   pub collect : Fixed Collect
+  pub drop : Fixed Drop
   pub offer : Fixed Offer
   pub offers : Fixed Offers
   pub takeStep : Fixed TakeStep

@@ -168,6 +168,26 @@ pub extern "C" fn moonhalyard_collect(state: &mut [u8], message: &mut [u8]) -> u
     r.refusal
 }
 
+// Drops the message that waits at a place, into the first 28 bytes of `message`. The refusal or 0; 18 where `message` has fewer.
+#[no_mangle]
+pub extern "C" fn moonhalyard_drop(state: &mut [u8], place: usize, message: &mut [u8]) -> u32
+    ensures is { λ r. ⌜ r ≡ engine.dropNumber place (now (state .entry)) (now (message .entry)) ⌝ }
+    ensures bytes { λ _. ⌜ now (state .exit) ≡ engine.dropBytes place (now (state .entry)) (now (message .entry)) ⌝ }
+    ensures message { λ _. ⌜ now (message .exit) ≡ engine.dropMessage place (now (state .entry)) (now (message .entry)) ⌝ }
+{
+    if message.len() < 28 {
+        return 18;
+    }
+    let k = store::unpack(&state[..]);
+    let r = mail::drop_at(k.state, place);
+    store::write_message(r.message, message);
+    if r.refusal == 0 {
+        store::pack(r.state, k.tally, state);
+        return 0;
+    }
+    r.refusal
+}
+
 // The step that a choice would take, not taken: the refusal's number times 2^32, the slot times 2^24, the activity times 2^16, the message place
 // times 2^8.
 #[no_mangle]

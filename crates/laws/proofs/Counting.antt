@@ -16,7 +16,7 @@ use Rattle.order.specs.Event.{started}
 use Rattle.order.specs.State.{isLive, noOrder}
 use Rattle.machine.specs.declared.State.{State}
 use Rattle.machine.specs.declared.Tally.{Tally}
-use Rattle.machine.specs.Calls.{endNumber, post, collect, Chosen, refusedChoice, chosen, choosing, refusing, counted, countStart, countEnd, Stepped, stepped, taken, stepChosen, stepBy, step, Call, posting, collecting, stepping}
+use Rattle.machine.specs.Calls.{endNumber, post, collect, dropAt, Chosen, refusedChoice, chosen, choosing, refusing, counted, countStart, countEnd, Stepped, stepped, taken, stepChosen, stepBy, step, Call, posting, collecting, dropping, stepping}
 use Rattle.machine.specs.Limits.{planIn, by}
 use Rattle.machine.specs.Offer.{Offer, offersOf}
 use Rattle.laws.specs.Known.{after}
@@ -71,6 +71,7 @@ unfolding after counting
 run-counts {f} w [] s t h = up-none (f t) h
 run-counts w (posting m ∷ l) s t h = run-counts w l (post m s .state) t h
 run-counts w (collecting ∷ l) s t h = run-counts w l (collect s .state) t h
+run-counts w (dropping j ∷ l) s t h = run-counts w l (dropAt j s .state) t h
 run-counts {f} {g} w (stepping c ∷ l) s t h =
     let e = w .steps c s t h in
     let d : f (step c s t .tally) ≤ 4294967295 = rw e (up-small (f t) (g s (step c s t))) in

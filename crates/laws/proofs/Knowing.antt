@@ -30,7 +30,7 @@ use Rattle.machine.specs.declared.Message.{Message}
 use Rattle.machine.specs.declared.State.{State}
 use Rattle.machine.specs.declared.Step.{Step}
 use Rattle.machine.specs.declared.Tally.{Tally}
-use Rattle.machine.specs.Calls.{loadedAs, load, loaded, trimmed, postBy, post, partnersOf, foreign, collectBy, collect, stepBy, Chosen, refusedChoice, chosen, choosing, refusing, answering, doingAt, messagesAfter, valuesOf, orderTaking, Stepped, stepped, taken, stepChosen, step, Call, posting, collecting, stepping}
+use Rattle.machine.specs.Calls.{loadedAs, load, loaded, trimmed, postBy, post, partnersOf, foreign, handing, collectBy, collect, dropAt, stepBy, Chosen, refusedChoice, chosen, choosing, refusing, answering, doingAt, messagesAfter, valuesOf, orderTaking, Stepped, stepped, taken, stepChosen, step, Call, posting, collecting, dropping, stepping}
 use Rattle.machine.specs.Fit.{Doing, noStep, sends, takes, moves, cuts, closes}
 use Rattle.machine.specs.Limits.{exchanged, planIn, by}
 use Rattle.machine.specs.declared.Collected.{Collected}
@@ -327,17 +327,25 @@ post-kept m s = go (planIn s)
     go (refused n k) = kept s
     go (found p n) = ruled (exchanged (m .partner) (m .operation) (m .count)) (leb 64 (s .waiting))
 
+handing-kept : (i : ℕ) (s : State) → Kept s (handing i s .state)
+unfolding handing
+handing-kept i s = test (ltb i (s .waiting))
+  where
+    test : (b : Bool) → KeptCollected s (cond b (record { refusal = 0; message = getD (s .messages) i noMessage; state = removing i s }) (record { refusal = 15; message = noMessage; state = s }))
+    test true = record { plan = refl; length = refl; orders = refl }
+    test false = kept s
+
+handed-kept : (place : Plan → ℕ) (s : State) (g : Found Plan) → KeptCollected s (by (record { refusal = 17; message = noMessage; state = s }) (λ p. handing (place p) s) g)
+handed-kept place s (refused n k) = kept s
+handed-kept place s (found p n) = handing-kept (place p) s
+
 collect-kept : (s : State) → Kept s (collect s .state)
 unfolding collect collectBy
-collect-kept s = go (planIn s)
-  where
-    test : (i : ℕ) (b : Bool) → KeptCollected s (cond b (record { refusal = 0; message = getD (s .messages) i noMessage; state = removing i s }) (record { refusal = 15; message = noMessage; state = s }))
-    test i true = record { plan = refl; length = refl; orders = refl }
-    test i false = kept s
+collect-kept s = handed-kept (λ p. foreign (partnersOf p) 0 (letters s)) s (planIn s)
 
-    go : (g : Found Plan) → KeptCollected s (by (record { refusal = 17; message = noMessage; state = s }) (λ p. collectBy p s) g)
-    go (refused n k) = kept s
-    go (found p n) = let i = foreign (partnersOf p) 0 (letters s) in test i (ltb i (s .waiting))
+drop-kept : (i : ℕ) (s : State) → Kept s (dropAt i s .state)
+unfolding dropAt
+drop-kept i s = handed-kept (λ p. i) s (planIn s)
 
 along-kept : {p : Plan} {next i : ℕ} {s r : State} {q : Told} → Kept s r → Along p next i s q → Along p next i r q
 along-kept k f = record {
@@ -429,6 +437,7 @@ unfolding after told
 told-along i w [] s t q f = f
 told-along i w (posting m ∷ l) s t q f = told-along i w l (post m s .state) t q (along-kept (post-kept m s) f)
 told-along i w (collecting ∷ l) s t q f = told-along i w l (collect s .state) t q (along-kept (collect-kept s) f)
+told-along i w (dropping j ∷ l) s t q f = told-along i w l (dropAt j s .state) t q (along-kept (drop-kept j s) f)
 told-along {p} i w (stepping c ∷ l) s t q f = told-along i w l (step c s t .state) (step c s t .tally) (toldAfter p i s (step c s t) q) (step-along w s q f c t)
 
 frees : (n i : ℕ) → getD (replicate n noOrder) i noOrder ≡ noOrder

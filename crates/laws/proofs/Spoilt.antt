@@ -16,7 +16,7 @@ use Rattle.order.specs.State.{isLive, noOrder}
 use Rattle.order.specs.Taking.{actIn}
 use Rattle.machine.specs.declared.State.{State}
 use Rattle.machine.specs.declared.Tally.{Tally}
-use Rattle.machine.specs.Calls.{loaded, post, collect, counted, Stepped, step, Call, posting, collecting, stepping}
+use Rattle.machine.specs.Calls.{loaded, post, collect, dropAt, counted, Stepped, step, Call, posting, collecting, dropping, stepping}
 use Rattle.machine.specs.Computing.{computing}
 use Rattle.machine.specs.State.{noTally, withOrder}
 use Rattle.laws.specs.Known.{Known, unknown, known, knownIn, lastOf, takeGives, worth, ownGives, Told, free, isHere, givenIn, unlessEnded, toldAfter}
@@ -44,6 +44,7 @@ stepCounts s r = startOf s r ∷ endOf Well s r ∷ endOf Handled s r ∷ endOf 
 next : Engine → Plan → Call → Did → Did
 next f p (posting m) d = record { state = post m (d .state) .state; tally = d .tally; slot = d .slot; counts = d .counts }
 next f p collecting d = record { state = collect (d .state) .state; tally = d .tally; slot = d .slot; counts = d .counts }
+next f p (dropping j) d = record { state = dropAt j (d .state) .state; tally = d .tally; slot = d .slot; counts = d .counts }
 next f p (stepping c) d =
     let r = f c (d .state) (d .tally) in
     record { state = r .state; tally = r .tally; slot = toldAfter p 0 (d .state) r (d .slot); counts = adds (d .counts) (stepCounts (d .state) r) }

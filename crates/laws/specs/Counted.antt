@@ -10,7 +10,7 @@ use Rattle.order.specs.declared.End.the-variants.{Well, Handled, Failed, Left}
 use Rattle.order.specs.State.{isLive, noOrder}
 use Rattle.machine.specs.declared.State.{State}
 use Rattle.machine.specs.declared.Tally.{Tally}
-use Rattle.machine.specs.Calls.{endNumber, post, collect, Stepped, step, Call, posting, collecting, stepping}
+use Rattle.machine.specs.Calls.{endNumber, post, collect, dropAt, Stepped, step, Call, posting, collecting, dropping, stepping}
 use Rattle.laws.specs.Known.{after}
 
 -- "A count at 4,294,967,295 stays there."
@@ -30,6 +30,7 @@ unfoldable pub counting : (State → Stepped → ℕ) → List Call → State �
 counting f [] s t = 0
 counting f (posting m ∷ l) s t = counting f l (post m s .state) t
 counting f (collecting ∷ l) s t = counting f l (collect s .state) t
+counting f (dropping j ∷ l) s t = counting f l (dropAt j s .state) t
 counting f (stepping c ∷ l) s t = let r = step c s t in f s r + counting f l (r .state) (r .tally)
 
 -- every count within its type

@@ -17,7 +17,7 @@ use Rattle.order.specs.State.{isLive, isBound, valueOf, binding, noOrder}
 use Rattle.order.specs.Taking.{actAt, bindAll}
 use Rattle.machine.specs.declared.State.{State}
 use Rattle.machine.specs.declared.Tally.{Tally}
-use Rattle.machine.specs.Calls.{loaded, post, collect, chosen, choosing, doingAt, Stepped, step, Call, posting, collecting, stepping}
+use Rattle.machine.specs.Calls.{loaded, post, collect, dropAt, chosen, choosing, doingAt, Stepped, step, Call, posting, collecting, dropping, stepping}
 use Rattle.machine.specs.Fit.{takes}
 use Rattle.machine.specs.Offer.{Offer, offersOf}
 use Rattle.machine.specs.Planned.{Planned}
@@ -120,6 +120,7 @@ unfoldable pub told : Plan → List Call → (slot : ℕ) → State → Tally �
 told p [] i s t q = q
 told p (posting m ∷ l) i s t q = told p l i (post m s .state) t q
 told p (collecting ∷ l) i s t q = told p l i (collect s .state) t q
+told p (dropping j ∷ l) i s t q = told p l i (dropAt j s .state) t q
 told p (stepping c ∷ l) i s t q = let r = step c s t in told p l i (r .state) (r .tally) (toldAfter p i s r q)
 
 -- the state and the tally after these calls
@@ -127,6 +128,7 @@ unfoldable pub after : List Call → State → Tally → State × Tally
 after [] s t = (s, t)
 after (posting m ∷ l) s t = after l (post m s .state) t
 after (collecting ∷ l) s t = after l (collect s .state) t
+after (dropping j ∷ l) s t = after l (dropAt j s .state) t
 after (stepping c ∷ l) s t = let r = step c s t in after l (r .state) (r .tally)
 
 -- what stands in a slot after these calls from a fresh start with a plan, and how they tell it

@@ -1,6 +1,7 @@
 -- `boundary::moonhalyard_collect` meets its contract. Assumes nothing.
 use borrow.Author.Needs.{needs}
-use Rattle.boundary.proofs.Calling.{collect-short, collect-taken, collect-refused}
+use Rattle.machine.specs.Calls.{collect}
+use Rattle.boundary.proofs.Calling.{handed-short, handed-taken, handed-refused}
 use Rattle.boundary.proofs.moonhalyard_collect.Statement.{statement}
 use Rattle.boundary.proofs.moonhalyard_collect.Tie as tie
 
@@ -8,7 +9,7 @@ pub moonhalyard-collect-spec : {M : Type 1} → statement M
 moonhalyard-collect-spec =
     tie.close (tie.spec
     -- returns
-    (λ c. let b = c .before .before .before in collect-short (b .args .state .now) (b .args .message .now) (c .if1 .taken))
+    (λ c. let b = c .before .before .before in handed-short collect (b .args .state .now) (b .args .message .now) (c .if1 .taken))
     -- unpack-requires
     (λ c κs. search needs)
     -- collect-requires
@@ -22,10 +23,10 @@ moonhalyard-collect-spec =
     -- same-length-2
     (λ c. search needs)
     -- returns-2
-    (λ c. let a = c .before .before in let b = a .before .before in let d = b .before .before .before .before in let e = d .before .before in let f = e .before in let g = f .before .before in let h = g .before .before .before in collect-taken (h .args .state .now) (h .args .message .now) (g .if1 .left) (f .unpack .ensures) (e .collect .ensures) (d .write-message .ensures .1) (b .if2 .taken) (a .pack .ensures .1 .0))
+    (λ c. let a = c .before .before in let b = a .before .before in let d = b .before .before .before .before in let e = d .before .before in let f = e .before in let g = f .before .before in let h = g .before .before .before in handed-taken collect (h .args .state .now) (h .args .message .now) (g .if1 .left) (f .unpack .ensures) (e .collect .ensures) (d .write-message .ensures .1) (b .if2 .taken) (a .pack .ensures .1 .0))
     -- same-length-3
     (λ c. search needs)
     -- same-length-4
     (λ c. search needs)
     -- returns-3
-    (λ c. let b = c .before .before .before .before in let d = b .before .before in let e = d .before in let f = e .before .before in let g = f .before .before .before in collect-refused (g .args .state .now) (g .args .message .now) (f .if1 .left) (e .unpack .ensures) (d .collect .ensures) (b .write-message .ensures .1) (c .if2 .left)))
+    (λ c. let b = c .before .before .before .before in let d = b .before .before in let e = d .before in let f = e .before .before in let g = f .before .before .before in handed-refused collect (g .args .state .now) (g .args .message .now) (f .if1 .left) (e .unpack .ensures) (d .collect .ensures) (b .write-message .ensures .1) (c .if2 .left)))
