@@ -1,7 +1,7 @@
 //! Checks of the engine's model by itself: the scenarios, document 01's examples, the packed state.
 
 use model::packed;
-use model::scenarios::{HELD, TEXT, play};
+use model::scenarios::{HAND, HELD, TEXT, play};
 
 /// The examples of document 01 that are runs.
 const EXAMPLES: &str = "# scenario: plan A
@@ -54,7 +54,12 @@ fn plays(text: &str, scenarios: usize) {
 
 #[test]
 fn every_scenario() {
-    plays(TEXT, 69);
+    plays(TEXT, 40);
+}
+
+#[test]
+fn every_scenario_worked_out_by_hand() {
+    plays(HAND, 9);
 }
 
 #[test]

@@ -23,6 +23,7 @@ use order::rows::kind_of;
 use order::rows::spot_at;
 ghost use Prim.Native.Nat.{_≤_, _<_};
 ghost use mathlib.Core.Path.{_≡_};
+ghost use Rattle.order.specs.Acting.{inPlace};
 ghost use Rattle.order.specs.Answering.{ChildWith, Arms, BeginsAfter, Follows, JoinsAt, InScope, GoesOn, hasParts, Combines, actorOf, Performs, StepsIn};
 
 // The row of those from c to e, side by side, in which row t stands; e where there is none.
@@ -166,18 +167,26 @@ fn combines(table: &[u32; 11584], k: usize, e: usize, child: usize, t: usize, r:
     r
 }
 
-// Activity k acts, or a raise in its place, where it is a receive or an arm.
+// A raise in place of activity k, where that is a receive or an arm.
+fn replaced(table: &[u32; 11584], k: usize, order: Order) -> Went
+    ensures { λ p. ⌜ Performs (now (table .entry)) inPlace k order p ⌝ }
+{
+    let kind = kind_of(table, k);
+    if kind == kind::RECEIVE {
+        return raises(k, order);
+    }
+    if kind == kind::ARM {
+        return raises(k, order);
+    }
+    itself(table, k, order)
+}
+
+// Activity k acts, or a raise in its place.
 fn performs(table: &[u32; 11584], k: usize, raise: bool, order: Order) -> Went
     ensures { λ p. ⌜ Performs (now (table .entry)) (actorOf raise) k order p ⌝ }
 {
     if raise {
-        let kind = kind_of(table, k);
-        if kind == kind::RECEIVE {
-            return raises(k, order);
-        }
-        if kind == kind::ARM {
-            return raises(k, order);
-        }
+        return replaced(table, k, order);
     }
     itself(table, k, order)
 }

@@ -680,7 +680,7 @@ second-room before cuts xs e = refl
 second-room before (closes s) xs e = absurd (let z : _≡_ {A = Bool} false true = e in let w : _≡_ {A = ℕ} 0 1 = cc in omega arith)
 
 -- So the higher of a pair has a number of the plan, and room.
-abbrev Roomed : Plan → List ℕ → Verdict → Type 0
+abbrev pub Roomed : Plan → List ℕ → Verdict → Type 0
 Roomed p xs clear = Unit {0}
 Roomed p xs (clash k) = (k < size (p .body) + size (p .fault)) × (roomPlan p k xs ≡ true)
 
@@ -693,7 +693,7 @@ clash-room p xs before (r ∷ l) (each-more x w) = go (isSecond before (r .step)
     go true e v = (x .high, plan-room p (r .activity) xs (subst (λ (d : Doing). roomOf d xs ≡ true) (x .is) (second-room before (r .step) xs e)))
     go false e v = v
 
-conflict-room : (p : Plan) (o : Order) → Roomed p (closings o) (conflict p o)
+pub conflict-room : (p : Plan) (o : Order) → Roomed p (closings o) (conflict p o)
 unfolding conflict
 conflict-room p o = clash-room p (closings o) [] (readyOf p o) (plan-ready p o)
 

@@ -6,3 +6,7 @@ pub mod Knowing
 pub mod Lower
 pub mod Falling
 pub mod Settling
+pub mod Weighing
+pub mod Settled
+mod RankReturns
+mod ConflictReturns

@@ -3,7 +3,7 @@ use Prim.Native.Nat.{ℕ, zero, suc, _+_, _*_, _≤_, _<_}
 use mathlib.Core.Bool.{Bool, true, false, cond, _&&_}
 use mathlib.Core.List.{List, [], _∷_}
 use mathlib.Core.Path.{_≡_}
-use lib.Dec.{leb}
+use lib.Dec.{ltb, leb}
 use lib.ListN.{length, getD}
 use Rattle.plan.specs.Tree.{Plan}
 use Rattle.order.specs.declared.Order.{Order}
@@ -18,11 +18,6 @@ use Rattle.fit.specs.Receiving.{receives}
 -- r says whether the receives or arms in rows j and k are for one thing
 pub record SameThing (t : List ℕ) (j k : ℕ) (r : Bool) : Type 0 where
   pub is : (a b c d : ℕ) (vs ws : List ℕ) → Exchange a b vs k t → length vs ≤ 4 → Exchange c d ws j t → length ws ≤ 4 → r ≡ isThing a b vs (takes c d ws)
-
--- r is the i-th of some rows
-pub record RowAt (rows : List ℕ) (i r : ℕ) : Type 0 where
-  pub is : r ≡ getD rows i 0
-  pub inside : r < 256
 
 -- what was awaited before, the last first: the receives and arms among it stand in the first n of these rows
 pub data Opened (t rows : List ℕ) : ℕ → List Ready → Type 0 where
@@ -48,6 +43,11 @@ pub record Reaches (t ms : List ℕ) (reach k r : ℕ) : Type 0 where
 pub record OpenRow (t ms : List ℕ) (reach k : ℕ) (r : Bool) : Type 0 where
   pub is : (x : Line) → Stands t ms k x → Beyond t ms reach k → r ≡ (isReady ms x && receives (x .own))
 
+-- r is the count x of rows, where there are no more than 256
+pub record Capped (x r : ℕ) : Type 0 where
+  pub few : r ≤ 256
+  pub is : x ≤ 256 → r ≡ x
+
 -- the number of an activity that faults, 256 where none does
 abbrev pub numberOf : Verdict → ℕ
 numberOf clear = 256
@@ -58,9 +58,22 @@ pub record Clashes (t : List ℕ) (activities : ℕ) (ms : List ℕ) (r : ℕ) :
   pub is : (p : Plan) → Spelled p activities t → (o : Order) → o .marks ≡ ms → r ≡ numberOf (conflict p o)
 
 -- how many rows are compared: none of a table with more than 256
-abbrev pub rowsOf : (activities : ℕ) → ℕ
+unfoldable pub rowsOf : (activities : ℕ) → ℕ
 rowsOf n = cond (leb n 256) n 0
 
+-- r is how many that is
+pub record Counts (activities r : ℕ) : Type 0 where
+  pub is : r ≡ rowsOf activities
+  pub few : r ≤ 256
+
+-- r is the rank of the mark of row k
+pub record RankAt (t ms : List ℕ) (k r : ℕ) : Type 0 where
+  pub is : r ≡ rank (getD t (k * 13) 0) (getD ms k 0)
+
 -- the ranks of an order's marks as one number, by the kinds in the rows
-abbrev pub weightIn : List ℕ → (activities root : ℕ) → List ℕ → ℕ
+unfoldable pub weightIn : List ℕ → (activities root : ℕ) → List ℕ → ℕ
 weightIn t n x ms = weight (λ k. getD t (k * 13) 0) 0 (rowsOf n) ms (rank 11 x)
+
+-- r says whether the ranks after are lower than those before, the root's mark and the others
+pub record Lowers (t : List ℕ) (activities before : ℕ) (ms : List ℕ) (after : ℕ) (os : List ℕ) (r : Bool) : Type 0 where
+  pub is : r ≡ ltb (weightIn t activities after os) (weightIn t activities before ms)

@@ -4,7 +4,7 @@ use order::kind;
 use order::mark;
 ghost use Prim.Native.Nat.{_≤_, _<_};
 ghost use mathlib.Core.Path.{_≡_};
-ghost use Rattle.settling.specs.Answering.{SameThing, RowAt, SeenRow, Reaches, OpenRow, Clashes};
+ghost use Rattle.settling.specs.Answering.{SameThing, SeenRow, Reaches, OpenRow, Capped, Clashes};
 
 // Whether rows j and k name the same partner, operation and variables, the variables in the same order.
 fn same_thing(table: &[u32; 11584], j: usize, k: usize) -> bool
@@ -21,12 +21,18 @@ fn same_thing(table: &[u32; 11584], j: usize, k: usize) -> bool
     true
 }
 
-// The i-th of the open rows.
-fn row_at(opened: &[u8; 256], i: usize) -> usize
-    requires { ⌜ i < 256 ⌝ }
-    ensures { λ r. ⌜ RowAt (now (opened .entry)) i r ⌝ }
+// A row as it stands in a list of rows, and as it is put there.
+fn wide(row: u8) -> usize
+    ensures { λ r. ⌜ (r ≡ row) × (r < 256) ⌝ }
 {
-    opened[i] as usize
+    row as usize
+}
+
+fn narrow(row: usize) -> u8
+    requires { ⌜ row < 256 ⌝ }
+    ensures { λ r. ⌜ r ≡ row ⌝ }
+{
+    row as u8
 }
 
 // Whether one of the first n open rows names what row k names.
@@ -36,7 +42,7 @@ fn is_second(table: &[u32; 11584], opened: &[u8; 256], n: usize, k: usize) -> bo
 {
     let mut i: usize = 0;
     while i < n {
-        if same_thing(table, row_at(opened, i), k) {
+        if same_thing(table, wide(opened[i]), k) {
             return true;
         }
         i += 1;
@@ -78,7 +84,7 @@ fn open_at(table: &[u32; 11584], marks: &[u8; 256], reach: u32, k: usize) -> boo
 
 // A count of rows: at most all 256.
 fn capped(x: usize) -> usize
-    ensures { λ r. ⌜ (r ≤ 256) × (x ≤ 256 → r ≡ x) ⌝ }
+    ensures { λ r. ⌜ Capped x r ⌝ }
 {
     if x <= 256 { x } else { 256 }
 }
@@ -99,7 +105,7 @@ pub fn first_conflict(table: &[u32; 11584], activities: usize, marks: &[u8; 256]
             if is_second(table, &opened, n, k) {
                 return k;
             }
-            opened[n] = k as u8;
+            opened[n] = narrow(k);
             n += 1;
             reach = next;
             k += 1;

@@ -1,11 +1,10 @@
 // How far an order is from where nothing is left to fault: the ranks of its marks, the root's first, compared like the letters of two words.
 use order::kind;
 use order::mark;
-ghost use Prim.Native.Nat.{_≤_};
-ghost use lib.Dec.{ltb};
+ghost use Prim.Native.Nat.{_<_};
 ghost use mathlib.Core.Path.{_≡_};
 ghost use Rattle.order.specs.Judging.{rank as rankOf};
-ghost use Rattle.settling.specs.Answering.{rowsOf, weightIn};
+ghost use Rattle.settling.specs.Answering.{Counts, RankAt, Lowers};
 
 // How far a mark is from idle, for an activity of this kind.
 fn rank(kind: u32, mark: u8) -> u32
@@ -29,9 +28,17 @@ fn rank(kind: u32, mark: u8) -> u32
     }
 }
 
+// That of the mark of row k.
+fn rank_at(table: &[u32; 11584], marks: &[u8; 256], k: usize) -> u32
+    requires { ⌜ k < 256 ⌝ }
+    ensures { λ r. ⌜ RankAt (now (table .entry)) (now (marks .entry)) k r ⌝ }
+{
+    rank(table[k * 13], marks[k])
+}
+
 // How many rows are compared: none of a table with more than 256.
 fn rows_of(activities: usize) -> usize
-    ensures { λ r. ⌜ (r ≡ rowsOf activities) × (r ≤ 256) ⌝ }
+    ensures { λ r. ⌜ Counts activities r ⌝ }
 {
     if activities <= 256 { activities } else { 0 }
 }
@@ -40,23 +47,23 @@ fn rows_of(activities: usize) -> usize
 pub fn is_lower(
     table: &[u32; 11584],
     activities: usize,
-    root: u8,
+    before: u8,
     marks: &[u8; 256],
-    new_root: u8,
-    new_marks: &[u8; 256],
+    after: u8,
+    others: &[u8; 256],
 ) -> bool
-    ensures { λ r. ⌜ r ≡ ltb (weightIn (now (table .entry)) activities new_root (now (new_marks .entry))) (weightIn (now (table .entry)) activities root (now (marks .entry))) ⌝ }
+    ensures { λ r. ⌜ Lowers (now (table .entry)) activities before (now (marks .entry)) after (now (others .entry)) r ⌝ }
 {
-    let x = rank(kind::SCOPE, root);
-    let y = rank(kind::SCOPE, new_root);
+    let x = rank(kind::SCOPE, before);
+    let y = rank(kind::SCOPE, after);
     if x != y {
         return y < x;
     }
     let rows = rows_of(activities);
     let mut k: usize = 0;
     while k < rows {
-        let v = rank(table[k * 13], marks[k]);
-        let w = rank(table[k * 13], new_marks[k]);
+        let v = rank_at(table, marks, k);
+        let w = rank_at(table, others, k);
         if v != w {
             return w < v;
         }
