@@ -1,5 +1,5 @@
 -- The returns of the functions by which an activity goes on after a step within it, and of a step in an activity. Assumes nothing.
-use mathlib.Core.Path.{_≡_, refl, sym, ap, _∙_}
+use mathlib.Core.Path.{_≡_, refl, sym, ap, subst, _∙_}
 use mathlib.Core.Bool.{Bool, true, false, cond, not, _&&_, false≢true}
 use mathlib.Core.List.{List, []}
 use Prim.Native.Nat.{ℕ, _+_, _*_, _<_, _≤_}
@@ -338,22 +338,22 @@ room-of own l k o h e =
     rw (closings-are xs o) (ltb-true (length xs) 32 m)
 
 -- `replaced`, `performs`
+in-place : (own : Own) (l : Acts) (k : ℕ) (o : Order) (b : Bool) → replaces inPlace (kind own) ≡ b → performs inPlace own l k o ≡ elim b [ true ↦ raises k o | false ↦ itself own l k o ]
+unfolding performs
+in-place own l k o b e = subst (λ (z : Bool). performs inPlace own l k o ≡ elim z [ true ↦ raises k o | false ↦ itself own l k o ]) e refl
+
+kind-there : {t : List ℕ} {k : ℕ} (own : Own) (l : Acts) {n : ℕ} → KindOf t k n → Stands (act own l) k t → kind own ≡ n
+unfolding Stands size
+kind-there {t} {k} own l {n} a s = sym (a .is (omega (arith, stands-inside (act own l) k t s)) ∙ s .first .row .kind)
+
 module _ {t : List ℕ} {k : ℕ} {o : Order} where
-  in-place : (own : Own) (l : Acts) (b : Bool) → replaces inPlace (kind own) ≡ b → performs inPlace own l k o ≡ elim b [ true ↦ raises k o | false ↦ itself own l k o ]
-  unfolding performs
-  in-place own l b e = rw e
-
-  kind-there : (own : Own) (l : Acts) {n : ℕ} → KindOf t k n → Stands (act own l) k t → kind own ≡ n
-  unfolding Stands size
-  kind-there own l {n} a s = sym (a .is (omega (arith, stands-inside (act own l) k t s)) ∙ s .first .row .kind)
-
   pub replaced-receive : {n : ℕ} → KindOf t k n → n ≡ 2 → {r : Went} → r ≡ raisesOf k o → Performs t inPlace k o r
   unfolding replaces
-  replaced-receive a e q = record { is = λ own l s g. q ∙ sym (ap went (in-place own l true (rw (kind-there own l a s ∙ e)))) }
+  replaced-receive a e q = record { is = λ own l s g. q ∙ sym (ap went (in-place own l k o true (rw (kind-there own l a s ∙ e)))) }
 
   pub replaced-arm : {n : ℕ} → KindOf t k n → n ≡ 12 → {r : Went} → r ≡ raisesOf k o → Performs t inPlace k o r
   unfolding replaces
-  replaced-arm a e q = record { is = λ own l s g. q ∙ sym (ap went (in-place own l true (rw (kind-there own l a s ∙ e)))) }
+  replaced-arm a e q = record { is = λ own l s g. q ∙ sym (ap went (in-place own l k o true (rw (kind-there own l a s ∙ e)))) }
 
   pub replaced-other : {n : ℕ} → KindOf t k n → (n ≡ 2 → ⊥) → (n ≡ 12 → ⊥) → {r : Went} → StepsAt t k o r → Performs t inPlace k o r
   unfolding replaces
@@ -361,7 +361,7 @@ module _ {t : List ℕ} {k : ℕ} {o : Order} where
       record {
         is = λ own l s g.
             y .is own l s g
-            ∙ sym (ap went (in-place own l false (rw (ne-eqb (kind own) 2 (λ z. e (sym (kind-there own l a s) ∙ z)), ne-eqb (kind own) 12 (λ z. d (sym (kind-there own l a s) ∙ z))))));
+            ∙ sym (ap went (in-place own l k o false (rw (ne-eqb (kind own) 2 (λ z. e (sym (kind-there own l a s) ∙ z)), ne-eqb (kind own) 12 (λ z. d (sym (kind-there own l a s) ∙ z))))));
       }
 
   pub performs-raise : {b : Bool} → b ≡ true → {r : Went} → Performs t inPlace k o r → Performs t (actorOf b) k o r
@@ -392,7 +392,7 @@ arms-closings own l k x o = go (eqb (kind own) 10 && isPart l (k + 1) x)
     go true = refl
     go false = refl
 
-module _ {t : List ℕ} {v : Actor} {k x : ℕ} {o : Order} (n : k ≡ x → ⊥) {e : ℕ} (z : End t k e) {child : ℕ} (y : ChildWith t (k + 1) e x child)
+module _ {t : List ℕ} {k x : ℕ} {o : Order} (n : k ≡ x → ⊥) {e : ℕ} (z : End t k e) {child : ℕ} (y : ChildWith t (k + 1) e x child)
     {o₁ : Order} (w : Arms t k e child x o o₁) {r p : Went} (c : Combines t k e child x r p) where
   row-end : (own : Own) (l : Acts) → Stands (act own l) k t → e ≡ k + 1 + sizes l
   unfolding size
@@ -402,9 +402,9 @@ module _ {t : List ℕ} {v : Actor} {k x : ℕ} {o : Order} (n : k ≡ x → ⊥
   unfolding Stands
   among own l s = y .is l (s .rest) (row-end own l s)
 
-  combined : (own : Own) (l : Acts) → Stands (act own l) k t → r ≡ went (stepAmong v l (k + 1) x o₁) → p ≡ went (stepIn v (act own l) k x o)
+  combined : (v : Actor) (own : Own) (l : Acts) → Stands (act own l) k t → r ≡ went (stepAmong v l (k + 1) x o₁) → p ≡ went (stepIn v (act own l) k x o)
   unfolding stepIn
-  combined own l s g =
+  combined v own l s g =
       let i : o₁ ≡ arms own l k x o = w .is own l s (among own l s) in
       let R = stepAmong v l (k + 1) x (arms own l k x o) in
       let d : r ≡ went R = rw i at g in
@@ -416,8 +416,8 @@ module _ {t : List ℕ} {v : Actor} {k x : ℕ} {o : Order} (n : k ≡ x → ⊥
   unfolding roomIn
   room-within own l h = sym (no (eqb k x) (hasRoom own l k (closings o)) (roomAmong l (k + 1) x (closings o)) (ne-eqb k x n)) ∙ h
 
-  pub step-within : child < e → StepsIn t v child x o₁ r → StepsIn t v k x o p
-  step-within h g = record { is = is }
+  pub step-within : {v : Actor} → child < e → StepsIn t v child x o₁ r → StepsIn t v k x o p
+  step-within {v} h g = record { is = is }
     where
       is : (a : Act) → Stands a k t → roomIn a k x (closings o) ≡ true → p ≡ went (stepIn v a k x o)
       is (act own l) s m =
@@ -425,10 +425,10 @@ module _ {t : List ℕ} {v : Actor} {k x : ℕ} {o : Order} (n : k ≡ x → ⊥
           let i : o₁ ≡ arms own l k x o = w .is own l s (among own l s) in
           let j : closings o₁ ≡ closings o = ap closings i ∙ arms-closings own l k x o in
           let w′ : roomIn (d .part) child x (closings o₁) ≡ true = rw j (sym (d .room (closings o)) ∙ room-within own l m) in
-          combined own l s (g .is (d .part) (d .stands) w′ ∙ ap went (sym (d .steps v o₁)))
+          combined v own l s (g .is (d .part) (d .stands) w′ ∙ ap went (sym (d .steps v o₁)))
 
-  pub step-nowhere : e ≤ child → r ≡ runsOf o₁ → StepsIn t v k x o p
-  step-nowhere h g = record { is = is }
+  pub step-nowhere : {v : Actor} → e ≤ child → r ≡ runsOf o₁ → StepsIn t v k x o p
+  step-nowhere {v} h g = record { is = is }
     where
       is : (a : Act) → Stands a k t → roomIn a k x (closings o) ≡ true → p ≡ went (stepIn v a k x o)
-      is (act own l) s m = combined own l s (g ∙ ap went (sym (among own l s .missed h .steps v o₁)))
+      is (act own l) s m = combined v own l s (g ∙ ap went (sym (among own l s .missed h .steps v o₁)))

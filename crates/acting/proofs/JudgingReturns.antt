@@ -81,7 +81,7 @@ module _ {t : List ℕ} {n : ℕ} {first m : Next} (w : Settling t n first m) wh
 
       pub settling-less : {v : Bool} → Lowers t n (m .order .root) (m .order .marks) (r .order .root) (r .order .marks) v → v ≡ true
           → weightIn t n (r .order .root) (r .order .marks) < weightIn t n (m .order .root) (m .order .marks)
-      settling-less y e = ltb-true _ _ (sym (y .is) ∙ e)
+      settling-less y e = ltb-true (weightIn t n (r .order .root) (r .order .marks)) (weightIn t n (m .order .root) (m .order .marks)) (sym (y .is) ∙ e)
 
       -- an order that is not lower has ended
       ended : (p : Plan) → Spelled p n t → ltb (weightIn t n (r .order .root) (r .order .marks)) (weightIn t n (m .order .root) (m .order .marks)) ≡ false → goesOnAfter (r .end) ≡ false
@@ -93,7 +93,7 @@ module _ {t : List ℕ} {n : ℕ} {first m : Next} (w : Settling t n first m) wh
               let f = raise-falls p (shaped p (s .within)) (m .order) k (clashes p s) (ap (λ (x : Next). x .end) (sym l) ∙ goes-none (r .end) d) in
               let x : weightIn t n (r .order .root) (r .order .marks) ≡ spare p (acted inPlace p k (m .order) .order) = weight-spare s (r .order) ∙ ap (λ (y : Next). spare p (y .order)) l in
               let y = weight-spare s (m .order) in
-              sym (lt-ltb _ _ (omega (arith, f, x, y))) ∙ e
+              sym (lt-ltb (weightIn t n (r .order .root) (r .order .marks)) (weightIn t n (m .order .root) (m .order .marks)) (omega (arith, f, x, y))) ∙ e
           go false d = refl
 
       pub settling-last : {v : Bool} → Lowers t n (m .order .root) (m .order .marks) (r .order .root) (r .order .marks) v → v ≡ false → Settles t n first r
