@@ -192,13 +192,7 @@ fn performs(table: &[u32; 11584], k: usize, raise: bool, order: Order) -> Went
 }
 
 // Step t in activity k, or a raise in its place.
-pub(crate) fn step_in(
-    table: &[u32; 11584],
-    k: usize,
-    t: usize,
-    raise: bool,
-    order: Order,
-) -> Went
+pub(crate) fn step_in(table: &[u32; 11584], k: usize, t: usize, raise: bool, order: Order) -> Went
     requires { ⌜ k < 256 ⌝ }
     ensures { λ p. ⌜ StepsIn (now (table .entry)) (actorOf raise) k t order p ⌝ }
 {

@@ -19,7 +19,11 @@ ghost use Rattle.order.specs.Answering.{StepsOrder, TakesOrder};
 pub fn step_order(table: &[u32; 11584], activities: usize, order: Order, t: usize) -> Next
     ensures { λ r. ⌜ StepsOrder (now (table .entry)) activities t order r ⌝ }
 {
-    judging::settled(table, activities, root::acted(table, activities, order, t, false))
+    judging::settled(
+        table,
+        activities,
+        root::acted(table, activities, order, t, false),
+    )
 }
 
 // The order that takes a message with these values by activity t: the variables of a receive or an arm are bound. Its step comes after.

@@ -86,8 +86,10 @@ comparing-starts t n ms os {b} {a} e d g =
       is = λ r h.
           let z : rank 11 b ≡ rank 11 a = sym e ∙ (g ∙ d) in
           let i : rowsOf n - 0 ≡ rowsOf n = omega arith in
-          record { is = subst (λ (y : ℕ). r ≡ ltb (weight (kindsIn t) 0 (rowsOf n) os y) (weight (kindsIn t) 0 (rowsOf n) ms (rank 11 b))) z
-          (subst (λ (m : ℕ). r ≡ ltb (weight (kindsIn t) 0 m os (rank 11 b)) (weight (kindsIn t) 0 m ms (rank 11 b))) i (h (rank 11 b))) };
+          record {
+            is = subst (λ (y : ℕ). r ≡ ltb (weight (kindsIn t) 0 (rowsOf n) os y) (weight (kindsIn t) 0 (rowsOf n) ms (rank 11 b))) z
+                (subst (λ (m : ℕ). r ≡ ltb (weight (kindsIn t) 0 m os (rank 11 b)) (weight (kindsIn t) 0 m ms (rank 11 b))) i (h (rank 11 b)));
+          };
     }
 
 module _ {t : List ℕ} {n b : ℕ} {ms : List ℕ} {a : ℕ} {os : List ℕ} {k : ℕ} (c : Comparing t n b ms a os k) where
