@@ -106,7 +106,9 @@ uint64_t moonhalyard_offers(const uint8_t *state, size_t size);
 
 /* Takes the step with a choice. The answer is as for moonhalyard_offer, with the order's end added:
      0 none, 1 well, 2 handled, 3 failed, 4 left
-   The tally in the state is brought up to date. Refused (17, 10, 11, 12, times 2^32), the state is left as it is. */
+   Where the step leaves two receives or arms of its order open with the same partner, operation and variables, the one with the higher number faults with
+   it, as a raise in its place would, and what is open then is judged again: the order may end by it. The tally in the state is brought up to date.
+   Refused (17, 10, 11, 12, times 2^32), the state is left as it is. */
 uint64_t moonhalyard_step(uint8_t *state, size_t size, uint64_t choice);
 
 /* Takes the steps with `many` choices, one after the other, until they end, the budget is 0 or a step is refused. The answer is 0 or the

@@ -21,6 +21,8 @@ pub struct Taken {
     pub step: Step,
     pub end: Option<End>,
     pub undone: usize,
+    /// How many receives or arms raised because another was open for the same thing.
+    pub conflicts: usize,
 }
 
 /// All that is offered, in order, and what is held.
@@ -296,12 +298,45 @@ fn take(plan: &Plan, state: &mut State, step: Step, tally: &mut Tally) -> Taken 
         _ => running.act(k),
     }
     running.settle_around(k);
-    let Running { end, undone, .. } = running;
+    let Running {
+        mut end,
+        mut undone,
+        ..
+    } = running;
+    // And what is open then is judged.
+    let mut conflicts = 0;
+    while end.is_none()
+        && let Some(higher) = conflict(plan, order)
+    {
+        let mut running = Running::new(plan, order);
+        running.raise_in_place(higher);
+        running.settle_around(higher);
+        end = running.end;
+        undone += running.undone;
+        conflicts += 1;
+    }
     if let Some(end) = end {
         *order = NO_ORDER;
         tally.ended(end);
     }
-    Taken { step, end, undone }
+    Taken {
+        step,
+        end,
+        undone,
+        conflicts,
+    }
+}
+
+/// Of the receives and arms that are open, the first that is for the same thing as one before it.
+fn conflict(plan: &Plan, order: &Order) -> Option<usize> {
+    let mut things = Vec::new();
+    (0..plan.count()).find(|&k| {
+        open(plan, order, k).is_some_and(|thing| {
+            let known = things.contains(&thing);
+            things.push(thing);
+            known
+        })
+    })
 }
 
 /// The message that a send adds, where all its variables are bound.

@@ -29,10 +29,13 @@ fn posted(state: &mut [u8], message: Message) {
     assert_eq!(packed::post(state, message), 0);
 }
 
-/// A plan of 256 activities: after its start 244 receives are open, all on (0, 1) with variable 0 for correlation.
+/// A plan of 256 activities: after its start 244 receives are open, all on (1, 1) with variable 0 for correlation, and no two with the same variables.
 fn many_receives() -> Vec<u8> {
     let mut sheet = Sheet::default();
-    sheet.header(2, &[0]);
+    let mut others = (1..16).flat_map(|a| {
+        (a + 1..16).flat_map(move |b| (b + 1..16).map(move |c| [0, a, b, c]))
+    });
+    sheet.header(16, &[0]);
     list(&mut sheet, 8, 2);
     sheet.begin();
     sheet.message(Some(2), 0, 0, &[0]);
@@ -41,7 +44,8 @@ fn many_receives() -> Vec<u8> {
         list(&mut sheet, 9, count);
         for _ in 0..count {
             sheet.begin();
-            sheet.message(Some(2), 1, 1, &[0, 1]);
+            let variables = others.next().expect("three of fifteen");
+            sheet.message(Some(2), 1, 1, &variables);
         }
     }
     code(&mut sheet, 0);
@@ -57,7 +61,7 @@ pub fn fullest(waiting: u32) -> Vec<u8> {
         assert_eq!(packed::step(&mut state, 0) >> 32, 0);
     }
     for at in 0..waiting {
-        posted(&mut state, message(1, 1, &[at % 16, 7]));
+        posted(&mut state, message(1, 1, &[at % 16, 7, 7, 7]));
     }
     state
 }

@@ -249,6 +249,15 @@ impl Running<'_> {
         }
     }
 
+    /// A raise in place of a receive or an arm, which is over with it: an arm with its pick.
+    pub fn raise_in_place(&mut self, k: usize) {
+        if let (Kind::Arm(_), Part::Within(pick)) = (self.plan.kind(k), self.plan.activities[k].part)
+        {
+            self.order.marks[pick] = INSIDE;
+        }
+        self.raise(k);
+    }
+
     /// A fault reaches a scope. One already stopped or faulted absorbs it, and may have waited for what just ended.
     fn fault(&mut self, scope: Scope) {
         if matches!(self.mark(scope), ACTIVE | DONE) {

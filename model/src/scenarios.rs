@@ -1,4 +1,4 @@
-//! The scenarios of data/scenarios.txt, data/held.txt and data/hand.txt: calls on one engine from a fresh state, each with its answer.
+//! The scenarios of data/scenarios.txt, data/hand.txt and data/held.txt: calls on one engine from a fresh state, each with its answer.
 
 use crate::engine::{self, Taken};
 use crate::reader;
@@ -7,8 +7,8 @@ use crate::vectors;
 
 /// The files, taken in when this package is built.
 pub const TEXT: &str = include_str!("../../data/scenarios.txt");
-pub const HELD: &str = include_str!("../../data/held.txt");
 pub const HAND: &str = include_str!("../../data/hand.txt");
+pub const HELD: &str = include_str!("../../data/held.txt");
 
 /// What a file came to: its scenarios and lines, each line whose answer differs, and the state at the end.
 pub struct Played {

@@ -22,6 +22,9 @@ pub struct Seen {
     pub held_closes: u64,
     pub held_starts: u64,
     pub undone: u64,
+    /// Receives and arms that raised because another was open for the same thing, and steps with several of them.
+    pub conflicts: u64,
+    pub many_conflicts: u64,
     pub taken: u64,
     /// Scopes by their mark, in the order of each step taken in a run.
     pub scopes: [u64; 9],
@@ -205,6 +208,8 @@ impl Wander {
             self.scopes(taken.step.slot);
             self.seen.taken += 1;
             self.seen.undone += taken.undone as u64;
+            self.seen.conflicts += taken.conflicts as u64;
+            self.seen.many_conflicts += u64::from(taken.conflicts > 1);
             self.seen.ends[taken.end.map_or(0, |end| end as usize)] += 1;
         }
     }

@@ -64,7 +64,7 @@ fn every_scenario_of_held_steps() {
 
 #[test]
 fn every_scenario_by_hand() {
-    plays(HAND, 11);
+    plays(HAND, 9);
 }
 
 #[test]

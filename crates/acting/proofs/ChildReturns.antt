@@ -10,7 +10,7 @@ use Rattle.plan.specs.Tree.{kind, Act, Acts, none, more, size, sizes}
 use Rattle.order.specs.declared.Entered.{Entered}
 use Rattle.order.specs.declared.Order.{Order}
 use Rattle.order.specs.declared.Went.{Went}
-use Rattle.order.specs.Acting.{finishes, isPart, arms, joins, stepIn, stepAmong}
+use Rattle.order.specs.Acting.{finishes, isPart, arms, joins, Actor, stepIn, stepAmong}
 use Rattle.order.specs.Answering.{KindOf, Quiets, entered, went, isOver, begunOf, BeginsInTurn, runsOf, finishesOf, Among, ChildWith, Arms, BeginsAfter, Follows, JoinsAt}
 use Rattle.order.specs.Begin.{beginInTurn, beginAfter, quiet}
 use Rattle.order.specs.Room.{roomIn, roomAmong}
@@ -30,9 +30,9 @@ part-before (more a l) c x h =
 
 module _ (a : Act) (l : Acts) (c x : ℕ) where
   module _ (h : x < c + size a) where
-    first-step : (o : Order) → stepAmong (more a l) c x o ≡ stepIn a c x o
+    first-step : (y : Actor) (o : Order) → stepAmong y (more a l) c x o ≡ stepIn y a c x o
     unfolding stepIn
-    first-step o = yes (ltb x (c + size a)) (stepIn a c x o) (stepAmong l (c + size a) x o) (lt-ltb x (c + size a) h)
+    first-step y o = yes (ltb x (c + size a)) (stepIn y a c x o) (stepAmong y l (c + size a) x o) (lt-ltb x (c + size a) h)
 
     first-follow : (ms : List ℕ) → beginAfter (more a l) c x ms ≡ beginInTurn l (c + size a) ms
     unfolding beginAfter
@@ -47,9 +47,9 @@ module _ (a : Act) (l : Acts) (c x : ℕ) where
     first-room xs = yes (ltb x (c + size a)) (roomIn a c x xs) (roomAmong l (c + size a) x xs) (lt-ltb x (c + size a) h)
 
   module _ (h : c + size a ≤ x) where
-    later-step : (o : Order) → stepAmong (more a l) c x o ≡ stepAmong l (c + size a) x o
+    later-step : (y : Actor) (o : Order) → stepAmong y (more a l) c x o ≡ stepAmong y l (c + size a) x o
     unfolding stepIn
-    later-step o = no (ltb x (c + size a)) (stepIn a c x o) (stepAmong l (c + size a) x o) (le-ltb x (c + size a) h)
+    later-step y o = no (ltb x (c + size a)) (stepIn y a c x o) (stepAmong y l (c + size a) x o) (le-ltb x (c + size a) h)
 
     later-follow : (ms : List ℕ) → beginAfter (more a l) c x ms ≡ beginAfter l (c + size a) x ms
     unfolding beginAfter
@@ -78,7 +78,7 @@ module _ {t : List ℕ} {c e x j : ℕ} (w : Seeing t c e x j) where
     after = λ g. absurd (omega arith);
     is = if-none (λ l. Among t l j e x e) t j e h (record {
       found = λ g. absurd (omega arith);
-      missed = λ g. record { steps = λ o. refl; follows = λ ms. refl; direct = refl };
+      missed = λ g. record { steps = λ y o. refl; follows = λ ms. refl; direct = refl };
     });
   })
 
@@ -125,7 +125,7 @@ module _ {t : List ℕ} {c e x j : ℕ} (w : Seeing t c e x j) where
                     stands = k .stands;
                     later = k .later;
                     end = k .end;
-                    steps = λ o. later-step a l j x m o ∙ (rw i at (k .steps o));
+                    steps = λ y o. later-step a l j x m y o ∙ (rw i at (k .steps y o));
                     follows = λ ms. later-follow a l j x m ms ∙ (rw i at (k .follows ms));
                     direct = later-direct a l j x m ∙ (rw i at (k .direct));
                     room = λ xs. later-room a l j x m xs ∙ (rw i at (k .room xs));
@@ -133,7 +133,7 @@ module _ {t : List ℕ} {c e x j : ℕ} (w : Seeing t c e x j) where
               missed = λ v.
                   let k = y .missed v in
                   record {
-                    steps = λ o. later-step a l j x m o ∙ (rw i at (k .steps o));
+                    steps = λ y o. later-step a l j x m y o ∙ (rw i at (k .steps y o));
                     follows = λ ms. later-follow a l j x m ms ∙ (rw i at (k .follows ms));
                     direct = later-direct a l j x m ∙ (rw i at (k .direct));
                   };

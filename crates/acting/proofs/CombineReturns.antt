@@ -1,5 +1,5 @@
 -- The returns of the functions by which an activity goes on after a step within it, and of a step in an activity. Assumes nothing.
-use mathlib.Core.Path.{_≡_, refl, sym, ap, _∙_}
+use mathlib.Core.Path.{_≡_, refl, sym, ap, subst, _∙_}
 use mathlib.Core.Bool.{Bool, true, false, cond, not, _&&_, false≢true}
 use mathlib.Core.List.{List, []}
 use Prim.Native.Nat.{ℕ, _+_, _*_, _<_, _≤_}
@@ -13,8 +13,8 @@ use Rattle.order.specs.declared.Spot.{Spot}
 use Rattle.order.specs.declared.Way.{Way}
 use Rattle.order.specs.declared.Way.the-variants.{Running, Over, Raising, Leaving, Undone, UndoRaising}
 use Rattle.order.specs.declared.Went.{Went}
-use Rattle.order.specs.Acting.{finishes, again, isPart, joins, goesOn, inScope, combines, itself, arms, stepIn, stepAmong}
-use Rattle.order.specs.Answering.{KindOf, went, outcome, isOver, scopeAct, SpotAt, Makes, runsOf, finishesOf, StepsAt, Among, ChildWith, Arms, Follows, JoinsAt, InScope, hasParts, GoesOn, Combines, StepsIn}
+use Rattle.order.specs.Acting.{finishes, raises, again, isPart, joins, goesOn, inScope, combines, Actor, itsOwn, inPlace, replaces, performs, itself, arms, stepIn, stepAmong}
+use Rattle.order.specs.Answering.{KindOf, went, outcome, isOver, scopeAct, SpotAt, Makes, runsOf, finishesOf, StepsAt, Among, ChildWith, Arms, Follows, JoinsAt, InScope, hasParts, GoesOn, Combines, raisesOf, actorOf, Performs, StepsIn}
 use Rattle.order.specs.Begin.{part, partAt, beginAfter}
 use Rattle.order.specs.Event.{Event}
 use Rattle.order.specs.Lists.{only}
@@ -24,7 +24,7 @@ use Rattle.order.specs.Stands.{End, Stands}
 use Rattle.order.specs.State.{closings, markAt, marked}
 use Rattle.order.proofs.Deciding.{yes, no, where-not}
 use Rattle.order.proofs.Owns.{of-kind}
-use Rattle.order.proofs.Standing.{stands-end, row-kind, if-scope}
+use Rattle.order.proofs.Standing.{stands-end, stands-inside, row-kind, if-scope}
 use Rattle.order.proofs.MemoryReturns.{closings-are}
 
 -- `has_parts`
@@ -327,7 +327,7 @@ combines-same pick l k x R = goes-same k 2 (finishes k) R
 combines-same scope l k x R = scope-same k x l R
 combines-same (arm p q vs) l k x R = refl
 
--- `step_in`
+-- what room a scope needs
 room-of : (own : Own) (l : Acts) (k : ℕ) (o : Order) → hasRoom own l k (closings o) ≡ true
     → kind own ≡ 11 → length (closings (forgetting (scopeAt k l) o)) < 32
 unfolding hasRoom forgetting
@@ -337,16 +337,51 @@ room-of own l k o h e =
     let m : ltb (length xs) 32 ≡ true = rw g at h in
     rw (closings-are xs o) (ltb-true (length xs) 32 m)
 
-pub step-itself : {t : List ℕ} {k x : ℕ} {o : Order} → k ≡ x → {r : Went} → StepsAt t k o r → StepsIn t k x o r
+-- `replaced`, `performs`
+in-place : (own : Own) (l : Acts) (k : ℕ) (o : Order) (b : Bool) → replaces inPlace (kind own) ≡ b → performs inPlace own l k o ≡ elim b [ true ↦ raises k o | false ↦ itself own l k o ]
+unfolding performs
+in-place own l k o b e = subst (λ (z : Bool). performs inPlace own l k o ≡ elim z [ true ↦ raises k o | false ↦ itself own l k o ]) e refl
+
+kind-there : {t : List ℕ} {k : ℕ} (own : Own) (l : Acts) {n : ℕ} → KindOf t k n → Stands (act own l) k t → kind own ≡ n
+unfolding Stands size
+kind-there {t} {k} own l {n} a s = sym (a .is (omega (arith, stands-inside (act own l) k t s)) ∙ s .first .row .kind)
+
+module _ {t : List ℕ} {k : ℕ} {o : Order} where
+  pub replaced-receive : {n : ℕ} → KindOf t k n → n ≡ 2 → {r : Went} → r ≡ raisesOf k o → Performs t inPlace k o r
+  unfolding replaces
+  replaced-receive a e q = record { is = λ own l s g. q ∙ sym (ap went (in-place own l k o true (rw (kind-there own l a s ∙ e)))) }
+
+  pub replaced-arm : {n : ℕ} → KindOf t k n → n ≡ 12 → {r : Went} → r ≡ raisesOf k o → Performs t inPlace k o r
+  unfolding replaces
+  replaced-arm a e q = record { is = λ own l s g. q ∙ sym (ap went (in-place own l k o true (rw (kind-there own l a s ∙ e)))) }
+
+  pub replaced-other : {n : ℕ} → KindOf t k n → (n ≡ 2 → ⊥) → (n ≡ 12 → ⊥) → {r : Went} → StepsAt t k o r → Performs t inPlace k o r
+  unfolding replaces
+  replaced-other {n} a e d y =
+      record {
+        is = λ own l s g.
+            y .is own l s g
+            ∙ sym (ap went (in-place own l k o false (rw (ne-eqb (kind own) 2 (λ z. e (sym (kind-there own l a s) ∙ z)), ne-eqb (kind own) 12 (λ z. d (sym (kind-there own l a s) ∙ z))))));
+      }
+
+  pub performs-raise : {b : Bool} → b ≡ true → {r : Went} → Performs t inPlace k o r → Performs t (actorOf b) k o r
+  performs-raise e y = rw e y
+
+  pub performs-own : {b : Bool} → b ≡ false → {r : Went} → StepsAt t k o r → Performs t (actorOf b) k o r
+  unfolding performs replaces
+  performs-own e y = rw e (record { is = λ own l s g. y .is own l s g })
+
+-- `step_in`
+pub step-itself : {t : List ℕ} {z : Actor} {k x : ℕ} {o : Order} → k ≡ x → {r : Went} → Performs t z k o r → StepsIn t z k x o r
 unfolding stepIn roomIn
-step-itself {t} {k} {x} {o} e {r} y = record { is = is }
+step-itself {t} {z} {k} {x} {o} e {r} y = record { is = is }
   where
-    is : (a : Act) → Stands a k t → roomIn a k x (closings o) ≡ true → r ≡ went (stepIn a k x o)
+    is : (a : Act) → Stands a k t → roomIn a k x (closings o) ≡ true → r ≡ went (stepIn z a k x o)
     is (act own l) s h =
         let m : eqb k x ≡ true = eq-eqb k x e in
         let g : hasRoom own l k (closings o) ≡ true = sym (yes (eqb k x) (hasRoom own l k (closings o)) (roomAmong l (k + 1) x (closings o)) m) ∙ h in
         y .is own l s (room-of own l k o g)
-        ∙ sym (ap went (yes (eqb k x) (itself own l k o) (combines own l k x (stepAmong l (k + 1) x (arms own l k x o))) m))
+        ∙ sym (ap went (yes (eqb k x) (performs z own l k o) (combines own l k x (stepAmong z l (k + 1) x (arms own l k x o))) m))
 
 -- what is remembered stays as it is where an arm of a pick takes its message
 arms-closings : (own : Own) (l : Acts) (k x : ℕ) (o : Order) → closings (arms own l k x o) ≡ closings o
@@ -367,33 +402,33 @@ module _ {t : List ℕ} {k x : ℕ} {o : Order} (n : k ≡ x → ⊥) {e : ℕ} 
   unfolding Stands
   among own l s = y .is l (s .rest) (row-end own l s)
 
-  combined : (own : Own) (l : Acts) → Stands (act own l) k t → r ≡ went (stepAmong l (k + 1) x o₁) → p ≡ went (stepIn (act own l) k x o)
+  combined : (v : Actor) (own : Own) (l : Acts) → Stands (act own l) k t → r ≡ went (stepAmong v l (k + 1) x o₁) → p ≡ went (stepIn v (act own l) k x o)
   unfolding stepIn
-  combined own l s g =
+  combined v own l s g =
       let i : o₁ ≡ arms own l k x o = w .is own l s (among own l s) in
-      let R = stepAmong l (k + 1) x (arms own l k x o) in
+      let R = stepAmong v l (k + 1) x (arms own l k x o) in
       let d : r ≡ went R = rw i at g in
       (rw d at (c .is own l s (row-end own l s) (among own l s)))
       ∙ (sym (combines-same own l k x R)
-      ∙ sym (ap went (no (eqb k x) (itself own l k o) (combines own l k x R) (ne-eqb k x n))))
+      ∙ sym (ap went (no (eqb k x) (performs v own l k o) (combines own l k x R) (ne-eqb k x n))))
 
   room-within : (own : Own) (l : Acts) → roomIn (act own l) k x (closings o) ≡ true → roomAmong l (k + 1) x (closings o) ≡ true
   unfolding roomIn
   room-within own l h = sym (no (eqb k x) (hasRoom own l k (closings o)) (roomAmong l (k + 1) x (closings o)) (ne-eqb k x n)) ∙ h
 
-  pub step-within : child < e → StepsIn t child x o₁ r → StepsIn t k x o p
-  step-within h g = record { is = is }
+  pub step-within : {v : Actor} → child < e → StepsIn t v child x o₁ r → StepsIn t v k x o p
+  step-within {v} h g = record { is = is }
     where
-      is : (a : Act) → Stands a k t → roomIn a k x (closings o) ≡ true → p ≡ went (stepIn a k x o)
+      is : (a : Act) → Stands a k t → roomIn a k x (closings o) ≡ true → p ≡ went (stepIn v a k x o)
       is (act own l) s m =
           let d = among own l s .found h in
           let i : o₁ ≡ arms own l k x o = w .is own l s (among own l s) in
           let j : closings o₁ ≡ closings o = ap closings i ∙ arms-closings own l k x o in
-          let v : roomIn (d .part) child x (closings o₁) ≡ true = rw j (sym (d .room (closings o)) ∙ room-within own l m) in
-          combined own l s (g .is (d .part) (d .stands) v ∙ ap went (sym (d .steps o₁)))
+          let w′ : roomIn (d .part) child x (closings o₁) ≡ true = rw j (sym (d .room (closings o)) ∙ room-within own l m) in
+          combined v own l s (g .is (d .part) (d .stands) w′ ∙ ap went (sym (d .steps v o₁)))
 
-  pub step-nowhere : e ≤ child → r ≡ runsOf o₁ → StepsIn t k x o p
-  step-nowhere h g = record { is = is }
+  pub step-nowhere : {v : Actor} → e ≤ child → r ≡ runsOf o₁ → StepsIn t v k x o p
+  step-nowhere {v} h g = record { is = is }
     where
-      is : (a : Act) → Stands a k t → roomIn a k x (closings o) ≡ true → p ≡ went (stepIn a k x o)
-      is (act own l) s m = combined own l s (g ∙ ap went (sym (among own l s .missed h .steps o₁)))
+      is : (a : Act) → Stands a k t → roomIn a k x (closings o) ≡ true → p ≡ went (stepIn v a k x o)
+      is (act own l) s m = combined v own l s (g ∙ ap went (sym (among own l s .missed h .steps v o₁)))

@@ -3,3 +3,4 @@ mod CombineReturns
 mod RootReturns
 mod TakeReturns
 mod OutcomeReturns
+mod JudgingReturns

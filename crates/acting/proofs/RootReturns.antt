@@ -15,8 +15,8 @@ use Rattle.order.specs.declared.Spot.{Spot}
 use Rattle.order.specs.declared.Way.{Way}
 use Rattle.order.specs.declared.Way.the-variants.{Running, Over, Raising, Leaving, Undone, UndoRaising}
 use Rattle.order.specs.declared.Went.{Went}
-use Rattle.order.specs.Acting.{stepIn, stepRoot, endOf, movedTo, stepOrder}
-use Rattle.order.specs.Answering.{went, outcome, nextOf, endedOf, Makes, StepsIn, RootSpot, StepsOrder}
+use Rattle.order.specs.Acting.{Actor, stepIn, stepRoot, endOf, movedTo, acted}
+use Rattle.order.specs.Answering.{went, outcome, nextOf, endedOf, Makes, StepsIn, RootSpot, ActsOrder}
 use Rattle.order.specs.Event.{Event}
 use Rattle.order.specs.Room.{hasRoom, roomIn, roomAmong, roomPlan}
 use Rattle.order.specs.Scope.{Scope, Outcome, rootOf, fromBody, fromFault}
@@ -110,8 +110,8 @@ unfolding roomIn size
 room-beyond (act own l) k x xs h =
     no (eqb k x) (hasRoom own l k xs) (roomAmong l (k + 1) x xs) (ne-eqb k x (λ e. omega arith)) ∙ room-past l (k + 1) x xs (omega arith)
 
--- `step_order`
-module _ (t : List ℕ) (activities x : ℕ) (o : Order) {z : Spot} (y : RootSpot t activities z) where
+-- `acted`
+module _ (t : List ℕ) (activities : ℕ) (v : Actor) (x : ℕ) (o : Order) {z : Spot} (y : RootSpot t activities z) where
   fault-row : (p : Plan) → PlanStands p activities t → z .fault ≡ size (p .body)
   fault-row p s = ap (λ (c : Scope). c .faultAt) (y .same p s)
 
@@ -121,20 +121,20 @@ module _ (t : List ℕ) (activities x : ℕ) (o : Order) {z : Spot} (y : RootSpo
       let m : x < 0 + size (p .body) = omega arith in
       sym (yes (ltb x (0 + size (p .body))) (roomIn (p .body) 0 x (closings o)) _ (lt-ltb _ _ m)) ∙ g
 
-  pub step-body : x < z .fault → {r : Went} → StepsIn t 0 x o r → {p : Went} → Makes t z fromBody r p → {n : Next}
-      → n ≡ nextOf (movedTo (outcome p) (endOf (outcome p))) → StepsOrder t activities x o n
-  unfolding stepOrder stepRoot
+  pub step-body : x < z .fault → {r : Went} → StepsIn t v 0 x o r → {p : Went} → Makes t z fromBody r p → {n : Next}
+      → n ≡ nextOf (movedTo (outcome p) (endOf (outcome p))) → ActsOrder t activities v x o n
+  unfolding acted stepRoot
   step-body h {r} a {p} b {n} c = record {
     is = λ q s room.
         let w = plan-stands s in
         let m : x < size (q .body) = omega (arith, fault-row q w) in
-        let R = stepIn (q .body) 0 x o in
+        let R = stepIn v (q .body) 0 x o in
         let d : r ≡ went R = a .is (q .body) (w .body) (room-body q m room) in
         let e : p ≡ went (fromBody (rootOf q) (outcome (went R)))
         = (rw d at (b .is (q .body) (q .fault) (y .held q w))) ∙ ap (λ (s : Scope). went (fromBody s (outcome (went R)))) (y .same q w) in
-        let f : p ≡ went (stepRoot q x o)
+        let f : p ≡ went (stepRoot v q x o)
         = e ∙ (sym (body-same (rootOf q) R) ∙ sym (ap went (yes (ltb x (size (q .body))) (fromBody (rootOf q) R) _ (lt-ltb _ _ m)))) in
-        (rw f at c) ∙ sym (moved-same (stepRoot q x o));
+        (rw f at c) ∙ sym (moved-same (stepRoot v q x o));
   }
 
   room-fault : (p : Plan) → size (p .body) ≤ x → roomPlan p x (closings o) ≡ true → roomIn (p .fault) (size (p .body)) x (closings o) ≡ true
@@ -150,21 +150,21 @@ module _ (t : List ℕ) (activities x : ℕ) (o : Order) {z : Spot} (y : RootSpo
       go true e v = v
       go false e v = room-beyond (p .fault) (0 + size (p .body)) x (closings o) (ltb-false _ _ e)
 
-  pub step-fault : z .fault ≤ x → {r : Went} → StepsIn t (z .fault) x o r → {p : Went} → Makes t z fromFault r p → {n : Next}
-      → n ≡ nextOf (movedTo (outcome p) (endOf (outcome p))) → StepsOrder t activities x o n
-  unfolding stepOrder stepRoot
+  pub step-fault : z .fault ≤ x → {r : Went} → StepsIn t v (z .fault) x o r → {p : Went} → Makes t z fromFault r p → {n : Next}
+      → n ≡ nextOf (movedTo (outcome p) (endOf (outcome p))) → ActsOrder t activities v x o n
+  unfolding acted stepRoot
   step-fault h {r} a {p} b {n} c = record {
     is = λ q s room.
         let w = plan-stands s in
         let i : z .fault ≡ size (q .body) = fault-row q w in
         let m : size (q .body) ≤ x = omega arith in
-        let R = stepIn (q .fault) (size (q .body)) x o in
+        let R = stepIn v (q .fault) (size (q .body)) x o in
         let d : r ≡ went R = (rw i at a) .is (q .fault) (w .fault) (room-fault q m room) in
         let e : p ≡ went (fromFault (rootOf q) (outcome (went R)))
         = (rw d at (b .is (q .body) (q .fault) (y .held q w))) ∙ ap (λ (s : Scope). went (fromFault s (outcome (went R)))) (y .same q w) in
-        let f : p ≡ went (stepRoot q x o)
+        let f : p ≡ went (stepRoot v q x o)
         = e ∙ (sym (fault-same (rootOf q) R) ∙ sym (ap went (no (ltb x (size (q .body))) (fromBody (rootOf q) _) (fromFault (rootOf q) R) (le-ltb _ _ m)))) in
-        (rw f at c) ∙ sym (moved-same (stepRoot q x o));
+        (rw f at c) ∙ sym (moved-same (stepRoot v q x o));
   }
 
 -- `ended`

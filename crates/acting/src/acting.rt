@@ -5,6 +5,7 @@ use super::outcomes::from_undo;
 use activity::again;
 use activity::finishes;
 use activity::itself;
+use activity::raises;
 use beginning::begin_in_turn;
 use order::Entered;
 use order::Order;
@@ -22,7 +23,8 @@ use order::rows::kind_of;
 use order::rows::spot_at;
 ghost use Prim.Native.Nat.{_≤_, _<_};
 ghost use mathlib.Core.Path.{_≡_};
-ghost use Rattle.order.specs.Answering.{ChildWith, Arms, BeginsAfter, Follows, JoinsAt, InScope, GoesOn, hasParts, Combines, StepsIn};
+ghost use Rattle.order.specs.Acting.{inPlace};
+ghost use Rattle.order.specs.Answering.{ChildWith, Arms, BeginsAfter, Follows, JoinsAt, InScope, GoesOn, hasParts, Combines, actorOf, Performs, StepsIn};
 
 // The row of those from c to e, side by side, in which row t stands; e where there is none.
 fn child_with(table: &[u32; 11584], c: usize, e: usize, t: usize) -> usize
@@ -165,19 +167,43 @@ fn combines(table: &[u32; 11584], k: usize, e: usize, child: usize, t: usize, r:
     r
 }
 
-// Step t in activity k.
-pub(crate) fn step_in(table: &[u32; 11584], k: usize, t: usize, order: Order) -> Went
+// A raise in place of activity k, where that is a receive or an arm.
+fn replaced(table: &[u32; 11584], k: usize, order: Order) -> Went
+    ensures { λ p. ⌜ Performs (now (table .entry)) inPlace k order p ⌝ }
+{
+    let kind = kind_of(table, k);
+    if kind == kind::RECEIVE {
+        return raises(k, order);
+    }
+    if kind == kind::ARM {
+        return raises(k, order);
+    }
+    itself(table, k, order)
+}
+
+// Activity k acts, or a raise in its place.
+fn performs(table: &[u32; 11584], k: usize, raise: bool, order: Order) -> Went
+    ensures { λ p. ⌜ Performs (now (table .entry)) (actorOf raise) k order p ⌝ }
+{
+    if raise {
+        return replaced(table, k, order);
+    }
+    itself(table, k, order)
+}
+
+// Step t in activity k, or a raise in its place.
+pub(crate) fn step_in(table: &[u32; 11584], k: usize, t: usize, raise: bool, order: Order) -> Went
     requires { ⌜ k < 256 ⌝ }
-    ensures { λ p. ⌜ StepsIn (now (table .entry)) k t order p ⌝ }
+    ensures { λ p. ⌜ StepsIn (now (table .entry)) (actorOf raise) k t order p ⌝ }
 {
     if k == t {
-        return itself(table, k, order);
+        return performs(table, k, raise, order);
     }
     let e = end_of(table, k);
     let child = child_with(table, k + 1, e, t);
     let o = arms(table, k, e, child, t, order);
     if child < e {
-        let r = step_in(table, child, t, o);
+        let r = step_in(table, child, t, raise, o);
         return combines(table, k, e, child, t, r);
     }
     combines(table, k, e, child, t, runs(o))

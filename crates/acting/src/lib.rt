@@ -1,5 +1,6 @@
 // One order: what a step in it leads to, and what it takes.
 mod acting;
+mod judging;
 mod outcomes;
 mod root;
 mod taking;
@@ -13,21 +14,16 @@ ghost use Rattle.order.specs.Answering.{StepsOrder, TakesOrder};
 // The calls below answer what the definitions say of the plan that the table spells. On a table that spells no plan they are safe and end, and
 // nothing more is said of their answers (docs/DECISIONS.md).
 
-// Step t of an order: how the order ended with it, if it did, and the order after it. `activities` is how many activities and arms the plan has.
-// Nothing is said of a close that has no room: it is held, and so not taken.
+// Step t of an order, and what is open then judged: how the order ended with it, if it did, and the order after it. `activities` is how many activities and
+// arms the plan has. Nothing is said of a close that has no room: it is held, and so not taken.
 pub fn step_order(table: &[u32; 11584], activities: usize, order: Order, t: usize) -> Next
     ensures { λ r. ⌜ StepsOrder (now (table .entry)) activities t order r ⌝ }
 {
-    let s = root::root_spot(table, activities);
-    let fault = s.fault;
-    if t < fault {
-        let r = acting::step_in(table, 0, t, order);
-        let p = outcomes::from_body(table, s, r);
-        return root::moved_to(p);
-    }
-    let r = acting::step_in(table, fault, t, order);
-    let p = outcomes::from_fault(table, s, r);
-    root::moved_to(p)
+    judging::settled(
+        table,
+        activities,
+        root::acted(table, activities, order, t, false),
+    )
 }
 
 // The order that takes a message with these values by activity t: the variables of a receive or an arm are bound. Its step comes after.

@@ -1,4 +1,7 @@
 // The root as a scope, and how an order stands after a step.
+use super::acting::step_in;
+use super::outcomes::from_body;
+use super::outcomes::from_fault;
 use beginning::no_order;
 use order::End;
 use order::Next;
@@ -11,7 +14,7 @@ use order::rows::end_of;
 ghost use Prim.Native.Nat.{_≤_, _<_};
 ghost use mathlib.Core.Path.{_≡_};
 ghost use Rattle.order.specs.Acting.{endOf, movedTo};
-ghost use Rattle.order.specs.Answering.{outcome, nextOf, endedOf, RootSpot};
+ghost use Rattle.order.specs.Answering.{outcome, nextOf, endedOf, actorOf, RootSpot, ActsOrder};
 
 // An order that ended so: its slot is free.
 fn ended(end: End) -> Next
@@ -78,4 +81,26 @@ pub(crate) fn root_spot(table: &[u32; 11584], activities: usize) -> Spot
         body: 0,
         fault,
     }
+}
+
+// Activity t acts in an order, or a raise in its place: how the order ended with it, if it did, and the order after it.
+pub(crate) fn acted(
+    table: &[u32; 11584],
+    activities: usize,
+    order: Order,
+    t: usize,
+    raise: bool,
+) -> Next
+    ensures { λ r. ⌜ ActsOrder (now (table .entry)) activities (actorOf raise) t order r ⌝ }
+{
+    let s = root_spot(table, activities);
+    let fault = s.fault;
+    if t < fault {
+        let r = step_in(table, 0, t, raise, order);
+        let p = from_body(table, s, r);
+        return moved_to(p);
+    }
+    let r = step_in(table, fault, t, raise, order);
+    let p = from_fault(table, s, r);
+    moved_to(p)
 }

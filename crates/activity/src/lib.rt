@@ -37,7 +37,7 @@ pub fn finishes(k: usize, order: Order) -> Went
 }
 
 // Activity k raises.
-fn raises(k: usize, order: Order) -> Went
+pub fn raises(k: usize, order: Order) -> Went
     ensures { λ r. ⌜ r ≡ raisesOf k order ⌝ }
 {
     let o = marked(k, mark::IDLE, order);

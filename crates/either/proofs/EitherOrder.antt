@@ -16,7 +16,8 @@ use Rattle.plan.proofs.Accepts.{both}
 use Rattle.order.specs.declared.End.{End}
 use Rattle.order.specs.declared.End.the-variants.{None, Well, Handled, Failed, Left}
 use Rattle.order.specs.declared.Order.{Order}
-use Rattle.order.specs.Acting.{Moved, stepOrder}
+use Rattle.order.specs.Acting.{Moved}
+use Rattle.order.specs.Judging.{stepOrder}
 use Rattle.order.specs.Lists.{every}
 use Rattle.order.specs.State.{isLive, noOrder}
 use Rattle.machine.specs.declared.State.{State}

@@ -9,7 +9,7 @@ use lib.Dec.{eqb}
 use Rattle.plan.specs.Found.{found, among}
 use Rattle.plan.specs.Tree.{Own, kind, Acts, Plan}
 use Rattle.order.specs.declared.Order.{Order}
-use Rattle.order.specs.Acting.{stepOrder}
+use Rattle.order.specs.Judging.{stepOrder}
 use Rattle.order.specs.Lists.{some}
 use Rattle.order.specs.State.{isLive, noOrder}
 use Rattle.machine.specs.declared.State.{State}

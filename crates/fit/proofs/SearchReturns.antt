@@ -13,7 +13,7 @@ use Rattle.plan.specs.Table.{rowOf}
 use Rattle.plan.specs.Tree.{Own, empty, send, receive, set, raise, leave, choose, repeat, sequence, flow, pick, scope, arm, kind, Plan}
 use Rattle.machine.specs.declared.Message.{Message}
 use Rattle.order.specs.declared.Order.{Order}
-use Rattle.fit.specs.Answering.{Exchange, AsksRow, FitsRow, messageAt, openPick, armsFrom, aroundFrom, PicksRow, Picks, ArmsRow, fitsOwn, catches}
+use Rattle.fit.specs.Answering.{Exchange, AsksRow, FitsRow, messageAt, openPick, armsFrom, aroundFrom, PicksRow, Picks, ArmAt, ArmsRow, fitsOwn, catches}
 use Rattle.machine.specs.Fit.{awaits, Letter, fits}
 use Rattle.order.specs.State.{active, isLive, markAt}
 use Rattle.fit.specs.Lines.{Line, isReady, Stands}
@@ -88,6 +88,17 @@ arms-around t ms k (suc j) h = by-test (arms-around t ms k j (omega arith)) (ltb
         ≡ cond (ltb (cond b j (aroundFrom t k j)) 256) (openPick t ms (cond b j (aroundFrom t k j))) false
     by-test e true = rw (lt-ltb j 256 (omega arith))
     by-test e false = e
+
+-- `arm_at`
+pub arm-beyond : (t ms : List ℕ) (k : ℕ) → 256 ≤ k → ArmAt t ms k false
+arm-beyond t ms k h = record { is = λ g. absurd (omega arith) }
+
+module _ (t ms : List ℕ) (k : ℕ) {j : ℕ} (e : j ≡ aroundFrom t k k) where
+  pub arm-some : {r : Bool} → j < 256 → r ≡ openPick t ms j → ArmAt t ms k r
+  arm-some h q = record { is = λ g. q ∙ sym (arms-around t ms k k (omega arith) ∙ rw (← e, lt-ltb _ _ h)) }
+
+  pub arm-none : 256 ≤ j → ArmAt t ms k false
+  arm-none h = record { is = λ g. sym (arms-around t ms k k (omega arith) ∙ rw (← e, le-ltb _ _ h)) }
 
 pub arms-beyond : (t picks ms : List ℕ) (k : ℕ) → 256 ≤ k → ArmsRow t picks ms k false
 arms-beyond t picks ms k h = record { is = λ g w z. absurd (omega arith) }

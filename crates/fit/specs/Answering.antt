@@ -120,7 +120,10 @@ pub record PicksRow (t : List ℕ) (k r : ℕ) : Type 0 where
 pub record Picks (t picks : List ℕ) : Type 0 where
   pub is : (k : ℕ) → k < 256 → PicksRow t k (getD picks k 0)
 
--- r says whether the arm in row k is open
+-- r says whether the arm in row k is open: by the table alone, and by the rows that the arms stand within
+pub record ArmAt (t ms : List ℕ) (k : ℕ) (r : Bool) : Type 0 where
+  pub is : k < 256 → r ≡ armsFrom t ms k k
+
 pub record ArmsRow (t picks ms : List ℕ) (k : ℕ) (r : Bool) : Type 0 where
   pub is : k < 256 → Picks t picks → getD t (k * 13) 0 ≡ 12 → r ≡ armsFrom t ms k k
 

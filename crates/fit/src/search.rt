@@ -8,7 +8,7 @@ ghost use Prim.Native.Nat.{_<_};
 ghost use mathlib.Core.Bool.{cond};
 ghost use mathlib.Core.Path.{_≡_};
 ghost use Rattle.order.specs.State.{isLive};
-ghost use Rattle.fit.specs.Answering.{openPick, aroundFrom, Picks, ArmsRow};
+ghost use Rattle.fit.specs.Answering.{openPick, aroundFrom, Picks, ArmAt, ArmsRow};
 ghost use Rattle.fit.specs.Receiving.{OpensRow, TakesRow, Receives};
 
 // Whether row j is an active pick.
@@ -36,6 +36,20 @@ fn row_around(table: &[u32; 11584], k: usize) -> usize
         }
     }
     256
+}
+
+// Whether the arm in row k is open, where the rows that the arms stand within are not at hand.
+pub fn arm_at(table: &[u32; 11584], marks: &[u8; 256], k: usize) -> bool
+    ensures { λ r. ⌜ ArmAt (now (table .entry)) (now (marks .entry)) k r ⌝ }
+{
+    if 256 <= k {
+        return false;
+    }
+    let j = row_around(table, k);
+    if j < 256 {
+        return open_pick(table, marks, j);
+    }
+    false
 }
 
 // The rows that the arms stand within.

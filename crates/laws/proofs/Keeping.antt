@@ -17,7 +17,8 @@ use Rattle.plan.specs.Tree.{Exp, Own, empty, send, receive, set as setting, rai
 use Rattle.plan.proofs.Accepts.{both}
 use Rattle.plan.proofs.Limits.{accepted-is-within}
 use Rattle.order.specs.declared.Order.{Order}
-use Rattle.order.specs.Acting.{startedOrder, stepOrder, begunOrder, allBound}
+use Rattle.order.specs.Acting.{startedOrder, begunOrder, allBound}
+use Rattle.order.specs.Judging.{stepOrder}
 use Rattle.order.specs.Event.{Event, started}
 use Rattle.order.specs.Lists.{every, stored}
 use Rattle.order.specs.Room.{roomPlan}

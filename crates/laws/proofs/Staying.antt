@@ -21,12 +21,16 @@ use Rattle.order.specs.Expression.{Value, fault, value, evaluate, isTrue}
 use Rattle.order.specs.State.{idle, active, inside, done, faulty, undoing, handling, halted, withdrawing, Name, root, inner, withMarks, withRoot, binding, closings, remembering, markAt, marked, markOf, marking, noOrder}
 use Rattle.order.specs.Begin.{Begun, begin, beginInTurn, beginAll, beginFirst, beginAfter, beginPart, part, partAt, throughout, around, itsBeginning, inTurn, sideBySide, nothingBegun, awaiting, cleared, quiet}
 use Rattle.order.specs.Scope.{Outcome, Scope, Stopped, runs, after, begunIn, scopeAt, rootOf, isScope, isFor, rememberedFor, forgetting, closing, innerRuns, beginUndo, beginUndoIn, whereOver, startUndo, undo, ends, handle, undoes, turns, isOpen, untouched, alsoStopped, withdraws, stop, stopAll, stopFirst, faults, breaks, looksAgain, bodyOver, bodyRaised, undoOver, undoRaised, fromBody, partOver, partRaised, fromFault, fromUndo}
-use Rattle.order.specs.Acting.{finishes, raises, leaves, orRaises, enters, again, repeats, allBound, itself, isPart, arms, goesOn, joins, inScope, combines, stepIn, stepAmong, stepRoot, endOf, movedTo, stepOrder, startedOrder, begunOrder}
+use Rattle.order.specs.Acting.{finishes, raises, leaves, orRaises, enters, again, repeats, allBound, itself, isPart, arms, goesOn, joins, inScope, combines, stepIn, stepAmong, stepRoot, endOf, movedTo, startedOrder, begunOrder, Actor, itsOwn, inPlace, replaces, performs, Moved, acted}
+use Rattle.order.specs.Awaited.{Doing, noStep, sends, takes, moves, cuts, closes, Ready, readyOf}
+use Rattle.order.specs.Judging.{isSecond, Verdict, clear, clash, clashAfter, conflict, following, upon, judged, spare, settled, stepOrder}
+use Rattle.machine.specs.Calls.{doingAt}
+use Rattle.laws.proofs.Roomy.{roomOf, plan-room}
 use Rattle.order.specs.Room.{hasRoom, roomIn, roomAmong, roomPlan}
 use Rattle.order.specs.Taking.{bindAll}
 use Rattle.order.proofs.MemoryReturns.{closings-are}
 use Rattle.machine.specs.Limits.{rootInLimits, orderInLimits}
-use Rattle.laws.proofs.Offering.{pick-true, pick-false}
+use Rattle.laws.proofs.Offering.{pick-true, pick-false, Each, each-none, each-more, Does, plan-ready}
 
 -- a test that holds of each holds of each after one is changed to one of which it holds
 pub every-set : {A : Type 0} (f : A → Bool) (l : List A) (i : ℕ) (v : A) → f v ≡ true → every f l ≡ true → every f (set l i v) ≡ true
@@ -525,34 +529,43 @@ arms-closings own l k t o = go (eqb (kind own) 10 && isPart l (k + 1) t)
     go true = refl
     go false = refl
 
+-- what acts, or the raise in its place
+fine-performs : {z : ℕ} {o : Order} (y : Actor) (own : Own) (l : Acts) (k : ℕ) → hasRoom own l k (closings o) ≡ true → Fine false z o → Fine false z (performs y own l k o .order)
+unfolding performs
+fine-performs {z} {o} y own l k h f = go (replaces y (kind own))
+  where
+    go : (b : Bool) → Fine false z (elim b as (λ _. Outcome) [ true ↦ raises k o | false ↦ itself own l k o ] .order)
+    go true = fine-marked k idle refl f
+    go false = fine-itself own l k h f
+
 -- step t in an activity
 mutual
   unfolding stepIn roomIn size
 
-  fine-step-in : {z : ℕ} {o : Order} (a : Act) (k t : ℕ) → roomIn a k t (closings o) ≡ true → Fine false z o → Fine false z (stepIn a k t o .order)
-  fine-step-in {z} {o} (act own l) k t h f =
-      go (eqb k t) h (λ e. fine-itself own l k e f)
-      (λ e. fine-combines own l k t (stepAmong l (k + 1) t (arms own l k t o))
-      (fine-step-among l (k + 1) t (ap (roomAmong l (k + 1) t) (arms-closings own l k t o) ∙ e) (fine-arms own l k t f)))
+  fine-step-in : {z : ℕ} {o : Order} (y : Actor) (a : Act) (k t : ℕ) → roomIn a k t (closings o) ≡ true → Fine false z o → Fine false z (stepIn y a k t o .order)
+  fine-step-in {z} {o} y (act own l) k t h f =
+      go (eqb k t) h (λ e. fine-performs y own l k e f)
+      (λ e. fine-combines own l k t (stepAmong y l (k + 1) t (arms own l k t o))
+      (fine-step-among y l (k + 1) t (ap (roomAmong l (k + 1) t) (arms-closings own l k t o) ∙ e) (fine-arms own l k t f)))
     where
       go : (b : Bool) → elim b [ true ↦ hasRoom own l k (closings o) | false ↦ roomAmong l (k + 1) t (closings o) ] ≡ true
-          → (hasRoom own l k (closings o) ≡ true → Fine false z (itself own l k o .order))
-          → (roomAmong l (k + 1) t (closings o) ≡ true → Fine false z (combines own l k t (stepAmong l (k + 1) t (arms own l k t o)) .order))
-          → Fines false z (elim b [ true ↦ itself own l k o | false ↦ combines own l k t (stepAmong l (k + 1) t (arms own l k t o)) ])
-      go true e x y = x e
-      go false e x y = y e
+          → (hasRoom own l k (closings o) ≡ true → Fine false z (performs y own l k o .order))
+          → (roomAmong l (k + 1) t (closings o) ≡ true → Fine false z (combines own l k t (stepAmong y l (k + 1) t (arms own l k t o)) .order))
+          → Fines false z (elim b [ true ↦ performs y own l k o | false ↦ combines own l k t (stepAmong y l (k + 1) t (arms own l k t o)) ])
+      go true e u v = u e
+      go false e u v = v e
 
-  fine-step-among : {z : ℕ} {o : Order} (l : Acts) (c t : ℕ) → roomAmong l c t (closings o) ≡ true → Fine false z o → Fine false z (stepAmong l c t o .order)
-  fine-step-among none c t h f = f
-  fine-step-among {z} {o} (more a l) c t h f =
-      go (ltb t (c + size a)) h (λ e. fine-step-in a c t e f) (λ e. fine-step-among l (c + size a) t e f)
+  fine-step-among : {z : ℕ} {o : Order} (y : Actor) (l : Acts) (c t : ℕ) → roomAmong l c t (closings o) ≡ true → Fine false z o → Fine false z (stepAmong y l c t o .order)
+  fine-step-among y none c t h f = f
+  fine-step-among {z} {o} y (more a l) c t h f =
+      go (ltb t (c + size a)) h (λ e. fine-step-in y a c t e f) (λ e. fine-step-among y l (c + size a) t e f)
     where
       go : (b : Bool) → elim b [ true ↦ roomIn a c t (closings o) | false ↦ roomAmong l (c + size a) t (closings o) ] ≡ true
-          → (roomIn a c t (closings o) ≡ true → Fine false z (stepIn a c t o .order))
-          → (roomAmong l (c + size a) t (closings o) ≡ true → Fine false z (stepAmong l (c + size a) t o .order))
-          → Fines false z (elim b [ true ↦ stepIn a c t o | false ↦ stepAmong l (c + size a) t o ])
-      go true e x y = x e
-      go false e x y = y e
+          → (roomIn a c t (closings o) ≡ true → Fine false z (stepIn y a c t o .order))
+          → (roomAmong l (c + size a) t (closings o) ≡ true → Fine false z (stepAmong y l (c + size a) t o .order))
+          → Fines false z (elim b [ true ↦ stepIn y a c t o | false ↦ stepAmong y l (c + size a) t o ])
+      go true e u v = u e
+      go false e u v = v e
 
 -- an order's limits and this
 pub limits-fine : (o : Order) → orderInLimits o ≡ true → Fine true 0 o
@@ -626,11 +639,11 @@ ended-body p r f = go (r .result)
     go undone = ended-fine (after (r .log) (undoOver (rootOf p) (r .order))) (fine-undo-over (rootOf p) f)
     go undoRaising = ended-fine (after (r .log) (undoRaised (rootOf p) (r .order))) (fine-undo-raised (rootOf p) f)
 
--- A step of an order within its limits leaves it so.
-pub step-limits : (p : Plan) (t : ℕ) (o : Order) → t < size (p .body) + size (p .fault) → roomPlan p t (closings o) ≡ true → orderInLimits o ≡ true
-    → orderInLimits (stepOrder p t o .order) ≡ true
-unfolding stepOrder stepRoot roomIn
-step-limits p t o h e f =
+-- An order within its limits that an activity acts in, or a raise in its place, stays so.
+acted-limits : (y : Actor) (p : Plan) (t : ℕ) (o : Order) → t < size (p .body) + size (p .fault) → roomPlan p t (closings o) ≡ true → orderInLimits o ≡ true
+    → orderInLimits (acted y p t o .order) ≡ true
+unfolding acted stepRoot roomIn
+acted-limits y p t o h e f =
     let z : 0 + size (p .body) ≡ size (p .body) = omega arith in
     go (ltb t (size (p .body))) (ltb t (size (p .body) + size (p .fault))) (lt-ltb t (size (p .body) + size (p .fault)) h)
     (subst (λ (n : ℕ). _≡_ {A = Bool} (elim (ltb t n) [
@@ -647,14 +660,67 @@ step-limits p t o h e f =
           | false ↦ elim b [ true ↦ roomIn (p .fault) (size (p .body)) t (closings o) | false ↦ true ]
         ]) true
         → Ends (elim a [
-          | true ↦ fromBody (rootOf p) (stepIn (p .body) 0 t o)
-          | false ↦ fromFault (rootOf p) (stepIn (p .fault) (size (p .body)) t o)
+          | true ↦ fromBody (rootOf p) (stepIn y (p .body) 0 t o)
+          | false ↦ fromFault (rootOf p) (stepIn y (p .fault) (size (p .body)) t o)
         ])
-    go true b q r = ended-body p (stepIn (p .body) 0 t o) (fine-out fine (fine-step-in (p .body) 0 t r (fine-in fine)))
+    go true b q r = ended-body p (stepIn y (p .body) 0 t o) (fine-out fine (fine-step-in y (p .body) 0 t r (fine-in fine)))
     go false true q r =
-        ended-fine (fromFault (rootOf p) (stepIn (p .fault) (size (p .body)) t o))
-        (fine-from-fault (rootOf p) (stepIn (p .fault) (size (p .body)) t o) (fine-out fine (fine-step-in (p .fault) (size (p .body)) t r (fine-in fine))))
+        ended-fine (fromFault (rootOf p) (stepIn y (p .fault) (size (p .body)) t o))
+        (fine-from-fault (rootOf p) (stepIn y (p .fault) (size (p .body)) t o) (fine-out fine (fine-step-in y (p .fault) (size (p .body)) t r (fine-in fine))))
     go false false q r = absurd (let w : _≡_ {A = ℕ} 0 1 = cc in omega arith)
+
+-- what is for the same thing as one before it closes nothing
+second-room : (before : List Ready) (d : Doing) (xs : List ℕ) → isSecond before d ≡ true → roomOf d xs ≡ true
+unfolding isSecond roomOf
+second-room before noStep xs e = refl
+second-room before (sends p o vs) xs e = refl
+second-room before (takes p o vs) xs e = refl
+second-room before moves xs e = refl
+second-room before cuts xs e = refl
+second-room before (closes s) xs e = absurd (let z : _≡_ {A = Bool} false true = e in let w : _≡_ {A = ℕ} 0 1 = cc in omega arith)
+
+-- So the higher of a pair has a number of the plan, and room.
+abbrev pub Roomed : Plan → List ℕ → Verdict → Type 0
+Roomed p xs clear = Unit {0}
+Roomed p xs (clash k) = (k < size (p .body) + size (p .fault)) × (roomPlan p k xs ≡ true)
+
+clash-room : (p : Plan) (xs : List ℕ) (before l : List Ready) → Each (Does (doingAt p) 0 (size (p .body) + size (p .fault))) l → Roomed p xs (clashAfter before l)
+unfolding clashAfter
+clash-room p xs before [] each-none = tt
+clash-room p xs before (r ∷ l) (each-more x w) = go (isSecond before (r .step)) refl (clash-room p xs (r ∷ before) l w)
+  where
+    go : (b : Bool) → isSecond before (r .step) ≡ b → Roomed p xs (clashAfter (r ∷ before) l) → Roomed p xs (elim b [ true ↦ clash (r .activity) | false ↦ clashAfter (r ∷ before) l ])
+    go true e v = (x .high, plan-room p (r .activity) xs (subst (λ (d : Doing). roomOf d xs ≡ true) (x .is) (second-room before (r .step) xs e)))
+    go false e v = v
+
+pub conflict-room : (p : Plan) (o : Order) → Roomed p (closings o) (conflict p o)
+unfolding conflict
+conflict-room p o = clash-room p (closings o) [] (readyOf p o) (plan-ready p o)
+
+-- An order within its limits that is judged stays so.
+judged-limits : (n : ℕ) (p : Plan) (m : Moved) → orderInLimits (m .order) ≡ true → orderInLimits (judged n p m .order) ≡ true
+unfolding judged
+judged-limits zero p m f = f
+judged-limits (suc n) p m f = go (λ m′ f′. judged-limits n p m′ f′) (m .end)
+  where
+    on : ((m′ : Moved) → orderInLimits (m′ .order) ≡ true → orderInLimits (judged n p m′ .order) ≡ true) → (v : Verdict) → Roomed p (closings (m .order)) v
+        → orderInLimits (upon (judged n p) p m v .order) ≡ true
+    on g clear c = f
+    on g (clash k) c = g (following (m .log) (acted inPlace p k (m .order))) (acted-limits inPlace p k (m .order) (c .0) (c .1) f)
+
+    go : ((m′ : Moved) → orderInLimits (m′ .order) ≡ true → orderInLimits (judged n p m′ .order) ≡ true) → (e : End)
+        → orderInLimits (elim e as (λ _. Moved) [ None ↦ upon (judged n p) p m (conflict p (m .order)) | Well ↦ m | Handled ↦ m | Failed ↦ m | Left ↦ m ] .order) ≡ true
+    go g None = on g (conflict p (m .order)) (conflict-room p (m .order))
+    go g Well = f
+    go g Handled = f
+    go g Failed = f
+    go g Left = f
+
+-- A step of an order within its limits leaves it so.
+pub step-limits : (p : Plan) (t : ℕ) (o : Order) → t < size (p .body) + size (p .fault) → roomPlan p t (closings o) ≡ true → orderInLimits o ≡ true
+    → orderInLimits (stepOrder p t o .order) ≡ true
+unfolding stepOrder settled
+step-limits p t o h e f = judged-limits (spare p (acted itsOwn p t o .order)) p (acted itsOwn p t o) (acted-limits itsOwn p t o h e f)
 
 -- an order as it starts, and one that takes its values
 pub start-limits : (p : Plan) → orderInLimits (startedOrder p) ≡ true

@@ -24,7 +24,8 @@ use Rattle.machine.specs.State.{noMessage, fresh, unplanned, letters, wi
 use Rattle.machine.specs.Limits.{exchanged, planIn, by}
 use Rattle.order.specs.Event.{Event, started}
 use Rattle.order.specs.Begin.{Begun}
-use Rattle.order.specs.Acting.{allBound, Moved, stepOrder, begunOrder, startedOrder}
+use Rattle.order.specs.Acting.{allBound, Moved, begunOrder, startedOrder}
+use Rattle.order.specs.Judging.{stepOrder}
 use Rattle.machine.specs.Fit.{Doing, noStep, sends, takes, moves, cuts, closes, doingOf}
 use Rattle.machine.specs.Offer.{Offer, Offers, offersOf}
 

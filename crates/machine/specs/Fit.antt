@@ -1,65 +1,18 @@
--- Which steps an order awaits, which messages fit an open receive, and which may start an order. Assumes nothing: these are definitions.
+-- Which messages fit an open receive, and which may start an order. Assumes nothing: these are definitions.
 use Prim.Native.Nat.{ℕ, suc, _+_}
 use mathlib.Core.Bool.{Bool, true, false, cond, not, _&&_, _||_}
 use mathlib.Core.List.{List, [], _∷_, _++_}
 use lib.ListN.{length, getD, drop}
-use lib.Dec.{leb, ltb, eqb}
+use lib.Dec.{leb, eqb}
 use Rattle.plan.specs.Found.{among}
-use Rattle.plan.specs.Tree.{Exp, Own, empty, send, receive, set as setting, raise, leave, choose, repeat, sequence, flow, pick, scope, arm, kind, Act, act, Acts, none, more, Plan, size}
+use Rattle.plan.specs.Tree.{Plan}
 use Rattle.machine.specs.declared.Message.{Message}
 use Rattle.order.specs.declared.Order.{Order}
 use Rattle.machine.specs.declared.State.{State}
 use Rattle.order.specs.Lists.{every, each}
-use Rattle.order.specs.State.{idle, active, done, isBound, valueOf, isLive}
-use Rattle.order.specs.Scope.{Scope, scopeAt, isScope}
-
--- "Steps. Send, take, set, decide (choose or repeat), raise, leave, close": the step that activity k is there for. To move is to set or to
--- decide, to cut off is to raise or to leave.
-pub data Doing : Type 0 where
-  noStep : Doing
-  sends : (partner operation : ℕ) → (variables : List ℕ) → Doing
-  takes : (partner operation : ℕ) → (variables : List ℕ) → Doing
-  moves : Doing
-  cuts : Doing
-  closes : Scope → Doing
-
-unfoldable pub doingOf : Own → (within : Acts) → (k : ℕ) → Doing
-doingOf empty within k = noStep
-doingOf (send p o vs) within k = sends p o vs
-doingOf (receive p o vs) within k = takes p o vs
-doingOf (setting v e) within k = moves
-doingOf raise within k = cuts
-doingOf leave within k = cuts
-doingOf (choose e) within k = moves
-doingOf (repeat e) within k = moves
-doingOf sequence within k = noStep
-doingOf flow within k = noStep
-doingOf pick within k = noStep
-doingOf scope within k = closes (scopeAt k within)
-doingOf (arm p o vs) within k = takes p o vs
-
--- whether it awaits that step: an arm where its pick is active, a scope where its body is done, all else where it is active
-unfoldable pub awaits : Own → (armsOpen : Bool) → (mark : ℕ) → Bool
-awaits own armsOpen m = cond (eqb (kind own) 12) armsOpen (cond (isScope own) (eqb m done) (eqb m active))
-
--- an activity or arm with the step that it awaits
-pub record Ready : Type 0 where
-  pub activity : ℕ
-  pub step : Doing
-
--- all of these in activity k and within it, ascending
-unfoldable mutual
-  pub readyIn : Act → (k : ℕ) → (armsOpen : Bool) → List ℕ → List Ready
-  readyIn (act own within) k armsOpen ms =
-      let l = readyAmong within (k + 1) (eqb (kind own) 10 && eqb (getD ms k 0) active) ms in
-      elim (awaits own armsOpen (getD ms k 0)) [ true ↦ record { activity = k; step = doingOf own within k } ∷ l | false ↦ l ]
-
-  pub readyAmong : Acts → (c : ℕ) → (armsOpen : Bool) → List ℕ → List Ready
-  readyAmong none c armsOpen ms = []
-  readyAmong (more a l) c armsOpen ms = readyIn a c armsOpen ms ++ readyAmong l (c + size a) armsOpen ms
-
-unfoldable pub readyOf : Plan → Order → List Ready
-readyOf p o = readyIn (p .body) 0 false (o .marks) ++ readyIn (p .fault) (size (p .body)) false (o .marks)
+use Rattle.order.specs.State.{isBound, valueOf, isLive}
+pub use Rattle.order.specs.Awaited.{Doing, noStep, sends, takes, moves, cuts, closes, Ready}
+unfoldable pub use Rattle.order.specs.Awaited.{doingOf, awaits, readyIn, readyAmong, readyOf}
 
 -- A live order in its slot, with all that it awaits.
 pub record Live : Type 0 where

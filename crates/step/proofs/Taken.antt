@@ -15,7 +15,8 @@ use Rattle.order.specs.declared.Order.{Order}
 use Rattle.order.specs.declared.Next.{Next}
 use Rattle.order.specs.declared.End.{End}
 use Rattle.order.specs.declared.End.the-variants.{None, Well, Handled, Failed, Left}
-use Rattle.order.specs.Acting.{startedOrder, stepOrder, begunOrder}
+use Rattle.order.specs.Acting.{startedOrder, begunOrder}
+use Rattle.order.specs.Judging.{stepOrder}
 use Rattle.order.specs.Answering.{Names, AllBound, Spelled, StepsOrder, StartsOrder, TakesOrder, nextOf}
 use Rattle.order.specs.Event.{Event, started}
 use Rattle.order.specs.Lists.{every, stored}

@@ -12,7 +12,8 @@ use Rattle.order.specs.Event.{Event}
 use Rattle.order.specs.Scope.{isOpen}
 use Rattle.machine.specs.Calls.{endNumber, loaded}
 use Rattle.undoing.specs.Demand3.{Inner, scopesOf, closingsOf, undoneOf, hasTurned, isLeft, mayTurn, Demand3}
-use Rattle.undoing.specs.Ties.{orderAfter, pastAfter, isName, LiveTold, isTurned, MarksTold, remembered, ListsTold, StepsTold, FaultsTold, EndsTold, PlacesTold, NeverStuck, GoingOn}
+use Rattle.undoing.specs.Ties.{orderAfter, pastAfter, isName, LiveTold, isTurned, MarksTold, remembered, ListsTold, StepsTold, FaultsTold, EndsTold, PlacesTold, NeverStuck, GoingOn, NoneTwice}
+use Rattle.undoing.proofs.Settling.{none-twice}
 use Rattle.undoing.specs.Orderly.{Orderly}
 use Rattle.undoing.specs.Begun.{BegunTruly, BegunAll, BegunInTurn}
 use Rattle.undoing.specs.UndoneRight.{sameBool, eventCode, sameEvents, sameEnds, namesOf, markTold, listTold, broken, UndoneRight}
@@ -61,7 +62,7 @@ module _ (p : Plan) (o : Order) (past : List Event) where
 
 -- The one statement.
 pub undone-right : UndoneRight
-unfolding UndoneRight broken Demand3 Orderly FaultsTold StepsTold EndsTold BegunTruly BegunAll BegunInTurn LiveTold MarksTold ListsTold PlacesTold GoingOn NeverStuck
+unfolding UndoneRight broken Demand3 Orderly FaultsTold StepsTold EndsTold BegunTruly BegunAll BegunInTurn LiveTold MarksTold ListsTold PlacesTold GoingOn NeverStuck NoneTwice
 undone-right bytes p next e calls slot t =
     rw (
       demanded.demand3 bytes p next e calls slot t,
@@ -82,6 +83,7 @@ undone-right bytes p next e calls slot t =
       places-told bytes p next e calls slot t v,
       going-on bytes p next e calls slot t v,
       never-stuck bytes p next e calls slot t v,
+      none-twice bytes p next e calls slot t,
     ))
     (λ v. rw v))
   where

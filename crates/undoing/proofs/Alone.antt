@@ -1,5 +1,5 @@
 -- Nothing changes in a slot but by its own steps. Assumes nothing.
-use Prim.Native.Nat.{ℕ}
+use Prim.Native.Nat.{ℕ, zero, suc}
 use mathlib.Core.Path.{_≡_, refl, sym, ap, subst, _∙_}
 use mathlib.Core.Bool.{Bool, true, false, false≢true}
 use mathlib.Core.List.{List, [], _∷_, _++_}
@@ -16,16 +16,25 @@ use Rattle.machine.specs.declared.Tally.{Tally}
 use Rattle.order.specs.State.{isLive, noOrder}
 use Rattle.machine.specs.State.{fresh}
 use Rattle.order.specs.Event.{Event, started}
-use Rattle.order.specs.Acting.{stepOrder, begunOrder, startedOrder}
+use Rattle.order.specs.declared.End.{End}
+use Rattle.order.specs.declared.End.the-variants.{None, Well, Handled, Failed, Left}
+use Rattle.order.specs.Acting.{Moved, inPlace, acted, begunOrder, startedOrder}
+use Rattle.order.specs.Judging.{Verdict, clear, clash, conflict, spare}
 use Rattle.machine.specs.Limits.{planIn, by}
 use Rattle.machine.specs.Offer.{Offer, offersOf}
 use Rattle.machine.specs.Calls.{refusing, Chosen, refusedChoice, chosen, choosing, countStart, loadedAs, load, post, collect, dropAt, Stepped, doingAt, messagesAfter, stepped, taken, stepChosen, stepBy, step, Call, posting, collecting, dropping, stepping}
-use Rattle.undoing.specs.Ties.{stateAfter, isTaken}
-use Rattle.undoing.specs.Begun.{Taken, takenBy, stepsTaken}
+use Rattle.undoing.specs.History.{logOf}
+use Rattle.undoing.specs.Ties.{stateAfter, isTaken, ownStep}
+use Rattle.undoing.specs.Begun.{Taken, raisesOf, takenBy, stepsTaken, lastOf}
 use Rattle.undoing.specs.Entirely.{sameOrder, chained, Chained, OthersKept}
-use Rattle.undoing.proofs.Parts.{decide, alike-itself}
-use Rattle.undoing.proofs.Slots.{Same, messages-same, post-same, collect-same, drop-same, fresh-order}
-use Rattle.undoing.proofs.Happening.{orderIn}
+use Rattle.undoing.proofs.Parts.{both, decide, alike-itself}
+use Rattle.plan.proofs.Limits.{accepted-is-within}
+use Rattle.undoing.proofs.Orders.{onto}
+use Rattle.undoing.proofs.Planning.{Promised, promised}
+use Rattle.undoing.proofs.Slots.{Same, messages-same, post-same, collect-same, drop-same, fresh-order, Sane, same-sane, fresh-sane}
+use Rattle.undoing.proofs.Happening.{orderIn, step-happens}
+use Rattle.undoing.proofs.Demanded.{step-after}
+use Rattle.undoing.proofs.Times.{happens-times}
 
 -- A step that is taken changes the slot of its answer.
 stepped-other : (p : Plan) (x : Offer) (s : State) (t : Tally) (o : Order) (l : List Event) (i : ℕ) → isTaken i (stepped p x s t o l) ≡ false
@@ -70,28 +79,62 @@ unfolding sameOrder
 order-same o =
     rw (eq-eqb (o .root) (o .root) refl, eq-eqb (o .kept) (o .kept) refl, alike-itself (o .marks), alike-itself (o .values), alike-itself (o .bound), alike-itself (o .remembered))
 
-module _ (i : ℕ) where
-  chain : (calls : List Call) (s : State) (t : Tally) → chained (orderIn s i) (stepsTaken calls i s t) (orderIn (stateAfter calls s t) i) ≡ true
-  unfolding chained stepsTaken stateAfter
-  chain [] s t = order-same (orderIn s i)
-  chain (posting m ∷ l) s t =
-      subst (λ (o : Order). chained o (stepsTaken l i (post m s .state) t) (orderIn (stateAfter l (post m s .state) t) i) ≡ true)
-      (ap (λ (os : List Order). getD os i noOrder) (post-same m s .orders)) (chain l (post m s .state) t)
-  chain (collecting ∷ l) s t =
-      subst (λ (o : Order). chained o (stepsTaken l i (collect s .state) t) (orderIn (stateAfter l (collect s .state) t) i) ≡ true)
-      (ap (λ (os : List Order). getD os i noOrder) (collect-same s .orders)) (chain l (collect s .state) t)
-  chain (dropping j ∷ l) s t =
-      subst (λ (o : Order). chained o (stepsTaken l i (dropAt j s .state) t) (orderIn (stateAfter l (dropAt j s .state) t) i) ≡ true)
-      (ap (λ (os : List Order). getD os i noOrder) (drop-same j s .orders)) (chain l (dropAt j s .state) t)
-  chain (stepping c ∷ l) s t =
-      let r = step c s t in
-      let y = chain l (r .state) (r .tally) in
+-- times that follow each other
+chained-append : (o : Order) (l m : List Taken) (q : Order) → chained o l (lastOf o l) ≡ true → chained (lastOf o l) m q ≡ true → chained o (l ++ m) q ≡ true
+unfolding chained lastOf
+chained-append o [] m q a b = b
+chained-append o (x ∷ l) m q a b = both (sameOrder o (x .before)) (chained (x .after) l (lastOf (x .after) l)) a (λ c d. rw (c, chained-append (x .after) l m q d b))
+
+chained-raises : (n : ℕ) (p : Plan) (m : Moved) → chained (m .order) (raisesOf n p m) (lastOf (m .order) (raisesOf n p m)) ≡ true
+unfolding raisesOf chained lastOf
+chained-raises zero p m = order-same (m .order)
+chained-raises (suc n) p m = go (λ m′. chained-raises n p m′) (m .end)
+  where
+    all : Verdict → List Taken
+    all v = elim v [ clear ↦ [] | clash k ↦ record { activity = k; before = m .order; after = acted inPlace p k (m .order) .order; log = acted inPlace p k (m .order) .log } ∷ raisesOf n p (acted inPlace p k (m .order)) ]
+
+    on : ((m′ : Moved) → chained (m′ .order) (raisesOf n p m′) (lastOf (m′ .order) (raisesOf n p m′)) ≡ true) → (v : Verdict) → chained (m .order) (all v) (lastOf (m .order) (all v)) ≡ true
+    on f clear = order-same (m .order)
+    on f (clash k) = rw (order-same (m .order), f (acted inPlace p k (m .order)))
+
+    go : ((m′ : Moved) → chained (m′ .order) (raisesOf n p m′) (lastOf (m′ .order) (raisesOf n p m′)) ≡ true) → (e : End) → let l = elim e as (λ _. List Taken) [ None ↦ all (conflict p (m .order)) | Well ↦ [] | Handled ↦ [] | Failed ↦ [] | Left ↦ [] ] in chained (m .order) l (lastOf (m .order) l) ≡ true
+    go f None = on f (conflict p (m .order))
+    go f Well = order-same (m .order)
+    go f Handled = order-same (m .order)
+    go f Failed = order-same (m .order)
+    go f Left = order-same (m .order)
+
+module _ (p : Plan) (bytes : List ℕ) (next i : ℕ) (accepted : readPlan bytes ≡ found p next) (h : Promised p) where
+  taken-chained : (s : State) (r : Stepped) → chained (orderIn s i) (takenBy p i s r) (lastOf (orderIn s i) (takenBy p i s r)) ≡ true
+  unfolding chained lastOf
+  taken-chained s r =
       decide (isTaken i r)
-      (λ e. rw (e, order-same (orderIn s i)) y)
-      (λ e. rw e (subst (λ (o : Order). chained o (stepsTaken l i (r .state) (r .tally)) (orderIn (stateAfter l (r .state) (r .tally)) i) ≡ true) (step-other c s t i e) y))
+      (λ e. rw (e, order-same (orderIn s i), chained-raises (spare p (ownStep p i s r .order)) p (ownStep p i s r)))
+      (λ e. rw (e, order-same (orderIn s i)))
+
+  chain : (calls : List Call) (s : State) (t : Tally) (past : List Event) → Sane p bytes next i accepted h s past
+      → chained (orderIn s i) (stepsTaken p calls i s t) (orderIn (stateAfter calls s t) i) ≡ true
+  unfolding chained stepsTaken stateAfter
+  chain [] s t past g = order-same (orderIn s i)
+  chain (posting m ∷ l) s t past g =
+      subst (λ (o : Order). chained o (stepsTaken p l i (post m s .state) t) (orderIn (stateAfter l (post m s .state) t) i) ≡ true)
+      (ap (λ (os : List Order). getD os i noOrder) (post-same m s .orders)) (chain l (post m s .state) t past (same-sane p bytes next i accepted h s (post m s .state) past (post-same m s) g))
+  chain (collecting ∷ l) s t past g =
+      subst (λ (o : Order). chained o (stepsTaken p l i (collect s .state) t) (orderIn (stateAfter l (collect s .state) t) i) ≡ true)
+      (ap (λ (os : List Order). getD os i noOrder) (collect-same s .orders)) (chain l (collect s .state) t past (same-sane p bytes next i accepted h s (collect s .state) past (collect-same s) g))
+  chain (dropping j ∷ l) s t past g =
+      subst (λ (o : Order). chained o (stepsTaken p l i (dropAt j s .state) t) (orderIn (stateAfter l (dropAt j s .state) t) i) ≡ true)
+      (ap (λ (os : List Order). getD os i noOrder) (drop-same j s .orders)) (chain l (dropAt j s .state) t past (same-sane p bytes next i accepted h s (dropAt j s .state) past (drop-same j s) g))
+  chain (stepping c ∷ l) s t past g =
+      let r = step c s t in
+      let q = orderIn (stateAfter l (r .state) (r .tally)) i in
+      chained-append (orderIn s i) (takenBy p i s r) (stepsTaken p l i (r .state) (r .tally)) q (taken-chained s r)
+      (subst (λ (o : Order). chained o (stepsTaken p l i (r .state) (r .tally)) q ≡ true) (happens-times p bytes next i accepted h s past r (step-happens p bytes next i accepted h c s t past g .happens) .1)
+      (chain l (r .state) (r .tally) (onto (logOf i r) past) (step-after p bytes next i accepted h c s t past g .1)))
 
 pub chained-told : Chained
 unfolding Chained load fresh
 chained-told bytes p next e calls slot t =
-    subst (λ (f : Found Plan). chained noOrder (stepsTaken calls slot (loadedAs bytes f .state) t) (orderIn (stateAfter calls (loadedAs bytes f .state) t) slot) ≡ true) (sym e)
-    (subst (λ (o : Order). chained o (stepsTaken calls slot (fresh bytes) t) (orderIn (stateAfter calls (fresh bytes) t) slot) ≡ true) (fresh-order slot) (chain slot calls (fresh bytes) t))
+    subst (λ (f : Found Plan). chained noOrder (stepsTaken p calls slot (loadedAs bytes f .state) t) (orderIn (stateAfter calls (loadedAs bytes f .state) t) slot) ≡ true) (sym e)
+    (subst (λ (o : Order). chained o (stepsTaken p calls slot (fresh bytes) t) (orderIn (stateAfter calls (fresh bytes) t) slot) ≡ true) (fresh-order slot)
+    (let h = promised p (accepted-is-within bytes e) in chain p bytes next slot e h calls (fresh bytes) t [] (fresh-sane p bytes next slot e h)))

@@ -16,25 +16,30 @@ use Rattle.machine.specs.declared.Message.{Message}
 use Rattle.machine.specs.declared.State.{State}
 use Rattle.machine.specs.declared.Tally.{Tally}
 use Rattle.order.specs.State.{Name, root, inner, idle, markAt, isLive, noOrder}
-use Rattle.machine.specs.State.{fresh}
+use Rattle.machine.specs.State.{noMessage, fresh}
 use Rattle.order.specs.Lists.{every, some}
 use Rattle.order.specs.Event.{Event, started, began, closed, faulted, stopped, ended, raised, left}
+use Rattle.order.specs.declared.End.{End}
+use Rattle.order.specs.declared.End.the-variants.{None, Well, Handled, Failed, Left}
 use Rattle.order.specs.declared.Way.the-variants.{Running as running}
 use Rattle.order.specs.Scope.{isScope}
-use Rattle.order.specs.Acting.{Moved, stepOrder, begunOrder, startedOrder}
+use Rattle.order.specs.Acting.{Moved, begunOrder, startedOrder, Actor, itsOwn, inPlace, acted}
+use Rattle.order.specs.Judging.{Verdict, clear, clash, conflict, spare}
+use Rattle.undoing.proofs.Judged.{OnClash, Higher, conflict-awaited, passed-stands, passed-once}
 use Rattle.machine.specs.Calls.{loadedAs, load, post, collect, dropAt, Stepped, doingAt, step, Call, posting, collecting, dropping, stepping}
 use Rattle.undoing.specs.History.{logOf}
 use Rattle.undoing.specs.Demand3.{Inner, scopesIn, scopesAmong, scopesOf, isBegin, isFinish, isLeft, noneNow}
 use Rattle.undoing.specs.Ties.{isName, isTaken}
 use Rattle.undoing.specs.Orderly.{isBeganOf}
-use Rattle.undoing.specs.Begun.{Lead, alone, together, leadOf, leadIn, leadAmong, leadParts, leadAt, isLed, BegunInTurn, kindIn, kindAmong, kindAt, lasts, ownsAt, hasBegan, Taken, markBefore, isMarked, goesIn, mayBe, hasBegun, numbers, ofEach, takenBy, stepsTaken, BegunTruly, BegunAll}
+use Rattle.undoing.specs.Begun.{Lead, alone, together, leadOf, leadIn, leadAmong, leadParts, leadAt, isLed, BegunInTurn, kindIn, kindAmong, kindAt, lasts, ownsAt, hasBegan, Taken, markBefore, isMarked, goesIn, mayBe, hasBegun, numbers, ofEach, raisesOf, takenBy, stepsTaken, BegunTruly, BegunAll}
 use Rattle.undoing.proofs.Parts.{decide, every-append, some-append}
 use Rattle.undoing.proofs.Marks.{trio}
-use Rattle.undoing.proofs.Orders.{least, onto}
+use Rattle.undoing.proofs.Orders.{least, momentOf, onto, onto-append}
+use Rattle.undoing.proofs.Moves.{HoldsAt}
 use Rattle.undoing.proofs.Places.{first-of, second-of}
 use Rattle.undoing.proofs.Planning.{Formed, formed-part, formed-scope, FormedIn, formed-none, formed-more, scopes-is, Promised, promised}
-use Rattle.undoing.proofs.Roots.{Awaited}
-use Rattle.undoing.proofs.Slots.{Slot, standing-live, Alike, taking-alike, idle-marks, order-starts, post-same, collect-same, drop-same, Sane, same-sane, fresh-sane}
+use Rattle.undoing.proofs.Roots.{Awaited, Standing, Passed}
+use Rattle.undoing.proofs.Slots.{Slot, slot-live, standing-live, Alike, alike-itself, taking-alike, alike-awaited, alike-stands, alike-holds, passed-slot, idle-marks, order-starts, post-same, collect-same, drop-same, Sane, same-sane, fresh-sane}
 use Rattle.undoing.proofs.Happening.{orderIn, withMessage, Happens, nothing-here, goes-here, starts-here, step-happens}
 use Rattle.undoing.proofs.Demanded.{step-after}
 use Rattle.undoing.proofs.Told.{slot-marks}
@@ -278,12 +283,12 @@ module _ (p : Plan) (h : Promised p) where
 
   -- an order that starts has its step at once
   start-steps : (t : ℕ) (m : Message) (past : List Event) → noneNow past ≡ true → Awaited p (startedOrder p .marks) t
-      → let o = stepOrder p t (withMessage p t m (startedOrder p)) in
+      → let o = acted itsOwn p t (withMessage p t m (startedOrder p)) in
       isLive (o .order) ≡ true → Steps (kindAt p) (ownsAt p t) 0 (startedOrder p) (record { result = running; order = o .order; log = o .log })
   start-steps t m past z a v =
       let like = taking-alike p (doingAt p t) m (startedOrder p) in
       steps-from (kindAt p) (ownsAt p t) (withMessage p t m (startedOrder p)) (startedOrder p) (like .marks)
-      (order-steps (kindAt p) p kb kf t (withMessage p t m (startedOrder p))
+      (order-steps (kindAt p) p kb kf itsOwn t (withMessage p t m (startedOrder p))
       (subst (λ (ms : List ℕ). size (p .body) + size (p .fault) ≤ length ms) (sym (like .marks)) (order-starts p h t past z a .1 .many)) v)
 
   pub start-began : Began (kindAt p) 0 (size (p .body)) (noOrder .marks) (begunOrder p)
@@ -292,18 +297,18 @@ module _ (p : Plan) (h : Promised p) where
 
   -- what is logged then is marked as it starts, or afterwards
   starts-marked : (t : ℕ) (m : Message) (past : List Event) → noneNow past ≡ true → Awaited p (startedOrder p .marks) t
-      → let o = stepOrder p t (withMessage p t m (startedOrder p)) in
+      → let o = acted itsOwn p t (withMessage p t m (startedOrder p)) in
       isLive (o .order) ≡ true → (k : ℕ) → lasts (kindAt p k) ≡ true → hasBegan k ((started ∷ begunOrder p .log) ++ o .log) ≡ true
       → (not (eqb (markAt k (o .order)) idle) || not (eqb (markAt k (startedOrder p)) idle)) ≡ true
   unfolding some isBeganOf startedOrder
   starts-marked t m past z a v k y g =
-      began-in k (begunOrder p .log) (stepOrder p t (withMessage p t m (startedOrder p)) .log) g
+      began-in k (begunOrder p .log) (acted itsOwn p t (withMessage p t m (startedOrder p)) .log) g
       (λ b. rw (start-began .truly k y b, or-true))
       (λ b. rw (start-steps t m past z a v .truly k y b))
 
   -- what is set then has begun
   starts-idle : (t : ℕ) (m : Message) (past : List Event) → noneNow past ≡ true → Awaited p (startedOrder p .marks) t
-      → let o = stepOrder p t (withMessage p t m (startedOrder p)) in
+      → let o = acted itsOwn p t (withMessage p t m (startedOrder p)) in
       Slot p (o .order) (onto ((started ∷ begunOrder p .log) ++ o .log) past) → isLive (o .order) ≡ true → (k : ℕ)
       → hasBegan k ((started ∷ begunOrder p .log) ++ o .log) ≡ false → Up (o .order .marks) k → ⊥
   unfolding some isBeganOf startedOrder isLeft isBegin isFinish
@@ -315,7 +320,7 @@ module _ (p : Plan) (h : Promised p) where
       (λ e. resting (start-steps t m past z a v .keeps k s e (ns .1) u .0)))
     where
       o : Moved
-      o = stepOrder p t (withMessage p t m (startedOrder p))
+      o = acted itsOwn p t (withMessage p t m (startedOrder p))
 
       ns : (hasBegan k (begunOrder p .log) ≡ false) × (hasBegan k (o .log) ≡ false)
       ns = began-neither k (begunOrder p .log) (o .log) n
@@ -331,14 +336,14 @@ module _ (p : Plan) (h : Promised p) where
   lf : Leads (leadAt p) (p .fault) (size (p .body))
   lf = leads-in (leadAt p) (h .fault) (size (p .body)) alone (λ j u v. fault-lead p j u)
 
-  steps-fine : (t : ℕ) (o : Order) → Fine (leadAt p) t (stepOrder p t o .log)
-  steps-fine t o = order-fine (leadAt p) t p lb lf (fault-lead p (size (p .body)) (omega arith) ∙ lead-here (leadAt p) (p .fault) (size (p .body)) alone) o
+  steps-fine : (actor : Actor) (t : ℕ) (o : Order) → Fine (leadAt p) t (acted actor p t o .log)
+  steps-fine actor t o = order-fine (leadAt p) t actor p lb lf (fault-lead p (size (p .body)) (omega arith) ∙ lead-here (leadAt p) (p .fault) (size (p .body)) alone) o
 
-  starts-fine : (t : ℕ) (o : Order) → Fine (leadAt p) t ((started ∷ begunOrder p .log) ++ stepOrder p t o .log)
+  starts-fine : (t : ℕ) (o : Order) → Fine (leadAt p) t ((started ∷ begunOrder p .log) ++ acted itsOwn p t o .log)
   unfolding begunOrder isBeganOf
   starts-fine t o =
-      fine-append (leadAt p) t (started ∷ begunOrder p .log) (stepOrder p t o .log)
-      (fine-event (leadAt p) t started (begunOrder p .log) (λ j. refl) (begin-fine (leadAt p) t lb (body-lead p 0 (omega (arith, size-some (p .body) 0)) ∙ lead-here (leadAt p) (p .body) 0 alone) (noOrder .marks))) (steps-fine t o)
+      fine-append (leadAt p) t (started ∷ begunOrder p .log) (acted itsOwn p t o .log)
+      (fine-event (leadAt p) t started (begunOrder p .log) (λ j. refl) (begin-fine (leadAt p) t lb (body-lead p 0 (omega (arith, size-some (p .body) 0)) ∙ lead-here (leadAt p) (p .body) 0 alone) (noOrder .marks))) (steps-fine itsOwn t o)
 
   is-led : (x : Taken) (k : ℕ) → Fine (leadAt p) (x .activity) (x .log) → isLed p x k ≡ true
   unfolding isLed
@@ -367,60 +372,132 @@ module _ (p : Plan) (h : Promised p) where
   unfolding hasBegun
   has-begun x k g = decide (hasBegan k (x .log)) (λ b. rw b) (λ b. rw (b, g b))
 
+  -- a time that a step goes through an order that stands
+  abbrev time : (t : ℕ) → Order → Moved → Taken
+  time t o m = record { activity = t; before = o; after = m .order; log = m .log }
+
+  begun-first : (x : Taken) (l : List Taken) → AllBegun p (x ∷ []) → AllBegun p l → AllBegun p (x ∷ l)
+  unfolding every
+  begun-first x l a b = (
+    every-append (ofEach isMarked p) (x ∷ []) l (a .0) (b .0),
+    every-append (ofEach hasBegun p) (x ∷ []) l (a .1) (b .1),
+    every-append (ofEach isLed p) (x ∷ []) l (a .2) (b .2),
+  )
+
+  time-begun : (actor : Actor) (t : ℕ) (o o′ : Order) (past : List Event) → Alike p o o′ → Awaited p (o .marks) t → Standing p o → HoldsAt p (momentOf p o) past
+      → AllBegun p (time t o (acted actor p t o′) ∷ [])
+  time-begun actor t o o′ past like x st g = (
+    one-taken isMarked one (λ v k. is-marked one k (λ z y. rw (w₁ v .truly k z y))),
+    one-taken hasBegun one (λ v k. has-begun one k (λ n. rw (standing-live p o st)
+        (steps-may t o (m .order) (m .log) (w₁ v) x k n (λ z u. scope-up k (m .log) past (slot-live st g) b (standing-live p o st) v z n u)))),
+    one-taken isLed one (λ v k. is-led one k (steps-fine actor t o′)),
+  )
+    where
+      m : Moved
+      m = acted actor p t o′
+
+      one : Taken
+      one = time t o m
+
+      b : Slot p (m .order) (onto (m .log) past)
+      b = passed-slot p h past m (passed-once p h actor t o′ past (alike-awaited like t x) (alike-stands p o o′ like st) (alike-holds like past g)) .1
+
+      w₁ : isLive (m .order) ≡ true → Steps (kindAt p) (ownsAt p t) 0 o (record { result = running; order = m .order; log = m .log })
+      w₁ v =
+          steps-from (kindAt p) (ownsAt p t) o′ o (like .marks)
+          (order-steps (kindAt p) p kb kf actor t o′ (subst (λ (ms : List ℕ). size (p .body) + size (p .fault) ≤ length ms) (sym (like .marks)) (st .many)) v)
+
+  -- the raises of an order that is judged
+  raises-begun : (n : ℕ) (past : List Event) (m : Moved) → Passed p past m → AllBegun p (raisesOf n p m)
+  unfolding raisesOf every
+  raises-begun zero past m w = (refl, refl, refl)
+  raises-begun (suc n) past m w = go (λ past′ m′ w′. raises-begun n past′ m′ w′) (m .end) refl
+    where
+      on : ((past′ : List Event) (m′ : Moved) → Passed p past′ m′ → AllBegun p (raisesOf n p m′)) → m .end ≡ None → (v : Verdict) → OnClash (Higher p (m .order)) v
+          → AllBegun p (elim v [ clear ↦ [] | clash k ↦ time k (m .order) (acted inPlace p k (m .order)) ∷ raisesOf n p (acted inPlace p k (m .order)) ])
+      on f e clear c = (refl, refl, refl)
+      on f e (clash k) c =
+          let s = passed-stands p past m e w in
+          begun-first (time k (m .order) (acted inPlace p k (m .order))) (raisesOf n p (acted inPlace p k (m .order)))
+          (time-begun inPlace k (m .order) (m .order) (onto (m .log) past) (alike-itself p (m .order)) (c .0) (s .0) (s .1))
+          (f (onto (m .log) past) (acted inPlace p k (m .order)) (passed-once p h inPlace k (m .order) (onto (m .log) past) (c .0) (s .0) (s .1)))
+
+      go : ((past′ : List Event) (m′ : Moved) → Passed p past′ m′ → AllBegun p (raisesOf n p m′)) → (e : End) → m .end ≡ e
+          → AllBegun p (elim e [
+            | None ↦ elim (conflict p (m .order)) [ clear ↦ [] | clash k ↦ time k (m .order) (acted inPlace p k (m .order)) ∷ raisesOf n p (acted inPlace p k (m .order)) ]
+            | Well ↦ []
+            | Handled ↦ []
+            | Failed ↦ []
+            | Left ↦ []
+          ])
+      go f None e = on f e (conflict p (m .order)) (conflict-awaited p (m .order))
+      go f Well e = (refl, refl, refl)
+      go f Handled e = (refl, refl, refl)
+      go f Failed e = (refl, refl, refl)
+      go f Left e = (refl, refl, refl)
+
   module _ (i : ℕ) where
-    -- what a step did in the slot, as taken
-    abbrev one : State → (t : ℕ) → Stepped → Taken
-    one s t r = record { activity = t; before = orderIn s i; after = orderIn (r .state) i; log = logOf i r }
+    -- what a step did in the slot, as taken: its own time, and the raises
+    abbrev pub times : Order → (t : ℕ) → List Event → Moved → List Taken
+    times o t l m = record { activity = t; before = o; after = m .order; log = l ++ m .log } ∷ raisesOf (spare p (m .order)) p m
 
-    taken-is : (s : State) (t : ℕ) (r : Stepped) → (isTaken i r ≡ true) × (r .answer .activity ≡ t) → takenBy i s r ≡ one s t r ∷ []
-    taken-is s t r q = rw (q .0, q .1)
+    pub taken-goes : (s : State) (t : ℕ) (m : Message) (r : Stepped) → (isTaken i r ≡ true) × (r .answer .activity ≡ t) × (getD (s .messages) (r .answer .place) noMessage ≡ m)
+        → isLive (orderIn s i) ≡ true → takenBy p i s r ≡ times (orderIn s i) t [] (acted itsOwn p t (withMessage p t m (orderIn s i)))
+    taken-goes s t m r q v = rw (q .0, q .1, q .2, v)
 
-    happens-begun : (s : State) (past : List Event) (r : Stepped) → Slot p (orderIn s i) past → Slot p (orderIn (r .state) i) (onto (logOf i r) past)
-        → Happens p i s past r → AllBegun p (takenBy i s r)
+    pub taken-starts : (s : State) (t : ℕ) (m : Message) (r : Stepped) → (isTaken i r ≡ true) × (r .answer .activity ≡ t) × (getD (s .messages) (r .answer .place) noMessage ≡ m)
+        → isLive (orderIn s i) ≡ false
+        → takenBy p i s r ≡ times (orderIn s i) t (started ∷ begunOrder p .log) (acted itsOwn p t (withMessage p t m (startedOrder p)))
+    taken-starts s t m r q v = rw (q .0, q .1, q .2, v)
+
+    happens-begun : (s : State) (past : List Event) (r : Stepped) → Happens p i s past r → AllBegun p (takenBy p i s r)
     unfolding every
-    happens-begun s past r a b (nothing-here n l e d) = (rw n, rw n, rw n)
-    happens-begun s past r a b (goes-here t m q x st c y l e d) =
-        subst (AllBegun p) (sym (taken-is s t r q)) (
-          one-taken isMarked (one s t r) (λ v k. is-marked (one s t r) k (λ z g. rw (w₁ v .truly k z g))),
-          one-taken hasBegun (one s t r) (λ v k. has-begun (one s t r) k (λ n. rw (standing-live p (orderIn s i) st)
-              (steps-may t (orderIn s i) (orderIn (r .state) i) (logOf i r) (w₁ v) x k n (λ z u. scope-up k (logOf i r) past a b (standing-live p (orderIn s i) st) v z n u)))),
-          one-taken isLed (one s t r) (λ v k. is-led (one s t r) k (subst (λ (g : List Event). Fine (leadAt p) t g) (sym l) (steps-fine t (withMessage p t m (orderIn s i))))),
+    happens-begun s past r (nothing-here n l e d) = (rw n, rw n, rw n)
+    happens-begun s past r (goes-here t m q x st c y l e d) =
+        let o = orderIn s i in
+        let o′ = withMessage p t m o in
+        let like = taking-alike p (doingAt p t) m o in
+        subst (AllBegun p) (sym (taken-goes s t m r q (standing-live p o st)))
+        (begun-first (time t o (acted itsOwn p t o′)) (raisesOf (spare p (acted itsOwn p t o′ .order)) p (acted itsOwn p t o′)) (time-begun itsOwn t o o′ past like x st y)
+        (raises-begun (spare p (acted itsOwn p t o′ .order)) past (acted itsOwn p t o′) (passed-once p h itsOwn t o′ past (alike-awaited like t x) (alike-stands p o o′ like st) (alike-holds like past y))))
+    happens-begun s past r (starts-here t m q x z n l e d) =
+        subst (AllBegun p) (sym (taken-starts s t m r q z))
+        (begun-first one (raisesOf (spare p (m₁ .order)) p m₁) (
+          one-taken isMarked one (λ v k. is-marked one k (λ y g. marked v k y g)),
+          one-taken hasBegun one (λ v k. has-begun one k (λ y. rw z (may-be (kindAt p k) (ownsAt p t k) (hasBegan (k + 1) (l₀ ++ m₁ .log)) idle (markAt k (m₁ .order)) (λ u. absurd (starts-idle t m past n x slot v k y u))))),
+          one-taken isLed one (λ v k. is-led one k (starts-fine t o′)),
         )
+        (raises-begun (spare p (m₁ .order)) (onto l₀ past) m₁ passed))
       where
-        like : Alike p (orderIn s i) (withMessage p t m (orderIn s i))
-        like = taking-alike p (doingAt p t) m (orderIn s i)
+        o′ : Order
+        o′ = withMessage p t m (startedOrder p)
 
-        w₁ : isLive (orderIn (r .state) i) ≡ true
-            → Steps (kindAt p) (ownsAt p t) 0 (orderIn s i) (record { result = running; order = orderIn (r .state) i; log = logOf i r })
-        w₁ v =
-            steps-from (kindAt p) (ownsAt p t) (withMessage p t m (orderIn s i)) (orderIn s i) (like .marks)
-            (subst (λ (g : List Event). Steps (kindAt p) (ownsAt p t) 0 (withMessage p t m (orderIn s i)) (record { result = running; order = orderIn (r .state) i; log = g })) (sym l)
-            (subst (λ (o : Order). Steps (kindAt p) (ownsAt p t) 0 (withMessage p t m (orderIn s i)) (record { result = running; order = o; log = stepOrder p t (withMessage p t m (orderIn s i)) .log })) (sym d)
-            (order-steps (kindAt p) p kb kf t (withMessage p t m (orderIn s i)) (subst (λ (ms : List ℕ). size (p .body) + size (p .fault) ≤ length ms) (sym (like .marks)) (st .many)) (ap isLive (sym d) ∙ v))))
-    happens-begun s past r a b (starts-here t m q x z n l e d) =
-        subst (AllBegun p) (sym (taken-is s t r q)) (
-          one-taken isMarked (one s t r) (λ v k. is-marked (one s t r) k (λ y g. marked v k y g)),
-          one-taken hasBegun (one s t r) (λ v k. has-begun (one s t r) k (λ y. rw z (may-be (kindAt p k) (ownsAt p t k) (hasBegan (k + 1) (logOf i r)) idle (markAt k (orderIn (r .state) i)) (λ u. absurd (idles v k y u))))),
-          one-taken isLed (one s t r) (λ v k. is-led (one s t r) k (subst (λ (g : List Event). Fine (leadAt p) t g) (sym l) (starts-fine t (withMessage p t m (startedOrder p))))),
-        )
-      where
-        marked : isLive (orderIn (r .state) i) ≡ true → (k : ℕ) → lasts (kindAt p k) ≡ true → hasBegan k (logOf i r) ≡ true
-            → (not (eqb (markAt k (orderIn (r .state) i)) idle) || (not (isLive (orderIn s i)) && not (eqb (markAt k (startedOrder p)) idle))) ≡ true
-        marked v k y g =
-            subst (λ (o : Order). (not (eqb (markAt k o) idle) || (not (isLive (orderIn s i)) && not (eqb (markAt k (startedOrder p)) idle))) ≡ true) (sym d)
-            (rw z (starts-marked t m past n x (ap isLive (sym d) ∙ v) k y (ap (hasBegan k) (sym l) ∙ g)))
+        l₀ : List Event
+        l₀ = started ∷ begunOrder p .log
 
-        idles : isLive (orderIn (r .state) i) ≡ true → (k : ℕ) → hasBegan k (logOf i r) ≡ false → Up (orderIn (r .state) i .marks) k → ⊥
-        idles v k y u =
-            let m₁ = stepOrder p t (withMessage p t m (startedOrder p)) in
-            starts-idle t m past n x
-            (subst (λ (g : List Event). Slot p (m₁ .order) (onto g past)) l (subst (λ (o : Order). Slot p o (onto (logOf i r) past)) d b))
-            (ap isLive (sym d) ∙ v) k (ap (hasBegan k) (sym l) ∙ y) (subst (λ (o : Order). Up (o .marks) k) d u)
+        m₁ : Moved
+        m₁ = acted itsOwn p t o′
+
+        one : Taken
+        one = record { activity = t; before = orderIn s i; after = m₁ .order; log = l₀ ++ m₁ .log }
+
+        passed : Passed p (onto l₀ past) m₁
+        passed =
+            let like = taking-alike p (doingAt p t) m (startedOrder p) in
+            let b = order-starts p h t past n x in
+            passed-once p h itsOwn t o′ (onto l₀ past) (alike-awaited like t x) (alike-stands p (startedOrder p) o′ like (b .1)) (alike-holds like (onto l₀ past) (b .2))
+
+        slot : Slot p (m₁ .order) (onto (l₀ ++ m₁ .log) past)
+        slot = subst (λ (w : List Event). Slot p (m₁ .order) w) (sym (onto-append past l₀ (m₁ .log))) (passed-slot p h (onto l₀ past) m₁ passed .1)
+
+        marked : isLive (m₁ .order) ≡ true → (k : ℕ) → lasts (kindAt p k) ≡ true → hasBegan k (l₀ ++ m₁ .log) ≡ true
+            → (not (eqb (markAt k (m₁ .order)) idle) || (not (isLive (orderIn s i)) && not (eqb (markAt k (startedOrder p)) idle))) ≡ true
+        marked v k y g = rw z (starts-marked t m past n x v k y g)
 
     -- over any calls
     module _ (bytes : List ℕ) (next : ℕ) (accepted : readPlan bytes ≡ found p next) where
       all-begun : (calls : List Call) (s : State) (t : Tally) (past : List Event) → Sane p bytes next i accepted h s past
-          → AllBegun p (stepsTaken calls i s t)
+          → AllBegun p (stepsTaken p calls i s t)
       unfolding stepsTaken every
       all-begun [] s t past g = (refl, refl, refl)
       all-begun (posting m ∷ l) s t past g = all-begun l (post m s .state) t past (same-sane p bytes next i accepted h s (post m s .state) past (post-same m s) g)
@@ -429,21 +506,21 @@ module _ (p : Plan) (h : Promised p) where
       all-begun (stepping c ∷ l) s t past g =
           let r = step c s t in
           let g₁ = step-after p bytes next i accepted h c s t past g .1 in
-          let x = happens-begun s past r (g .slot) (g₁ .slot) (step-happens p bytes next i accepted h c s t past g .happens) in
+          let x = happens-begun s past r (step-happens p bytes next i accepted h c s t past g .happens) in
           let y = all-begun l (r .state) (r .tally) (onto (logOf i r) past) g₁ in
           (joined isMarked r (x .0) (y .0), joined hasBegun r (x .1) (y .1), joined isLed r (x .2) (y .2))
         where
-          joined : (f : Plan → Taken → ℕ → Bool) (r : Stepped) → every (ofEach f p) (takenBy i s r) ≡ true
-              → every (ofEach f p) (stepsTaken l i (r .state) (r .tally)) ≡ true
-              → every (ofEach f p) (takenBy i s r ++ stepsTaken l i (r .state) (r .tally)) ≡ true
-          joined f r a b = every-append (ofEach f p) (takenBy i s r) (stepsTaken l i (r .state) (r .tally)) a b
+          joined : (f : Plan → Taken → ℕ → Bool) (r : Stepped) → every (ofEach f p) (takenBy p i s r) ≡ true
+              → every (ofEach f p) (stepsTaken p l i (r .state) (r .tally)) ≡ true
+              → every (ofEach f p) (takenBy p i s r ++ stepsTaken p l i (r .state) (r .tally)) ≡ true
+          joined f r a b = every-append (ofEach f p) (takenBy p i s r) (stepsTaken p l i (r .state) (r .tally)) a b
 
 -- from a fresh start
 fresh-begun : (bytes : List ℕ) (p : Plan) (next : ℕ) → readPlan bytes ≡ found p next → (calls : List Call) (slot : ℕ) (t : Tally)
-    → AllBegun p (stepsTaken calls slot (load bytes .state) t)
+    → AllBegun p (stepsTaken p calls slot (load bytes .state) t)
 unfolding load
 fresh-begun bytes p next e calls slot t =
-    subst (λ (f : Found Plan). AllBegun p (stepsTaken calls slot (loadedAs bytes f .state) t)) (sym e)
+    subst (λ (f : Found Plan). AllBegun p (stepsTaken p calls slot (loadedAs bytes f .state) t)) (sym e)
     (let h = promised p (accepted-is-within bytes e) in all-begun p h slot bytes next e calls (fresh bytes) t [] (fresh-sane p bytes next slot e h))
 
 -- No beginning is only claimed,

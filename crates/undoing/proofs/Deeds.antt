@@ -1,9 +1,10 @@
 -- The starts, closings, raises and leaves that a step logs: its own, and no others. Assumes nothing.
-use Prim.Native.Nat.{ℕ, _+_}
+use Prim.Native.Nat.{ℕ, zero, suc, _+_}
 use mathlib.Core.Path.{_≡_, refl, sym, ap, _∙_}
-use mathlib.Core.Bool.{Bool, true, false, cond, _&&_, _||_}
-use mathlib.Core.List.{List, [], _∷_}
+use mathlib.Core.Bool.{Bool, true, false, cond, _&&_, _||_, false≢true}
+use mathlib.Core.List.{List, [], _∷_, _++_, append-nil, append-assoc}
 use lib.Dec.{eqb, ltb}
+use borrow.Author.Tests.{eqb-true}
 use Rattle.plan.specs.Tree.{Exp, constant, variable, binary, Own, empty, send, receive, set as setting, raise, leave, choose, repeat, sequence, flow, pick, scope, arm, kind, Act, act, Acts, none, more, Plan, size, sizes}
 use Rattle.order.specs.declared.Order.{Order}
 use Rattle.order.specs.declared.End.{End}
@@ -17,11 +18,13 @@ use Rattle.order.specs.Begin.{Begun, beginAfter, beginPart, partAt, quiet, clea
 use Rattle.order.specs.declared.Way.{Way as Result}
 use Rattle.order.specs.declared.Way.the-variants.{Running as running, Over as over, Raising as raising, Leaving as leaving, Undone as undone, UndoRaising as undoRaising}
 use Rattle.order.specs.Scope.{Outcome, runs, begunIn, whereOver, Scope, scopeAt, rootOf, isOpen, closing, ends, undoes, turns, stop, faults, breaks, looksAgain, bodyOver, bodyRaised, undoOver, undoRaised, fromBody, partOver, partRaised, fromFault, fromUndo}
-use Rattle.order.specs.Acting.{finishes, orRaises, enters, again, repeats, allBound, itself, isPart, arms, goesOn, joins, inScope, combines, stepIn, stepAmong, stepRoot, endOf, movedTo, stepOrder, begunOrder}
+use Rattle.order.specs.Acting.{finishes, orRaises, enters, again, repeats, allBound, itself, isPart, arms, goesOn, joins, inScope, combines, stepIn, stepAmong, stepRoot, endOf, movedTo, begunOrder, itsOwn, inPlace, replaces, performs, Moved, acted}
+use Rattle.order.specs.Judging.{Verdict, clear, clash, conflict, following, upon, judged, spare, settled, stepOrder}
+use Rattle.undoing.proofs.Judged.{isTake, OnClash, Higher, conflict-awaited}
 use Rattle.machine.specs.Fit.{Doing, doingOf}
 use Rattle.machine.specs.Calls.{doingIn, doingAmong, doingAt, orderTaking}
-use Rattle.undoing.specs.Ties.{isDeed, isFault, deedOf, deedIn, deedAmong, deedAt}
-use Rattle.undoing.proofs.Parts.{decide}
+use Rattle.undoing.specs.Ties.{isDeed, isFault, deedOf, deedIn, deedAmong, deedAt, clashes}
+use Rattle.undoing.proofs.Parts.{decide, only-append}
 use Rattle.undoing.proofs.Aside.{Aside, silent-append, silent-after, begin-silent, after-silent, part-silent, where-silent, outcome-either, runs-silent, ends-silent, undoes-silent, turns-on-silent, stop-silent}
 
 -- nothing but a step's own event is a deed
@@ -254,32 +257,48 @@ log-either : (b : Bool) (x y : Outcome) (x′ y′ : List Event) → only isDeed
 log-either true x y x′ y′ e d z z′ h g = ap (λ (r : Outcome). only isDeed (r .log)) h ∙ (e ∙ sym g)
 log-either false x y x′ y′ e d z z′ h g = ap (λ (r : Outcome). only isDeed (r .log)) h ∙ (d ∙ sym g)
 
+-- the raises of an order that is judged are told by the order and its end
+clashes-of : (n : ℕ) (p : Plan) (m m′ : Moved) → m .end ≡ m′ .end → m .order ≡ m′ .order → clashes n p m ≡ clashes n p m′
+unfolding clashes
+clashes-of zero p m m′ e d = refl
+clashes-of (suc n) p m m′ e d = ap (λ (x : End). found x (m .order)) e ∙ ap (λ (o : Order). found (m′ .end) o) d
+  where
+    found : End → Order → List Event
+    found x o =
+        elim x [
+          | None ↦ elim (conflict p o) [ clear ↦ [] | clash k ↦ raised k ∷ clashes n p (acted inPlace p k o) ]
+          | Well ↦ []
+          | Handled ↦ []
+          | Failed ↦ []
+          | Left ↦ []
+        ]
+
 mutual
-  unfolding stepIn deedIn only
+  unfolding stepIn deedIn only performs replaces
 
   -- a step in a tree logs its deed
-  pub step-deeds : (a : Act) (k t : ℕ) (o : Order) → only isDeed (stepIn a k t o .log) ≡ deedIn a k t o
+  pub step-deeds : (a : Act) (k t : ℕ) (o : Order) → only isDeed (stepIn itsOwn a k t o .log) ≡ deedIn a k t o
   step-deeds (act own within) k t o =
-      log-either (eqb k t) (itself own within k o) (combines own within k t (stepAmong within (k + 1) t (arms own within k t o)))
+      log-either (eqb k t) (itself own within k o) (combines own within k t (stepAmong itsOwn within (k + 1) t (arms own within k t o)))
       (deedOf own k o) (deedAmong within (k + 1) t o) (itself-deeds own within k o)
-      (combines-deeds own within k t (stepAmong within (k + 1) t (arms own within k t o)) ∙ (among-deeds within (k + 1) t (arms own within k t o) ∙ arms-marked own within k t o))
-      (stepIn (act own within) k t o) (deedIn (act own within) k t o) refl refl
+      (combines-deeds own within k t (stepAmong itsOwn within (k + 1) t (arms own within k t o)) ∙ (among-deeds within (k + 1) t (arms own within k t o) ∙ arms-marked own within k t o))
+      (stepIn itsOwn (act own within) k t o) (deedIn (act own within) k t o) refl refl
 
   -- in a list
-  among-deeds : (l : Acts) (c t : ℕ) (o : Order) → only isDeed (stepAmong l c t o .log) ≡ deedAmong l c t o
+  among-deeds : (l : Acts) (c t : ℕ) (o : Order) → only isDeed (stepAmong itsOwn l c t o .log) ≡ deedAmong l c t o
   among-deeds none c t o = refl
   among-deeds (more a l) c t o =
-      log-either (ltb t (c + size a)) (stepIn a c t o) (stepAmong l (c + size a) t o) (deedIn a c t o) (deedAmong l (c + size a) t o)
-      (step-deeds a c t o) (among-deeds l (c + size a) t o) (stepAmong (more a l) c t o) (deedAmong (more a l) c t o) refl refl
+      log-either (ltb t (c + size a)) (stepIn itsOwn a c t o) (stepAmong itsOwn l (c + size a) t o) (deedIn a c t o) (deedAmong l (c + size a) t o)
+      (step-deeds a c t o) (among-deeds l (c + size a) t o) (stepAmong itsOwn (more a l) c t o) (deedAmong (more a l) c t o) refl refl
 
 -- from the root
-root-deeds : (p : Plan) (t : ℕ) (o : Order) → only isDeed (stepRoot p t o .log) ≡ deedAt p t o
+root-deeds : (p : Plan) (t : ℕ) (o : Order) → only isDeed (stepRoot itsOwn p t o .log) ≡ deedAt p t o
 unfolding stepRoot deedAt
 root-deeds p t o =
-    log-either (ltb t (size (p .body))) (fromBody (rootOf p) (stepIn (p .body) 0 t o)) (fromFault (rootOf p) (stepIn (p .fault) (size (p .body)) t o))
+    log-either (ltb t (size (p .body))) (fromBody (rootOf p) (stepIn itsOwn (p .body) 0 t o)) (fromFault (rootOf p) (stepIn itsOwn (p .fault) (size (p .body)) t o))
     (deedIn (p .body) 0 t o) (deedIn (p .fault) (size (p .body)) t o)
-    (body-deeds (rootOf p) (stepIn (p .body) 0 t o) ∙ step-deeds (p .body) 0 t o)
-    (fault-deeds (rootOf p) (stepIn (p .fault) (size (p .body)) t o) ∙ step-deeds (p .fault) (size (p .body)) t o) (stepRoot p t o) (deedAt p t o) refl refl
+    (body-deeds (rootOf p) (stepIn itsOwn (p .body) 0 t o) ∙ step-deeds (p .body) 0 t o)
+    (fault-deeds (rootOf p) (stepIn itsOwn (p .fault) (size (p .body)) t o) ∙ step-deeds (p .fault) (size (p .body)) t o) (stepRoot itsOwn p t o) (deedAt p t o) refl refl
 
 moved-deeds : (r : Outcome) (e : End) → only isDeed (movedTo r e .log) ≡ only isDeed (r .log)
 unfolding movedTo only isDeed
@@ -289,10 +308,100 @@ moved-deeds r Handled = refl
 moved-deeds r Failed = refl
 moved-deeds r Left = refl
 
--- A step of an order logs its deed.
-pub order-deeds : (p : Plan) (t : ℕ) (o : Order) → only isDeed (stepOrder p t o .log) ≡ deedAt p t o
-unfolding stepOrder
-order-deeds p t o = moved-deeds (stepRoot p t o) (endOf (stepRoot p t o)) ∙ root-deeds p t o
+-- The raise in place of a receive or an arm is its deed.
+raise-deed : (own : Own) (within : Acts) (k : ℕ) (o : Order) → isTake (doingOf own within k) ≡ true → only isDeed (performs inPlace own within k o .log) ≡ raised k ∷ []
+unfolding isTake doingOf performs replaces kind only isDeed
+raise-deed empty within k o h = absurd (false≢true h)
+raise-deed (send x y vs) within k o h = absurd (false≢true h)
+raise-deed (receive x y vs) within k o h = refl
+raise-deed (setting v x) within k o h = absurd (false≢true h)
+raise-deed raise within k o h = absurd (false≢true h)
+raise-deed leave within k o h = absurd (false≢true h)
+raise-deed (choose x) within k o h = absurd (false≢true h)
+raise-deed (repeat x) within k o h = absurd (false≢true h)
+raise-deed sequence within k o h = absurd (false≢true h)
+raise-deed flow within k o h = absurd (false≢true h)
+raise-deed pick within k o h = absurd (false≢true h)
+raise-deed scope within k o h = absurd (false≢true h)
+raise-deed (arm x y vs) within k o h = refl
+
+-- by the same choice of what is done and what is logged
+raise-either : (b : Bool) (d d′ : Doing) (x y : Outcome) (g : List Event) → (b ≡ true → isTake d ≡ true → only isDeed (x .log) ≡ g)
+    → (b ≡ false → isTake d′ ≡ true → only isDeed (y .log) ≡ g)
+    → isTake (elim b [ true ↦ d | false ↦ d′ ]) ≡ true → only isDeed (elim b as (λ _. Outcome) [ true ↦ x | false ↦ y ] .log) ≡ g
+raise-either true d d′ x y g e f h = e refl h
+raise-either false d d′ x y g e f h = f refl h
+
+mutual
+  unfolding stepIn doingIn only isTake
+
+  raise-deeds : (a : Act) (k t : ℕ) (o : Order) → isTake (doingIn a k t) ≡ true → only isDeed (stepIn inPlace a k t o .log) ≡ raised t ∷ []
+  raise-deeds (act own within) k t o =
+      raise-either (eqb k t) (doingOf own within k) (doingAmong within (k + 1) t) (performs inPlace own within k o)
+      (combines own within k t (stepAmong inPlace within (k + 1) t (arms own within k t o))) (raised t ∷ [])
+      (λ e h. raise-deed own within k o h ∙ ap (λ (j : ℕ). raised j ∷ []) (eqb-true k t e))
+      (λ e h. combines-deeds own within k t (stepAmong inPlace within (k + 1) t (arms own within k t o)) ∙ raises-among within (k + 1) t (arms own within k t o) h)
+
+  raises-among : (l : Acts) (c t : ℕ) (o : Order) → isTake (doingAmong l c t) ≡ true → only isDeed (stepAmong inPlace l c t o .log) ≡ raised t ∷ []
+  raises-among none c t o h = absurd (false≢true h)
+  raises-among (more a l) c t o h =
+      raise-either (ltb t (c + size a)) (doingIn a c t) (doingAmong l (c + size a) t) (stepIn inPlace a c t o) (stepAmong inPlace l (c + size a) t o) (raised t ∷ [])
+      (λ e g. raise-deeds a c t o g) (λ e g. raises-among l (c + size a) t o g) h
+
+raise-root : (p : Plan) (t : ℕ) (o : Order) → isTake (doingAt p t) ≡ true → only isDeed (stepRoot inPlace p t o .log) ≡ raised t ∷ []
+unfolding stepRoot doingAt
+raise-root p t o =
+    raise-either (ltb t (size (p .body))) (doingIn (p .body) 0 t) (doingIn (p .fault) (size (p .body)) t)
+    (fromBody (rootOf p) (stepIn inPlace (p .body) 0 t o)) (fromFault (rootOf p) (stepIn inPlace (p .fault) (size (p .body)) t o)) (raised t ∷ [])
+    (λ e h. body-deeds (rootOf p) (stepIn inPlace (p .body) 0 t o) ∙ raise-deeds (p .body) 0 t o h)
+    (λ e h. fault-deeds (rootOf p) (stepIn inPlace (p .fault) (size (p .body)) t o) ∙ raise-deeds (p .fault) (size (p .body)) t o h)
+
+pub raised-deeds : (p : Plan) (t : ℕ) (o : Order) → isTake (doingAt p t) ≡ true → only isDeed (acted inPlace p t o .log) ≡ raised t ∷ []
+unfolding acted
+raised-deeds p t o h = moved-deeds (stepRoot inPlace p t o) (endOf (stepRoot inPlace p t o)) ∙ raise-root p t o h
+
+-- A step's own deed.
+pub acted-deeds : (p : Plan) (t : ℕ) (o : Order) → only isDeed (acted itsOwn p t o .log) ≡ deedAt p t o
+unfolding acted
+acted-deeds p t o = moved-deeds (stepRoot itsOwn p t o) (endOf (stepRoot itsOwn p t o)) ∙ root-deeds p t o
+
+-- What is judged logs a raise for each conflict.
+judged-deeds : (n : ℕ) (p : Plan) (m : Moved) → only isDeed (judged n p m .log) ≡ only isDeed (m .log) ++ clashes n p m
+unfolding judged clashes
+judged-deeds zero p m = sym (append-nil (only isDeed (m .log)))
+judged-deeds (suc n) p m = go (λ m′. judged-deeds n p m′) (m .end)
+  where
+    on : ((m′ : Moved) → only isDeed (judged n p m′ .log) ≡ only isDeed (m′ .log) ++ clashes n p m′) → (v : Verdict) → OnClash (Higher p (m .order)) v
+        → only isDeed (upon (judged n p) p m v .log) ≡ only isDeed (m .log) ++ (elim v [ clear ↦ [] | clash k ↦ raised k ∷ clashes n p (acted inPlace p k (m .order)) ])
+    on f clear c = sym (append-nil (only isDeed (m .log)))
+    on f (clash k) c =
+        f (following (m .log) (acted inPlace p k (m .order)))
+        ∙ (ap (λ (l : List Event). l ++ clashes n p (following (m .log) (acted inPlace p k (m .order)))) (only-append isDeed (m .log) (acted inPlace p k (m .order) .log))
+        ∙ (ap (λ (l : List Event). (only isDeed (m .log) ++ l) ++ clashes n p (following (m .log) (acted inPlace p k (m .order)))) (raised-deeds p k (m .order) (c .1))
+        ∙ (append-assoc (only isDeed (m .log)) (raised k ∷ []) (clashes n p (following (m .log) (acted inPlace p k (m .order))))
+        ∙ ap (λ (l : List Event). only isDeed (m .log) ++ (raised k ∷ l)) (clashes-of n p (following (m .log) (acted inPlace p k (m .order))) (acted inPlace p k (m .order)) refl refl))))
+
+    go : ((m′ : Moved) → only isDeed (judged n p m′ .log) ≡ only isDeed (m′ .log) ++ clashes n p m′) → (e : End)
+        → only isDeed (elim e as (λ _. Moved) [ None ↦ upon (judged n p) p m (conflict p (m .order)) | Well ↦ m | Handled ↦ m | Failed ↦ m | Left ↦ m ] .log)
+        ≡ only isDeed (m .log)
+        ++ (elim e as (λ _. List Event) [
+          | None ↦ elim (conflict p (m .order)) as (λ _. List Event) [ clear ↦ [] | clash k ↦ raised k ∷ clashes n p (acted inPlace p k (m .order)) ]
+          | Well ↦ []
+          | Handled ↦ []
+          | Failed ↦ []
+          | Left ↦ []
+        ])
+    go f None = on f (conflict p (m .order)) (conflict-awaited p (m .order))
+    go f Well = sym (append-nil (only isDeed (m .log)))
+    go f Handled = sym (append-nil (only isDeed (m .log)))
+    go f Failed = sym (append-nil (only isDeed (m .log)))
+    go f Left = sym (append-nil (only isDeed (m .log)))
+
+-- A step of an order logs its deed, and then a raise for each conflict.
+pub order-deeds : (p : Plan) (t : ℕ) (o : Order) → only isDeed (stepOrder p t o .log) ≡ deedAt p t o ++ clashes (spare p (acted itsOwn p t o .order)) p (acted itsOwn p t o)
+unfolding stepOrder settled
+order-deeds p t o =
+    judged-deeds (spare p (acted itsOwn p t o .order)) p (acted itsOwn p t o) ∙ ap (λ (l : List Event). l ++ clashes (spare p (acted itsOwn p t o .order)) p (acted itsOwn p t o)) (acted-deeds p t o)
 
 -- what an order that starts logs before its step
 pub start-deed : (p : Plan) → only isDeed (started ∷ begunOrder p .log) ≡ started ∷ []

@@ -18,27 +18,28 @@ use Rattle.order.specs.Lists.{some, only}
 use Rattle.order.specs.Expression.{evaluate}
 use Rattle.order.specs.State.{root, inner}
 use Rattle.machine.specs.State.{fresh}
-use Rattle.machine.specs.Limits.{rootInLimits}
 use Rattle.order.specs.Event.{Event, started, began, closed, faulted, stopped, ended, raised, left}
-use Rattle.order.specs.Acting.{allBound, stepOrder, begunOrder, startedOrder}
+use Rattle.order.specs.Acting.{allBound, begunOrder, startedOrder, Actor, itsOwn, inPlace, Moved, acted}
+use Rattle.order.specs.Judging.{following, stepOrder}
+use Rattle.undoing.proofs.Judged.{Fitting, passed-once}
 use Rattle.machine.specs.Calls.{loadedAs, load, post, collect, dropAt, Stepped, doingAt, step, Call, posting, collecting, dropping, stepping}
 use Rattle.undoing.specs.History.{logOf, history}
 use Rattle.undoing.specs.Demand3.{closingsOf, noneNow, isOver, allowed}
 use Rattle.undoing.specs.Orderly.{orderly}
-use Rattle.undoing.specs.Ties.{isDeed, isFault, deedOf, deedIn, deedAmong, deedAt, placeOf, fits, due, isRaised, endTold, endList, endsIn, endBy, endsTaken, EndsTold}
+use Rattle.undoing.specs.Ties.{isDeed, isFault, deedOf, deedIn, deedAmong, deedAt, placeOf, fits, due, isRaised, endTold, endList, endsIn, endBy, endsTaken, EndsTold, heedsAfter}
 use Rattle.undoing.specs.Buyer.{atEnds, allBack, HandledTakesAllBack, noneBack, WellTakesNothingBack}
 use Rattle.undoing.proofs.Parts.{both, decide, alike-itself}
 use Rattle.undoing.proofs.Moves.{HoldsAt, fair}
 use Rattle.undoing.proofs.Orders.{endsTurned, older, momentOf, fairAfter, onto}
 use Rattle.undoing.proofs.Roots.{Awaited, Standing, EndedAs, Passed, passes-on, passes-end}
 use Rattle.undoing.proofs.Planning.{Promised, promised}
-use Rattle.undoing.proofs.Slots.{Alike, taking-alike, taken-step, started-in-limits, order-starts, post-same, collect-same, drop-same, Sane, same-sane, fresh-sane}
+use Rattle.undoing.proofs.Slots.{Alike, taking-alike, taken-so, order-starts, post-same, collect-same, drop-same, Sane, same-sane, fresh-sane}
 use Rattle.undoing.proofs.Demanded.{step-after}
 use Rattle.undoing.proofs.Happening.{orderIn, withMessage, Happens, nothing-here, goes-here, starts-here, step-happens}
-use Rattle.undoing.proofs.Deeds.{order-deeds, start-deed}
+use Rattle.undoing.proofs.Deeds.{acted-deeds, raised-deeds, start-deed}
 use Rattle.undoing.proofs.Shapes.{isGrave, Calm, Shape, shape-calm, shape-fault, shape-end-fault, shape-end, shape-lost, OrderShape, shaped, out, order-shape, start-calm}
 use Rattle.undoing.proofs.Fitting.{standing-fits}
-use Rattle.undoing.proofs.Heeding.{Clear, clear-raised, heeds-clears, step-heeds, calm-heeds, alike-stands}
+use Rattle.undoing.proofs.Heeding.{Clear, clear-raised, heeds-append, heeds-clears, heeds-once, step-heeds, calm-heeds}
 
 -- Starts.
 
@@ -102,13 +103,14 @@ mutual
   deed-among-starts none c t o = refl
   deed-among-starts (more a l) c t o = either-starts (ltb t _) (deedIn a c t o) (deedAmong l _ t o) _ refl (deed-in-starts a c t o) (deed-among-starts l _ t o)
 
--- nor has the log of a step one
-log-starts : (p : Plan) (t : ℕ) (o : Order) → some isStart (stepOrder p t o .log) ≡ false
-unfolding deedAt
-log-starts p t o =
-    start-kept (stepOrder p t o .log)
-    ∙ (ap (some isStart) (order-deeds p t o)
+-- nor has the log of a walk one
+log-starts : (actor : Actor) (p : Plan) (t : ℕ) (o : Order) → Fitting actor p t → some isStart (acted actor p t o .log) ≡ false
+unfolding deedAt some isStart
+log-starts itsOwn p t o y =
+    start-kept (acted itsOwn p t o .log)
+    ∙ (ap (some isStart) (acted-deeds p t o)
     ∙ either-starts (ltb t (size (p .body))) (deedIn (p .body) 0 t o) (deedIn (p .fault) (size (p .body)) t o) (deedAt p t o) refl (deed-in-starts (p .body) 0 t o) (deed-in-starts (p .fault) (size (p .body)) t o))
+log-starts inPlace p t o y = start-kept (acted inPlace p t o .log) ∙ ap (some isStart) (raised-deeds p t o y)
 
 -- The ends of a log.
 
@@ -267,32 +269,53 @@ pub record Kept (p : Plan) (f : End → List Event → Bool) : Type 0 where
   pub ended : (e : End) (past : List Event) → EndedAs p e past → f e (older past) ≡ true
 
 module _ (p : Plan) (h : Promised p) where
-  -- a step of an order that stands and has taken its message: its ends, and what is promised there
-  order-ends : (t : ℕ) (o o′ : Order) (past : List Event) → Alike p o o′ → Awaited p (o .marks) t → Standing p o → rootInLimits (o .root) ≡ true → HoldsAt p (momentOf p o) past
-      → Clear p past
-      → (endsIn past (stepOrder p t o′ .log) ≡ endList (stepOrder p t o′ .end)) × ((f : End → List Event → Bool) → Kept p f → atEnds f past (stepOrder p t o′ .log) ≡ true)
-  order-ends t o o′ past a w st m g c = go (taken-step p h t o o′ past a w st m g)
+  -- the ends of a log, and what is promised there
+  abbrev Ends : List Event → List Event → End → Type 0
+  Ends past l e = (endsIn past l ≡ endList e) × ((f : End → List Event → Bool) → Kept p f → atEnds f past l ≡ true)
+
+  -- of one walk, and that it is heeded; so of two, one after the other
+  abbrev Ended : List Event → Moved → Type 0
+  Ended past m = Clear p past → Ends past (m .log) (m .end) × (heedsAfter p past (m .log) ≡ true)
+
+  ends-once : (actor : Actor) (t : ℕ) (o : Order) (past : List Event) → Fitting actor p t → Awaited p (o .marks) t → Standing p o → HoldsAt p (momentOf p o) past → Ended past (acted actor p t o)
+  ends-once actor t o past v w st g c = (go (passed-once p h actor t o past w st g), heeds-once p h actor t o past v w st g c)
     where
       l : List Event
-      l = stepOrder p t o′ .log
+      l = acted actor p t o .log
 
       e : End
-      e = stepOrder p t o′ .end
+      e = acted actor p t o .end
 
-      fit : fits (placeOf p t) o′ ≡ true
-      fit = standing-fits p o′ t (alike-stands p o o′ a st) (subst (λ (ms : List ℕ). Awaited p ms t) (sym (a .marks)) w)
+      fit : fits (placeOf p t) o ≡ true
+      fit = standing-fits p o t st w
 
-      go : Passed p past (stepOrder p t o′) → (endsIn past l ≡ endList e) × ((f : End → List Event → Bool) → Kept p f → atEnds f past l ≡ true)
+      go : Passed p past (acted actor p t o) → Ends past l e
       go (passes-on r d z y) =
           let q = now-none (onto l past) (y .now) in (
-            fair-ends p l past r (log-starts p t o′) (g .now) ∙ (ap endList q ∙ ap endList (sym d)),
-            λ f k. fair-at p f (k .none) l past r (log-starts p t o′) (g .now) (rw q (k .none (older (onto l past)))),
+            fair-ends p l past r (log-starts actor p t o v) (g .now) ∙ (ap endList q ∙ ap endList (sym d)),
+            λ f k. fair-at p f (k .none) l past r (log-starts actor p t o v) (g .now) (rw q (k .none (older (onto l past)))),
           )
       go (passes-end r d z) =
-          let q = told-end p t o′ e l past z (order-shape p (h .seat) t o′) fit (clear-raised p past c) (now-cool past (g .now)) in (
-            fair-ends p l past r (log-starts p t o′) (g .now) ∙ ap endList q,
-            λ f k. fair-at p f (k .none) l past r (log-starts p t o′) (g .now) (rw q (k .ended e (onto l past) z)),
+          let q = told-end p t o e l past z (order-shape actor p (h .seat) t o) fit (clear-raised p past c) (now-cool past (g .now)) in (
+            fair-ends p l past r (log-starts actor p t o v) (g .now) ∙ ap endList q,
+            λ f k. fair-at p f (k .none) l past r (log-starts actor p t o v) (g .now) (rw q (k .ended e (onto l past) z)),
           )
+
+  ends-joined : (past : List Event) (m m′ : Moved) → m .end ≡ None → Ended past m → Ended (onto (m .log) past) m′ → Ended past (following (m .log) m′)
+  ends-joined past m m′ e x y c =
+      let a = x c in
+      let b = y (heeds-clears p (m .log) past (a .1)) in (
+        (
+          ends-append (m .log) (m′ .log) past ∙ (ap (λ (z : List End). z ++ endsIn (onto (m .log) past) (m′ .log)) (a .0 .0 ∙ ap endList e) ∙ b .0 .0),
+          λ f k. at-append f (m .log) (m′ .log) past (a .0 .1 f k) (b .0 .1 f k),
+        ),
+        heeds-append p (m .log) (m′ .log) past (a .1) (b .1),
+      )
+
+  -- a step of an order that stands and has taken its message
+  order-ends : (t : ℕ) (o o′ : Order) (past : List Event) → Alike p o o′ → Awaited p (o .marks) t → Standing p o → HoldsAt p (momentOf p o) past → Clear p past
+      → Ends past (stepOrder p t o′ .log) (stepOrder p t o′ .end)
+  order-ends t o o′ past a w st g c = taken-so p h Ended ends-once ends-joined t o o′ past a w st g c .0
 
 -- where an order starts it does not end
 started-ends : (p : Plan) (l past : List Event) → fairAfter p past (started ∷ l) ≡ true → only isDeed (started ∷ l) ≡ started ∷ [] → noneNow (onto l (started ∷ past)) ≡ false
@@ -313,13 +336,13 @@ module _ (p : Plan) (bytes : List ℕ) (next i : ℕ) (accepted : readPlan bytes
   unfolding endsIn atEnds
   step-ends s past r (nothing-here n l e o) c = (rw (l, e), λ f k. rw l)
   step-ends s past r (goes-here t v q w st m g l e d) c =
-      let x = order-ends p h t (orderIn s i) (withMessage p t v (orderIn s i)) past (taking-alike p (doingAt p t) v (orderIn s i)) w st m g c in (ap (endsIn past) l ∙ (x .0 ∙ sym e), λ f k. rw l (x .1 f k))
+      let x = order-ends p h t (orderIn s i) (withMessage p t v (orderIn s i)) past (taking-alike p (doingAt p t) v (orderIn s i)) w st g c in (ap (endsIn past) l ∙ (x .0 ∙ sym e), λ f k. rw l (x .1 f k))
   step-ends s past r (starts-here t v q w z n l e d) c =
       let o = withMessage p t v (startedOrder p) in
       let b = order-starts p h t past n w in
       let l₀ = started ∷ begunOrder p .log in
       let y = started-ends p (begunOrder p .log) past (b .0) (start-deed p) (b .2 .now) in
-      let x = order-ends p h t (startedOrder p) o (onto l₀ past) (taking-alike p (doingAt p t) v (startedOrder p)) w (b .1) (started-in-limits p) (b .2) (heeds-clears p l₀ past (calm-heeds p l₀ past (start-calm p) c)) in (
+      let x = order-ends p h t (startedOrder p) o (onto l₀ past) (taking-alike p (doingAt p t) v (startedOrder p)) w (b .1) (b .2) (heeds-clears p l₀ past (calm-heeds p l₀ past (start-calm p) c)) in (
         ap (endsIn past) l ∙ (ends-append l₀ (stepOrder p t o .log) past ∙ (ap (λ z. z ++ endsIn (onto l₀ past) (stepOrder p t o .log)) (y .0) ∙ (x .0 ∙ sym e))),
         λ f k. rw l (at-append f l₀ (stepOrder p t o .log) past (y .1 f k) (x .1 f k)),
       )

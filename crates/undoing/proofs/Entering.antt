@@ -16,7 +16,7 @@ use Rattle.order.specs.declared.Way.{Way as Result}
 use Rattle.order.specs.declared.Way.the-variants.{Running as running, Over as over, Raising as raising, Leaving as leaving, Undone as undone, UndoRaising as undoRaising}
 use Rattle.order.specs.Scope.{Outcome, rootOf, runs, after, begunIn, whereOver, Scope, scopeAt, isScope, isOpen, innerRuns, closing, beginUndo, beginUndoIn, startUndo, undo, ends, handle, undoes, turns, rememberedFor, untouched, withdraws, stop, stopAll, stopFirst, alsoStopped, faults, breaks, looksAgain, bodyOver, bodyRaised, undoOver, undoRaised, fromBody, partOver, partRaised, fromFault, fromUndo}
 use Rattle.order.specs.Scope as definitions
-use Rattle.order.specs.Acting.{finishes, raises, orRaises, enters, again, repeats, allBound, itself, arms, goesOn, joins, inScope, combines, stepIn, stepAmong, stepRoot}
+use Rattle.order.specs.Acting.{finishes, raises, orRaises, enters, again, repeats, allBound, itself, arms, goesOn, joins, inScope, combines, stepIn, stepAmong, stepRoot, Actor, replaces, performs}
 use Rattle.undoing.specs.Orderly.{isBeganOf}
 use Rattle.undoing.specs.Entirely.{times}
 use Rattle.undoing.proofs.Parts.{both, decide}
@@ -699,21 +699,28 @@ module _ (f : ℕ → ℕ) where
     either-list {l} {c} true p q z e g h = subst (λ (o : Outcome). StepsIn (allow t) l c o) (sym e) (g refl)
     either-list {l} {c} false p q z e g h = subst (λ (o : Outcome). StepsIn (allow t) l c o) (sym e) (h refl)
 
+    -- what acts: the activity itself, or a raise in its place
+    performs-at : (actor : Actor) (own : Own) (within : Acts) (k : ℕ) (o : Order) → needs own ≤ count within → Arms (eqb (kind own) 10) within → KnowsIn f within (k + 1)
+        → StepsAt (allow t) (act own within) k (performs actor own within k o)
+    unfolding performs times isBeganOf
+    performs-at actor own within k o n r y =
+        either-at (replaces actor (kind own)) (raises k o) (itself own within k o) _ refl (λ e. silent (act own within) k (raises k o) (λ j. refl)) (λ e. itself-at own within k o n r y)
+
     mutual
       unfolding stepIn times
 
-      pub step-at : {a : Act} {k : ℕ} → Knows f a k → (o : Order) → k ≤ t → StepsAt (allow t) a k (stepIn a k t o)
-      step-at (knows {own} {within} {k} x n r y) o h =
-          either-at (eqb k t) (itself own within k o) (combines own within k t (stepAmong within (k + 1) t (arms own within k t o))) _ refl
-          (λ e. itself-at own within k o n r y)
-          (λ e. let b : k + 1 ≤ t = let z = eqb-false k t e in omega arith in combines-at own within k (stepAmong within (k + 1) t (arms own within k t o)) n r y b (among-at y (arms own within k t o) b))
+      pub step-at : (actor : Actor) {a : Act} {k : ℕ} → Knows f a k → (o : Order) → k ≤ t → StepsAt (allow t) a k (stepIn actor a k t o)
+      step-at actor (knows {own} {within} {k} x n r y) o h =
+          either-at (eqb k t) (performs actor own within k o) (combines own within k t (stepAmong actor within (k + 1) t (arms own within k t o))) _ refl
+          (λ e. performs-at actor own within k o n r y)
+          (λ e. let b : k + 1 ≤ t = let z = eqb-false k t e in omega arith in combines-at own within k (stepAmong actor within (k + 1) t (arms own within k t o)) n r y b (among-at actor y (arms own within k t o) b))
 
-      pub among-at : {l : Acts} {c : ℕ} → KnowsIn f l c → (o : Order) → c ≤ t → StepsIn (allow t) l c (stepAmong l c t o)
-      among-at (knows-none {c}) o h = record { strict = in-zero (allow t) none c [] (λ j. refl); leaves = λ e j. refl }
-      among-at (knows-more {a} {l} {c} x y) o h =
-          either-list (ltb t (c + size a)) (stepIn a c t o) (stepAmong l (c + size a) t o) _ refl
-          (λ e. let z = step-at x o h in record { strict = strict-first (allow t) a l c _ (z .strict); leaves = z .leaves })
-          (λ e. let z = among-at y o (ltb-false t (c + size a) e) in record { strict = strict-later (allow t) a l c _ (z .strict); leaves = z .leaves })
+      pub among-at : (actor : Actor) {l : Acts} {c : ℕ} → KnowsIn f l c → (o : Order) → c ≤ t → StepsIn (allow t) l c (stepAmong actor l c t o)
+      among-at actor (knows-none {c}) o h = record { strict = in-zero (allow t) none c [] (λ j. refl); leaves = λ e j. refl }
+      among-at actor (knows-more {a} {l} {c} x y) o h =
+          either-list (ltb t (c + size a)) (stepIn actor a c t o) (stepAmong actor l (c + size a) t o) _ refl
+          (λ e. let z = step-at actor x o h in record { strict = strict-first (allow t) a l c _ (z .strict); leaves = z .leaves })
+          (λ e. let z = among-at actor y o (ltb-false t (c + size a) e) in record { strict = strict-later (allow t) a l c _ (z .strict); leaves = z .leaves })
 
     -- From the root, whose body and fault part are a list.
     abbrev pub whole : Plan → Acts
@@ -730,22 +737,22 @@ module _ (f : ℕ → ℕ) where
             inFault = λ m h. list-wide (p .body) (more (p .fault) none) 0 m (subst (λ (c : ℕ). InList (more (p .fault) none) c m) (omega arith) (list-first (p .fault) none (size (p .body)) m h));
           }
 
-      pub root-at : (o : Order) → Steps (allow t) (whole p) 0 (stepRoot p t o)
+      pub root-at : (actor : Actor) (o : Order) → Steps (allow t) (whole p) 0 (stepRoot actor p t o)
       unfolding stepRoot
-      root-at o =
+      root-at actor o =
           decide (ltb t (size (p .body)))
-          (λ e. subst (λ (q : Outcome). Steps (allow t) (whole p) 0 q) (sym (first-of (ltb t (size (p .body))) inBody inFault (stepRoot p t o) refl e))
-          (body-steps (allow t) (rootOf p) (whole p) 0 sit-root (stepIn (p .body) 0 t o) (let z = step-at kb o (omega arith) in record { wide = sit-root .inBody (allow t) _ (z .strict); leaves = z .leaves })))
-          (λ e. subst (λ (q : Outcome). Steps (allow t) (whole p) 0 q) (sym (second-of (ltb t (size (p .body))) inBody inFault (stepRoot p t o) refl e))
-          (fault-steps (allow t) (rootOf p) (whole p) 0 sit-root (stepIn (p .fault) (size (p .body)) t o)
-          (let z = step-at kf o (ltb-false t (size (p .body)) e) in
+          (λ e. subst (λ (q : Outcome). Steps (allow t) (whole p) 0 q) (sym (first-of (ltb t (size (p .body))) inBody inFault (stepRoot actor p t o) refl e))
+          (body-steps (allow t) (rootOf p) (whole p) 0 sit-root (stepIn actor (p .body) 0 t o) (let z = step-at actor kb o (omega arith) in record { wide = sit-root .inBody (allow t) _ (z .strict); leaves = z .leaves })))
+          (λ e. subst (λ (q : Outcome). Steps (allow t) (whole p) 0 q) (sym (second-of (ltb t (size (p .body))) inBody inFault (stepRoot actor p t o) refl e))
+          (fault-steps (allow t) (rootOf p) (whole p) 0 sit-root (stepIn actor (p .fault) (size (p .body)) t o)
+          (let z = step-at actor kf o (ltb-false t (size (p .body)) e) in
           record {
-            wide = strict-wide (allow t) (strict-later (allow t) (p .body) (more (p .fault) none) 0 _ (subst (λ (c : ℕ). StrictIn (allow t) (more (p .fault) none) c (stepIn (p .fault) (size (p .body)) t o .log)) (omega arith) (strict-first (allow t) (p .fault) none (size (p .body)) _ (z .strict))));
+            wide = strict-wide (allow t) (strict-later (allow t) (p .body) (more (p .fault) none) 0 _ (subst (λ (c : ℕ). StrictIn (allow t) (more (p .fault) none) c (stepIn actor (p .fault) (size (p .body)) t o .log)) (omega arith) (strict-first (allow t) (p .fault) none (size (p .body)) _ (z .strict))));
             leaves = z .leaves;
           })))
         where
           inBody : Outcome
-          inBody = fromBody (rootOf p) (stepIn (p .body) 0 t o)
+          inBody = fromBody (rootOf p) (stepIn actor (p .body) 0 t o)
 
           inFault : Outcome
-          inFault = fromFault (rootOf p) (stepIn (p .fault) (size (p .body)) t o)
+          inFault = fromFault (rootOf p) (stepIn actor (p .fault) (size (p .body)) t o)

@@ -26,8 +26,8 @@ use Rattle.order.specs.declared.Way.{Way as Result}
 use Rattle.order.specs.declared.Way.the-variants.{Running as running, Over as over, Raising as raising, Leaving as leaving, Undone as undone, UndoRaising as undoRaising}
 use Rattle.order.specs.Begin.{begin}
 use Rattle.order.specs.Scope.{Outcome, rootOf, isScope}
-use Rattle.order.specs.Acting.{stepRoot, endOf, movedTo, stepOrder, begunOrder, startedOrder}
-use Rattle.machine.specs.Calls.{loadedAs, load, post, collect, dropAt, Stepped, doingAt, step, Call, posting, collecting, dropping, stepping}
+use Rattle.order.specs.Acting.{stepRoot, endOf, movedTo, begunOrder, startedOrder, Actor, itsOwn, acted}
+use Rattle.machine.specs.Calls.{loadedAs, load, post, collect, Stepped, doingAt, step, Call, posting, collecting, stepping}
 use Rattle.undoing.specs.History.{logOf}
 use Rattle.undoing.specs.Demand3.{noneNow}
 use Rattle.undoing.specs.Ties.{isTaken}
@@ -36,20 +36,23 @@ use Rattle.undoing.specs.Begun.{kindAt, lasts, ownsAt, hasBegan, Taken, 
 use Rattle.undoing.specs.Entirely.{ofAll, BegunTrulyEver, times, Turn, apart, along, behind, turnIn, turnAmong, turnFirst, turnBehind, turnAt, suits, isEntire, BegunEntirely}
 use Rattle.undoing.proofs.Parts.{both, decide, every-append}
 use Rattle.undoing.proofs.Marks.{Quiet, turned-not-open}
-use Rattle.undoing.proofs.Orders.{onto}
+use Rattle.undoing.proofs.Orders.{momentOf, onto}
 use Rattle.undoing.proofs.Places.{first-of, second-of}
 use Rattle.undoing.proofs.Planning.{Formed, formed-part, formed-scope, Promised, promised}
 use Rattle.undoing.proofs.Scoping.{scope-live, scope-done, scope-turned, Running, StepsAs}
 use Rattle.undoing.proofs.Roots.{Awaited, Standing}
 use Rattle.undoing.proofs.Roots as roots
-use Rattle.undoing.proofs.Slots.{Slot, standing-live, root-mild, Alike, taking-alike, order-starts, started-in-limits, post-same, collect-same, drop-same, Sane, same-sane, fresh-sane}
+use Rattle.undoing.proofs.Slots.{standing-live, Alike, taking-alike, alike-awaited, alike-stands, alike-holds, order-starts}
+use Rattle.undoing.proofs.Judged.{root-mild}
+use Rattle.undoing.proofs.EachTime.{time, OfTimes, OfStarts, each-time}
+use Rattle.undoing.proofs.Moves.{HoldsAt}
 use Rattle.undoing.proofs.Happening.{orderIn, withMessage, Happens, nothing-here, goes-here, starts-here, step-happens}
 use Rattle.undoing.proofs.Demanded.{step-after}
 use Rattle.undoing.proofs.Truly.{began-in, Up, Knows, Began}
 use Rattle.undoing.proofs.Keeping as keeping
 use Rattle.undoing.proofs.Lasting.{isRaising}
 use Rattle.undoing.proofs.Scoping as scoping
-use Rattle.undoing.proofs.BegunTold.{body-knows, fault-knows, start-began, begun-truly}
+use Rattle.undoing.proofs.BegunTold.{body-knows, fault-knows, start-began}
 use Rattle.undoing.proofs.Entire.{Two, times-append, times-event, Even, Row, Rows, First, Node, Holds, HoldsIn, no, holds-in-same, holds-in-append, Starts, Named, begin-starts}
 use Rattle.undoing.proofs.Entering.{isLeaving, allow, Wide, wide-like, wide-zero, wide-append, InList, list-first, Steps, whole, root-at}
 
@@ -174,10 +177,6 @@ taken-lives : (p : Plan) (f : Plan → Taken → ℕ → Bool) (x : Taken) → i
 unfolding every
 taken-lives p f x v e = both (every (f p x) (numbers (size (p .body) + size (p .fault)))) true (rw v at e) (λ a b. a)
 
--- The statements of some steps taken.
-abbrev Both : Plan → List Taken → Type 0
-Both p l = Two (every (ofAll isMarked p) l ≡ true) (every (ofAll isEntire p) l ≡ true)
-
 module _ (p : Plan) (h : Promised p) where
   kb : Knows (kindAt p) (p .body) 0
   kb = body-knows p h
@@ -186,16 +185,16 @@ module _ (p : Plan) (h : Promised p) where
   kf = fault-knows p h
 
   -- what a step of an order logs, by how it ends
-  order-wide : (t : ℕ) (o : Order) → Wide (allow t) (whole (kindAt p) t p) 0 (stepOrder p t o .log)
-  unfolding stepOrder movedTo times isBeganOf
-  order-wide t o = go (endOf (stepRoot p t o))
+  order-wide : (actor : Actor) (t : ℕ) (o : Order) → Wide (allow t) (whole (kindAt p) t p) 0 (acted actor p t o .log)
+  unfolding acted movedTo times isBeganOf
+  order-wide actor t o = go (endOf (stepRoot actor p t o))
     where
-      w : Steps (kindAt p) (allow t) (whole (kindAt p) t p) 0 (stepRoot p t o)
-      w = root-at (kindAt p) t p kb kf (formed-named (kindAt p) (h .fault)) o
+      w : Steps (kindAt p) (allow t) (whole (kindAt p) t p) 0 (stepRoot actor p t o)
+      w = root-at (kindAt p) t p kb kf (formed-named (kindAt p) (h .fault)) actor o
 
-      go : (e : End) → Wide (allow t) (whole (kindAt p) t p) 0 (movedTo (stepRoot p t o) e .log)
+      go : (e : End) → Wide (allow t) (whole (kindAt p) t p) 0 (movedTo (stepRoot actor p t o) e .log)
       go None = w .wide
-      go Well = wide-like (allow t) (stepRoot p t o .log ++ (ended root ∷ [])) (λ j. let a = times-append j (stepRoot p t o .log) (ended root ∷ []) in let b : times j (ended root ∷ []) ≡ 0 = refl in omega arith) (w .wide)
+      go Well = wide-like (allow t) (stepRoot actor p t o .log ++ (ended root ∷ [])) (λ j. let a = times-append j (stepRoot actor p t o .log) (ended root ∷ []) in let b : times j (ended root ∷ []) ≡ 0 = refl in omega arith) (w .wide)
       go Handled = w .wide
       go Failed = w .wide
       go Left = w .wide
@@ -204,11 +203,11 @@ module _ (p : Plan) (h : Promised p) where
   unfolding begunOrder
   start-starts = begin-starts (kindAt p) kb (formed-named (kindAt p) (h .body)) (noOrder .marks)
 
-  start-holds : (t : ℕ) (o : Order) → HoldsIn (allow t) ((started ∷ begunOrder p .log) ++ stepOrder p t o .log) (whole (kindAt p) t p) 0
+  start-holds : (actor : Actor) (t : ℕ) (o : Order) → HoldsIn (allow t) ((started ∷ begunOrder p .log) ++ acted actor p t o .log) (whole (kindAt p) t p) 0
   unfolding times isBeganOf
-  start-holds t o =
-      holds-in-append no (allow t) (allow t) (λ i j. omega arith) (started ∷ begunOrder p .log) (stepOrder p t o .log) (whole (kindAt p) t p) 0
-      (like (list-first (p .body) (more (p .fault) none) 0 (begunOrder p .log) start-starts .holds)) (order-wide t o .holds)
+  start-holds actor t o =
+      holds-in-append no (allow t) (allow t) (λ i j. omega arith) (started ∷ begunOrder p .log) (acted actor p t o .log) (whole (kindAt p) t p) 0
+      (like (list-first (p .body) (more (p .fault) none) 0 (begunOrder p .log) start-starts .holds)) (order-wide actor t o .holds)
     where
       like : HoldsIn no (begunOrder p .log) (whole (kindAt p) t p) 0 → HoldsIn no (started ∷ begunOrder p .log) (whole (kindAt p) t p) 0
       like w = holds-in-same no (begunOrder p .log) (started ∷ begunOrder p .log) (whole (kindAt p) t p) 0 (record { at = λ j u v. times-event j started (begunOrder p .log) refl }) w
@@ -220,19 +219,19 @@ module _ (p : Plan) (h : Promised p) where
   done-quiets ms m e (scope-turned t) = absurd (false≢true (sym (turned-not-open t) ∙ rw e))
 
   -- Where a step ends the order, nothing that lasts begins in it.
-  ended-light : (t : ℕ) (o : Order) → Awaited p (o .marks) t → Standing p o → (o .root ≡ halted → ⊥) → (o .root ≡ withdrawing → ⊥) → isLive (stepOrder p t o .order) ≡ false
-      → (k : ℕ) → k < size (p .body) + size (p .fault) → lasts (kindAt p k) ≡ true → hasBegan k (stepOrder p t o .log) ≡ true → ⊥
-  unfolding stepOrder endOf movedTo some isBeganOf
-  ended-light t o a st x y v k n e b = go (r .result) refl (w .comes) v b
+  ended-light : (actor : Actor) (t : ℕ) (o : Order) → Awaited p (o .marks) t → Standing p o → (o .root ≡ halted → ⊥) → (o .root ≡ withdrawing → ⊥) → isLive (acted actor p t o .order) ≡ false
+      → (k : ℕ) → k < size (p .body) + size (p .fault) → lasts (kindAt p k) ≡ true → hasBegan k (acted actor p t o .log) ≡ true → ⊥
+  unfolding acted endOf movedTo some isBeganOf
+  ended-light actor t o a st x y v k n e b = go (r .result) refl (w .comes) v b
     where
       r : Outcome
-      r = stepRoot p t o
+      r = stepRoot actor p t o
 
       w : scoping.Steps p (rootOf p) (Running (rootOf p)) o r
-      w = roots.root-steps p (h .distinct) (h .seat) t o a st x y
+      w = roots.root-steps p (h .distinct) actor (h .seat) t o a st x y
 
       s : keeping.Steps (kindAt p) (ownsAt p t) 0 o r
-      s = keeping.root-steps (kindAt p) p kb kf t o (st .many)
+      s = keeping.root-steps (kindAt p) p kb kf actor t o (st .many)
 
       quiet : Quiet (r .order .marks) 0 (size (p .body)) → Quiet (r .order .marks) (size (p .body)) (size (p .fault)) → hasBegan k (r .log) ≡ true → ⊥
       quiet q z d =
@@ -254,14 +253,9 @@ module _ (p : Plan) (h : Promised p) where
               false≢true (sym v ∙ standing-live p (r .order) (record { many = omega (arith, st .many, w .apart .many); runs = c .0; going = eqb-false (r .order .root) done i }))
       go over d c v b = quiet (c .1) (c .2) b
       go raising d c v b = false≢true (sym (s .quits (ap isRaising d) k) ∙ b)
-      go leaving d c v b = false≢true (sym (times-none k (r .log) (root-at (kindAt p) t p kb kf (formed-named (kindAt p) (h .fault)) o .leaves (ap isLeaving d) k)) ∙ b)
+      go leaving d c v b = false≢true (sym (times-none k (r .log) (root-at (kindAt p) t p kb kf (formed-named (kindAt p) (h .fault)) actor o .leaves (ap isLeaving d) k)) ∙ b)
       go undone d c v b = c
       go undoRaising d c v b = c
-
-  -- of one step taken
-  one-taken : (f : Plan → Taken → ℕ → Bool) (x : Taken) → ((k : ℕ) → k < size (p .body) + size (p .fault) → f p x k ≡ true) → every (ofAll f p) (x ∷ []) ≡ true
-  unfolding every
-  one-taken f x g = rw (each-below (f p x) (size (p .body) + size (p .fault)) g)
 
   not-marked : (x : Taken) (k : ℕ) → (lasts (kindAt p k) ≡ true → hasBegan k (x .log) ≡ true → ⊥) → isMarked p x k ≡ true
   unfolding isMarked
@@ -273,95 +267,61 @@ module _ (p : Plan) (h : Promised p) where
   unfolding isMarked
   is-marked x k g = decide (lasts (kindAt p k)) (λ l. decide (hasBegan k (x .log)) (λ b. rw (l, b, g l b)) (λ b. rw (l, b))) (λ l. rw l)
 
-  module _ (i : ℕ) where
-    abbrev one : State → (t : ℕ) → Stepped → Taken
-    one s t r = record { activity = t; before = orderIn s i; after = orderIn (r .state) i; log = logOf i r }
+  -- Each time. Where the order lives on, what begins is marked; where it ends, nothing that lasts begins.
+  live-steps : (actor : Actor) (t : ℕ) (o o′ : Order) → Alike p o o′ → Standing p o → isLive (acted actor p t o′ .order) ≡ true
+      → keeping.Steps (kindAt p) (ownsAt p t) 0 o (record { result = running; order = acted actor p t o′ .order; log = acted actor p t o′ .log })
+  live-steps actor t o o′ like st v =
+      keeping.steps-from (kindAt p) (ownsAt p t) o′ o (like .marks)
+      (keeping.order-steps (kindAt p) p kb kf actor t o′ (subst (λ (ms : List ℕ). size (p .body) + size (p .fault) ≤ length ms) (sym (like .marks)) (st .many)) v)
 
-    taken-is : (s : State) (t : ℕ) (r : Stepped) → (isTaken i r ≡ true) × (r .answer .activity ≡ t) → takenBy i s r ≡ one s t r ∷ []
-    taken-is s t r q = rw (q .0, q .1)
+  light-so : (actor : Actor) (t : ℕ) (o o′ : Order) (past : List Event) → Alike p o o′ → Awaited p (o .marks) t → Standing p o → HoldsAt p (momentOf p o) past → isLive (acted actor p t o′ .order) ≡ false
+      → (k : ℕ) → k < size (p .body) + size (p .fault) → lasts (kindAt p k) ≡ true → hasBegan k (acted actor p t o′ .log) ≡ true → ⊥
+  light-so actor t o o′ past like a st g =
+      let d = root-mild p o′ past (alike-holds like past g) in
+      ended-light actor t o′ (alike-awaited like t a) (alike-stands p o o′ like st) (d .0) (d .1)
 
-    -- an order that stands, having taken its message
-    stands-so : (o o₁ : Order) → Alike p o o₁ → Standing p o → Standing p o₁
-    stands-so o o₁ e st =
-        record {
-          many = subst (λ (ms : List ℕ). size (p .body) + size (p .fault) ≤ length ms) (sym (e .marks)) (st .many);
-          runs = subst (λ (ms : List ℕ). Running (rootOf p) ms (o₁ .root)) (sym (e .marks)) (subst (λ (x : ℕ). Running (rootOf p) (o .marks) x) (sym (e .root)) (st .runs));
-          going = λ d. st .going (sym (e .root) ∙ d);
-        }
+  truly-time : OfTimes p (ofAll isMarked p)
+  truly-time actor t o o′ past like a st g =
+      let x = time t o [] (acted actor p t o′) in
+      each-below (isMarked p x) (size (p .body) + size (p .fault)) (λ k n. decide (isLive (acted actor p t o′ .order))
+      (λ v. is-marked x k (λ c b. rw (live-steps actor t o o′ like st v .truly k c b)))
+      (λ v. not-marked x k (λ c b. light-so actor t o o′ past like a st g v k n c b)))
 
-    light-so : (t : ℕ) (m : Message) (o : Order) → Awaited p (o .marks) t → Standing p o → rootInLimits (o .root) ≡ true → isLive (stepOrder p t (withMessage p t m o) .order) ≡ false
-        → (k : ℕ) → k < size (p .body) + size (p .fault) → lasts (kindAt p k) ≡ true → hasBegan k (stepOrder p t (withMessage p t m o) .log) ≡ true → ⊥
-    light-so t m o a st c =
-        let e = taking-alike p (doingAt p t) m o in
-        let d = root-mild (o .root) c in
-        ended-light t (withMessage p t m o) (subst (λ (ms : List ℕ). Awaited p ms t) (sym (e .marks)) a) (stands-so o (withMessage p t m o) e st)
-        (λ z. d .0 (sym (e .root) ∙ z)) (λ z. d .1 (sym (e .root) ∙ z))
+  truly-start : OfStarts p (ofAll isMarked p)
+  unfolding some isBeganOf startedOrder
+  truly-start t m o past z n a =
+      let o₀ = startedOrder p in
+      let o′ = withMessage p t m o₀ in
+      let l = started ∷ begunOrder p .log in
+      let x = time t o l (acted itsOwn p t o′) in
+      let like = taking-alike p (doingAt p t) m o₀ in
+      let b = order-starts p h t past n a in
+      each-below (isMarked p x) (size (p .body) + size (p .fault)) (λ k i. is-marked x k (λ c w.
+      began-in k (begunOrder p .log) (acted itsOwn p t o′ .log) w
+      (λ e. rw (z, start-began p h .truly k c e, or-true))
+      (λ e. decide (isLive (acted itsOwn p t o′ .order))
+      (λ v. rw (live-steps itsOwn t o₀ o′ like (b .1) v .truly k c e))
+      (λ v. absurd (light-so itsOwn t o₀ o′ (onto l past) like a (b .1) (b .2) v k i c e)))))
 
-    happens-both : (s : State) (past : List Event) (r : Stepped) → Happens p i s past r → every (ofEach isMarked p) (takenBy i s r) ≡ true → Both p (takenBy i s r)
-    unfolding every isEntire some isBeganOf startedOrder
-    happens-both s past r (nothing-here n l e d) z = record { one = rw n; other = rw n }
-    happens-both s past r (goes-here t m q x st c y l e d) z =
-        subst (Both p) (sym (taken-is s t r q))
-        (record {
-          one = one-taken isMarked (one s t r) (λ k n. decide (isLive (orderIn (r .state) i))
-              (λ v. lives (subst (λ (w : List Taken). every (ofEach isMarked p) w ≡ true) (taken-is s t r q) z) v k n)
-              (λ v. not-marked (one s t r) k (λ a b. light-so t m (orderIn s i) x st c (ap isLive (sym d) ∙ v) k n a (ap (hasBegan k) (sym l) ∙ b))));
-          other = one-taken isEntire (one s t r) (λ k n. subst (λ (g : List Event). suits (turnAt p k) t k g ≡ true) (sym l) (suits-plan t _ p k (order-wide t (withMessage p t m (orderIn s i)) .holds)));
-        })
-      where
-        lives : every (ofEach isMarked p) (one s t r ∷ []) ≡ true → isLive (orderIn (r .state) i) ≡ true → (k : ℕ) → k < size (p .body) + size (p .fault) → isMarked p (one s t r) k ≡ true
-        lives w v k n = below-each (isMarked p (one s t r)) (size (p .body) + size (p .fault)) (taken-lives p isMarked (one s t r) v w) k n
-    happens-both s past r (starts-here t m q x z₁ n₁ l e d) z =
-        subst (Both p) (sym (taken-is s t r q))
-        (record {
-          one = one-taken isMarked (one s t r) (λ k n. decide (isLive (orderIn (r .state) i))
-              (λ v. below-each (isMarked p (one s t r)) (size (p .body) + size (p .fault)) (taken-lives p isMarked (one s t r) v (subst (λ (w : List Taken). every (ofEach isMarked p) w ≡ true) (taken-is s t r q) z)) k n)
-              (λ v. is-marked (one s t r) k (λ a b. starting v k n a (ap (hasBegan k) (sym l) ∙ b))));
-          other = one-taken isEntire (one s t r) (λ k n. subst (λ (g : List Event). suits (turnAt p k) t k g ≡ true) (sym l) (suits-plan t _ p k (start-holds t (withMessage p t m (startedOrder p)))));
-        })
-      where
-        starting : isLive (orderIn (r .state) i) ≡ false → (k : ℕ) → k < size (p .body) + size (p .fault) → lasts (kindAt p k) ≡ true
-            → hasBegan k ((started ∷ begunOrder p .log) ++ stepOrder p t (withMessage p t m (startedOrder p)) .log) ≡ true
-            → (not (eqb (markAt k (orderIn (r .state) i)) idle) || (not (isLive (orderIn s i)) && not (eqb (markAt k (startedOrder p)) idle))) ≡ true
-        starting v k n a b =
-            began-in k (begunOrder p .log) (stepOrder p t (withMessage p t m (startedOrder p)) .log) b
-            (λ g. rw (z₁, start-began p h .truly k a g, or-true))
-            (λ g. absurd (light-so t m (startedOrder p) x (order-starts p h t past n₁ x .1) (started-in-limits p) (ap isLive (sym d) ∙ v) k n a g))
+  entire-time : OfTimes p (ofAll isEntire p)
+  unfolding isEntire
+  entire-time actor t o o′ past like a st g =
+      let x = time t o [] (acted actor p t o′) in
+      each-below (isEntire p x) (size (p .body) + size (p .fault)) (λ k n. suits-plan t _ p k (order-wide actor t o′ .holds))
 
-    -- over any calls
-    module _ (bytes : List ℕ) (next : ℕ) (accepted : readPlan bytes ≡ found p next) where
-      all-both : (calls : List Call) (s : State) (t : Tally) (past : List Event) → Sane p bytes next i accepted h s past → every (ofEach isMarked p) (stepsTaken calls i s t) ≡ true
-          → Both p (stepsTaken calls i s t)
-      unfolding stepsTaken every
-      all-both [] s t past g z = record { one = refl; other = refl }
-      all-both (posting m ∷ l) s t past g z = all-both l (post m s .state) t past (same-sane p bytes next i accepted h s (post m s .state) past (post-same m s) g) z
-      all-both (collecting ∷ l) s t past g z = all-both l (collect s .state) t past (same-sane p bytes next i accepted h s (collect s .state) past (collect-same s) g) z
-      all-both (dropping j ∷ l) s t past g z = all-both l (dropAt j s .state) t past (same-sane p bytes next i accepted h s (dropAt j s .state) past (drop-same j s) g) z
-      all-both (stepping c ∷ l) s t past g z =
-          let r = step c s t in
-          let u = every-apart (ofEach isMarked p) (takenBy i s r) (stepsTaken l i (r .state) (r .tally)) z in
-          let x = happens-both s past r (step-happens p bytes next i accepted h c s t past g .happens) (u .0) in
-          let y = all-both l (r .state) (r .tally) (onto (logOf i r) past) (step-after p bytes next i accepted h c s t past g .1) (u .1) in
-          record {
-            one = every-append (ofAll isMarked p) (takenBy i s r) (stepsTaken l i (r .state) (r .tally)) (x .one) (y .one);
-            other = every-append (ofAll isEntire p) (takenBy i s r) (stepsTaken l i (r .state) (r .tally)) (x .other) (y .other);
-          }
-
--- from a fresh start
-fresh-both : (bytes : List ℕ) (p : Plan) (next : ℕ) → readPlan bytes ≡ found p next → (calls : List Call) (slot : ℕ) (t : Tally)
-    → Both p (stepsTaken calls slot (load bytes .state) t)
-unfolding load BegunTruly
-fresh-both bytes p next e calls slot t =
-    subst (λ (f : Found Plan). every (ofEach isMarked p) (stepsTaken calls slot (loadedAs bytes f .state) t) ≡ true → Both p (stepsTaken calls slot (loadedAs bytes f .state) t)) (sym e)
-    (let h = promised p (accepted-is-within bytes e) in all-both p h slot bytes next e calls (fresh bytes) t [] (fresh-sane p bytes next slot e h))
-    (begun-truly bytes p next e calls slot t)
+  entire-start : OfStarts p (ofAll isEntire p)
+  unfolding isEntire
+  entire-start t m o past z n a =
+      let o′ = withMessage p t m (startedOrder p) in
+      let x = time t o (started ∷ begunOrder p .log) (acted itsOwn p t o′) in
+      each-below (isEntire p x) (size (p .body) + size (p .fault)) (λ k i. suits-plan t _ p k (start-holds itsOwn t o′))
 
 -- No beginning is only claimed, also in the step that ends the order,
 pub begun-truly-ever : BegunTrulyEver
 unfolding BegunTrulyEver
-begun-truly-ever bytes p next e calls slot t = fresh-both bytes p next e calls slot t .one
+begun-truly-ever = each-time (ofAll isMarked) truly-time truly-start
 
 -- and what begins begins entirely.
 pub begun-entirely : BegunEntirely
 unfolding BegunEntirely
-begun-entirely bytes p next e calls slot t = fresh-both bytes p next e calls slot t .other
+begun-entirely = each-time (ofAll isEntire) entire-time entire-start

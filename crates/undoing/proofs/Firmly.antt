@@ -19,7 +19,7 @@ use Rattle.machine.specs.State.{fresh}
 use Rattle.order.specs.Event.{Event}
 use Rattle.order.specs.Acting.{startedOrder}
 use Rattle.machine.specs.Fit.{Ready, readyIn, readyAmong, readyOf, awaits}
-use Rattle.machine.specs.Calls.{loaded, loadedAs, load, post, collect, dropAt, Stepped, step, Call, posting, collecting, dropping, stepping}
+use Rattle.machine.specs.Calls.{loaded, loadedAs, load, post, collect, Stepped, step, Call, posting, collecting, stepping}
 use Rattle.undoing.specs.History.{logOf}
 use Rattle.undoing.specs.Ties.{orderAfter, isTaken}
 use Rattle.undoing.specs.Begun.{Taken, takenBy, stepsTaken}
@@ -29,10 +29,11 @@ use Rattle.undoing.proofs.Orders.{onto}
 use Rattle.undoing.proofs.Planning.{Promised, promised}
 use Rattle.undoing.proofs.Waiting.{Waits, waits-itself, waits-within, WaitsIn, waits-first, waits-later}
 use Rattle.undoing.proofs.Roots.{Awaited, in-body, in-fault}
-use Rattle.undoing.proofs.Slots.{standing-live, post-same, collect-same, drop-same, Sane, same-sane, fresh-sane}
+use Rattle.undoing.proofs.Slots.{standing-live, post-same, collect-same, Sane, same-sane, fresh-sane}
 use Rattle.undoing.proofs.Happening.{orderIn, Happens, nothing-here, goes-here, starts-here, step-happens}
 use Rattle.undoing.proofs.Demanded.{step-after}
 use Rattle.undoing.proofs.Awaiting.{ready-is}
+use Rattle.undoing.proofs.EachTime.{OfTimes, OfStarts, each-time}
 use Rattle.undoing.proofs.Alone.{chained-told}
 use Rattle.undoing.proofs.EntirelyTold.{begun-truly-ever, begun-entirely}
 use Rattle.undoing.proofs.OnceOver.{begun-once}
@@ -63,31 +64,19 @@ unfolding readyOf
 awaited-ready p o t (in-body e w) = some-append (Its t) (readyIn (p .body) 0 false (o .marks)) (readyIn (p .fault) (size (p .body)) false (o .marks)) ∙ rw (waits-ready w)
 awaited-ready p o t (in-fault e w) = some-append (Its t) (readyIn (p .body) 0 false (o .marks)) (readyIn (p .fault) (size (p .body)) false (o .marks)) ∙ rw (waits-ready w, or-true)
 
-module _ (p : Plan) (h : Promised p) (i : ℕ) where
-  happens-awaited : (s : State) (past : List Event) (r : Stepped) → Happens p i s past r → every (isAwaited p) (takenBy i s r) ≡ true
-  unfolding every isAwaited
-  happens-awaited s past r (nothing-here n l e d) = rw n
-  happens-awaited s past r (goes-here t m q x st c y l e d) = rw (q .0, q .1, standing-live p (orderIn s i) st, awaited-ready p (orderIn s i) t x)
-  happens-awaited s past r (starts-here t m q x z n l e d) = rw (q .0, q .1, z, awaited-ready p (startedOrder p) t x)
+module _ (p : Plan) (h : Promised p) where
+  awaited-time : OfTimes p (isAwaited p)
+  unfolding isAwaited
+  awaited-time actor t o o′ past like a st g = rw (standing-live p o st, awaited-ready p o t a)
 
-  module _ (bytes : List ℕ) (next : ℕ) (accepted : readPlan bytes ≡ found p next) where
-    all-awaited : (calls : List Call) (s : State) (t : Tally) (past : List Event) → Sane p bytes next i accepted h s past → every (isAwaited p) (stepsTaken calls i s t) ≡ true
-    unfolding stepsTaken every
-    all-awaited [] s t past g = refl
-    all-awaited (posting m ∷ l) s t past g = all-awaited l (post m s .state) t past (same-sane p bytes next i accepted h s (post m s .state) past (post-same m s) g)
-    all-awaited (collecting ∷ l) s t past g = all-awaited l (collect s .state) t past (same-sane p bytes next i accepted h s (collect s .state) past (collect-same s) g)
-    all-awaited (dropping j ∷ l) s t past g = all-awaited l (dropAt j s .state) t past (same-sane p bytes next i accepted h s (dropAt j s .state) past (drop-same j s) g)
-    all-awaited (stepping c ∷ l) s t past g =
-        let r = step c s t in
-        every-append (isAwaited p) (takenBy i s r) (stepsTaken l i (r .state) (r .tally)) (happens-awaited s past r (step-happens p bytes next i accepted h c s t past g .happens))
-        (all-awaited l (r .state) (r .tally) (onto (logOf i r) past) (step-after p bytes next i accepted h c s t past g .1))
+  awaited-start : OfStarts p (isAwaited p)
+  unfolding isAwaited
+  awaited-start t m o past z n a = rw (z, awaited-ready p (startedOrder p) t a)
 
--- Every step taken was awaited.
+-- Every step taken was awaited, and so was every receive in whose place a raise stood.
 pub awaited-told : AwaitedTold
-unfolding AwaitedTold load
-awaited-told bytes p next e calls slot t =
-    subst (λ (f : Found Plan). every (isAwaited p) (stepsTaken calls slot (loadedAs bytes f .state) t) ≡ true) (sym e)
-    (let h = promised p (accepted-is-within bytes e) in all-awaited p h slot bytes next e calls (fresh bytes) t [] (fresh-sane p bytes next slot e h))
+unfolding AwaitedTold
+awaited-told = each-time isAwaited awaited-time awaited-start
 
 -- The one statement.
 pub undone-firmly : UndoneFirmly

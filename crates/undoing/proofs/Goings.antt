@@ -134,7 +134,7 @@ module _ (p : Plan) where
       }
 
   -- an activity whose step it is raises; lets the order leave; stays as it is
-  acts-raises : {x : Place} (own : Own) (within : Acts) (k : ℕ) (o : Order) → Spot p x k → Fit x o → isScope own ≡ false → isName p (inner k) ≡ false → Quiet (o .marks) (k + 1) (sizes within)
+  pub acts-raises : {x : Place} (own : Own) (within : Acts) (k : ℕ) (o : Order) → Spot p x k → Fit x o → isScope own ≡ false → isName p (inner k) ≡ false → Quiet (o .marks) (k + 1) (sizes within)
       → Acted k (1 + sizes within) o (RunAs p (act own within) k k o) (raises k o)
   acts-raises own within k o u f s z q =
       record {

@@ -18,7 +18,9 @@ use Rattle.order.specs.State.{Name, root, inner, markOf}
 use Rattle.machine.specs.State.{fresh}
 use Rattle.order.specs.Event.{Event, started, began, closed, faulted, stopped, ended, raised, left}
 use Rattle.order.specs.Scope.{isOpen, rootOf}
-use Rattle.order.specs.Acting.{stepOrder, begunOrder, startedOrder}
+use Rattle.order.specs.Acting.{Actor, Moved, acted, begunOrder, startedOrder}
+use Rattle.order.specs.declared.End.the-variants.{None}
+use Rattle.order.specs.Judging.{following, stepOrder}
 use Rattle.machine.specs.Calls.{loadedAs, load, post, collect, dropAt, Stepped, doingAt, step, Call, posting, collecting, dropping, stepping}
 use Rattle.undoing.specs.History.{logOf, history}
 use Rattle.undoing.specs.Demand3.{mayTurn}
@@ -34,7 +36,8 @@ use Rattle.undoing.proofs.Fitting.{standing-fits}
 use Rattle.undoing.proofs.Told.{told}
 use Rattle.undoing.proofs.Happening.{orderIn, withMessage, Happens, nothing-here, goes-here, starts-here, step-happens}
 use Rattle.undoing.proofs.Scoping.{Running}
-use Rattle.undoing.proofs.Slots.{Alike, taking-alike, order-starts, post-same, collect-same, drop-same, Sane, same-sane, fresh-sane}
+use Rattle.undoing.proofs.Judged.{Fitting}
+use Rattle.undoing.proofs.Slots.{taken-so, Alike, taking-alike, order-starts, post-same, collect-same, drop-same, Sane, same-sane, fresh-sane}
 use Rattle.undoing.proofs.Demanded.{step-after}
 
 -- nothing is due
@@ -105,7 +108,7 @@ heeds-clears p [] past h = h
 heeds-clears p (e ∷ l) past h = both (heeds (due p past) e) _ h (λ x y. heeds-clears p l (e ∷ past) y)
 
 -- some events and then others
-heeds-append : (p : Plan) (l m past : List Event) → heedsAfter p past l ≡ true → heedsAfter p (onto l past) m ≡ true → heedsAfter p past (l ++ m) ≡ true
+pub heeds-append : (p : Plan) (l m past : List Event) → heedsAfter p past l ≡ true → heedsAfter p (onto l past) m ≡ true → heedsAfter p past (l ++ m) ≡ true
 unfolding heedsAfter
 heeds-append p [] m past h g = g
 heeds-append p (e ∷ l) m past h g = both (heeds (due p past) e) _ h (λ x y. rw (x, heeds-append p l m (e ∷ past) y g))
@@ -163,23 +166,24 @@ order-shape-heeds p t o _ _ past h f c (out x z) =
       sym (may-turn p o past root h refl) ∙ z,
     )
 
--- an order that has taken its message stands as it did
-pub alike-stands : (p : Plan) (o o′ : Order) → Alike p o o′ → Standing p o → Standing p o′
-alike-stands p o o′ e st =
-    record {
-      many = subst (λ (ms : List ℕ). size (p .body) + size (p .fault) ≤ length ms) (sym (e .marks)) (st .many);
-      runs = subst (λ (ms : List ℕ). Running (rootOf p) ms (o′ .root)) (sym (e .marks)) (subst (λ (x : ℕ). Running (rootOf p) (o .marks) x) (sym (e .root)) (st .runs));
-      going = λ d. st .going (sym (e .root) ∙ d);
-    }
+module _ (p : Plan) (h : Promised p) where
+  -- what one walk logs is heeded; so are two, one after the other
+  abbrev Heeded : List Event → Moved → Type 0
+  Heeded past m = Clear p past → heedsAfter p past (m .log) ≡ true
 
-module _ (p : Plan) (bytes : List ℕ) (next i : ℕ) (accepted : readPlan bytes ≡ found p next) (h : Promised p) where
+  pub heeds-once : (actor : Actor) (t : ℕ) (o : Order) (past : List Event) → Fitting actor p t → Awaited p (o .marks) t → Standing p o → HoldsAt p (momentOf p o) past → Heeded past (acted actor p t o)
+  heeds-once actor t o past y w st g c =
+      order-shape-heeds p t o (acted actor p t o .end) (acted actor p t o .log) past g (standing-fits p o t st w) c (order-shape actor p (h .seat) t o)
+
+  heeds-joined : (past : List Event) (m m′ : Moved) → m .end ≡ None → Heeded past m → Heeded (onto (m .log) past) m′ → Heeded past (following (m .log) m′)
+  heeds-joined past m m′ e x y c = heeds-append p (m .log) (m′ .log) past (x c) (y (heeds-clears p (m .log) past (x c)))
+
   -- a step of an order that stands and has taken its message
   order-heeds : (t : ℕ) (o o′ : Order) (past : List Event) → Alike p o o′ → Awaited p (o .marks) t → Standing p o → HoldsAt p (momentOf p o) past → Clear p past
       → heedsAfter p past (stepOrder p t o′ .log) ≡ true
-  order-heeds t o o′ past e w st g c =
-      order-shape-heeds p t o′ (stepOrder p t o′ .end) (stepOrder p t o′ .log) past (does-nothing (e .everywhere) .does past g .1)
-      (standing-fits p o′ t (alike-stands p o o′ e st) (subst (λ (ms : List ℕ). Awaited p ms t) (sym (e .marks)) w)) c (order-shape p (h .seat) t o′)
+  order-heeds t o o′ past e w st g = taken-so p h Heeded heeds-once heeds-joined t o o′ past e w st g
 
+module _ (p : Plan) (bytes : List ℕ) (next i : ℕ) (accepted : readPlan bytes ≡ found p next) (h : Promised p) where
   abbrev Heeds : List Event → Stepped → Type 0
   Heeds past r = heedsAfter p past (logOf i r) ≡ true
 
@@ -193,13 +197,13 @@ module _ (p : Plan) (bytes : List ℕ) (next i : ℕ) (accepted : readPlan bytes
 
       go : Happens p i s past r → Heeds past r
       go (nothing-here n l e o) = rw l z
-      go (goes-here t v q w st m y l e d) = rw l (order-heeds t (orderIn s i) (withMessage p t v (orderIn s i)) past (taking-alike p (doingAt p t) v (orderIn s i)) w st y z)
+      go (goes-here t v q w st m y l e d) = rw l (order-heeds p h t (orderIn s i) (withMessage p t v (orderIn s i)) past (taking-alike p (doingAt p t) v (orderIn s i)) w st y z)
       go (starts-here t v q w n y l e d) =
           let o = withMessage p t v (startedOrder p) in
           let b = order-starts p h t past y w in
           let l₀ = started ∷ begunOrder p .log in
           let x = calm-heeds p l₀ past (start-calm p) z in
-          rw l (heeds-append p l₀ (stepOrder p t o .log) past x (order-heeds t (startedOrder p) o (onto l₀ past) (taking-alike p (doingAt p t) v (startedOrder p)) w (b .1) (b .2) (heeds-clears p l₀ past x)))
+          rw l (heeds-append p l₀ (stepOrder p t o .log) past x (order-heeds p h t (startedOrder p) o (onto l₀ past) (taking-alike p (doingAt p t) v (startedOrder p)) w (b .1) (b .2) (heeds-clears p l₀ past x)))
 
   -- over any calls
   heeding : (calls : List Call) (s : State) (t : Tally) (past : List Event) → Sane p bytes next i accepted h s past → Clear p past → heedsAfter p past (history calls i s t) ≡ true

@@ -20,7 +20,7 @@ use Rattle.order.specs.Begin.{Begun, begin, beginAfter, part, partAt, beginPart
 use Rattle.order.specs.declared.Way.{Way as Result}
 use Rattle.order.specs.declared.Way.the-variants.{Running as running, Over as over, Raising as raising, Leaving as leaving, Undone as undone, UndoRaising as undoRaising}
 use Rattle.order.specs.Scope.{Outcome, rootOf, runs, after, begunIn, whereOver, Scope, scopeAt, isScope, isOpen, forgetting, closing, turns, stop, faults, breaks, looksAgain, bodyOver, bodyRaised, undoOver, undoRaised, fromBody, partOver, partRaised, fromFault, fromUndo}
-use Rattle.order.specs.Acting.{finishes, raises, leaves, orRaises, enters, again, repeats, allBound, itself, isPart, arms, goesOn, joins, inScope, combines, stepIn, stepAmong, stepRoot, endOf, movedTo, stepOrder}
+use Rattle.order.specs.Acting.{finishes, raises, leaves, orRaises, enters, again, repeats, allBound, itself, isPart, arms, goesOn, joins, inScope, combines, stepIn, stepAmong, stepRoot, endOf, movedTo, Actor, replaces, performs, acted}
 use Rattle.machine.specs.Fit.{awaits}
 use Rattle.undoing.specs.Orderly.{isBeganOf}
 use Rattle.undoing.specs.Begun.{lasts, acts, ownsIn, ownsAmong, ownsAt, hasBegan, goesIn}
@@ -74,7 +74,7 @@ first-said none c ms h n = absurd (omega arith)
 first-said (more a l) c ms h n = begins-said a l c ms h
 
 -- Whose step it is.
-part-from : (l : Acts) (c t : ℕ) → isPart l c t ≡ true → c ≤ t
+pub part-from : (l : Acts) (c t : ℕ) → isPart l c t ≡ true → c ≤ t
 unfolding isPart
 part-from none c t h = absurd (false≢true h)
 part-from (more a l) c t h =
@@ -559,6 +559,17 @@ module _ (f : ℕ → ℕ) where
           quits = λ x. absurd (false≢true (sym (w .calm) ∙ x));
         }
 
+    -- a raise in its place
+    performs-steps : (actor : Actor) (own : Own) (within : Acts) (k : ℕ) (o : Order) → f k ≡ kind own → needs own ≤ count within → Arms (eqb (kind own) 10) within
+        → KnowsIn f within (k + 1) → k + 1 + sizes within ≤ length (o .marks)
+        → (acts (kind own) ≡ true → g k ≡ true) → ((j : ℕ) → g j ≡ true → (j ≡ k) × (acts (kind own) ≡ true)) → Steps g (k + 1) o (performs actor own within k o)
+    unfolding performs some isBeganOf
+    performs-steps actor own within k o e n a y m q h = go (replaces actor (kind own))
+      where
+        go : (b : Bool) → Steps g (k + 1) o (elim b [ true ↦ raises k o | false ↦ itself own within k o ])
+        go true = idle-steps k o (raises k o) refl (λ j. refl) (λ j z. h j z .0)
+        go false = itself-steps own within k o e n a y m q h
+
   -- the step of an arm is its pick's, which goes inside with it
   pick-steps : (g : ℕ → Bool) (k : ℕ) (o : Order) (r : Outcome) → f k ≡ 10 → k < length (o .marks) → ((j : ℕ) → g j ≡ false)
       → Steps g (k + 1) (marked k inside o) r → Steps (eqb k) (k + 1) o r
@@ -587,85 +598,85 @@ module _ (f : ℕ → ℕ) where
   not-around within k t = decide (ownsAmong within (k + 1) t k) (λ e. let z = owns-in-from t k within (k + 1) e in absurd (omega arith)) (λ e. e)
 
   -- where it stands within, by what stands there
-  within-steps : (own : Own) (within : Acts) (k t : ℕ) (o : Order) → f k ≡ kind own → needs own ≤ count within → Arms (eqb (kind own) 10) within
+  within-steps : (actor : Actor) (own : Own) (within : Acts) (k t : ℕ) (o : Order) → f k ≡ kind own → needs own ≤ count within → Arms (eqb (kind own) 10) within
       → KnowsIn f within (k + 1) → k + 1 + sizes within ≤ length (o .marks)
-      → (k ≡ t → ⊥) → ((o₁ : Order) → length (o₁ .marks) ≡ length (o .marks) → Steps (ownsAmong within (k + 1) t) (k + 1) o₁ (stepAmong within (k + 1) t o₁))
-      → Steps (ownsIn (act own within) k t) (k + 1) o (combines own within k t (stepAmong within (k + 1) t (arms own within k t o)))
-  within-steps own within k t o e n a y m i w =
+      → (k ≡ t → ⊥) → ((o₁ : Order) → length (o₁ .marks) ≡ length (o .marks) → Steps (ownsAmong within (k + 1) t) (k + 1) o₁ (stepAmong actor within (k + 1) t o₁))
+      → Steps (ownsIn (act own within) k t) (k + 1) o (combines own within k t (stepAmong actor within (k + 1) t (arms own within k t o)))
+  within-steps actor own within k t o e n a y m i w =
       decide (eqb (kind own) 10 && isPart within (k + 1) t)
       (λ d. both (eqb (kind own) 10) (isPart within (k + 1) t) d (λ b c.
-      subst (λ (o₁ : Order). Steps (ownsIn (act own within) k t) (k + 1) o (combines own within k t (stepAmong within (k + 1) t o₁))) (sym (arms-here own within k t o true d))
+      subst (λ (o₁ : Order). Steps (ownsIn (act own within) k t) (k + 1) o (combines own within k t (stepAmong actor within (k + 1) t o₁))) (sym (arms-here own within k t o true d))
       (steps-owned (eqb k) (ownsIn (act own within) k t) (λ j. owns-arm t j own within k i d)
       (pick-steps (ownsAmong within (k + 1) t) k o _ (e ∙ eqb-true (kind own) 10 b) (omega arith) (λ j. arm-owns t j within (k + 1) (subst (λ (r : Bool). Arms r within) b a) c)
       (combined (marked k inside o) (length-set (o .marks) k inside))))))
-      (λ d. subst (λ (o₁ : Order). Steps (ownsIn (act own within) k t) (k + 1) o (combines own within k t (stepAmong within (k + 1) t o₁))) (sym (arms-here own within k t o false d))
+      (λ d. subst (λ (o₁ : Order). Steps (ownsIn (act own within) k t) (k + 1) o (combines own within k t (stepAmong actor within (k + 1) t o₁))) (sym (arms-here own within k t o false d))
       (steps-owned (ownsAmong within (k + 1) t) (ownsIn (act own within) k t) (λ j. owns-within t j own within k i d) (combined o refl)))
     where
       combined : (o₁ : Order) → length (o₁ .marks) ≡ length (o .marks)
-          → Steps (ownsAmong within (k + 1) t) (k + 1) o₁ (combines own within k t (stepAmong within (k + 1) t o₁))
-      combined o₁ l = combines-steps (ownsAmong within (k + 1) t) own within k t o₁ (stepAmong within (k + 1) t o₁) e n y (omega arith) (not-around within k t) (w o₁ l)
+          → Steps (ownsAmong within (k + 1) t) (k + 1) o₁ (combines own within k t (stepAmong actor within (k + 1) t o₁))
+      combined o₁ l = combines-steps (ownsAmong within (k + 1) t) own within k t o₁ (stepAmong actor within (k + 1) t o₁) e n y (omega arith) (not-around within k t) (w o₁ l)
 
   mutual
     unfolding stepIn ownsIn size
 
-    pub step-steps : {a : Act} {k : ℕ} → Knows f a k → (t : ℕ) (o : Order) → k + size a ≤ length (o .marks) → Steps (ownsIn a k t) k o (stepIn a k t o)
-    step-steps (knows {own} {within} {k} x n r y) t o h =
+    pub step-steps : (actor : Actor) {a : Act} {k : ℕ} → Knows f a k → (t : ℕ) (o : Order) → k + size a ≤ length (o .marks) → Steps (ownsIn a k t) k o (stepIn actor a k t o)
+    step-steps actor (knows {own} {within} {k} x n r y) t o h =
         decide (eqb k t)
         (λ e. subst (λ (z : Outcome). Steps (ownsIn (act own within) k t) k o z)
-        (sym (first-of (eqb k t) (itself own within k o) (combines own within k t (stepAmong within (k + 1) t (arms own within k t o))) (stepIn (act own within) k t o) refl e))
-        (steps-lower (ownsIn (act own within) k t) (omega arith) (itself-steps (ownsIn (act own within) k t) own within k o x n r y (omega arith)
+        (sym (first-of (eqb k t) (performs actor own within k o) (combines own within k t (stepAmong actor within (k + 1) t (arms own within k t o))) (stepIn actor (act own within) k t o) refl e))
+        (steps-lower (ownsIn (act own within) k t) (omega arith) (performs-steps (ownsIn (act own within) k t) actor own within k o x n r y (omega arith)
         (λ q. owns-itself t k own within k (eqb-true k t e) ∙ rw (eq-eqb k k refl, q))
         (λ j q. both (eqb k j) (acts (kind own)) (sym (owns-itself t j own within k (eqb-true k t e)) ∙ q) (λ u v. (sym (eqb-true k j u), v))))))
         (λ e. subst (λ (z : Outcome). Steps (ownsIn (act own within) k t) k o z)
-        (sym (second-of (eqb k t) (itself own within k o) (combines own within k t (stepAmong within (k + 1) t (arms own within k t o))) (stepIn (act own within) k t o) refl e))
-        (steps-lower (ownsIn (act own within) k t) (omega arith) (within-steps own within k t o x n r y (omega arith) (eqb-false k t e) (λ o₁ l. among-steps y t o₁ (omega arith)))))
+        (sym (second-of (eqb k t) (performs actor own within k o) (combines own within k t (stepAmong actor within (k + 1) t (arms own within k t o))) (stepIn actor (act own within) k t o) refl e))
+        (steps-lower (ownsIn (act own within) k t) (omega arith) (within-steps actor own within k t o x n r y (omega arith) (eqb-false k t e) (λ o₁ l. among-steps actor y t o₁ (omega arith)))))
 
-    among-steps : {l : Acts} {c : ℕ} → KnowsIn f l c → (t : ℕ) (o : Order) → c + sizes l ≤ length (o .marks) → Steps (ownsAmong l c t) c o (stepAmong l c t o)
-    among-steps (knows-none {c}) t o h = still-steps (ownsAmong none c t) c o (λ j. false≢true)
-    among-steps (knows-more {a} {l} {c} x y) t o h =
+    among-steps : (actor : Actor) {l : Acts} {c : ℕ} → KnowsIn f l c → (t : ℕ) (o : Order) → c + sizes l ≤ length (o .marks) → Steps (ownsAmong l c t) c o (stepAmong actor l c t o)
+    among-steps actor (knows-none {c}) t o h = still-steps (ownsAmong none c t) c o (λ j. false≢true)
+    among-steps actor (knows-more {a} {l} {c} x y) t o h =
         decide (ltb t (c + size a))
         (λ e. subst (λ (z : Outcome). Steps (ownsAmong (more a l) c t) c o z)
-        (sym (first-of (ltb t (c + size a)) (stepIn a c t o) (stepAmong l (c + size a) t o) (stepAmong (more a l) c t o) refl e))
-        (steps-owned (ownsIn a c t) (ownsAmong (more a l) c t) (λ j. owns-first t j a l c e) (step-steps x t o (omega arith))))
+        (sym (first-of (ltb t (c + size a)) (stepIn actor a c t o) (stepAmong actor l (c + size a) t o) (stepAmong actor (more a l) c t o) refl e))
+        (steps-owned (ownsIn a c t) (ownsAmong (more a l) c t) (λ j. owns-first t j a l c e) (step-steps actor x t o (omega arith))))
         (λ e. subst (λ (z : Outcome). Steps (ownsAmong (more a l) c t) c o z)
-        (sym (second-of (ltb t (c + size a)) (stepIn a c t o) (stepAmong l (c + size a) t o) (stepAmong (more a l) c t o) refl e))
-        (steps-owned (ownsAmong l (c + size a) t) (ownsAmong (more a l) c t) (λ j. owns-later t j a l c e) (steps-lower (ownsAmong l (c + size a) t) (omega arith) (among-steps y t o (omega arith)))))
+        (sym (second-of (ltb t (c + size a)) (stepIn actor a c t o) (stepAmong actor l (c + size a) t o) (stepAmong actor (more a l) c t o) refl e))
+        (steps-owned (ownsAmong l (c + size a) t) (ownsAmong (more a l) c t) (λ j. owns-later t j a l c e) (steps-lower (ownsAmong l (c + size a) t) (omega arith) (among-steps actor y t o (omega arith)))))
 
   module _ (p : Plan) (kb : Knows f (p .body) 0) (kf : Knows f (p .fault) (size (p .body))) where
     -- From the root.
-    pub root-steps : (t : ℕ) (o : Order) → size (p .body) + size (p .fault) ≤ length (o .marks) → Steps (ownsAt p t) 0 o (stepRoot p t o)
+    pub root-steps : (actor : Actor) (t : ℕ) (o : Order) → size (p .body) + size (p .fault) ≤ length (o .marks) → Steps (ownsAt p t) 0 o (stepRoot actor p t o)
     unfolding stepRoot ownsAt
-    root-steps t o m =
+    root-steps actor t o m =
         decide (ltb t (size (p .body)))
         (λ e. steps-owned (ownsIn (p .body) 0 t) (ownsAt p t) (λ j. first-of (ltb t (size (p .body))) (ownsIn (p .body) 0 t j) (ownsIn (p .fault) (size (p .body)) t j) (ownsAt p t j) refl e)
-        (subst (λ (z : Outcome). Steps (ownsIn (p .body) 0 t) 0 o z) (sym (first-of (ltb t (size (p .body))) inBody inFault (stepRoot p t o) refl e))
-        (body-steps (ownsIn (p .body) 0 t) (rootOf p) 0 (size (p .body) + size (p .fault)) w o (stepIn (p .body) 0 t o) m (step-steps kb t o (omega arith)))))
+        (subst (λ (z : Outcome). Steps (ownsIn (p .body) 0 t) 0 o z) (sym (first-of (ltb t (size (p .body))) inBody inFault (stepRoot actor p t o) refl e))
+        (body-steps (ownsIn (p .body) 0 t) (rootOf p) 0 (size (p .body) + size (p .fault)) w o (stepIn actor (p .body) 0 t o) m (step-steps actor kb t o (omega arith)))))
         (λ e. steps-owned (ownsIn (p .fault) (size (p .body)) t) (ownsAt p t) (λ j. second-of (ltb t (size (p .body))) (ownsIn (p .body) 0 t j) (ownsIn (p .fault) (size (p .body)) t j) (ownsAt p t j) refl e)
-        (subst (λ (z : Outcome). Steps (ownsIn (p .fault) (size (p .body)) t) 0 o z) (sym (second-of (ltb t (size (p .body))) inBody inFault (stepRoot p t o) refl e))
-        (fault-steps (ownsIn (p .fault) (size (p .body)) t) (rootOf p) 0 (size (p .body) + size (p .fault)) w o (stepIn (p .fault) (size (p .body)) t o)
-        (steps-lower (ownsIn (p .fault) (size (p .body)) t) (omega arith) (step-steps kf t o (omega arith))))))
+        (subst (λ (z : Outcome). Steps (ownsIn (p .fault) (size (p .body)) t) 0 o z) (sym (second-of (ltb t (size (p .body))) inBody inFault (stepRoot actor p t o) refl e))
+        (fault-steps (ownsIn (p .fault) (size (p .body)) t) (rootOf p) 0 (size (p .body) + size (p .fault)) w o (stepIn actor (p .fault) (size (p .body)) t o)
+        (steps-lower (ownsIn (p .fault) (size (p .body)) t) (omega arith) (step-steps actor kf t o (omega arith))))))
       where
         inBody : Outcome
-        inBody = fromBody (rootOf p) (stepIn (p .body) 0 t o)
+        inBody = fromBody (rootOf p) (stepIn actor (p .body) 0 t o)
 
         inFault : Outcome
-        inFault = fromFault (rootOf p) (stepIn (p .fault) (size (p .body)) t o)
+        inFault = fromFault (rootOf p) (stepIn actor (p .fault) (size (p .body)) t o)
 
         w : Within f (rootOf p) 0 (size (p .body) + size (p .fault))
         w = record { name = refl; body = kb; fault = kf; bodyFrom = omega arith; bodyTo = omega arith; faultFrom = omega arith; faultTo = omega arith }
 
     -- Where an order lives on after its step.
-    pub order-steps : (t : ℕ) (o : Order) → size (p .body) + size (p .fault) ≤ length (o .marks) → isLive (stepOrder p t o .order) ≡ true
-        → Steps (ownsAt p t) 0 o (record { result = running; order = stepOrder p t o .order; log = stepOrder p t o .log })
-    unfolding stepOrder movedTo noOrder
-    order-steps t o m v = go (endOf (stepRoot p t o)) v
+    pub order-steps : (actor : Actor) (t : ℕ) (o : Order) → size (p .body) + size (p .fault) ≤ length (o .marks) → isLive (acted actor p t o .order) ≡ true
+        → Steps (ownsAt p t) 0 o (record { result = running; order = acted actor p t o .order; log = acted actor p t o .log })
+    unfolding acted movedTo noOrder
+    order-steps actor t o m v = go (endOf (stepRoot actor p t o)) v
       where
         r : Outcome
-        r = stepRoot p t o
+        r = stepRoot actor p t o
 
         go : (e : End) → isLive (movedTo r e .order) ≡ true
             → Steps (ownsAt p t) 0 o (record { result = running; order = movedTo r e .order; log = movedTo r e .log })
-        go None v = steps-as (ownsAt p t) r running (λ q. absurd (false≢true q)) (root-steps t o m)
+        go None v = steps-as (ownsAt p t) r running (λ q. absurd (false≢true q)) (root-steps actor t o m)
         go Well v = absurd (false≢true v)
         go Handled v = absurd (false≢true v)
         go Failed v = absurd (false≢true v)
@@ -681,7 +692,7 @@ awaits-up own b m a h =
 
 module _ {ms : List ℕ} (t j : ℕ) where
   -- an arm that awaits its step is open
-  arm-open : {l : Acts} {c : ℕ} {b : Bool} → Arms true l → WaitsIn ms l c t b → isPart l c t ≡ true → b ≡ true
+  pub arm-open : {l : Acts} {c : ℕ} {b : Bool} → Arms true l → WaitsIn ms l c t b → isPart l c t ≡ true → b ≡ true
   unfolding isPart awaits size
   arm-open {b = b} r (waits-first {a = act own within} {l = l} {c = c} u (waits-itself d q)) h = rw (r .0) at q
   arm-open r (waits-first {a = act own within} {l = l} {c = c} u (waits-within d q)) h =

@@ -20,7 +20,8 @@ use Rattle.order.specs.declared.Way.{Way as Result}
 use Rattle.order.specs.declared.Way.the-variants.{Running as running, Over as over, Raising as raising, Leaving as leaving, Undone as undone, UndoRaising as undoRaising}
 use Rattle.order.specs.Scope.{Outcome, rootOf, runs, begunIn, whereOver, Scope, scopeAt, isScope, isOpen, innerRuns, closing, beginUndo, beginUndoIn, startUndo, undo, ends, handle, undoes, turns, rememberedFor, untouched, withdraws, stop, stopAll, stopFirst, faults, breaks, looksAgain, bodyOver, bodyRaised, undoOver, undoRaised, fromBody, partOver, partRaised, fromFault, fromUndo}
 use Rattle.order.specs.Scope as definitions
-use Rattle.order.specs.Acting.{finishes, orRaises, again, repeats, allBound, itself, arms, goesOn, joins, inScope, combines, stepIn, stepAmong, stepRoot, endOf, movedTo, stepOrder}
+use Rattle.order.specs.Acting.{finishes, raises, orRaises, again, repeats, allBound, itself, arms, goesOn, joins, inScope, combines, stepIn, stepAmong, stepRoot, endOf, movedTo, Actor, replaces, performs, acted}
+use Rattle.undoing.proofs.Stepping.{plain-performs}
 use Rattle.undoing.specs.Orderly.{isBeganOf}
 use Rattle.undoing.specs.Begun.{hasBegan, Lead, alone, together, inOrder, inStep, leadOf, mayLead}
 use Rattle.undoing.proofs.Parts.{both, decide, some-append}
@@ -462,51 +463,57 @@ module _ (lead : ℕ → Lead) where
     case-fine true x y z e w v = subst (λ (r : Outcome). Fine (r .log)) (sym e) (w refl)
     case-fine false x y z e w v = subst (λ (r : Outcome). Fine (r .log)) (sym e) (v refl)
 
+    -- a raise in its place begins nothing
+    performs-fine : (actor : Actor) (own : Own) (within : Acts) (k : ℕ) (o : Order) → Fine (itself own within k o .log) → Fine (performs actor own within k o .log)
+    unfolding performs isBeganOf
+    performs-fine actor own within k o w =
+        choose-fine (replaces actor (kind own)) (raises k o) (itself own within k o) _ refl (fine-event (raised k) [] (λ j. refl) fine-none) w
+
     mutual
       unfolding stepIn itself combines kind size
 
-      step-fine : {a : Act} {k : ℕ} → Leads a k → (o : Order) → k ≤ t → Fine (stepIn a k t o .log)
-      step-fine (leads-part {own} {within} {k} s n y) o m =
-          case-fine (eqb k t) (itself own within k o) (combines own within k t (stepAmong within (k + 1) t (arms own within k t o))) _ refl
-          (λ e. itself-fine own within k o s n y (eqb-true k t e))
-          (λ e. combines-fine own within k (stepAmong within (k + 1) t (arms own within k t o)) s y (below e) (among-fine y (arms own within k t o) (below e)))
+      step-fine : (actor : Actor) {a : Act} {k : ℕ} → Leads a k → (o : Order) → k ≤ t → Fine (stepIn actor a k t o .log)
+      step-fine actor (leads-part {own} {within} {k} s n y) o m =
+          case-fine (eqb k t) (performs actor own within k o) (combines own within k t (stepAmong actor within (k + 1) t (arms own within k t o))) _ refl
+          (λ e. performs-fine actor own within k o (itself-fine own within k o s n y (eqb-true k t e)))
+          (λ e. combines-fine own within k (stepAmong actor within (k + 1) t (arms own within k t o)) s y (below e) (among-fine actor y (arms own within k t o) (below e)))
         where
           below : eqb k t ≡ false → k + 1 ≤ t
           below e = let z = eqb-false k t e in omega arith
-      step-fine (leads-scope {b} {g} {u} {k} x y z hb hg hu) o m =
-          case-fine (eqb k t) (closing k (scopeAt k (trio b g u)) o) (inScope k t (trio b g u) (stepAmong (trio b g u) (k + 1) t (arms scope (trio b g u) k t o))) _ refl
-          (λ e. closing-fine k (scopeAt k (trio b g u)) o)
+      step-fine actor (leads-scope {b} {g} {u} {k} x y z hb hg hu) o m =
+          case-fine (eqb k t) (performs actor scope (trio b g u) k o) (inScope k t (trio b g u) (stepAmong actor (trio b g u) (k + 1) t (arms scope (trio b g u) k t o))) _ refl
+          (λ e. subst (λ (r : Outcome). Fine (r .log)) (sym (plain-performs actor scope (trio b g u) k o refl)) (closing-fine k (scopeAt k (trio b g u)) o))
           (λ e. let o₁ = arms scope (trio b g u) k t o in
-          in-scope-fine b g u k (stepAmong (trio b g u) (k + 1) t o₁) (scope-part u y hb hg)
-          (case-fine (ltb t (k + 1 + size b)) (stepIn b (k + 1) t o₁) (stepAmong (more g (more u none)) (k + 1 + size b) t o₁) _ refl
-          (λ d. step-fine hb o₁ (let i = eqb-false k t e in omega arith))
-          (λ d. case-fine (ltb t (k + 1 + size b + size g)) (stepIn g (k + 1 + size b) t o₁) (stepAmong (more u none) (k + 1 + size b + size g) t o₁) _ refl
-          (λ c. step-fine hg o₁ (ltb-false t (k + 1 + size b) d))
-          (λ c. case-fine (ltb t (k + 1 + size b + size g + size u)) (stepIn u (k + 1 + size b + size g) t o₁) (stepAmong none (k + 1 + size b + size g + size u) t o₁) _ refl
-          (λ i. step-fine hu o₁ (ltb-false t (k + 1 + size b + size g) c)) (λ i. fine-none)))))
+          in-scope-fine b g u k (stepAmong actor (trio b g u) (k + 1) t o₁) (scope-part u y hb hg)
+          (case-fine (ltb t (k + 1 + size b)) (stepIn actor b (k + 1) t o₁) (stepAmong actor (more g (more u none)) (k + 1 + size b) t o₁) _ refl
+          (λ d. step-fine actor hb o₁ (let i = eqb-false k t e in omega arith))
+          (λ d. case-fine (ltb t (k + 1 + size b + size g)) (stepIn actor g (k + 1 + size b) t o₁) (stepAmong actor (more u none) (k + 1 + size b + size g) t o₁) _ refl
+          (λ c. step-fine actor hg o₁ (ltb-false t (k + 1 + size b) d))
+          (λ c. case-fine (ltb t (k + 1 + size b + size g + size u)) (stepIn actor u (k + 1 + size b + size g) t o₁) (stepAmong actor none (k + 1 + size b + size g + size u) t o₁) _ refl
+          (λ i. step-fine actor hu o₁ (ltb-false t (k + 1 + size b + size g) c)) (λ i. fine-none)))))
 
-      among-fine : {l : Acts} {c : ℕ} {q : Lead} → LeadsIn l c q → (o : Order) → c ≤ t → Fine (stepAmong l c t o .log)
-      among-fine leads-none o m = fine-none
-      among-fine (leads-more {a} {l} {c} e x y) o m =
-          case-fine (ltb t (c + size a)) (stepIn a c t o) (stepAmong l (c + size a) t o) _ refl (λ d. step-fine x o m) (λ d. among-fine y o (ltb-false t (c + size a) d))
+      among-fine : (actor : Actor) {l : Acts} {c : ℕ} {q : Lead} → LeadsIn l c q → (o : Order) → c ≤ t → Fine (stepAmong actor l c t o .log)
+      among-fine actor leads-none o m = fine-none
+      among-fine actor (leads-more {a} {l} {c} e x y) o m =
+          case-fine (ltb t (c + size a)) (stepIn actor a c t o) (stepAmong actor l (c + size a) t o) _ refl (λ d. step-fine actor x o m) (λ d. among-fine actor y o (ltb-false t (c + size a) d))
 
     -- A step of an order.
-    pub order-fine : (p : Plan) → Leads (p .body) 0 → Leads (p .fault) (size (p .body)) → lead (size (p .body)) ≡ alone → (o : Order)
-        → Fine (stepOrder p t o .log)
-    unfolding stepOrder stepRoot movedTo isBeganOf
-    order-fine p hb hf e o = go (endOf (stepRoot p t o))
+    pub order-fine : (actor : Actor) (p : Plan) → Leads (p .body) 0 → Leads (p .fault) (size (p .body)) → lead (size (p .body)) ≡ alone → (o : Order)
+        → Fine (acted actor p t o .log)
+    unfolding acted stepRoot movedTo isBeganOf
+    order-fine actor p hb hf e o = go (endOf (stepRoot actor p t o))
       where
         h : Part (rootOf p)
         h = record { body = hb; fault = hf; free = e }
 
-        w : Fine (stepRoot p t o .log)
-        w = case-fine (ltb t (size (p .body))) (fromBody (rootOf p) (stepIn (p .body) 0 t o)) (fromFault (rootOf p) (stepIn (p .fault) (size (p .body)) t o)) (stepRoot p t o) refl
-            (λ d. body-fine (rootOf p) h (stepIn (p .body) 0 t o) (step-fine hb o (omega arith)))
-            (λ d. fault-fine (rootOf p) h (stepIn (p .fault) (size (p .body)) t o) (step-fine hf o (ltb-false t (size (p .body)) d)))
+        w : Fine (stepRoot actor p t o .log)
+        w = case-fine (ltb t (size (p .body))) (fromBody (rootOf p) (stepIn actor (p .body) 0 t o)) (fromFault (rootOf p) (stepIn actor (p .fault) (size (p .body)) t o)) (stepRoot actor p t o) refl
+            (λ d. body-fine (rootOf p) h (stepIn actor (p .body) 0 t o) (step-fine actor hb o (omega arith)))
+            (λ d. fault-fine (rootOf p) h (stepIn actor (p .fault) (size (p .body)) t o) (step-fine actor hf o (ltb-false t (size (p .body)) d)))
 
-        go : (x : End) → Fine (movedTo (stepRoot p t o) x .log)
+        go : (x : End) → Fine (movedTo (stepRoot actor p t o) x .log)
         go None = w
-        go Well = fine-append (stepRoot p t o .log) (ended root ∷ []) w (fine-event (ended root) [] (λ j. refl) fine-none)
+        go Well = fine-append (stepRoot actor p t o .log) (ended root ∷ []) w (fine-event (ended root) [] (λ j. refl) fine-none)
         go Handled = w
         go Failed = w
         go Left = w

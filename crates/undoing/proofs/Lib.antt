@@ -18,6 +18,8 @@ pub mod Roots
 pub mod Places
 pub mod Planning
 pub mod Offered
+pub mod Judged
+pub mod Lower
 pub mod Slots
 pub mod Happening
 pub mod Demanded
@@ -34,8 +36,13 @@ pub mod Going
 pub mod Truly
 pub mod Lasting
 pub mod Keeping
+pub mod Falling
 pub mod Leading
 pub mod BegunTold
+pub mod EachTime
+pub mod Settling
+pub mod Times
+pub mod Pairs
 pub mod Bought
 pub mod AllTold
 pub mod Program

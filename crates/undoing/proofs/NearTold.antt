@@ -21,8 +21,9 @@ use Rattle.machine.specs.State.{fresh}
 use Rattle.order.specs.Event.{Event, started, began, closed, faulted, stopped, ended, raised, left}
 use Rattle.order.specs.Begin.{part, partAt, begin}
 use Rattle.order.specs.Scope.{isScope}
-use Rattle.order.specs.Acting.{stepRoot, endOf, movedTo, stepOrder, begunOrder, startedOrder}
-use Rattle.machine.specs.Calls.{loadedAs, load, post, collect, dropAt, Stepped, step, Call, posting, collecting, dropping, stepping}
+use Rattle.order.specs.Acting.{stepRoot, endOf, movedTo, begunOrder, startedOrder, Actor, itsOwn, acted}
+use Rattle.undoing.proofs.EachTime.{time, OfTimes, OfStarts, each-time}
+use Rattle.machine.specs.Calls.{loadedAs, load, post, collect, Stepped, step, Call, posting, collecting, stepping}
 use Rattle.undoing.specs.History.{logOf}
 use Rattle.undoing.specs.Demand3.{Inner, scopesIn, scopesAmong, scopesOf}
 use Rattle.undoing.specs.Ties.{isTaken}
@@ -35,7 +36,7 @@ use Rattle.undoing.proofs.Orders.{onto, innerAt}
 use Rattle.undoing.proofs.Planning.{Formed, formed-part, formed-scope, FormedIn, formed-none, formed-more, scopes-is, bare-formed, Promised, promised, whole}
 use Rattle.undoing.proofs.Waiting.{Waits, waits-itself, waits-within, WaitsIn, waits-first, waits-later}
 use Rattle.undoing.proofs.Roots.{Awaited, in-body, in-fault}
-use Rattle.undoing.proofs.Slots.{post-same, collect-same, drop-same, Sane, same-sane, fresh-sane}
+use Rattle.undoing.proofs.Slots.{post-same, collect-same, Sane, same-sane, fresh-sane}
 use Rattle.undoing.proofs.Happening.{orderIn, withMessage, Happens, nothing-here, goes-here, starts-here, step-happens}
 use Rattle.undoing.proofs.Demanded.{step-after}
 use Rattle.undoing.proofs.BegunTold.{body-knows, fault-knows}
@@ -100,59 +101,41 @@ module _ (x : Taken) where
     in-told (formed-more {a = a} {l = l} y z) c n w = every-append (isLocal x) (scopesIn a c n) (scopesAmong l (c + size a) n) (local-told y c n (w .one)) (in-told z (c + size a) n (w .other))
 
 module _ (p : Plan) (h : Promised p) where
-  order-local : (t : ℕ) (o : Order) → t < size (p .body) + size (p .fault) → LocalIn t (stepOrder p t o .log) (more (p .body) (more (p .fault) none)) 0
-  unfolding stepOrder movedTo times isBeganOf
-  order-local t o n = go (endOf (stepRoot p t o))
+  order-local : (actor : Actor) (t : ℕ) (o : Order) → t < size (p .body) + size (p .fault) → LocalIn t (acted actor p t o .log) (more (p .body) (more (p .fault) none)) 0
+  unfolding acted movedTo times isBeganOf
+  order-local actor t o n = go (endOf (stepRoot actor p t o))
     where
-      w : LocalIn t (stepRoot p t o .log) (more (p .body) (more (p .fault) none)) 0
-      w = root-local t (kindAt p) p (body-knows p h) (fault-knows p h) (formed-named (kindAt p) (h .fault)) o n
+      w : LocalIn t (stepRoot actor p t o .log) (more (p .body) (more (p .fault) none)) 0
+      w = root-local t (kindAt p) p (body-knows p h) (fault-knows p h) (formed-named (kindAt p) (h .fault)) actor o n
 
-      go : (e : End) → LocalIn t (movedTo (stepRoot p t o) e .log) (more (p .body) (more (p .fault) none)) 0
+      go : (e : End) → LocalIn t (movedTo (stepRoot actor p t o) e .log) (more (p .body) (more (p .fault) none)) 0
       go None = w
-      go Well = in-append t (stepRoot p t o .log) (ended root ∷ []) _ 0 w (in-none t (ended root ∷ []) _ 0 (λ j. refl))
+      go Well = in-append t (stepRoot actor p t o .log) (ended root ∷ []) _ 0 w (in-none t (ended root ∷ []) _ 0 (λ j. refl))
       go Handled = w
       go Failed = w
       go Left = w
 
-  starts-local : (t : ℕ) (o : Order) → t < size (p .body) + size (p .fault) → LocalIn t ((started ∷ begunOrder p .log) ++ stepOrder p t o .log) (more (p .body) (more (p .fault) none)) 0
+  starts-local : (actor : Actor) (t : ℕ) (o : Order) → t < size (p .body) + size (p .fault) → LocalIn t ((started ∷ begunOrder p .log) ++ acted actor p t o .log) (more (p .body) (more (p .fault) none)) 0
   unfolding begunOrder times isBeganOf
-  starts-local t o n =
-      in-append t (started ∷ begin (p .body) 0 (noOrder .marks) .log) (stepOrder p t o .log) _ 0
+  starts-local actor t o n =
+      in-append t (started ∷ begin (p .body) 0 (noOrder .marks) .log) (acted actor p t o .log) _ 0
       (in-append t (started ∷ []) (begin (p .body) 0 (noOrder .marks) .log) _ 0 (in-none t (started ∷ []) _ 0 (λ j. refl))
       (start-local t (kindAt p) p (body-knows p h) (fault-knows p h) (formed-named (kindAt p) (h .fault)) (formed-named (kindAt p) (h .body)) (noOrder .marks)))
-      (order-local t o n)
+      (order-local actor t o n)
 
   taken-local : (x : Taken) → LocalIn (x .activity) (x .log) (more (p .body) (more (p .fault) none)) 0 → every (isLocal x) (scopesOf p) ≡ true
   unfolding Local
   taken-local x w = subst (λ (l : List Inner). every (isLocal x) l ≡ true) (sym (whole p (h .body) (h .fault))) (local-told x (h .body) 0 root (w .one))
 
-  module _ (i : ℕ) where
-    abbrev one : State → (t : ℕ) → Stepped → Taken
-    one s t r = record { activity = t; before = orderIn s i; after = orderIn (r .state) i; log = logOf i r }
+  near-time : OfTimes p (λ x. every (isLocal x) (scopesOf p))
+  near-time actor t o o′ past like a st g = taken-local (time t o [] (acted actor p t o′)) (order-local actor t o′ (awaited-to a))
 
-    happens-local : (s : State) (past : List Event) (r : Stepped) → Happens p i s past r → every (λ x. every (isLocal x) (scopesOf p)) (takenBy i s r) ≡ true
-    unfolding every
-    happens-local s past r (nothing-here n l e d) = rw n
-    happens-local s past r (goes-here t m q x st c y l e d) =
-        rw (q .0, q .1, taken-local (one s t r) (subst (λ (g : List Event). LocalIn t g (more (p .body) (more (p .fault) none)) 0) (sym l) (order-local t (withMessage p t m (orderIn s i)) (awaited-to x))))
-    happens-local s past r (starts-here t m q x z n l e d) =
-        rw (q .0, q .1, taken-local (one s t r) (subst (λ (g : List Event). LocalIn t g (more (p .body) (more (p .fault) none)) 0) (sym l) (starts-local t (withMessage p t m (startedOrder p)) (awaited-to x))))
-
-    module _ (bytes : List ℕ) (next : ℕ) (accepted : readPlan bytes ≡ found p next) where
-      all-near : (calls : List Call) (s : State) (t : Tally) (past : List Event) → Sane p bytes next i accepted h s past → every (λ x. every (isLocal x) (scopesOf p)) (stepsTaken calls i s t) ≡ true
-      unfolding stepsTaken every
-      all-near [] s t past g = refl
-      all-near (posting m ∷ l) s t past g = all-near l (post m s .state) t past (same-sane p bytes next i accepted h s (post m s .state) past (post-same m s) g)
-      all-near (collecting ∷ l) s t past g = all-near l (collect s .state) t past (same-sane p bytes next i accepted h s (collect s .state) past (collect-same s) g)
-      all-near (dropping j ∷ l) s t past g = all-near l (dropAt j s .state) t past (same-sane p bytes next i accepted h s (dropAt j s .state) past (drop-same j s) g)
-      all-near (stepping c ∷ l) s t past g =
-          let r = step c s t in
-          every-append (λ x. every (isLocal x) (scopesOf p)) (takenBy i s r) (stepsTaken l i (r .state) (r .tally)) (happens-local s past r (step-happens p bytes next i accepted h c s t past g .happens))
-          (all-near l (r .state) (r .tally) (onto (logOf i r) past) (step-after p bytes next i accepted h c s t past g .1))
+  near-start : OfStarts p (λ x. every (isLocal x) (scopesOf p))
+  near-start t m o past z n a =
+      let o′ = withMessage p t m (startedOrder p) in
+      taken-local (time t o (started ∷ begunOrder p .log) (acted itsOwn p t o′)) (starts-local itsOwn t o′ (awaited-to a))
 
 -- Left to finish.
 pub left-to-finish : LeftToFinish
-unfolding LeftToFinish load
-left-to-finish bytes p next e calls slot t =
-    subst (λ (f : Found Plan). every (λ x. every (isLocal x) (scopesOf p)) (stepsTaken calls slot (loadedAs bytes f .state) t) ≡ true) (sym e)
-    (let h = promised p (accepted-is-within bytes e) in all-near p h slot bytes next e calls (fresh bytes) t [] (fresh-sane p bytes next slot e h))
+unfolding LeftToFinish
+left-to-finish = each-time (λ p x. every (isLocal x) (scopesOf p)) near-time near-start

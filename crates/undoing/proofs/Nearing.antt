@@ -18,7 +18,7 @@ use Rattle.order.specs.declared.Way.{Way as Result}
 use Rattle.order.specs.declared.Way.the-variants.{Running as running, Over as over, Raising as raising, Leaving as leaving, Undone as undone, UndoRaising as undoRaising}
 use Rattle.order.specs.Scope.{Outcome, rootOf, runs, begunIn, whereOver, Scope, scopeAt, isScope, isOpen, isFor, directly, directlyIn, innerRuns, closing, beginUndo, beginUndoIn, startUndo, undo, ends, handle, undoes, turns, rememberedFor, untouched, withdraws, stop, stopAll, stopFirst, faults, breaks, looksAgain, bodyOver, bodyRaised, undoOver, undoRaised, fromBody, partOver, partRaised, fromFault, fromUndo}
 use Rattle.order.specs.Scope as definitions
-use Rattle.order.specs.Acting.{finishes, raises, orRaises, enters, again, repeats, allBound, itself, arms, goesOn, joins, inScope, combines, stepIn, stepAmong, stepRoot}
+use Rattle.order.specs.Acting.{finishes, raises, orRaises, enters, again, repeats, allBound, itself, arms, goesOn, joins, inScope, combines, stepIn, stepAmong, stepRoot, Actor, replaces, performs}
 use Rattle.undoing.specs.Orderly.{isBeganOf}
 use Rattle.undoing.specs.Begun.{hasBegan}
 use Rattle.undoing.specs.Entirely.{times, isStopOf}
@@ -470,23 +470,30 @@ module _ (t : ℕ) where
     case-local r c true x y z e g h = subst (λ (q : Outcome). LocalIn (q .log) r c) (sym e) (g refl)
     case-local r c false x y z e g h = subst (λ (q : Outcome). LocalIn (q .log) r c) (sym e) (h refl)
 
+    -- what acts: the activity itself, or a raise in its place
+    performs-local : (actor : Actor) (own : Own) (within : Acts) (k : ℕ) (o : Order) → needs own ≤ count within → Arms (eqb (kind own) 10) within → KnowsIn f within (k + 1)
+        → LocalIn (performs actor own within k o .log) within (k + 1)
+    unfolding performs times isBeganOf
+    performs-local actor own within k o n r y =
+        case-local within (k + 1) (replaces actor (kind own)) (raises k o) (itself own within k o) _ refl (λ e. in-none _ within (k + 1) (λ j. refl)) (λ e. itself-local own within k o n r y)
+
     mutual
       unfolding stepIn Local times size
 
-      step-local : {a : Act} {k : ℕ} → Knows f a k → (o : Order) → k ≤ t → t < k + size a → Local (stepIn a k t o .log) a k
-      step-local (knows {own} {within} {k} x n r y) o h e =
+      step-local : (actor : Actor) {a : Act} {k : ℕ} → Knows f a k → (o : Order) → k ≤ t → t < k + size a → Local (stepIn actor a k t o .log) a k
+      step-local actor (knows {own} {within} {k} x n r y) o h e =
           record {
             one = λ s. near-stands h e;
-            other = case-local within (k + 1) (eqb k t) (itself own within k o) (combines own within k t (stepAmong within (k + 1) t (arms own within k t o))) _ refl (λ d. itself-local own within k o n r y)
-                (λ d. combines-local own within k (stepAmong within (k + 1) t (arms own within k t o)) n r y (among-local y (arms own within k t o) (let z = eqb-false k t d in omega arith)));
+            other = case-local within (k + 1) (eqb k t) (performs actor own within k o) (combines own within k t (stepAmong actor within (k + 1) t (arms own within k t o))) _ refl (λ d. performs-local actor own within k o n r y)
+                (λ d. combines-local own within k (stepAmong actor within (k + 1) t (arms own within k t o)) n r y (among-local actor y (arms own within k t o) (let z = eqb-false k t d in omega arith)));
           }
 
-      among-local : {l : Acts} {c : ℕ} → KnowsIn f l c → (o : Order) → c ≤ t → LocalIn (stepAmong l c t o .log) l c
-      among-local (knows-none {c}) o h = tt
-      among-local (knows-more {a} {l} {c} x y) o h =
-          case-local (more a l) c (ltb t (c + size a)) (stepIn a c t o) (stepAmong l (c + size a) t o) _ refl
-          (λ e. head-in a l c _ (step-local x o h (ltb-true t (c + size a) e)) (step-at f t x o h .strict .above))
-          (λ e. tail-in a l c _ (among-local y o (ltb-false t (c + size a) e)) (λ j q. among-at f t y o (ltb-false t (c + size a) e) .strict .below j q))
+      among-local : (actor : Actor) {l : Acts} {c : ℕ} → KnowsIn f l c → (o : Order) → c ≤ t → LocalIn (stepAmong actor l c t o .log) l c
+      among-local actor (knows-none {c}) o h = tt
+      among-local actor (knows-more {a} {l} {c} x y) o h =
+          case-local (more a l) c (ltb t (c + size a)) (stepIn actor a c t o) (stepAmong actor l (c + size a) t o) _ refl
+          (λ e. head-in a l c _ (step-local actor x o h (ltb-true t (c + size a) e)) (step-at f t actor x o h .strict .above))
+          (λ e. tail-in a l c _ (among-local actor y o (ltb-false t (c + size a) e)) (λ j q. among-at f t actor y o (ltb-false t (c + size a) e) .strict .below j q))
 
     -- From the root.
     module _ (p : Plan) (kb : Knows f (p .body) 0) (kf : Knows f (p .fault) (size (p .body))) (named : Named f (p .fault)) where
@@ -507,14 +514,14 @@ module _ (t : ℕ) where
             inFault = λ l h e. fault-in l h (e .below) (e .above);
           }
 
-      pub root-local : (o : Order) → t < size (p .body) + size (p .fault) → LocalIn (stepRoot p t o .log) all 0
+      pub root-local : (actor : Actor) (o : Order) → t < size (p .body) + size (p .fault) → LocalIn (stepRoot actor p t o .log) all 0
       unfolding stepRoot
-      root-local o n =
-          case-local all 0 (ltb t (size (p .body))) (fromBody (rootOf p) (stepIn (p .body) 0 t o)) (fromFault (rootOf p) (stepIn (p .fault) (size (p .body)) t o)) (stepRoot p t o) refl
-          (λ e. body-local (rootOf p) all 0 sits-root (stepIn (p .body) 0 t o) (head-in (p .body) (more (p .fault) none) 0 _ (step-local kb o (omega arith) (let z = ltb-true t (size (p .body)) e in omega arith)) (step-at f t kb o (omega arith) .strict .above)))
+      root-local actor o n =
+          case-local all 0 (ltb t (size (p .body))) (fromBody (rootOf p) (stepIn actor (p .body) 0 t o)) (fromFault (rootOf p) (stepIn actor (p .fault) (size (p .body)) t o)) (stepRoot actor p t o) refl
+          (λ e. body-local (rootOf p) all 0 sits-root (stepIn actor (p .body) 0 t o) (head-in (p .body) (more (p .fault) none) 0 _ (step-local actor kb o (omega arith) (let z = ltb-true t (size (p .body)) e in omega arith)) (step-at f t actor kb o (omega arith) .strict .above)))
           (λ e. let z = ltb-false t (size (p .body)) e in
-          let w = step-at f t kf o z .strict in
-          fault-local (rootOf p) all 0 sits-root (stepIn (p .fault) (size (p .body)) t o) (fault-in _ (step-local kf o z n) (λ j x. w .below j (omega arith)) (w .above)))
+          let w = step-at f t actor kf o z .strict in
+          fault-local (rootOf p) all 0 sits-root (stepIn actor (p .fault) (size (p .body)) t o) (fault-in _ (step-local actor kf o z n) (λ j x. w .below j (omega arith)) (w .above)))
 
       pub start-local : Named f (p .body) → (ms : List ℕ) → LocalIn (begin (p .body) 0 ms .log) all 0
       start-local i ms = head-in (p .body) (more (p .fault) none) 0 _ (begin-local kb ms) (begin-starts f kb i ms .above)

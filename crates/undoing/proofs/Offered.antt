@@ -32,7 +32,7 @@ module _ {A : Type 0} where
   each-append (each-more x l) y = each-more x (each-append l y)
 
   -- where one gives the other
-  each-so : {P Q : A → Type 0} {l : List A} → ((a : A) → P a → Q a) → Each P l → Each Q l
+  pub each-so : {P Q : A → Type 0} {l : List A} → ((a : A) → P a → Q a) → Each P l → Each Q l
   each-so f each-none = each-none
   each-so f (each-more {a} x l) = each-more (f a x) (each-so f l)
 

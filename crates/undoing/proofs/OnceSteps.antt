@@ -15,7 +15,7 @@ use Rattle.order.specs.Begin.{part, partAt}
 use Rattle.order.specs.declared.Way.{Way as Result}
 use Rattle.order.specs.declared.Way.the-variants.{Running as running, Over as over, Raising as raising, Leaving as leaving, Undone as undone, UndoRaising as undoRaising}
 use Rattle.order.specs.Scope.{Outcome, Scope, scopeAt, rootOf, isScope, innerRuns, fromBody, fromFault, fromUndo, closing}
-use Rattle.order.specs.Acting.{itself, isPart, arms, combines, stepIn, stepAmong, stepRoot}
+use Rattle.order.specs.Acting.{isPart, arms, combines, stepIn, stepAmong, stepRoot, Actor, performs}
 use Rattle.machine.specs.Fit.{awaits}
 use Rattle.undoing.specs.Ties.{Place, bodyOf, undoOf, nameOf, aroundOf}
 use Rattle.undoing.specs.Begun.{lasts, hasBegan}
@@ -37,7 +37,7 @@ use Rattle.undoing.proofs.Lasting.{isRaising}
 use Rattle.undoing.proofs.Keeping as keeping
 use Rattle.undoing.proofs.Entering.{Strict, StepsAt, step-at}
 use Rattle.undoing.proofs.Single.{Once, Light, once-none, looks-none, looks-still}
-use Rattle.undoing.proofs.OnceTold.{none-times, isGoing, Rests, rests-still, rests-light, body-once, fault-once, itself-lone, combines-once, own-once}
+use Rattle.undoing.proofs.OnceTold.{none-times, isGoing, Rests, rests-still, rests-light, body-once, fault-once, performs-once, combines-once, own-once}
 
 -- a mark of one phase is none of another
 other-mark : (m v : ℕ) (q : Phase) → phase m ≡ q → (phase v ≡ q → ⊥) → eqb m v ≡ false
@@ -51,18 +51,18 @@ quiet-is-part {ms} (waits-first {a = act own within} {c = c} h (waits-within g w
     absurd (quiet-waits-in w (opens-idle own (getD ms c 0) (q .at c (omega arith) (omega arith))) (quiet-part q (omega arith) (omega arith)))
 quiet-is-part (waits-later {a} {l} {c} {t} h w) q = rw (quiet-is-part w (quiet-part q (omega arith) (omega arith)), or-true)
 
-module _ (p : Plan) (distinct : Distinct p) (f : ℕ → ℕ) where
+module _ (p : Plan) (distinct : Distinct p) (actor : Actor) (f : ℕ → ℕ) where
   -- where all is quiet after a step, nothing that lasts began in it
-  quiet-light : {a : Act} {k : ℕ} → Knows f a k → (t : ℕ) (o : Order) → k ≤ t → k + size a ≤ length (o .marks) → Quiet (stepIn a k t o .order .marks) k (size a) → Light f (stepIn a k t o .log)
+  quiet-light : {a : Act} {k : ℕ} → Knows f a k → (t : ℕ) (o : Order) → k ≤ t → k + size a ≤ length (o .marks) → Quiet (stepIn actor a k t o .order .marks) k (size a) → Light f (stepIn actor a k t o .log)
   quiet-light {a} {k} x t o h m q =
       record {
-        at = λ j n. decide (hasBegan j (stepIn a k t o .log))
+        at = λ j n. decide (hasBegan j (stepIn actor a k t o .log))
             (λ b. decide (leb j k)
-            (λ c. step-at f t x o h .strict .below j (leb-so j k c))
+            (λ c. step-at f t actor x o h .strict .below j (leb-so j k c))
             (λ c. decide (ltb j (k + size a))
-            (λ d. absurd (false≢true (sym (keeping.step-steps f x t o m .truly j n b) ∙ ap (λ (v : ℕ). eqb v idle) (q .at j (leb-not j k c) (ltb-true j (k + size a) d)))))
-            (λ d. step-at f t x o h .strict .above j (ltb-false j (k + size a) d))))
-            (λ b. none-times j (stepIn a k t o .log) b);
+            (λ d. absurd (false≢true (sym (keeping.step-steps f actor x t o m .truly j n b) ∙ ap (λ (v : ℕ). eqb v idle) (q .at j (leb-not j k c) (ltb-true j (k + size a) d)))))
+            (λ d. step-at f t actor x o h .strict .above j (ltb-false j (k + size a) d))))
+            (λ b. none-times j (stepIn actor a k t o .log) b);
       }
     where
       leb-so : (j k : ℕ) → leb j k ≡ true → j ≤ k
@@ -71,14 +71,14 @@ module _ (p : Plan) (distinct : Distinct p) (f : ℕ → ℕ) where
       leb-not : (j k : ℕ) → leb j k ≡ false → k ≤ j
       leb-not j k e = let z = leb-false j k e in omega arith
 
-  raise-none : {a : Act} {k : ℕ} → Knows f a k → (t : ℕ) (o : Order) → k + size a ≤ length (o .marks) → isRaising (stepIn a k t o .result) ≡ true → (j : ℕ) → times j (stepIn a k t o .log) ≡ 0
-  raise-none {a} {k} x t o m e j = none-times j (stepIn a k t o .log) (keeping.step-steps f x t o m .quits e j)
+  raise-none : {a : Act} {k : ℕ} → Knows f a k → (t : ℕ) (o : Order) → k + size a ≤ length (o .marks) → isRaising (stepIn actor a k t o .result) ≡ true → (j : ℕ) → times j (stepIn actor a k t o .log) ≡ 0
+  raise-none {a} {k} x t o m e j = none-times j (stepIn actor a k t o .log) (keeping.step-steps f actor x t o m .quits e j)
 
   -- A scope, whose body has a step.
   module _ (s : Scope) (h : Seat p s) (kb : Knows f (s .body) (s .bodyAt)) (kf : Knows f (s .fault) (s .faultAt)) (t : ℕ) (o : Order) (i : s .bodyAt ≤ t) (m : s .bodyAt + size (s .body) ≤ length (o .marks))
-      (w : Once f (stepIn (s .body) (s .bodyAt) t o .log)) where
+      (w : Once f (stepIn actor (s .body) (s .bodyAt) t o .log)) where
     abbrev pub its : Outcome
-    its = stepIn (s .body) (s .bodyAt) t o
+    its = stepIn actor (s .body) (s .bodyAt) t o
 
     its-mark : {C : List Event → Order → Result → Type 0} → Acted (s .bodyAt) (size (s .body)) o C its → markOf (s .name) (its .order) ≡ markOf (s .name) o
     its-mark v = mark-kept (s .name) (s .bodyAt) o (its .order) (h .before) (omega arith) (v .rooted) (v .kept)
@@ -117,73 +117,73 @@ module _ (p : Plan) (distinct : Distinct p) (f : ℕ → ℕ) where
         (raise-none kb t o m)
 
   -- An activity other than a scope.
-  step-once : (own : Own) (within : Acts) (k t : ℕ) (o o₁ : Order) → (k ≡ t → ⊥) → arms own within k t o ≡ o₁ → Once f (combines own within k t (stepAmong within (k + 1) t o₁) .log) → Once f (stepIn (act own within) k t o .log)
+  step-once : (own : Own) (within : Acts) (k t : ℕ) (o o₁ : Order) → (k ≡ t → ⊥) → arms own within k t o ≡ o₁ → Once f (combines own within k t (stepAmong actor within (k + 1) t o₁) .log) → Once f (stepIn actor (act own within) k t o .log)
   unfolding stepIn
   step-once own within k t o o₁ n e w =
-      subst (λ (q : Outcome). Once f (q .log)) (sym (second-of (eqb k t) (itself own within k o) (combines own within k t (stepAmong within (k + 1) t (arms own within k t o))) (stepIn (act own within) k t o) refl (ne-eqb k t n)))
-      (subst (λ (q : Order). Once f (combines own within k t (stepAmong within (k + 1) t q) .log)) (sym e) w)
+      subst (λ (q : Outcome). Once f (q .log)) (sym (second-of (eqb k t) (performs actor own within k o) (combines own within k t (stepAmong actor within (k + 1) t (arms own within k t o))) (stepIn actor (act own within) k t o) refl (ne-eqb k t n)))
+      (subst (λ (q : Order). Once f (combines own within k t (stepAmong actor within (k + 1) t q) .log)) (sym e) w)
 
-  itself-once : (own : Own) (within : Acts) (k t : ℕ) (o : Order) → k ≡ t → needs own ≤ count within → KnowsIn f within (k + 1) → Once f (stepIn (act own within) k t o .log)
+  itself-once : (own : Own) (within : Acts) (k t : ℕ) (o : Order) → k ≡ t → needs own ≤ count within → KnowsIn f within (k + 1) → Once f (stepIn actor (act own within) k t o .log)
   unfolding stepIn
   itself-once own within k t o e n y =
-      subst (λ (q : Outcome). Once f (q .log)) (sym (first-of (eqb k t) (itself own within k o) (combines own within k t (stepAmong within (k + 1) t (arms own within k t o))) (stepIn (act own within) k t o) refl (eq-eqb k t e)))
-      (itself-lone f own within k o n y .once)
+      subst (λ (q : Outcome). Once f (q .log)) (sym (first-of (eqb k t) (performs actor own within k o) (combines own within k t (stepAmong actor within (k + 1) t (arms own within k t o))) (stepIn actor (act own within) k t o) refl (eq-eqb k t e)))
+      (performs-once f actor own within k o n y)
 
   part-once : (own : Own) (within : Acts) (k t : ℕ) (o : Order) (b : Bool) → isScope own ≡ false → needs own ≤ count within → Arms (eqb (kind own) 10) within → KnowsIn f within (k + 1)
       → Waits (o .marks) (act own within) k t b → Run (o .marks) (act own within) k
-      → ((c : Bool) → WaitsIn (o .marks) within (k + 1) t c → c ≡ false → One (o .marks) within (k + 1) → Once f (stepAmong within (k + 1) t o .log))
-      → ((c : Bool) → WaitsIn (o .marks) within (k + 1) t c → c ≡ false → All (o .marks) within (k + 1) → Once f (stepAmong within (k + 1) t o .log))
-      → Once f (stepIn (act own within) k t o .log)
+      → ((c : Bool) → WaitsIn (o .marks) within (k + 1) t c → c ≡ false → One (o .marks) within (k + 1) → Once f (stepAmong actor within (k + 1) t o .log))
+      → ((c : Bool) → WaitsIn (o .marks) within (k + 1) t c → c ≡ false → All (o .marks) within (k + 1) → Once f (stepAmong actor within (k + 1) t o .log))
+      → Once f (stepIn actor (act own within) k t o .log)
   unfolding kind
   part-once own within k t o b s n r z (waits-itself e d) run i j = itself-once own within k t o e n z
   part-once own within k t o b s n r z (waits-within h w) (run-awaits s₁ y x q) i j =
       let g = quiet-is-part w q in
-      step-once own within k t o (arms own within k t o) (λ e. omega arith) refl (combines-once f own within k t (arms own within k t o) s r z (omega arith) (own-once f z t (arms own within k t o) g))
+      step-once own within k t o (arms own within k t o) (λ e. omega arith) refl (combines-once f actor own within k t (arms own within k t o) s r z (omega arith) (own-once f actor z t (arms own within k t o) g))
   part-once own within k t o b s n r z (waits-within h w) (run-one s₁ x y) i j =
-      step-once own within k t o o (λ e. omega arith) (arms-held own within k t o x) (combines-once f own within k t o s r z (omega arith) (i (opens own (getD (o .marks) k 0)) w (opens-held p distinct own (getD (o .marks) k 0) x) y))
+      step-once own within k t o o (λ e. omega arith) (arms-held own within k t o x) (combines-once f actor own within k t o s r z (omega arith) (i (opens own (getD (o .marks) k 0)) w (opens-held p distinct actor own (getD (o .marks) k 0) x) y))
   part-once flow within k t o b s n r z (waits-within h w) (run-all x y a) i j =
-      step-once flow within k t o o (λ e. omega arith) (arms-held flow within k t o x) (combines-once f flow within k t o s r z (omega arith) (j (opens flow (getD (o .marks) k 0)) w refl y))
+      step-once flow within k t o o (λ e. omega arith) (arms-held flow within k t o x) (combines-once f actor flow within k t o s r z (omega arith) (j (opens flow (getD (o .marks) k 0)) w refl y))
   part-once own within k t o b s n r z (waits-within h w) (run-body x y q) i j = absurd (false≢true (sym s))
   part-once own within k t o b s n r z (waits-within h w) (run-done x q) i j = absurd (false≢true (sym s))
   part-once own within k t o b s n r z (waits-within h w) (run-turned x q) i j = absurd (false≢true (sym s))
 
-  first-once : (a : Act) (l : Acts) (c t : ℕ) (o : Order) → t < c + size a → Once f (stepIn a c t o .log) → Once f (stepAmong (more a l) c t o .log)
+  first-once : (a : Act) (l : Acts) (c t : ℕ) (o : Order) → t < c + size a → Once f (stepIn actor a c t o .log) → Once f (stepAmong actor (more a l) c t o .log)
   unfolding stepIn
-  first-once a l c t o h w = subst (λ (q : Outcome). Once f (q .log)) (sym (first-of (ltb t (c + size a)) (stepIn a c t o) (stepAmong l (c + size a) t o) (stepAmong (more a l) c t o) refl (lt-ltb t (c + size a) h))) w
+  first-once a l c t o h w = subst (λ (q : Outcome). Once f (q .log)) (sym (first-of (ltb t (c + size a)) (stepIn actor a c t o) (stepAmong actor l (c + size a) t o) (stepAmong actor (more a l) c t o) refl (lt-ltb t (c + size a) h))) w
 
-  later-once : (a : Act) (l : Acts) (c t : ℕ) (o : Order) → c + size a ≤ t → Once f (stepAmong l (c + size a) t o .log) → Once f (stepAmong (more a l) c t o .log)
+  later-once : (a : Act) (l : Acts) (c t : ℕ) (o : Order) → c + size a ≤ t → Once f (stepAmong actor l (c + size a) t o .log) → Once f (stepAmong actor (more a l) c t o .log)
   unfolding stepIn
-  later-once a l c t o h w = subst (λ (q : Outcome). Once f (q .log)) (sym (second-of (ltb t (c + size a)) (stepIn a c t o) (stepAmong l (c + size a) t o) (stepAmong (more a l) c t o) refl (le-ltb t (c + size a) h))) w
+  later-once a l c t o h w = subst (λ (q : Outcome). Once f (q .log)) (sym (second-of (ltb t (c + size a)) (stepIn actor a c t o) (stepAmong actor l (c + size a) t o) (stepAmong actor (more a l) c t o) refl (le-ltb t (c + size a) h))) w
 
   -- A scope that has turned.
   turned-once : {n : Name} (b g u : Act) (k t : ℕ) (o : Order) → Seat p (scopeAt k (trio b g u)) → Sits p (bodyOf (inner k) n) b (k + 1) → (kb : Knows f b (k + 1)) (kf : Knows f g (k + 1 + size b)) → k + size (act scope (trio b g u)) ≤ length (o .marks)
       → k < t → WaitsIn (o .marks) (trio b g u) (k + 1) t false → Turned (o .marks) (getD (o .marks) k 0) b (k + 1) g (k + 1 + size b) → Quiet (o .marks) (k + 1 + size b + size g) (size u)
-      → ((x : Bool) → Waits (o .marks) b (k + 1) t x → x ≡ false → Stopped (o .marks) b (k + 1) → Once f (stepIn b (k + 1) t o .log))
-      → ((x : Bool) → Waits (o .marks) b (k + 1) t x → x ≡ false → Undoing (o .marks) b (k + 1) → (v : Bool) → phase (getD (o .marks) k 0) ≡ Phase.undoes v → Once f (stepIn b (k + 1) t o .log))
-      → ((x : Bool) → Waits (o .marks) g (k + 1 + size b) t x → x ≡ false → Run (o .marks) g (k + 1 + size b) → phase (getD (o .marks) k 0) ≡ heals → Once f (stepIn g (k + 1 + size b) t o .log))
-      → Once f (stepIn (act scope (trio b g u)) k t o .log)
+      → ((x : Bool) → Waits (o .marks) b (k + 1) t x → x ≡ false → Stopped (o .marks) b (k + 1) → Once f (stepIn actor b (k + 1) t o .log))
+      → ((x : Bool) → Waits (o .marks) b (k + 1) t x → x ≡ false → Undoing (o .marks) b (k + 1) → (v : Bool) → phase (getD (o .marks) k 0) ≡ Phase.undoes v → Once f (stepIn actor b (k + 1) t o .log))
+      → ((x : Bool) → Waits (o .marks) g (k + 1 + size b) t x → x ≡ false → Run (o .marks) g (k + 1 + size b) → phase (getD (o .marks) k 0) ≡ heals → Once f (stepIn actor g (k + 1 + size b) t o .log))
+      → Once f (stepIn actor (act scope (trio b g u)) k t o .log)
   unfolding size part partAt Its Whole
   turned-once b g u k t o h sb kb kf m i (waits-first e w) (turned-waits q z _ y) x j l v =
-      subst (λ (d : Outcome). Once f (d .log)) (sym (body-step p distinct b g u k t o i e))
-      (waits-body (scopeAt k (trio b g u)) h kb kf t o (waits-from w) (omega arith) (j false w refl z) (steps-stopped p distinct sb t o false w refl z (omega arith)))
+      subst (λ (d : Outcome). Once f (d .log)) (sym (body-step p distinct actor b g u k t o i e))
+      (waits-body (scopeAt k (trio b g u)) h kb kf t o (waits-from w) (omega arith) (j false w refl z) (steps-stopped p distinct actor sb t o false w refl z (omega arith)))
   turned-once b g u k t o h sb kb kf m i (waits-first e w) (turned-undoes {w = a} q z y) x j l v =
-      subst (λ (d : Outcome). Once f (d .log)) (sym (body-step p distinct b g u k t o i e))
-      (undoing-body (scopeAt k (trio b g u)) h kb kf t o (waits-from w) (omega arith) (l false w refl z a q) a q (steps-undoing p distinct sb t o false w refl z (a, q) (omega arith)))
+      subst (λ (d : Outcome). Once f (d .log)) (sym (body-step p distinct actor b g u k t o i e))
+      (undoing-body (scopeAt k (trio b g u)) h kb kf t o (waits-from w) (omega arith) (l false w refl z a q) a q (steps-undoing p distinct actor sb t o false w refl z (a, q) (omega arith)))
   turned-once b g u k t o h sb kb kf m i (waits-first e w) (turned-heals q z y) x j l v = absurd (quiet-waits w refl z)
   turned-once b g u k t o h sb kb kf m i (waits-later d (waits-first e w)) (turned-waits q z _ y) x j l v = absurd (quiet-waits w refl y)
   turned-once b g u k t o h sb kb kf m i (waits-later d (waits-first e w)) (turned-undoes q z y) x j l v = absurd (quiet-waits w refl y)
   turned-once b g u k t o h sb kb kf m i (waits-later d (waits-first e w)) (turned-heals q z y) x j l v =
-      subst (λ (d : Outcome). Once f (d .log)) (sym (fault-step p distinct b g u k t o d e)) (fault-once f (scopeAt k (trio b g u)) kb kf (stepIn g (k + 1 + size b) t o) (v false w refl y q))
+      subst (λ (d : Outcome). Once f (d .log)) (sym (fault-step p distinct actor b g u k t o d e)) (fault-once f (scopeAt k (trio b g u)) kb kf (stepIn actor g (k + 1 + size b) t o) (v false w refl y q))
   turned-once b g u k t o h sb kb kf m i (waits-later d (waits-later e (waits-first c w))) z x j l v = absurd (quiet-waits w refl x)
 
   -- A scope whose body runs.
   live-once : {n : Name} (b g u : Act) (k t : ℕ) (o : Order) → Seat p (scopeAt k (trio b g u)) → Sits p (bodyOf (inner k) n) b (k + 1) → (kb : Knows f b (k + 1)) (kf : Knows f g (k + 1 + size b)) → k + size (act scope (trio b g u)) ≤ length (o .marks)
       → k < t → WaitsIn (o .marks) (trio b g u) (k + 1) t false → getD (o .marks) k 0 ≡ active → Run (o .marks) b (k + 1) → Quiet (o .marks) (k + 1 + size b) (size g + size u)
-      → (Waits (o .marks) b (k + 1) t false → Once f (stepIn b (k + 1) t o .log)) → Once f (stepIn (act scope (trio b g u)) k t o .log)
+      → (Waits (o .marks) b (k + 1) t false → Once f (stepIn actor b (k + 1) t o .log)) → Once f (stepIn actor (act scope (trio b g u)) k t o .log)
   unfolding size part partAt Its Whole
   live-once b g u k t o h sb kb kf m i (waits-first e w) x r q j =
-      subst (λ (d : Outcome). Once f (d .log)) (sym (body-step p distinct b g u k t o i e))
-      (live-body (scopeAt k (trio b g u)) h kb kf t o (waits-from w) (omega arith) (j w) x (steps p distinct sb t o false w refl r (ap phase x) (omega arith)))
+      subst (λ (d : Outcome). Once f (d .log)) (sym (body-step p distinct actor b g u k t o i e))
+      (live-body (scopeAt k (trio b g u)) h kb kf t o (waits-from w) (omega arith) (j w) x (steps p distinct actor sb t o false w refl r (ap phase x) (omega arith)))
   live-once b g u k t o h sb kb kf m i (waits-later d (waits-first e w)) x r q j = absurd (quiet-waits w refl (quiet-part q (omega arith) (omega arith)))
   live-once b g u k t o h sb kb kf m i (waits-later d (waits-later e (waits-first c w))) x r q j = absurd (quiet-waits w refl (quiet-part q (omega arith) (omega arith)))
 
@@ -191,7 +191,7 @@ module _ (p : Plan) (distinct : Distinct p) (f : ℕ → ℕ) where
     unfolding size kind Its Whole awaits fromUndo
 
     pub once-run : {x : Place} {a : Act} {k : ℕ} → Sits p x a k → Knows f a k → (t : ℕ) (o : Order) (b : Bool) → Waits (o .marks) a k t b → b ≡ false → Run (o .marks) a k → Fit x o → k + size a ≤ length (o .marks)
-        → Once f (stepIn a k t o .log)
+        → Once f (stepIn actor a k t o .log)
     once-run (sits-part {q = x} {own} {within} {k} s g u y l) (knows e n r z) t o b w q run v m =
         part-once own within k t o b s n r z w run (λ c w₁ e₁ r₁. once-one l z t o c w₁ e₁ r₁ v (omega arith)) (λ c w₁ e₁ r₁. once-all l z t o c w₁ e₁ r₁ v (omega arith))
     once-run (sits-scope {n} {c = a} {b} {f = g} {u} {k} kn d i sb y sf su) (knows e n₁ r (knows-more kb (knows-more kf (knows-more ku knows-none)))) t o c (waits-itself e₁ d₁) q run v m =
@@ -207,25 +207,25 @@ module _ (p : Plan) (distinct : Distinct p) (f : ℕ → ℕ) where
         (λ x w₁ e₁ r₁. once-stopped sb kb t o x w₁ e₁ r₁ (omega arith)) (λ x w₁ e₁ r₁ a z. once-undoing sb kb t o x w₁ e₁ r₁ (a, z) (omega arith)) (λ x w₁ e₁ r₁ z. once-part sf kf t o x w₁ e₁ r₁ z (omega arith))
 
     once-one : {x : Place} {l : Acts} {c : ℕ} → SitsIn p x l c → KnowsIn f l c → (t : ℕ) (o : Order) (b : Bool) → WaitsIn (o .marks) l c t b → b ≡ false → One (o .marks) l c → Fit x o → c + sizes l ≤ length (o .marks)
-        → Once f (stepAmong l c t o .log)
+        → Once f (stepAmong actor l c t o .log)
     once-one (sits-more {q = x} {a} {l} {c} s y) (knows-more z n) t o b (waits-first h w) e (one-here r q) v m = first-once a l c t o h (once-run s z t o b w e r v (omega arith))
     once-one (sits-more {q = x} {a} {l} {c} s y) (knows-more z n) t o b (waits-later h w) e (one-here r q) v m = absurd (quiet-waits-in w e q)
     once-one (sits-more {q = x} {a} {l} {c} s y) (knows-more z n) t o b (waits-first h w) e (one-later q r) v m = absurd (quiet-waits w e q)
     once-one (sits-more {q = x} {a} {l} {c} s y) (knows-more z n) t o b (waits-later h w) e (one-later q r) v m = later-once a l c t o h (once-one y n t o b w e r v (omega arith))
 
     once-all : {x : Place} {l : Acts} {c : ℕ} → SitsIn p x l c → KnowsIn f l c → (t : ℕ) (o : Order) (b : Bool) → WaitsIn (o .marks) l c t b → b ≡ false → All (o .marks) l c → Fit x o → c + sizes l ≤ length (o .marks)
-        → Once f (stepAmong l c t o .log)
+        → Once f (stepAmong actor l c t o .log)
     once-all (sits-more {q = x} {a} {l} {c} s y) (knows-more z n) t o b (waits-first h w) e (all-run r q) v m = first-once a l c t o h (once-run s z t o b w e r v (omega arith))
     once-all (sits-more {q = x} {a} {l} {c} s y) (knows-more z n) t o b (waits-first h w) e (all-quiet q r) v m = absurd (quiet-waits w e q)
     once-all (sits-more {q = x} {a} {l} {c} s y) (knows-more z n) t o b (waits-later h w) e (all-run r q) v m = later-once a l c t o h (once-all y n t o b w e q v (omega arith))
     once-all (sits-more {q = x} {a} {l} {c} s y) (knows-more z n) t o b (waits-later h w) e (all-quiet q r) v m = later-once a l c t o h (once-all y n t o b w e r v (omega arith))
 
     pub once-stopped : {x : Place} {a : Act} {k : ℕ} → Sits p x a k → Knows f a k → (t : ℕ) (o : Order) (b : Bool) → Waits (o .marks) a k t b → b ≡ false → Stopped (o .marks) a k → k + size a ≤ length (o .marks)
-        → Once f (stepIn a k t o .log)
+        → Once f (stepIn actor a k t o .log)
     once-stopped (sits-part {q = x} {own} {within} {k} s g u y l) (knows e n r z) t o b (waits-itself e₁ d) q st m = itself-once own within k t o e₁ n z
     once-stopped (sits-part {q = x} {own} {within} {k} s g u y l) (knows e n r z) t o b (waits-within h w) q (stopped-part s₁ i j) m =
         let c = opens-idle own (getD (o .marks) k 0) i in
-        step-once own within k t o o (λ d. omega arith) (arms-none own within k t o (stopped-part-not p distinct j w c)) (combines-once f own within k t o s r z (omega arith) (once-stopped-in l z t o _ w c j (omega arith)))
+        step-once own within k t o o (λ d. omega arith) (arms-none own within k t o (stopped-part-not p distinct actor j w c)) (combines-once f actor own within k t o s r z (omega arith) (once-stopped-in l z t o _ w c j (omega arith)))
     once-stopped (sits-part {q = x} {own} {within} {k} s g u y l) (knows e n r z) t o b (waits-within h w) q (stopped-quiet i) m =
         absurd (quiet-waits-in w (opens-idle own (getD (o .marks) k 0) (i .at k (omega arith) (omega arith))) (quiet-part i (omega arith) (omega arith)))
     once-stopped (sits-part {q = x} {own} {within} {k} s g u y l) (knows e n r z) t o b (waits-within h w) q (stopped-scope i j) m = absurd (false≢true (sym s))
@@ -238,16 +238,16 @@ module _ (p : Plan) (distinct : Distinct p) (f : ℕ → ℕ) where
         (λ x w₁ e₁ r₁. once-stopped sb kb t o x w₁ e₁ r₁ (omega arith)) (λ x w₁ e₁ r₁ a z. once-undoing sb kb t o x w₁ e₁ r₁ (a, z) (omega arith)) (λ x w₁ e₁ r₁ z. once-part sf kf t o x w₁ e₁ r₁ z (omega arith))
 
     once-stopped-in : {x : Place} {l : Acts} {c : ℕ} → SitsIn p x l c → KnowsIn f l c → (t : ℕ) (o : Order) (b : Bool) → WaitsIn (o .marks) l c t b → b ≡ false → StoppedIn (o .marks) l c → c + sizes l ≤ length (o .marks)
-        → Once f (stepAmong l c t o .log)
+        → Once f (stepAmong actor l c t o .log)
     once-stopped-in (sits-more {q = x} {a} {l} {c} s y) (knows-more z n) t o b (waits-first h w) e (stopped-more r q) m = first-once a l c t o h (once-stopped s z t o b w e r (omega arith))
     once-stopped-in (sits-more {q = x} {a} {l} {c} s y) (knows-more z n) t o b (waits-later h w) e (stopped-more r q) m = later-once a l c t o h (once-stopped-in y n t o b w e q (omega arith))
 
     pub once-undoing : {x : Place} {a : Act} {k : ℕ} → Sits p x a k → Knows f a k → (t : ℕ) (o : Order) (b : Bool) → Waits (o .marks) a k t b → b ≡ false → Undoing (o .marks) a k → Fit (undoOf (nameOf x) (aroundOf x)) o
-        → k + size a ≤ length (o .marks) → Once f (stepIn a k t o .log)
+        → k + size a ≤ length (o .marks) → Once f (stepIn actor a k t o .log)
     once-undoing (sits-part {q = x} {own} {within} {k} s g u y l) (knows e n r z) t o b (waits-itself e₁ d) q st v m = itself-once own within k t o e₁ n z
     once-undoing (sits-part {q = x} {own} {within} {k} s g u y l) (knows e n r z) t o b (waits-within h w) q (undoing-part s₁ i j) v m =
         let c = opens-idle own (getD (o .marks) k 0) i in
-        step-once own within k t o o (λ d. omega arith) (arms-none own within k t o (undoing-part-not p distinct j w c)) (combines-once f own within k t o s r z (omega arith) (once-undoing-in l z t o _ w c j v (omega arith)))
+        step-once own within k t o o (λ d. omega arith) (arms-none own within k t o (undoing-part-not p distinct actor j w c)) (combines-once f actor own within k t o s r z (omega arith) (once-undoing-in l z t o _ w c j v (omega arith)))
     once-undoing (sits-part {q = x} {own} {within} {k} s g u y l) (knows e n r z) t o b (waits-within h w) q (undoing-scope i j _) v m = absurd (false≢true (sym s))
     once-undoing (sits-scope {n} {c = a} {b} {f = g} {u} {k} kn d i sb y sf su) (knows e n₁ r (knows-more kb (knows-more kf (knows-more ku knows-none)))) t o c w q (undoing-part s _ j) v m = absurd (false≢true (sym s))
     once-undoing (sits-scope {n} {c = a} {b} {f = g} {u} {k} kn d i sb y sf su) (knows e n₁ r (knows-more kb (knows-more kf (knows-more ku knows-none)))) t o c (waits-itself e₁ d₁) q (undoing-scope x z j) v m =
@@ -257,16 +257,16 @@ module _ (p : Plan) (distinct : Distinct p) (f : ℕ → ℕ) where
     once-undoing (sits-scope {n} {c = a} {b} {f = g} {u} {k} kn d i sb y sf su) (knows e n₁ r (knows-more kb (knows-more kf (knows-more ku knows-none)))) t o c (waits-within h (waits-later h₁ (waits-first h₂ w))) q (undoing-scope x z j) v m =
         absurd (quiet-waits w refl (quiet-part z (omega arith) (omega arith)))
     once-undoing (sits-scope {n} {c = a} {b} {f = g} {u} {k} kn d i sb y sf su) (knows e n₁ r (knows-more kb (knows-more kf (knows-more ku knows-none)))) t o c (waits-within h (waits-later h₁ (waits-later h₂ (waits-first h₃ w)))) q (undoing-scope x z j) v m =
-        subst (λ (q : Outcome). Once f (q .log)) (sym (undo-step p distinct b g u k t o h₂ h₃)) (once-part su ku t o _ w refl j v (omega arith))
+        subst (λ (q : Outcome). Once f (q .log)) (sym (undo-step p distinct actor b g u k t o h₂ h₃)) (once-part su ku t o _ w refl j v (omega arith))
 
     once-undoing-in : {x : Place} {l : Acts} {c : ℕ} → SitsIn p x l c → KnowsIn f l c → (t : ℕ) (o : Order) (b : Bool) → WaitsIn (o .marks) l c t b → b ≡ false → UndoingIn (o .marks) l c → Fit (undoOf (nameOf x) (aroundOf x)) o
-        → c + sizes l ≤ length (o .marks) → Once f (stepAmong l c t o .log)
+        → c + sizes l ≤ length (o .marks) → Once f (stepAmong actor l c t o .log)
     once-undoing-in (sits-more {q = x} {a} {l} {c} s y) (knows-more z n) t o b (waits-first h w) e (undoing-here r q) v m = first-once a l c t o h (once-undoing s z t o b w e r v (omega arith))
     once-undoing-in (sits-more {q = x} {a} {l} {c} s y) (knows-more z n) t o b (waits-later h w) e (undoing-here r q) v m = absurd (quiet-waits-in w e q)
     once-undoing-in (sits-more {q = x} {a} {l} {c} s y) (knows-more z n) t o b (waits-first h w) e (undoing-later q r) v m = absurd (quiet-waits w e q)
     once-undoing-in (sits-more {q = x} {a} {l} {c} s y) (knows-more z n) t o b (waits-later h w) e (undoing-later q r) v m = later-once a l c t o h (once-undoing-in y n t o b w e r v (omega arith))
 
     pub once-part : {x : Place} {a : Act} {k : ℕ} → Remedy p x a k → Knows f a k → (t : ℕ) (o : Order) (b : Bool) → Waits (o .marks) a k t b → b ≡ false → Run (o .marks) a k → Fit x o → k + size a ≤ length (o .marks)
-        → Once f (stepIn a k t o .log)
+        → Once f (stepIn actor a k t o .log)
     once-part (remedy {q = x} {own} {within} {k} s a g u z₁ l d) (knows e n r z) t o b w q run v m =
         part-once own within k t o b s n r z w run (λ c w₁ e₁ r₁. once-one l z t o c w₁ e₁ r₁ v (omega arith)) (λ c w₁ e₁ r₁. once-all l z t o c w₁ e₁ r₁ v (omega arith))

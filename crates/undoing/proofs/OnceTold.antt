@@ -17,7 +17,7 @@ use Rattle.order.specs.Begin.{Begun, begin, beginInTurn, beginAfter, part, part
 use Rattle.order.specs.declared.Way.{Way as Result}
 use Rattle.order.specs.declared.Way.the-variants.{Running as running, Over as over, Raising as raising, Leaving as leaving, Undone as undone, UndoRaising as undoRaising}
 use Rattle.order.specs.Scope.{Outcome, rootOf, runs, after, begunIn, whereOver, Scope, scopeAt, isScope, isOpen, innerRuns, closing, ends, turns, stop, faults, breaks, looksAgain, bodyOver, bodyRaised, undoOver, undoRaised, fromBody, partOver, partRaised, fromFault, fromUndo}
-use Rattle.order.specs.Acting.{finishes, raises, orRaises, enters, again, repeats, allBound, itself, isPart, arms, goesOn, joins, inScope, combines, stepIn, stepAmong, stepRoot}
+use Rattle.order.specs.Acting.{finishes, raises, orRaises, enters, again, repeats, allBound, itself, isPart, arms, goesOn, joins, inScope, combines, stepIn, stepAmong, stepRoot, Actor, replaces, performs}
 use Rattle.undoing.specs.Orderly.{isBeganOf}
 use Rattle.undoing.specs.Begun.{lasts, hasBegan}
 use Rattle.undoing.specs.Entirely.{times}
@@ -175,25 +175,25 @@ module _ (f : ℕ → ℕ) where
   itself-lone (arm a b vs) within k o n y = lone-begun f o (beginPart 0 within (k + 1) (o .marks)) (part-onto f y 0 (omega arith) (o .marks))
 
   -- where the step's part of a list ends: what it logs stands before, what follows in a sequence after
-  record Edge (l : Acts) (c t : ℕ) : Type 0 where
+  record Edge (actor : Actor) (l : Acts) (c t : ℕ) : Type 0 where
     edge : ℕ
-    before : (o : Order) (j : ℕ) → edge ≤ j → times j (stepAmong l c t o .log) ≡ 0
+    before : (o : Order) (j : ℕ) → edge ≤ j → times j (stepAmong actor l c t o .log) ≡ 0
     behind : (ms : List ℕ) (j : ℕ) → j < edge → times j (beginAfter l c t ms .log) ≡ 0
 
-  edge-of : {l : Acts} {c : ℕ} → KnowsIn f l c → Arms false l → (t : ℕ) → c ≤ t → Edge l c t
+  edge-of : (actor : Actor) {l : Acts} {c : ℕ} → KnowsIn f l c → Arms false l → (t : ℕ) → c ≤ t → Edge actor l c t
   unfolding stepIn beginAfter times
-  edge-of (knows-none {c}) r t h = record { edge = c; before = λ o j e. refl; behind = λ ms j e. refl }
-  edge-of (knows-more {a = act own w} {l} {c} x y) r t h =
+  edge-of actor (knows-none {c}) r t h = record { edge = c; before = λ o j e. refl; behind = λ ms j e. refl }
+  edge-of actor (knows-more {a = act own w} {l} {c} x y) r t h =
       decide (ltb t (c + size (act own w)))
       (λ d. record {
         edge = c + size (act own w);
-        before = λ o j e. ap (λ (z : Outcome). times j (z .log)) (first-of (ltb t (c + size (act own w))) (stepIn (act own w) c t o) (stepAmong l (c + size (act own w)) t o) (stepAmong (more (act own w) l) c t o) refl d) ∙ step-at f t x o h .strict .above j e;
+        before = λ o j e. ap (λ (z : Outcome). times j (z .log)) (first-of (ltb t (c + size (act own w))) (stepIn actor (act own w) c t o) (stepAmong actor l (c + size (act own w)) t o) (stepAmong actor (more (act own w) l) c t o) refl d) ∙ step-at f t actor x o h .strict .above j e;
         behind = λ ms j e. ap (λ (z : Begun). times j (z .log)) (first-of (ltb t (c + size (act own w))) (beginInTurn-of ms) (beginAfter l (c + size (act own w)) t ms) (beginAfter (more (act own w) l) c t ms) refl d) ∙ turn-starts f y (r .1) ms .below j e;
       })
-      (λ d. let z = edge-of y (r .1) t (ltb-false t (c + size (act own w)) d) in
+      (λ d. let z = edge-of actor y (r .1) t (ltb-false t (c + size (act own w)) d) in
       record {
         edge = z .edge;
-        before = λ o j e. ap (λ (z : Outcome). times j (z .log)) (second-of (ltb t (c + size (act own w))) (stepIn (act own w) c t o) (stepAmong l (c + size (act own w)) t o) (stepAmong (more (act own w) l) c t o) refl d) ∙ z .before o j e;
+        before = λ o j e. ap (λ (z : Outcome). times j (z .log)) (second-of (ltb t (c + size (act own w))) (stepIn actor (act own w) c t o) (stepAmong actor l (c + size (act own w)) t o) (stepAmong actor (more (act own w) l) c t o) refl d) ∙ z .before o j e;
         behind = λ ms j e. ap (λ (z : Begun). times j (z .log)) (second-of (ltb t (c + size (act own w))) (beginInTurn-of ms) (beginAfter l (c + size (act own w)) t ms) (beginAfter (more (act own w) l) c t ms) refl d) ∙ z .behind ms j e;
       })
     where
@@ -217,16 +217,16 @@ module _ (f : ℕ → ℕ) where
       go undone = w
       go undoRaising = w
 
-  sequence-once : {within : Acts} (k t : ℕ) (o : Order) → KnowsIn f within (k + 1) → Arms false within → k + 1 ≤ t → Once f (stepAmong within (k + 1) t o .log)
-      → Once f (goesOn k active (λ q. whereOver (finishes k) (begunIn q (beginAfter within (k + 1) t (q .marks)))) (stepAmong within (k + 1) t o) .log)
+  sequence-once : (actor : Actor) {within : Acts} (k t : ℕ) (o : Order) → KnowsIn f within (k + 1) → Arms false within → k + 1 ≤ t → Once f (stepAmong actor within (k + 1) t o .log)
+      → Once f (goesOn k active (λ q. whereOver (finishes k) (begunIn q (beginAfter within (k + 1) t (q .marks)))) (stepAmong actor within (k + 1) t o) .log)
   unfolding goesOn times
-  sequence-once {within} k t o y a h w = go (r .result)
+  sequence-once actor {within} k t o y a h w = go (r .result)
     where
       r : Outcome
-      r = stepAmong within (k + 1) t o
+      r = stepAmong actor within (k + 1) t o
 
-      e : Edge within (k + 1) t
-      e = edge-of y a t h
+      e : Edge actor within (k + 1) t
+      e = edge-of actor y a t h
 
       b : Begun
       b = beginAfter within (k + 1) t (r .order .marks)
@@ -260,22 +260,22 @@ module _ (f : ℕ → ℕ) where
       go false = refl
 
   -- what an activity other than a scope makes of a step within it
-  pub combines-once : (own : Own) (within : Acts) (k t : ℕ) (o : Order) → isScope own ≡ false → Arms (eqb (kind own) 10) within → KnowsIn f within (k + 1) → k + 1 ≤ t
-      → Once f (stepAmong within (k + 1) t o .log) → Once f (combines own within k t (stepAmong within (k + 1) t o) .log)
+  pub combines-once : (actor : Actor) (own : Own) (within : Acts) (k t : ℕ) (o : Order) → isScope own ≡ false → Arms (eqb (kind own) 10) within → KnowsIn f within (k + 1) → k + 1 ≤ t
+      → Once f (stepAmong actor within (k + 1) t o .log) → Once f (combines own within k t (stepAmong actor within (k + 1) t o) .log)
   unfolding combines kind times
-  combines-once empty within k t o s r y h w = w
-  combines-once (send a b vs) within k t o s r y h w = w
-  combines-once (receive a b vs) within k t o s r y h w = w
-  combines-once (setting v e) within k t o s r y h w = w
-  combines-once raise within k t o s r y h w = w
-  combines-once leave within k t o s r y h w = w
-  combines-once (choose e) within k t o s r y h w = on-once k inside (finishes k) _ w (λ q j. refl)
-  combines-once (repeat e) within k t o s r y h w = on-once k inside (again k) _ w (λ q j. refl)
-  combines-once sequence within k t o s r y h w = sequence-once k t o y r h w
-  combines-once flow within k t o s r y h w = on-once k active (joins k within) _ w (joins-none k within)
-  combines-once pick within k t o s r y h w = on-once k inside (finishes k) _ w (λ q j. refl)
-  combines-once scope within k t o s r y h w = absurd (false≢true (sym s))
-  combines-once (arm a b vs) within k t o s r y h w = w
+  combines-once actor empty within k t o s r y h w = w
+  combines-once actor (send a b vs) within k t o s r y h w = w
+  combines-once actor (receive a b vs) within k t o s r y h w = w
+  combines-once actor (setting v e) within k t o s r y h w = w
+  combines-once actor raise within k t o s r y h w = w
+  combines-once actor leave within k t o s r y h w = w
+  combines-once actor (choose e) within k t o s r y h w = on-once k inside (finishes k) _ w (λ q j. refl)
+  combines-once actor (repeat e) within k t o s r y h w = on-once k inside (again k) _ w (λ q j. refl)
+  combines-once actor sequence within k t o s r y h w = sequence-once actor k t o y r h w
+  combines-once actor flow within k t o s r y h w = on-once k active (joins k within) _ w (joins-none k within)
+  combines-once actor pick within k t o s r y h w = on-once k inside (finishes k) _ w (λ q j. refl)
+  combines-once actor scope within k t o s r y h w = absurd (false≢true (sym s))
+  combines-once actor (arm a b vs) within k t o s r y h w = w
 
   part-from : (l : Acts) (c t : ℕ) → isPart l c t ≡ true → c ≤ t
   unfolding isPart size
@@ -283,15 +283,24 @@ module _ (f : ℕ → ℕ) where
   part-from (more (act own v) l) c t h =
       decide (eqb c t) (λ e. let z = eqb-true c t e in omega arith) (λ e. let z = part-from l (c + (1 + sizes v)) t (rw e at h) in omega arith)
 
+  -- what acts: the activity itself, or a raise in its place
+  pub performs-once : (actor : Actor) (own : Own) (within : Acts) (k : ℕ) (o : Order) → needs own ≤ count within → KnowsIn f within (k + 1) → Once f (performs actor own within k o .log)
+  unfolding performs times isBeganOf
+  performs-once actor own within k o n y = go (replaces actor (kind own))
+    where
+      go : (b : Bool) → Once f (log-of (elim b [ true ↦ raises k o | false ↦ itself own within k o ]))
+      go true = lone-zero f (raises k o) (λ j. refl) .once
+      go false = itself-lone own within k o n y .once
+
   -- the step of one of a list
-  pub own-once : {l : Acts} {c : ℕ} → KnowsIn f l c → (t : ℕ) (o : Order) → isPart l c t ≡ true → Once f (stepAmong l c t o .log)
+  pub own-once : (actor : Actor) {l : Acts} {c : ℕ} → KnowsIn f l c → (t : ℕ) (o : Order) → isPart l c t ≡ true → Once f (stepAmong actor l c t o .log)
   unfolding isPart stepIn size
-  own-once knows-none t o e = absurd (false≢true e)
-  own-once (knows-more {a = act own w} {l} {c} (knows x n r y) z) t o e =
+  own-once actor knows-none t o e = absurd (false≢true e)
+  own-once actor (knows-more {a = act own w} {l} {c} (knows x n r y) z) t o e =
       decide (eqb c t)
       (λ d. let i = eqb-true c t d in
-      subst (λ (q : Outcome). Once f (q .log)) (sym (first-of (ltb t (c + (1 + sizes w))) (stepIn (act own w) c t o) (stepAmong l (c + (1 + sizes w)) t o) (stepAmong (more (act own w) l) c t o) refl (lt-ltb t (c + (1 + sizes w)) (omega arith))))
-      (subst (λ (q : Outcome). Once f (q .log)) (sym (first-of (eqb c t) (itself own w c o) (combines own w c t (stepAmong w (c + 1) t (arms own w c t o))) (stepIn (act own w) c t o) refl d)) (itself-lone own w c o n y .once)))
+      subst (λ (q : Outcome). Once f (q .log)) (sym (first-of (ltb t (c + (1 + sizes w))) (stepIn actor (act own w) c t o) (stepAmong actor l (c + (1 + sizes w)) t o) (stepAmong actor (more (act own w) l) c t o) refl (lt-ltb t (c + (1 + sizes w)) (omega arith))))
+      (subst (λ (q : Outcome). Once f (q .log)) (sym (first-of (eqb c t) (performs actor own w c o) (combines own w c t (stepAmong actor w (c + 1) t (arms own w c t o))) (stepIn actor (act own w) c t o) refl d)) (performs-once actor own w c o n y)))
       (λ d. let g : isPart l (c + (1 + sizes w)) t ≡ true = rw d at e in
-      subst (λ (q : Outcome). Once f (q .log)) (sym (second-of (ltb t (c + (1 + sizes w))) (stepIn (act own w) c t o) (stepAmong l (c + (1 + sizes w)) t o) (stepAmong (more (act own w) l) c t o) refl (le-ltb t (c + (1 + sizes w)) (part-from l (c + (1 + sizes w)) t g))))
-      (own-once z t o g))
+      subst (λ (q : Outcome). Once f (q .log)) (sym (second-of (ltb t (c + (1 + sizes w))) (stepIn actor (act own w) c t o) (stepAmong actor l (c + (1 + sizes w)) t o) (stepAmong actor (more (act own w) l) c t o) refl (le-ltb t (c + (1 + sizes w)) (part-from l (c + (1 + sizes w)) t g))))
+      (own-once actor z t o g))

@@ -237,7 +237,7 @@ unfolding examples twoScopes threeClosings innerHandler handledScope closedOuter
 refused = refl
 
 -- and the right ones break none
-unbroken : map (λ x. by (begunTruly ∷ []) (λ p. broken p (deedsTaken p (x .calls) 0 (loaded (x .bytes)) noTally) (endsTaken (x .calls) 0 (loaded (x .bytes)) noTally) (stepsTaken (x .calls) 0 (loaded (x .bytes)) noTally) (orderAfter (x .calls) 0 (loaded (x .bytes)) noTally) (x .happened)) (readPlan (x .bytes))) examples
+unbroken : map (λ x. by (begunTruly ∷ []) (λ p. broken p (deedsTaken p (x .calls) 0 (loaded (x .bytes)) noTally) (endsTaken (x .calls) 0 (loaded (x .bytes)) noTally) (stepsTaken p (x .calls) 0 (loaded (x .bytes)) noTally) (orderAfter (x .calls) 0 (loaded (x .bytes)) noTally) (x .happened)) (readPlan (x .bytes))) examples
     ≡ map (λ x. []) examples
 unfolding examples twoScopes threeClosings innerHandler handledScope closedOuter neverEntered inSequence planC computing judging
 unbroken = refl

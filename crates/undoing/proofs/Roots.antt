@@ -16,7 +16,7 @@ use Rattle.order.specs.Event.{Event, started, began, closed, faulted, stopped, 
 use Rattle.order.specs.declared.Way.{Way as Result}
 use Rattle.order.specs.declared.Way.the-variants.{Running as running, Over as over, Raising as raising, Leaving as leaving, Undone as undone, UndoRaising as undoRaising}
 use Rattle.order.specs.Scope.{Outcome, Scope, rootOf, fromBody, fromFault}
-use Rattle.order.specs.Acting.{stepIn, stepRoot, endOf, Moved, movedTo, stepOrder}
+use Rattle.order.specs.Acting.{Actor, stepIn, stepRoot, endOf, Moved, movedTo, acted}
 use Rattle.undoing.specs.Demand3.{closingsOf, undoneOf, noneNow, isOver}
 use Rattle.undoing.specs.Ties.{endTold}
 use Rattle.undoing.proofs.Accounts.{Phase, live, waits, heals, phase}
@@ -41,11 +41,11 @@ pub record Standing (p : Plan) (o : Order) : Type 0 where
   pub going : o .root ≡ done → ⊥
 
 -- the definition, by where the step is
-root-is : (p : Plan) (t : ℕ) (o : Order) (b : Bool) → ltb t (size (p .body)) ≡ b
-    → stepRoot p t o ≡ elim b [ true ↦ fromBody (rootOf p) (stepIn (p .body) 0 t o) | false ↦ fromFault (rootOf p) (stepIn (p .fault) (size (p .body)) t o) ]
+root-is : (actor : Actor) (p : Plan) (t : ℕ) (o : Order) (b : Bool) → ltb t (size (p .body)) ≡ b
+    → stepRoot actor p t o ≡ elim b [ true ↦ fromBody (rootOf p) (stepIn actor (p .body) 0 t o) | false ↦ fromFault (rootOf p) (stepIn actor (p .fault) (size (p .body)) t o) ]
 unfolding stepRoot
-root-is p t o b e =
-    subst (λ (z : Bool). stepRoot p t o ≡ elim z [ true ↦ fromBody (rootOf p) (stepIn (p .body) 0 t o) | false ↦ fromFault (rootOf p) (stepIn (p .fault) (size (p .body)) t o) ]) e refl
+root-is actor p t o b e =
+    subst (λ (z : Bool). stepRoot actor p t o ≡ elim z [ true ↦ fromBody (rootOf p) (stepIn actor (p .body) 0 t o) | false ↦ fromFault (rootOf p) (stepIn actor (p .fault) (size (p .body)) t o) ]) e refl
 
 -- the numbers of the root
 root-reach : (p : Plan) → Reach (rootOf p)
@@ -63,11 +63,11 @@ weaker {p} {s} {o} {r} v = record { apart = v .apart; comes = go (r .result) (v 
     go undone c = c
     go undoRaising c = c
 
-module _ (p : Plan) (distinct : Distinct p) (h : Seat p (rootOf p)) where
+module _ (p : Plan) (distinct : Distinct p) (actor : Actor) (h : Seat p (rootOf p)) where
   pub root-steps : (t : ℕ) (o : Order) → Awaited p (o .marks) t → Standing p o → (o .root ≡ halted → ⊥) → (o .root ≡ withdrawing → ⊥)
-      → Steps p (rootOf p) (Running (rootOf p)) o (stepRoot p t o)
+      → Steps p (rootOf p) (Running (rootOf p)) o (stepRoot actor p t o)
   root-steps t o (in-body e w) st x y =
-      subst (λ (r : Outcome). Steps p (rootOf p) (Running (rootOf p)) o r) (sym (root-is p t o true (lt-ltb t (size (p .body)) e))) (go (st .runs))
+      subst (λ (r : Outcome). Steps p (rootOf p) (Running (rootOf p)) o r) (sym (root-is actor p t o true (lt-ltb t (size (p .body)) e))) (go (st .runs))
     where
       m : size (p .body) + size (p .fault) ≤ length (o .marks)
       m = st .many
@@ -78,30 +78,30 @@ module _ (p : Plan) (distinct : Distinct p) (h : Seat p (rootOf p)) where
       no-withdrawal : (a : Bool) → a ≡ false → phase (o .root) ≡ Phase.undoes a → ⊥
       no-withdrawal a d q = y (eqb-true (o .root) withdrawing (undoes-mark (o .root) q .1 ∙ rw d))
 
-      go : Running (rootOf p) (o .marks) (o .root) → Steps p (rootOf p) (Running (rootOf p)) o (fromBody (rootOf p) (stepIn (p .body) 0 t o))
+      go : Running (rootOf p) (o .marks) (o .root) → Steps p (rootOf p) (Running (rootOf p)) o (fromBody (rootOf p) (stepIn actor (p .body) 0 t o))
       go (scope-live d r q) =
-          from-live p distinct (rootOf p) t o (stepIn (p .body) 0 t o) h d q m (steps p distinct (h .body) t o false w refl r (ap phase d) (omega arith))
+          from-live p distinct (rootOf p) t o (stepIn actor (p .body) 0 t o) h d q m (steps p distinct actor (h .body) t o false w refl r (ap phase d) (omega arith))
       go (scope-done d q z) = absurd (st .going d)
       go (scope-turned (turned-waits {w = a} q z _ v)) =
-          weaker (from-stopped p distinct a (rootOf p) o (stepIn (p .body) 0 t o) h (λ d. absurd (no-stop a d q)) q v m (steps-stopped p distinct (h .body) t o false w refl z (omega arith)))
+          weaker (from-stopped p distinct a (rootOf p) o (stepIn actor (p .body) 0 t o) h (λ d. absurd (no-stop a d q)) q v m (steps-stopped p distinct actor (h .body) t o false w refl z (omega arith)))
       go (scope-turned (turned-undoes {w = a} q z v)) =
-          weaker (from-undoing p distinct a (rootOf p) t o (stepIn (p .body) 0 t o) h (root-reach p) (λ d. absurd (no-withdrawal a d q)) q v m (λ i a b. absurd (omega arith))
-          (steps-undoing p distinct (h .body) t o false w refl z (a, q) (omega arith)))
+          weaker (from-undoing p distinct a (rootOf p) t o (stepIn actor (p .body) 0 t o) h (root-reach p) (λ d. absurd (no-withdrawal a d q)) q v m (λ i a b. absurd (omega arith))
+          (steps-undoing p distinct actor (h .body) t o false w refl z (a, q) (omega arith)))
       go (scope-turned (turned-heals q z v)) = absurd (quiet-waits w refl z)
   root-steps t o (in-fault e w) st x y =
-      subst (λ (r : Outcome). Steps p (rootOf p) (Running (rootOf p)) o r) (sym (root-is p t o false (le-ltb t (size (p .body)) e))) (go (st .runs))
+      subst (λ (r : Outcome). Steps p (rootOf p) (Running (rootOf p)) o r) (sym (root-is actor p t o false (le-ltb t (size (p .body)) e))) (go (st .runs))
     where
       m : size (p .body) + size (p .fault) ≤ length (o .marks)
       m = st .many
 
-      go : Running (rootOf p) (o .marks) (o .root) → Steps p (rootOf p) (Running (rootOf p)) o (fromFault (rootOf p) (stepIn (p .fault) (size (p .body)) t o))
+      go : Running (rootOf p) (o .marks) (o .root) → Steps p (rootOf p) (Running (rootOf p)) o (fromFault (rootOf p) (stepIn actor (p .fault) (size (p .body)) t o))
       go (scope-live d r q) = absurd (quiet-waits w refl q)
       go (scope-done d q z) = absurd (st .going d)
       go (scope-turned (turned-waits q z _ v)) = absurd (quiet-waits w refl v)
       go (scope-turned (turned-undoes q z v)) = absurd (quiet-waits w refl v)
       go (scope-turned (turned-heals q z v)) =
-          weaker (from-heals p distinct (rootOf p) t o (stepIn (p .fault) (size (p .body)) t o) h (root-reach p) q z m (λ i a b. absurd (omega arith))
-          (steps-part p distinct (h .fault) t o false w refl v q (omega arith)))
+          weaker (from-heals p distinct (rootOf p) t o (stepIn actor (p .fault) (size (p .body)) t o) h (root-reach p) q z m (λ i a b. absurd (omega arith))
+          (steps-part p distinct actor (h .fault) t o false w refl v q (omega arith)))
 
 -- an end
 abbrev isSome : End → Bool
@@ -159,7 +159,7 @@ pub data Passed (p : Plan) (past : List Event) (m : Moved) : Type 0 where
   passes-on : fairAfter p past (m .log) ≡ true → m .end ≡ None → Standing p (m .order) → HoldsAt p (momentOf p (m .order)) (onto (m .log) past) → Passed p past m
   passes-end : fairAfter p past (m .log) ≡ true → m .order ≡ noOrder → EndedAs p (m .end) (onto (m .log) past) → Passed p past m
 
-module _ (p : Plan) (distinct : Distinct p) (h : Seat p (rootOf p)) where
+module _ (p : Plan) (distinct : Distinct p) (actor : Actor) (h : Seat p (rootOf p)) where
   -- the root's body is done
   does-well : (o : Order) → o .root ≡ done → Quiet (o .marks) 0 (size (p .body)) → Does p Well o (ended root ∷ []) noOrder
   unfolding fairAfter endTold
@@ -176,15 +176,15 @@ module _ (p : Plan) (distinct : Distinct p) (h : Seat p (rootOf p)) where
 
   -- a step of an order that stands
   pub order-steps : (t : ℕ) (o : Order) (past : List Event) → Awaited p (o .marks) t → Standing p o → (o .root ≡ halted → ⊥) → (o .root ≡ withdrawing → ⊥)
-      → HoldsAt p (momentOf p o) past → Passed p past (stepOrder p t o)
-  unfolding stepOrder endOf movedTo
+      → HoldsAt p (momentOf p o) past → Passed p past (acted actor p t o)
+  unfolding acted endOf movedTo
   order-steps t o past w st x y g = go (r .result) (v .comes)
     where
       r : Outcome
-      r = stepRoot p t o
+      r = stepRoot actor p t o
 
       v : Steps p (rootOf p) (Running (rootOf p)) o r
-      v = root-steps p distinct h t o w st x y
+      v = root-steps p distinct actor h t o w st x y
 
       by-done : Running (rootOf p) (r .order .marks) (r .order .root) → Does p None o (r .log) (r .order) → (b : Bool) → eqb (r .order .root) done ≡ b
           → Passed p past (movedTo (record { result = running; order = r .order; log = r .log }) (cond b Well None))

@@ -20,7 +20,7 @@ use Rattle.order.specs.Begin.{Begun, begin, beginAfter, beginPart, part, partAt
 use Rattle.order.specs.declared.Way.{Way as Result}
 use Rattle.order.specs.declared.Way.the-variants.{Running as running, Over as over, Raising as raising, Leaving as leaving, Undone as undone, UndoRaising as undoRaising}
 use Rattle.order.specs.Scope.{Outcome, runs, after, begunIn, whereOver, Scope, scopeAt, rootOf, isScope, isOpen, innerRuns, closing, beginUndo, startUndo, undo, ends, handle, undoes, turns, stop, faults, breaks, looksAgain, bodyOver, bodyRaised, undoOver, undoRaised, fromBody, partOver, partRaised, fromFault, fromUndo, rememberedFor, forgetting}
-use Rattle.order.specs.Acting.{finishes, raises, orRaises, enters, again, repeats, allBound, itself, isPart, arms, goesOn, joins, inScope, combines, stepIn, stepAmong, stepRoot, endOf, movedTo, stepOrder, begunOrder}
+use Rattle.order.specs.Acting.{finishes, raises, orRaises, enters, again, repeats, allBound, itself, isPart, arms, goesOn, joins, inScope, combines, stepIn, stepAmong, stepRoot, endOf, movedTo, begunOrder, Actor, replaces, performs, acted}
 use Rattle.undoing.specs.Ties.{isName, fits, Place, bodyOf, faultOf, undoOf, nameOf, aroundOf, placeIn, placeAmong, placeOf}
 use Rattle.undoing.proofs.Parts.{decide, both as both-true}
 use Rattle.undoing.proofs.Marks.{trio}
@@ -28,6 +28,7 @@ use Rattle.undoing.proofs.Orders.{bare, bareIn, Sits, sits-part, sits-s
 use Rattle.undoing.proofs.Seats.{Seat}
 use Rattle.undoing.proofs.Moves.{Before}
 use Rattle.undoing.proofs.Breaking.{cleared-kept}
+use Rattle.undoing.proofs.Stepping.{plain-performs}
 use Rattle.undoing.proofs.Places.{first-of, second-of, parts, place-here, place-within, place-scope, place-first, place-later, parts-first, parts-later}
 use Rattle.undoing.proofs.Aside.{Aside, silent-append, begin-silent, after-silent, part-silent, runs-silent, begin-undo-silent, ends-silent, stop-silent}
 
@@ -272,6 +273,15 @@ module _ (p : Plan) (t : ℕ) (b : Bool) (q : Place) (k : ℕ) (o : Order) where
   out-itself (arm x op vs) within s e l =
       out-mild (begunIn o (beginPart 0 within (k + 1) (o .marks))) (mild-begun o (beginPart 0 within (k + 1) (o .marks)) (part-silent isGrave graves-aside 0 within (k + 1) (o .marks)))
 
+  -- a raise in its place
+  out-performs : (actor : Actor) (own : Own) (within : Acts) → isScope own ≡ false → k ≡ t → placeOf p t ≡ q → Out p t b q k o (performs actor own within k o)
+  unfolding performs
+  out-performs actor own within s e l = go (replaces actor (kind own))
+    where
+      go : (v : Bool) → Out p t b q k o (elim v [ true ↦ raises k o | false ↦ itself own within k o ])
+      go true = out-raises e l
+      go false = out-itself own within s e l
+
   -- what it makes of a step within it
   out-combines : (own : Own) (within : Acts) (r : Outcome) → isScope own ≡ false → Out p t b q k o r → Out p t b q k o (combines own within k t r)
   unfolding combines kind
@@ -484,53 +494,53 @@ out-arms p t b q own within k o r e =
     decide (eqb (kind own) 10 && isPart within (k + 1) t) (λ d. rw d (out-marked p t b q k inside o r e)) (λ d. rw d (λ w. w))
 
 -- the definitions, by where the step is
-step-here : (own : Own) (within : Acts) (k t : ℕ) (o : Order) → eqb k t ≡ true → stepIn (act own within) k t o ≡ itself own within k o
+step-here : (actor : Actor) (own : Own) (within : Acts) (k t : ℕ) (o : Order) → eqb k t ≡ true → stepIn actor (act own within) k t o ≡ performs actor own within k o
 unfolding stepIn
-step-here own within k t o e =
-    first-of (eqb k t) (itself own within k o) (combines own within k t (stepAmong within (k + 1) t (arms own within k t o))) (stepIn (act own within) k t o) refl e
+step-here actor own within k t o e =
+    first-of (eqb k t) (performs actor own within k o) (combines own within k t (stepAmong actor within (k + 1) t (arms own within k t o))) (stepIn actor (act own within) k t o) refl e
 
-step-within : (own : Own) (within : Acts) (k t : ℕ) (o : Order) → eqb k t ≡ false
-    → stepIn (act own within) k t o ≡ combines own within k t (stepAmong within (k + 1) t (arms own within k t o))
+step-within : (actor : Actor) (own : Own) (within : Acts) (k t : ℕ) (o : Order) → eqb k t ≡ false
+    → stepIn actor (act own within) k t o ≡ combines own within k t (stepAmong actor within (k + 1) t (arms own within k t o))
 unfolding stepIn
-step-within own within k t o e =
-    second-of (eqb k t) (itself own within k o) (combines own within k t (stepAmong within (k + 1) t (arms own within k t o))) (stepIn (act own within) k t o) refl e
+step-within actor own within k t o e =
+    second-of (eqb k t) (performs actor own within k o) (combines own within k t (stepAmong actor within (k + 1) t (arms own within k t o))) (stepIn actor (act own within) k t o) refl e
 
-among-first : (a : Act) (l : Acts) (c t : ℕ) (o : Order) → ltb t (c + size a) ≡ true → stepAmong (more a l) c t o ≡ stepIn a c t o
+among-first : (actor : Actor) (a : Act) (l : Acts) (c t : ℕ) (o : Order) → ltb t (c + size a) ≡ true → stepAmong actor (more a l) c t o ≡ stepIn actor a c t o
 unfolding stepIn
-among-first a l c t o e = first-of (ltb t (c + size a)) (stepIn a c t o) (stepAmong l (c + size a) t o) (stepAmong (more a l) c t o) refl e
+among-first actor a l c t o e = first-of (ltb t (c + size a)) (stepIn actor a c t o) (stepAmong actor l (c + size a) t o) (stepAmong actor (more a l) c t o) refl e
 
-among-later : (a : Act) (l : Acts) (c t : ℕ) (o : Order) → ltb t (c + size a) ≡ false → stepAmong (more a l) c t o ≡ stepAmong l (c + size a) t o
+among-later : (actor : Actor) (a : Act) (l : Acts) (c t : ℕ) (o : Order) → ltb t (c + size a) ≡ false → stepAmong actor (more a l) c t o ≡ stepAmong actor l (c + size a) t o
 unfolding stepIn
-among-later a l c t o e = second-of (ltb t (c + size a)) (stepIn a c t o) (stepAmong l (c + size a) t o) (stepAmong (more a l) c t o) refl e
+among-later actor a l c t o e = second-of (ltb t (c + size a)) (stepIn actor a c t o) (stepAmong actor l (c + size a) t o) (stepAmong actor (more a l) c t o) refl e
 
 -- an activity other than a scope
-part-out : (p : Plan) (t : ℕ) (q : Place) (own : Own) (within : Acts) (k : ℕ) (o : Order) → isScope own ≡ false → isName p (inner k) ≡ false
+part-out : (actor : Actor) (p : Plan) (t : ℕ) (q : Place) (own : Own) (within : Acts) (k : ℕ) (o : Order) → isScope own ≡ false → isName p (inner k) ≡ false
     → placeOf p t ≡ placeIn (act own within) k t q
-    → ((o : Order) → placeOf p t ≡ placeAmong within (k + 1) t q → Out p t (bareIn within) q (k + 1) o (stepAmong within (k + 1) t o))
-    → Out p t (bare (act own within)) q k o (stepIn (act own within) k t o)
+    → ((o : Order) → placeOf p t ≡ placeAmong within (k + 1) t q → Out p t (bareIn within) q (k + 1) o (stepAmong actor within (k + 1) t o))
+    → Out p t (bare (act own within)) q k o (stepIn actor (act own within) k t o)
 unfolding bare
-part-out p t q own within k o s n l f =
+part-out actor p t q own within k o s n l f =
     decide (eqb k t)
-    (λ e. subst (λ (r : Outcome). Out p t (not (isScope own) && bareIn within) q k o r) (sym (step-here own within k t o e))
-    (out-itself p t _ q k o own within s (eqb-true k t e) (l ∙ place-here own within k t q e)))
-    (λ e. subst (λ (r : Outcome). Out p t (not (isScope own) && bareIn within) q k o r) (sym (step-within own within k t o e))
-    (out-combines p t _ q k o own within (stepAmong within (k + 1) t (arms own within k t o)) s
-    (out-arms p t _ q own within k o (stepAmong within (k + 1) t (arms own within k t o)) n
+    (λ e. subst (λ (r : Outcome). Out p t (not (isScope own) && bareIn within) q k o r) (sym (step-here actor own within k t o e))
+    (out-performs p t _ q k o actor own within s (eqb-true k t e) (l ∙ place-here own within k t q e)))
+    (λ e. subst (λ (r : Outcome). Out p t (not (isScope own) && bareIn within) q k o r) (sym (step-within actor own within k t o e))
+    (out-combines p t _ q k o own within (stepAmong actor within (k + 1) t (arms own within k t o)) s
+    (out-arms p t _ q own within k o (stepAmong actor within (k + 1) t (arms own within k t o)) n
     (out-wider p t _ (bareIn within) q k (k + 1) (arms own within k t o) _ (omega arith) (λ d. both-true (not (isScope own)) (bareIn within) d (λ x y. y))
     (f (arms own within k t o) (l ∙ place-within own within k t q e s))))))
 
 -- a list
-among-out : (p : Plan) (t : ℕ) (q : Place) (a : Act) (m : Acts) (c : ℕ) (o : Order) → placeOf p t ≡ placeAmong (more a m) c t q
-    → (placeOf p t ≡ placeIn a c t q → Out p t (bare a) q c o (stepIn a c t o))
-    → (placeOf p t ≡ placeAmong m (c + size a) t q → Out p t (bareIn m) q (c + size a) o (stepAmong m (c + size a) t o))
-    → Out p t (bareIn (more a m)) q c o (stepAmong (more a m) c t o)
+among-out : (actor : Actor) (p : Plan) (t : ℕ) (q : Place) (a : Act) (m : Acts) (c : ℕ) (o : Order) → placeOf p t ≡ placeAmong (more a m) c t q
+    → (placeOf p t ≡ placeIn a c t q → Out p t (bare a) q c o (stepIn actor a c t o))
+    → (placeOf p t ≡ placeAmong m (c + size a) t q → Out p t (bareIn m) q (c + size a) o (stepAmong actor m (c + size a) t o))
+    → Out p t (bareIn (more a m)) q c o (stepAmong actor (more a m) c t o)
 unfolding bare
-among-out p t q a m c o l f g =
+among-out actor p t q a m c o l f g =
     decide (ltb t (c + size a))
-    (λ e. subst (λ (r : Outcome). Out p t (bare a && bareIn m) q c o r) (sym (among-first a m c t o e))
-    (out-wider p t _ (bare a) q c c o (stepIn a c t o) (omega arith) (λ d. both-true (bare a) (bareIn m) d (λ x y. x)) (f (l ∙ place-first a m c t q e))))
-    (λ e. subst (λ (r : Outcome). Out p t (bare a && bareIn m) q c o r) (sym (among-later a m c t o e))
-    (out-wider p t _ (bareIn m) q c (c + size a) o (stepAmong m (c + size a) t o) (omega arith) (λ d. both-true (bare a) (bareIn m) d (λ x y. y)) (g (l ∙ place-later a m c t q e))))
+    (λ e. subst (λ (r : Outcome). Out p t (bare a && bareIn m) q c o r) (sym (among-first actor a m c t o e))
+    (out-wider p t _ (bare a) q c c o (stepIn actor a c t o) (omega arith) (λ d. both-true (bare a) (bareIn m) d (λ x y. x)) (f (l ∙ place-first a m c t q e))))
+    (λ e. subst (λ (r : Outcome). Out p t (bare a && bareIn m) q c o r) (sym (among-later actor a m c t o e))
+    (out-wider p t _ (bareIn m) q c (c + size a) o (stepAmong actor m (c + size a) t o) (omega arith) (λ d. both-true (bare a) (bareIn m) d (λ x y. y)) (g (l ∙ place-later a m c t q e))))
 
 -- A scope in a place.
 module _ (p : Plan) (t : ℕ) (q : Place) (b f u : Act) (k : ℕ) (o : Order) where
@@ -588,17 +598,17 @@ module _ (p : Plan) (t : ℕ) (q : Place) (b f u : Act) (k : ℕ) (o : Order) wh
       (elim (ltb t (k + 1 + size b + size f)) [ true ↦ fromFault (scopeAt k (trio b f u)) r | false ↦ fromUndo r ]) (inScope k t (trio b f u) r) refl d
       ∙ ap (λ (z : Bool). elim z as (λ _. Outcome) [ true ↦ fromFault (scopeAt k (trio b f u)) r | false ↦ fromUndo r ]) e
 
-  scope-out : isName p (inner k) ≡ true → bare f ≡ true → bare u ≡ true → placeOf p t ≡ placeIn (act scope (trio b f u)) k t q
-      → (placeOf p t ≡ placeIn b (k + 1) t (bodyOf (inner k) (nameOf q)) → Out p t (bare b) (bodyOf (inner k) (nameOf q)) (k + 1) o (stepIn b (k + 1) t o))
-      → (placeOf p t ≡ placeIn f (k + 1 + size b) t (faultOf (inner k) (nameOf q)) → Out p t (bare f) (faultOf (inner k) (nameOf q)) (k + 1 + size b) o (stepIn f (k + 1 + size b) t o))
+  scope-out : (actor : Actor) → isName p (inner k) ≡ true → bare f ≡ true → bare u ≡ true → placeOf p t ≡ placeIn (act scope (trio b f u)) k t q
+      → (placeOf p t ≡ placeIn b (k + 1) t (bodyOf (inner k) (nameOf q)) → Out p t (bare b) (bodyOf (inner k) (nameOf q)) (k + 1) o (stepIn actor b (k + 1) t o))
+      → (placeOf p t ≡ placeIn f (k + 1 + size b) t (faultOf (inner k) (nameOf q)) → Out p t (bare f) (faultOf (inner k) (nameOf q)) (k + 1 + size b) o (stepIn actor f (k + 1 + size b) t o))
       → (placeOf p t ≡ placeIn u (k + 1 + size b + size f) t (undoOf (nameOf q) (aroundOf q))
-      → Out p t (bare u) (undoOf (nameOf q) (aroundOf q)) (k + 1 + size b + size f) o (stepIn u (k + 1 + size b + size f) t o))
-      → Out p t (bare (act scope (trio b f u))) q k o (stepIn (act scope (trio b f u)) k t o)
+      → Out p t (bare u) (undoOf (nameOf q) (aroundOf q)) (k + 1 + size b + size f) o (stepIn actor u (k + 1 + size b + size f) t o))
+      → Out p t (bare (act scope (trio b f u))) q k o (stepIn actor (act scope (trio b f u)) k t o)
   unfolding bare kind itself closing combines arms inScope part partAt only isGrave stepIn
-  scope-out n zf zu l ib jf ju =
+  scope-out actor n zf zu l ib jf ju =
       decide (eqb k t)
-      (λ e. subst (λ (r : Outcome). Out p t false q k o r) (sym (step-here scope (trio b f u) k t o e)) (out-mild p t false q k o (closing k (scopeAt k (trio b f u)) o) (record { goes = refl; calm = refl })))
-      (λ e. subst (λ (r : Outcome). Out p t false q k o r) (sym (step-within scope (trio b f u) k t o e)) (inside-it (l ∙ place-scope (trio b f u) k t q e)))
+      (λ e. subst (λ (r : Outcome). Out p t false q k o r) (sym (step-here actor scope (trio b f u) k t o e ∙ plain-performs actor scope (trio b f u) k o refl)) (out-mild p t false q k o (closing k (scopeAt k (trio b f u)) o) (record { goes = refl; calm = refl })))
+      (λ e. subst (λ (r : Outcome). Out p t false q k o r) (sym (step-within actor scope (trio b f u) k t o e)) (inside-it (l ∙ place-scope (trio b f u) k t q e)))
     where
       S : Scope
       S = scopeAt k (trio b f u)
@@ -606,61 +616,61 @@ module _ (p : Plan) (t : ℕ) (q : Place) (b f u : Act) (k : ℕ) (o : Order) wh
       rest : Acts
       rest = more f (more u none)
 
-      inside-it : placeOf p t ≡ parts (trio b f u) k t q → Out p t false q k o (inScope k t (trio b f u) (stepAmong (trio b f u) (k + 1) t o))
+      inside-it : placeOf p t ≡ parts (trio b f u) k t q → Out p t false q k o (inScope k t (trio b f u) (stepAmong actor (trio b f u) (k + 1) t o))
       inside-it l₁ =
           decide (ltb t (k + 1 + size b))
-          (λ d. via (in-body _ d ∙ ap (fromBody S) (among-first b rest (k + 1) t o d))
-          (scope-as (fromBody S (stepIn b (k + 1) t o)) (body-out p t S (nameOf q) o (scoped n) (bare b) (stepIn b (k + 1) t o) (ib (l₁ ∙ parts-first b rest (k + 1) t _ _ _ d)))))
+          (λ d. via (in-body _ d ∙ ap (fromBody S) (among-first actor b rest (k + 1) t o d))
+          (scope-as (fromBody S (stepIn actor b (k + 1) t o)) (body-out p t S (nameOf q) o (scoped n) (bare b) (stepIn actor b (k + 1) t o) (ib (l₁ ∙ parts-first b rest (k + 1) t _ _ _ d)))))
           (λ d. decide (ltb t (k + 1 + size b + size f))
-          (λ v. via (in-rest _ true d v ∙ ap (fromFault S) (among-later b rest (k + 1) t o d ∙ among-first f (more u none) (k + 1 + size b) t o v))
-          (scope-as (fromFault S (stepIn f (k + 1 + size b) t o)) (fault-out p t S (nameOf q) o (scoped n) (stepIn f (k + 1 + size b) t o) (omega arith)
-          (subst (λ (z : Bool). Out p t z (faultOf (inner k) (nameOf q)) (k + 1 + size b) o (stepIn f (k + 1 + size b) t o)) zf
+          (λ v. via (in-rest _ true d v ∙ ap (fromFault S) (among-later actor b rest (k + 1) t o d ∙ among-first actor f (more u none) (k + 1 + size b) t o v))
+          (scope-as (fromFault S (stepIn actor f (k + 1 + size b) t o)) (fault-out p t S (nameOf q) o (scoped n) (stepIn actor f (k + 1 + size b) t o) (omega arith)
+          (subst (λ (z : Bool). Out p t z (faultOf (inner k) (nameOf q)) (k + 1 + size b) o (stepIn actor f (k + 1 + size b) t o)) zf
           (jf (l₁ ∙ (parts-later b rest (k + 1) t _ _ _ d ∙ parts-first f (more u none) (k + 1 + size b) t _ _ _ v)))))))
           (λ v. decide (ltb t (k + 1 + size b + size f + size u))
-          (λ w. via (in-rest _ false d v ∙ ap fromUndo (among-later b rest (k + 1) t o d ∙ (among-later f (more u none) (k + 1 + size b) t o v ∙ among-first u none (k + 1 + size b + size f) t o w)))
-          (undo-as (k + 1 + size b + size f) (stepIn u (k + 1 + size b + size f) t o) (omega arith)
-          (subst (λ (z : Bool). Out p t z (undoOf (nameOf q) (aroundOf q)) (k + 1 + size b + size f) o (stepIn u (k + 1 + size b + size f) t o)) zu
+          (λ w. via (in-rest _ false d v ∙ ap fromUndo (among-later actor b rest (k + 1) t o d ∙ (among-later actor f (more u none) (k + 1 + size b) t o v ∙ among-first actor u none (k + 1 + size b + size f) t o w)))
+          (undo-as (k + 1 + size b + size f) (stepIn actor u (k + 1 + size b + size f) t o) (omega arith)
+          (subst (λ (z : Bool). Out p t z (undoOf (nameOf q) (aroundOf q)) (k + 1 + size b + size f) o (stepIn actor u (k + 1 + size b + size f) t o)) zu
           (ju (l₁ ∙ (parts-later b rest (k + 1) t _ _ _ d ∙ (parts-later f (more u none) (k + 1 + size b) t _ _ _ v ∙ parts-first u none (k + 1 + size b + size f) t _ _ _ w)))))))
-          (λ w. via (in-rest _ false d v ∙ ap fromUndo (among-later b rest (k + 1) t o d ∙ (among-later f (more u none) (k + 1 + size b) t o v ∙ among-later u none (k + 1 + size b + size f) t o w)))
+          (λ w. via (in-rest _ false d v ∙ ap fromUndo (among-later actor b rest (k + 1) t o d ∙ (among-later actor f (more u none) (k + 1 + size b) t o v ∙ among-later actor u none (k + 1 + size b + size f) t o w)))
           (undo-as (k + 1 + size b + size f) (runs o) (omega arith) (out-mild p t true (undoOf (nameOf q) (aroundOf q)) (k + 1 + size b + size f) o (runs o) (mild-runs o))))))
         where
           via : {r r′ : Outcome} → r ≡ r′ → Out p t false q k o r′ → Out p t false q k o r
           via e w = subst (λ (r : Outcome). Out p t false q k o r) (sym e) w
 
 -- in an empty list
-nothing-out : (p : Plan) (t : ℕ) (q : Place) (c : ℕ) (o : Order) → Out p t (bareIn none) q c o (stepAmong none c t o)
+nothing-out : (actor : Actor) (p : Plan) (t : ℕ) (q : Place) (c : ℕ) (o : Order) → Out p t (bareIn none) q c o (stepAmong actor none c t o)
 unfolding stepIn
-nothing-out p t q c o = out-mild p t _ q c o (runs o) (mild-runs o)
+nothing-out actor p t q c o = out-mild p t _ q c o (runs o) (mild-runs o)
 
 -- Every step in a tree.
 mutual
   unfolding bare
 
-  outs : {p : Plan} {x : Place} {a : Act} {k : ℕ} → Sits p x a k → (t : ℕ) (q : Place) (o : Order) → placeOf p t ≡ placeIn a k t q
-      → Out p t (bare a) q k o (stepIn a k t o)
-  outs {p} (sits-part {own = own} {within = within} {k = k} s g v y l) t q o e = part-out p t q own within k o s (y .noScope) e (λ o₁ d. outs-in l t q o₁ d)
-  outs {p} (sits-scope {b = b} {f = f} {u = u} {k = k} kn v i sb z sf su) t q o e =
-      scope-out p t q b f u k o (kn .name) (remedy-bare sf) (remedy-bare su) e
-      (λ d. outs sb t (bodyOf (inner k) (nameOf q)) o d) (λ d. outs-remedy sf t (faultOf (inner k) (nameOf q)) o d) (λ d. outs-remedy su t (undoOf (nameOf q) (aroundOf q)) o d)
+  outs : (actor : Actor) {p : Plan} {x : Place} {a : Act} {k : ℕ} → Sits p x a k → (t : ℕ) (q : Place) (o : Order) → placeOf p t ≡ placeIn a k t q
+      → Out p t (bare a) q k o (stepIn actor a k t o)
+  outs actor {p} (sits-part {own = own} {within = within} {k = k} s g v y l) t q o e = part-out actor p t q own within k o s (y .noScope) e (λ o₁ d. outs-in actor l t q o₁ d)
+  outs actor {p} (sits-scope {b = b} {f = f} {u = u} {k = k} kn v i sb z sf su) t q o e =
+      scope-out p t q b f u k o actor (kn .name) (remedy-bare sf) (remedy-bare su) e
+      (λ d. outs actor sb t (bodyOf (inner k) (nameOf q)) o d) (λ d. outs-remedy actor sf t (faultOf (inner k) (nameOf q)) o d) (λ d. outs-remedy actor su t (undoOf (nameOf q) (aroundOf q)) o d)
 
-  outs-in : {p : Plan} {x : Place} {l : Acts} {c : ℕ} → SitsIn p x l c → (t : ℕ) (q : Place) (o : Order) → placeOf p t ≡ placeAmong l c t q
-      → Out p t (bareIn l) q c o (stepAmong l c t o)
-  outs-in {p} (sits-none {c = c}) t q o e = nothing-out p t q c o
-  outs-in {p} (sits-more {a = a} {l = l} {c = c} s y) t q o e = among-out p t q a l c o e (λ d. outs s t q o d) (λ d. outs-in y t q o d)
+  outs-in : (actor : Actor) {p : Plan} {x : Place} {l : Acts} {c : ℕ} → SitsIn p x l c → (t : ℕ) (q : Place) (o : Order) → placeOf p t ≡ placeAmong l c t q
+      → Out p t (bareIn l) q c o (stepAmong actor l c t o)
+  outs-in actor {p} (sits-none {c = c}) t q o e = nothing-out actor p t q c o
+  outs-in actor {p} (sits-more {a = a} {l = l} {c = c} s y) t q o e = among-out actor p t q a l c o e (λ d. outs actor s t q o d) (λ d. outs-in actor y t q o d)
 
-  outs-remedy : {p : Plan} {x : Place} {a : Act} {k : ℕ} → Remedy p x a k → (t : ℕ) (q : Place) (o : Order) → placeOf p t ≡ placeIn a k t q
-      → Out p t (bare a) q k o (stepIn a k t o)
-  outs-remedy {p} (remedy {own = own} {within = within} {k = k} s a g v z l d) t q o e = part-out p t q own within k o s z e (λ o₁ v. outs-in l t q o₁ v)
+  outs-remedy : (actor : Actor) {p : Plan} {x : Place} {a : Act} {k : ℕ} → Remedy p x a k → (t : ℕ) (q : Place) (o : Order) → placeOf p t ≡ placeIn a k t q
+      → Out p t (bare a) q k o (stepIn actor a k t o)
+  outs-remedy actor {p} (remedy {own = own} {within = within} {k = k} s a g v z l d) t q o e = part-out actor p t q own within k o s z e (λ o₁ v. outs-in actor l t q o₁ v)
 
 -- From the root.
-root-out : (p : Plan) → Seat p (rootOf p) → (t : ℕ) (o : Order) → ScopeOut p t (rootOf p) root o (stepRoot p t o)
+root-out : (actor : Actor) (p : Plan) → Seat p (rootOf p) → (t : ℕ) (o : Order) → ScopeOut p t (rootOf p) root o (stepRoot actor p t o)
 unfolding stepRoot placeOf
-root-out p h t o =
+root-out actor p h t o =
     decide (ltb t (size (p .body)))
-    (λ e. rw (e, stepRoot) (body-out p t (rootOf p) root o w (bare (p .body)) (stepIn (p .body) 0 t o) (outs (h .body) t (bodyOf root root) o (rw (e, placeOf) refl))))
-    (λ e. rw (e, stepRoot) (fault-out p t (rootOf p) root o w (stepIn (p .fault) (size (p .body)) t o) (omega arith)
-    (subst (λ (z : Bool). Out p t z (faultOf root root) (size (p .body)) o (stepIn (p .fault) (size (p .body)) t o)) (remedy-bare (h .fault))
-    (outs-remedy (h .fault) t (faultOf root root) o (rw (e, placeOf) refl)))))
+    (λ e. rw (e, stepRoot) (body-out p t (rootOf p) root o w (bare (p .body)) (stepIn actor (p .body) 0 t o) (outs actor (h .body) t (bodyOf root root) o (rw (e, placeOf) refl))))
+    (λ e. rw (e, stepRoot) (fault-out p t (rootOf p) root o w (stepIn actor (p .fault) (size (p .body)) t o) (omega arith)
+    (subst (λ (z : Bool). Out p t z (faultOf root root) (size (p .body)) o (stepIn actor (p .fault) (size (p .body)) t o)) (remedy-bare (h .fault))
+    (outs-remedy actor (h .fault) t (faultOf root root) o (rw (e, placeOf) refl)))))
   where
     w : Scoped p (rootOf p)
     w = record { before = tt; name = refl }
@@ -678,12 +688,12 @@ pub data OrderShape (p : Plan) (t : ℕ) (o : Order) : End → List Event → Ty
   shaped : {e : End} {l : List Event} → isFailed e ≡ false → Shape p t o l → OrderShape p t o e l
   out : Handler p t root root → isOpen (markOf root o) ≡ false → OrderShape p t o Failed (raised t ∷ ended root ∷ [])
 
-pub order-shape : (p : Plan) → Seat p (rootOf p) → (t : ℕ) (o : Order) → OrderShape p t o (stepOrder p t o .end) (stepOrder p t o .log)
-unfolding stepOrder endOf movedTo only isGrave
-order-shape p h t o = go (r .log) (r .order) (r .result) (root-out p h t o .comes)
+pub order-shape : (actor : Actor) (p : Plan) → Seat p (rootOf p) → (t : ℕ) (o : Order) → OrderShape p t o (acted actor p t o .end) (acted actor p t o .log)
+unfolding acted endOf movedTo only isGrave
+order-shape actor p h t o = go (r .log) (r .order) (r .result) (root-out actor p h t o .comes)
   where
     r : Outcome
-    r = stepRoot p t o
+    r = stepRoot actor p t o
 
     well : (l : List Event) (o′ : Order) (b : Bool) → Shape p t o l
         → OrderShape p t o (movedTo (record { result = running; order = o′; log = l }) (cond b Well None) .end) (movedTo (record { result = running; order = o′; log = l }) (cond b Well None) .log)

@@ -21,7 +21,9 @@ use Rattle.machine.specs.Limits.{exchanged, rootInLimits, orderInLimits, inLimi
 use Rattle.order.specs.Event.{Event, started}
 use Rattle.order.specs.Begin.{begin}
 use Rattle.order.specs.Scope.{rootOf}
-use Rattle.order.specs.Acting.{allBound, Moved, stepOrder, begunOrder, startedOrder}
+use Rattle.order.specs.Acting.{allBound, Actor, itsOwn, Moved, acted, begunOrder, startedOrder}
+use Rattle.order.specs.Judging.{following, spare, settled, stepOrder}
+use Rattle.order.specs.declared.End.the-variants.{None}
 use Rattle.machine.specs.Fit.{Doing, noStep, sends, takes, moves, cuts, closes}
 use Rattle.order.specs.Taking.{bindAll}
 use Rattle.machine.specs.Calls.{postBy, post, partnersOf, foreign, handing, collectBy, collect, dropAt, messagesAfter, orderTaking}
@@ -36,6 +38,7 @@ use Rattle.undoing.proofs.Waiting.{quiet-waits}
 use Rattle.undoing.proofs.Scoping.{scope-live, scope-done, scope-turned, Running}
 use Rattle.undoing.proofs.Roots.{Awaited, in-body, in-fault, Standing, Passed, passes-on, passes-end, ended-now, order-steps}
 use Rattle.undoing.proofs.Planning.{Promised}
+use Rattle.undoing.proofs.Judged.{Fitting, passed-joined, passed-once, judged-so}
 
 -- a slot: it is free and its history is that of orders that are over; or its order stands, tied to its history
 pub data Slot (p : Plan) (o : Order) (past : List Event) : Type 0 where
@@ -63,7 +66,7 @@ pub record Alike (p : Plan) (o o′ : Order) : Type 0 where
   pub everywhere : Everywhere p (momentOf p o) (momentOf p o′)
 
 -- an order and itself
-alike-itself : (p : Plan) (o : Order) → Alike p o o
+pub alike-itself : (p : Plan) (o : Order) → Alike p o o
 alike-itself p o = record { marks = refl; root = refl; everywhere = λ s i. (refl, refl) }
 
 -- binding some variables
@@ -88,25 +91,39 @@ taking-alike p moves m o = alike-itself p o
 taking-alike p cuts m o = alike-itself p o
 taking-alike p (closes s) m o = alike-itself p o
 
--- a root within its limits is neither stopped nor withdrawing
-pub root-mild : (m : ℕ) → rootInLimits m ≡ true → (m ≡ halted → ⊥) × (m ≡ withdrawing → ⊥)
-unfolding rootInLimits among
-root-mild m e = ((λ d. false≢true (rw d at e)), (λ d. false≢true (rw d at e)))
+-- So what awaits its step still does, the order stands, and is tied to its history.
+pub alike-awaited : {p : Plan} {o o′ : Order} → Alike p o o′ → (t : ℕ) → Awaited p (o .marks) t → Awaited p (o′ .marks) t
+alike-awaited {p} e t w = subst (λ (ms : List ℕ). Awaited p ms t) (sym (e .marks)) w
+
+pub alike-stands : (p : Plan) (o o′ : Order) → Alike p o o′ → Standing p o → Standing p o′
+alike-stands p o o′ e st =
+    record {
+      many = subst (λ (ms : List ℕ). size (p .body) + size (p .fault) ≤ length ms) (sym (e .marks)) (st .many);
+      runs = subst (λ (ms : List ℕ). Running (rootOf p) ms (o′ .root)) (sym (e .marks)) (subst (λ (x : ℕ). Running (rootOf p) (o .marks) x) (sym (e .root)) (st .runs));
+      going = λ d. st .going (sym (e .root) ∙ d);
+    }
+
+pub alike-holds : {p : Plan} {o o′ : Order} → Alike p o o′ → (past : List Event) → HoldsAt p (momentOf p o) past → HoldsAt p (momentOf p o′) past
+unfolding fairAfter
+alike-holds e past g = does-nothing (e .everywhere) .does past g .1
 
 module _ (p : Plan) (h : Promised p) where
+  -- what holds of each walk of a step, of an order that stands and has taken its message
+  pub taken-so : (Q : List Event → Moved → Type 0)
+      → ((actor : Actor) (t : ℕ) (o : Order) (past : List Event) → Fitting actor p t → Awaited p (o .marks) t → Standing p o → HoldsAt p (momentOf p o) past → Q past (acted actor p t o))
+      → ((past : List Event) (m m′ : Moved) → m .end ≡ None → Q past m → Q (onto (m .log) past) m′ → Q past (following (m .log) m′))
+      → (t : ℕ) (o o′ : Order) (past : List Event) → Alike p o o′ → Awaited p (o .marks) t → Standing p o → HoldsAt p (momentOf p o) past → Q past (stepOrder p t o′)
+  unfolding stepOrder settled
+  taken-so Q once joined t o o′ past e w st g =
+      let w′ = alike-awaited e t w in
+      let st′ = alike-stands p o o′ e st in
+      let g′ = alike-holds e past g in
+      judged-so p h Q once joined (spare p (acted itsOwn p t o′ .order)) past (acted itsOwn p t o′) (passed-once p h itsOwn t o′ past w′ st′ g′) (once itsOwn t o′ past tt w′ st′ g′)
+
   -- a step of an order that stands and has taken its message
-  pub taken-step : (t : ℕ) (o o′ : Order) (past : List Event) → Alike p o o′ → Awaited p (o .marks) t → Standing p o → rootInLimits (o .root) ≡ true
+  pub taken-step : (t : ℕ) (o o′ : Order) (past : List Event) → Alike p o o′ → Awaited p (o .marks) t → Standing p o
       → HoldsAt p (momentOf p o) past → Passed p past (stepOrder p t o′)
-  unfolding fairAfter
-  taken-step t o o′ past e w st l g =
-      let m = root-mild (o .root) l in
-      order-steps p (h .distinct) (h .seat) t o′ past (subst (λ (ms : List ℕ). Awaited p ms t) (sym (e .marks)) w)
-      (record {
-        many = subst (λ (ms : List ℕ). size (p .body) + size (p .fault) ≤ length ms) (sym (e .marks)) (st .many);
-        runs = subst (λ (ms : List ℕ). Running (rootOf p) ms (o′ .root)) (sym (e .marks)) (subst (λ (x : ℕ). Running (rootOf p) (o .marks) x) (sym (e .root)) (st .runs));
-        going = λ d. st .going (sym (e .root) ∙ d);
-      })
-      (λ d. m .0 (sym (e .root) ∙ d)) (λ d. m .1 (sym (e .root) ∙ d)) (does-nothing (e .everywhere) .does past g .1)
+  taken-step t o o′ past e w st g = taken-so (Passed p) (λ actor t o past y. passed-once p h actor t o past) (passed-joined p) t o o′ past e w st g
 
   -- what stands in a slot after that
   pub passed-slot : (past : List Event) (m : Moved) → Passed p past m → (fairAfter p past (m .log) ≡ true) × Slot p (m .order) (onto (m .log) past)

@@ -2,7 +2,7 @@
 use Prim.Native.Nat.{ℕ, _+_, _≤_, _<_}
 use native.Mathlib.Omega.{arith}
 use mathlib.Core.Path.{_≡_, refl, sym, ap, subst, _∙_}
-use mathlib.Core.Bool.{Bool, true, false, _&&_, false≢true, or-true}
+use mathlib.Core.Bool.{Bool, true, false, _&&_, false≢true, or-true, _||_}
 use mathlib.Core.List.{List, [], _∷_, _++_, reverse, reverse-append, append-nil}
 use lib.ListN.{length, getD, length-set}
 use lib.Seq.{getD-set-same, getD-set-other}
@@ -18,7 +18,7 @@ use Rattle.order.specs.Begin.{part, partAt, beginPart}
 use Rattle.order.specs.declared.Way.{Way as Result}
 use Rattle.order.specs.declared.Way.the-variants.{Running as running, Over as over, Raising as raising, Leaving as leaving, Undone as undone, UndoRaising as undoRaising}
 use Rattle.order.specs.Scope.{Outcome, runs, begunIn, Scope, scopeAt, isScope, forgetting, closing, innerRuns, innerRunsIn, fromBody, fromFault, fromUndo}
-use Rattle.order.specs.Acting.{itself, inScope, combines, arms, isPart, stepIn, stepAmong}
+use Rattle.order.specs.Acting.{raises, itself, Actor, itsOwn, inPlace, replaces, performs, inScope, combines, arms, isPart, stepIn, stepAmong}
 use Rattle.machine.specs.Fit.{awaits}
 use Rattle.undoing.specs.Demand3.{Inner, insideOf, isUndoRaise}
 use Rattle.undoing.specs.Ties.{isName, Place, bodyOf, undoOf, nameOf, aroundOf}
@@ -34,21 +34,21 @@ use Rattle.undoing.proofs.Stopping.{seat-of}
 use Rattle.undoing.proofs.Waiting.{opens, Waits, waits-itself, waits-within, WaitsIn, waits-first, waits-later, idle-awaits, opens-idle, quiet-waits, quiet-waits-in, stopped-waits, undoing-waits}
 use Rattle.undoing.proofs.Breaking.{Distinct, forgotten-list, forgotten-other}
 use Rattle.undoing.proofs.Scoping.{Acted, RunAs, StopAs, ScopesRest, UndoAs, scope-live, scope-done, scope-turned, Turning, Running, StepsAs, Steps, Reach, from-live, from-stopped, from-undoing, from-heals}
-use Rattle.undoing.proofs.Goings.{begins-at, acts-itself, acts-runs}
+use Rattle.undoing.proofs.Goings.{begins-at, acts-raises, acts-itself, acts-runs}
 use Rattle.undoing.proofs.Combining.{OneAs, AllAs, run-before, combines-one, combines-all, arms-holding, arms-held, arms-none, Idly, idly-same, idly-runs, combines-idly}
 
 -- the definitions, by where the step is
-step-is : (own : Own) (within : Acts) (k t : ℕ) (o : Order) (b : Bool) → eqb k t ≡ b
-    → stepIn (act own within) k t o ≡ elim b [ true ↦ itself own within k o | false ↦ combines own within k t (stepAmong within (k + 1) t (arms own within k t o)) ]
+step-is : (actor : Actor) (own : Own) (within : Acts) (k t : ℕ) (o : Order) (b : Bool) → eqb k t ≡ b
+    → stepIn actor (act own within) k t o ≡ elim b [ true ↦ performs actor own within k o | false ↦ combines own within k t (stepAmong actor within (k + 1) t (arms own within k t o)) ]
 unfolding stepIn
-step-is own within k t o b e =
-    subst (λ (z : Bool). stepIn (act own within) k t o ≡ elim z [ true ↦ itself own within k o | false ↦ combines own within k t (stepAmong within (k + 1) t (arms own within k t o)) ]) e refl
+step-is actor own within k t o b e =
+    subst (λ (z : Bool). stepIn actor (act own within) k t o ≡ elim z [ true ↦ performs actor own within k o | false ↦ combines own within k t (stepAmong actor within (k + 1) t (arms own within k t o)) ]) e refl
 
 -- in a list
-among-is : (a : Act) (l : Acts) (c t : ℕ) (o : Order) (b : Bool) → ltb t (c + size a) ≡ b
-    → stepAmong (more a l) c t o ≡ elim b [ true ↦ stepIn a c t o | false ↦ stepAmong l (c + size a) t o ]
+among-is : (actor : Actor) (a : Act) (l : Acts) (c t : ℕ) (o : Order) (b : Bool) → ltb t (c + size a) ≡ b
+    → stepAmong actor (more a l) c t o ≡ elim b [ true ↦ stepIn actor a c t o | false ↦ stepAmong actor l (c + size a) t o ]
 unfolding stepIn
-among-is a l c t o b e = subst (λ (z : Bool). stepAmong (more a l) c t o ≡ elim z [ true ↦ stepIn a c t o | false ↦ stepAmong l (c + size a) t o ]) e refl
+among-is actor a l c t o b e = subst (λ (z : Bool). stepAmong actor (more a l) c t o ≡ elim z [ true ↦ stepIn actor a c t o | false ↦ stepAmong actor l (c + size a) t o ]) e refl
 
 -- an arm of an activity that has arms is taken
 taken-arms : (own : Own) (within : Acts) (k t : ℕ) (o : Order) → eqb (kind own) 10 ≡ true → isPart within (k + 1) t ≡ true
@@ -56,7 +56,27 @@ taken-arms : (own : Own) (within : Acts) (k t : ℕ) (o : Order) → eqb (kind o
 unfolding arms
 taken-arms own within k t o x y = rw (x, y)
 
-module _ (p : Plan) (distinct : Distinct p) where
+-- A raise stands only in the place of a receive or an arm: any other acts itself.
+pub plain-performs : (actor : Actor) (own : Own) (within : Acts) (k : ℕ) (o : Order) → (eqb (kind own) 2 || eqb (kind own) 12) ≡ false
+    → performs actor own within k o ≡ itself own within k o
+unfolding performs replaces
+plain-performs itsOwn own within k o e = refl
+plain-performs inPlace own within k o e =
+    subst (λ (b : Bool). elim b [ true ↦ raises k o | false ↦ itself own within k o ] ≡ itself own within k o) (sym e) refl
+
+module _ (p : Plan) (distinct : Distinct p) (actor : Actor) where
+  -- what acts, by what the activity itself does: where a raise stands in its place, that raises
+  acts-performs : {x : Place} (own : Own) (within : Acts) (k : ℕ) (o : Order) → Spot p x k → Fit x o → isScope own ≡ false → isName p (inner k) ≡ false
+      → Quiet (o .marks) (k + 1) (sizes within)
+      → Acted k (1 + sizes within) o (RunAs p (act own within) k k o) (itself own within k o)
+      → Acted k (1 + sizes within) o (RunAs p (act own within) k k o) (performs actor own within k o)
+  unfolding performs
+  acts-performs own within k o u f s z q w = go (replaces actor (kind own))
+    where
+      go : (b : Bool) → Acted k (1 + sizes within) o (RunAs p (act own within) k k o) (elim b [ true ↦ raises k o | false ↦ itself own within k o ])
+      go true = acts-raises p own within k o u f s z q
+      go false = w
+
   -- Closing.
 
   -- the list of a scope that is not around the closed one
@@ -234,15 +254,17 @@ module _ (p : Plan) (distinct : Distinct p) where
   -- where all is quiet, what has its step is an open arm
   arm-steps : {x : Place} {a : Act} {k : ℕ} {ms : List ℕ} {b : Bool} → Sits p x a k → (t : ℕ) (o : Order) → Waits ms a k t b → Quiet ms k (size a)
       → Quiet (o .marks) k (size a)
-      → k + size a ≤ length (o .marks) → Fit x o → (Acted k (size a) o (RunAs p a k t o) (stepIn a k t o)) × (k ≡ t) × (b ≡ true)
+      → k + size a ≤ length (o .marks) → Fit x o → (Acted k (size a) o (RunAs p a k t o) (stepIn actor a k t o)) × (k ≡ t) × (b ≡ true)
   unfolding size kind
   arm-steps {ms = ms} (sits-part {q = x} {own} {within} {k} s g v y l) t o (waits-itself {b = b} e d) q q₁ m f =
       let i = idle-awaits own b (rw (q .at k (omega arith) (omega arith)) at d) in
       let j = arm-itself own within k o (i .0) in (
-        subst (λ (r : Outcome). Acted k (1 + sizes within) o (RunAs p (act own within) k t o) r)
-            (sym (step-is own within k t o true (eq-eqb k t e) ∙ j .0))
-            (arm-begun own within k t o _ _ _ s (j .1) (q₁ .at k (omega arith) (omega arith))
-            (begins-at p l 0 (omega (arith, j .2)) o (quiet-part q₁ (omega arith) (omega arith)) (omega arith) f)),
+        subst (λ (r : Outcome). Acted k (1 + sizes within) o (RunAs p (act own within) k t o) r) (sym (step-is actor own within k t o true (eq-eqb k t e)))
+            (subst (λ (n : ℕ). Acted k (1 + sizes within) o (RunAs p (act own within) k n o) (performs actor own within k o)) e
+            (acts-performs own within k o v f s (y .noScope) (quiet-part q₁ (omega arith) (omega arith))
+            (subst (λ (r : Outcome). Acted k (1 + sizes within) o (RunAs p (act own within) k k o) r) (sym (j .0))
+            (arm-begun own within k k o _ _ _ s (j .1) (q₁ .at k (omega arith) (omega arith))
+            (begins-at p l 0 (omega (arith, j .2)) o (quiet-part q₁ (omega arith) (omega arith)) (omega arith) f))))),
         e,
         i .1,
       )
@@ -256,25 +278,25 @@ module _ (p : Plan) (distinct : Distinct p) where
   -- in a list
   arms-steps : {x : Place} {l : Acts} {c : ℕ} {ms : List ℕ} {b : Bool} → SitsIn p x l c → (t : ℕ) (o : Order) → WaitsIn ms l c t b
       → Quiet ms c (sizes l) → Quiet (o .marks) c (sizes l)
-      → c + sizes l ≤ length (o .marks) → Fit x o → (Acted c (sizes l) o (OneAs p l c t o) (stepAmong l c t o)) × (isPart l c t ≡ true) × (b ≡ true)
+      → c + sizes l ≤ length (o .marks) → Fit x o → (Acted c (sizes l) o (OneAs p l c t o) (stepAmong actor l c t o)) × (isPart l c t ≡ true) × (b ≡ true)
   unfolding size isPart
   arms-steps (sits-more {q = x} {a} {l} {c} s y) t o (waits-first h w) q q₁ m f =
       let r = arm-steps s t o w (quiet-part q (omega arith) (omega arith)) (quiet-part q₁ (omega arith) (omega arith)) (omega arith) f in (
-        subst (λ (z : Outcome). Acted c (size a + sizes l) o (OneAs p (more a l) c t o) z) (sym (among-is a l c t o true (lt-ltb t (c + size a) h)))
-            (first-one a l c t o (stepIn a c t o) (r .0) (quiet-part q₁ (omega arith) (omega arith))),
+        subst (λ (z : Outcome). Acted c (size a + sizes l) o (OneAs p (more a l) c t o) z) (sym (among-is actor a l c t o true (lt-ltb t (c + size a) h)))
+            (first-one a l c t o (stepIn actor a c t o) (r .0) (quiet-part q₁ (omega arith) (omega arith))),
         rw (eq-eqb c t (r .1)),
         r .2,
       )
   arms-steps (sits-more {q = x} {a} {l} {c} s y) t o (waits-later h w) q q₁ m f =
       let r = arms-steps y t o w (quiet-part q (omega arith) (omega arith)) (quiet-part q₁ (omega arith) (omega arith)) (omega arith) f in (
-        subst (λ (z : Outcome). Acted c (size a + sizes l) o (OneAs p (more a l) c t o) z) (sym (among-is a l c t o false (le-ltb t (c + size a) h)))
-            (later-one a l c t o (stepAmong l (c + size a) t o) (r .0) (quiet-part q₁ (omega arith) (omega arith))),
+        subst (λ (z : Outcome). Acted c (size a + sizes l) o (OneAs p (more a l) c t o) z) (sym (among-is actor a l c t o false (le-ltb t (c + size a) h)))
+            (later-one a l c t o (stepAmong actor l (c + size a) t o) (r .0) (quiet-part q₁ (omega arith) (omega arith))),
         rw (r .1, or-true),
         r .2,
       )
 
   -- what has one running in it has no step of its own, but a sequence or a flow that stays as it is
-  held-itself : (own : Own) (within : Acts) (k : ℕ) (o : Order) → isScope own ≡ false → awaits own false (holding own) ≡ true → itself own within k o ≡ runs o
+  held-itself : (own : Own) (within : Acts) (k : ℕ) (o : Order) → isScope own ≡ false → awaits own false (holding own) ≡ true → performs actor own within k o ≡ runs o
   unfolding itself kind awaits
   held-itself empty within k o s e = absurd (false≢true e)
   held-itself (send x y vs) within k o s e = absurd (false≢true e)
@@ -284,8 +306,8 @@ module _ (p : Plan) (distinct : Distinct p) where
   held-itself leave within k o s e = absurd (false≢true e)
   held-itself (choose x) within k o s e = absurd (false≢true e)
   held-itself (repeat x) within k o s e = absurd (false≢true e)
-  held-itself sequence within k o s e = refl
-  held-itself flow within k o s e = refl
+  held-itself sequence within k o s e = plain-performs actor sequence within k o refl
+  held-itself flow within k o s e = plain-performs actor flow within k o refl
   held-itself pick within k o s e = absurd (false≢true e)
   held-itself scope within k o s e = absurd (false≢true e)
   held-itself (arm x y vs) within k o s e = absurd (false≢true e)
@@ -302,31 +324,31 @@ module _ (p : Plan) (distinct : Distinct p) where
     Here r = Acted k (1 + sizes within) o (RunAs p (act own within) k t o) r
 
     -- the step is its own
-    part-itself : k ≡ t → Acted k (1 + sizes within) o (RunAs p (act own within) k k o) (itself own within k o) → Here (stepIn (act own within) k t o)
+    part-itself : k ≡ t → Acted k (1 + sizes within) o (RunAs p (act own within) k k o) (performs actor own within k o) → Here (stepIn actor (act own within) k t o)
     unfolding Here
     part-itself e w =
-        subst (λ (r : Outcome). Acted k (1 + sizes within) o (RunAs p (act own within) k t o) r) (sym (step-is own within k t o true (eq-eqb k t e)))
-        (subst (λ (x : ℕ). Acted k (1 + sizes within) o (RunAs p (act own within) k x o) (itself own within k o)) e w)
+        subst (λ (r : Outcome). Acted k (1 + sizes within) o (RunAs p (act own within) k t o) r) (sym (step-is actor own within k t o true (eq-eqb k t e)))
+        (subst (λ (x : ℕ). Acted k (1 + sizes within) o (RunAs p (act own within) k x o) (performs actor own within k o)) e w)
 
     -- the step is within it
-    part-within : k < t → (o₁ : Order) → arms own within k t o ≡ o₁ → Here (combines own within k t (stepAmong within (k + 1) t o₁))
-        → Here (stepIn (act own within) k t o)
+    part-within : k < t → (o₁ : Order) → arms own within k t o ≡ o₁ → Here (combines own within k t (stepAmong actor within (k + 1) t o₁))
+        → Here (stepIn actor (act own within) k t o)
     unfolding Here
     part-within h o₁ e w =
         subst (λ (r : Outcome). Acted k (1 + sizes within) o (RunAs p (act own within) k t o) r)
-        (sym (step-is own within k t o false (ne-eqb k t (omega arith)) ∙ ap (λ (x : Order). combines own within k t (stepAmong within (k + 1) t x)) e)) w
+        (sym (step-is actor own within k t o false (ne-eqb k t (omega arith)) ∙ ap (λ (x : Order). combines own within k t (stepAmong actor within (k + 1) t x)) e)) w
 
     -- an open pick: one of its arms is taken
     part-pick : {b : Bool} → k < t → getD (o .marks) k 0 ≡ active → Quiet (o .marks) (k + 1) (sizes within) → WaitsIn (o .marks) within (k + 1) t b
         → (b ≡ true → eqb (kind own) 10 ≡ true)
-        → Here (stepIn (act own within) k t o)
+        → Here (stepIn actor (act own within) k t o)
     unfolding Here
     part-pick h e q w f =
         let o₁ = marked k inside o in
         let r = arms-steps l t o₁ w q (quiet-set inside q (omega arith)) (omega (arith, length-set (o .marks) k inside)) (fit-marked x k inside o (u .before) i) in
         part-within h o₁ (taken-arm (f (r .2)) (r .1))
         (run-before (kept-set k (1 + sizes within) k inside (o .marks) (omega arith) (omega arith)) refl (plain-marked p k inside o z)
-        (combines-one p own within k t o₁ (stepAmong within (k + 1) t o₁) s z (u .before) (fit-marked x k inside o (u .before) i) l
+        (combines-one p own within k t o₁ (stepAmong actor within (k + 1) t o₁) s z (u .before) (fit-marked x k inside o (u .before) i) l
         (getD-set-same (o .marks) k inside 0 (omega arith) ∙ sym (arms-holding own (f (r .2)))) (omega (arith, length-set (o .marks) k inside)) (r .0)))
       where
         taken-arm : eqb (kind own) 10 ≡ true → isPart within (k + 1) t ≡ true → arms own within k t o ≡ marked k inside o
@@ -334,9 +356,9 @@ module _ (p : Plan) (distinct : Distinct p) where
 
     -- one runs within it
     part-one : k < t → getD (o .marks) k 0 ≡ holding own
-        → Acted (k + 1) (sizes within) o (OneAs p within (k + 1) t o) (stepAmong within (k + 1) t o) → Here (stepIn (act own within) k t o)
+        → Acted (k + 1) (sizes within) o (OneAs p within (k + 1) t o) (stepAmong actor within (k + 1) t o) → Here (stepIn actor (act own within) k t o)
     unfolding Here
-    part-one h e w = part-within h o (arms-held own within k t o e) (combines-one p own within k t o (stepAmong within (k + 1) t o) s z (u .before) i l e m w)
+    part-one h e w = part-within h o (arms-held own within k t o e) (combines-one p own within k t o (stepAmong actor within (k + 1) t o) s z (u .before) i l e m w)
 
   -- what has one running in it has no open arms
   pub opens-held : (own : Own) (m : ℕ) → m ≡ holding own → opens own m ≡ false
@@ -347,17 +369,18 @@ module _ (p : Plan) (distinct : Distinct p) where
   part-steps : {x : Place} (own : Own) (within : Acts) (k t : ℕ) (o : Order) (b : Bool) → isScope own ≡ false → least own ≤ count within → isName p (inner k) ≡ false
       → Spot p x k → Fit x o → SitsIn p x within (k + 1) → k + (1 + sizes within) ≤ length (o .marks) → Waits (o .marks) (act own within) k t b → b ≡ false
       → Run (o .marks) (act own within) k
-      → ((c : Bool) → WaitsIn (o .marks) within (k + 1) t c → c ≡ false → One (o .marks) within (k + 1) → Acted (k + 1) (sizes within) o (OneAs p within (k + 1) t o) (stepAmong within (k + 1) t o))
-      → ((c : Bool) → WaitsIn (o .marks) within (k + 1) t c → c ≡ false → All (o .marks) within (k + 1) → Acted (k + 1) (sizes within) o (AllAs p within (k + 1) t o) (stepAmong within (k + 1) t o))
-      → Acted k (1 + sizes within) o (RunAs p (act own within) k t o) (stepIn (act own within) k t o)
+      → ((c : Bool) → WaitsIn (o .marks) within (k + 1) t c → c ≡ false → One (o .marks) within (k + 1) → Acted (k + 1) (sizes within) o (OneAs p within (k + 1) t o) (stepAmong actor within (k + 1) t o))
+      → ((c : Bool) → WaitsIn (o .marks) within (k + 1) t c → c ≡ false → All (o .marks) within (k + 1) → Acted (k + 1) (sizes within) o (AllAs p within (k + 1) t o) (stepAmong actor within (k + 1) t o))
+      → Acted k (1 + sizes within) o (RunAs p (act own within) k t o) (stepIn actor (act own within) k t o)
   unfolding kind Here itself awaits
   part-steps own within k t o b s g z u v l m (waits-itself e d) f (run-awaits s₁ y x q) i j =
-      part-itself own within k t o s g z u v l m e (acts-itself p own within k o s (not-arm own b (getD (o .marks) k 0) f d) y g z u v l x q m)
+      part-itself own within k t o s g z u v l m e (acts-performs own within k o u v s z q (acts-itself p own within k o s (not-arm own b (getD (o .marks) k 0) f d) y g z u v l x q m))
   part-steps own within k t o b s g z u v l m (waits-itself e d) f (run-one s₁ x r) i j =
       part-itself own within k t o s g z u v l m e
       (subst (λ (y : Outcome). Acted k (1 + sizes within) o (RunAs p (act own within) k k o) y) (sym (held-itself own within k o s (rw (x, f) at d))) (acts-runs p (act own within) k _ k o (run-one s₁ x r)))
   part-steps flow within k t o b s g z u v l m (waits-itself e d) f (run-all x r a) i j =
-      part-itself flow within k t o s g z u v l m e (acts-runs p (act flow within) k _ k o (run-all x r a))
+      part-itself flow within k t o s g z u v l m e
+      (subst (λ (y : Outcome). Acted k (1 + sizes within) o (RunAs p (act flow within) k k o) y) (sym (plain-performs actor flow within k o refl)) (acts-runs p (act flow within) k _ k o (run-all x r a)))
   part-steps own within k t o b s g z u v l m (waits-itself e d) f (run-body x r q) i j = absurd (false≢true (sym s))
   part-steps own within k t o b s g z u v l m (waits-itself e d) f (run-done x q) i j = absurd (false≢true (sym s))
   part-steps own within k t o b s g z u v l m (waits-itself e d) f (run-turned x q) i j = absurd (false≢true (sym s))
@@ -367,7 +390,7 @@ module _ (p : Plan) (distinct : Distinct p) where
       part-one own within k t o s g z u v l m h x (i (opens own (getD (o .marks) k 0)) w (opens-held own (getD (o .marks) k 0) x) r)
   part-steps flow within k t o b s g z u v l m (waits-within h w) f (run-all x r a) i j =
       part-within flow within k t o s g z u v l m h o (arms-held flow within k t o x)
-      (combines-all p within k t o (stepAmong within (k + 1) t o) z x m (j (opens flow (getD (o .marks) k 0)) w refl r))
+      (combines-all p within k t o (stepAmong actor within (k + 1) t o) z x m (j (opens flow (getD (o .marks) k 0)) w refl r))
   part-steps own within k t o b s g z u v l m (waits-within h w) f (run-body x r q) i j = absurd (false≢true (sym s))
   part-steps own within k t o b s g z u v l m (waits-within h w) f (run-done x q) i j = absurd (false≢true (sym s))
   part-steps own within k t o b s g z u v l m (waits-within h w) f (run-turned x q) i j = absurd (false≢true (sym s))
@@ -397,31 +420,31 @@ module _ (p : Plan) (distinct : Distinct p) where
         ≡ elim z [ true ↦ fromBody Its r | false ↦ elim (ltb t (k + 1 + size b + size f)) [ true ↦ fromFault Its r | false ↦ fromUndo r ] ]) e refl)
 
     -- a step within it
-    scope-step : (t : ℕ) (o : Order) → k < t → stepIn Whole k t o ≡ inScope k t (trio b f u) (stepAmong (trio b f u) (k + 1) t o)
+    scope-step : (t : ℕ) (o : Order) → k < t → stepIn actor Whole k t o ≡ inScope k t (trio b f u) (stepAmong actor (trio b f u) (k + 1) t o)
     unfolding combines arms kind Whole
-    scope-step t o h = step-is scope (trio b f u) k t o false (ne-eqb k t (omega arith))
+    scope-step t o h = step-is actor scope (trio b f u) k t o false (ne-eqb k t (omega arith))
 
     -- in its body
-    pub body-step : (t : ℕ) (o : Order) → k < t → t < k + 1 + size b → stepIn Whole k t o ≡ fromBody Its (stepIn b (k + 1) t o)
+    pub body-step : (t : ℕ) (o : Order) → k < t → t < k + 1 + size b → stepIn actor Whole k t o ≡ fromBody Its (stepIn actor b (k + 1) t o)
     body-step t o h e =
         scope-step t o h ∙ (in-is t _ true (ltb t (k + 1 + size b + size f)) (lt-ltb t (k + 1 + size b) e) refl
-        ∙ ap (fromBody Its) (among-is b (more f (more u none)) (k + 1) t o true (lt-ltb t (k + 1 + size b) e)))
+        ∙ ap (fromBody Its) (among-is actor b (more f (more u none)) (k + 1) t o true (lt-ltb t (k + 1 + size b) e)))
 
     -- in its fault part
-    pub fault-step : (t : ℕ) (o : Order) → k + 1 + size b ≤ t → t < k + 1 + size b + size f → stepIn Whole k t o ≡ fromFault Its (stepIn f (k + 1 + size b) t o)
+    pub fault-step : (t : ℕ) (o : Order) → k + 1 + size b ≤ t → t < k + 1 + size b + size f → stepIn actor Whole k t o ≡ fromFault Its (stepIn actor f (k + 1 + size b) t o)
     fault-step t o h e =
         scope-step t o (omega arith) ∙ (in-is t _ false true (le-ltb t (k + 1 + size b) h) (lt-ltb t (k + 1 + size b + size f) e)
-        ∙ ap (fromFault Its) (among-is b (more f (more u none)) (k + 1) t o false (le-ltb t (k + 1 + size b) h)
-        ∙ among-is f (more u none) (k + 1 + size b) t o true (lt-ltb t (k + 1 + size b + size f) e)))
+        ∙ ap (fromFault Its) (among-is actor b (more f (more u none)) (k + 1) t o false (le-ltb t (k + 1 + size b) h)
+        ∙ among-is actor f (more u none) (k + 1 + size b) t o true (lt-ltb t (k + 1 + size b + size f) e)))
 
     -- in its undo part
     pub undo-step : (t : ℕ) (o : Order) → k + 1 + size b + size f ≤ t → t < k + 1 + size b + size f + size u
-        → stepIn Whole k t o ≡ fromUndo (stepIn u (k + 1 + size b + size f) t o)
+        → stepIn actor Whole k t o ≡ fromUndo (stepIn actor u (k + 1 + size b + size f) t o)
     undo-step t o h e =
         scope-step t o (omega arith) ∙ (in-is t _ false false (le-ltb t (k + 1 + size b) (omega arith)) (le-ltb t (k + 1 + size b + size f) h)
-        ∙ ap fromUndo (among-is b (more f (more u none)) (k + 1) t o false (le-ltb t (k + 1 + size b) (omega arith))
-        ∙ (among-is f (more u none) (k + 1 + size b) t o false (le-ltb t (k + 1 + size b + size f) h)
-        ∙ among-is u none (k + 1 + size b + size f) t o true (lt-ltb t (k + 1 + size b + size f + size u) e))))
+        ∙ ap fromUndo (among-is actor b (more f (more u none)) (k + 1) t o false (le-ltb t (k + 1 + size b) (omega arith))
+        ∙ (among-is actor f (more u none) (k + 1 + size b) t o false (le-ltb t (k + 1 + size b + size f) h)
+        ∙ among-is actor u none (k + 1 + size b + size f) t o true (lt-ltb t (k + 1 + size b + size f + size u) e))))
 
     module _ (t : ℕ) (o : Order) (q : Quiet (o .marks) (k + 1 + size b + size f) (size u)) where
       its-kept : {o′ : Order} → Apart Its o o′ → Kept k (spread b f u) (o .marks) (o′ .marks)
@@ -476,36 +499,36 @@ module _ (p : Plan) (distinct : Distinct p) where
   module _ (b f u : Act) (k t : ℕ) (o : Order) (h : Seat p (scopeAt k (trio b f u))) (m : k + (spread b f u) ≤ length (o .marks)) where
     live-steps : {c : Bool} → k < t → WaitsIn (o .marks) (trio b f u) (k + 1) t c → c ≡ false → getD (o .marks) k 0 ≡ active
         → Quiet (o .marks) (k + 1 + size b) (size f + size u)
-        → ((x : Bool) → Waits (o .marks) b (k + 1) t x → x ≡ false → Acted (k + 1) (size b) o (RunAs p b (k + 1) t o) (stepIn b (k + 1) t o))
-        → Acted k (spread b f u) o (RunAs p (act scope (trio b f u)) k t o) (stepIn (act scope (trio b f u)) k t o)
+        → ((x : Bool) → Waits (o .marks) b (k + 1) t x → x ≡ false → Acted (k + 1) (size b) o (RunAs p b (k + 1) t o) (stepIn actor b (k + 1) t o))
+        → Acted k (spread b f u) o (RunAs p (act scope (trio b f u)) k t o) (stepIn actor (act scope (trio b f u)) k t o)
     unfolding Its Whole part partAt size
     live-steps lt (waits-first e w) d x q i =
         subst (λ (r : Outcome). Acted k (spread b f u) o (RunAs p (act scope (trio b f u)) k t o) r) (sym (body-step b f u k t o lt e))
-        (steps-run b f u k t o (quiet-part q (omega arith) (omega arith)) (Running (scopeAt k (trio b f u))) (λ ms m z. z) (fromBody (scopeAt k (trio b f u)) (stepIn b (k + 1) t o))
-        (from-live p distinct (scopeAt k (trio b f u)) t o (stepIn b (k + 1) t o) h x (quiet-part q (omega arith) (omega arith)) (omega arith) (i _ w d)))
+        (steps-run b f u k t o (quiet-part q (omega arith) (omega arith)) (Running (scopeAt k (trio b f u))) (λ ms m z. z) (fromBody (scopeAt k (trio b f u)) (stepIn actor b (k + 1) t o))
+        (from-live p distinct (scopeAt k (trio b f u)) t o (stepIn actor b (k + 1) t o) h x (quiet-part q (omega arith) (omega arith)) (omega arith) (i _ w d)))
     live-steps lt (waits-later e (waits-first g w)) d x q i = absurd (quiet-waits w d (quiet-part q (omega arith) (omega arith)))
     live-steps lt (waits-later e (waits-later g (waits-first j w))) d x q i = absurd (quiet-waits w d (quiet-part q (omega arith) (omega arith)))
 
     turned-steps : {c : Bool} → k < t → WaitsIn (o .marks) (trio b f u) (k + 1) t c → c ≡ false
         → Turned (o .marks) (getD (o .marks) k 0) b (k + 1) f (k + 1 + size b) → Quiet (o .marks) (k + 1 + size b + size f) (size u)
-        → ((x : Bool) → Waits (o .marks) b (k + 1) t x → x ≡ false → Stopped (o .marks) b (k + 1) → Acted (k + 1) (size b) o (StopAs p b (k + 1) o) (stepIn b (k + 1) t o))
-        → ((x : Bool) → Waits (o .marks) b (k + 1) t x → x ≡ false → Undoing (o .marks) b (k + 1) → (v : Bool) → phase (getD (o .marks) k 0) ≡ Phase.undoes v → Acted (k + 1) (size b) o (UndoAs p (inner k) b (k + 1) t o) (stepIn b (k + 1) t o))
-        → ((x : Bool) → Waits (o .marks) f (k + 1 + size b) t x → x ≡ false → Run (o .marks) f (k + 1 + size b) → phase (getD (o .marks) k 0) ≡ heals → Acted (k + 1 + size b) (size f) o (RunAs p f (k + 1 + size b) t o) (stepIn f (k + 1 + size b) t o))
-        → Steps p (scopeAt k (trio b f u)) (Turning (scopeAt k (trio b f u))) o (stepIn (act scope (trio b f u)) k t o)
+        → ((x : Bool) → Waits (o .marks) b (k + 1) t x → x ≡ false → Stopped (o .marks) b (k + 1) → Acted (k + 1) (size b) o (StopAs p b (k + 1) o) (stepIn actor b (k + 1) t o))
+        → ((x : Bool) → Waits (o .marks) b (k + 1) t x → x ≡ false → Undoing (o .marks) b (k + 1) → (v : Bool) → phase (getD (o .marks) k 0) ≡ Phase.undoes v → Acted (k + 1) (size b) o (UndoAs p (inner k) b (k + 1) t o) (stepIn actor b (k + 1) t o))
+        → ((x : Bool) → Waits (o .marks) f (k + 1 + size b) t x → x ≡ false → Run (o .marks) f (k + 1 + size b) → phase (getD (o .marks) k 0) ≡ heals → Acted (k + 1 + size b) (size f) o (RunAs p f (k + 1 + size b) t o) (stepIn actor f (k + 1 + size b) t o))
+        → Steps p (scopeAt k (trio b f u)) (Turning (scopeAt k (trio b f u))) o (stepIn actor (act scope (trio b f u)) k t o)
     unfolding Its Whole part partAt size
     turned-steps lt (waits-first e w) d (turned-waits {w = v} q st _ y) z i j l =
         subst (λ (r : Outcome). Steps p (scopeAt k (trio b f u)) (Turning (scopeAt k (trio b f u))) o r) (sym (body-step b f u k t o lt e))
-        (from-stopped p distinct v (scopeAt k (trio b f u)) o (stepIn b (k + 1) t o) h (λ x. refl) q y (omega arith) (i _ w d st))
+        (from-stopped p distinct v (scopeAt k (trio b f u)) o (stepIn actor b (k + 1) t o) h (λ x. refl) q y (omega arith) (i _ w d st))
     turned-steps lt (waits-first e w) d (turned-undoes {w = a} q st y) z i j l =
         subst (λ (r : Outcome). Steps p (scopeAt k (trio b f u)) (Turning (scopeAt k (trio b f u))) o r) (sym (body-step b f u k t o lt e))
-        (from-undoing p distinct a (scopeAt k (trio b f u)) t o (stepIn b (k + 1) t o) h (its-reach b f u k) (λ x. refl) q y (omega arith)
+        (from-undoing p distinct a (scopeAt k (trio b f u)) t o (stepIn actor b (k + 1) t o) h (its-reach b f u k) (λ x. refl) q y (omega arith)
         (λ v x r. z .at v (omega arith) (omega arith)) (j _ w d st a q))
     turned-steps lt (waits-first e w) d (turned-heals q y r) z i j l = absurd (quiet-waits w d y)
     turned-steps lt (waits-later e (waits-first g w)) d (turned-waits q st _ y) z i j l = absurd (quiet-waits w d y)
     turned-steps lt (waits-later e (waits-first g w)) d (turned-undoes q st y) z i j l = absurd (quiet-waits w d y)
     turned-steps lt (waits-later e (waits-first g w)) d (turned-heals q y r) z i j l =
         subst (λ (r : Outcome). Steps p (scopeAt k (trio b f u)) (Turning (scopeAt k (trio b f u))) o r) (sym (fault-step b f u k t o e g))
-        (from-heals p distinct (scopeAt k (trio b f u)) t o (stepIn f (k + 1 + size b) t o) h (its-reach b f u k) q y (omega arith)
+        (from-heals p distinct (scopeAt k (trio b f u)) t o (stepIn actor f (k + 1 + size b) t o) h (its-reach b f u k) q y (omega arith)
         (λ v x s. z .at v (omega arith) (omega arith)) (l _ w d r q))
     turned-steps lt (waits-later e (waits-later g (waits-first v w))) d x z i j l = absurd (quiet-waits w d z)
 
@@ -745,8 +768,8 @@ module _ (p : Plan) (distinct : Distinct p) where
   -- A step in an idle activity other than a scope.
   stopped-steps : (own : Own) (within : Acts) (k t : ℕ) (o : Order) (b : Bool) → isScope own ≡ false → Waits (o .marks) (act own within) k t b
       → b ≡ false → Stopped (o .marks) (act own within) k
-      → ((c : Bool) → WaitsIn (o .marks) within (k + 1) t c → c ≡ false → StoppedIn (o .marks) within (k + 1) → Acted (k + 1) (sizes within) o (StopInAs within (k + 1) o) (stepAmong within (k + 1) t o))
-      → Acted k (1 + sizes within) o (StopAs p (act own within) k o) (stepIn (act own within) k t o)
+      → ((c : Bool) → WaitsIn (o .marks) within (k + 1) t c → c ≡ false → StoppedIn (o .marks) within (k + 1) → Acted (k + 1) (sizes within) o (StopInAs within (k + 1) o) (stepAmong actor within (k + 1) t o))
+      → Acted k (1 + sizes within) o (StopAs p (act own within) k o) (stepIn actor (act own within) k t o)
   unfolding kind size
   stopped-steps own within k t o b s (waits-itself e d) f r g = absurd (no-less (stopped-waits r (waits-itself e d) f) e)
     where
@@ -755,16 +778,16 @@ module _ (p : Plan) (distinct : Distinct p) where
   stopped-steps own within k t o b s (waits-within h w) f (stopped-part s₁ e l) g =
       let z : opens own (getD (o .marks) k 0) ≡ false = opens-idle own (getD (o .marks) k 0) e in
       subst (λ (r : Outcome). Acted k (1 + sizes within) o (StopAs p (act own within) k o) r)
-      (sym (step-is own within k t o false (ne-eqb k t (omega arith)) ∙ ap (λ (x : Order). combines own within k t (stepAmong within (k + 1) t x)) (arms-none own within k t o (stopped-part-not l w z))))
-      (stopped-combines own within k t o (stepAmong within (k + 1) t o) s e (g _ w z l))
+      (sym (step-is actor own within k t o false (ne-eqb k t (omega arith)) ∙ ap (λ (x : Order). combines own within k t (stepAmong actor within (k + 1) t x)) (arms-none own within k t o (stopped-part-not l w z))))
+      (stopped-combines own within k t o (stepAmong actor within (k + 1) t o) s e (g _ w z l))
   stopped-steps own within k t o b s (waits-within h w) f (stopped-quiet q) g = absurd (quiet-waits-in w (opens-idle own (getD (o .marks) k 0) (q .at k (omega arith) (omega arith))) (quiet-part q (omega arith) (omega arith)))
   stopped-steps own within k t o b s (waits-within h w) f (stopped-scope x q) g = absurd (false≢true (sym s))
 
   undoing-steps : {n : Name} (own : Own) (within : Acts) (k t : ℕ) (o : Order) (b : Bool) → isScope own ≡ false → isName p (inner k) ≡ false
       → Waits (o .marks) (act own within) k t b → b ≡ false
       → Undoing (o .marks) (act own within) k
-      → ((c : Bool) → WaitsIn (o .marks) within (k + 1) t c → c ≡ false → UndoingIn (o .marks) within (k + 1) → Acted (k + 1) (sizes within) o (UndoInAs n within (k + 1) t o) (stepAmong within (k + 1) t o))
-      → Acted k (1 + sizes within) o (UndoAs p n (act own within) k t o) (stepIn (act own within) k t o)
+      → ((c : Bool) → WaitsIn (o .marks) within (k + 1) t c → c ≡ false → UndoingIn (o .marks) within (k + 1) → Acted (k + 1) (sizes within) o (UndoInAs n within (k + 1) t o) (stepAmong actor within (k + 1) t o))
+      → Acted k (1 + sizes within) o (UndoAs p n (act own within) k t o) (stepIn actor (act own within) k t o)
   unfolding kind size
   undoing-steps own within k t o b s z (waits-itself e d) f r g = absurd (no-less (undoing-waits r (waits-itself e d) f) e)
     where
@@ -773,26 +796,26 @@ module _ (p : Plan) (distinct : Distinct p) where
   undoing-steps {n} own within k t o b s z (waits-within h w) f (undoing-part s₁ e l) g =
       let y : opens own (getD (o .marks) k 0) ≡ false = opens-idle own (getD (o .marks) k 0) e in
       subst (λ (r : Outcome). Acted k (1 + sizes within) o (UndoAs p n (act own within) k t o) r)
-      (sym (step-is own within k t o false (ne-eqb k t (omega arith)) ∙ ap (λ (x : Order). combines own within k t (stepAmong within (k + 1) t x)) (arms-none own within k t o (undoing-part-not l w y))))
-      (undoing-combines own within k t o (stepAmong within (k + 1) t o) s e n z (g _ w y l))
+      (sym (step-is actor own within k t o false (ne-eqb k t (omega arith)) ∙ ap (λ (x : Order). combines own within k t (stepAmong actor within (k + 1) t x)) (arms-none own within k t o (undoing-part-not l w y))))
+      (undoing-combines own within k t o (stepAmong actor within (k + 1) t o) s e n z (g _ w y l))
   undoing-steps own within k t o b s z (waits-within h w) f (undoing-scope x q r) g = absurd (false≢true (sym s))
 
   -- A step in a scope, as it stands.
   module _ (b f u : Act) (k t : ℕ) (o : Order) (h : Seat p (scopeAt k (trio b f u))) (m : k + (spread b f u) ≤ length (o .marks))
-      (i : (x : Bool) → Waits (o .marks) b (k + 1) t x → x ≡ false → Stopped (o .marks) b (k + 1) → Acted (k + 1) (size b) o (StopAs p b (k + 1) o) (stepIn b (k + 1) t o))
-      (j : (x : Bool) → Waits (o .marks) b (k + 1) t x → x ≡ false → Undoing (o .marks) b (k + 1) → (v : Bool) → phase (getD (o .marks) k 0) ≡ Phase.undoes v → Acted (k + 1) (size b) o (UndoAs p (inner k) b (k + 1) t o) (stepIn b (k + 1) t o))
+      (i : (x : Bool) → Waits (o .marks) b (k + 1) t x → x ≡ false → Stopped (o .marks) b (k + 1) → Acted (k + 1) (size b) o (StopAs p b (k + 1) o) (stepIn actor b (k + 1) t o))
+      (j : (x : Bool) → Waits (o .marks) b (k + 1) t x → x ≡ false → Undoing (o .marks) b (k + 1) → (v : Bool) → phase (getD (o .marks) k 0) ≡ Phase.undoes v → Acted (k + 1) (size b) o (UndoAs p (inner k) b (k + 1) t o) (stepIn actor b (k + 1) t o))
       (l : (x : Bool) → Waits (o .marks) f (k + 1 + size b) t x → x ≡ false → Run (o .marks) f (k + 1 + size b) → phase (getD (o .marks) k 0) ≡ heals
-      → Acted (k + 1 + size b) (size f) o (RunAs p f (k + 1 + size b) t o) (stepIn f (k + 1 + size b) t o)) where
+      → Acted (k + 1 + size b) (size f) o (RunAs p f (k + 1 + size b) t o) (stepIn actor f (k + 1 + size b) t o)) where
     scope-runs : {n a : Name} {c : Bool} → Known p (innerAt k n (trio b f u)) → Spot p (bodyOf n a) k → phase (markOf n o) ≡ live
         → Waits (o .marks) (act scope (trio b f u)) k t c → c ≡ false → Run (o .marks) (act scope (trio b f u)) k
-        → ((x : Bool) → Waits (o .marks) b (k + 1) t x → x ≡ false → Run (o .marks) b (k + 1) → getD (o .marks) k 0 ≡ active → Acted (k + 1) (size b) o (RunAs p b (k + 1) t o) (stepIn b (k + 1) t o))
-        → Acted k (spread b f u) o (RunAs p (act scope (trio b f u)) k t o) (stepIn (act scope (trio b f u)) k t o)
+        → ((x : Bool) → Waits (o .marks) b (k + 1) t x → x ≡ false → Run (o .marks) b (k + 1) → getD (o .marks) k 0 ≡ active → Acted (k + 1) (size b) o (RunAs p b (k + 1) t o) (stepIn actor b (k + 1) t o))
+        → Acted k (spread b f u) o (RunAs p (act scope (trio b f u)) k t o) (stepIn actor (act scope (trio b f u)) k t o)
     unfolding awaits kind itself size Its Whole
     scope-runs kn y v (waits-itself e d) c (run-awaits s _ x q) g = absurd (false≢true (sym s))
     scope-runs kn y v (waits-itself e d) c (run-one s x r) g = absurd (false≢true (sym s))
     scope-runs kn y v (waits-itself e d) c (run-body x r q) g = absurd (false≢true (rw x at d))
     scope-runs kn y v (waits-itself e d) c (run-done x q) g =
-        subst (λ (r : Outcome). Acted k (spread b f u) o (RunAs p (act scope (trio b f u)) k t o) r) (sym (step-is scope (trio b f u) k t o true (eq-eqb k t e)))
+        subst (λ (r : Outcome). Acted k (spread b f u) o (RunAs p (act scope (trio b f u)) k t o) r) (sym (step-is actor scope (trio b f u) k t o true (eq-eqb k t e) ∙ plain-performs actor scope (trio b f u) k o refl))
         (subst (λ (z : ℕ). Acted k (spread b f u) o (RunAs p (act scope (trio b f u)) k z o) (closing k (scopeAt k (trio b f u)) o)) e (closes b f u k o kn y h v x q (omega arith)))
     scope-runs kn y v (waits-itself e d) c (run-turned x q) g = absurd (false≢true (sym (turned-not-open x) ∙ rw (d, or-true)))
     scope-runs kn y v (waits-within e w) c (run-awaits s _ x q) g = absurd (false≢true (sym s))
@@ -800,10 +823,10 @@ module _ (p : Plan) (distinct : Distinct p) where
     scope-runs kn y v (waits-within e w) c (run-body x r q) g = live-steps b f u k t o h m e w refl x q (λ a z d. g a z d r x)
     scope-runs kn y v (waits-within e w) c (run-done x q) g = absurd (quiet-waits-in w refl (quiet-part q (omega arith) (omega arith)))
     scope-runs kn y v (waits-within e w) c (run-turned x q) g =
-        steps-run b f u k t o q (Turning (scopeAt k (trio b f u))) (λ ms a. scope-turned) (stepIn (act scope (trio b f u)) k t o) (turned-steps b f u k t o h m e w refl x q i j l)
+        steps-run b f u k t o q (Turning (scopeAt k (trio b f u))) (λ ms a. scope-turned) (stepIn actor (act scope (trio b f u)) k t o) (turned-steps b f u k t o h m e w refl x q i j l)
 
     scope-stops : {c : Bool} → Waits (o .marks) (act scope (trio b f u)) k t c → c ≡ false → Stopped (o .marks) (act scope (trio b f u)) k
-        → Acted k (spread b f u) o (StopAs p (act scope (trio b f u)) k o) (stepIn (act scope (trio b f u)) k t o)
+        → Acted k (spread b f u) o (StopAs p (act scope (trio b f u)) k o) (stepIn actor (act scope (trio b f u)) k t o)
     unfolding kind size Its Whole
     scope-stops w c (stopped-part s x q) = absurd (false≢true (sym s))
     scope-stops w c (stopped-quiet q) = absurd (quiet-waits w c q)
@@ -811,13 +834,13 @@ module _ (p : Plan) (distinct : Distinct p) where
       where
         no-less : k < t → k ≡ t → ⊥
         no-less y z = omega arith
-    scope-stops (waits-within e w) c (stopped-scope x q) = steps-stop b f u k t o q (stepIn (act scope (trio b f u)) k t o) (turned-steps b f u k t o h m e w refl x q i j l)
+    scope-stops (waits-within e w) c (stopped-scope x q) = steps-stop b f u k t o q (stepIn actor (act scope (trio b f u)) k t o) (turned-steps b f u k t o h m e w refl x q i j l)
 
   scope-undoes : {n a : Name} {c : Bool} (b f u : Act) (k t : ℕ) (o : Order) → Known p (innerAt k n (trio b f u)) → Remedy p (undoOf n a) u (k + 1 + size b + size f)
       → Waits (o .marks) (act scope (trio b f u)) k t c → c ≡ false → Undoing (o .marks) (act scope (trio b f u)) k
       → ((x : Bool) → Waits (o .marks) u (k + 1 + size b + size f) t x → x ≡ false → Run (o .marks) u (k + 1 + size b + size f)
-      → Acted (k + 1 + size b + size f) (size u) o (RunAs p u (k + 1 + size b + size f) t o) (stepIn u (k + 1 + size b + size f) t o))
-      → Acted k (spread b f u) o (UndoAs p n (act scope (trio b f u)) k t o) (stepIn (act scope (trio b f u)) k t o)
+      → Acted (k + 1 + size b + size f) (size u) o (RunAs p u (k + 1 + size b + size f) t o) (stepIn actor u (k + 1 + size b + size f) t o))
+      → Acted k (spread b f u) o (UndoAs p n (act scope (trio b f u)) k t o) (stepIn actor (act scope (trio b f u)) k t o)
   unfolding kind Its Whole
   scope-undoes b f u k t o kn su w c (undoing-part s x q) g = absurd (false≢true (sym s))
   scope-undoes b f u k t o kn su (waits-itself e d) c (undoing-scope x q r) g = absurd (no-less (undoing-waits (undoing-scope x q r) (waits-itself e d) c) e)
@@ -828,14 +851,14 @@ module _ (p : Plan) (distinct : Distinct p) where
   scope-undoes b f u k t o kn su (waits-within e (waits-later d (waits-first y w))) c (undoing-scope x q r) g = absurd (quiet-waits w refl (quiet-part q (omega arith) (omega arith)))
   scope-undoes {n} b f u k t o kn su (waits-within e (waits-later d (waits-later y (waits-first z w)))) c (undoing-scope x q r) g =
       subst (λ (v : Outcome). Acted k (spread b f u) o (UndoAs p n (act scope (trio b f u)) k t o) v) (sym (undo-step b f u k t o y z))
-      (undo-acts b f u k t o (stepIn u (k + 1 + size b + size f) t o) kn su x q y z (g _ w refl r))
+      (undo-acts b f u k t o (stepIn actor u (k + 1 + size b + size f) t o) kn su x q y z (g _ w refl r))
 
   -- Every step in a tree that runs, in a stopped body, and in one of which an undo part runs.
   mutual
     unfolding size kind bare Here
 
     pub steps : {x : Place} {a : Act} {k : ℕ} → Sits p x a k → (t : ℕ) (o : Order) (b : Bool) → Waits (o .marks) a k t b → b ≡ false → Run (o .marks) a k
-        → Fit x o → k + size a ≤ length (o .marks) → Acted k (size a) o (RunAs p a k t o) (stepIn a k t o)
+        → Fit x o → k + size a ≤ length (o .marks) → Acted k (size a) o (RunAs p a k t o) (stepIn actor a k t o)
     steps (sits-part {q = x} {own} {within} {k} s g u y l) t o b w e r v m =
         part-steps own within k t o b s g (y .noScope) u v l m w e r
         (λ c w₁ e₁ r₁. steps-one l t o c w₁ e₁ r₁ v (omega arith))
@@ -849,33 +872,33 @@ module _ (p : Plan) (distinct : Distinct p) where
         (λ x w₁ e₁ r₁ y. steps sb t o x w₁ e₁ r₁ (ap phase y) (omega arith))
 
     pub steps-one : {x : Place} {l : Acts} {c : ℕ} → SitsIn p x l c → (t : ℕ) (o : Order) (b : Bool) → WaitsIn (o .marks) l c t b → b ≡ false → One (o .marks) l c
-        → Fit x o → c + sizes l ≤ length (o .marks) → Acted c (sizes l) o (OneAs p l c t o) (stepAmong l c t o)
+        → Fit x o → c + sizes l ≤ length (o .marks) → Acted c (sizes l) o (OneAs p l c t o) (stepAmong actor l c t o)
     steps-one (sits-more {q = x} {a} {l} {c} s y) t o b (waits-first h w) e (one-here r q) v m =
-        subst (λ (z : Outcome). Acted c (size a + sizes l) o (OneAs p (more a l) c t o) z) (sym (among-is a l c t o true (lt-ltb t (c + size a) h)))
-        (first-one a l c t o (stepIn a c t o) (steps s t o b w e r v (omega arith)) q)
+        subst (λ (z : Outcome). Acted c (size a + sizes l) o (OneAs p (more a l) c t o) z) (sym (among-is actor a l c t o true (lt-ltb t (c + size a) h)))
+        (first-one a l c t o (stepIn actor a c t o) (steps s t o b w e r v (omega arith)) q)
     steps-one (sits-more {q = x} {a} {l} {c} s y) t o b (waits-later h w) e (one-here r q) v m = absurd (quiet-waits-in w e q)
     steps-one (sits-more {q = x} {a} {l} {c} s y) t o b (waits-first h w) e (one-later q r) v m = absurd (quiet-waits w e q)
     steps-one (sits-more {q = x} {a} {l} {c} s y) t o b (waits-later h w) e (one-later q r) v m =
-        subst (λ (z : Outcome). Acted c (size a + sizes l) o (OneAs p (more a l) c t o) z) (sym (among-is a l c t o false (le-ltb t (c + size a) h)))
-        (later-one a l c t o (stepAmong l (c + size a) t o) (steps-one y t o b w e r v (omega arith)) q)
+        subst (λ (z : Outcome). Acted c (size a + sizes l) o (OneAs p (more a l) c t o) z) (sym (among-is actor a l c t o false (le-ltb t (c + size a) h)))
+        (later-one a l c t o (stepAmong actor l (c + size a) t o) (steps-one y t o b w e r v (omega arith)) q)
 
     pub steps-all : {x : Place} {l : Acts} {c : ℕ} → SitsIn p x l c → (t : ℕ) (o : Order) (b : Bool) → WaitsIn (o .marks) l c t b → b ≡ false → All (o .marks) l c
-        → Fit x o → c + sizes l ≤ length (o .marks) → Acted c (sizes l) o (AllAs p l c t o) (stepAmong l c t o)
+        → Fit x o → c + sizes l ≤ length (o .marks) → Acted c (sizes l) o (AllAs p l c t o) (stepAmong actor l c t o)
     steps-all (sits-more {q = x} {a} {l} {c} s y) t o b (waits-first h w) e (all-run r q) v m =
-        subst (λ (z : Outcome). Acted c (size a + sizes l) o (AllAs p (more a l) c t o) z) (sym (among-is a l c t o true (lt-ltb t (c + size a) h)))
-        (first-all a l c t o (stepIn a c t o) (steps s t o b w e r v (omega arith)) q)
+        subst (λ (z : Outcome). Acted c (size a + sizes l) o (AllAs p (more a l) c t o) z) (sym (among-is actor a l c t o true (lt-ltb t (c + size a) h)))
+        (first-all a l c t o (stepIn actor a c t o) (steps s t o b w e r v (omega arith)) q)
     steps-all (sits-more {q = x} {a} {l} {c} s y) t o b (waits-first h w) e (all-quiet q r) v m = absurd (quiet-waits w e q)
     steps-all (sits-more {q = x} {a} {l} {c} s y) t o b (waits-later h w) e (all-run r q) v m =
-        subst (λ (z : Outcome). Acted c (size a + sizes l) o (AllAs p (more a l) c t o) z) (sym (among-is a l c t o false (le-ltb t (c + size a) h)))
-        (later-all a l c t o (stepAmong l (c + size a) t o) (steps-all y t o b w e q v (omega arith))
+        subst (λ (z : Outcome). Acted c (size a + sizes l) o (AllAs p (more a l) c t o) z) (sym (among-is actor a l c t o false (le-ltb t (c + size a) h)))
+        (later-all a l c t o (stepAmong actor l (c + size a) t o) (steps-all y t o b w e q v (omega arith))
         (λ ms g z. all-run (run-agree r g) z) (λ ms g z. able-more (able-run (run-agree r g)) z))
     steps-all (sits-more {q = x} {a} {l} {c} s y) t o b (waits-later h w) e (all-quiet q r) v m =
-        subst (λ (z : Outcome). Acted c (size a + sizes l) o (AllAs p (more a l) c t o) z) (sym (among-is a l c t o false (le-ltb t (c + size a) h)))
-        (later-all a l c t o (stepAmong l (c + size a) t o) (steps-all y t o b w e r v (omega arith))
+        subst (λ (z : Outcome). Acted c (size a + sizes l) o (AllAs p (more a l) c t o) z) (sym (among-is actor a l c t o false (le-ltb t (c + size a) h)))
+        (later-all a l c t o (stepAmong actor l (c + size a) t o) (steps-all y t o b w e r v (omega arith))
         (λ ms g z. all-quiet (quiet-agree q g) z) (λ ms g z. able-more (able-quiet (quiet-agree q g)) z))
 
     pub steps-stopped : {x : Place} {a : Act} {k : ℕ} → Sits p x a k → (t : ℕ) (o : Order) (b : Bool) → Waits (o .marks) a k t b → b ≡ false → Stopped (o .marks) a k
-        → k + size a ≤ length (o .marks) → Acted k (size a) o (StopAs p a k o) (stepIn a k t o)
+        → k + size a ≤ length (o .marks) → Acted k (size a) o (StopAs p a k o) (stepIn actor a k t o)
     steps-stopped (sits-part {q = x} {own} {within} {k} s g u y l) t o b w e r m =
         stopped-steps own within k t o b s w e r (λ c w₁ e₁ r₁. steps-stopped-in l t o c w₁ e₁ r₁ (omega arith))
     steps-stopped (sits-scope {n} {c = a} {b} {f} {u} {k} kn d i sb z sf su) t o c w e r m =
@@ -887,16 +910,16 @@ module _ (p : Plan) (distinct : Distinct p) where
 
     pub steps-stopped-in : {x : Place} {l : Acts} {c : ℕ} → SitsIn p x l c → (t : ℕ) (o : Order) (b : Bool) → WaitsIn (o .marks) l c t b → b ≡ false
         → StoppedIn (o .marks) l c
-        → c + sizes l ≤ length (o .marks) → Acted c (sizes l) o (StopInAs l c o) (stepAmong l c t o)
+        → c + sizes l ≤ length (o .marks) → Acted c (sizes l) o (StopInAs l c o) (stepAmong actor l c t o)
     steps-stopped-in (sits-more {q = x} {a} {l} {c} s y) t o b (waits-first h w) e (stopped-more r q) m =
-        subst (λ (z : Outcome). Acted c (size a + sizes l) o (StopInAs (more a l) c o) z) (sym (among-is a l c t o true (lt-ltb t (c + size a) h)))
-        (first-stopped a l c o (stepIn a c t o) (steps-stopped s t o b w e r (omega arith)) q)
+        subst (λ (z : Outcome). Acted c (size a + sizes l) o (StopInAs (more a l) c o) z) (sym (among-is actor a l c t o true (lt-ltb t (c + size a) h)))
+        (first-stopped a l c o (stepIn actor a c t o) (steps-stopped s t o b w e r (omega arith)) q)
     steps-stopped-in (sits-more {q = x} {a} {l} {c} s y) t o b (waits-later h w) e (stopped-more r q) m =
-        subst (λ (z : Outcome). Acted c (size a + sizes l) o (StopInAs (more a l) c o) z) (sym (among-is a l c t o false (le-ltb t (c + size a) h)))
-        (later-stopped a l c o (stepAmong l (c + size a) t o) (steps-stopped-in y t o b w e q (omega arith)) r)
+        subst (λ (z : Outcome). Acted c (size a + sizes l) o (StopInAs (more a l) c o) z) (sym (among-is actor a l c t o false (le-ltb t (c + size a) h)))
+        (later-stopped a l c o (stepAmong actor l (c + size a) t o) (steps-stopped-in y t o b w e q (omega arith)) r)
 
     pub steps-undoing : {x : Place} {a : Act} {k : ℕ} → Sits p x a k → (t : ℕ) (o : Order) (b : Bool) → Waits (o .marks) a k t b → b ≡ false → Undoing (o .marks) a k
-        → Fit (undoOf (nameOf x) (aroundOf x)) o → k + size a ≤ length (o .marks) → Acted k (size a) o (UndoAs p (nameOf x) a k t o) (stepIn a k t o)
+        → Fit (undoOf (nameOf x) (aroundOf x)) o → k + size a ≤ length (o .marks) → Acted k (size a) o (UndoAs p (nameOf x) a k t o) (stepIn actor a k t o)
     steps-undoing (sits-part {q = x} {own} {within} {k} s g u y l) t o b w e r v m =
         undoing-steps own within k t o b s (y .noScope) w e r (λ c w₁ e₁ r₁. steps-undoing-in l t o c w₁ e₁ r₁ v (omega arith))
     steps-undoing (sits-scope {n} {c = a} {b} {f} {u} {k} kn d i sb z sf su) t o c w e r v m =
@@ -904,18 +927,18 @@ module _ (p : Plan) (distinct : Distinct p) where
 
     pub steps-undoing-in : {x : Place} {l : Acts} {c : ℕ} → SitsIn p x l c → (t : ℕ) (o : Order) (b : Bool) → WaitsIn (o .marks) l c t b → b ≡ false
         → UndoingIn (o .marks) l c
-        → Fit (undoOf (nameOf x) (aroundOf x)) o → c + sizes l ≤ length (o .marks) → Acted c (sizes l) o (UndoInAs (nameOf x) l c t o) (stepAmong l c t o)
+        → Fit (undoOf (nameOf x) (aroundOf x)) o → c + sizes l ≤ length (o .marks) → Acted c (sizes l) o (UndoInAs (nameOf x) l c t o) (stepAmong actor l c t o)
     steps-undoing-in (sits-more {q = x} {a} {l} {c} s y) t o b (waits-first h w) e (undoing-here r q) v m =
-        subst (λ (z : Outcome). Acted c (size a + sizes l) o (UndoInAs (nameOf x) (more a l) c t o) z) (sym (among-is a l c t o true (lt-ltb t (c + size a) h)))
-        (first-undoing a l c o (stepIn a c t o) (nameOf x) t (steps-undoing s t o b w e r v (omega arith)) q)
+        subst (λ (z : Outcome). Acted c (size a + sizes l) o (UndoInAs (nameOf x) (more a l) c t o) z) (sym (among-is actor a l c t o true (lt-ltb t (c + size a) h)))
+        (first-undoing a l c o (stepIn actor a c t o) (nameOf x) t (steps-undoing s t o b w e r v (omega arith)) q)
     steps-undoing-in (sits-more {q = x} {a} {l} {c} s y) t o b (waits-later h w) e (undoing-here r q) v m = absurd (quiet-waits-in w e q)
     steps-undoing-in (sits-more {q = x} {a} {l} {c} s y) t o b (waits-first h w) e (undoing-later q r) v m = absurd (quiet-waits w e q)
     steps-undoing-in (sits-more {q = x} {a} {l} {c} s y) t o b (waits-later h w) e (undoing-later q r) v m =
-        subst (λ (z : Outcome). Acted c (size a + sizes l) o (UndoInAs (nameOf x) (more a l) c t o) z) (sym (among-is a l c t o false (le-ltb t (c + size a) h)))
-        (later-undoing a l c o (stepAmong l (c + size a) t o) (nameOf x) t (steps-undoing-in y t o b w e r v (omega arith)) q)
+        subst (λ (z : Outcome). Acted c (size a + sizes l) o (UndoInAs (nameOf x) (more a l) c t o) z) (sym (among-is actor a l c t o false (le-ltb t (c + size a) h)))
+        (later-undoing a l c o (stepAmong actor l (c + size a) t o) (nameOf x) t (steps-undoing-in y t o b w e r v (omega arith)) q)
 
     pub steps-part : {x : Place} {a : Act} {k : ℕ} → Remedy p x a k → (t : ℕ) (o : Order) (b : Bool) → Waits (o .marks) a k t b → b ≡ false → Run (o .marks) a k
-        → Fit x o → k + size a ≤ length (o .marks) → Acted k (size a) o (RunAs p a k t o) (stepIn a k t o)
+        → Fit x o → k + size a ≤ length (o .marks) → Acted k (size a) o (RunAs p a k t o) (stepIn actor a k t o)
     steps-part (remedy {q = x} {own} {within} {k} s a g u z l d) t o b w e r v m =
         part-steps own within k t o b s g z u v l m w e r
         (λ c w₁ e₁ r₁. steps-one l t o c w₁ e₁ r₁ v (omega arith))

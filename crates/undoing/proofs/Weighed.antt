@@ -52,7 +52,7 @@ record Engine : Type 0 where
 
 verdict : Engine → List Verdict
 verdict x =
-    by (record { ofHistory = live ∷ live ∷ live ∷ []; ofSteps = [] } ∷ []) (λ p. judge p (deedsTaken p (x .calls) 0 (loaded (x .bytes)) noTally) (endsTaken (x .calls) 0 (loaded (x .bytes)) noTally) (stepsTaken (x .calls) 0 (loaded (x .bytes)) noTally) (orderAfter (x .calls) 0 (loaded (x .bytes)) noTally) (history (x .calls) 0 (loaded (x .bytes)) noTally) (x .deeds)) (readPlan (x .bytes))
+    by (record { ofHistory = live ∷ live ∷ live ∷ []; ofSteps = [] } ∷ []) (λ p. judge p (deedsTaken p (x .calls) 0 (loaded (x .bytes)) noTally) (endsTaken (x .calls) 0 (loaded (x .bytes)) noTally) (stepsTaken p (x .calls) 0 (loaded (x .bytes)) noTally) (orderAfter (x .calls) 0 (loaded (x .bytes)) noTally) (history (x .calls) 0 (loaded (x .bytes)) noTally) (x .deeds)) (readPlan (x .bytes))
 
 abbrev first : Call
 first = posting (record { partner = 0; operation = 0; count = 1; values = 5 ∷ 0 ∷ 0 ∷ 0 ∷ [] })

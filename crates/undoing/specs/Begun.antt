@@ -1,5 +1,6 @@
 -- What a step logs as begun has begun, and nothing else has: the beginnings of a log against the marks before and after it. So none is only claimed,
--- and none is left out. Assumes nothing: these are definitions.
+-- and none is left out. A step goes through its order once for itself, and once for each raise of the judging that follows; this is said of each time,
+-- since what begins the first time may be stopped the second. Assumes nothing: these are definitions.
 use Prim.Native.Nat.{ℕ, zero, suc, _+_}
 use mathlib.Core.Path.{_≡_}
 use mathlib.Core.Bool.{Bool, true, false, cond, not, _&&_, _||_}
@@ -12,27 +13,18 @@ use Rattle.plan.specs.Tree.{Own, kind, Act, act, Acts, none, more, Plan, size}
 use Rattle.order.specs.declared.Order.{Order}
 use Rattle.machine.specs.declared.State.{State}
 use Rattle.machine.specs.declared.Tally.{Tally}
-use Rattle.order.specs.Lists.{every, some}
+use Rattle.order.specs.declared.End.the-variants.{None, Well, Handled, Failed, Left}
+use Rattle.order.specs.Lists.{every, some, each}
 use Rattle.order.specs.State.{idle, inside, markAt, isLive, noOrder}
-use Rattle.order.specs.Event.{Event}
+use Rattle.order.specs.Event.{Event, started}
 use Rattle.order.specs.Scope.{isScope}
-use Rattle.order.specs.Acting.{isPart, startedOrder}
+use Rattle.order.specs.Acting.{isPart, inPlace, Moved, acted, begunOrder, startedOrder}
+use Rattle.order.specs.Judging.{Verdict, clear, clash, conflict, spare}
+unfoldable pub use Rattle.order.specs.Awaited.{kindIn, kindAmong, kindAt}
 use Rattle.machine.specs.Calls.{loaded, post, collect, dropAt, Stepped, step, Call, posting, collecting, dropping, stepping}
 use Rattle.undoing.specs.History.{logOf}
-use Rattle.undoing.specs.Ties.{isTaken}
+use Rattle.undoing.specs.Ties.{stateAfter, tallyAfter, isTaken, ownStep}
 use Rattle.undoing.specs.Orderly.{isBeganOf}
-
--- the kind of activity t, where k is the number of the first
-unfoldable mutual
-  pub kindIn : Act → (k t : ℕ) → ℕ
-  kindIn (act own within) k t = elim (eqb k t) [ true ↦ kind own | false ↦ kindAmong within (k + 1) t ]
-
-  pub kindAmong : Acts → (c t : ℕ) → ℕ
-  kindAmong none c t = 0
-  kindAmong (more a l) c t = elim (ltb t (c + size a)) [ true ↦ kindIn a c t | false ↦ kindAmong l (c + size a) t ]
-
-unfoldable pub kindAt : Plan → (activity : ℕ) → ℕ
-kindAt p t = elim (ltb t (size (p .body))) [ true ↦ kindIn (p .body) 0 t | false ↦ kindIn (p .fault) (size (p .body)) t ]
 
 -- "Sequence, flow and empty move on inside the step that lets them", and arms have no mark: any other activity that begins lasts beyond its step
 unfoldable pub lasts : (kind : ℕ) → Bool
@@ -63,7 +55,7 @@ ownsAt p t j =
 abbrev pub hasBegan : (activity : ℕ) → List Event → Bool
 hasBegan k l = some (isBeganOf (eqb k)) l
 
--- A step taken: its activity, the order in its slot before and after it, and what it logged.
+-- A time that a step goes through its order: the activity that acts, or in whose place a raise stands, the order before and after, and what was logged.
 pub record Taken : Type 0 where
   pub activity : ℕ
   pub before : Order
@@ -147,32 +139,66 @@ numbers (suc n) = n ∷ numbers n
 abbrev pub ofEach : (Plan → Taken → (activity : ℕ) → Bool) → Plan → Taken → Bool
 ofEach f p x = not (isLive (x .after)) || every (f p x) (numbers (size (p .body) + size (p .fault)))
 
--- the steps taken in a slot with these calls
-abbrev pub takenBy : (slot : ℕ) → State → Stepped → List Taken
-takenBy i s r =
+-- the raises of an order that is judged, at most n times
+unfoldable pub raisesOf : (n : ℕ) → Plan → Moved → List Taken
+raisesOf zero p m = []
+raisesOf (suc n) p m =
+    elim (m .end) [
+      | None ↦ elim (conflict p (m .order)) [
+        | clear ↦ []
+        | clash k ↦ record { activity = k; before = m .order; after = acted inPlace p k (m .order) .order; log = acted inPlace p k (m .order) .log }
+            ∷ raisesOf n p (acted inPlace p k (m .order))
+      ]
+      | Well ↦ []
+      | Handled ↦ []
+      | Failed ↦ []
+      | Left ↦ []
+    ]
+
+-- what an order that starts logs before its step
+abbrev pub startLog : Plan → (slot : ℕ) → State → List Event
+startLog p i s = cond (isLive (getD (s .orders) i noOrder)) [] (started ∷ begunOrder p .log)
+
+-- a step taken in a slot: its own time first, and then the raises
+abbrev pub takenBy : Plan → (slot : ℕ) → State → Stepped → List Taken
+takenBy p i s r =
     cond (isTaken i r)
     (record {
       activity = r .answer .activity;
       before = getD (s .orders) i noOrder;
-      after = getD (r .state .orders) i noOrder;
-      log = logOf i r;
+      after = ownStep p i s r .order;
+      log = startLog p i s ++ ownStep p i s r .log;
     }
-    ∷ [])
+    ∷ raisesOf (spare p (ownStep p i s r .order)) p (ownStep p i s r))
     []
 
-unfoldable pub stepsTaken : List Call → (slot : ℕ) → State → Tally → List Taken
-stepsTaken [] i s t = []
-stepsTaken (posting m ∷ l) i s t = stepsTaken l i (post m s .state) t
-stepsTaken (collecting ∷ l) i s t = stepsTaken l i (collect s .state) t
-stepsTaken (dropping j ∷ l) i s t = stepsTaken l i (dropAt j s .state) t
-stepsTaken (stepping c ∷ l) i s t = let r = step c s t in takenBy i s r ++ stepsTaken l i (r .state) (r .tally)
+-- the steps taken in a slot with these calls
+unfoldable pub stepsTaken : Plan → List Call → (slot : ℕ) → State → Tally → List Taken
+stepsTaken p [] i s t = []
+stepsTaken p (posting m ∷ l) i s t = stepsTaken p l i (post m s .state) t
+stepsTaken p (collecting ∷ l) i s t = stepsTaken p l i (collect s .state) t
+stepsTaken p (dropping j ∷ l) i s t = stepsTaken p l i (dropAt j s .state) t
+stepsTaken p (stepping c ∷ l) i s t = let r = step c s t in takenBy p i s r ++ stepsTaken p l i (r .state) (r .tally)
 
--- What holds of every step taken, over any run of posts, collects and choices from a fresh start, for every accepted plan and every slot, where the order
+-- ALL TIMES. What a step logs is what its times log, one after the other; and where it was taken in this slot, what stands there after it is the order
+-- after the last.
+unfoldable pub lastOf : Order → List Taken → Order
+lastOf o [] = o
+lastOf o (x ∷ l) = lastOf (x .after) l
+
+unfoldable pub TimesTold : Type 0
+TimesTold =
+    (bytes : List ℕ) (p : Plan) (next : ℕ) → readPlan bytes ≡ found p next → (calls : List Call) (slot : ℕ) (t : Tally) (c : ℕ) →
+    let s = stateAfter calls (loaded bytes) t in
+    let r = step c s (tallyAfter calls (loaded bytes) t) in
+    (logOf slot r ≡ each (λ x. x .log) (takenBy p slot s r)) × (getD (r .state .orders) slot noOrder ≡ lastOf (getD (s .orders) slot noOrder) (takenBy p slot s r))
+
+-- What holds of every time of every step taken, over any run of posts, collects and choices from a fresh start, for every accepted plan and every slot, where the order
 -- lives on.
 abbrev pub OfEachStep : (Plan → Taken → (activity : ℕ) → Bool) → Type 0
 OfEachStep f =
     (bytes : List ℕ) (p : Plan) (next : ℕ) → readPlan bytes ≡ found p next → (calls : List Call) (slot : ℕ) (t : Tally) →
-    every (ofEach f p) (stepsTaken calls slot (loaded bytes) t) ≡ true
+    every (ofEach f p) (stepsTaken p calls slot (loaded bytes) t) ≡ true
 
 unfoldable pub BegunTruly : Type 0
 BegunTruly = OfEachStep isMarked

@@ -36,7 +36,7 @@ ofAll f p x = every (f p x) (numbers (size (p .body) + size (p .fault)))
 abbrev pub OfEveryStep : (Plan → Taken → (activity : ℕ) → Bool) → Type 0
 OfEveryStep f =
     (bytes : List ℕ) (p : Plan) (next : ℕ) → readPlan bytes ≡ found p next → (calls : List Call) (slot : ℕ) (t : Tally) →
-    every (ofAll f p) (stepsTaken calls slot (loaded bytes) t) ≡ true
+    every (ofAll f p) (stepsTaken p calls slot (loaded bytes) t) ≡ true
 
 -- TRULY. No beginning is only claimed, also in the step that ends the order: what it logs as begun and lasts would have been left running, so there is none;
 -- but what an order that starts begins with, and has its step at once.
@@ -135,7 +135,7 @@ chained o (x ∷ l) q = sameOrder o (x .before) && chained (x .after) l q
 unfoldable pub Chained : Type 0
 Chained =
     (bytes : List ℕ) (p : Plan) (next : ℕ) → readPlan bytes ≡ found p next → (calls : List Call) (slot : ℕ) (t : Tally) →
-    chained noOrder (stepsTaken calls slot (loaded bytes) t) (orderAfter calls slot (loaded bytes) t) ≡ true
+    chained noOrder (stepsTaken p calls slot (loaded bytes) t) (orderAfter calls slot (loaded bytes) t) ≡ true
 
 -- And of every state, reachable or not: a step leaves every slot but that of its answer as it was, and all of them where it is refused; a post and a collect
 -- leave all orders as they were.
@@ -193,7 +193,7 @@ isAwaited p x = some (λ r. eqb (r .activity) (x .activity)) (readyOf p (cond (i
 unfoldable pub AwaitedTold : Type 0
 AwaitedTold =
     (bytes : List ℕ) (p : Plan) (next : ℕ) → readPlan bytes ≡ found p next → (calls : List Call) (slot : ℕ) (t : Tally) →
-    every (isAwaited p) (stepsTaken calls slot (loaded bytes) t) ≡ true
+    every (isAwaited p) (stepsTaken p calls slot (loaded bytes) t) ≡ true
 
 -- LEFT TO FINISH. "an inner scope already faulted, undoing or handling is left to finish": in the body and in the fault part of a scope in which the step does not
 -- stand nothing begins, unless that scope itself begins or is stopped with it.
@@ -215,7 +215,7 @@ isLocal x y =
 unfoldable pub LeftToFinish : Type 0
 LeftToFinish =
     (bytes : List ℕ) (p : Plan) (next : ℕ) → readPlan bytes ≡ found p next → (calls : List Call) (slot : ℕ) (t : Tally) →
-    every (λ x. every (isLocal x) (scopesOf p)) (stepsTaken calls slot (loaded bytes) t) ≡ true
+    every (λ x. every (isLocal x) (scopesOf p)) (stepsTaken p calls slot (loaded bytes) t) ≡ true
 
 -- The statements, by name.
 pub data Firm : Type 0 where
@@ -248,7 +248,7 @@ loose p ts o =
 unfoldable pub UndoneFirmly : Type 0
 UndoneFirmly =
     (bytes : List ℕ) (p : Plan) (next : ℕ) → readPlan bytes ≡ found p next → (calls : List Call) (slot : ℕ) (t : Tally) →
-    loose p (stepsTaken calls slot (loaded bytes) t) (orderAfter calls slot (loaded bytes) t) ≡ []
+    loose p (stepsTaken p calls slot (loaded bytes) t) (orderAfter calls slot (loaded bytes) t) ≡ []
 
 -- with BegunAfresh, which is computed and not proved
 unfoldable pub looser : Plan → List Taken → Order → List Firm

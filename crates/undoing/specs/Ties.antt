@@ -1,11 +1,11 @@
 -- What ties the history of a slot to what stands in it, to the steps taken and to their answers, stated beside demand 3, which judges the history by
 -- itself: marks, lists, steps, faults, ends, places, and that nothing is stuck. Assumes nothing: these are definitions.
-use Prim.Native.Nat.{ℕ, _+_}
+use Prim.Native.Nat.{ℕ, zero, suc, _+_}
 use mathlib.Core.Path.{_≡_}
 use mathlib.Core.Bool.{Bool, true, false, cond, not, _&&_, _||_}
 use mathlib.Core.List.{List, [], _∷_, _++_, reverse}
 use lib.ListN.{getD}
-use lib.Dec.{ltb, eqb}
+use lib.Dec.{leb, ltb, eqb}
 use Rattle.plan.specs.Found.{found}
 use Rattle.plan.specs.Read.{readPlan}
 use Rattle.plan.specs.Tree.{Own, empty, send, receive, set as setting, raise, leave, choose, repeat, sequence, flow, pick, scope, arm, Act, act, Acts, none, more, Plan, size}
@@ -20,9 +20,12 @@ use Rattle.order.specs.Expression.{Value, fault as faulting, value, evaluate}
 use Rattle.order.specs.Event.{Event, started, began, closed, faulted, stopped, ended, raised, left}
 use Rattle.order.specs.Begin.{quiet}
 use Rattle.order.specs.Scope.{Scope, scopeAt, rootOf, isOpen, isScope, innerRuns}
-use Rattle.order.specs.Acting.{allBound, startedOrder}
+use Rattle.order.specs.Acting.{allBound, itsOwn, inPlace, Moved, acted, startedOrder}
+use Rattle.order.specs.Awaited.{Ready}
+use Rattle.order.specs.Judging.{isThing, Verdict, clear, clash, conflict, spare}
 use Rattle.machine.specs.Fit.{Doing, noStep, sends, takes, moves, cuts, closes, readyOf}
-use Rattle.machine.specs.Calls.{loaded, post, collect, dropAt, Stepped, step, Call, posting, collecting, dropping, stepping}
+use Rattle.machine.specs.State.{noMessage}
+use Rattle.machine.specs.Calls.{loaded, post, collect, dropAt, doingAt, orderTaking, Stepped, step, Call, posting, collecting, dropping, stepping}
 use Rattle.undoing.specs.History.{history}
 use Rattle.undoing.specs.Demand3.{scopesOf, insideOf, closingsOf, undoneOf, hasTurned, isLeft, mayTurn, noneNow}
 
@@ -33,6 +36,14 @@ stateAfter (posting m ∷ l) s t = stateAfter l (post m s .state) t
 stateAfter (collecting ∷ l) s t = stateAfter l (collect s .state) t
 stateAfter (dropping j ∷ l) s t = stateAfter l (dropAt j s .state) t
 stateAfter (stepping c ∷ l) s t = let r = step c s t in stateAfter l (r .state) (r .tally)
+
+-- the tally after these calls
+unfoldable pub tallyAfter : List Call → State → Tally → Tally
+tallyAfter [] s t = t
+tallyAfter (posting m ∷ l) s t = tallyAfter l (post m s .state) t
+tallyAfter (collecting ∷ l) s t = tallyAfter l (collect s .state) t
+tallyAfter (dropping j ∷ l) s t = tallyAfter l (dropAt j s .state) t
+tallyAfter (stepping c ∷ l) s t = let r = step c s t in tallyAfter l (r .state) (r .tally)
 
 -- what stands in a slot after these calls, and what happened in it, the newest first
 abbrev pub orderAfter : List Call → (slot : ℕ) → State → Tally → Order
@@ -77,7 +88,9 @@ ListsTold =
     Always (λ p o past. isLive o ≡ true → (n : Name) → isName p n ≡ true →
     (isLeft n past ≡ true → closingsOf p n past ≡ undoneOf p n past ++ remembered p n o) × (isLeft n past ≡ false → remembered p n o ≡ []))
 
--- STEPS. The starts, closings, raises and leaves of a history are those of the steps taken in the slot, no more, no fewer, and in their order.
+-- STEPS. The starts, closings, raises and leaves of a history are those of the steps taken in the slot, no more, no fewer, and in their order. A step's
+-- own deed comes first, and then a raise for each conflict that stands when the receives open then are judged: so a receive or an arm raises exactly
+-- where it is the higher one of the pair whose higher number is least.
 
 -- an event that is a step's own
 unfoldable pub isDeed : Event → Bool
@@ -139,10 +152,30 @@ starting i s = cond (isLive (getD (s .orders) i noOrder)) [] (started ∷ [])
 abbrev pub isTaken : (slot : ℕ) → Stepped → Bool
 isTaken i r = eqb (r .answer .refusal) 0 && eqb (r .answer .slot) i
 
+-- the order after the step of this answer, before it is judged: the one that has the step, with the values of its message bound, and its activity acted
+abbrev pub ownStep : Plan → (slot : ℕ) → State → Stepped → Moved
+ownStep p i s r =
+    let t = r .answer .activity in
+    acted itsOwn p t (orderTaking (doingAt p t) (getD (s .messages) (r .answer .place) noMessage) (having p i s))
+
+-- the raises of an order that is judged, at most n times
+unfoldable pub clashes : (n : ℕ) → Plan → Moved → List Event
+clashes zero p m = []
+clashes (suc n) p m =
+    elim (m .end) [
+      | None ↦ elim (conflict p (m .order)) [ clear ↦ [] | clash k ↦ raised k ∷ clashes n p (acted inPlace p k (m .order)) ]
+      | Well ↦ []
+      | Handled ↦ []
+      | Failed ↦ []
+      | Left ↦ []
+    ]
+
 -- the step of this answer, where it was taken in this slot
 unfoldable pub deedBy : Plan → (slot : ℕ) → State → Stepped → List Event
 deedBy p i s r =
-    cond (isTaken i r) (starting i s ++ deedAt p (r .answer .activity) (having p i s)) []
+    cond (isTaken i r)
+    (starting i s ++ (deedAt p (r .answer .activity) (having p i s) ++ clashes (spare p (ownStep p i s r .order)) p (ownStep p i s r)))
+    []
 
 unfoldable pub deedsTaken : Plan → List Call → (slot : ℕ) → State → Tally → List Event
 deedsTaken p [] i s t = []
@@ -404,3 +437,29 @@ unfoldable pub GoingOn : Type 0
 GoingOn =
     Always (λ p o past. isLive o ≡ true →
     (movesOn (rootOf p) (o .root) (o .marks) && (goIn (p .body) 0 (o .marks) && goIn (p .fault) (size (p .body)) (o .marks))) ≡ true)
+
+-- WHICH PAIR. A raise is asked for exactly where two receives or arms that are open are for one thing; it stands in place of the higher-numbered of
+-- the two; and "of several pairs the one whose higher number is least comes first". Of any order.
+unfoldable pub forOne : Doing → Doing → Bool
+forOne d noStep = false
+forOne d (sends partner operation vs) = false
+forOne d (takes partner operation vs) = isThing partner operation vs d
+forOne d moves = false
+forOne d cuts = false
+forOne d (closes s) = false
+
+-- one of these with a lower number is for the same thing
+unfoldable pub isHigher : List Ready → Ready → Bool
+isHigher l r = some (λ q. ltb (q .activity) (r .activity) && forOne (q .step) (r .step)) l
+
+abbrev pub PairAs : List Ready → Verdict → Type 0
+PairAs l clear = every (λ r. not (isHigher l r)) l ≡ true
+PairAs l (clash k) =
+    (some (λ r. eqb (r .activity) k && isHigher l r) l ≡ true) × (every (λ r. not (isHigher l r) || leb k (r .activity)) l ≡ true)
+
+unfoldable pub PairTold : Type 0
+PairTold = (p : Plan) (o : Order) → PairAs (readyOf p o) (conflict p o)
+
+-- NO CONFLICT. In a live order no two of the receives and arms that are open are for one thing.
+unfoldable pub NoneTwice : Type 0
+NoneTwice = Always (λ p o past. conflict p o ≡ clear)

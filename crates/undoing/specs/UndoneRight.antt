@@ -15,6 +15,7 @@ use Rattle.order.specs.Lists.{every, some, only, each, alike}
 use Rattle.order.specs.State.{idle, Name, root, inner, markOf, isLive}
 use Rattle.order.specs.Event.{Event, started, began, closed, faulted, stopped, ended, raised, left}
 use Rattle.order.specs.Scope.{isOpen, rootOf}
+use Rattle.order.specs.Judging.{Verdict, clear, clash, conflict}
 use Rattle.machine.specs.Fit.{readyOf}
 use Rattle.machine.specs.Calls.{endNumber, loaded, Call}
 use Rattle.undoing.specs.History.{history}
@@ -39,6 +40,7 @@ pub data Named : Type 0 where
   places : Named
   goingOn : Named
   neverStuck : Named
+  noneTwice : Named
 
 abbrev pub sameBool : Bool → Bool → Bool
 sameBool a b = cond a b (not b)
@@ -79,12 +81,17 @@ unfoldable pub listTold : Plan → Order → (past : List Event) → Name → Bo
 listTold p o past n =
     cond (isLeft n past) (alike (closingsOf p n past) (undoneOf p n past ++ remembered p n o)) (alike (remembered p n o) [])
 
+-- no two are for one thing
+abbrev pub isClear : Verdict → Bool
+isClear clear = true
+isClear (clash k) = false
+
 abbrev pub unless : Bool → Named → List Named
 unless true n = []
 unless false n = n ∷ []
 
--- which of the statements a history breaks: of a plan, for what the steps taken are and these ends answered, for these steps with what stood in the slot
--- before and after each, and where this order stands there now
+-- which of the statements a history breaks: of a plan, for what the steps taken are and these ends answered, for these steps with the order
+-- before and after each time that one goes through it, and where this order stands there now
 unfoldable pub broken : Plan → (deeds : List Event) → (answered : List End) → List Taken → Order → (happened : List Event) → List Named
 broken p ds es ts o l =
     let past = reverse l in
@@ -102,12 +109,13 @@ broken p ds es ts o l =
     ++ (unless (every (listTold p o past) (namesOf p)) lists
     ++ (unless (every (λ r. fits (placeOf p (r .activity)) o) (readyOf p o)) places
     ++ (unless (movesOn (rootOf p) (o .root) (o .marks) && (goIn (p .body) 0 (o .marks) && goIn (p .fault) (size (p .body)) (o .marks))) goingOn
-    ++ unless (some (λ r. isStep (r .step)) (readyOf p o)) neverStuck))))
+    ++ (unless (some (λ r. isStep (r .step)) (readyOf p o)) neverStuck
+    ++ unless (isClear (conflict p o)) noneTwice)))))
     []))))))))
 
 -- For every accepted plan, every run of posts, collects and choices from a fresh start, and every slot, the history of the slot breaks none.
 unfoldable pub UndoneRight : Type 0
 UndoneRight =
     (bytes : List ℕ) (p : Plan) (next : ℕ) → readPlan bytes ≡ found p next → (calls : List Call) (slot : ℕ) (t : Tally) →
-    broken p (deedsTaken p calls slot (loaded bytes) t) (endsTaken calls slot (loaded bytes) t) (stepsTaken calls slot (loaded bytes) t) (orderAfter calls slot (loaded bytes) t) (history calls slot (loaded bytes) t)
+    broken p (deedsTaken p calls slot (loaded bytes) t) (endsTaken calls slot (loaded bytes) t) (stepsTaken p calls slot (loaded bytes) t) (orderAfter calls slot (loaded bytes) t) (history calls slot (loaded bytes) t)
     ≡ []

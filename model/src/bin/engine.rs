@@ -74,6 +74,10 @@ fn told(seen: &Seen, full: bool) {
         seen.taken, seen.undone
     );
     println!(
+        "two receives open for one thing: {} raises, {} steps with several",
+        seen.conflicts, seen.many_conflicts
+    );
+    println!(
         "held at a step: sends {}, closes {}, starts {}",
         seen.held_sends, seen.held_closes, seen.held_starts
     );
@@ -101,6 +105,8 @@ fn told(seen: &Seen, full: bool) {
         seen.held_closes,
         seen.held_starts,
         seen.undone,
+        seen.conflicts,
+        seen.many_conflicts,
     ];
     let missing = seen.refusals[10..].contains(&0)
         || seen.ends.contains(&0)

@@ -1,29 +1,17 @@
 -- `acting::step_order` meets its contract. Assumes nothing.
 use borrow.Author.Needs.{needs}
-use Rattle.acting.proofs.RootReturns.{step-body, step-fault}
+use Rattle.acting.proofs.JudgingReturns.{step-settles}
 use Rattle.acting.proofs.step_order.Statement.{statement}
 use Rattle.acting.proofs.step_order.Tie as tie
 
-ruleset cases = (step-body, step-fault)
+ruleset cases = (step-settles)
 
 pub step-order-spec : {M : Type 1} → statement M
 step-order-spec =
     tie.close (tie.spec
-    -- root-spot-requires
+    -- acted-requires
     (λ c κs. search needs)
-    -- step-in-requires
-    (λ c κs. search needs)
-    -- from-body-requires
-    (λ c κs. search needs)
-    -- moved-to-requires
+    -- settled-requires
     (λ c κs. search needs)
     -- returns
-    (λ c. search cases)
-    -- step-in-requires-2
-    (λ c κs. search needs)
-    -- from-fault-requires
-    (λ c κs. search needs)
-    -- moved-to-requires-2
-    (λ c κs. search needs)
-    -- returns-2
     (λ c. search cases))

@@ -12,7 +12,7 @@ use Rattle.acting.proofs.acting.arms.Reads as arms-reads
 use Rattle.acting.proofs.acting.child_with.Reads as child-with-reads
 use Rattle.acting.proofs.acting.combines.Reads as combines-reads
 use Rattle.order.proofs.rows.end_of.Reads as end-of-reads
-use Rattle.activity.proofs.itself.Reads as itself-reads
+use Rattle.acting.proofs.acting.performs.Reads as performs-reads
 use Rattle.order.proofs.marks.runs.Reads as runs-reads
 use Rattle.acting.proofs.acting.+step_in.{statement}
 use Rattle.acting.proofs.acting.+step_in.Tie.{close}
@@ -29,12 +29,12 @@ abbrev step-in-below : ℕ → In 1 step-in-kinds.ps
 step-in-below t = and 1 step-in-kinds.ps (falls 1 step-in-kinds.ps _<_ μ-step-in t) step-in.Pre
 
 abbrev step-in-claims : ℕ → step-in-lts.Claims
-step-in-claims t = (itself-reads.Asked, itself-reads.Learnt, end-of-reads.Asked, end-of-reads.Learnt, child-with-reads.Asked, child-with-reads.Learnt, arms-reads.Asked, arms-reads.Learnt, step-in-below t, step-in.Post, combines-reads.Asked, combines-reads.Learnt, runs-reads.Asked, runs-reads.Learnt)
+step-in-claims t = (performs-reads.Asked, performs-reads.Learnt, end-of-reads.Asked, end-of-reads.Learnt, child-with-reads.Asked, child-with-reads.Learnt, arms-reads.Asked, arms-reads.Learnt, step-in-below t, step-in.Post, combines-reads.Asked, combines-reads.Learnt, runs-reads.Asked, runs-reads.Learnt)
 
 pub +step-in-spec : {M : Type 1} → statement M
 +step-in-spec = close μ-step-in
     (λ t. step-in-lts.spec (step-in-claims t) (step-in-at t) step-in.Post
-    -- itself-requires
+    -- performs-requires
     (λ c κs. search needs)
     -- returns
     (λ c. search cases)
