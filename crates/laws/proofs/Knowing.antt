@@ -18,7 +18,8 @@ use Rattle.plan.proofs.Limits.{accepted-is-within}
 use Rattle.order.specs.declared.Order.{Order}
 use Rattle.order.specs.declared.End.{End}
 use Rattle.order.specs.declared.End.the-variants.{None, Well, Handled, Failed, Left}
-use Rattle.order.specs.Acting.{startedOrder, stepOrder, allBound}
+use Rattle.order.specs.Acting.{startedOrder, allBound}
+use Rattle.order.specs.Judging.{stepOrder}
 use Rattle.order.specs.Expression.{Value, fault, value, evaluate}
 use Rattle.order.specs.Lists.{every, stored}
 use Rattle.order.specs.Stands.{Stands}

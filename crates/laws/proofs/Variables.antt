@@ -2,7 +2,7 @@
 use mathlib.Core.Path.{_≡_, refl, sym, _∙_, subst}
 use mathlib.Core.Bool.{Bool, true, false, cond, _&&_, _||_, false≢true}
 use mathlib.Core.List.{List, [], _∷_, _++_}
-use Prim.Native.Nat.{ℕ, _+_, _<_}
+use Prim.Native.Nat.{ℕ, zero, suc, _+_, _<_}
 use native.Mathlib.Omega.{arith}
 use borrow.Author.Tests.{lt-ltb}
 use lib.Dec.{eqb, ltb}
@@ -17,9 +17,14 @@ use Rattle.order.specs.Expression.{Value, fault, value, evaluate, isTrue}
 use Rattle.order.specs.State.{idle, active, inside, done, faulty, undoing, handling, halted, withdrawing, Name, root, inner, withMarks, binding, closings, remembering, markAt, marked, markOf, marking, noOrder}
 use Rattle.order.specs.Begin.{Begun, begin, beginAfter, beginPart, partAt, cleared, quiet}
 use Rattle.order.specs.Scope.{Outcome, Scope, Stopped, runs, after, begunIn, scopeAt, rootOf, isScope, rememberedFor, forgetting, closing, innerRuns, whereOver, startUndo, undo, ends, handle, undoes, turns, isOpen, untouched, withdraws, stop, stopAll, stopFirst, faults, breaks, looksAgain, bodyOver, bodyRaised, undoOver, undoRaised, fromBody, partOver, partRaised, fromFault, fromUndo}
-use Rattle.order.specs.Acting.{finishes, raises, orRaises, enters, again, repeats, allBound, itself, isPart, arms, goesOn, joins, inScope, combines, stepIn, stepAmong, stepRoot, endOf, movedTo, stepOrder}
+use Rattle.order.specs.Acting.{finishes, raises, orRaises, enters, again, repeats, allBound, itself, isPart, arms, goesOn, joins, inScope, combines, stepIn, stepAmong, stepRoot, endOf, Moved, movedTo, Actor, itsOwn, inPlace, replaces, performs, acted}
+use Rattle.order.specs.Awaited.{Doing, noStep, sends, takes, moves, cuts, closes, doingOf, Ready, readyOf}
+use Rattle.order.specs.Judging.{isSecond, Verdict, clear, clash, clashAfter, conflict, following, upon, judged, spare, settled, stepOrder}
+use Rattle.machine.specs.Calls.{doingAt}
 use Rattle.order.specs.Taking.{actIn, actAmong, actAt}
 use Rattle.laws.specs.Known.{ownOf, setTo, Leaves}
+use Rattle.laws.proofs.Offering.{Each, each-none, each-more, Does, plan-ready}
+use Rattle.laws.proofs.Doing.{actDoing, plan-doing}
 
 abbrev isRoot : Name → Bool
 isRoot root = true
@@ -482,33 +487,60 @@ as-alike o q r f g = record { values = g .values ∙ f .values; bound = g .bound
 abbrev AlikeOutcome : Order → Outcome → Type 0
 AlikeOutcome o r = Alike o (r .order)
 
+-- a raise stands only in the place of what sets nothing
+replaced-set : (y : Actor) (own : Own) (o : Order) → replaces y (kind own) ≡ true → setBy own o ≡ o
+unfolding replaces kind setBy
+replaced-set y empty o h = refl
+replaced-set y (send p q vs) o h = refl
+replaced-set y (receive p q vs) o h = refl
+replaced-set itsOwn (setting v e) o h = absurd (false≢true h)
+replaced-set inPlace (setting v e) o h = absurd (false≢true h)
+replaced-set y raise o h = refl
+replaced-set y leave o h = refl
+replaced-set y (choose e) o h = refl
+replaced-set y (repeat e) o h = refl
+replaced-set y sequence o h = refl
+replaced-set y flow o h = refl
+replaced-set y pick o h = refl
+replaced-set y scope o h = refl
+replaced-set y (arm p q vs) o h = refl
+
+-- what acts, or the raise in its place
+alike-performs : (y : Actor) (own : Own) (l : Acts) (k : ℕ) (o : Order) → Alike (setBy own o) (performs y own l k o .order)
+unfolding performs
+alike-performs y own l k o = go (replaces y (kind own)) refl
+  where
+    go : (b : Bool) → replaces y (kind own) ≡ b → AlikeOutcome (setBy own o) (elim b [ true ↦ raises k o | false ↦ itself own l k o ])
+    go true e = subst (λ (q : Order). Alike q (marked k idle o)) (sym (replaced-set y own o e)) (as-marks _ (alike o))
+    go false e = alike-itself own l k o
+
 -- step t in an activity
 mutual
   unfolding stepIn actIn size setBy
 
-  alike-step : (a : Act) (k t : ℕ) (o : Order) → Alike (setBy (ownOf (actIn a k t)) o) (stepIn a k t o .order)
-  alike-step (act own l) k t o =
-      go (eqb k t) (alike-itself own l k o)
-      (as-combines own l k t (stepAmong l (k + 1) t (arms own l k t o))
-      (as-alike (setBy (ownOf (actAmong l (k + 1) t)) o) (setBy (ownOf (actAmong l (k + 1) t)) (arms own l k t o)) (stepAmong l (k + 1) t (arms own l k t o) .order)
-      (set-alike (ownOf (actAmong l (k + 1) t)) o (arms own l k t o) (alike-arms own l k t o)) (alike-among l (k + 1) t (arms own l k t o))))
+  alike-step : (y : Actor) (a : Act) (k t : ℕ) (o : Order) → Alike (setBy (ownOf (actIn a k t)) o) (stepIn y a k t o .order)
+  alike-step y (act own l) k t o =
+      go (eqb k t) (alike-performs y own l k o)
+      (as-combines own l k t (stepAmong y l (k + 1) t (arms own l k t o))
+      (as-alike (setBy (ownOf (actAmong l (k + 1) t)) o) (setBy (ownOf (actAmong l (k + 1) t)) (arms own l k t o)) (stepAmong y l (k + 1) t (arms own l k t o) .order)
+      (set-alike (ownOf (actAmong l (k + 1) t)) o (arms own l k t o) (alike-arms own l k t o)) (alike-among y l (k + 1) t (arms own l k t o))))
     where
-      go : (b : Bool) → Alike (setBy own o) (itself own l k o .order)
-          → Alike (setBy (ownOf (actAmong l (k + 1) t)) o) (combines own l k t (stepAmong l (k + 1) t (arms own l k t o)) .order)
+      go : (b : Bool) → Alike (setBy own o) (performs y own l k o .order)
+          → Alike (setBy (ownOf (actAmong l (k + 1) t)) o) (combines own l k t (stepAmong y l (k + 1) t (arms own l k t o)) .order)
           → AlikeOutcome (setBy (ownOf (elim b [ true ↦ act own l | false ↦ actAmong l (k + 1) t ])) o)
-          (elim b [ true ↦ itself own l k o | false ↦ combines own l k t (stepAmong l (k + 1) t (arms own l k t o)) ])
-      go true x y = x
-      go false x y = y
+          (elim b [ true ↦ performs y own l k o | false ↦ combines own l k t (stepAmong y l (k + 1) t (arms own l k t o)) ])
+      go true u v = u
+      go false u v = v
 
-  alike-among : (l : Acts) (c t : ℕ) (o : Order) → Alike (setBy (ownOf (actAmong l c t)) o) (stepAmong l c t o .order)
-  alike-among none c t o = alike o
-  alike-among (more a l) c t o = go (ltb t (c + size a)) (alike-step a c t o) (alike-among l (c + size a) t o)
+  alike-among : (y : Actor) (l : Acts) (c t : ℕ) (o : Order) → Alike (setBy (ownOf (actAmong l c t)) o) (stepAmong y l c t o .order)
+  alike-among y none c t o = alike o
+  alike-among y (more a l) c t o = go (ltb t (c + size a)) (alike-step y a c t o) (alike-among y l (c + size a) t o)
     where
-      go : (b : Bool) → Alike (setBy (ownOf (actIn a c t)) o) (stepIn a c t o .order) → Alike (setBy (ownOf (actAmong l (c + size a) t)) o) (stepAmong l (c + size a) t o .order)
+      go : (b : Bool) → Alike (setBy (ownOf (actIn a c t)) o) (stepIn y a c t o .order) → Alike (setBy (ownOf (actAmong l (c + size a) t)) o) (stepAmong y l (c + size a) t o .order)
           → AlikeOutcome (setBy (ownOf (elim b [ true ↦ actIn a c t | false ↦ actAmong l (c + size a) t ])) o)
-          (elim b [ true ↦ stepIn a c t o | false ↦ stepAmong l (c + size a) t o ])
-      go true x y = x
-      go false x y = y
+          (elim b [ true ↦ stepIn y a c t o | false ↦ stepAmong y l (c + size a) t o ])
+      go true u v = u
+      go false u v = v
 
 -- What stands in the slot then: an order with these variables that is live, or none.
 unfoldable pub Goes : End → (o q : Order) → Type 0
@@ -577,16 +609,17 @@ live-as : (o q : Order) → eqb (o .root) idle ≡ false → Alike o q → As (o
 unfolding RootIs
 live-as o q h f = record { values = f .values; bound = f .bound; root = rw (f .root) h }
 
--- So for a step of a live order: where it does not end it is live, and its variables are those that it had, but for what a set gives.
-pub order-goes : (p : Plan) (t : ℕ) (o : Order) → t < size (p .body) + size (p .fault) → eqb (o .root) idle ≡ false
-    → Goes (stepOrder p t o .end) (setBy (ownOf (actAt p t)) o) (stepOrder p t o .order)
-unfolding stepOrder stepRoot actIn
-order-goes p t o h e =
+-- So where an activity of a live order acts, or a raise in its place: where the order does not end it is live, and its variables are those that it had, but
+-- for what a set gives.
+acted-goes : (y : Actor) (p : Plan) (t : ℕ) (o : Order) → t < size (p .body) + size (p .fault) → eqb (o .root) idle ≡ false
+    → Goes (acted y p t o .end) (setBy (ownOf (actAt p t)) o) (acted y p t o .order)
+unfolding acted stepRoot actIn
+acted-goes y p t o h e =
     let z : 0 + size (p .body) ≡ size (p .body) = omega arith in
     subst (λ (n : ℕ). GoesTo (setBy (ownOf (elim (ltb t n) [
       | true ↦ actIn (p .body) 0 t
       | false ↦ elim (ltb t (n + size (p .fault))) [ true ↦ actIn (p .fault) n t | false ↦ act empty none ]
-    ])) o) (stepRoot p t o)) (sym z) (go (ltb t (size (p .body))) (ltb t (size (p .body) + size (p .fault))) (lt-ltb _ _ h))
+    ])) o) (stepRoot y p t o)) (sym z) (go (ltb t (size (p .body))) (ltb t (size (p .body) + size (p .fault))) (lt-ltb _ _ h))
   where
     live : (own : Own) → eqb (setBy own o .root) idle ≡ false
     live own = rw (set-live own o) e
@@ -597,16 +630,109 @@ order-goes p t o h e =
           | false ↦ elim b [ true ↦ actIn (p .fault) (size (p .body)) t | false ↦ act empty none ]
         ])) o)
         (elim a [
-          | true ↦ fromBody (rootOf p) (stepIn (p .body) 0 t o)
-          | false ↦ fromFault (rootOf p) (stepIn (p .fault) (size (p .body)) t o)
+          | true ↦ fromBody (rootOf p) (stepIn y (p .body) 0 t o)
+          | false ↦ fromFault (rootOf p) (stepIn y (p .fault) (size (p .body)) t o)
         ])
     go true b q =
         let own = ownOf (actIn (p .body) 0 t) in
-        moved-goes (setBy own o) 0 (fromBody (rootOf p) (stepIn (p .body) 0 t o))
-        (out-from-body (rootOf p) (stepIn (p .body) 0 t o) (live-as (setBy own o) (stepIn (p .body) 0 t o .order) (live own) (alike-step (p .body) 0 t o)))
+        moved-goes (setBy own o) 0 (fromBody (rootOf p) (stepIn y (p .body) 0 t o))
+        (out-from-body (rootOf p) (stepIn y (p .body) 0 t o) (live-as (setBy own o) (stepIn y (p .body) 0 t o .order) (live own) (alike-step y (p .body) 0 t o)))
     go false true q =
         let own = ownOf (actIn (p .fault) (size (p .body)) t) in
-        moved-goes (setBy own o) 0 (fromFault (rootOf p) (stepIn (p .fault) (size (p .body)) t o))
-        (out-from-fault (rootOf p) (stepIn (p .fault) (size (p .body)) t o)
-        (live-as (setBy own o) (stepIn (p .fault) (size (p .body)) t o .order) (live own) (alike-step (p .fault) (size (p .body)) t o)))
+        moved-goes (setBy own o) 0 (fromFault (rootOf p) (stepIn y (p .fault) (size (p .body)) t o))
+        (out-from-fault (rootOf p) (stepIn y (p .fault) (size (p .body)) t o)
+        (live-as (setBy own o) (stepIn y (p .fault) (size (p .body)) t o .order) (live own) (alike-step y (p .fault) (size (p .body)) t o)))
     go false false q = absurd (false≢true q)
+
+-- An order that is judged: what raises then is a receive or an arm, which sets nothing.
+isTaking : Doing → Bool
+isTaking noStep = false
+isTaking (sends p o vs) = false
+isTaking (takes p o vs) = true
+isTaking moves = false
+isTaking cuts = false
+isTaking (closes x) = false
+
+second-takes : (before : List Ready) (d : Doing) → isSecond before d ≡ true → isTaking d ≡ true
+unfolding isSecond isTaking
+second-takes before noStep e = e
+second-takes before (sends p o vs) e = e
+second-takes before (takes p o vs) e = refl
+second-takes before moves e = e
+second-takes before cuts e = e
+second-takes before (closes x) e = e
+
+abbrev Takes : Plan → Verdict → Type 0
+Takes p clear = Unit {0}
+Takes p (clash k) = (k < size (p .body) + size (p .fault)) × (isTaking (doingAt p k) ≡ true)
+
+clash-takes : (p : Plan) (before l : List Ready) → Each (Does (doingAt p) 0 (size (p .body) + size (p .fault))) l → Takes p (clashAfter before l)
+unfolding clashAfter
+clash-takes p before [] each-none = tt
+clash-takes p before (r ∷ l) (each-more x w) = go (isSecond before (r .step)) refl (clash-takes p (r ∷ before) l w)
+  where
+    go : (b : Bool) → isSecond before (r .step) ≡ b → Takes p (clashAfter (r ∷ before) l) → Takes p (elim b [ true ↦ clash (r .activity) | false ↦ clashAfter (r ∷ before) l ])
+    go true e v = (x .high, subst (λ (d : Doing). isTaking d ≡ true) (x .is) (second-takes before (r .step) e))
+    go false e v = v
+
+conflict-takes : (p : Plan) (o : Order) → Takes p (conflict p o)
+unfolding conflict
+conflict-takes p o = clash-takes p [] (readyOf p o) (plan-ready p o)
+
+taking-sets : (a : Act) (k : ℕ) (o : Order) → isTaking (actDoing a k) ≡ true → setBy (ownOf a) o ≡ o
+unfolding actDoing doingOf isTaking setBy
+taking-sets (act empty l) k o h = refl
+taking-sets (act (send p q vs) l) k o h = refl
+taking-sets (act (receive p q vs) l) k o h = refl
+taking-sets (act (setting v e) l) k o h = absurd (false≢true h)
+taking-sets (act raise l) k o h = refl
+taking-sets (act leave l) k o h = refl
+taking-sets (act (choose e) l) k o h = refl
+taking-sets (act (repeat e) l) k o h = refl
+taking-sets (act sequence l) k o h = refl
+taking-sets (act flow l) k o h = refl
+taking-sets (act pick l) k o h = refl
+taking-sets (act scope l) k o h = refl
+taking-sets (act (arm p q vs) l) k o h = refl
+
+goes-on : (e : End) (o q r : Order) → Goes None o q → Goes e q r → Goes e o r
+unfolding Goes
+goes-on None o q r f g = (g .0 ∙ f .0, g .1 ∙ f .1, g .2)
+goes-on Well o q r f g = g
+goes-on Handled o q r f g = g
+goes-on Failed o q r f g = g
+goes-on Left o q r f g = g
+
+abbrev MovesTo : Order → Moved → Type 0
+MovesTo o m = Goes (m .end) o (m .order)
+
+judged-goes : (n : ℕ) (p : Plan) (o : Order) (m : Moved) → MovesTo o m → MovesTo o (judged n p m)
+unfolding judged Goes
+judged-goes zero p o m f = f
+judged-goes (suc n) p o m f = go (λ m′ f′. judged-goes n p o m′ f′) (m .end) refl
+  where
+    raise-goes : (k : ℕ) → Goes None o (m .order) → (k < size (p .body) + size (p .fault)) × (isTaking (doingAt p k) ≡ true) → MovesTo o (acted inPlace p k (m .order))
+    raise-goes k g c =
+        let w = acted-goes inPlace p k (m .order) (c .0) (g .2) in
+        let z = taking-sets (actAt p k) k (m .order) (subst (λ (d : Doing). isTaking d ≡ true) (plan-doing p k (c .0)) (c .1)) in
+        goes-on (acted inPlace p k (m .order) .end) o (m .order) (acted inPlace p k (m .order) .order) g
+        (subst (λ (q : Order). Goes (acted inPlace p k (m .order) .end) q (acted inPlace p k (m .order) .order)) z w)
+
+    on : ((m′ : Moved) → MovesTo o m′ → MovesTo o (judged n p m′)) → Goes None o (m .order) → (v : Verdict) → Takes p v → MovesTo o (upon (judged n p) p m v)
+    on h g clear c = f
+    on h g (clash k) c = h (following (m .log) (acted inPlace p k (m .order))) (raise-goes k g c)
+
+    go : ((m′ : Moved) → MovesTo o m′ → MovesTo o (judged n p m′)) → (e : End) → m .end ≡ e
+        → MovesTo o (elim e as (λ _. Moved) [ None ↦ upon (judged n p) p m (conflict p (m .order)) | Well ↦ m | Handled ↦ m | Failed ↦ m | Left ↦ m ])
+    go h None e = on h (subst (λ (x : End). Goes x o (m .order)) e f) (conflict p (m .order)) (conflict-takes p (m .order))
+    go h Well e = f
+    go h Handled e = f
+    go h Failed e = f
+    go h Left e = f
+
+-- So for a step of a live order, with the judging that follows.
+pub order-goes : (p : Plan) (t : ℕ) (o : Order) → t < size (p .body) + size (p .fault) → eqb (o .root) idle ≡ false
+    → Goes (stepOrder p t o .end) (setBy (ownOf (actAt p t)) o) (stepOrder p t o .order)
+unfolding stepOrder settled
+order-goes p t o h e =
+    judged-goes (spare p (acted itsOwn p t o .order)) p (setBy (ownOf (actAt p t)) o) (acted itsOwn p t o) (acted-goes itsOwn p t o h e)
