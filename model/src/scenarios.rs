@@ -1,6 +1,7 @@
 //! The scenarios of data/scenarios.txt, data/hand.txt and data/held.txt: calls on one engine from a fresh state, each with its answer.
 
 use crate::engine::{self, Taken};
+use crate::packed;
 use crate::state::{Message, State, Tally};
 use crate::vectors;
 
@@ -117,6 +118,18 @@ fn call_of(words: &[&str], state: &mut State, tally: &mut Tally) -> String {
         "waiting" => {
             let messages: Vec<String> = state.waiting().iter().map(written).collect();
             messages.join(" | ")
+        }
+        "show" => {
+            let bytes = &state.plan[..state.length as usize];
+            let shown = packed::show(bytes, number(1) as u32);
+            let (start, length) = (shown >> 24 & 0xFF_FFFF, shown & 0xFF_FFFF);
+            match shown >> 48 {
+                0 => format!(
+                    "0 {}",
+                    vectors::hex(&bytes[start as usize..(start + length) as usize])
+                ),
+                refusal => refusal.to_string(),
+            }
         }
         "tally" => joined(tally.0),
         other => panic!("no call is named {other}"),
