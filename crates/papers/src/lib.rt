@@ -1,11 +1,14 @@
 // What the desk does with plans and files: a plan is read, drawn, shown, written from a text and mended, a state saved and opened.
 mod disagreeing;
+mod checks;
 mod files;
 mod mends;
 mod plans;
 mod reasons;
 mod writing;
 
+pub use checks::check;
+pub use checks::warn;
 pub use files::open;
 pub use files::save;
 use machine::State;
