@@ -54,5 +54,6 @@ pub mod OnceSteps
 pub mod OnceOver
 pub mod Nearing
 pub mod NearTold
+pub mod Afresh
 pub mod Firmly
 pub mod Weighed
