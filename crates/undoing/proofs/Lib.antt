@@ -54,5 +54,9 @@ pub mod OnceSteps
 pub mod OnceOver
 pub mod Nearing
 pub mod NearTold
+pub mod Dropping
+pub mod Afresh
+pub mod AfreshSteps
+pub mod AfreshTold
 pub mod Firmly
 pub mod Weighed

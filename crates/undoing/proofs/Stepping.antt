@@ -274,7 +274,7 @@ module _ (p : Plan) (distinct : Distinct p) where
       )
 
   -- what has one running in it has no step of its own, but a sequence or a flow that stays as it is
-  held-itself : (own : Own) (within : Acts) (k : ℕ) (o : Order) → isScope own ≡ false → awaits own false (holding own) ≡ true → itself own within k o ≡ runs o
+  pub held-itself : (own : Own) (within : Acts) (k : ℕ) (o : Order) → isScope own ≡ false → awaits own false (holding own) ≡ true → itself own within k o ≡ runs o
   unfolding itself kind awaits
   held-itself empty within k o s e = absurd (false≢true e)
   held-itself (send x y vs) within k o s e = absurd (false≢true e)
