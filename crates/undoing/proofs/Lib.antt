@@ -60,3 +60,11 @@ pub mod AfreshSteps
 pub mod AfreshTold
 pub mod Firmly
 pub mod Weighed
+pub mod AnsweredExamples
+pub mod Sure
+pub mod Lessening
+pub mod Owing
+pub mod Repaying
+pub mod Pushing
+pub mod Settling
+pub mod TakenBack

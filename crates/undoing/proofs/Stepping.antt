@@ -38,14 +38,14 @@ use Rattle.undoing.proofs.Goings.{begins-at, acts-itself, acts-runs}
 use Rattle.undoing.proofs.Combining.{OneAs, AllAs, run-before, combines-one, combines-all, arms-holding, arms-held, arms-none, Idly, idly-same, idly-runs, combines-idly}
 
 -- the definitions, by where the step is
-step-is : (own : Own) (within : Acts) (k t : ℕ) (o : Order) (b : Bool) → eqb k t ≡ b
+pub step-is : (own : Own) (within : Acts) (k t : ℕ) (o : Order) (b : Bool) → eqb k t ≡ b
     → stepIn (act own within) k t o ≡ elim b [ true ↦ itself own within k o | false ↦ combines own within k t (stepAmong within (k + 1) t (arms own within k t o)) ]
 unfolding stepIn
 step-is own within k t o b e =
     subst (λ (z : Bool). stepIn (act own within) k t o ≡ elim z [ true ↦ itself own within k o | false ↦ combines own within k t (stepAmong within (k + 1) t (arms own within k t o)) ]) e refl
 
 -- in a list
-among-is : (a : Act) (l : Acts) (c t : ℕ) (o : Order) (b : Bool) → ltb t (c + size a) ≡ b
+pub among-is : (a : Act) (l : Acts) (c t : ℕ) (o : Order) (b : Bool) → ltb t (c + size a) ≡ b
     → stepAmong (more a l) c t o ≡ elim b [ true ↦ stepIn a c t o | false ↦ stepAmong l (c + size a) t o ]
 unfolding stepIn
 among-is a l c t o b e = subst (λ (z : Bool). stepAmong (more a l) c t o ≡ elim z [ true ↦ stepIn a c t o | false ↦ stepAmong l (c + size a) t o ]) e refl
@@ -518,7 +518,7 @@ module _ (p : Plan) (distinct : Distinct p) where
   StopInAs l c o g o′ undone = ⊥
   StopInAs l c o g o′ undoRaising = ⊥
 
-  abbrev UndoInAs : Name → Acts → (c t : ℕ) → Order → List Event → Order → Result → Type 0
+  abbrev pub UndoInAs : Name → Acts → (c t : ℕ) → Order → List Event → Order → Result → Type 0
   UndoInAs n l c t o g o′ running = UndoingIn (o′ .marks) l c × Does p None o g o′
   UndoInAs n l c t o g o′ over = ⊥
   UndoInAs n l c t o g o′ raising = ⊥
