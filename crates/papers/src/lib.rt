@@ -1,6 +1,6 @@
 // What the desk does with plans and files: a plan is read, drawn, shown, written from a text and mended, a state saved and opened.
-mod disagreeing;
 mod checks;
+mod disagreeing;
 mod files;
 mod mends;
 mod plans;

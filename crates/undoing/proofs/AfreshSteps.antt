@@ -450,8 +450,10 @@ module _ (p : Plan) (distinct : Distinct p) (f : ℕ → ℕ) (t : ℕ) (o : Ord
         fresh-event p f t (o .marks) (faulted (s .name)) _ (λ j. refl)
         (fresh-append p f t (o .marks) (r .log) (turns true s (r .order) .log)
         (stop-fresh p f t (o .marks) (h .body) kb c o₂ (ap phase (marking-mark (s .name) (s .bodyAt) faulty o₁ (h .before) (omega arith))) (stoppable-agree y g) (omega (arith, marking-length (s .name) faulty o₁))
-        (record { at = λ j x z e. let d : isOpen (getD (o₁ .marks) j 0) ≡ true = subst (λ (i : ℕ). isOpen i ≡ true) (g .at j x z) e in
-            subst (λ (i : ℕ). isOpen i ≡ true) (st j .same (open-up (getD (o₁ .marks) j 0) d)) d }))
+        (record {
+          at = λ j x z e. let d : isOpen (getD (o₁ .marks) j 0) ≡ true = subst (λ (i : ℕ). isOpen i ≡ true) (g .at j x z) e in
+              subst (λ (i : ℕ). isOpen i ≡ true) (st j .same (open-up (getD (o₁ .marks) j 0) d)) d;
+        }))
         (turns-fresh p f t (o .marks) s kb kf named c true (λ e. quiet-news p f t (o .marks) q) (r .order)))
       where
         open-up : (i : ℕ) → isOpen i ≡ true → eqb i idle ≡ false

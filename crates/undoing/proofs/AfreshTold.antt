@@ -24,7 +24,7 @@ use Rattle.order.specs.Event.{Event, started, ended}
 use Rattle.order.specs.Scope.{Outcome, rootOf, fromBody, fromFault}
 use Rattle.order.specs.Acting.{stepIn, stepRoot, endOf, movedTo, stepOrder, begunOrder, startedOrder}
 use Rattle.order.specs.Taking.{actIn, actAmong, actAt}
-use Rattle.machine.specs.Calls.{loadedAs, load, post, collect, Stepped, doingAt, step, Call, posting, collecting, stepping}
+use Rattle.machine.specs.Calls.{loadedAs, load, post, collect, dropAt, Stepped, doingAt, step, Call, posting, collecting, dropping, stepping}
 use Rattle.undoing.specs.History.{logOf}
 use Rattle.undoing.specs.Ties.{isTaken, placeOf}
 use Rattle.undoing.specs.Orderly.{isBeganOf}
@@ -40,7 +40,7 @@ use Rattle.undoing.proofs.Waiting.{quiet-waits}
 use Rattle.undoing.proofs.Scoping.{scope-live, scope-done, scope-turned, Running}
 use Rattle.undoing.proofs.Stepping.{steps, steps-stopped, steps-undoing}
 use Rattle.undoing.proofs.Roots.{Awaited, in-body, in-fault, Standing}
-use Rattle.undoing.proofs.Slots.{standing-live, taking-alike, order-starts, post-same, collect-same, Sane, same-sane, fresh-sane}
+use Rattle.undoing.proofs.Slots.{standing-live, taking-alike, order-starts, post-same, collect-same, drop-same, Sane, same-sane, fresh-sane}
 use Rattle.undoing.proofs.Happening.{orderIn, withMessage, Happens, nothing-here, goes-here, starts-here, step-happens}
 use Rattle.undoing.proofs.Demanded.{step-after}
 use Rattle.undoing.proofs.Truly.{Knows}
@@ -171,6 +171,7 @@ module _ (p : Plan) (h : Promised p) where
       all-afresh [] s t past g = refl
       all-afresh (posting m ∷ l) s t past g = all-afresh l (post m s .state) t past (same-sane p bytes next i accepted h s (post m s .state) past (post-same m s) g)
       all-afresh (collecting ∷ l) s t past g = all-afresh l (collect s .state) t past (same-sane p bytes next i accepted h s (collect s .state) past (collect-same s) g)
+      all-afresh (dropping j ∷ l) s t past g = all-afresh l (dropAt j s .state) t past (same-sane p bytes next i accepted h s (dropAt j s .state) past (drop-same j s) g)
       all-afresh (stepping c ∷ l) s t past g =
           let r = step c s t in
           every-append (ofAll isAfresh p) (takenBy i s r) (stepsTaken l i (r .state) (r .tally)) (happens-afresh s past r (step-happens p bytes next i accepted h c s t past g .happens))

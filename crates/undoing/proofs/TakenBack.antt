@@ -26,7 +26,7 @@ use Rattle.order.specs.declared.Way.{Way as Result}
 use Rattle.order.specs.declared.Way.the-variants.{Running as running, Over as over, Raising as raising, Leaving as leaving, Undone as undone, UndoRaising as undoRaising}
 use Rattle.order.specs.Scope.{Outcome, rootOf}
 use Rattle.order.specs.Acting.{stepRoot, endOf, Moved, movedTo, stepOrder, begunOrder, startedOrder}
-use Rattle.machine.specs.Calls.{loadedAs, load, post, collect, Stepped, doingAt, step, Call, posting, collecting, stepping}
+use Rattle.machine.specs.Calls.{loadedAs, load, post, collect, dropAt, Stepped, doingAt, step, Call, posting, collecting, dropping, stepping}
 use Rattle.undoing.specs.History.{logOf}
 use Rattle.undoing.specs.Ties.{isTaken, endList, endBy}
 use Rattle.undoing.specs.Answered.{Book, nothingDue, noted, mayNote, settles, turned, inOrder, answered, TakenBackOnce}
@@ -36,7 +36,7 @@ use Rattle.undoing.proofs.Orders.{momentOf, onto, does-nothing}
 use Rattle.undoing.proofs.Scoping.{scope-live, scope-done, scope-turned, Running, StepsAs}
 use Rattle.undoing.proofs.Roots.{Awaited, Standing, root-steps, EndedAs, Passed, passes-on, passes-end}
 use Rattle.undoing.proofs.Planning.{Promised, promised}
-use Rattle.undoing.proofs.Slots.{standing-live, fresh-order, Alike, taking-alike, root-mild, taken-step, order-starts, started-in-limits, post-same, collect-same, Sane, same-sane, fresh-sane}
+use Rattle.undoing.proofs.Slots.{standing-live, fresh-order, Alike, taking-alike, root-mild, taken-step, order-starts, started-in-limits, post-same, collect-same, drop-same, Sane, same-sane, fresh-sane}
 use Rattle.undoing.proofs.Happening.{orderIn, withMessage, Happens, nothing-here, goes-here, starts-here, step-happens}
 use Rattle.undoing.proofs.Demanded.{step-after}
 use Rattle.undoing.proofs.Marks.{turned-not-open}
@@ -200,6 +200,8 @@ module _ (p : Plan) (h : Promised p) where
         all-noted l (post m s .state) t past a (same-sane p bytes next i accepted h s (post m s .state) past (post-same m s) g) (subst (λ (os : List Order). Books p (getD os i noOrder) a) (sym (post-same m s .orders)) b)
     all-noted (collecting ∷ l) s t past a g b =
         all-noted l (collect s .state) t past a (same-sane p bytes next i accepted h s (collect s .state) past (collect-same s) g) (subst (λ (os : List Order). Books p (getD os i noOrder) a) (sym (collect-same s .orders)) b)
+    all-noted (dropping j ∷ l) s t past a g b =
+        all-noted l (dropAt j s .state) t past a (same-sane p bytes next i accepted h s (dropAt j s .state) past (drop-same j s) g) (subst (λ (os : List Order). Books p (getD os i noOrder) a) (sym (drop-same j s .orders)) b)
     all-noted (stepping c ∷ l) s t past a g b =
         let r = step c s t in
         happens-noted s past r a (step-happens p bytes next i accepted h c s t past g .happens) b (answered l i (r .state) (r .tally))

@@ -17,7 +17,7 @@ use Rattle.order.specs.Lists.{some, only, empties}
 use Rattle.order.specs.State.{Name, root}
 use Rattle.order.specs.Begin.{part, partAt}
 use Rattle.order.specs.Scope.{isScope}
-use Rattle.machine.specs.Calls.{loaded, post, collect, Stepped, step, Call, posting, collecting, stepping}
+use Rattle.machine.specs.Calls.{loaded, post, collect, dropAt, Stepped, step, Call, posting, collecting, dropping, stepping}
 use Rattle.undoing.specs.Demand3.{insideOf}
 use Rattle.undoing.specs.Ties.{isTaken}
 
@@ -149,6 +149,7 @@ unfoldable pub answered : List Call → (slot : ℕ) → State → Tally → Lis
 answered [] i s t = []
 answered (posting m ∷ l) i s t = answered l i (post m s .state) t
 answered (collecting ∷ l) i s t = answered l i (collect s .state) t
+answered (dropping j ∷ l) i s t = answered l i (dropAt j s .state) t
 answered (stepping c ∷ l) i s t = let r = step c s t in cond (isTaken i r) (r .answer ∷ []) [] ++ answered l i (r .state) (r .tally)
 
 -- What closed directly inside the root is taken back once for each closing, the latest first: all of it where the order ended handled, nothing where it ended well, and
