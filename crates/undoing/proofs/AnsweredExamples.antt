@@ -5,14 +5,14 @@ use mathlib.Core.Bool.{Bool, true, false}
 use mathlib.Core.List.{List, [], _∷_, map}
 use Rattle.plan.specs.Read.{readPlan}
 use Rattle.order.specs.declared.End.{End}
-use Rattle.order.specs.declared.End.the-variants.{None, Well, Handled}
+use Rattle.order.specs.declared.End.the-variants.{None, Well, Handled, Failed}
 use Rattle.machine.specs.declared.Step.{Step}
 use Rattle.machine.specs.State.{noTally}
 use Rattle.machine.specs.Limits.{by}
 use Rattle.machine.specs.Calls.{endNumber, loaded, Call, posting, stepping}
 use Rattle.machine.specs.Computing.{computing}
 use Rattle.undoing.specs.Computing.{judging}
-use Rattle.undoing.specs.Answered.{isSure, hasAll, surely, backIn, backOf, nothingDue, noted, mayNote, settles, inOrder, answered}
+use Rattle.undoing.specs.Answered.{isSure, hasAll, surely, backIn, backOf, nothingDue, noted, mayNote, settles, inOrder, answered, asOften, eachAsOften}
 
 abbrev first : Call
 first = posting (record { partner = 0; operation = 0; count = 1; values = 5 ∷ 0 ∷ 0 ∷ 0 ∷ [] })
@@ -91,6 +91,33 @@ inSequence =
           ∷ [];
     }
 
+-- The same, with a flow in place of the sequence: its sends in either order.
+unfoldable inFlow : Example
+inFlow =
+    record {
+      bytes = 1 ∷ 1 ∷ 0 ∷ 8 ∷ 3 ∷ 2 ∷ 0 ∷ 0 ∷ 1 ∷ 0 ∷ 11 ∷ 0 ∷ 0 ∷ 9 ∷ 2 ∷ 1 ∷ 2 ∷ 1 ∷ 1 ∷ 0 ∷ 1 ∷ 2 ∷ 1 ∷ 1 ∷ 0 ∷ 4 ∷ 1 ∷ 2 ∷ 2 ∷ 1 ∷ 0 ∷ [];
+      calls = first ∷ next ∷ next ∷ next ∷ stepping 1 ∷ next ∷ next ∷ [];
+      rightly = goes 1 ∷ goes 2 ∷ goes 8 ∷ goes 7 ∷ goes 6 ∷ answers 9 Handled ∷ [];
+      wrongly =
+          -- one of the two, and one of them twice
+          (goes 1 ∷ goes 2 ∷ goes 8 ∷ goes 7 ∷ answers 9 Handled ∷ [])
+          ∷ (goes 1 ∷ goes 2 ∷ goes 8 ∷ goes 7 ∷ goes 7 ∷ answers 9 Handled ∷ [])
+          ∷ [];
+    }
+
+-- Plan C with a raise 9 for the second undo part: the order fails, with the first closing not taken back.
+unfoldable failing : Example
+failing =
+    record {
+      bytes = 1 ∷ 1 ∷ 0 ∷ 8 ∷ 4 ∷ 2 ∷ 0 ∷ 0 ∷ 1 ∷ 0 ∷ 11 ∷ 0 ∷ 0 ∷ 1 ∷ 2 ∷ 1 ∷ 1 ∷ 0 ∷ 11 ∷ 0 ∷ 0 ∷ 4 ∷ 4 ∷ 0 ∷ [];
+      calls = first ∷ next ∷ next ∷ next ∷ next ∷ next ∷ [];
+      rightly = goes 1 ∷ goes 2 ∷ goes 6 ∷ goes 10 ∷ answers 9 Failed ∷ [];
+      wrongly =
+          -- the raise is passed over
+          (goes 1 ∷ goes 2 ∷ goes 6 ∷ goes 10 ∷ goes 5 ∷ answers 9 Failed ∷ [])
+          ∷ [];
+    }
+
 -- A receive 1; a scope 2 whose body is a raise 3, with an empty fault part 4 and an undo part 5; a raise 6; the root's fault part 7.
 unfoldable handledScope : Example
 handledScope =
@@ -105,7 +132,7 @@ handledScope =
     }
 
 unfoldable examples : List Example
-examples = twoScopes ∷ threeClosings ∷ inSequence ∷ handledScope ∷ []
+examples = twoScopes ∷ threeClosings ∷ inSequence ∷ inFlow ∷ failing ∷ handledScope ∷ []
 
 -- the activity and the end of each
 brief : List Step → List (List ℕ)
@@ -113,16 +140,28 @@ brief l = map (λ x. x .activity ∷ endNumber (x .end) ∷ []) l
 
 -- the right answers are those of the definitions
 given : map (λ x. brief (answered (x .calls) 0 (loaded (x .bytes)) noTally)) examples ≡ map (λ x. brief (x .rightly)) examples
-unfolding examples twoScopes threeClosings inSequence handledScope brief answered computing judging
+unfolding examples twoScopes threeClosings inSequence inFlow failing handledScope brief answered computing judging
 given = refl
 
 judged : List ℕ → List Step → Bool
 judged bytes l = by false (λ p. inOrder p nothingDue l) (readPlan bytes)
 
 accepted : map (λ x. judged (x .bytes) (x .rightly)) examples ≡ map (λ x. true) examples
-unfolding examples twoScopes threeClosings inSequence handledScope judged isSure hasAll surely backIn backOf noted mayNote settles inOrder computing judging
+unfolding examples twoScopes threeClosings inSequence inFlow failing handledScope judged isSure hasAll surely backIn backOf noted mayNote settles inOrder computing judging
 accepted = refl
 
 refused : map (λ x. map (judged (x .bytes)) (x .wrongly)) examples ≡ map (λ x. map (λ l. false) (x .wrongly)) examples
-unfolding examples twoScopes threeClosings inSequence handledScope judged isSure hasAll surely backIn backOf noted mayNote settles inOrder computing judging
+unfolding examples twoScopes threeClosings inSequence inFlow failing handledScope judged isSure hasAll surely backIn backOf noted mayNote settles inOrder computing judging
 refused = refl
+
+-- the same in numbers: an engine that takes back as often as it should, in another order, is not refused by these alone
+counted : List ℕ → List Step → Bool
+counted bytes l = by false (λ p. eachAsOften p [] l) (readPlan bytes)
+
+often : map (λ x. counted (x .bytes) (x .rightly)) examples ≡ map (λ x. true) examples
+unfolding examples twoScopes threeClosings inSequence inFlow failing handledScope counted isSure hasAll surely backIn backOf asOften eachAsOften computing judging
+often = refl
+
+notOften : map (counted (threeClosings .bytes)) (threeClosings .wrongly) ≡ false ∷ false ∷ []
+unfolding threeClosings counted isSure hasAll surely backIn backOf asOften eachAsOften computing judging
+notOften = refl

@@ -68,3 +68,4 @@ pub mod Repaying
 pub mod Pushing
 pub mod Settling
 pub mod TakenBack
+pub mod AsOften

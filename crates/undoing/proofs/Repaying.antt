@@ -48,10 +48,10 @@ unfolding backIn
 back-in-is a l c e b t = subst (λ (z : Bool). backAmong (more a l) c e ≡ elim z [ true ↦ backIn a c e | false ↦ backAmong l (c + size a) e ]) t refl
 
 -- of an activity other than a scope, and of a scope
-back-part : (own : Own) (within : Acts) (k e : ℕ) → isScope own ≡ false → backIn (act own within) k e ≡ backAmong within (k + 1) e
+pub back-part : (own : Own) (within : Acts) (k e : ℕ) → isScope own ≡ false → backIn (act own within) k e ≡ backAmong within (k + 1) e
 back-part own within k e s = back-is own within k e false (rw s)
 
-back-scope : (b f u : Act) (k e : ℕ) → eqb k e ≡ true → backIn (act scope (trio b f u)) k e ≡ surely u (k + 1 + size b + size f)
+pub back-scope : (b f u : Act) (k e : ℕ) → eqb k e ≡ true → backIn (act scope (trio b f u)) k e ≡ surely u (k + 1 + size b + size f)
 unfolding part partAt kind
 back-scope b f u k e t = back-is scope (trio b f u) k e true t
 
@@ -250,10 +250,10 @@ or-case true b h f g = f refl
 or-case false b h f g = g h
 
 -- the scope directly in a list stands in the first or in the others
-back-first : (a : Act) (l : Acts) (c e : ℕ) → directly a c e ≡ true → backAmong (more a l) c e ≡ backIn a c e
+pub back-first : (a : Act) (l : Acts) (c e : ℕ) → directly a c e ≡ true → backAmong (more a l) c e ≡ backIn a c e
 back-first a l c e t = back-in-is a l c e true (lt-ltb e (c + size a) (directly-range a c e t .1))
 
-back-later : (a : Act) (l : Acts) (c e : ℕ) → directlyIn l (c + size a) e ≡ true → backAmong (more a l) c e ≡ backAmong l (c + size a) e
+pub back-later : (a : Act) (l : Acts) (c e : ℕ) → directlyIn l (c + size a) e ≡ true → backAmong (more a l) c e ≡ backAmong l (c + size a) e
 back-later a l c e t = back-in-is a l c e false (le-ltb e (c + size a) (directly-range-in l (c + size a) e t .0))
 
 pub direct-scope : (b f u : Act) (k e : ℕ) → directly (act scope (trio b f u)) k e ≡ true → eqb k e ≡ true
@@ -263,13 +263,13 @@ direct-scope b f u k e d = sym (directly-is scope (trio b f u) k e true scope-is
 mutual
   unfolding size
 
-  back-none : (a : Act) (k e t : ℕ) {p : Plan} {x : Place} → Sits p x a k → directly a k e ≡ true → Off t k (size a) → some (eqb t) (backIn a k e) ≡ false
+  pub back-none : (a : Act) (k e t : ℕ) {p : Plan} {x : Place} → Sits p x a k → directly a k e ≡ true → Off t k (size a) → some (eqb t) (backIn a k e) ≡ false
   back-none (act own within) k e t (sits-part s g v y l) d f =
       ap (some (eqb t)) (back-part own within k e s) ∙ back-none-in within (k + 1) e t l (sym (directly-is own within k e false s) ∙ d) (off-part f (omega arith) (omega arith))
   back-none (act scope (more b (more f (more u none)))) k e t (sits-scope kn v i sb z sf su) d g =
       ap (some (eqb t)) (back-scope b f u k e (direct-scope b f u k e d)) ∙ surely-none u (k + 1 + size b + size f) t (off-part g (omega arith) (omega arith))
 
-  back-none-in : (l : Acts) (c e t : ℕ) {p : Plan} {x : Place} → SitsIn p x l c → directlyIn l c e ≡ true → Off t c (sizes l) → some (eqb t) (backAmong l c e) ≡ false
+  pub back-none-in : (l : Acts) (c e t : ℕ) {p : Plan} {x : Place} → SitsIn p x l c → directlyIn l c e ≡ true → Off t c (sizes l) → some (eqb t) (backAmong l c e) ≡ false
   back-none-in none c e t sits-none d f = absurd (none-directly c e d)
   back-none-in (more a l) c e t (sits-more s y) d f =
       decide (directly a c e)

@@ -94,7 +94,7 @@ some-find f (x ∷ l) h g =
     (λ e. g (x .number) (rw (eq-eqb (x .number) (x .number) refl)) e)
     (λ e. some-find f l (rw e at h) (λ i a b. g i (rw (a, or-true)) b))
 
-some-found : (f : ℕ → Bool) (e : ℕ) (l : List Inner) → some (λ x. eqb (x .number) e) l ≡ true → f e ≡ true → some (λ x. f (x .number)) l ≡ true
+pub some-found : (f : ℕ → Bool) (e : ℕ) (l : List Inner) → some (λ x. eqb (x .number) e) l ≡ true → f e ≡ true → some (λ x. f (x .number)) l ≡ true
 unfolding some
 some-found f e [] h g = absurd (false≢true h)
 some-found f e (x ∷ l) h g =

@@ -4,6 +4,7 @@ use Prim.Native.Nat.{ℕ, _+_}
 use mathlib.Core.Path.{_≡_}
 use mathlib.Core.Bool.{Bool, true, false, cond, not, _&&_}
 use mathlib.Core.List.{List, [], _∷_, _++_}
+use lib.ListN.{length}
 use lib.Dec.{ltb, eqb}
 use Rattle.plan.specs.Found.{found}
 use Rattle.plan.specs.Read.{readPlan}
@@ -13,7 +14,7 @@ use Rattle.order.specs.declared.End.the-variants.{None, Well, Handled, Failed, 
 use Rattle.machine.specs.declared.State.{State}
 use Rattle.machine.specs.declared.Step.{Step}
 use Rattle.machine.specs.declared.Tally.{Tally}
-use Rattle.order.specs.Lists.{some, only, empties}
+use Rattle.order.specs.Lists.{every, some, only, empties}
 use Rattle.order.specs.State.{Name, root}
 use Rattle.order.specs.Begin.{part, partAt}
 use Rattle.order.specs.Scope.{isScope}
@@ -158,3 +159,34 @@ unfoldable pub TakenBackOnce : Type 0
 TakenBackOnce =
     (bytes : List ℕ) (p : Plan) (next : ℕ) → readPlan bytes ≡ found p next → (calls : List Call) (slot : ℕ) (t : Tally) →
     inOrder p nothingDue (answered calls slot (loaded bytes) t) ≡ true
+
+-- In numbers: in an order that ended handled each step that takes a scope directly inside the root back was answered as often as that scope closed, and in one
+-- that ended well never.
+
+-- how often a step is one of these
+abbrev pub oftenIn : (t : ℕ) → List ℕ → ℕ
+oftenIn t l = length (only (eqb t) l)
+
+unfoldable pub asOften : Plan → End → (steps : List ℕ) → Bool
+asOften p None ks = true
+asOften p Well ks = every (λ x. every (λ t. eqb (oftenIn t ks) 0) (backOf p (x .number))) (insideOf p root)
+asOften p Handled ks = every (λ x. every (λ t. eqb (oftenIn t ks) (oftenIn (x .number) ks)) (backOf p (x .number))) (insideOf p root)
+asOften p Failed ks = true
+asOften p Left ks = true
+
+-- the steps of an order so far, the newest first: those of the next one in the slot are its own
+abbrev pub goingOn : End → List ℕ → List ℕ
+goingOn None ks = ks
+goingOn Well ks = []
+goingOn Handled ks = []
+goingOn Failed ks = []
+goingOn Left ks = []
+
+unfoldable pub eachAsOften : Plan → (steps : List ℕ) → List Step → Bool
+eachAsOften p ks [] = true
+eachAsOften p ks (x ∷ l) = let js = x .activity ∷ ks in asOften p (x .end) js && eachAsOften p (goingOn (x .end) js) l
+
+unfoldable pub TakenBackAsOften : Type 0
+TakenBackAsOften =
+    (bytes : List ℕ) (p : Plan) (next : ℕ) → readPlan bytes ≡ found p next → (calls : List Call) (slot : ℕ) (t : Tally) →
+    eachAsOften p [] (answered calls slot (loaded bytes) t) ≡ true
