@@ -27,7 +27,7 @@ target/tree:
 	tools/tree target/tree
 
 dist: all
-	tar -C target --sort=name --mtime=@0 --owner=0 --group=0 --numeric-owner --transform 's:^tree:$(name):' -cf - tree | gzip -9n >target/$(name).tar.gz
+	tar -C target --sort=name --mtime=@0 --owner=0 --group=0 --numeric-owner --mode='u=rwX,go=rX' --transform 's:^tree:$(name):' -cf - tree | gzip -9n >target/$(name).tar.gz
 	cd target && sha256sum $(name).tar.gz
 
 check: all

@@ -212,7 +212,7 @@ uint32_t moonhalyard_run(uint8_t *state, size_t size, const uint64_t *choices, s
 
 /* Writes the plan that a text says (docs/DESK.md, "A plan as text") into the front of `plan`. The answer is how many bytes it has; or the refusal times
    2^32, and the line in trouble, counted from 1: 33 to 58 where the text is wrong there, or what moonhalyard_write refuses, whose row is told by its line
-   (0 where there is none). A refused text changes nothing in `plan`, and bytes behind the plan never change. Takes up to 512 KiB of stack. */
+   (for 1 and 18 that of the first row). A refused text changes nothing in `plan`, and bytes behind the plan never change. Takes up to 512 KiB of stack. */
 uint64_t moonhalyard_text(const uint8_t *text, size_t n, uint8_t *plan, size_t room);
 
 /* A plan as a table: a row of 20 numbers for the head and for each activity, arm and expression, in the order of the plan's bytes. The first number
