@@ -26,7 +26,7 @@ use Rattle.undoing.proofs.Planning.{Promised, promised}
 use Rattle.undoing.proofs.Sure.{ofKind, surely-is, off-below, off-above, surely-none, surely-none-in}
 use Rattle.undoing.proofs.Repaying.{back-part, back-scope, back-first, back-later, back-none, back-none-in, none-directly, later-directly, direct-scope, back-place, close-place}
 use Rattle.undoing.proofs.Pushing.{direct-close}
-use Rattle.undoing.proofs.Settling.{some-found}
+use Rattle.undoing.proofs.Booked.{some-found}
 use Rattle.undoing.proofs.TakenBack.{taken-back-once}
 
 -- Numbers.

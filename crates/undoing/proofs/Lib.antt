@@ -66,6 +66,6 @@ pub mod Lessening
 pub mod Owing
 pub mod Repaying
 pub mod Pushing
-pub mod Settling
+pub mod Booked
 pub mod TakenBack
 pub mod AsOften

@@ -41,7 +41,7 @@ use Rattle.undoing.proofs.Happening.{orderIn, withMessage, Happens, not
 use Rattle.undoing.proofs.Demanded.{step-after}
 use Rattle.undoing.proofs.Marks.{turned-not-open}
 use Rattle.undoing.proofs.Owing.{undoLeftIn, undo-run}
-use Rattle.undoing.proofs.Settling.{none-owed, begunMark, Agrees, SettledAs, Settled, root-right}
+use Rattle.undoing.proofs.Booked.{none-owed, begunMark, Agrees, SettledAs, Settled, root-right}
 
 -- what the book says after a step that ended so
 abbrev Next : Plan → End → Order → Book → Type 0
