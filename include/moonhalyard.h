@@ -1,30 +1,17 @@
-/* Moonhalyard: a proved order engine, for C and for whatever calls C. Link with the archive that `rt staticlib boundary` writes,
-   for moonhalyard_write and moonhalyard_rows with that of `rt staticlib boundary_writer`, and for moonhalyard_mend with that of `rt staticlib
-   boundary_mend`; all may be linked into one program. The archives are for x86-64 Linux, and need nothing but memcpy, memmove and memset.
+/* Moonhalyard: a proved order engine, for C, C++ and whatever calls C. docs/EMBEDDING.md has a host, step by step; examples/host.c is one.
+
+   Link with libmoonhalyard (`pkg-config --cflags --libs moonhalyard`), which is for x86-64 Linux and needs nothing but memcpy, memmove and memset.
 
    A plan is bytes. A state is 11,964 bytes that the caller keeps: it holds the plan, the orders, the messages that wait and the tally. No call
    keeps anything of its own, so a state may be copied, written to a file and read back, and two states have nothing to do with each other.
 
-   Every call answers on every input; there is nothing that a caller must have checked before. What a caller must see to: each pointer is valid
-   for as many bytes (or numbers) as the length beside it says, also where that is 0, for reading and, where it is not const, for writing; no two
-   buffers of one call overlap; and no other thread uses them meanwhile. A call runs in a stack of 256 KiB.
-
-   Refusals:
-     1  plan longer than 4,096 bytes               10  step: nothing offered, nothing held
-     2  bytes end before the plan does             11  step: nothing offered, something held
-     3  number not shortest, or too large          12  step: choice beyond the offer
-     4  unknown version or code                    13  post: partner, operation or count outside its rule
-     5  value or count outside its rule            14  post: 64 messages wait
-     6  activity or arm 257, depth 17, or          15  collect: no message for a partner that the plan never
-        expression depth 9                             receives on
-     7  body no start form                         16  show: no activity k
-     8  scope in a fault or undo part              17  state without an accepted plan, or with a number outside
-     9  bytes after the plan                           its limit; or bytes that hold no state
-    21  receives that disagree: a count that       18  too little room, or too much (load)
-        differs from an earlier one for the
-        same partner and operation, last of
-        all plan refusals
-   For each call 18 comes before 17, and 17 before the others. */
+   Every call answers on every input; there is nothing that a caller must have checked before. What a caller must see to:
+   - each pointer is valid for as many bytes (or numbers) as the length beside it says, also where that is 0, for reading and, where it is not const,
+     for writing; and no other thread uses them meanwhile;
+   - a call takes up to 256 KiB of the calling thread's own stack (moonhalyard_text: 512 KiB). The first thread of a program has some megabytes, and so
+     have threads of glibc; those of musl have 128 KiB, and coroutines often less: there, call from a thread that was made with more.
+   Buffers of one call that overlap are refused with 18 and left as they are: the header looks, before the call. Who calls past the header, by a pointer
+   to a function or from another language, must keep them apart: what happens else is undefined. */
 #ifndef MOONHALYARD_H
 #define MOONHALYARD_H
 
@@ -35,26 +22,44 @@
 extern "C" {
 #endif
 
-/* The bytes of a state. All numbers have their least byte first.
+/* The version of this header: 10,000 for each first number, 100 for each second, and the third. The first changes where a host that was built before
+   could no longer be linked or run. moonhalyard_version() is that of the library. */
+#define MOONHALYARD_VERSION 10000
+#define MOONHALYARD_VERSION_TEXT "1.0.0"
+uint32_t moonhalyard_version(void);
 
-     offset      bytes
-     0           8          the mark "MOONHAL1"
-     8           20         the tally, 4 bytes each: orders started, and orders that ended well, handled, failed, left
-     28          8          the length of the plan
-     36          4096       the plan's bytes
-     4132        8          how many messages wait
-     4140        64 x 28    messages, oldest first: partner, operation, count, four values, 4 bytes each
-     5932        16 x 377   orders by their slots
+/* Refusals. For each call 18 comes before 17, and 17 before the others; of the refusals of a plan, 21 comes last. */
+enum moonhalyard_refusal {
+    MOONHALYARD_DONE = 0,
+    MOONHALYARD_PLAN_LONG = 1,     /* plan longer than 4,096 bytes */
+    MOONHALYARD_PLAN_SHORT = 2,    /* bytes end before the plan does */
+    MOONHALYARD_NUMBER = 3,        /* number not shortest, or too large */
+    MOONHALYARD_CODE = 4,          /* unknown version or code */
+    MOONHALYARD_VALUE = 5,         /* value or count outside its rule */
+    MOONHALYARD_MANY = 6,          /* activity or arm 257, depth 17, or expression depth 9 */
+    MOONHALYARD_START = 7,         /* body no start form */
+    MOONHALYARD_SCOPE = 8,         /* scope in a fault or undo part */
+    MOONHALYARD_AFTER = 9,         /* bytes after the plan */
+    MOONHALYARD_NO_STEP = 10,      /* nothing offered, nothing held */
+    MOONHALYARD_HELD = 11,         /* nothing offered, something held */
+    MOONHALYARD_CHOICE = 12,       /* choice beyond the offer */
+    MOONHALYARD_MESSAGE_RULE = 13, /* post: partner, operation or count outside its rule */
+    MOONHALYARD_FULL = 14,         /* post: 64 messages wait */
+    MOONHALYARD_NOTHING = 15,      /* collect: no message for a partner that the plan never receives on */
+    MOONHALYARD_NO_ACTIVITY = 16,  /* show: no activity k */
+    MOONHALYARD_NO_STATE = 17,     /* state without an accepted plan, or with a number outside its limit; or bytes that hold no state */
+    MOONHALYARD_ROOM = 18,         /* too little room, or too much (load); or buffers that overlap */
+    MOONHALYARD_DISAGREE = 21,     /* receives that disagree: a count that differs from an earlier one for the same partner and operation */
+    MOONHALYARD_TEXT = 32          /* moonhalyard_text: 32 and the number of a reason, 33 to 58 */
+};
 
-   The bytes of an order, counted from its first:
+/* A refusal in words, without a full stop, for people to read; never NULL. */
+const char *moonhalyard_says(uint32_t refusal);
 
-     0           1          the root's mark: 0 the slot is free, 1 running, 4 faulted, 5 undoing, 6 running its fault part
-     1           256        a mark for each activity and arm, by its number
-     257         16 x 4     the values of the variables
-     321         16         for each variable, 1 where it is bound and 0 where it is not
-     337         32         the numbers of the scopes whose closings are remembered, oldest first
-     369         8          how many of these there are
+/* The bytes of a state: offsets, sizes, and how many there are at most of what there are several (data/layout.txt; docs/EMBEDDING.md has them with their
+   meaning). All numbers have their least byte first. The offsets in a message count from its first byte, those in an order too.
 
+   An order's root and each activity and arm has a mark. The root's: 0 the slot is free, 1 running, 4 faulted, 5 undoing, 6 running its fault part.
    The marks of activities: 0 not begun, or over; 1 awaits its step, but of a sequence or a flow: runs, and of a scope: its body runs; 2 a choose or a repeat
    has decided, or a pick has taken a message, and what stands within runs; and of a scope 3 its body is done and its close awaits its step, 4 faulted and
    waiting for inner scopes, 5 faulted and undoing, 6 running its fault part, 7 stopped and waiting for inner scopes, 8 stopped and undoing. Arms have 0.
@@ -62,16 +67,103 @@ extern "C" {
    Within its limit is: a plan's length up to 4,096; up to 64 messages that wait, each with a partner and an operation up to 63, a count of 1 to 4, and 0
    in the values beyond it; a root's mark of those above; marks up to 8; bound 0 or 1; up to 32 closings.
 
-   Bytes of another length or with another mark in front hold no state: every call but load answers 17 for them and leaves them as they are. */
-#define MOONHALYARD_STATE 11964
+   Bytes of another length or with another mark in front hold no state: every call but load and upgrade answers 17 for them and leaves them as they
+   are. */
+/* layout: written by tools/layout from data/layout.txt */
+#define MOONHALYARD_MARK "MOONHAL1"
 #define MOONHALYARD_TALLY_STARTED 8
 #define MOONHALYARD_TALLY_WELL 12
 #define MOONHALYARD_TALLY_HANDLED 16
 #define MOONHALYARD_TALLY_FAILED 20
 #define MOONHALYARD_TALLY_LEFT 24
-
-/* The bytes of a message: partner, operation, count, four values, 4 bytes each. */
+#define MOONHALYARD_PLAN_LENGTH 28
+#define MOONHALYARD_PLAN 36
+#define MOONHALYARD_WAITING 4132
+#define MOONHALYARD_MESSAGES 4140
+#define MOONHALYARD_MESSAGES_MOST 64
+#define MOONHALYARD_ORDERS 5932
+#define MOONHALYARD_ORDERS_MOST 16
+#define MOONHALYARD_STATE 11964
+#define MOONHALYARD_MESSAGE_PARTNER 0
+#define MOONHALYARD_MESSAGE_OPERATION 4
+#define MOONHALYARD_MESSAGE_COUNT 8
+#define MOONHALYARD_MESSAGE_VALUES 12
+#define MOONHALYARD_MESSAGE_VALUES_MOST 4
 #define MOONHALYARD_MESSAGE 28
+#define MOONHALYARD_ORDER_ROOT 0
+#define MOONHALYARD_ORDER_MARKS 1
+#define MOONHALYARD_ORDER_MARKS_MOST 256
+#define MOONHALYARD_ORDER_VALUES 257
+#define MOONHALYARD_ORDER_VALUES_MOST 16
+#define MOONHALYARD_ORDER_BOUND 321
+#define MOONHALYARD_ORDER_BOUND_MOST 16
+#define MOONHALYARD_ORDER_REMEMBERED 337
+#define MOONHALYARD_ORDER_REMEMBERED_MOST 32
+#define MOONHALYARD_ORDER_KEPT 369
+#define MOONHALYARD_ORDER 377
+/* layout end */
+
+/* Numbers in a state or a message, at an offset: of 4 bytes, and of 8. */
+static inline uint32_t moonhalyard_number(const uint8_t *at)
+{
+    return at[0] | (uint32_t)at[1] << 8 | (uint32_t)at[2] << 16 | (uint32_t)at[3] << 24;
+}
+static inline uint64_t moonhalyard_long(const uint8_t *at)
+{
+    return moonhalyard_number(at) | (uint64_t)moonhalyard_number(at + 4) << 32;
+}
+/* The message at a place of a state, below MOONHALYARD_MESSAGES_MOST, and the order in a slot, below MOONHALYARD_ORDERS_MOST. */
+static inline const uint8_t *moonhalyard_message(const uint8_t *state, uint32_t place)
+{
+    return state + MOONHALYARD_MESSAGES + (size_t)MOONHALYARD_MESSAGE * place;
+}
+static inline const uint8_t *moonhalyard_order(const uint8_t *state, uint32_t slot)
+{
+    return state + MOONHALYARD_ORDERS + (size_t)MOONHALYARD_ORDER * slot;
+}
+
+/* Answers are one number. post, collect, run and upgrade answer their refusal, 0 where there is none. Of the others, what a refusal leaves unsaid is 0.
+   These read them, each named for the calls whose answers it reads:
+
+     answer   accept, load, text, write, rows, mend    the refusal; where it is 0, what the call says of itself; else the place in trouble
+     step     step, offer                              the refusal, the slot, the activity, the message place, the order's end
+     offers   offers                                   the refusal, how many steps are offered, whether something is held
+     show     show                                     the refusal, where the activity starts, how many bytes spell it */
+static inline uint32_t moonhalyard_answer_refusal(uint64_t answer) { return (uint32_t)(answer >> 32); }
+static inline uint32_t moonhalyard_answer_place(uint64_t answer) { return answer >> 32 ? (uint32_t)answer : 0; }
+static inline uint32_t moonhalyard_answer_many(uint64_t answer) { return answer >> 32 ? 0 : (uint32_t)answer; }
+static inline uint32_t moonhalyard_mend_length(uint64_t answer) { return answer >> 32 ? 0 : (uint32_t)(answer & 65535); }
+static inline uint32_t moonhalyard_mend_cut(uint64_t answer) { return answer >> 32 ? 0 : (uint32_t)(answer >> 16 & 65535); }
+static inline uint32_t moonhalyard_step_refusal(uint64_t answer) { return (uint32_t)(answer >> 32); }
+static inline uint32_t moonhalyard_step_slot(uint64_t answer) { return (uint32_t)(answer >> 24 & 255); }
+static inline uint32_t moonhalyard_step_activity(uint64_t answer) { return (uint32_t)(answer >> 16 & 255); }
+static inline uint32_t moonhalyard_step_place(uint64_t answer) { return (uint32_t)(answer >> 8 & 255); }
+static inline uint32_t moonhalyard_step_end(uint64_t answer) { return (uint32_t)(answer & 255); }
+static inline uint32_t moonhalyard_offers_refusal(uint64_t answer) { return (uint32_t)(answer >> 40); }
+static inline uint32_t moonhalyard_offers_many(uint64_t answer) { return (uint32_t)answer; }
+static inline int moonhalyard_offers_held(uint64_t answer) { return (int)(answer >> 32 & 1); }
+static inline uint32_t moonhalyard_show_refusal(uint64_t answer) { return (uint32_t)(answer >> 48); }
+static inline uint32_t moonhalyard_show_start(uint64_t answer) { return (uint32_t)(answer >> 24 & 16777215); }
+static inline uint32_t moonhalyard_show_length(uint64_t answer) { return (uint32_t)(answer & 16777215); }
+
+/* How an order ended, in a step's answer. */
+enum moonhalyard_end {
+    MOONHALYARD_END_NONE = 0,
+    MOONHALYARD_END_WELL = 1,
+    MOONHALYARD_END_HANDLED = 2,
+    MOONHALYARD_END_FAILED = 3,
+    MOONHALYARD_END_LEFT = 4
+};
+
+/* To last. The state in memory is all there is, and it is the host's to save: written whole under a new name, brought to disk, renamed over the old, and
+   the folder brought to disk. What a host that is cut off finds again is the state last saved. So:
+   - post: save, and then tell the sender that it came in. Cut off before the save, the message never came, and the sender, who was told nothing, sends it
+     again. Cut off between the two it was told nothing and sends it again too, and then it waits twice: who minds gives messages a number of its own.
+   - step, run: nothing leaves by a step, so save when it suits. Cut off before, the orders stand where they stood at the last save, and their steps are
+     offered again; other choices may be taken then, and nobody outside can tell.
+   - collect: this is where something leaves. Hand the message on and then save: cut off between the two, it is handed on twice. Or save and then hand
+     it on: cut off between, never. Choose the first, and let the partner know the second by what is in it, as its correlation values.
+   - two hosts on one file need a lock, from before the state is read until after it is saved. examples/host.c does all of this. */
 
 /* Whether n bytes are a plan: how many activities and arms it has; or its refusal (1 to 9, 21) times 2^32, and the refusal's place. */
 uint64_t moonhalyard_accept(const uint8_t *plan, size_t n);
@@ -84,6 +176,11 @@ uint64_t moonhalyard_show(const uint8_t *plan, size_t n, uint32_t k);
    order and no message, or, where the plan is refused, one with no plan; nothing is counted. Whatever `state` held before does not matter.
    Where `size` is not 11,964 the answer is 18 times 2^32, and nothing is written. */
 uint64_t moonhalyard_load(const uint8_t *plan, size_t n, uint8_t *state, size_t size);
+
+/* Brings a state of this or an older version, as it was saved, up to date: `old` is read, `state` is written. The answer is 0 or a refusal (18 where `size`
+   is not 11,964, 17 where `old` holds no state), and where it is refused nothing is written. There is one version as yet, MOONHAL1, which comes out as it
+   is. Whether its plan is accepted and its numbers are within their limits the other calls see. */
+uint32_t moonhalyard_upgrade(const uint8_t *old, size_t n, uint8_t *state, size_t size);
 
 /* Posts a message: it waits after the others. The answer is 0 or a refusal (17, 13, 14), and where it is refused the state is left as it is.
    Partner and operation are 0 to 63, `count` values 1 to 4; values beyond the count are not looked at, and are kept as 0. */
@@ -115,6 +212,11 @@ uint64_t moonhalyard_step(uint8_t *state, size_t size, uint64_t choice);
    refusal (17, 10, 11, 12). *budget is less by the steps taken, and the state is as the last of these left it: as it was, where none was taken. */
 uint32_t moonhalyard_run(uint8_t *state, size_t size, const uint64_t *choices, size_t many, uint64_t *budget);
 
+/* Writes the plan that a text says (docs/DESK.md, "A plan as text") into the front of `plan`. The answer is how many bytes it has; or the refusal times
+   2^32, and the line in trouble, counted from 1: 33 to 58 where the text is wrong there, or what moonhalyard_write refuses, whose row is told by its line
+   (for 1 and 18 that of the first row). A refused text changes nothing in `plan`, and bytes behind the plan never change. Takes up to 512 KiB of stack. */
+uint64_t moonhalyard_text(const uint8_t *text, size_t n, uint8_t *plan, size_t room);
+
 /* A plan as a table: a row of 20 numbers for the head and for each activity, arm and expression, in the order of the plan's bytes. The first number
    of a row is how many numbers it has; these follow as the plan has them, and 0 in the places behind them:
      the head              1 (the version), how many variables, how many of them are for correlation, and the numbers of these
@@ -139,6 +241,57 @@ uint64_t moonhalyard_rows(const uint8_t *plan, size_t n, uint32_t *table, size_t
    is the groups cut times 2^16 and how many bytes were written; or the refusal (1 to 9 and 21, with its place in `plan`; 18) times 2^32, and its place. A
    refused mend changes nothing in `out`, and bytes behind the plan never change. */
 uint64_t moonhalyard_mend(const uint8_t *plan, size_t n, uint8_t *out, size_t room);
+
+/* Whether two buffers have no byte in common. */
+static inline int moonhalyard_apart(const void *a, size_t n, const void *b, size_t m)
+{
+    uintptr_t x = (uintptr_t)a, y = (uintptr_t)b;
+    return n == 0 || m == 0 || (x < y ? y - x >= n : x - y >= m);
+}
+
+/* The calls with several buffers, which look at these first. (moonhalyard_load)(..), with the name in parentheses, is the library's own. */
+static inline uint64_t moonhalyard_load_apart(const uint8_t *plan, size_t n, uint8_t *state, size_t size)
+{
+    return moonhalyard_apart(plan, n, state, size) ? moonhalyard_load(plan, n, state, size) : (uint64_t)MOONHALYARD_ROOM << 32;
+}
+static inline uint32_t moonhalyard_upgrade_apart(const uint8_t *old, size_t n, uint8_t *state, size_t size)
+{
+    return moonhalyard_apart(old, n, state, size) ? moonhalyard_upgrade(old, n, state, size) : (uint32_t)MOONHALYARD_ROOM;
+}
+static inline uint32_t moonhalyard_collect_apart(uint8_t *state, size_t size, uint8_t *message, size_t room)
+{
+    return moonhalyard_apart(state, size, message, room) ? moonhalyard_collect(state, size, message, room) : (uint32_t)MOONHALYARD_ROOM;
+}
+static inline uint32_t moonhalyard_run_apart(uint8_t *state, size_t size, const uint64_t *choices, size_t many, uint64_t *budget)
+{
+    return moonhalyard_apart(state, size, choices, 8 * many) && moonhalyard_apart(state, size, budget, 8) && moonhalyard_apart(choices, 8 * many, budget, 8)
+               ? moonhalyard_run(state, size, choices, many, budget)
+               : (uint32_t)MOONHALYARD_ROOM;
+}
+static inline uint64_t moonhalyard_text_apart(const uint8_t *text, size_t n, uint8_t *plan, size_t room)
+{
+    return moonhalyard_apart(text, n, plan, room) ? moonhalyard_text(text, n, plan, room) : (uint64_t)MOONHALYARD_ROOM << 32;
+}
+static inline uint64_t moonhalyard_write_apart(const uint32_t *table, size_t numbers, uint8_t *plan, size_t room)
+{
+    return moonhalyard_apart(table, 4 * numbers, plan, room) ? moonhalyard_write(table, numbers, plan, room) : (uint64_t)MOONHALYARD_ROOM << 32;
+}
+static inline uint64_t moonhalyard_rows_apart(const uint8_t *plan, size_t n, uint32_t *table, size_t room)
+{
+    return moonhalyard_apart(plan, n, table, 4 * room) ? moonhalyard_rows(plan, n, table, room) : (uint64_t)MOONHALYARD_ROOM << 32;
+}
+static inline uint64_t moonhalyard_mend_apart(const uint8_t *plan, size_t n, uint8_t *out, size_t room)
+{
+    return moonhalyard_apart(plan, n, out, room) ? moonhalyard_mend(plan, n, out, room) : (uint64_t)MOONHALYARD_ROOM << 32;
+}
+#define moonhalyard_load(plan, n, state, size) moonhalyard_load_apart(plan, n, state, size)
+#define moonhalyard_upgrade(old, n, state, size) moonhalyard_upgrade_apart(old, n, state, size)
+#define moonhalyard_collect(state, size, message, room) moonhalyard_collect_apart(state, size, message, room)
+#define moonhalyard_run(state, size, choices, many, budget) moonhalyard_run_apart(state, size, choices, many, budget)
+#define moonhalyard_text(text, n, plan, room) moonhalyard_text_apart(text, n, plan, room)
+#define moonhalyard_write(table, numbers, plan, room) moonhalyard_write_apart(table, numbers, plan, room)
+#define moonhalyard_rows(plan, n, table, room) moonhalyard_rows_apart(plan, n, table, room)
+#define moonhalyard_mend(plan, n, out, room) moonhalyard_mend_apart(plan, n, out, room)
 
 #ifdef __cplusplus
 }

@@ -22,6 +22,7 @@ pub mod engine;
 pub mod full;
 pub mod fullest;
 pub mod generate;
+pub mod layout;
 pub mod lively;
 pub mod mending;
 pub mod order;

@@ -1,17 +1,20 @@
 //! The engine over packed states: a state with its tally as 11,964 bytes, and each call as the library's C function of that name answers it.
 
 use crate::engine::{self, Step, Taken};
+use crate::layout::{self, MARK, ORDER};
 use crate::reader::{self, Refusal};
 use crate::state::*;
 
-pub const SIZE: usize = 11_964;
-pub const MESSAGE: usize = 28;
-const ORDER: usize = 377;
-const MARK: &[u8; 8] = b"MOONHAL1";
-const AT_PLAN: usize = 36;
-const AT_WAITING: usize = AT_PLAN + BYTES;
-const AT_MESSAGES: usize = AT_WAITING + 8;
-const AT_ORDERS: usize = AT_MESSAGES + WAITING * MESSAGE;
+pub const SIZE: usize = layout::STATE;
+pub const MESSAGE: usize = layout::MESSAGE;
+const AT_PLAN: usize = layout::PLAN;
+const AT_WAITING: usize = layout::WAITING;
+const AT_MESSAGES: usize = layout::MESSAGES;
+const AT_ORDERS: usize = layout::ORDERS;
+const AT_ORDER_VALUES: usize = layout::ORDER_VALUES;
+const AT_BOUND: usize = layout::ORDER_BOUND;
+const AT_REMEMBERED: usize = layout::ORDER_REMEMBERED;
+const AT_KEPT: usize = layout::ORDER_KEPT;
 
 fn long(bytes: &[u8]) -> u64 {
     u64::from_le_bytes(bytes[..8].try_into().expect("eight bytes"))
@@ -41,27 +44,31 @@ pub fn unpack_message(bytes: &[u8]) -> Message {
 
 pub fn pack_message(message: &Message, bytes: &mut [u8]) {
     put_numbers(bytes, &[message.partner, message.operation, message.count]);
-    put_numbers(&mut bytes[12..], &message.values);
+    put_numbers(&mut bytes[layout::MESSAGE_VALUES..], &message.values);
 }
 
 fn unpack_order(bytes: &[u8]) -> Order {
     Order {
         root: bytes[0],
-        marks: bytes[1..257].try_into().expect("256 marks"),
-        values: numbers(&bytes[257..]),
-        bound: bytes[321..337].try_into().expect("16 flags"),
-        remembered: bytes[337..369].try_into().expect("32 remembered"),
-        kept: long(&bytes[369..]),
+        marks: bytes[layout::ORDER_MARKS..AT_ORDER_VALUES]
+            .try_into()
+            .expect("256 marks"),
+        values: numbers(&bytes[AT_ORDER_VALUES..]),
+        bound: bytes[AT_BOUND..AT_REMEMBERED].try_into().expect("16 flags"),
+        remembered: bytes[AT_REMEMBERED..AT_KEPT]
+            .try_into()
+            .expect("32 remembered"),
+        kept: long(&bytes[AT_KEPT..]),
     }
 }
 
 fn pack_order(order: &Order, bytes: &mut [u8]) {
     bytes[0] = order.root;
-    bytes[1..257].copy_from_slice(&order.marks);
-    put_numbers(&mut bytes[257..321], &order.values);
-    bytes[321..337].copy_from_slice(&order.bound);
-    bytes[337..369].copy_from_slice(&order.remembered);
-    bytes[369..377].copy_from_slice(&order.kept.to_le_bytes());
+    bytes[layout::ORDER_MARKS..AT_ORDER_VALUES].copy_from_slice(&order.marks);
+    put_numbers(&mut bytes[AT_ORDER_VALUES..AT_BOUND], &order.values);
+    bytes[AT_BOUND..AT_REMEMBERED].copy_from_slice(&order.bound);
+    bytes[AT_REMEMBERED..AT_KEPT].copy_from_slice(&order.remembered);
+    bytes[AT_KEPT..ORDER].copy_from_slice(&order.kept.to_le_bytes());
 }
 
 /// A state and its tally, where the bytes have the length and the mark.
@@ -70,24 +77,27 @@ pub fn unpack(bytes: &[u8]) -> Option<(State, Tally)> {
         return None;
     }
     let state = State {
-        length: long(&bytes[28..]),
+        length: long(&bytes[layout::PLAN_LENGTH..]),
         plan: bytes[AT_PLAN..AT_WAITING].try_into().expect("the plan"),
         waiting: long(&bytes[AT_WAITING..]),
         messages: std::array::from_fn(|at| unpack_message(&bytes[AT_MESSAGES + MESSAGE * at..])),
         orders: std::array::from_fn(|at| unpack_order(&bytes[AT_ORDERS + ORDER * at..])),
     };
-    Some((state, Tally(numbers(&bytes[8..]))))
+    Some((state, Tally(numbers(&bytes[layout::TALLY_STARTED..]))))
 }
 
 /// The marks of an order in a packed state.
 pub fn marks(bytes: &[u8], slot: usize) -> &[u8] {
-    &bytes[AT_ORDERS + ORDER * slot + 1..][..MARKS]
+    &bytes[AT_ORDERS + ORDER * slot + layout::ORDER_MARKS..][..MARKS]
 }
 
 pub fn pack(state: &State, tally: &Tally, bytes: &mut [u8]) {
     bytes[..8].copy_from_slice(MARK);
-    put_numbers(&mut bytes[8..28], &tally.0);
-    bytes[28..36].copy_from_slice(&state.length.to_le_bytes());
+    put_numbers(
+        &mut bytes[layout::TALLY_STARTED..layout::PLAN_LENGTH],
+        &tally.0,
+    );
+    bytes[layout::PLAN_LENGTH..AT_PLAN].copy_from_slice(&state.length.to_le_bytes());
     bytes[AT_PLAN..AT_WAITING].copy_from_slice(&state.plan);
     bytes[AT_WAITING..AT_MESSAGES].copy_from_slice(&state.waiting.to_le_bytes());
     let (messages, orders) = bytes[AT_MESSAGES..].split_at_mut(AT_ORDERS - AT_MESSAGES);

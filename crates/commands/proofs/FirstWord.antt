@@ -11,7 +11,7 @@ use Rattle.commands.specs.declared.Numbered.{Numbered}
 use Rattle.commands.specs.declared.Listed.{Listed}
 use Rattle.commands.specs.declared.Verb.{Verb}
 use Rattle.text.specs.Words.{sameText}
-use Rattle.commands.specs.Commands.{planWord, showWord, drawWord, postWord, offerWord, stepWord, runWord, collectWord, waitingWord, tallyWord, ordersWord, orderWord, offersWord, namesWord, writeWord, saveWord, openWord, mendWord, aloneOf, wordedOf, numberedOf, listedOf, verbOf}
+use Rattle.commands.specs.Commands.{planWord, showWord, drawWord, postWord, offerWord, stepWord, runWord, collectWord, waitingWord, tallyWord, ordersWord, orderWord, offersWord, namesWord, checkWord, writeWord, saveWord, openWord, mendWord, onPlanOf, aloneOf, wordedOf, numberedOf, listedOf, verbOf}
 
 module _ (w t : List ℕ) {b : Bool} (e : b ≡ sameText w t) (v o : Verb) where
   pub this-word : b ≡ true → v ≡ cond (sameText w t) v o
@@ -23,10 +23,17 @@ module _ (w t : List ℕ) {b : Bool} (e : b ≡ sameText w t) (v o : Verb) where
 pub ruleset words = (this-word, other-word)
 
 module _ (w : List ℕ) (o : Verb) where
-  pub alone-words : {q1 q2 r1 r2 r3 r4 r5 r6 r7 : Verb}
-      → q1 ≡ cond (sameText w writeWord) (Verb.Alone Alone.Write) o
-      → q2 ≡ cond (sameText w namesWord) (Verb.Alone Alone.Names) q1
-      → r1 ≡ cond (sameText w offersWord) (Verb.Alone Alone.Offers) q2
+  pub on-plan-words : {r1 r2 r3 : Verb}
+      → r1 ≡ cond (sameText w writeWord) (Verb.Alone Alone.Write) o
+      → r2 ≡ cond (sameText w checkWord) (Verb.Alone Alone.Check) r1
+      → r3 ≡ cond (sameText w namesWord) (Verb.Alone Alone.Names) r2
+      → r3 ≡ onPlanOf w o
+  unfolding onPlanOf
+  on-plan-words e1 e2 e3 = rw (e3, e2, e1)
+
+  pub alone-words : {q r1 r2 r3 r4 r5 r6 r7 : Verb}
+      → q ≡ onPlanOf w o
+      → r1 ≡ cond (sameText w offersWord) (Verb.Alone Alone.Offers) q
       → r2 ≡ cond (sameText w ordersWord) (Verb.Alone Alone.Orders) r1
       → r3 ≡ cond (sameText w tallyWord) (Verb.Alone Alone.Tally) r2
       → r4 ≡ cond (sameText w waitingWord) (Verb.Alone Alone.Waiting) r3
@@ -35,7 +42,7 @@ module _ (w : List ℕ) (o : Verb) where
       → r7 ≡ cond (sameText w drawWord) (Verb.Alone Alone.Draw) r6
       → r7 ≡ aloneOf w o
   unfolding aloneOf
-  alone-words d1 d2 e1 e2 e3 e4 e5 e6 e7 = rw (e7, e6, e5, e4, e3, e2, e1, d2, d1)
+  alone-words d e1 e2 e3 e4 e5 e6 e7 = rw (e7, e6, e5, e4, e3, e2, e1, d)
 
   pub worded-words : {r1 r2 r3 r4 : Verb}
       → r1 ≡ cond (sameText w mendWord) (Verb.Worded Worded.Mend) o
@@ -61,7 +68,7 @@ module _ (w : List ℕ) (o : Verb) where
   unfolding listedOf
   listed-words e1 e2 = rw (e2, e1)
 
-pub ruleset chains = (alone-words, worded-words, numbered-words, listed-words)
+pub ruleset chains = (on-plan-words, alone-words, worded-words, numbered-words, listed-words)
 
 module _ (w : List ℕ) where
   pub verb-none : length w ≡ 0 → Verb.Nothing ≡ verbOf w

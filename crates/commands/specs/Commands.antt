@@ -41,6 +41,9 @@ offersWord = 111 ∷ 102 ∷ 102 ∷ 101 ∷ 114 ∷ 115 ∷ []
 abbrev pub namesWord : List ℕ
 namesWord = 110 ∷ 97 ∷ 109 ∷ 101 ∷ 115 ∷ []
 
+abbrev pub checkWord : List ℕ
+checkWord = 99 ∷ 104 ∷ 101 ∷ 99 ∷ 107 ∷ []
+
 abbrev pub writeWord : List ℕ
 writeWord = 119 ∷ 114 ∷ 105 ∷ 116 ∷ 101 ∷ []
 
@@ -71,6 +74,13 @@ postWord = 112 ∷ 111 ∷ 115 ∷ 116 ∷ []
 abbrev pub runWord : List ℕ
 runWord = 114 ∷ 117 ∷ 110 ∷ []
 
+-- a word on plans that stands alone; else what the word asks for otherwise
+unfoldable pub onPlanOf : List ℕ → Verb → Verb
+onPlanOf w other =
+    cond (sameText w namesWord) (Verb.Alone Alone.Names)
+    (cond (sameText w checkWord) (Verb.Alone Alone.Check)
+    (cond (sameText w writeWord) (Verb.Alone Alone.Write) other))
+
 -- a word that stands alone; else what the word asks for otherwise
 unfoldable pub aloneOf : List ℕ → Verb → Verb
 aloneOf w other =
@@ -80,9 +90,7 @@ aloneOf w other =
     (cond (sameText w waitingWord) (Verb.Alone Alone.Waiting)
     (cond (sameText w tallyWord) (Verb.Alone Alone.Tally)
     (cond (sameText w ordersWord) (Verb.Alone Alone.Orders)
-    (cond (sameText w offersWord) (Verb.Alone Alone.Offers)
-    (cond (sameText w namesWord) (Verb.Alone Alone.Names)
-    (cond (sameText w writeWord) (Verb.Alone Alone.Write) other))))))))
+    (cond (sameText w offersWord) (Verb.Alone Alone.Offers) (onPlanOf w other)))))))
 
 -- one that takes a word; else what the word asks for otherwise
 unfoldable pub wordedOf : List ℕ → Verb → Verb

@@ -18,6 +18,7 @@ pub enum Alone {
     Orders,
     Offers,
     Names,
+    Check,
     Write,
 }
 

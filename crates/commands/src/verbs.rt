@@ -8,7 +8,7 @@ use text::same;
 ghost use mathlib.Core.Bool.{cond};
 ghost use mathlib.Core.Path.{_≡_};
 ghost use Rattle.text.specs.Words.{sameText};
-ghost use Rattle.commands.specs.Commands.{aloneOf, wordedOf, numberedOf, listedOf, verbOf};
+ghost use Rattle.commands.specs.Commands.{onPlanOf, aloneOf, wordedOf, numberedOf, listedOf, verbOf};
 
 // The verb of a command word, where this is the word; else another.
 fn either(w: &[u8], word: &[u8], verb: Verb, other: Verb) -> Verb
@@ -20,12 +20,20 @@ fn either(w: &[u8], word: &[u8], verb: Verb, other: Verb) -> Verb
     other
 }
 
+// The verb of a word on plans that stands alone; else another.
+fn on_plan_of(w: &[u8], other: Verb) -> Verb
+    ensures { λ r. ⌜ r ≡ onPlanOf (now (w .entry)) other ⌝ }
+{
+    let other = either(w, b"write", Verb::Alone { what: Alone::Write }, other);
+    let other = either(w, b"check", Verb::Alone { what: Alone::Check }, other);
+    either(w, b"names", Verb::Alone { what: Alone::Names }, other)
+}
+
 // The verb of a word that stands alone; else another.
 fn alone_of(w: &[u8], other: Verb) -> Verb
     ensures { λ r. ⌜ r ≡ aloneOf (now (w .entry)) other ⌝ }
 {
-    let other = either(w, b"write", Verb::Alone { what: Alone::Write }, other);
-    let other = either(w, b"names", Verb::Alone { what: Alone::Names }, other);
+    let other = on_plan_of(w, other);
     let other = either(
         w,
         b"offers",

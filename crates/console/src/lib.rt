@@ -27,6 +27,7 @@ fn answer_alone(
     match what {
         Alone::Draw => papers::draw(desk, bytes, names, out),
         Alone::Names => papers::names(desk, bytes, names, out),
+        Alone::Check => papers::check(desk, bytes, names, out),
         Alone::Write => papers::write(desk, b"", number, bytes, names, out),
         Alone::Collect => taking::collect(desk, out),
         Alone::Offer | Alone::Waiting | Alone::Tally | Alone::Orders | Alone::Offers => {
@@ -46,7 +47,7 @@ fn put_alone(desk: Desk, what: Alone, names: &[u8; 4752], out: &mut [u8; 4096]) 
         Alone::Tally => taking::put_tally(out, desk.used, tally),
         Alone::Orders => wording::put_orders(out, desk.used, names, state),
         Alone::Offers => wording::put_offers(out, desk.used, names, state),
-        Alone::Draw | Alone::Collect | Alone::Names | Alone::Write => desk.used,
+        Alone::Draw | Alone::Collect | Alone::Names | Alone::Check | Alone::Write => desk.used,
     }
 }
 

@@ -50,12 +50,7 @@ fn place_of(first: usize, many: u32, number: u32) -> usize {
 }
 
 // A variable by its name, or as v0, v1, ..
-pub(crate) fn put_variable(
-    out: &mut [u8; 4096],
-    used: usize,
-    names: &[u8; 4752],
-    number: u32,
-) -> usize {
+pub fn put_variable(out: &mut [u8; 4096], used: usize, names: &[u8; 4752], number: u32) -> usize {
     let place = place_of(0, 16, number);
     if 0 < length_at(names, place) {
         return put_name(out, used, names, place);

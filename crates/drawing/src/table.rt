@@ -11,7 +11,7 @@ pub fn entry(table: &[u32; 11584], n: usize, field: usize) -> u32 {
 }
 
 // The code of expression node m.
-pub(crate) fn code_of(table: &[u32; 11584], m: usize) -> u32 {
+pub fn code_of(table: &[u32; 11584], m: usize) -> u32 {
     if m < 4096 {
         return table[3392 + m * 2];
     }
@@ -19,7 +19,7 @@ pub(crate) fn code_of(table: &[u32; 11584], m: usize) -> u32 {
 }
 
 // The value of expression node m: a constant, the number of a variable, or the number of the right operand's first node.
-pub(crate) fn value_of(table: &[u32; 11584], m: usize) -> u32 {
+pub fn value_of(table: &[u32; 11584], m: usize) -> u32 {
     if m < 4096 {
         return table[3393 + m * 2];
     }

@@ -1,4 +1,5 @@
 // What the desk does with plans and files: a plan is read, drawn, shown, written from a text and mended, a state saved and opened.
+mod checks;
 mod disagreeing;
 mod files;
 mod mends;
@@ -6,6 +7,8 @@ mod plans;
 mod reasons;
 mod writing;
 
+pub use checks::check;
+pub use checks::warn;
 pub use files::open;
 pub use files::save;
 use machine::State;

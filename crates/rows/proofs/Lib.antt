@@ -7,3 +7,5 @@ pub mod Completes
 pub mod Cuts
 pub mod RowsReturns
 pub mod Exact
+pub mod Earned
+mod EarnedExamples

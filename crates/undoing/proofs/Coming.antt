@@ -67,19 +67,19 @@ module _ (ms : List ℕ) where
   some-both f g (r ∷ l) e d = both (g r) (every g l) d (λ a b. decide (f r) (λ t. rw (t, a)) (λ t. rw (t, some-both f g l (rw t at e) b)))
 
 -- the activity with a number
-in-here : (a : Act) (k : ℕ) → actIn a k k ≡ a
+pub in-here : (a : Act) (k : ℕ) → actIn a k k ≡ a
 unfolding actIn
 in-here (act own within) k = first-of (eqb k k) (act own within) (actAmong within (k + 1) k) (actIn (act own within) k k) refl (eq-eqb k k refl)
 
-in-within : (own : Own) (within : Acts) (k j : ℕ) → k < j → actIn (act own within) k j ≡ actAmong within (k + 1) j
+pub in-within : (own : Own) (within : Acts) (k j : ℕ) → k < j → actIn (act own within) k j ≡ actAmong within (k + 1) j
 unfolding actIn
 in-within own within k j h = second-of (eqb k j) (act own within) (actAmong within (k + 1) j) (actIn (act own within) k j) refl (ne-eqb k j (omega arith))
 
-in-first : (a : Act) (l : Acts) (c j : ℕ) → j < c + size a → actAmong (more a l) c j ≡ actIn a c j
+pub in-first : (a : Act) (l : Acts) (c j : ℕ) → j < c + size a → actAmong (more a l) c j ≡ actIn a c j
 unfolding actIn
 in-first a l c j h = first-of (ltb j (c + size a)) (actIn a c j) (actAmong l (c + size a) j) (actAmong (more a l) c j) refl (lt-ltb j (c + size a) h)
 
-in-later : (a : Act) (l : Acts) (c j : ℕ) → c + size a ≤ j → actAmong (more a l) c j ≡ actAmong l (c + size a) j
+pub in-later : (a : Act) (l : Acts) (c j : ℕ) → c + size a ≤ j → actAmong (more a l) c j ≡ actAmong l (c + size a) j
 unfolding actIn
 in-later a l c j h = second-of (ltb j (c + size a)) (actIn a c j) (actAmong l (c + size a) j) (actAmong (more a l) c j) refl (le-ltb j (c + size a) h)
 

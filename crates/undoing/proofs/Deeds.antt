@@ -28,7 +28,7 @@ use Rattle.undoing.proofs.Parts.{decide, only-append}
 use Rattle.undoing.proofs.Aside.{Aside, silent-append, silent-after, begin-silent, after-silent, part-silent, where-silent, outcome-either, runs-silent, ends-silent, undoes-silent, turns-on-silent, stop-silent}
 
 -- nothing but a step's own event is a deed
-deeds-aside : Aside isDeed
+pub deeds-aside : Aside isDeed
 unfolding isDeed
 deeds-aside = record { begins = λ k. refl; stops = λ k. refl; ends = λ n. refl }
 

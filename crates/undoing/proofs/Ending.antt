@@ -44,7 +44,7 @@ use Rattle.undoing.proofs.Heeding.{Clear, clear-raised, heeds-append, h
 -- Starts.
 
 -- an order starts
-unfoldable isStart : Event → Bool
+unfoldable pub isStart : Event → Bool
 isStart started = true
 isStart (began k) = false
 isStart (closed k) = false
@@ -55,7 +55,7 @@ isStart (raised k) = false
 isStart left = false
 
 -- a start is a deed
-start-kept : (l : List Event) → some isStart l ≡ some isStart (only isDeed l)
+pub start-kept : (l : List Event) → some isStart l ≡ some isStart (only isDeed l)
 unfolding some only isStart isDeed
 start-kept [] = refl
 start-kept (started ∷ l) = refl
@@ -96,7 +96,7 @@ either-starts false x y z e h g = ap (some isStart) e ∙ g
 mutual
   unfolding deedIn some
 
-  deed-in-starts : (a : Act) (k t : ℕ) (o : Order) → some isStart (deedIn a k t o) ≡ false
+  pub deed-in-starts : (a : Act) (k t : ℕ) (o : Order) → some isStart (deedIn a k t o) ≡ false
   deed-in-starts (act own within) k t o = either-starts (eqb k t) (deedOf own k o) (deedAmong within _ t o) _ refl (deed-starts own k o) (deed-among-starts within _ t o)
 
   deed-among-starts : (l : Acts) (c t : ℕ) (o : Order) → some isStart (deedAmong l c t o) ≡ false

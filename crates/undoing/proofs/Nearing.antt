@@ -265,7 +265,7 @@ module _ (t : ℕ) where
       runs-local o = in-none [] r c (λ j. refl)
 
     -- what is remembered for a scope stands directly in its body
-    all-directly : (s : Scope) (o : Order) → every (isFor s) (rememberedFor s o) ≡ true
+    pub all-directly : (s : Scope) (o : Order) → every (isFor s) (rememberedFor s o) ≡ true
     unfolding rememberedFor
     all-directly s o = every-reverse (isFor s) (only (isFor s) (closings o)) (every-only-so (isFor s) (closings o))
 

@@ -41,7 +41,7 @@ pub record Standing (p : Plan) (o : Order) : Type 0 where
   pub going : o .root ≡ done → ⊥
 
 -- the definition, by where the step is
-root-is : (actor : Actor) (p : Plan) (t : ℕ) (o : Order) (b : Bool) → ltb t (size (p .body)) ≡ b
+pub root-is : (actor : Actor) (p : Plan) (t : ℕ) (o : Order) (b : Bool) → ltb t (size (p .body)) ≡ b
     → stepRoot actor p t o ≡ elim b [ true ↦ fromBody (rootOf p) (stepIn actor (p .body) 0 t o) | false ↦ fromFault (rootOf p) (stepIn actor (p .fault) (size (p .body)) t o) ]
 unfolding stepRoot
 root-is actor p t o b e =

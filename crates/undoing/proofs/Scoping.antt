@@ -109,20 +109,20 @@ turns-steps {p} {s} {o} {o′} {l} {r} R f a d t = record { apart = apart-then a
     go undoRaising c = absurd c
 
 -- the definitions, by a scope's mark
-looks-is : (s : Scope) (o : Order) (m : ℕ) → markOf (s .name) o ≡ m
+pub looks-is : (s : Scope) (o : Order) (m : ℕ) → markOf (s .name) o ≡ m
     → looksAgain s o ≡ elim (eqb m faulty) [ true ↦ turns true s o | false ↦ elim (eqb m halted) [ true ↦ turns false s o | false ↦ runs o ] ]
 unfolding looksAgain
 looks-is s o m e =
     subst (λ (z : ℕ). looksAgain s o ≡ elim (eqb z faulty) [ true ↦ turns true s o | false ↦ elim (eqb z halted) [ true ↦ turns false s o | false ↦ runs o ] ]) e refl
 
 -- where the body is over
-over-is : (s : Scope) (o : Order) (m : ℕ) → markOf (s .name) o ≡ m
+pub over-is : (s : Scope) (o : Order) (m : ℕ) → markOf (s .name) o ≡ m
     → bodyOver s o ≡ elim (eqb m active) [ true ↦ runs (marking (s .name) done o) | false ↦ looksAgain s o ]
 unfolding bodyOver
 over-is s o m e = subst (λ (z : ℕ). bodyOver s o ≡ elim (eqb z active) [ true ↦ runs (marking (s .name) done o) | false ↦ looksAgain s o ]) e refl
 
 -- where a fault came out of the body
-raised-is : (s : Scope) (o : Order) (b : Bool) → isOpen (markOf (s .name) o) ≡ b → bodyRaised s o ≡ elim b [ true ↦ faults s o | false ↦ looksAgain s o ]
+pub raised-is : (s : Scope) (o : Order) (b : Bool) → isOpen (markOf (s .name) o) ≡ b → bodyRaised s o ≡ elim b [ true ↦ faults s o | false ↦ looksAgain s o ]
 unfolding bodyRaised
 raised-is s o b e = subst (λ (z : Bool). bodyRaised s o ≡ elim z [ true ↦ faults s o | false ↦ looksAgain s o ]) e refl
 

@@ -65,11 +65,11 @@ pub record Mild (r : Outcome) : Type 0 where
   pub goes : isMild (r .result) ≡ true
   pub calm : Calm (r .log)
 
-mild-either : (b : Bool) (x y : Outcome) → Mild x → Mild y → (z : Outcome) → z ≡ elim b [ true ↦ x | false ↦ y ] → Mild z
+pub mild-either : (b : Bool) (x y : Outcome) → Mild x → Mild y → (z : Outcome) → z ≡ elim b [ true ↦ x | false ↦ y ] → Mild z
 mild-either true x y h g z e = subst (λ (r : Outcome). Mild r) (sym e) h
 mild-either false x y h g z e = subst (λ (r : Outcome). Mild r) (sym e) g
 
-mild-where : (g : Order → Outcome) (r : Outcome) → Mild r → ((o : Order) → Mild (g o)) → Mild (whereOver g r)
+pub mild-where : (g : Order → Outcome) (r : Outcome) → Mild r → ((o : Order) → Mild (g o)) → Mild (whereOver g r)
 mild-where g r h e = go (r .result) (h .goes)
   where
     go : (x : Result) → isMild x ≡ true → Mild (whereOver g (record { result = x; order = r .order; log = r .log }))
@@ -80,16 +80,16 @@ mild-where g r h e = go (r .result) (h .goes)
     go undone m = absurd (false≢true m)
     go undoRaising m = absurd (false≢true m)
 
-mild-begun : (o : Order) (b : Begun) → Calm (b .log) → Mild (begunIn o b)
+pub mild-begun : (o : Order) (b : Begun) → Calm (b .log) → Mild (begunIn o b)
 mild-begun o b h = record { goes = decide (b .over) (λ e. rw e) (λ e. rw e); calm = h }
 
-mild-runs : (o : Order) → Mild (runs o)
+pub mild-runs : (o : Order) → Mild (runs o)
 mild-runs o = record { goes = refl; calm = runs-silent isGrave graves-aside o }
 
-mild-ends : (s : Scope) (o : Order) → Mild (ends s o)
+pub mild-ends : (s : Scope) (o : Order) → Mild (ends s o)
 mild-ends s o = record { goes = refl; calm = ends-silent isGrave graves-aside s o }
 
-mild-undo : (l : List ℕ) (s : Scope) (o : Order) → Mild (undo l s o)
+pub mild-undo : (l : List ℕ) (s : Scope) (o : Order) → Mild (undo l s o)
 unfolding undo startUndo only
 mild-undo [] s o = record { goes = refl; calm = refl }
 mild-undo (e ∷ l) s o =
@@ -97,65 +97,65 @@ mild-undo (e ∷ l) s o =
     mild-where (undo l s) (startUndo e s o)
     (mild-begun o₁ (beginUndo (s .body) (s .bodyAt) e (o₁ .marks)) (begin-undo-silent isGrave graves-aside (s .body) (s .bodyAt) e (o₁ .marks))) (λ o₂. mild-undo l s o₂)
 
-mild-handle : (s : Scope) (o : Order) → Mild (handle s o)
+pub mild-handle : (s : Scope) (o : Order) → Mild (handle s o)
 unfolding handle
 mild-handle s o =
     let o₁ = marking (s .name) handling o in
     mild-where (ends s) (begunIn o₁ (begin (s .fault) (s .faultAt) (o₁ .marks))) (mild-begun o₁ (begin (s .fault) (s .faultAt) (o₁ .marks)) (begin-silent isGrave graves-aside (s .fault) (s .faultAt) (o₁ .marks))) (mild-ends s)
 
-mild-undoes : (b : Bool) (s : Scope) (o : Order) → Mild (undoes b s o)
+pub mild-undoes : (b : Bool) (s : Scope) (o : Order) → Mild (undoes b s o)
 unfolding undoes
 mild-undoes true s o = let o₁ = marking (s .name) undoing o in mild-where (handle s) (undo (rememberedFor s o₁) s o₁) (mild-undo (rememberedFor s o₁) s o₁) (mild-handle s)
 mild-undoes false s o = let o₁ = marking (s .name) withdrawing o in mild-where (ends s) (undo (rememberedFor s o₁) s o₁) (mild-undo (rememberedFor s o₁) s o₁) (mild-ends s)
 
-mild-turns : (b : Bool) (s : Scope) (o : Order) → Mild (turns b s o)
+pub mild-turns : (b : Bool) (s : Scope) (o : Order) → Mild (turns b s o)
 unfolding turns
 mild-turns b s o = mild-either (innerRuns (s .body) (s .bodyAt) (o .marks)) (runs o) (undoes b s o) (mild-runs o) (mild-undoes b s o) (turns b s o) refl
 
-mild-looks : (s : Scope) (o : Order) → Mild (looksAgain s o)
+pub mild-looks : (s : Scope) (o : Order) → Mild (looksAgain s o)
 unfolding looksAgain
 mild-looks s o =
     mild-either (eqb (markOf (s .name) o) faulty) (turns true s o) (elim (eqb (markOf (s .name) o) halted) [ true ↦ turns false s o | false ↦ runs o ]) (mild-turns true s o)
     (mild-either (eqb (markOf (s .name) o) halted) (turns false s o) (runs o) (mild-turns false s o) (mild-runs o) (elim (eqb (markOf (s .name) o) halted) [ true ↦ turns false s o | false ↦ runs o ]) refl)
     (looksAgain s o) refl
 
-mild-over : (s : Scope) (o : Order) → Mild (bodyOver s o)
+pub mild-over : (s : Scope) (o : Order) → Mild (bodyOver s o)
 unfolding bodyOver
 mild-over s o =
     mild-either (eqb (markOf (s .name) o) active) (runs (marking (s .name) done o)) (looksAgain s o) (mild-runs (marking (s .name) done o)) (mild-looks s o) (bodyOver s o) refl
 
-mild-undo-over : (s : Scope) (o : Order) → Mild (undoOver s o)
+pub mild-undo-over : (s : Scope) (o : Order) → Mild (undoOver s o)
 unfolding undoOver
 mild-undo-over s o =
     mild-either (eqb (markOf (s .name) o) undoing) (undoes true s o) (elim (eqb (markOf (s .name) o) withdrawing) [ true ↦ undoes false s o | false ↦ runs o ]) (mild-undoes true s o)
     (mild-either (eqb (markOf (s .name) o) withdrawing) (undoes false s o) (runs o) (mild-undoes false s o) (mild-runs o) (elim (eqb (markOf (s .name) o) withdrawing) [ true ↦ undoes false s o | false ↦ runs o ]) refl)
     (undoOver s o) refl
 
-mild-part-over : (s : Scope) (o : Order) → Mild (partOver s o)
+pub mild-part-over : (s : Scope) (o : Order) → Mild (partOver s o)
 unfolding partOver
 mild-part-over s o = mild-either (eqb (markOf (s .name) o) handling) (ends s o) (runs o) (mild-ends s o) (mild-runs o) (partOver s o) refl
 
-mild-finishes : (k : ℕ) (o : Order) → Mild (finishes k o)
+pub mild-finishes : (k : ℕ) (o : Order) → Mild (finishes k o)
 unfolding only
 mild-finishes k o = record { goes = refl; calm = refl }
 
-mild-again : (k : ℕ) (o : Order) → Mild (again k o)
+pub mild-again : (k : ℕ) (o : Order) → Mild (again k o)
 mild-again k o = mild-runs (marked k active o)
 
-mild-joins : (k : ℕ) (within : Acts) (o : Order) → Mild (joins k within o)
+pub mild-joins : (k : ℕ) (within : Acts) (o : Order) → Mild (joins k within o)
 unfolding joins
 mild-joins k within o = mild-either (quiet (k + 1) (sizes within) (o .marks)) (finishes k o) (runs o) (mild-finishes k o) (mild-runs o) (joins k within o) refl
 
-mild-enters : (k : ℕ) (o : Order) (b : Begun) → Calm (b .log) → Mild (enters k o b)
+pub mild-enters : (k : ℕ) (o : Order) (b : Begun) → Calm (b .log) → Mild (enters k o b)
 mild-enters k o b h = mild-where (finishes k) (begunIn (marked k inside o) b) (mild-begun (marked k inside o) b h) (mild-finishes k)
 
-mild-repeats : (k : ℕ) (within : Acts) (o : Order) → Mild (repeats k within o)
+pub mild-repeats : (k : ℕ) (within : Acts) (o : Order) → Mild (repeats k within o)
 unfolding repeats
 mild-repeats k within o =
     let o₁ = marked k inside (withMarks (cleared (k + 1) (sizes within) (o .marks)) o) in
     mild-where (again k) (begunIn o₁ (beginPart 0 within (k + 1) (o₁ .marks))) (mild-begun o₁ (beginPart 0 within (k + 1) (o₁ .marks)) (part-silent isGrave graves-aside 0 within (k + 1) (o₁ .marks))) (mild-again k)
 
-mild-follows : (within : Acts) (k t : ℕ) (o : Order) → Mild (whereOver (finishes k) (begunIn o (beginAfter within (k + 1) t (o .marks))))
+pub mild-follows : (within : Acts) (k t : ℕ) (o : Order) → Mild (whereOver (finishes k) (begunIn o (beginAfter within (k + 1) t (o .marks))))
 mild-follows within k t o =
     mild-where (finishes k) (begunIn o (beginAfter within (k + 1) t (o .marks))) (mild-begun o (beginAfter within (k + 1) t (o .marks)) (after-silent isGrave graves-aside within (k + 1) t (o .marks))) (mild-finishes k)
 

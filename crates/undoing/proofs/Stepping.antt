@@ -38,14 +38,14 @@ use Rattle.undoing.proofs.Goings.{begins-at, acts-raises, acts-itself, 
 use Rattle.undoing.proofs.Combining.{OneAs, AllAs, run-before, combines-one, combines-all, arms-holding, arms-held, arms-none, Idly, idly-same, idly-runs, combines-idly}
 
 -- the definitions, by where the step is
-step-is : (actor : Actor) (own : Own) (within : Acts) (k t : ℕ) (o : Order) (b : Bool) → eqb k t ≡ b
+pub step-is : (actor : Actor) (own : Own) (within : Acts) (k t : ℕ) (o : Order) (b : Bool) → eqb k t ≡ b
     → stepIn actor (act own within) k t o ≡ elim b [ true ↦ performs actor own within k o | false ↦ combines own within k t (stepAmong actor within (k + 1) t (arms own within k t o)) ]
 unfolding stepIn
 step-is actor own within k t o b e =
     subst (λ (z : Bool). stepIn actor (act own within) k t o ≡ elim z [ true ↦ performs actor own within k o | false ↦ combines own within k t (stepAmong actor within (k + 1) t (arms own within k t o)) ]) e refl
 
 -- in a list
-among-is : (actor : Actor) (a : Act) (l : Acts) (c t : ℕ) (o : Order) (b : Bool) → ltb t (c + size a) ≡ b
+pub among-is : (actor : Actor) (a : Act) (l : Acts) (c t : ℕ) (o : Order) (b : Bool) → ltb t (c + size a) ≡ b
     → stepAmong actor (more a l) c t o ≡ elim b [ true ↦ stepIn actor a c t o | false ↦ stepAmong actor l (c + size a) t o ]
 unfolding stepIn
 among-is actor a l c t o b e = subst (λ (z : Bool). stepAmong actor (more a l) c t o ≡ elim z [ true ↦ stepIn actor a c t o | false ↦ stepAmong actor l (c + size a) t o ]) e refl
@@ -296,7 +296,7 @@ module _ (p : Plan) (distinct : Distinct p) (actor : Actor) where
       )
 
   -- what has one running in it has no step of its own, but a sequence or a flow that stays as it is
-  held-itself : (own : Own) (within : Acts) (k : ℕ) (o : Order) → isScope own ≡ false → awaits own false (holding own) ≡ true → performs actor own within k o ≡ runs o
+  pub held-itself : (own : Own) (within : Acts) (k : ℕ) (o : Order) → isScope own ≡ false → awaits own false (holding own) ≡ true → performs actor own within k o ≡ runs o
   unfolding itself kind awaits
   held-itself empty within k o s e = absurd (false≢true e)
   held-itself (send x y vs) within k o s e = absurd (false≢true e)
@@ -541,7 +541,7 @@ module _ (p : Plan) (distinct : Distinct p) (actor : Actor) where
   StopInAs l c o g o′ undone = ⊥
   StopInAs l c o g o′ undoRaising = ⊥
 
-  abbrev UndoInAs : Name → Acts → (c t : ℕ) → Order → List Event → Order → Result → Type 0
+  abbrev pub UndoInAs : Name → Acts → (c t : ℕ) → Order → List Event → Order → Result → Type 0
   UndoInAs n l c t o g o′ running = UndoingIn (o′ .marks) l c × Does p None o g o′
   UndoInAs n l c t o g o′ over = ⊥
   UndoInAs n l c t o g o′ raising = ⊥

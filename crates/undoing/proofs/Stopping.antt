@@ -40,7 +40,7 @@ unfolding part partAt
 seat-of {n = n} u kn i sb z sf = record { name = kn .name; inside = i; around = n; body = sb; faulty = z; fault = sf; after = refl; before = omega arith }
 
 -- a stop, by whether an activity is a scope, and whether that is open
-stop-is : (own : Own) (within : Acts) (k : ℕ) (o : Order) (x y : Bool) → isScope own ≡ x → isOpen (markAt k o) ≡ y
+pub stop-is : (own : Own) (within : Acts) (k : ℕ) (o : Order) (x y : Bool) → isScope own ≡ x → isOpen (markAt k o) ≡ y
     → stop (act own within) k o
     ≡ elim x [
       | true ↦ elim y [ true ↦ withdraws k (scopeAt k within) (stopFirst within (k + 1) (marked k halted o)) | false ↦ untouched o ]

@@ -43,14 +43,14 @@ pub record Undone (p : Plan) (s : Scope) (o : Order) (r : Outcome) : Type 0 wher
   pub comes : UndoneAs p s (r .order) (r .result)
 
 -- the undo part of e begins, by whether an activity is e
-undo-is : (own : Own) (within : Acts) (k e : ℕ) (ms : List ℕ) (b : Bool) → (isScope own && eqb k e) ≡ b
+pub undo-is : (own : Own) (within : Acts) (k e : ℕ) (ms : List ℕ) (b : Bool) → (isScope own && eqb k e) ≡ b
     → beginUndo (act own within) k e ms ≡ elim b [ true ↦ beginPart 2 within (k + 1) ms | false ↦ beginUndoIn within (k + 1) e ms ]
 unfolding beginUndo
 undo-is own within k e ms b t =
     subst (λ (z : Bool). beginUndo (act own within) k e ms ≡ elim z [ true ↦ beginPart 2 within (k + 1) ms | false ↦ beginUndoIn within (k + 1) e ms ]) t refl
 
 -- in a list
-undo-in-is : (a : Act) (l : Acts) (c e : ℕ) (ms : List ℕ) (b : Bool) → ltb e (c + size a) ≡ b
+pub undo-in-is : (a : Act) (l : Acts) (c e : ℕ) (ms : List ℕ) (b : Bool) → ltb e (c + size a) ≡ b
     → beginUndoIn (more a l) c e ms ≡ elim b [ true ↦ beginUndo a c e ms | false ↦ beginUndoIn l (c + size a) e ms ]
 unfolding beginUndo
 undo-in-is a l c e ms b t =
@@ -133,7 +133,7 @@ module _ (p : Plan) where
       }
 
   -- what is remembered for a scope stands directly in its body
-  remembered-directly : (s : Scope) (o : Order) (e : ℕ) (l : List ℕ) → Seat p s → listOf p (s .name) o ≡ e ∷ l → directly (s .body) (s .bodyAt) e ≡ true
+  pub remembered-directly : (s : Scope) (o : Order) (e : ℕ) (l : List ℕ) → Seat p s → listOf p (s .name) o ≡ e ∷ l → directly (s .body) (s .bodyAt) e ≡ true
   remembered-directly s o e l h i =
       directly-directs (s .body) (s .bodyAt) e (s .name) ∙ (ap (some (λ (x : Inner). eqb (x .number) e)) (sym (h .inside))
       ∙ only-first (isIn p (s .name)) e (reverse (closings o)) l (only-reverse (isIn p (s .name)) (closings o) ∙ i))

@@ -25,7 +25,7 @@ use Rattle.machine.specs.State.{letters}
 use Rattle.machine.specs.Limits.{planIn}
 use Rattle.machine.specs.Calls.{loaded, trimmed, post, partnersOf, collect, dropAt, step, Call}
 use Rattle.undoing.specs.Demand3.{Inner, scopesOf}
-use Rattle.undoing.specs.Ties.{Always, orderAfter, isTurned, isTaken, isStep}
+use Rattle.undoing.specs.Ties.{Always, orderAfter, isTurned, isTaken, isStep, Place, bodyOf, faultOf, undoOf, placeOf}
 use Rattle.undoing.specs.Orderly.{isBeganOf}
 use Rattle.undoing.specs.Begun.{kindAt, lasts, hasBegan, Taken, markBefore, isMarked, numbers, stepsTaken}
 
@@ -56,12 +56,19 @@ isOnce p x k = not (lasts (kindAt p k)) || leb (times k (x .log)) (cond (isLive 
 unfoldable pub BegunOnce : Type 0
 BegunOnce = OfEveryStep isOnce
 
--- AFRESH. What lasts and begins was idle before the step, or the step stands in it: "Repeat begins its body afresh each time", and an undo part that is over
--- begins again for the closing before.
+-- AFRESH. What begins was idle before the step; or it stands in an undo part, and the step in it: an undo part that is over begins again for the closing before.
+-- Nothing else begins while it runs.
+abbrev pub isUndo : Place → Bool
+isUndo (bodyOf n m) = false
+isUndo (faultOf n m) = false
+isUndo (undoOf n m) = true
+
+-- the step stands in an activity
+abbrev pub standsIn : Plan → Taken → (activity : ℕ) → Bool
+standsIn p x k = leb k (x .activity) && ltb (x .activity) (k + size (actAt p k))
+
 unfoldable pub isAfresh : Plan → Taken → (activity : ℕ) → Bool
-isAfresh p x k =
-    not (lasts (kindAt p k) && hasBegan k (x .log))
-    || (eqb (markBefore k x) idle || (leb k (x .activity) && ltb (x .activity) (k + size (actAt p k))))
+isAfresh p x k = not (hasBegan k (x .log)) || (eqb (markBefore k x) idle || (isUndo (placeOf p k) && standsIn p x k))
 
 unfoldable pub BegunAfresh : Type 0
 BegunAfresh = OfEveryStep isAfresh

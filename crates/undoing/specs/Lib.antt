@@ -9,3 +9,4 @@ pub mod Compiled
 pub mod Computing
 pub mod Entirely
 pub mod Weighing
+pub mod Answered

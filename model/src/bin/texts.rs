@@ -1,9 +1,10 @@
-//! Compares plans as text with the desk: every plan drawn and written back, by numbers, by names and laid out otherwise; and damaged texts, each of
-//! which is answered as the model of the text answers it.
+//! Compares plans as text with the desk and with the library: every plan drawn and written back, by numbers, by names and laid out otherwise; and damaged
+//! texts, each of which is answered as the model of the text answers it.
 
 #![forbid(unsafe_code)]
 
 use model::generate::{self, Random};
+use model::process::Process;
 use model::text::{self, Wrong};
 use model::{edges, full, reader, vectors};
 use std::io::{Read, Write};
@@ -14,6 +15,8 @@ const SEED: u64 = 1;
 const COUNT: u64 = 5_000;
 /// Damaged texts for each random plan.
 const DAMAGED: usize = 6;
+/// What fills a buffer before the library writes into it.
+const FILL: u8 = 0xA5;
 
 /// What the desk answers to a script, by lines.
 fn asked(script: Vec<u8>) -> Vec<String> {
@@ -36,12 +39,68 @@ fn asked(script: Vec<u8>) -> Vec<String> {
     told.lines().map(String::from).collect()
 }
 
-/// A script, with the answers that it must get.
+/// The library, which answers as `texting.c` does.
+struct Library {
+    process: Process,
+    asked: usize,
+}
+
+impl Library {
+    fn start() -> Library {
+        let command =
+            std::env::var("MOONHALYARD_ANSWERS").expect("MOONHALYARD_ANSWERS: the library");
+        Library {
+            process: Process::start(&command),
+            asked: 0,
+        }
+    }
+
+    /// What `moonhalyard_text` gives: the answer, and the buffer afterwards.
+    fn call(&mut self, text: &[u8], room: usize) -> (u64, Vec<u8>) {
+        let mut message = (text.len() as u32).to_le_bytes().to_vec();
+        message.extend(text);
+        message.extend((room as u32).to_le_bytes());
+        message.extend(u32::from(FILL).to_le_bytes());
+        self.process.say(&message).expect("the library listens");
+        let (mut answer, mut buffer) = ([0; 8], vec![0; room]);
+        self.process
+            .hear(&mut answer)
+            .and_then(|()| self.process.hear(&mut buffer))
+            .expect("the library answers: it ended, or its stack did");
+        (u64::from_le_bytes(answer), buffer)
+    }
+
+    /// A text gets the bytes, the refusal with its line, or the wrong line that the model has for it; and the buffer is left as it was, but for the plan.
+    fn hold(&mut self, text: &str, read: &Result<Vec<u8>, Wrong>, room: usize) {
+        let (answer, buffer) = self.call(text.as_bytes(), room);
+        let mut left = vec![FILL; room];
+        let good = match read {
+            Ok(bytes) if bytes.len() > room => answer >> 32 == 18,
+            Ok(bytes) => {
+                left[..bytes.len()].copy_from_slice(bytes);
+                answer == bytes.len() as u64
+            }
+            Err(Wrong::Refused(number, line)) => answer == u64::from(*number) << 32 | *line as u64,
+            // the reason may be any of the 26
+            Err(Wrong::Line(line)) => {
+                (33..=58).contains(&(answer >> 32)) && answer as u32 as usize == *line
+            }
+        };
+        if !good || buffer != left {
+            println!("the library answers {answer:#x}, and the model has {read:?}, for\n{text}");
+            exit(1);
+        }
+        self.asked += 1;
+    }
+}
+
+/// A script, with the answers that it must get, and the texts in it.
 #[derive(Default)]
 struct Script {
     asked: Vec<u8>,
     lines: usize,
     wanted: Vec<(String, String)>,
+    texts: Vec<(String, Result<Vec<u8>, Wrong>)>,
 }
 
 impl Script {
@@ -76,10 +135,19 @@ impl Script {
             // the reason may be any
             Err(Wrong::Line(at)) => self.want(&format!("error {} ..", line + at), text),
         }
+        self.texts.push((text.to_string(), read.clone()));
         read
     }
 
-    fn hold(self, what: &str) {
+    fn hold(self, what: &str, library: &mut Library, random: &mut Random) {
+        for (text, read) in &self.texts {
+            let room = if random.percent(5) {
+                random.below(64)
+            } else {
+                4096
+            };
+            library.hold(text, read, room);
+        }
         let answers = asked(self.asked);
         for (at, (wanted, why)) in self.wanted.iter().enumerate() {
             let got = answers.get(at).map_or("no answer", String::as_str);
@@ -424,7 +492,8 @@ fn main() {
         script.want("\nplan 2 0\nnames 2 0\n", text);
     }
     let written = script.lines;
-    script.hold("there and back");
+    let mut library = Library::start();
+    script.hold("there and back", &mut library, &mut random);
     println!(
         "texts: {} accepted plans, {given} of them given ones, drawn and written back byte for byte: as drawn, by names, laid out otherwise; {written} lines",
         plans.len()
@@ -447,7 +516,7 @@ fn main() {
             }
         }
     }
-    script.hold("damaged");
+    script.hold("damaged", &mut library, &mut random);
     // what is a plan still is drawn back as a text that says the same
     for (plan, text) in accepted.iter().zip(drawn(&accepted)) {
         assert_eq!(text::read(text.as_bytes()).as_ref(), Ok(plan), "{text}");
@@ -457,6 +526,10 @@ fn main() {
         accepted.len() + refused + wrong,
         accepted.len(),
         began.elapsed().as_secs_f64()
+    );
+    println!(
+        "texts: {} of these answered by the library's moonhalyard_text as the model answers them",
+        library.asked
     );
 }
 

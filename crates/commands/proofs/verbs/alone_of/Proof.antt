@@ -8,9 +8,6 @@ pub alone-of-spec : {M : Type 1} → statement M
 alone-of-spec =
     tie.close
     (tie.spec
-    (λ c. search needs)
-    (λ c κs. search needs)
-    (λ c. search needs)
     (λ c κs. search needs)
     (λ c. search needs)
     (λ c κs. search needs)

@@ -1,0 +1,29 @@
+// For callers in other languages: the version of the library, and a state of any version brought up to date. Today there is one version of a state, so
+// that a state comes out as it is. Built as a static library.
+ghost use mathlib.Core.Path.{_≡_};
+ghost use Rattle.boundary_state.specs.Upgrade.{upgradeNumber, upgradeBytes};
+
+// The version: 10,000 for each first number, 100 for each second, and the third.
+#[no_mangle]
+pub extern "C" fn moonhalyard_version() -> u32
+    ensures { λ r. ⌜ r ≡ 10000 ⌝ }
+{
+    10000
+}
+
+// Brings the state that `old` holds, of whatever version, into `state`. 0; 17 where it holds none; 18 where `state` has not 11,964 bytes.
+#[no_mangle]
+pub extern "C" fn moonhalyard_upgrade(old: &[u8], state: &mut [u8]) -> u32
+    ensures is { λ r. ⌜ r ≡ upgradeNumber (now (old .entry)) (now (state .entry)) ⌝ }
+    ensures bytes { λ _. ⌜ now (state .exit) ≡ upgradeBytes (now (old .entry)) (now (state .entry)) ⌝ }
+{
+    if state.len() != 11964 {
+        return 18;
+    }
+    let k = store::unpack(old);
+    if k.refused {
+        return 17;
+    }
+    store::pack(k.state, k.tally, state);
+    0
+}

@@ -1,0 +1,61 @@
+// Scopes that swallow a fault: their fault part is empty, and the order goes on behind them as if nothing had been.
+use super::binding::may_lack_one;
+use super::uses::computes;
+use super::ways::fault_of;
+use super::ways::part_in;
+use drawing::after;
+use drawing::entry;
+use drawing::scope_of;
+
+// Whether the step of activity n may fault: a raise, a sum or difference, or a variable that may be unbound.
+fn may_fault(table: &[u32; 11584], n: usize) -> bool {
+    if entry(table, n, 0) == 4 {
+        return true;
+    }
+    if computes(table, n) {
+        return true;
+    }
+    may_lack_one(table, n)
+}
+
+// Whether a fault of activity n faults scope s: n stands in its body, or in the fault part of a scope there.
+fn reaches(table: &[u32; 11584], s: usize, n: usize) -> bool {
+    let inner = scope_of(table, n);
+    if inner == s {
+        return part_in(table, s, n) == 0;
+    }
+    if scope_of(table, inner) == s {
+        return part_in(table, inner, n) == 1;
+    }
+    false
+}
+
+fn may_reach(table: &[u32; 11584], s: usize, n: usize) -> bool {
+    if reaches(table, s, n) {
+        return may_fault(table, n);
+    }
+    false
+}
+
+// Whether something in the body of scope s may fault it.
+fn may_be_faulted(table: &[u32; 11584], s: usize) -> bool {
+    let stop = fault_of(table, s);
+    let mut n = after(s);
+    while n < stop {
+        if may_reach(table, s, n) {
+            return true;
+        }
+        n += 1;
+    }
+    false
+}
+
+// Whether activity s is a scope that may fault, and whose fault part is empty.
+pub(crate) fn swallows(table: &[u32; 11584], s: usize) -> bool {
+    if entry(table, s, 0) == 11 {
+        if entry(table, fault_of(table, s), 0) == 0 {
+            return may_be_faulted(table, s);
+        }
+    }
+    false
+}

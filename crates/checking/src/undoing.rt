@@ -1,0 +1,142 @@
+// Undo parts that are forgotten, and undo parts whose variables are set again before they run.
+use super::uses::binds;
+use super::uses::is_bound_within;
+use super::uses::is_used_within;
+use super::ways::around;
+use super::ways::fault_of;
+use super::ways::is_within;
+use super::ways::part_in;
+use super::ways::repeats;
+use super::ways::undo_of;
+use drawing::after;
+use drawing::end_of;
+use drawing::entry;
+use drawing::scope_of;
+
+// Whether activity t is a scope whose undo part does something, and that is remembered for scope s.
+fn is_undone_for(table: &[u32; 11584], s: usize, t: usize) -> bool {
+    if entry(table, t, 0) == 11 {
+        if scope_of(table, t) == s {
+            return 0 < entry(table, undo_of(table, t), 0);
+        }
+    }
+    false
+}
+
+fn has_undone(table: &[u32; 11584], s: usize) -> bool {
+    let stop = fault_of(table, s);
+    let mut t = after(s);
+    while t < stop {
+        if is_undone_for(table, s, t) {
+            return true;
+        }
+        t += 1;
+    }
+    false
+}
+
+// Whether activity s is a scope with an empty undo part around scopes with one: once it closes they are forgotten.
+pub(crate) fn forgets(table: &[u32; 11584], s: usize) -> bool {
+    if entry(table, s, 0) == 11 {
+        if entry(table, undo_of(table, s), 0) == 0 {
+            return has_undone(table, s);
+        }
+    }
+    false
+}
+
+// Whether m stands in the body that scope s is remembered for: that of the scope around it, or of the root.
+fn is_in_reach(table: &[u32; 11584], outer: usize, s: usize, m: usize) -> bool {
+    if outer == s {
+        return is_within(table, 0, m);
+    }
+    if is_within(table, outer, m) {
+        return part_in(table, outer, m) == 0;
+    }
+    false
+}
+
+// The first activity of that body.
+fn reach_of(outer: usize, s: usize) -> usize {
+    if outer == s {
+        return 0;
+    }
+    after(outer)
+}
+
+fn is_behind(table: &[u32; 11584], s: usize, m: usize) -> bool {
+    let a = around(table, s, m);
+    if a == s {
+        return false;
+    }
+    match entry(table, a, 0) {
+        8 => s < m,
+        9 => true,
+        _ => false,
+    }
+}
+
+// Whether m may run after scope s has closed, and before it is undone.
+fn may_follow(table: &[u32; 11584], s: usize, m: usize) -> bool {
+    let outer = scope_of(table, s);
+    if is_in_reach(table, outer, s, m) {
+        if is_behind(table, s, m) {
+            return true;
+        }
+        return repeats(table, reach_of(outer, s), m, s);
+    }
+    false
+}
+
+fn changes(table: &[u32; 11584], s: usize, m: usize, v: u32) -> bool {
+    if binds(table, m, v) {
+        return may_follow(table, s, m);
+    }
+    false
+}
+
+fn is_changed(table: &[u32; 11584], s: usize, v: u32) -> bool {
+    let mut m = 0;
+    while m < 256 {
+        if changes(table, s, m, v) {
+            return true;
+        }
+        m += 1;
+    }
+    false
+}
+
+// Whether the undo part of scope s goes by a variable v that it does not bind itself.
+fn goes_by(table: &[u32; 11584], s: usize, v: u32) -> bool {
+    let from = undo_of(table, s);
+    let to = end_of(table, s);
+    if is_used_within(table, from, to, v) {
+        if is_bound_within(table, from, to, v) {
+            return false;
+        }
+        return true;
+    }
+    false
+}
+
+fn is_for_correlation(correlation: &[u8; 16], v: u32) -> bool {
+    let i = v as usize;
+    if i < 16 {
+        return correlation[i] == 1;
+    }
+    false
+}
+
+// Whether activity s is a scope whose undo part goes by variable v, which may be set again after the scope. (A variable that is for correlation keeps
+// its value once it has one.)
+pub(crate) fn loses(table: &[u32; 11584], correlation: &[u8; 16], s: usize, v: u32) -> bool {
+    if entry(table, s, 0) == 11 {
+        if is_for_correlation(correlation, v) {
+            return false;
+        }
+        if goes_by(table, s, v) {
+            return is_changed(table, s, v);
+        }
+    }
+    false
+}

@@ -1,0 +1,133 @@
+// The variables that an activity uses, and those that it binds.
+use drawing::after;
+use drawing::code_of;
+use drawing::entry;
+use drawing::value_of;
+
+// Whether variable v is number i of the tuple of row n, which has `count`.
+fn is_member(table: &[u32; 11584], n: usize, i: usize, count: usize, v: u32) -> bool {
+    if i < count {
+        if i < 4 {
+            return entry(table, n, 4 + i) == v;
+        }
+    }
+    false
+}
+
+fn is_in_tuple(table: &[u32; 11584], n: usize, v: u32) -> bool {
+    let count = entry(table, n, 3) as usize;
+    let mut i = 0;
+    while i < 4 {
+        if is_member(table, n, i, count, v) {
+            return true;
+        }
+        i += 1;
+    }
+    false
+}
+
+// The last node of the expression whose first is m: the right operand of an operation stands last. (An expression is at most 8 deep.)
+fn last_of(table: &[u32; 11584], m: usize) -> usize {
+    let mut at = m;
+    let mut level: usize = 0;
+    while level < 8 {
+        if code_of(table, at) < 2 {
+            return at;
+        }
+        at = value_of(table, at) as usize;
+        level += 1;
+    }
+    at
+}
+
+fn is_variable(table: &[u32; 11584], m: usize, v: u32) -> bool {
+    if code_of(table, m) == 1 {
+        return value_of(table, m) == v;
+    }
+    false
+}
+
+// Whether variable v stands in the expression whose first node is m.
+fn is_in_expression(table: &[u32; 11584], m: usize, v: u32) -> bool {
+    let stop = after(last_of(table, m));
+    let mut i = m;
+    while i < stop {
+        if is_variable(table, i, v) {
+            return true;
+        }
+        i += 1;
+    }
+    false
+}
+
+// A sum may be above the range, a difference below 0.
+fn is_sum(table: &[u32; 11584], m: usize) -> bool {
+    let code = code_of(table, m);
+    if code == 2 {
+        return true;
+    }
+    code == 3
+}
+
+// Whether a sum or a difference stands in the expression whose first node is m.
+fn has_sum(table: &[u32; 11584], m: usize) -> bool {
+    let stop = after(last_of(table, m));
+    let mut i = m;
+    while i < stop {
+        if is_sum(table, i) {
+            return true;
+        }
+        i += 1;
+    }
+    false
+}
+
+// Whether activity n computes a sum or a difference.
+pub(crate) fn computes(table: &[u32; 11584], n: usize) -> bool {
+    match entry(table, n, 0) {
+        3 | 6 | 7 => has_sum(table, entry(table, n, 9) as usize),
+        _ => false,
+    }
+}
+
+// Whether activity n uses variable v: a send that sends it, or an expression that it stands in.
+pub(crate) fn uses(table: &[u32; 11584], n: usize, v: u32) -> bool {
+    match entry(table, n, 0) {
+        1 => is_in_tuple(table, n, v),
+        3 | 6 | 7 => is_in_expression(table, entry(table, n, 9) as usize, v),
+        _ => false,
+    }
+}
+
+// Whether activity or arm n binds variable v: a receive or an arm that takes it, or a set.
+pub(crate) fn binds(table: &[u32; 11584], n: usize, v: u32) -> bool {
+    match entry(table, n, 0) {
+        2 | 12 => is_in_tuple(table, n, v),
+        3 => entry(table, n, 8) == v,
+        _ => false,
+    }
+}
+
+// Whether any activity from `from` to before `to` uses variable v.
+pub(crate) fn is_used_within(table: &[u32; 11584], from: usize, to: usize, v: u32) -> bool {
+    let mut n = from;
+    while n < to {
+        if uses(table, n, v) {
+            return true;
+        }
+        n += 1;
+    }
+    false
+}
+
+// The same of binding it.
+pub(crate) fn is_bound_within(table: &[u32; 11584], from: usize, to: usize, v: u32) -> bool {
+    let mut n = from;
+    while n < to {
+        if binds(table, n, v) {
+            return true;
+        }
+        n += 1;
+    }
+    false
+}

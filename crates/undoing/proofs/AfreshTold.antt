@@ -1,0 +1,185 @@
+-- What begins was idle before, over any run; and so what lasts begins at most once, also in the step that starts an order. Assumes nothing.
+use Prim.Native.Nat.{ℕ, _+_, _≤_, _<_}
+use native.Mathlib.Omega.{arith}
+use mathlib.Core.Path.{_≡_, refl, sym, ap, subst, _∙_}
+use mathlib.Core.Bool.{Bool, true, false, cond, not, _&&_, _||_, false≢true, or-true}
+use mathlib.Core.List.{List, [], _∷_, _++_}
+use lib.ListN.{length, getD}
+use lib.Dec.{eqb, ltb, leb}
+use borrow.Author.Tests.{lt-ltb, le-ltb, le-leb, ltb-true, ltb-false}
+use Rattle.plan.specs.Found.{Found, found}
+use Rattle.plan.specs.Read.{readPlan}
+use Rattle.plan.specs.Tree.{Act, act, Acts, none, more, Plan, size, sizes}
+use Rattle.plan.proofs.Limits.{accepted-is-within}
+use Rattle.order.specs.declared.Order.{Order}
+use Rattle.order.specs.declared.End.{End}
+use Rattle.order.specs.declared.End.the-variants.{None, Well, Handled, Failed, Left}
+use Rattle.machine.specs.declared.Message.{Message}
+use Rattle.machine.specs.declared.State.{State}
+use Rattle.machine.specs.declared.Tally.{Tally}
+use Rattle.order.specs.Lists.{every, some}
+use Rattle.order.specs.State.{root, idle, isLive, noOrder}
+use Rattle.machine.specs.State.{fresh}
+use Rattle.order.specs.Event.{Event, started, ended}
+use Rattle.order.specs.Scope.{Outcome, rootOf, fromBody, fromFault}
+use Rattle.order.specs.Acting.{stepIn, stepRoot, endOf, movedTo, stepOrder, begunOrder, startedOrder}
+use Rattle.order.specs.Taking.{actIn, actAmong, actAt}
+use Rattle.machine.specs.Calls.{loadedAs, load, post, collect, dropAt, Stepped, doingAt, step, Call, posting, collecting, dropping, stepping}
+use Rattle.undoing.specs.History.{logOf}
+use Rattle.undoing.specs.Ties.{isTaken, placeOf}
+use Rattle.undoing.specs.Orderly.{isBeganOf}
+use Rattle.undoing.specs.Begun.{kindAt, hasBegan, Taken, markBefore, takenBy, stepsTaken}
+use Rattle.undoing.specs.Entirely.{ofAll, isUndo, isAfresh, BegunAfresh}
+use Rattle.undoing.proofs.Parts.{decide, every-append}
+use Rattle.undoing.proofs.Accounts.{phase}
+use Rattle.undoing.proofs.Marks.{turned-waits, turned-undoes, turned-heals}
+use Rattle.undoing.proofs.Orders.{onto}
+use Rattle.undoing.proofs.Places.{first-of, second-of}
+use Rattle.undoing.proofs.Planning.{Promised, promised}
+use Rattle.undoing.proofs.Waiting.{quiet-waits}
+use Rattle.undoing.proofs.Scoping.{scope-live, scope-done, scope-turned, Running}
+use Rattle.undoing.proofs.Stepping.{steps, steps-stopped, steps-undoing}
+use Rattle.undoing.proofs.Roots.{Awaited, in-body, in-fault, Standing}
+use Rattle.undoing.proofs.Slots.{standing-live, taking-alike, order-starts, post-same, collect-same, drop-same, Sane, same-sane, fresh-sane}
+use Rattle.undoing.proofs.Happening.{orderIn, withMessage, Happens, nothing-here, goes-here, starts-here, step-happens}
+use Rattle.undoing.proofs.Demanded.{step-after}
+use Rattle.undoing.proofs.Truly.{Knows}
+use Rattle.undoing.proofs.Entire.{Named}
+use Rattle.undoing.proofs.BegunTold.{body-knows, fault-knows}
+use Rattle.undoing.proofs.EntirelyTold.{each-below, formed-named}
+use Rattle.undoing.proofs.Coming.{in-first, in-later}
+use Rattle.undoing.proofs.Afresh.{Again, New, new-idle, new-again, Fresh, fresh-append, fresh-none, fault-fresh}
+use Rattle.undoing.proofs.AfreshSteps.{Stood, undoing-calm, live-fresh, waits-fresh, undoes-fresh, fresh-run, fresh-stopped, fresh-undoing, fresh-part}
+
+module _ (p : Plan) (h : Promised p) where
+  kb : Knows (kindAt p) (p .body) 0
+  kb = body-knows p h
+
+  kf : Knows (kindAt p) (p .fault) (size (p .body))
+  kf = fault-knows p h
+
+  nf : Named (kindAt p) (p .fault)
+  nf = formed-named (kindAt p) (h .fault)
+
+  body-stood : Stood p (p .body) 0
+  body-stood = record { at = λ j x y. in-first (p .body) (more (p .fault) none) 0 j (omega arith) }
+
+  fault-stood : Stood p (p .fault) (size (p .body))
+  fault-stood =
+      record {
+        at = λ j x y. in-later (p .body) (more (p .fault) none) 0 j (omega arith)
+            ∙ (ap (λ (c : ℕ). actAmong (more (p .fault) none) c j) (zero-plus (size (p .body))) ∙ in-first (p .fault) none (size (p .body)) j y);
+      }
+    where
+      zero-plus : (n : ℕ) → 0 + n ≡ n
+      zero-plus n = omega arith
+
+  root-fresh : (t : ℕ) (o : Order) → Awaited p (o .marks) t → Standing p o → Fresh p (kindAt p) t (o .marks) (stepRoot p t o .log)
+  unfolding stepRoot
+  root-fresh t o (in-body e w) st =
+      subst (λ (r : Outcome). Fresh p (kindAt p) t (o .marks) (r .log))
+      (sym (first-of (ltb t (size (p .body))) (fromBody (rootOf p) (stepIn (p .body) 0 t o)) (fromFault (rootOf p) (stepIn (p .fault) (size (p .body)) t o)) (stepRoot p t o) refl (lt-ltb t (size (p .body)) e))) (go (st .runs))
+    where
+      m : size (p .body) + size (p .fault) ≤ length (o .marks)
+      m = st .many
+
+      go : Running (rootOf p) (o .marks) (o .root) → Fresh p (kindAt p) t (o .marks) (fromBody (rootOf p) (stepIn (p .body) 0 t o) .log)
+      go (scope-live d r q) =
+          live-fresh p (h .distinct) (kindAt p) t o (rootOf p) (h .seat) kb kf nf q (omega arith) (fresh-run p (h .distinct) (kindAt p) t o (h .seat .body) kb body-stood false w refl r (ap phase d) (omega arith)) r
+          (steps p (h .distinct) (h .seat .body) t o false w refl r (ap phase d) (omega arith))
+      go (scope-done d q z) = absurd (st .going d)
+      go (scope-turned (turned-waits {w = a} q z _ v)) =
+          waits-fresh p (h .distinct) (kindAt p) t o (rootOf p) (h .seat) kb kf nf v (omega arith) (fresh-stopped p (h .distinct) (kindAt p) t o (h .seat .body) kb body-stood false w refl z (omega arith)) a q z
+          (steps-stopped p (h .distinct) (h .seat .body) t o false w refl z (omega arith))
+      go (scope-turned (turned-undoes {w = a} q z v)) =
+          undoes-fresh p (h .distinct) (kindAt p) t o (rootOf p) (h .seat) kb kf nf v (omega arith) (fresh-undoing p (h .distinct) (kindAt p) t o (h .seat .body) kb body-stood false w refl z (a, q) (omega arith)) a q
+          (λ d. undoing-calm p (h .distinct) (kindAt p) t o (h .seat .body) body-stood false w refl z (a, q) (omega arith) d)
+          (steps-undoing p (h .distinct) (h .seat .body) t o false w refl z (a, q) (omega arith))
+      go (scope-turned (turned-heals q z v)) = absurd (quiet-waits w refl z)
+  root-fresh t o (in-fault e w) st =
+      subst (λ (r : Outcome). Fresh p (kindAt p) t (o .marks) (r .log))
+      (sym (second-of (ltb t (size (p .body))) (fromBody (rootOf p) (stepIn (p .body) 0 t o)) (fromFault (rootOf p) (stepIn (p .fault) (size (p .body)) t o)) (stepRoot p t o) refl (le-ltb t (size (p .body)) e))) (go (st .runs))
+    where
+      m : size (p .body) + size (p .fault) ≤ length (o .marks)
+      m = st .many
+
+      go : Running (rootOf p) (o .marks) (o .root) → Fresh p (kindAt p) t (o .marks) (fromFault (rootOf p) (stepIn (p .fault) (size (p .body)) t o) .log)
+      go (scope-live d r q) = absurd (quiet-waits w refl q)
+      go (scope-done d q z) = absurd (st .going d)
+      go (scope-turned (turned-waits q z _ v)) = absurd (quiet-waits w refl v)
+      go (scope-turned (turned-undoes q z v)) = absurd (quiet-waits w refl v)
+      go (scope-turned (turned-heals q z v)) =
+          fault-fresh p (kindAt p) t (o .marks) (rootOf p) (stepIn (p .fault) (size (p .body)) t o) (fresh-part p (h .distinct) (kindAt p) t o (h .seat .fault) kf fault-stood false w refl v q (omega arith))
+
+  order-fresh : (t : ℕ) (o : Order) → Awaited p (o .marks) t → Standing p o → Fresh p (kindAt p) t (o .marks) (stepOrder p t o .log)
+  unfolding stepOrder movedTo some isBeganOf
+  order-fresh t o a st = go (endOf (stepRoot p t o))
+    where
+      w : Fresh p (kindAt p) t (o .marks) (stepRoot p t o .log)
+      w = root-fresh t o a st
+
+      go : (e : End) → Fresh p (kindAt p) t (o .marks) (movedTo (stepRoot p t o) e .log)
+      go None = w
+      go Well = fresh-append p (kindAt p) t (o .marks) (stepRoot p t o .log) (ended root ∷ []) w (fresh-none p (kindAt p) t (o .marks) (ended root ∷ []) (λ j. refl))
+      go Handled = w
+      go Failed = w
+      go Left = w
+
+  -- having taken its message
+  pub taken-fresh : (t : ℕ) (m : Message) (o : Order) → Awaited p (o .marks) t → Standing p o → Fresh p (kindAt p) t (o .marks) (stepOrder p t (withMessage p t m o) .log)
+  taken-fresh t m o a st =
+      let e = taking-alike p (doingAt p t) m o in
+      subst (λ (ms : List ℕ). Fresh p (kindAt p) t ms (stepOrder p t (withMessage p t m o) .log)) (e .marks)
+      (order-fresh t (withMessage p t m o) (subst (λ (ms : List ℕ). Awaited p ms t) (sym (e .marks)) a)
+      (record {
+        many = subst (λ (ms : List ℕ). size (p .body) + size (p .fault) ≤ length ms) (sym (e .marks)) (st .many);
+        runs = subst (λ (ms : List ℕ). Running (rootOf p) ms (withMessage p t m o .root)) (sym (e .marks)) (subst (λ (x : ℕ). Running (rootOf p) (o .marks) x) (sym (e .root)) (st .runs));
+        going = λ d. st .going (sym (e .root) ∙ d);
+      }))
+
+  -- as the test has it
+  is-afresh : (x : Taken) (k : ℕ) → isLive (x .before) ≡ true → Fresh p (kindAt p) (x .activity) (x .before .marks) (x .log) → isAfresh p x k ≡ true
+  unfolding isAfresh
+  is-afresh x k l w = decide (hasBegan k (x .log)) (λ b. rw (b, l) (so (w .at k b))) (λ b. rw b)
+    where
+      so : New p (kindAt p) (x .activity) (x .before .marks) k → (eqb (getD (x .before .marks) k 0) idle || (isUndo (placeOf p k) && (leb k (x .activity) && ltb (x .activity) (k + size (actAt p k))))) ≡ true
+      so (new-idle e) = rw e
+      so (new-again e) = rw (e .place, le-leb k (x .activity) (e .from), lt-ltb (x .activity) (k + size (actAt p k)) (e .to), or-true)
+
+  is-first : (x : Taken) (k : ℕ) → isLive (x .before) ≡ false → isAfresh p x k ≡ true
+  unfolding isAfresh
+  is-first x k l = rw (l, or-true)
+
+  module _ (i : ℕ) where
+    abbrev one : State → (t : ℕ) → Stepped → Taken
+    one s t r = record { activity = t; before = orderIn s i; after = orderIn (r .state) i; log = logOf i r }
+
+    one-taken : (f : Plan → Taken → ℕ → Bool) (s : State) (t : ℕ) (r : Stepped) → (isTaken i r ≡ true) × (r .answer .activity ≡ t) → ((k : ℕ) → f p (one s t r) k ≡ true) → every (ofAll f p) (takenBy i s r) ≡ true
+    unfolding every
+    one-taken f s t r q g = rw (q .0, q .1, each-below (f p (one s t r)) (size (p .body) + size (p .fault)) (λ k n. g k))
+
+    happens-afresh : (s : State) (past : List Event) (r : Stepped) → Happens p i s past r → every (ofAll isAfresh p) (takenBy i s r) ≡ true
+    unfolding every
+    happens-afresh s past r (nothing-here n l e d) = rw n
+    happens-afresh s past r (goes-here t m q x st c y l e d) =
+        one-taken isAfresh s t r q (λ k. is-afresh (one s t r) k (standing-live p (orderIn s i) st) (subst (λ (g : List Event). Fresh p (kindAt p) t (orderIn s i .marks) g) (sym l) (taken-fresh t m (orderIn s i) x st)))
+    happens-afresh s past r (starts-here t m q x z n l e d) = one-taken isAfresh s t r q (λ k. is-first (one s t r) k z)
+
+    module _ (bytes : List ℕ) (next : ℕ) (accepted : readPlan bytes ≡ found p next) where
+      all-afresh : (calls : List Call) (s : State) (t : Tally) (past : List Event) → Sane p bytes next i accepted h s past → every (ofAll isAfresh p) (stepsTaken calls i s t) ≡ true
+      unfolding stepsTaken every
+      all-afresh [] s t past g = refl
+      all-afresh (posting m ∷ l) s t past g = all-afresh l (post m s .state) t past (same-sane p bytes next i accepted h s (post m s .state) past (post-same m s) g)
+      all-afresh (collecting ∷ l) s t past g = all-afresh l (collect s .state) t past (same-sane p bytes next i accepted h s (collect s .state) past (collect-same s) g)
+      all-afresh (dropping j ∷ l) s t past g = all-afresh l (dropAt j s .state) t past (same-sane p bytes next i accepted h s (dropAt j s .state) past (drop-same j s) g)
+      all-afresh (stepping c ∷ l) s t past g =
+          let r = step c s t in
+          every-append (ofAll isAfresh p) (takenBy i s r) (stepsTaken l i (r .state) (r .tally)) (happens-afresh s past r (step-happens p bytes next i accepted h c s t past g .happens))
+          (all-afresh l (r .state) (r .tally) (onto (logOf i r) past) (step-after p bytes next i accepted h c s t past g .1))
+
+-- What begins begins afresh.
+pub begun-afresh : BegunAfresh
+unfolding BegunAfresh load
+begun-afresh bytes p next e calls slot t =
+    subst (λ (f : Found Plan). every (ofAll isAfresh p) (stepsTaken calls slot (loadedAs bytes f .state) t) ≡ true) (sym e)
+    (let h = promised p (accepted-is-within bytes e) in all-afresh p h slot bytes next e calls (fresh bytes) t [] (fresh-sane p bytes next slot e h))

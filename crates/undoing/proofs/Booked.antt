@@ -1,0 +1,483 @@
+-- What a buyer has written down of an order agrees with the order, and does so after each step of it. Assumes nothing.
+use Prim.Native.Nat.{ℕ, _+_, _≤_}
+use native.Mathlib.Omega.{arith}
+use mathlib.Core.Path.{_≡_, refl, sym, ap, subst, _∙_}
+use mathlib.Core.Bool.{Bool, true, false, cond, _||_, false≢true, or-true}
+use mathlib.Core.List.{List, [], _∷_, reverse}
+use lib.ListN.{length}
+use lib.Dec.{eqb}
+use borrow.Author.Tests.{eqb-true, eq-eqb, lt-ltb, le-ltb}
+use Rattle.plan.specs.Tree.{Act, Plan, size}
+use Rattle.order.specs.declared.Order.{Order}
+use Rattle.order.specs.declared.End.the-variants.{None}
+use Rattle.order.specs.Lists.{some, only}
+use Rattle.order.specs.State.{root, inner, active, done, faulty, undoing, handling, halted, withdrawing, withRoot, closings}
+use Rattle.order.specs.Event.{Event, faulted}
+use Rattle.order.specs.Begin.{begin}
+use Rattle.order.specs.declared.Way.{Way as Result}
+use Rattle.order.specs.declared.Way.the-variants.{Running as running, Over as over, Raising as raising, Leaving as leaving, Undone as undone, UndoRaising as undoRaising}
+use Rattle.order.specs.Scope.{Outcome, runs, after, begunIn, whereOver, Scope, rootOf, isOpen, innerRuns, rememberedFor, undo, ends, handle, undoes, turns, stop, faults, breaks, looksAgain, undoOver, undoRaised, partOver, partRaised, fromBody, fromFault}
+use Rattle.order.specs.Acting.{stepIn, stepRoot}
+use Rattle.undoing.specs.Demand3.{Inner, insideOf, closingsOf}
+use Rattle.undoing.specs.Ties.{Place, placeOf, fits, isDeed}
+use Rattle.undoing.specs.Answered.{backIn, backOf, isClose, isBack, Book, putting, without, isDue, paid, noted, mayNote}
+use Rattle.undoing.proofs.Parts.{decide}
+use Rattle.undoing.proofs.Accounts.{Phase, live, waits, heals, phase}
+use Rattle.undoing.proofs.Moves.{HoldsAt, tied-at, move-fault}
+use Rattle.undoing.proofs.Marks.{Quiet, Run, Turned, turned-waits, turned-undoes, turned-heals, Stopped, Undoing, Stoppable, quiet-agree, agree-below, agree-above}
+use Rattle.undoing.proofs.Orders.{isIn, listOf, momentOf, onto, Does}
+use Rattle.undoing.proofs.Seats.{marking-elsewhere, stopped-rests, remembered-list}
+use Rattle.undoing.proofs.Undo.{UndoneAs, Undone, undoes-list}
+use Rattle.undoing.proofs.Turning.{TurnsAs, handles}
+use Rattle.undoing.proofs.Stopping.{Stops, stops}
+use Rattle.undoing.proofs.Waiting.{Waits, quiet-waits}
+use Rattle.undoing.proofs.Scoping.{looks-is, over-is, raised-is, Acted, RunAs, StopAs, UndoAs, scope-live, scope-done, scope-turned, Running, waits-mark, undoes-mark, no-heals}
+use Rattle.undoing.proofs.Stepping.{steps, steps-stopped, steps-undoing, steps-part}
+use Rattle.undoing.proofs.Roots.{Awaited, in-body, in-fault, Standing, root-is}
+use Rattle.undoing.proofs.Planning.{Promised}
+use Rattle.undoing.proofs.Aside.{stop-silent}
+use Rattle.undoing.proofs.Deeds.{deeds-aside}
+use Rattle.undoing.proofs.Fitting.{standing-fits}
+use Rattle.undoing.proofs.Ending.{isStart, start-kept}
+use Rattle.undoing.proofs.Owing.{undoLeftIn, undo-quiet, undo-run, undo-stopped}
+use Rattle.undoing.proofs.Repaying.{Repays, RepaysAs, undo-repays, undo-due, back-place, Back, left-back, none-without, close-place, duesOf, PaysAs, undo-pays}
+use Rattle.undoing.proofs.Pushing.{closedOnto, onto-closings, direct-close, step-closings}
+
+-- what is due for closings directly inside the root, and what an order owes
+abbrev pub duesIn : Plan → List ℕ → List (List ℕ)
+duesIn p l = duesOf (backIn (p .body) 0) l
+
+abbrev pub owed : Plan → Order → List (List ℕ)
+owed p o = putting (undoLeftIn (p .body) 0 (o .marks)) (duesIn p (listOf p root o))
+
+-- the mark of a root that has begun to undo
+abbrev pub begunMark : ℕ → Bool
+begunMark m = (eqb m undoing || eqb m withdrawing) || eqb m handling
+
+-- A book agrees with an order: the same is due, and taking back has begun only where the root has come to it.
+pub record Agrees (p : Plan) (o : Order) (a : Book) : Type 0 where
+  pub due : owed p o ≡ a .due
+  pub calm : begunMark (o .root) ≡ false → a .begun ≡ false
+
+-- the same of an outcome; where the root is over nothing is due
+abbrev pub SettledAs : Plan → (due : List (List ℕ)) → (begun : Bool) → Order → Result → Type 0
+SettledAs p d b o running = (owed p o ≡ d) × (begunMark (o .root) ≡ false → b ≡ false)
+SettledAs p d b o over = d ≡ []
+SettledAs p d b o raising = Unit {0}
+SettledAs p d b o leaving = Unit {0}
+SettledAs p d b o undone = Unit {0}
+SettledAs p d b o undoRaising = Unit {0}
+
+abbrev pub Settled : Plan → (due : List (List ℕ)) → (begun : Bool) → Outcome → Type 0
+Settled p d b r = SettledAs p d b (r .order) (r .result)
+
+-- a root that runs its fault part has a quiet body
+heals-quiet : {ms : List ℕ} {m kb kf : ℕ} {b f : Act} → Turned ms m b kb f kf → m ≡ handling → Quiet ms kb (size b)
+heals-quiet (turned-waits {w = w} e x n y) d = absurd (let z : heals ≡ waits w = sym (ap phase d) ∙ e in let x : _≡_ {A = ℕ} 0 1 = cc in omega arith)
+heals-quiet (turned-undoes {w = w} e x y) d = absurd (let z : heals ≡ Phase.undoes w = sym (ap phase d) ∙ e in let x : _≡_ {A = ℕ} 0 1 = cc in omega arith)
+heals-quiet (turned-heals e q r) d = q
+
+-- nothing runs and nothing is remembered
+quiet-owed : (p : Plan) (o : Order) → undoLeftIn (p .body) 0 (o .marks) ≡ [] → owed p o ≡ duesIn p (listOf p root o)
+quiet-owed p o e = ap (λ (l : List ℕ). putting l (duesIn p (listOf p root o))) e
+
+pub none-owed : (p : Plan) (o : Order) → undoLeftIn (p .body) 0 (o .marks) ≡ [] → listOf p root o ≡ [] → owed p o ≡ []
+unfolding duesOf
+none-owed p o e l = quiet-owed p o e ∙ ap (duesIn p) l
+
+-- one of some scopes, by its number
+some-find : {P : Type 0} (f : ℕ → Bool) (l : List Inner) → some (λ x. f (x .number)) l ≡ true → ((e : ℕ) → some (λ x. eqb (x .number) e) l ≡ true → f e ≡ true → P) → P
+unfolding some
+some-find f [] h g = absurd (false≢true h)
+some-find f (x ∷ l) h g =
+    decide (f (x .number))
+    (λ e. g (x .number) (rw (eq-eqb (x .number) (x .number) refl)) e)
+    (λ e. some-find f l (rw e at h) (λ i a b. g i (rw (a, or-true)) b))
+
+pub some-found : (f : ℕ → Bool) (e : ℕ) (l : List Inner) → some (λ x. eqb (x .number) e) l ≡ true → f e ≡ true → some (λ x. f (x .number)) l ≡ true
+unfolding some
+some-found f e [] h g = absurd (false≢true h)
+some-found f e (x ∷ l) h g =
+    decide (eqb (x .number) e)
+    (λ i. rw (ap f (eqb-true (x .number) e i) ∙ g))
+    (λ i. rw (some-found f e l (rw i at h) g, or-true))
+
+-- a step that is due is paid
+paid-put : (t : ℕ) (l : List ℕ) (d : List (List ℕ)) → some (eqb t) l ≡ true → (paid t (putting l d) ≡ putting (without t l) d) × (isDue t (putting l d) ≡ true)
+unfolding some
+paid-put t [] d h = absurd (false≢true h)
+paid-put t (x ∷ l) d h = (refl, h)
+
+module _ (p : Plan) (h : Promised p) where
+  -- The root undoes, handles and ends.
+  handle-settles : (b : Bool) (o : Order) → o .root ≡ undoing → listOf p root o ≡ [] → Quiet (o .marks) 0 (size (p .body)) → Quiet (o .marks) (size (p .body)) (size (p .fault))
+      → size (p .body) + size (p .fault) ≤ length (o .marks) → Settled p [] b (handle (rootOf p) o)
+  unfolding handle
+  handle-settles b o e l z y m = go (begin (p .fault) (size (p .body)) (o .marks) .over) (handles p (rootOf p) o (h .seat) (ap phase e) l z y m .comes)
+    where
+      handled : Bool → Outcome
+      handled v =
+          whereOver (ends (rootOf p)) (begunIn (withRoot handling o) (record { marks = begin (p .fault) (size (p .body)) (o .marks) .marks; over = v; log = begin (p .fault) (size (p .body)) (o .marks) .log }))
+
+      go : (v : Bool) → TurnsAs p (rootOf p) o (handled v .log) (handled v .order) (handled v .result) → Settled p [] b (handled v)
+      go true c = refl
+      go false c = (none-owed p (handled false .order) (undo-quiet (h .seat .body) (begin (p .fault) (size (p .body)) (o .marks) .marks) (heals-quiet (c .0) refl)) l, λ x. absurd (false≢true (sym x)))
+
+  undoes-settles : (b : Bool) (o : Order) → Quiet (o .marks) 0 (size (p .body)) → Quiet (o .marks) (size (p .body)) (size (p .fault)) → size (p .body) + size (p .fault) ≤ length (o .marks)
+      → Settled p (duesIn p (listOf p root o)) b (undoes true (rootOf p) o)
+  unfolding undoes
+  undoes-settles b o z y m = go (r .result) (u .comes) pays
+    where
+      s : Scope
+      s = rootOf p
+
+      o′ : Order
+      o′ = withRoot undoing o
+
+      l : List ℕ
+      l = rememberedFor s o′
+
+      i : l ≡ listOf p root o
+      i = remembered-list p s o′ (h .seat)
+
+      r : Outcome
+      r = undo l s o′
+
+      u : Undone p s o′ r
+      u = undoes-list p true s l o′ (h .seat) refl z (omega arith) (sym i)
+
+      pays : PaysAs p s (duesOf (backIn (p .body) 0) l) (r .order) (r .result)
+      pays = undo-pays p true s l o′ (h .seat) refl z (omega arith) (sym i)
+
+      go : (x : Result) → UndoneAs p s (r .order) x → PaysAs p s (duesOf (backIn (p .body) 0) l) (r .order) x
+          → Settled p (duesIn p (listOf p root o)) b (whereOver (handle s) (record { result = x; order = r .order; log = r .log }))
+      go running c d = (d ∙ ap (duesIn p) i, λ x. absurd (false≢true (sym x ∙ ap begunMark (u .rooted))))
+      go over c d =
+          subst (λ (e : List (List ℕ)). Settled p e b (after (r .log) (handle s (r .order)))) (sym (ap (duesIn p) (sym i) ∙ d))
+          (handle-settles b (r .order) (u .rooted) (c .1) (c .0) (quiet-agree y (agree-above (u .kept) (omega arith))) (omega (arith, u .kept .many)))
+      go raising c d = absurd c
+      go leaving c d = absurd c
+      go undone c d = absurd c
+      go undoRaising c d = absurd c
+
+  turns-settles : (o : Order) → Stopped (o .marks) (p .body) 0 → Quiet (o .marks) (size (p .body)) (size (p .fault)) → size (p .body) + size (p .fault) ≤ length (o .marks)
+      → Settled p (duesIn p (listOf p root o)) false (turns true (rootOf p) o)
+  unfolding turns
+  turns-settles o t y m = go (innerRuns (p .body) 0 (o .marks)) refl
+    where
+      go : (b : Bool) → innerRuns (p .body) 0 (o .marks) ≡ b → Settled p (duesIn p (listOf p root o)) false (after [] (elim b [ true ↦ runs o | false ↦ undoes true (rootOf p) o ]))
+      go true e = (quiet-owed p o (undo-stopped (h .seat .body) t), λ x. refl)
+      go false e = undoes-settles false o (stopped-rests t e) y m
+
+  faults-settles : (o : Order) (past : List Event) → o .root ≡ active → Stoppable (o .marks) (p .body) 0 → Quiet (o .marks) (size (p .body)) (size (p .fault))
+      → size (p .body) + size (p .fault) ≤ length (o .marks) → HoldsAt p (momentOf p o) past → Settled p (duesIn p (listOf p root o)) false (faults (rootOf p) o)
+  unfolding faults only isDeed some isStart closedOnto
+  faults-settles o past e t y m g =
+      subst (λ (l : List ℕ). Settled p (duesIn p l) false (turns true (rootOf p) o₂)) same-list
+      (turns-settles o₂ (r .stands) (quiet-agree y (agree-above (r .kept) (omega arith))) (omega (arith, r .kept .many)))
+    where
+      o₁ : Order
+      o₁ = withRoot faulty o
+
+      o₂ : Order
+      o₂ = stop (p .body) 0 o₁ .order
+
+      l : List Event
+      l = stop (p .body) 0 o₁ .log
+
+      r : Stops p (λ ms. Stopped ms (p .body) 0) 0 (size (p .body)) o₁ (stop (p .body) 0 o₁)
+      r = stops p (h .seat .body) o₁ refl t (omega arith)
+
+      g₁ : HoldsAt p (momentOf p o₁) (faulted root ∷ past)
+      g₁ = move-fault p (momentOf p o) (momentOf p o₁) past g root refl (ap phase e) refl refl (marking-elsewhere p root faulty o) .1
+
+      g₂ : HoldsAt p (momentOf p o₂) (onto l (faulted root ∷ past))
+      g₂ = r .does .does (faulted root ∷ past) g₁ .1
+
+      still : only isDeed l ≡ []
+      still = stop-silent isDeed deeds-aside (p .body) 0 o₁
+
+      unstarted : some isStart (faulted root ∷ l) ≡ false
+      unstarted = start-kept l ∙ ap (some isStart) still
+
+      closed-same : closingsOf p root (onto l (faulted root ∷ past)) ≡ closingsOf p root past
+      closed-same = onto-closings p (faulted root ∷ l) past unstarted ∙ ap (λ (z : List Event). closedOnto p z (closingsOf p root past)) still
+
+      same-list : listOf p root o₂ ≡ listOf p root o
+      same-list =
+          sym (tied-at p (momentOf p o₂) (momentOf p o₂) (onto l (faulted root ∷ past)) g₂ (waits true) root refl (ap phase (r .rooted)) .3)
+          ∙ (closed-same ∙ tied-at p (momentOf p o) (momentOf p o) past g live root refl (ap phase e) .3)
+
+  -- Which steps close and take back.
+  module _ (t : ℕ) (o : Order) (fit : fits (placeOf p t) o ≡ true) where
+    back-of : isBack p root t ≡ true → Back (p .body) 0 t
+    unfolding backOf
+    back-of e =
+        some-find (λ i. some (eqb t) (backOf p i)) (insideOf p root) e
+        (λ i a b. record { scope = i; direct = direct-close p (h .seat) i ∙ a; takes = b })
+
+    is-back : Back (p .body) 0 t → isBack p root t ≡ true
+    unfolding backOf
+    is-back b = some-found (λ i. some (eqb t) (backOf p i)) (b .scope) (insideOf p root) (sym (direct-close p (h .seat) (b .scope)) ∙ b .direct) (b .takes)
+
+    not-back : (eqb (o .root) undoing || eqb (o .root) withdrawing) ≡ false → isBack p root t ≡ false
+    not-back e =
+        decide (isBack p root t)
+        (λ i. let b = back-of i in absurd (false≢true (sym e ∙ (ap (λ (q : Place). fits q o) (sym (back-place (p .body) 0 (b .scope) t (h .seat .body) (b .direct) (b .takes))) ∙ fit))))
+        (λ i. i)
+
+    not-close : isOpen (o .root) ≡ false → isClose p root t ≡ false
+    not-close e =
+        decide (isClose p root t)
+        (λ i. absurd (false≢true (sym e ∙ (ap (λ (q : Place). fits q o) (sym (close-place (p .body) 0 t (h .seat .body) (direct-close p (h .seat) t ∙ i))) ∙ fit))))
+        (λ i. i)
+
+    -- what is noted where nothing is taken back
+    noted-calm : (a : Book) (l : List ℕ) → isBack p root t ≡ false → a .due ≡ duesIn p l → a .begun ≡ false
+        → (mayNote p root t a ≡ true) × (noted p root t a .due ≡ duesIn p (cond (isClose p root t) (t ∷ l) l)) × (noted p root t a .begun ≡ false)
+    unfolding noted mayNote duesOf backOf
+    noted-calm a l n d b =
+        decide (isClose p root t)
+        (λ e. (rw (e, b), rw (e, d), rw (e, b)))
+        (λ e. (rw (e, n), rw (e, n, d), rw (e, n, b)))
+
+    -- and where neither is done
+    noted-same : (a : Book) → isBack p root t ≡ false → isClose p root t ≡ false → (mayNote p root t a ≡ true) × (noted p root t a ≡ a)
+    unfolding noted mayNote
+    noted-same a n e = (rw (e, n), rw (e, n))
+
+    -- what is noted where an undo part runs
+    noted-undo : (a : Book) (left : List ℕ) (d : List (List ℕ)) → isClose p root t ≡ false → a .due ≡ putting left d → (isBack p root t ≡ true → some (eqb t) left ≡ true)
+        → (isBack p root t ≡ false → some (eqb t) left ≡ false) → (mayNote p root t a ≡ true) × (noted p root t a .due ≡ putting (without t left) d)
+    unfolding noted mayNote
+    noted-undo a left d e i f g =
+        decide (isBack p root t)
+        (λ b. let y = paid-put t left d (f b) in (rw (e, b, i) (y .1), rw (e, b, i) (y .0)))
+        (λ b. (rw (e, b), rw (e, b, i) (ap (λ (l : List ℕ). putting l d) (sym (none-without t left (g b))))))
+
+  -- A step of an order that agrees with a book.
+  module _ (t : ℕ) (o : Order) (past : List Event) (a : Book) (g : HoldsAt p (momentOf p o) past) (ag : Agrees p o a) (m : size (p .body) + size (p .fault) ≤ length (o .marks))
+      (fit : fits (placeOf p t) o ≡ true) where
+    -- in the root's body
+    abbrev its : Outcome
+    its = stepIn (p .body) 0 t o
+
+    -- what closes with it
+    abbrev pushed : List ℕ → List ℕ
+    pushed l = cond (isClose p root t) (t ∷ l) l
+
+    abbrev Right : Outcome → Type 0
+    Right r = (mayNote p root t a ≡ true) × Settled p (noted p root t a .due) (noted p root t a .begun) r
+
+    -- where nothing is taken back, by what is due then
+    right-calm : (r : Outcome) → undoLeftIn (p .body) 0 (o .marks) ≡ [] → begunMark (o .root) ≡ false → (eqb (o .root) undoing || eqb (o .root) withdrawing) ≡ false
+        → Settled p (duesIn p (pushed (listOf p root o))) false r → Right r
+    right-calm r e b n w =
+        let y = noted-calm t o fit a (listOf p root o) (not-back t o fit n) (sym (ag .due) ∙ quiet-owed p o e) (ag .calm b) in
+        (y .0, subst (λ (d : List (List ℕ)). Settled p d (noted p root t a .begun) r) (sym (y .1)) (subst (λ (c : Bool). Settled p (duesIn p (pushed (listOf p root o))) c r) (sym (y .2)) w))
+
+    -- The root is live.
+    live-right : o .root ≡ active → Run (o .marks) (p .body) 0 → Quiet (o .marks) (size (p .body)) (size (p .fault)) → Waits (o .marks) (p .body) 0 t false → Right (fromBody (rootOf p) its)
+    unfolding fromBody
+    live-right d r q w =
+        right-calm (fromBody (rootOf p) its) (undo-run (h .seat .body) r) (rw d) (rw d) (go (its .result) (v .comes))
+      where
+        v : Acted 0 (size (p .body)) o (RunAs p (p .body) 0 t o) (stepIn (p .body) 0 t o)
+        v = steps p (h .distinct) (h .seat .body) t o false w refl r (ap phase d) (omega arith)
+
+        o₁ : Order
+        o₁ = stepIn (p .body) 0 t o .order
+
+        d₁ : o₁ .root ≡ active
+        d₁ = v .rooted ∙ d
+
+        q₁ : Quiet (o₁ .marks) (size (p .body)) (size (p .fault))
+        q₁ = quiet-agree q (agree-above (v .kept) (omega arith))
+
+        listed : Does p None o (stepIn (p .body) 0 t o .log) o₁ → listOf p root o₁ ≡ cond (isClose p root t) (t ∷ listOf p root o) (listOf p root o)
+        listed c =
+            let g₁ = c .does past g .1 in
+            sym (tied-at p (momentOf p o₁) (momentOf p o₁) (onto (stepIn (p .body) 0 t o .log) past) g₁ live root refl (ap phase d₁) .3)
+            ∙ (step-closings p (h .seat) t o past ∙ ap pushed (tied-at p (momentOf p o) (momentOf p o) past g live root refl (ap phase d) .3))
+
+        go : (x : Result) → RunAs p (p .body) 0 t o (stepIn (p .body) 0 t o .log) o₁ x
+            → Settled p (duesIn p (pushed (listOf p root o))) false (fromBody (rootOf p) (record { result = x; order = o₁; log = stepIn (p .body) 0 t o .log }))
+        go running c =
+            subst (λ (z : Outcome). Settled p (duesIn p (pushed (listOf p root o))) false (after (stepIn (p .body) 0 t o .log) z)) (sym (looks-is (rootOf p) o₁ active d₁))
+            (quiet-owed p o₁ (undo-run (h .seat .body) (c .0)) ∙ ap (duesIn p) (listed (c .1)), λ x. refl)
+        go over c =
+            subst (λ (z : Outcome). Settled p (duesIn p (pushed (listOf p root o))) false (after (stepIn (p .body) 0 t o .log) z)) (sym (over-is (rootOf p) o₁ active d₁))
+            (quiet-owed p o₁ (undo-quiet (h .seat .body) (o₁ .marks) (c .0)) ∙ ap (duesIn p) (listed (c .1)), λ x. refl)
+        go raising c =
+            subst (λ (z : Outcome). Settled p (duesIn p (pushed (listOf p root o))) false (after (stepIn (p .body) 0 t o .log) z)) (sym (raised-is (rootOf p) o₁ true (rw d₁)))
+            (subst (λ (l : List ℕ). Settled p (duesIn p l) false (faults (rootOf p) o₁)) (listed (c .1))
+            (faults-settles o₁ (onto (stepIn (p .body) 0 t o .log) past) d₁ (c .0) q₁ (omega (arith, v .kept .many)) (c .1 .does past g .1)))
+        go leaving c = tt
+        go undone c = absurd c
+        go undoRaising c = absurd c
+
+    -- It waits for its inner scopes.
+    waits-right : o .root ≡ faulty → Stopped (o .marks) (p .body) 0 → Quiet (o .marks) (size (p .body)) (size (p .fault)) → Waits (o .marks) (p .body) 0 t false → Right (fromBody (rootOf p) its)
+    unfolding fromBody
+    waits-right d r q w =
+        right-calm (fromBody (rootOf p) its) (undo-stopped (h .seat .body) r) (rw d) (rw d) (go (its .result) (v .comes))
+      where
+        v : Acted 0 (size (p .body)) o (StopAs p (p .body) 0 o) (stepIn (p .body) 0 t o)
+        v = steps-stopped p (h .distinct) (h .seat .body) t o false w refl r (omega arith)
+
+        o₁ : Order
+        o₁ = stepIn (p .body) 0 t o .order
+
+        d₁ : o₁ .root ≡ faulty
+        d₁ = v .rooted ∙ d
+
+        looks : Stopped (o₁ .marks) (p .body) 0 → Does p None o (stepIn (p .body) 0 t o .log) o₁
+            → Settled p (duesIn p (pushed (listOf p root o))) false (after (stepIn (p .body) 0 t o .log) (looksAgain (rootOf p) o₁))
+        looks s c =
+            let g₁ = c .does past g .1 in
+            let e : listOf p root o₁ ≡ cond (isClose p root t) (t ∷ listOf p root o) (listOf p root o)
+            = sym (tied-at p (momentOf p o₁) (momentOf p o₁) (onto (stepIn (p .body) 0 t o .log) past) g₁ (waits true) root refl (ap phase d₁) .3)
+            ∙ (step-closings p (h .seat) t o past ∙ ap pushed (tied-at p (momentOf p o) (momentOf p o) past g (waits true) root refl (ap phase d) .3)) in
+            subst (λ (z : Outcome). Settled p (duesIn p (pushed (listOf p root o))) false (after (stepIn (p .body) 0 t o .log) z)) (sym (looks-is (rootOf p) o₁ faulty d₁))
+            (subst (λ (l : List ℕ). Settled p (duesIn p l) false (turns true (rootOf p) o₁)) e (turns-settles o₁ s (quiet-agree q (agree-above (v .kept) (omega arith))) (omega (arith, v .kept .many))))
+
+        go : (x : Result) → StopAs p (p .body) 0 o (stepIn (p .body) 0 t o .log) o₁ x
+            → Settled p (duesIn p (pushed (listOf p root o))) false (fromBody (rootOf p) (record { result = x; order = o₁; log = stepIn (p .body) 0 t o .log }))
+        go running c = looks (c .0) (c .1)
+        go over c =
+            subst (λ (z : Outcome). Settled p (duesIn p (pushed (listOf p root o))) false (after (stepIn (p .body) 0 t o .log) z)) (sym (over-is (rootOf p) o₁ faulty d₁)) (looks (c .0) (c .1))
+        go raising c =
+            subst (λ (z : Outcome). Settled p (duesIn p (pushed (listOf p root o))) false (after (stepIn (p .body) 0 t o .log) z)) (sym (raised-is (rootOf p) o₁ false (rw d₁))) (looks (c .0) (c .1))
+        go leaving c = tt
+        go undone c = absurd c
+        go undoRaising c = absurd c
+
+    -- the mark of a root that undoes
+    undo-mark : (k : ℕ) → k ≡ undoing → (eqb k undoing || eqb k withdrawing) ≡ true
+    undo-mark k e = rw e
+
+    -- One of its undo parts runs.
+    undoing-right : o .root ≡ undoing → Undoing (o .marks) (p .body) 0 → Quiet (o .marks) (size (p .body)) (size (p .fault)) → Waits (o .marks) (p .body) 0 t false → Right (fromBody (rootOf p) its)
+    unfolding fromBody undoOver undoRaised breaks
+    undoing-right d r q w =
+        (y .0, subst (λ (e : List (List ℕ)). Settled p e (noted p root t a .begun) (fromBody (rootOf p) (stepIn (p .body) 0 t o))) (sym (y .1)) (go (stepIn (p .body) 0 t o .result) (v .comes) (u .less)))
+      where
+        v : Acted 0 (size (p .body)) o (UndoAs p root (p .body) 0 t o) (stepIn (p .body) 0 t o)
+        v = steps-undoing p (h .distinct) (h .seat .body) t o false w refl r (true, ap phase d) (omega arith)
+
+        u : Repays (undoLeftIn (p .body) 0) t o (stepIn (p .body) 0 t o)
+        u = undo-repays p (h .distinct) (h .seat .body) t o false w refl r (true, ap phase d) (omega arith)
+
+        left : List ℕ
+        left = undoLeftIn (p .body) 0 (o .marks)
+
+        due : isBack p root t ≡ true → some (eqb t) left ≡ true
+        due e = let b = back-of t o fit e in undo-due (p .body) 0 (b .scope) t false (h .seat .body) (b .direct) w refl r (b .takes)
+
+        undue : isBack p root t ≡ false → some (eqb t) left ≡ false
+        undue e = decide (some (eqb t) left) (λ i. absurd (false≢true (sym e ∙ is-back t o fit (left-back (h .seat .body) t (o .marks) i)))) (λ i. i)
+
+        y : (mayNote p root t a ≡ true) × (noted p root t a .due ≡ putting (without t left) (duesIn p (listOf p root o)))
+        y = noted-undo t o fit a left (duesIn p (listOf p root o)) (not-close t o fit (rw d)) (sym (ag .due)) due undue
+
+        o₁ : Order
+        o₁ = stepIn (p .body) 0 t o .order
+
+        d₁ : o₁ .root ≡ undoing
+        d₁ = v .rooted ∙ d
+
+        same-list : listOf p root o₁ ≡ listOf p root o
+        same-list = ap (λ (c : List ℕ). reverse (only (isIn p root) c)) (u .lists)
+
+        go : (x : Result) → UndoAs p root (p .body) 0 t o (stepIn (p .body) 0 t o .log) o₁ x → RepaysAs (undoLeftIn (p .body) 0) t (o .marks) (o₁ .marks) x
+            → Settled p (putting (without t left) (duesIn p (listOf p root o))) (noted p root t a .begun) (fromBody (rootOf p) (record { result = x; order = o₁; log = stepIn (p .body) 0 t o .log }))
+        go running c l =
+            subst (λ (z : Outcome). Settled p (putting (without t left) (duesIn p (listOf p root o))) (noted p root t a .begun) (after (stepIn (p .body) 0 t o .log) z)) (sym (looks-is (rootOf p) o₁ undoing d₁))
+            (rw (l, same-list), λ x. absurd (false≢true (sym x ∙ ap begunMark d₁)))
+        go over c l = absurd c
+        go raising c l = absurd c
+        go leaving c l = tt
+        go undone c l =
+            subst (λ (z : Bool). Settled p (putting (without t left) (duesIn p (listOf p root o))) (noted p root t a .begun)
+            (after (stepIn (p .body) 0 t o .log) (elim z [ true ↦ undoes true (rootOf p) o₁ | false ↦ elim (eqb (o₁ .root) withdrawing) [ true ↦ undoes false (rootOf p) o₁ | false ↦ runs o₁ ] ])))
+            (sym (eq-eqb (o₁ .root) undoing d₁))
+            (subst (λ (e : List (List ℕ)). Settled p e (noted p root t a .begun) (undoes true (rootOf p) o₁)) (ap (duesIn p) same-list ∙ ap (λ (i : List ℕ). putting i (duesIn p (listOf p root o))) (sym l))
+            (undoes-settles (noted p root t a .begun) o₁ (c .0) (quiet-agree q (agree-above (v .kept) (omega arith))) (omega (arith, v .kept .many))))
+        go undoRaising c l =
+            subst (λ (z : Bool). Settled p (putting (without t left) (duesIn p (listOf p root o))) (noted p root t a .begun) (after (stepIn (p .body) 0 t o .log) (elim z [ true ↦ breaks (rootOf p) o₁ | false ↦ runs o₁ ])))
+            (sym (undo-mark (o₁ .root) d₁)) tt
+
+    -- Its fault part runs.
+    heals-right : o .root ≡ handling → Quiet (o .marks) 0 (size (p .body)) → Run (o .marks) (p .fault) (size (p .body)) → Waits (o .marks) (p .fault) (size (p .body)) t false
+        → Right (fromFault (rootOf p) (stepIn (p .fault) (size (p .body)) t o))
+    unfolding fromFault partOver partRaised breaks
+    heals-right d q r w = (
+      y .0,
+      subst (λ (b : Book). Settled p (b .due) (b .begun) (fromFault (rootOf p) (stepIn (p .fault) (size (p .body)) t o))) (sym (y .1))
+          (subst (λ (e : List (List ℕ)). Settled p e (a .begun) (fromFault (rootOf p) (stepIn (p .fault) (size (p .body)) t o))) (sym none-due ∙ ag .due) (go (stepIn (p .fault) (size (p .body)) t o .result) (v .comes))),
+    )
+      where
+        y : (mayNote p root t a ≡ true) × (noted p root t a ≡ a)
+        y = noted-same t o fit a (not-back t o fit (rw d)) (not-close t o fit (rw d))
+
+        v : Acted (size (p .body)) (size (p .fault)) o (RunAs p (p .fault) (size (p .body)) t o) (stepIn (p .fault) (size (p .body)) t o)
+        v = steps-part p (h .distinct) (h .seat .fault) t o false w refl r (ap phase d) m
+
+        none-due : owed p o ≡ []
+        none-due = none-owed p o (undo-quiet (h .seat .body) (o .marks) q) (tied-at p (momentOf p o) (momentOf p o) past g heals root refl (ap phase d) .3)
+
+        o₁ : Order
+        o₁ = stepIn (p .fault) (size (p .body)) t o .order
+
+        d₁ : o₁ .root ≡ handling
+        d₁ = v .rooted ∙ d
+
+        go : (x : Result) → RunAs p (p .fault) (size (p .body)) t o (stepIn (p .fault) (size (p .body)) t o .log) o₁ x
+            → Settled p [] (a .begun) (fromFault (rootOf p) (record { result = x; order = o₁; log = stepIn (p .fault) (size (p .body)) t o .log }))
+        go running c = (
+          none-owed p o₁ (undo-quiet (h .seat .body) (o₁ .marks) (quiet-agree q (agree-below (v .kept) (omega arith))))
+              (tied-at p (momentOf p o₁) (momentOf p o₁) (onto (stepIn (p .fault) (size (p .body)) t o .log) past) (c .1 .does past g .1) heals root refl (ap phase d₁) .3),
+          λ x. absurd (false≢true (sym x ∙ ap begunMark d₁)),
+        )
+        go over c =
+            subst (λ (z : Bool). Settled p [] (a .begun) (after (stepIn (p .fault) (size (p .body)) t o .log) (elim z [ true ↦ ends (rootOf p) o₁ | false ↦ runs o₁ ]))) (sym (eq-eqb (o₁ .root) handling d₁)) refl
+        go raising c =
+            subst (λ (z : Bool). Settled p [] (a .begun) (after (stepIn (p .fault) (size (p .body)) t o .log) (elim z [ true ↦ breaks (rootOf p) o₁ | false ↦ runs o₁ ]))) (sym (eq-eqb (o₁ .root) handling d₁)) tt
+        go leaving c = tt
+        go undone c = absurd c
+        go undoRaising c = absurd c
+
+  -- However it stands.
+  pub root-right : (t : ℕ) (o : Order) (past : List Event) (a : Book) → Awaited p (o .marks) t → Standing p o → (o .root ≡ halted → ⊥) → (o .root ≡ withdrawing → ⊥) → HoldsAt p (momentOf p o) past → Agrees p o a
+      → (mayNote p root t a ≡ true) × Settled p (noted p root t a .due) (noted p root t a .begun) (stepRoot p t o)
+  root-right t o past a w st x y g ag = go w (st .runs)
+    where
+      fit : fits (placeOf p t) o ≡ true
+      fit = standing-fits p o t st w
+
+      is-faulty : (v : Bool) → phase (o .root) ≡ waits v → o .root ≡ faulty
+      is-faulty true q = eqb-true (o .root) faulty (waits-mark (o .root) q .0)
+      is-faulty false q = absurd (x (eqb-true (o .root) halted (waits-mark (o .root) q .1)))
+
+      is-undoing : (v : Bool) → phase (o .root) ≡ Phase.undoes v → o .root ≡ undoing
+      is-undoing true q = eqb-true (o .root) undoing (undoes-mark (o .root) q .0)
+      is-undoing false q = absurd (y (eqb-true (o .root) withdrawing (undoes-mark (o .root) q .1)))
+
+      is-handling : phase (o .root) ≡ heals → o .root ≡ handling
+      is-handling q = eqb-true (o .root) handling (decide (eqb (o .root) handling) (λ z. z) (λ z. absurd (no-heals (o .root) z q)))
+
+      go : Awaited p (o .marks) t → Running (rootOf p) (o .marks) (o .root) → (mayNote p root t a ≡ true) × Settled p (noted p root t a .due) (noted p root t a .begun) (stepRoot p t o)
+      go (in-body e i) (scope-live d r q) =
+          subst (λ (z : Outcome). (mayNote p root t a ≡ true) × Settled p (noted p root t a .due) (noted p root t a .begun) z) (sym (root-is p t o true (lt-ltb t (size (p .body)) e))) (live-right t o past a g ag (st .many) fit d r q i)
+      go (in-body e i) (scope-done d q z) = absurd (st .going d)
+      go (in-body e i) (scope-turned (turned-waits {w = v} q z _ c)) =
+          subst (λ (z : Outcome). (mayNote p root t a ≡ true) × Settled p (noted p root t a .due) (noted p root t a .begun) z) (sym (root-is p t o true (lt-ltb t (size (p .body)) e))) (waits-right t o past a g ag (st .many) fit (is-faulty v q) z c i)
+      go (in-body e i) (scope-turned (turned-undoes {w = v} q z c)) =
+          subst (λ (z : Outcome). (mayNote p root t a ≡ true) × Settled p (noted p root t a .due) (noted p root t a .begun) z) (sym (root-is p t o true (lt-ltb t (size (p .body)) e))) (undoing-right t o past a g ag (st .many) fit (is-undoing v q) z c i)
+      go (in-body e i) (scope-turned (turned-heals q z c)) = absurd (quiet-waits i refl z)
+      go (in-fault e i) (scope-live d r q) = absurd (quiet-waits i refl q)
+      go (in-fault e i) (scope-done d q z) = absurd (st .going d)
+      go (in-fault e i) (scope-turned (turned-waits q z _ c)) = absurd (quiet-waits i refl c)
+      go (in-fault e i) (scope-turned (turned-undoes q z c)) = absurd (quiet-waits i refl c)
+      go (in-fault e i) (scope-turned (turned-heals q z c)) =
+          subst (λ (z : Outcome). (mayNote p root t a ≡ true) × Settled p (noted p root t a .due) (noted p root t a .begun) z) (sym (root-is p t o false (le-ltb t (size (p .body)) e))) (heals-right t o past a g ag (st .many) fit (is-handling q) z c i)

@@ -1,0 +1,235 @@
+-- A fault that comes out of a step has set no mark: each that is set then is what it was. Assumes nothing.
+use Prim.Native.Nat.{ℕ, _+_, _≤_, _<_}
+use native.Mathlib.Omega.{arith}
+use mathlib.Core.Path.{_≡_, refl, sym, subst, _∙_}
+use mathlib.Core.Bool.{Bool, true, false, cond, _&&_, _||_, false≢true}
+use mathlib.Core.List.{List, []}
+use lib.Dec.{eqb, ltb}
+use borrow.Author.Tests.{eqb-true, lt-ltb, le-ltb}
+use Rattle.plan.specs.Tree.{Own, empty, send, receive, set as setting, raise, leave, choose, repeat, sequence, flow, pick, scope, arm, kind, Act, act, Acts, none, more, size, sizes}
+use Rattle.order.specs.declared.Order.{Order}
+use Rattle.order.specs.State.{Name, root, inner, idle, active, inside, faulty, undoing, handling, withdrawing, marked, markAt, markOf, marking, binding}
+use Rattle.order.specs.Expression.{Value, fault, value, evaluate, isTrue}
+use Rattle.order.specs.Begin.{part, partAt, beginPart, beginAfter}
+use Rattle.order.specs.declared.Way.{Way as Result}
+use Rattle.order.specs.declared.Way.the-variants.{Running as running, Over as over, Raising as raising, Leaving as leaving, Undone as undone, UndoRaising as undoRaising}
+use Rattle.order.specs.Scope.{Outcome, runs, begunIn, whereOver, Scope, scopeAt, isOpen, forgetting, closing, turns, stop, faults, breaks, looksAgain, bodyOver, bodyRaised, undoOver, undoRaised, fromBody, partOver, partRaised, fromFault, fromUndo}
+use Rattle.order.specs.Acting.{finishes, raises, leaves, orRaises, enters, again, repeats, allBound, itself, isPart, arms, goesOn, joins, inScope, combines, stepIn, stepAmong}
+use Rattle.undoing.proofs.Parts.{both, decide}
+use Rattle.undoing.proofs.Places.{first-of, second-of}
+use Rattle.undoing.proofs.Orders.{isArm}
+use Rattle.undoing.proofs.Aside.{part-silent}
+use Rattle.undoing.proofs.Shapes.{graves-aside, isGrave, isMild, Mild, mild-either, mild-where, mild-begun, mild-runs, mild-turns, mild-looks, mild-over, mild-undo-over, mild-part-over, mild-finishes, mild-again, mild-joins, mild-enters, mild-repeats, mild-follows}
+use Rattle.undoing.proofs.Truly.{or-case, Stay, stay-still, stay-then, stay-idle, stay-cleared, Arms, Knows, knows, KnowsIn, knows-none, knows-more}
+use Rattle.undoing.proofs.Lasting.{isRaising}
+
+pub record Drops (o : Order) (r : Outcome) : Type 0 where
+  pub stays : isRaising (r .result) ≡ true → (j : ℕ) → Stay (o .marks) (r .order .marks) j
+
+mild-calm : (x : Result) → isMild x ≡ true → isRaising x ≡ true → ⊥
+mild-calm running m e = false≢true e
+mild-calm over m e = false≢true e
+mild-calm raising m e = false≢true m
+mild-calm leaving m e = false≢true m
+mild-calm undone m e = false≢true m
+mild-calm undoRaising m e = false≢true m
+
+mild-drops : (o : Order) (r : Outcome) → isMild (r .result) ≡ true → Drops o r
+mild-drops o r m = record { stays = λ e. absurd (mild-calm (r .result) m e) }
+
+raises-drops : (k : ℕ) (o : Order) → Drops o (raises k o)
+raises-drops k o = record { stays = λ e j. stay-idle (o .marks) k j }
+
+or-drops : (k : ℕ) (o : Order) (g : ℕ → Outcome) (v : Value) → ((n : ℕ) → Mild (g n)) → Drops o (orRaises k o g v)
+or-drops k o g fault h = raises-drops k o
+or-drops k o g (value n) h = mild-drops o (g n) (h n .goes)
+
+itself-drops : (own : Own) (within : Acts) (k : ℕ) (o : Order) → Drops o (itself own within k o)
+unfolding itself closing
+itself-drops empty within k o = mild-drops o (runs o) refl
+itself-drops (send a b vs) within k o = decide (allBound o vs) (λ e. rw e (mild-drops o (finishes k o) refl)) (λ e. rw e (raises-drops k o))
+itself-drops (receive a b vs) within k o = mild-drops o (finishes k o) refl
+itself-drops (setting v e) within k o = or-drops k o _ (evaluate e o) (λ n. mild-finishes k (binding v n o))
+itself-drops raise within k o = raises-drops k o
+itself-drops leave within k o = record { stays = λ e. absurd (false≢true e) }
+itself-drops (choose e) within k o =
+    or-drops k o _ (evaluate e o) (λ n. mild-enters k o (beginPart (cond (isTrue n) 0 1) within (k + 1) (marked k inside o .marks)) (part-silent isGrave graves-aside (cond (isTrue n) 0 1) within (k + 1) (marked k inside o .marks)))
+itself-drops (repeat e) within k o = or-drops k o _ (evaluate e o) (λ n. mild-either (isTrue n) (repeats k within o) (finishes k o) (mild-repeats k within o) (mild-finishes k o) _ refl)
+itself-drops sequence within k o = mild-drops o (runs o) refl
+itself-drops flow within k o = mild-drops o (runs o) refl
+itself-drops pick within k o = mild-drops o (runs o) refl
+itself-drops scope within k o = mild-drops o (closing k (scopeAt k within) o) refl
+itself-drops (arm a b vs) within k o =
+    mild-drops o (begunIn o (beginPart 0 within (k + 1) (o .marks))) (mild-begun o (beginPart 0 within (k + 1) (o .marks)) (part-silent isGrave graves-aside 0 within (k + 1) (o .marks)) .goes)
+
+where-drops : (o : Order) (g : Order → Outcome) (r : Outcome) → Drops o r → ((q : Order) → Mild (g q)) → Drops o (whereOver g r)
+where-drops o g r w h = go (r .result) refl
+  where
+    same : (x : Result) → r .result ≡ x → Drops o (record { result = x; order = r .order; log = r .log })
+    same x e = record { stays = λ d. w .stays (subst (λ (y : Result). isRaising y ≡ true) (sym e) d) }
+
+    go : (x : Result) → r .result ≡ x → Drops o (whereOver g (record { result = x; order = r .order; log = r .log }))
+    go running e = same running e
+    go over e = record { stays = λ d. absurd (mild-calm (g (r .order) .result) (h (r .order) .goes) d) }
+    go raising e = same raising e
+    go leaving e = same leaving e
+    go undone e = same undone e
+    go undoRaising e = same undoRaising e
+
+on-mild : (k m : ℕ) (g : Order → Outcome) → ((q : Order) → Mild (g q)) → (q : Order) → Mild (elim (eqb (markAt k q) m) [ true ↦ g q | false ↦ runs q ])
+on-mild k m g h q = mild-either (eqb (markAt k q) m) (g q) (runs q) (h q) (mild-runs q) _ refl
+
+on-drops : (o : Order) (k m : ℕ) (g : Order → Outcome) (r : Outcome) → Drops o r → ((q : Order) → Mild (g q)) → Drops o (goesOn k m g r)
+unfolding goesOn
+on-drops o k m g r w h = where-drops o (λ q. elim (eqb (markAt k q) m) [ true ↦ g q | false ↦ runs q ]) r w (on-mild k m g h)
+
+stay-marking-idle : (n : Name) (o : Order) (j : ℕ) → Stay (o .marks) (marking n idle o .marks) j
+stay-marking-idle root o j = stay-still (o .marks) j
+stay-marking-idle (inner k) o j = stay-idle (o .marks) k j
+
+breaks-stay : (s : Scope) (o : Order) (j : ℕ) → Stay (o .marks) (breaks s o .order .marks) j
+unfolding breaks forgetting
+breaks-stay s o j = stay-then (stay-marking-idle (s .name) o j) (stay-cleared (s .count) (s .first) (marking (s .name) idle o .marks) j)
+
+drops-either : (o : Order) (v : Bool) (x y z : Outcome) → z ≡ elim v [ true ↦ x | false ↦ y ] → Drops o x → Drops o y → Drops o z
+drops-either o true x y z e g h = subst (λ (r : Outcome). Drops o r) (sym e) g
+drops-either o false x y z e g h = subst (λ (r : Outcome). Drops o r) (sym e) h
+
+body-drops : (s : Scope) (o : Order) (r : Outcome) → Drops o r → Drops o (fromBody s r)
+unfolding fromBody bodyRaised faults undoRaised
+body-drops s o r w = go (r .result) refl
+  where
+    go : (x : Result) → r .result ≡ x → Drops o (fromBody s (record { result = x; order = r .order; log = r .log }))
+    go running e = record { stays = λ d. absurd (mild-calm (looksAgain s (r .order) .result) (mild-looks s (r .order) .goes) d) }
+    go over e = record { stays = λ d. absurd (mild-calm (bodyOver s (r .order) .result) (mild-over s (r .order) .goes) d) }
+    go raising e = record { stays = λ d. absurd (mild-calm (bodyRaised s (r .order) .result) (raised (isOpen (markOf (s .name) (r .order))) (bodyRaised s (r .order)) refl) d) }
+      where
+        raised : (v : Bool) (z : Outcome) → z ≡ elim v [ true ↦ faults s (r .order) | false ↦ looksAgain s (r .order) ] → isMild (z .result) ≡ true
+        raised true z e = subst (λ (q : Outcome). isMild (q .result) ≡ true) (sym e) (mild-turns true s (stop (s .body) (s .bodyAt) (marking (s .name) faulty (r .order)) .order) .goes)
+        raised false z e = subst (λ (q : Outcome). isMild (q .result) ≡ true) (sym e) (mild-looks s (r .order) .goes)
+    go leaving e = record { stays = λ d. absurd (false≢true d) }
+    go undone e = record { stays = λ d. absurd (mild-calm (undoOver s (r .order) .result) (mild-undo-over s (r .order) .goes) d) }
+    go undoRaising e =
+        record { stays = λ d. broke (eqb (markOf (s .name) (r .order)) undoing || eqb (markOf (s .name) (r .order)) withdrawing) (undoRaised s (r .order)) refl }
+      where
+        broke : (v : Bool) (z : Outcome) → z ≡ elim v [ true ↦ breaks s (r .order) | false ↦ runs (r .order) ] → (j : ℕ) → Stay (o .marks) (z .order .marks) j
+        broke true z d j = subst (λ (q : Outcome). Stay (o .marks) (q .order .marks) j) (sym d) (stay-then (w .stays (subst (λ (y : Result). isRaising y ≡ true) (sym e) refl) j) (breaks-stay s (r .order) j))
+        broke false z d j = subst (λ (q : Outcome). Stay (o .marks) (q .order .marks) j) (sym d) (w .stays (subst (λ (y : Result). isRaising y ≡ true) (sym e) refl) j)
+
+fault-drops : (s : Scope) (o : Order) (r : Outcome) → Drops o r → Drops o (fromFault s r)
+unfolding fromFault partRaised
+fault-drops s o r w = go (r .result) refl
+  where
+    go : (x : Result) → r .result ≡ x → Drops o (fromFault s (record { result = x; order = r .order; log = r .log }))
+    go running e = record { stays = λ d. absurd (false≢true d) }
+    go over e = record { stays = λ d. absurd (mild-calm (partOver s (r .order) .result) (mild-part-over s (r .order) .goes) d) }
+    go raising e = record { stays = λ d. broke (eqb (markOf (s .name) (r .order)) handling) (partRaised s (r .order)) refl }
+      where
+        broke : (v : Bool) (z : Outcome) → z ≡ elim v [ true ↦ breaks s (r .order) | false ↦ runs (r .order) ] → (j : ℕ) → Stay (o .marks) (z .order .marks) j
+        broke true z d j = subst (λ (q : Outcome). Stay (o .marks) (q .order .marks) j) (sym d) (stay-then (w .stays (subst (λ (y : Result). isRaising y ≡ true) (sym e) refl) j) (breaks-stay s (r .order) j))
+        broke false z d j = subst (λ (q : Outcome). Stay (o .marks) (q .order .marks) j) (sym d) (w .stays (subst (λ (y : Result). isRaising y ≡ true) (sym e) refl) j)
+    go leaving e = record { stays = λ d. absurd (false≢true d) }
+    go undone e = record { stays = λ d. absurd (false≢true d) }
+    go undoRaising e = record { stays = λ d. absurd (false≢true d) }
+
+undo-drops : (o : Order) (r : Outcome) → Drops o r → Drops o (fromUndo r)
+unfolding fromUndo
+undo-drops o r w = go (r .result) refl
+  where
+    go : (x : Result) → r .result ≡ x → Drops o (fromUndo (record { result = x; order = r .order; log = r .log }))
+    go running e = record { stays = λ d. absurd (false≢true d) }
+    go over e = record { stays = λ d. absurd (false≢true d) }
+    go raising e = record { stays = λ d. w .stays (subst (λ (y : Result). isRaising y ≡ true) (sym e) refl) }
+    go leaving e = record { stays = λ d. absurd (false≢true d) }
+    go undone e = record { stays = λ d. absurd (false≢true d) }
+    go undoRaising e = record { stays = λ d. w .stays (subst (λ (y : Result). isRaising y ≡ true) (sym e) refl) }
+
+combines-drops : (own : Own) (within : Acts) (k t : ℕ) (o : Order) (r : Outcome) → Drops o r → Drops o (combines own within k t r)
+unfolding combines inScope
+combines-drops empty within k t o r w = w
+combines-drops (send a b vs) within k t o r w = w
+combines-drops (receive a b vs) within k t o r w = w
+combines-drops (setting v e) within k t o r w = w
+combines-drops raise within k t o r w = w
+combines-drops leave within k t o r w = w
+combines-drops (choose e) within k t o r w = on-drops o k inside (finishes k) r w (mild-finishes k)
+combines-drops (repeat e) within k t o r w = on-drops o k inside (again k) r w (mild-again k)
+combines-drops sequence within k t o r w = on-drops o k active _ r w (λ q. mild-follows within k t q)
+combines-drops flow within k t o r w = on-drops o k active (joins k within) r w (λ q. mild-joins k within q)
+combines-drops pick within k t o r w = on-drops o k inside (finishes k) r w (mild-finishes k)
+combines-drops scope within k t o r w =
+    drops-either o (ltb t (partAt 1 within (k + 1))) (fromBody (scopeAt k within) r) (elim (ltb t (partAt 2 within (k + 1))) [ true ↦ fromFault (scopeAt k within) r | false ↦ fromUndo r ]) _ refl (body-drops (scopeAt k within) o r w)
+    (drops-either o (ltb t (partAt 2 within (k + 1))) (fromFault (scopeAt k within) r) (fromUndo r) _ refl (fault-drops (scopeAt k within) o r w) (undo-drops o r w))
+combines-drops (arm a b vs) within k t o r w = w
+
+-- the step of an arm
+arm-mild : (own : Own) (within : Acts) (k : ℕ) (o : Order) → isArm own ≡ true → Mild (itself own within k o)
+unfolding itself kind
+arm-mild empty within k o e = absurd (false≢true e)
+arm-mild (send x y vs) within k o e = absurd (false≢true e)
+arm-mild (receive x y vs) within k o e = absurd (false≢true e)
+arm-mild (setting v x) within k o e = absurd (false≢true e)
+arm-mild raise within k o e = absurd (false≢true e)
+arm-mild leave within k o e = absurd (false≢true e)
+arm-mild (choose x) within k o e = absurd (false≢true e)
+arm-mild (repeat x) within k o e = absurd (false≢true e)
+arm-mild sequence within k o e = absurd (false≢true e)
+arm-mild flow within k o e = absurd (false≢true e)
+arm-mild pick within k o e = absurd (false≢true e)
+arm-mild scope within k o e = absurd (false≢true e)
+arm-mild (arm x y vs) within k o e = mild-begun o (beginPart 0 within (k + 1) (o .marks)) (part-silent isGrave graves-aside 0 within (k + 1) (o .marks))
+
+part-from : (l : Acts) (c t : ℕ) → isPart l c t ≡ true → c ≤ t
+unfolding isPart
+part-from none c t h = absurd (false≢true h)
+part-from (more a l) c t h =
+    or-case (eqb c t) (isPart l (c + size a) t) h (λ e. let z = eqb-true c t e in omega arith) (λ e. let z = part-from l (c + size a) t e in omega arith)
+
+arms-mild : (l : Acts) (c t : ℕ) (o : Order) → Arms true l → isPart l c t ≡ true → Mild (stepAmong l c t o)
+unfolding isPart stepIn size
+arms-mild none c t o r h = absurd (false≢true h)
+arms-mild (more (act own w) l) c t o r h =
+    decide (eqb c t)
+    (λ d. let i = eqb-true c t d in
+    subst (λ (q : Outcome). Mild q) (sym (first-of (ltb t (c + (1 + sizes w))) (stepIn (act own w) c t o) (stepAmong l (c + (1 + sizes w)) t o) (stepAmong (more (act own w) l) c t o) refl (lt-ltb t (c + (1 + sizes w)) (omega arith))))
+    (subst (λ (q : Outcome). Mild q) (sym (first-of (eqb c t) (itself own w c o) (combines own w c t (stepAmong w (c + 1) t (arms own w c t o))) (stepIn (act own w) c t o) refl d)) (arm-mild own w c o (r .0))))
+    (λ d. let g : isPart l (c + (1 + sizes w)) t ≡ true = rw d at h in
+    subst (λ (q : Outcome). Mild q) (sym (second-of (ltb t (c + (1 + sizes w))) (stepIn (act own w) c t o) (stepAmong l (c + (1 + sizes w)) t o) (stepAmong (more (act own w) l) c t o) refl (le-ltb t (c + (1 + sizes w)) (part-from l (c + (1 + sizes w)) t g))))
+    (arms-mild l (c + (1 + sizes w)) t o (r .1) g))
+
+-- what an activity that has arms makes of the step of one of them
+arm-combines : (own : Own) (within : Acts) (k t : ℕ) (r : Outcome) → eqb (kind own) 10 ≡ true → Mild r → Mild (combines own within k t r)
+unfolding combines kind goesOn
+arm-combines empty within k t r e m = absurd (false≢true e)
+arm-combines (send x y vs) within k t r e m = absurd (false≢true e)
+arm-combines (receive x y vs) within k t r e m = absurd (false≢true e)
+arm-combines (setting v x) within k t r e m = absurd (false≢true e)
+arm-combines raise within k t r e m = absurd (false≢true e)
+arm-combines leave within k t r e m = absurd (false≢true e)
+arm-combines (choose x) within k t r e m = absurd (false≢true e)
+arm-combines (repeat x) within k t r e m = absurd (false≢true e)
+arm-combines sequence within k t r e m = absurd (false≢true e)
+arm-combines flow within k t r e m = absurd (false≢true e)
+arm-combines pick within k t r e m = mild-where (λ q. elim (eqb (markAt k q) inside) [ true ↦ finishes k q | false ↦ runs q ]) r m (on-mild k inside (finishes k) (mild-finishes k))
+arm-combines scope within k t r e m = absurd (false≢true e)
+arm-combines (arm x y vs) within k t r e m = absurd (false≢true e)
+
+arms-as : (own : Own) (within : Acts) (k t : ℕ) (o : Order) (v : Bool) → (eqb (kind own) 10 && isPart within (k + 1) t) ≡ v → arms own within k t o ≡ cond v (marked k inside o) o
+unfolding arms
+arms-as own within k t o v e = rw e
+
+module _ (f : ℕ → ℕ) (t : ℕ) where
+  mutual
+    unfolding stepIn
+
+    pub step-drops : {a : Act} {k : ℕ} → Knows f a k → (o : Order) → Drops o (stepIn a k t o)
+    step-drops (knows {own} {within} {k} e n r y) o =
+        drops-either o (eqb k t) (itself own within k o) (combines own within k t (stepAmong within (k + 1) t (arms own within k t o))) _ refl (itself-drops own within k o)
+        (decide (eqb (kind own) 10 && isPart within (k + 1) t)
+        (λ d. both (eqb (kind own) 10) (isPart within (k + 1) t) d (λ x z. mild-drops o (combines own within k t (stepAmong within (k + 1) t (arms own within k t o)))
+        (arm-combines own within k t (stepAmong within (k + 1) t (arms own within k t o)) x (arms-mild within (k + 1) t (arms own within k t o) (subst (λ (b : Bool). Arms b within) x r) z) .goes)))
+        (λ d. subst (λ (q : Order). Drops o (combines own within k t (stepAmong within (k + 1) t q))) (sym (arms-as own within k t o false d)) (combines-drops own within k t o (stepAmong within (k + 1) t o) (among-drops y o))))
+
+    among-drops : {l : Acts} {c : ℕ} → KnowsIn f l c → (o : Order) → Drops o (stepAmong l c t o)
+    among-drops knows-none o = mild-drops o (runs o) refl
+    among-drops (knows-more {a} {l} {c} x y) o = drops-either o (ltb t (c + size a)) (stepIn a c t o) (stepAmong l (c + size a) t o) _ refl (step-drops x o) (among-drops y o)

@@ -1,0 +1,211 @@
+-- What an order still owes: what is to come of the undo part that runs, and the sure steps of those that are remembered. Assumes nothing.
+use Prim.Native.Nat.{ℕ, _+_}
+use native.Mathlib.Omega.{arith}
+use mathlib.Core.Path.{_≡_, refl, sym, ap, _∙_}
+use mathlib.Core.Bool.{Bool, true, false, cond, not, _&&_, false≢true}
+use mathlib.Core.List.{List, [], _++_}
+use lib.Dec.{eqb, ltb}
+use borrow.Author.Tests.{not-true}
+use Rattle.plan.specs.Tree.{Own, empty, send, receive, set as setting, raise, leave, choose, repeat, sequence, flow, pick, scope, arm, kind, Act, act, Acts, none, more, Plan, size, sizes}
+use Rattle.order.specs.declared.Order.{Order}
+use Rattle.order.specs.State.{active, inside, withMarks, closings, binding, markAt, marked}
+use Rattle.order.specs.Expression.{Value, fault, value, evaluate, isTrue}
+use Rattle.order.specs.Begin.{beginAfter, beginPart, part, partAt, cleared, quiet}
+use Rattle.order.specs.declared.Way.{Way as Result}
+use Rattle.order.specs.declared.Way.the-variants.{Running as running, Over as over, Raising as raising, Leaving as leaving, Undone as undone, UndoRaising as undoRaising}
+use Rattle.order.specs.Scope.{Outcome, runs, after, begunIn, whereOver, isScope, directly, undo}
+use Rattle.order.specs.Acting.{allBound, finishes, raises, leaves, orRaises, again, repeats, itself, goesOn, joins, combines, arms, isPart, stepIn, stepAmong}
+use Rattle.undoing.specs.Ties.{Place}
+use Rattle.undoing.specs.Answered.{without}
+use Rattle.undoing.proofs.Parts.{both, decide}
+use Rattle.undoing.proofs.Marks.{trio, Quiet, Run, run-awaits, run-one, run-all, run-body, run-done, run-turned, All, all-run, all-quiet, Stopped, stopped-part, stopped-quiet, stopped-scope, StoppedIn, stopped-more, quiet-part}
+use Rattle.undoing.proofs.Orders.{bare, bareIn, Sits, sits-part, sits-scope, SitsIn, sits-none, sits-more}
+use Rattle.undoing.proofs.Beginning.{quiet-all}
+use Rattle.undoing.proofs.Stepping.{step-is, among-is}
+use Rattle.undoing.proofs.Sure.{leftIn, left-quiet}
+use Rattle.undoing.proofs.Lessening.{one-each}
+
+-- A step in a tree without scopes leaves what is remembered.
+
+closings-where : (f : Order → Outcome) (r : Outcome) → ((o : Order) → closings (f o .order) ≡ closings o) → closings (whereOver f r .order) ≡ closings (r .order)
+closings-where f r g = go (r .result)
+  where
+    go : (x : Result) → closings (whereOver f (record { result = x; order = r .order; log = r .log }) .order) ≡ closings (r .order)
+    go running = refl
+    go over = g (r .order)
+    go raising = refl
+    go leaving = refl
+    go undone = refl
+    go undoRaising = refl
+
+closings-goes : (k m : ℕ) (f : Order → Outcome) (r : Outcome) → ((o : Order) → closings (f o .order) ≡ closings o) → closings (goesOn k m f r .order) ≡ closings (r .order)
+unfolding goesOn
+closings-goes k m f r g = closings-where (λ o. elim (eqb (markAt k o) m) [ true ↦ f o | false ↦ runs o ]) r (λ o. go o (eqb (markAt k o) m))
+  where
+    go : (o : Order) (b : Bool) → closings (after [] (elim b [ true ↦ f o | false ↦ runs o ]) .order) ≡ closings o
+    go o true = g o
+    go o false = refl
+
+closings-joins : (k : ℕ) (within : Acts) (o : Order) → closings (joins k within o .order) ≡ closings o
+unfolding joins
+closings-joins k within o = go (quiet (k + 1) (sizes within) (o .marks))
+  where
+    go : (b : Bool) → closings (after [] (elim b [ true ↦ finishes k o | false ↦ runs o ]) .order) ≡ closings o
+    go true = refl
+    go false = refl
+
+closings-raises : (k : ℕ) (o : Order) (f : ℕ → Outcome) (v : Value) → ((n : ℕ) → closings (f n .order) ≡ closings o) → closings (orRaises k o f v .order) ≡ closings o
+closings-raises k o f fault g = refl
+closings-raises k o f (value n) g = g n
+
+closings-repeats : (k : ℕ) (within : Acts) (o : Order) → closings (repeats k within o .order) ≡ closings o
+unfolding repeats
+closings-repeats k within o =
+    let o₁ = marked k inside (withMarks (cleared (k + 1) (sizes within) (o .marks)) o) in closings-where (again k) (begunIn o₁ (beginPart 0 within (k + 1) (o₁ .marks))) (λ o. refl)
+
+closings-itself : (own : Own) (within : Acts) (k : ℕ) (o : Order) → isScope own ≡ false → closings (itself own within k o .order) ≡ closings o
+unfolding itself kind
+closings-itself empty within k o s = refl
+closings-itself (send x y vs) within k o s = go (allBound o vs)
+  where
+    go : (b : Bool) → closings (cond b (finishes k o) (raises k o) .order) ≡ closings o
+    go true = refl
+    go false = refl
+closings-itself (receive x y vs) within k o s = refl
+closings-itself (setting v x) within k o s = closings-raises k o (λ n. finishes k (binding v n o)) (evaluate x o) (λ n. refl)
+closings-itself raise within k o s = refl
+closings-itself leave within k o s = refl
+closings-itself (choose x) within k o s =
+    closings-raises k o _ (evaluate x o) (λ n. closings-where (finishes k) (begunIn (marked k inside o) (beginPart (cond (isTrue n) 0 1) within (k + 1) (marked k inside o .marks))) (λ o. refl))
+closings-itself (repeat x) within k o s = closings-raises k o (λ n. elim (isTrue n) [ true ↦ repeats k within o | false ↦ finishes k o ]) (evaluate x o) (λ n. go (isTrue n))
+  where
+    go : (b : Bool) → closings (after [] (elim b [ true ↦ repeats k within o | false ↦ finishes k o ]) .order) ≡ closings o
+    go true = closings-repeats k within o
+    go false = refl
+closings-itself sequence within k o s = refl
+closings-itself flow within k o s = refl
+closings-itself pick within k o s = refl
+closings-itself scope within k o s = absurd (false≢true (sym s))
+closings-itself (arm x y vs) within k o s = refl
+
+pub closings-combines : (own : Own) (within : Acts) (k t : ℕ) (r : Outcome) → isScope own ≡ false → closings (combines own within k t r .order) ≡ closings (r .order)
+unfolding combines kind
+closings-combines empty within k t r s = refl
+closings-combines (send x y vs) within k t r s = refl
+closings-combines (receive x y vs) within k t r s = refl
+closings-combines (setting v x) within k t r s = refl
+closings-combines raise within k t r s = refl
+closings-combines leave within k t r s = refl
+closings-combines (choose x) within k t r s = closings-goes k inside (finishes k) r (λ o. refl)
+closings-combines (repeat x) within k t r s = closings-goes k inside (again k) r (λ o. refl)
+closings-combines sequence within k t r s =
+    closings-goes k active (λ o. whereOver (finishes k) (begunIn o (beginAfter within (k + 1) t (o .marks)))) r (λ o. closings-where (finishes k) (begunIn o (beginAfter within (k + 1) t (o .marks))) (λ o. refl))
+closings-combines flow within k t r s = closings-goes k active (joins k within) r (λ o. closings-joins k within o)
+closings-combines pick within k t r s = closings-goes k inside (finishes k) r (λ o. refl)
+closings-combines scope within k t r s = absurd (false≢true (sym s))
+closings-combines (arm x y vs) within k t r s = refl
+
+closings-arms : (own : Own) (within : Acts) (k t : ℕ) (o : Order) → closings (arms own within k t o) ≡ closings o
+unfolding arms
+closings-arms own within k t o = go (eqb (kind own) 10 && isPart within (k + 1) t)
+  where
+    go : (b : Bool) → closings (cond b (marked k inside o) o) ≡ closings o
+    go true = refl
+    go false = refl
+
+closings-none : (c t : ℕ) (o : Order) → closings (stepAmong none c t o .order) ≡ closings o
+unfolding stepIn
+closings-none c t o = refl
+
+mutual
+  unfolding bare
+
+  pub closings-step : (a : Act) (k t : ℕ) (o : Order) → bare a ≡ true → closings (stepIn a k t o .order) ≡ closings o
+  closings-step (act own within) k t o b =
+      both (not (isScope own)) (bareIn within) b (λ x y. decide (eqb k t)
+      (λ e. ap (λ (r : Outcome). closings (r .order)) (step-is own within k t o true e) ∙ closings-itself own within k o (not-true (isScope own) x))
+      (λ e. ap (λ (r : Outcome). closings (r .order)) (step-is own within k t o false e)
+      ∙ (closings-combines own within k t _ (not-true (isScope own) x) ∙ (closings-among within (k + 1) t (arms own within k t o) y ∙ closings-arms own within k t o))))
+
+  closings-among : (l : Acts) (c t : ℕ) (o : Order) → bareIn l ≡ true → closings (stepAmong l c t o .order) ≡ closings o
+  closings-among none c t o b = closings-none c t o
+  closings-among (more a l) c t o b =
+      both (bare a) (bareIn l) b (λ x y. decide (ltb t (c + size a))
+      (λ e. ap (λ (r : Outcome). closings (r .order)) (among-is a l c t o true e) ∙ closings-step a c t o x)
+      (λ e. ap (λ (r : Outcome). closings (r .order)) (among-is a l c t o false e) ∙ closings-among l (c + size a) t o y))
+
+-- What is to come of the undo parts that run, of the scopes directly in a tree.
+unfoldable mutual
+  pub undoLeftIn : Act → (k : ℕ) → (marks : List ℕ) → List ℕ
+  undoLeftIn (act own within) k ms = cond (isScope own) (leftIn (part 2 within) (partAt 2 within (k + 1)) ms) (undoLeftAmong within (k + 1) ms)
+
+  pub undoLeftAmong : Acts → (c : ℕ) → (marks : List ℕ) → List ℕ
+  undoLeftAmong none c ms = []
+  undoLeftAmong (more a l) c ms = undoLeftIn a c ms ++ undoLeftAmong l (c + size a) ms
+
+pub undo-left-is : (own : Own) (within : Acts) (k : ℕ) (ms : List ℕ) → isScope own ≡ false → undoLeftIn (act own within) k ms ≡ undoLeftAmong within (k + 1) ms
+unfolding undoLeftIn
+undo-left-is own within k ms s = rw s
+
+-- that of a scope
+pub undo-left-scope : (b f u : Act) (k : ℕ) (ms : List ℕ) → undoLeftIn (act scope (trio b f u)) k ms ≡ leftIn u (k + 1 + size b + size f) ms
+unfolding undoLeftIn kind part partAt
+undo-left-scope b f u k ms = refl
+
+-- nothing where all is quiet
+mutual
+  unfolding undoLeftIn size
+
+  pub undo-quiet : {p : Plan} {x : Place} {a : Act} {k : ℕ} → Sits p x a k → (ms : List ℕ) → Quiet ms k (size a) → undoLeftIn a k ms ≡ []
+  undo-quiet (sits-part {own = own} {within} {k} s g v y l) ms q = undo-left-is own within k ms s ∙ undo-quiet-in l ms (quiet-part q (omega arith) (omega arith))
+  undo-quiet (sits-scope {b = b} {f} {u} {k} kn v i sb z sf su) ms q = undo-left-scope b f u k ms ∙ left-quiet u (k + 1 + size b + size f) ms (quiet-part q (omega arith) (omega arith))
+
+  pub undo-quiet-in : {p : Plan} {x : Place} {l : Acts} {c : ℕ} → SitsIn p x l c → (ms : List ℕ) → Quiet ms c (sizes l) → undoLeftAmong l c ms ≡ []
+  undo-quiet-in sits-none ms q = refl
+  undo-quiet-in (sits-more {a = a} {l} {c} s y) ms q = rw (undo-quiet s ms (quiet-part q (omega arith) (omega arith)), undo-quiet-in y ms (quiet-part q (omega arith) (omega arith)))
+
+-- an activity other than a scope is none
+pub not-scope : isScope scope ≡ false → ⊥
+unfolding kind
+not-scope s = false≢true (sym s)
+
+-- what stands within an activity that runs runs or is quiet
+run-within : {ms : List ℕ} {own : Own} {within : Acts} {k : ℕ} → isScope own ≡ false → Run ms (act own within) k → All ms within (k + 1)
+run-within {within = within} {k} s (run-awaits _ _ _ q) = quiet-all within (k + 1) q
+run-within s (run-one _ _ q) = one-each q
+run-within s (run-all _ q _) = q
+run-within s (run-body _ _ _) = absurd (not-scope s)
+run-within s (run-done _ _) = absurd (not-scope s)
+run-within s (run-turned _ _) = absurd (not-scope s)
+
+-- nor where a body runs, or was stopped: the undo parts directly in it are quiet
+mutual
+  unfolding undoLeftIn size
+
+  pub undo-run : {p : Plan} {x : Place} {a : Act} {k : ℕ} {ms : List ℕ} → Sits p x a k → Run ms a k → undoLeftIn a k ms ≡ []
+  undo-run {ms = ms} (sits-part {own = own} {within} {k} s g v y l) r = undo-left-is own within k ms s ∙ undo-within l (run-within s r)
+  undo-run {ms = ms} (sits-scope {b = b} {f} {u} {k} kn v i sb z sf su) (run-awaits s _ _ _) = absurd (not-scope s)
+  undo-run {ms = ms} (sits-scope {b = b} {f} {u} {k} kn v i sb z sf su) (run-one s _ _) = absurd (not-scope s)
+  undo-run {ms = ms} (sits-scope {b = b} {f} {u} {k} kn v i sb z sf su) (run-body e r q) = undo-left-scope b f u k ms ∙ left-quiet u (k + 1 + size b + size f) ms (quiet-part q (omega arith) (omega arith))
+  undo-run {ms = ms} (sits-scope {b = b} {f} {u} {k} kn v i sb z sf su) (run-done e q) = undo-left-scope b f u k ms ∙ left-quiet u (k + 1 + size b + size f) ms (quiet-part q (omega arith) (omega arith))
+  undo-run {ms = ms} (sits-scope {b = b} {f} {u} {k} kn v i sb z sf su) (run-turned e q) = undo-left-scope b f u k ms ∙ left-quiet u (k + 1 + size b + size f) ms q
+
+  undo-within : {p : Plan} {x : Place} {l : Acts} {c : ℕ} {ms : List ℕ} → SitsIn p x l c → All ms l c → undoLeftAmong l c ms ≡ []
+  undo-within sits-none r = refl
+  undo-within {ms = ms} (sits-more s y) (all-run r q) = rw (undo-run s r, undo-within y q)
+  undo-within {ms = ms} (sits-more s y) (all-quiet r q) = rw (undo-quiet s ms r, undo-within y q)
+
+mutual
+  unfolding undoLeftIn size
+
+  pub undo-stopped : {p : Plan} {x : Place} {a : Act} {k : ℕ} {ms : List ℕ} → Sits p x a k → Stopped ms a k → undoLeftIn a k ms ≡ []
+  undo-stopped {ms = ms} (sits-part s g v y l) (stopped-quiet q) = undo-quiet (sits-part s g v y l) ms q
+  undo-stopped {ms = ms} (sits-part {own = own} {within} {k} s g v y l) (stopped-part _ _ r) = undo-left-is own within k ms s ∙ undo-stopped-in l r
+  undo-stopped {ms = ms} (sits-part {own = scope} {within} {k} s g v y l) (stopped-scope _ _) = absurd (not-scope s)
+  undo-stopped {ms = ms} (sits-scope kn v i sb z sf su) (stopped-quiet q) = undo-quiet (sits-scope kn v i sb z sf su) ms q
+  undo-stopped {ms = ms} (sits-scope {b = b} {f} {u} {k} kn v i sb z sf su) (stopped-part s _ _) = absurd (not-scope s)
+  undo-stopped {ms = ms} (sits-scope {b = b} {f} {u} {k} kn v i sb z sf su) (stopped-scope t q) = undo-left-scope b f u k ms ∙ left-quiet u (k + 1 + size b + size f) ms q
+
+  pub undo-stopped-in : {p : Plan} {x : Place} {l : Acts} {c : ℕ} {ms : List ℕ} → SitsIn p x l c → StoppedIn ms l c → undoLeftAmong l c ms ≡ []
+  undo-stopped-in sits-none r = refl
+  undo-stopped-in (sits-more s y) (stopped-more r q) = rw (undo-stopped s r, undo-stopped-in y q)

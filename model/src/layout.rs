@@ -1,0 +1,34 @@
+//! The bytes of a state: offsets, sizes, and how many there are at most (data/layout.txt).
+// layout: written by tools/layout
+pub const MARK: &[u8; 8] = b"MOONHAL1";
+pub const TALLY_STARTED: usize = 8;
+pub const TALLY_WELL: usize = 12;
+pub const TALLY_HANDLED: usize = 16;
+pub const TALLY_FAILED: usize = 20;
+pub const TALLY_LEFT: usize = 24;
+pub const PLAN_LENGTH: usize = 28;
+pub const PLAN: usize = 36;
+pub const WAITING: usize = 4132;
+pub const MESSAGES: usize = 4140;
+pub const MESSAGES_MOST: usize = 64;
+pub const ORDERS: usize = 5932;
+pub const ORDERS_MOST: usize = 16;
+pub const STATE: usize = 11964;
+pub const MESSAGE_PARTNER: usize = 0;
+pub const MESSAGE_OPERATION: usize = 4;
+pub const MESSAGE_COUNT: usize = 8;
+pub const MESSAGE_VALUES: usize = 12;
+pub const MESSAGE_VALUES_MOST: usize = 4;
+pub const MESSAGE: usize = 28;
+pub const ORDER_ROOT: usize = 0;
+pub const ORDER_MARKS: usize = 1;
+pub const ORDER_MARKS_MOST: usize = 256;
+pub const ORDER_VALUES: usize = 257;
+pub const ORDER_VALUES_MOST: usize = 16;
+pub const ORDER_BOUND: usize = 321;
+pub const ORDER_BOUND_MOST: usize = 16;
+pub const ORDER_REMEMBERED: usize = 337;
+pub const ORDER_REMEMBERED_MOST: usize = 32;
+pub const ORDER_KEPT: usize = 369;
+pub const ORDER: usize = 377;
+// layout end

@@ -1,3 +1,0 @@
-/* See stdint.h. */
-int printf(const char *format, ...);
-int rename(const char *from, const char *to);

@@ -1,2 +1,0 @@
-/* See stdint.h. */
-unsigned long long strtoull(const char *digits, char **end, int base);
