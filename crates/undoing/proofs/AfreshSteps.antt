@@ -17,7 +17,7 @@ use Rattle.order.specs.Begin.{Begun, begin, beginInTurn, beginAfter, part, part
 use Rattle.order.specs.declared.Way.{Way as Result}
 use Rattle.order.specs.declared.Way.the-variants.{Running as running, Over as over, Raising as raising, Leaving as leaving, Undone as undone, UndoRaising as undoRaising}
 use Rattle.order.specs.Scope.{Outcome, runs, after, begunIn, whereOver, Scope, scopeAt, rootOf, isScope, isOpen, innerRuns, turns, stop, faults, looksAgain, bodyOver, bodyRaised, undoOver, undoRaised, fromBody, fromFault, fromUndo, closing}
-use Rattle.order.specs.Acting.{finishes, again, itself, isPart, arms, goesOn, joins, combines, stepIn, stepAmong}
+use Rattle.order.specs.Acting.{finishes, again, itself, isPart, arms, goesOn, joins, combines, stepIn, stepAmong, Actor, performs}
 use Rattle.order.specs.Taking.{actIn, actAmong, actAt}
 use Rattle.machine.specs.Fit.{awaits}
 use Rattle.undoing.specs.Ties.{Place, bodyOf, faultOf, undoOf, nameOf, aroundOf, placeOf}
@@ -36,7 +36,7 @@ use Rattle.undoing.proofs.Waiting.{opens, Waits, waits-itself, waits-wi
 use Rattle.undoing.proofs.Breaking.{Distinct}
 use Rattle.undoing.proofs.Scoping.{Acted, RunAs, StopAs, UndoAs}
 use Rattle.undoing.proofs.Combining.{arms-held, arms-none}
-use Rattle.undoing.proofs.Stepping.{steps, steps-one, steps-all, steps-stopped, steps-stopped-in, steps-undoing, steps-undoing-in, steps-part, held-itself, opens-held, stopped-part-not, undoing-part-not, body-step, fault-step, undo-step, Whole, Its}
+use Rattle.undoing.proofs.Stepping.{plain-performs, steps, steps-one, steps-all, steps-stopped, steps-stopped-in, steps-undoing, steps-undoing-in, steps-part, held-itself, opens-held, stopped-part-not, undoing-part-not, body-step, fault-step, undo-step, Whole, Its}
 use Rattle.undoing.proofs.Truly.{Up, Stay, Arms, Knows, knows, KnowsIn, knows-none, knows-more}
 use Rattle.undoing.proofs.Lasting.{isRaising}
 use Rattle.undoing.proofs.Entire.{Named, turn-starts}
@@ -44,7 +44,7 @@ use Rattle.undoing.proofs.Entering.{step-at}
 use Rattle.undoing.proofs.Shapes.{isMild, Mild, mild-runs, mild-finishes, mild-again, mild-joins, mild-follows}
 use Rattle.undoing.proofs.Coming.{in-here, in-within, in-first, in-later}
 use Rattle.undoing.proofs.Single.{looks-still}
-use Rattle.undoing.proofs.Dropping.{step-drops}
+use Rattle.undoing.proofs.Dropping.{Wane, step-drops}
 use Rattle.undoing.proofs.Afresh.{Again, New, new-idle, new-again, News, quiet-news, news-part, Fresh, fresh-none, fresh-append, fresh-event, fresh-range, Calm, calm-part, calm-scope, CalmIn, calm-more, quiet-calm, quiet-calm-in, run-calm, stopped-calm, fresh-where, fresh-either, fresh-runs, turns-fresh, looks-fresh, over-fresh, undone-fresh, undo-raised-fresh, fault-fresh, Opened, stop-fresh}
 
 abbrev log-of : Outcome → List Event
@@ -176,23 +176,23 @@ joins-marks k within r j h = go (r .result)
     go undoRaising = refl
 
 -- the step, where it is the activity's own, or in what stands within
-its-own : (own : Own) (within : Acts) (k t : ℕ) (o : Order) → k ≡ t → stepIn (act own within) k t o ≡ itself own within k o
+its-own : (actor : Actor) (own : Own) (within : Acts) (k t : ℕ) (o : Order) → k ≡ t → stepIn actor (act own within) k t o ≡ performs actor own within k o
 unfolding stepIn
-its-own own within k t o e = first-of (eqb k t) (itself own within k o) (combines own within k t (stepAmong within (k + 1) t (arms own within k t o))) (stepIn (act own within) k t o) refl (eq-eqb k t e)
+its-own actor own within k t o e = first-of (eqb k t) (performs actor own within k o) (combines own within k t (stepAmong actor within (k + 1) t (arms own within k t o))) (stepIn actor (act own within) k t o) refl (eq-eqb k t e)
 
-its-within : (own : Own) (within : Acts) (k t : ℕ) (o o₁ : Order) → (k ≡ t → ⊥) → arms own within k t o ≡ o₁ → stepIn (act own within) k t o ≡ combines own within k t (stepAmong within (k + 1) t o₁)
+its-within : (actor : Actor) (own : Own) (within : Acts) (k t : ℕ) (o o₁ : Order) → (k ≡ t → ⊥) → arms own within k t o ≡ o₁ → stepIn actor (act own within) k t o ≡ combines own within k t (stepAmong actor within (k + 1) t o₁)
 unfolding stepIn
-its-within own within k t o o₁ n e =
-    second-of (eqb k t) (itself own within k o) (combines own within k t (stepAmong within (k + 1) t (arms own within k t o))) (stepIn (act own within) k t o) refl (ne-eqb k t n)
-    ∙ ap (λ (q : Order). combines own within k t (stepAmong within (k + 1) t q)) e
+its-within actor own within k t o o₁ n e =
+    second-of (eqb k t) (performs actor own within k o) (combines own within k t (stepAmong actor within (k + 1) t (arms own within k t o))) (stepIn actor (act own within) k t o) refl (ne-eqb k t n)
+    ∙ ap (λ (q : Order). combines own within k t (stepAmong actor within (k + 1) t q)) e
 
-its-first : (a : Act) (l : Acts) (c t : ℕ) (o : Order) → t < c + size a → stepAmong (more a l) c t o ≡ stepIn a c t o
+its-first : (actor : Actor) (a : Act) (l : Acts) (c t : ℕ) (o : Order) → t < c + size a → stepAmong actor (more a l) c t o ≡ stepIn actor a c t o
 unfolding stepIn
-its-first a l c t o h = first-of (ltb t (c + size a)) (stepIn a c t o) (stepAmong l (c + size a) t o) (stepAmong (more a l) c t o) refl (lt-ltb t (c + size a) h)
+its-first actor a l c t o h = first-of (ltb t (c + size a)) (stepIn actor a c t o) (stepAmong actor l (c + size a) t o) (stepAmong actor (more a l) c t o) refl (lt-ltb t (c + size a) h)
 
-its-later : (a : Act) (l : Acts) (c t : ℕ) (o : Order) → c + size a ≤ t → stepAmong (more a l) c t o ≡ stepAmong l (c + size a) t o
+its-later : (actor : Actor) (a : Act) (l : Acts) (c t : ℕ) (o : Order) → c + size a ≤ t → stepAmong actor (more a l) c t o ≡ stepAmong actor l (c + size a) t o
 unfolding stepIn
-its-later a l c t o h = second-of (ltb t (c + size a)) (stepIn a c t o) (stepAmong l (c + size a) t o) (stepAmong (more a l) c t o) refl (le-ltb t (c + size a) h)
+its-later actor a l c t o h = second-of (ltb t (c + size a)) (stepIn actor a c t o) (stepAmong actor l (c + size a) t o) (stepAmong actor (more a l) c t o) refl (le-ltb t (c + size a) h)
 
 -- what stands at a number of a tree is what the plan has there
 pub record Stood (p : Plan) (a : Act) (k : ℕ) : Type 0 where
@@ -217,7 +217,7 @@ pub stood-later : {p : Plan} {a : Act} {l : Acts} {c : ℕ} → StoodIn p (more 
 unfolding size
 stood-later {p} {a} {l} {c} w = record { at = λ j x y. w .at j (omega arith) (omega arith) ∙ in-later a l c j x }
 
-module _ (p : Plan) (distinct : Distinct p) (f : ℕ → ℕ) (t : ℕ) (o : Order) where
+module _ (p : Plan) (distinct : Distinct p) (actor : Actor) (f : ℕ → ℕ) (t : ℕ) (o : Order) where
   ms : List ℕ
   ms = o .marks
 
@@ -238,89 +238,89 @@ module _ (p : Plan) (distinct : Distinct p) (f : ℕ → ℕ) (t : ℕ) (o : Ord
   quiet-back ns q g = record { at = λ i x y. sym (g .at i x y) ∙ q .at i x y }
 
   ran-part : {x : Place} (own : Own) (within : Acts) (k : ℕ) (b : Bool) → isScope own ≡ false → Spot p x k → isUndo x ≡ true → Stood p (act own within) k
-      → Waits (o .marks) (act own within) k t b → b ≡ false → Run (o .marks) (act own within) k → t < k + size (act own within) → isOver (stepIn (act own within) k t o .result) ≡ true
-      → Quiet (stepIn (act own within) k t o .order .marks) k (size (act own within))
-      → ((c : Bool) → WaitsIn (o .marks) within (k + 1) t c → c ≡ false → One (o .marks) within (k + 1) → isOver (stepAmong within (k + 1) t o .result) ≡ true → News p f t (o .marks) (k + 1) (sizes within))
-      → ((c : Bool) → WaitsIn (o .marks) within (k + 1) t c → c ≡ false → All (o .marks) within (k + 1) → isOver (stepAmong within (k + 1) t o .result) ≡ true
-      → Quiet (stepAmong within (k + 1) t o .order .marks) (k + 1) (sizes within) → News p f t (o .marks) (k + 1) (sizes within))
+      → Waits (o .marks) (act own within) k t b → b ≡ false → Run (o .marks) (act own within) k → t < k + size (act own within) → isOver (stepIn actor (act own within) k t o .result) ≡ true
+      → Quiet (stepIn actor (act own within) k t o .order .marks) k (size (act own within))
+      → ((c : Bool) → WaitsIn (o .marks) within (k + 1) t c → c ≡ false → One (o .marks) within (k + 1) → isOver (stepAmong actor within (k + 1) t o .result) ≡ true → News p f t (o .marks) (k + 1) (sizes within))
+      → ((c : Bool) → WaitsIn (o .marks) within (k + 1) t c → c ≡ false → All (o .marks) within (k + 1) → isOver (stepAmong actor within (k + 1) t o .result) ≡ true
+      → Quiet (stepAmong actor within (k + 1) t o .order .marks) (k + 1) (sizes within) → News p f t (o .marks) (k + 1) (sizes within))
       → News p f t (o .marks) k (size (act own within))
   unfolding size kind itself awaits combines
   ran-part own within k b s u i st (waits-itself e₁ d₁) e (run-awaits s₁ y x q) h d z one all = news-node (new-again (its-again u i st (omega arith) h)) (quiet-news p f t (o .marks) q)
   ran-part own within k b s u i st (waits-itself e₁ d₁) e (run-one s₁ x r) h d z one all =
-      absurd (false≢true (subst (λ (q : Outcome). isOver (q .result) ≡ true) (its-own own within k t o e₁ ∙ held-itself p distinct own within k o s (rw (x, e) at d₁)) d))
-  ran-part flow within k b s u i st (waits-itself e₁ d₁) e (run-all x r a) h d z one all = absurd (false≢true (subst (λ (q : Outcome). isOver (q .result) ≡ true) (its-own flow within k t o e₁) d))
+      absurd (false≢true (subst (λ (q : Outcome). isOver (q .result) ≡ true) (its-own actor own within k t o e₁ ∙ held-itself p distinct actor own within k o s (rw (x, e) at d₁)) d))
+  ran-part flow within k b s u i st (waits-itself e₁ d₁) e (run-all x r a) h d z one all = absurd (false≢true (subst (λ (q : Outcome). isOver (q .result) ≡ true) (its-own actor flow within k t o e₁ ∙ plain-performs actor flow within k o refl) d))
   ran-part own within k b s u i st (waits-itself e₁ d₁) e (run-body x r q) h d z one all = absurd (false≢true (sym s))
   ran-part own within k b s u i st (waits-itself e₁ d₁) e (run-done x q) h d z one all = absurd (false≢true (sym s))
   ran-part own within k b s u i st (waits-itself e₁ d₁) e (run-turned x q) h d z one all = absurd (false≢true (sym s))
   ran-part own within k b s u i st (waits-within g w) e (run-awaits s₁ y x q) h d z one all = news-node (new-again (its-again u i st (omega arith) h)) (quiet-news p f t (o .marks) q)
   ran-part own within k b s u i st (waits-within g w) e (run-one s₁ x r) h d z one all =
       news-node (new-again (its-again u i st (omega arith) h))
-      (one (opens own (getD (o .marks) k 0)) w (opens-held p distinct own (getD (o .marks) k 0) x) r
-      (combines-over own within k t (stepAmong within (k + 1) t o) s (subst (λ (q : Outcome). isOver (q .result) ≡ true) (its-within own within k t o o (λ e. omega arith) (arms-held own within k t o x)) d)))
+      (one (opens own (getD (o .marks) k 0)) w (opens-held p distinct actor own (getD (o .marks) k 0) x) r
+      (combines-over own within k t (stepAmong actor within (k + 1) t o) s (subst (λ (q : Outcome). isOver (q .result) ≡ true) (its-within actor own within k t o o (λ e. omega arith) (arms-held own within k t o x)) d)))
   ran-part flow within k b s u i st (waits-within g w) e (run-all x r a) h d z one all =
-      let y = its-within flow within k t o o (λ e. omega arith) (arms-held flow within k t o x) in
+      let y = its-within actor flow within k t o o (λ e. omega arith) (arms-held flow within k t o x) in
       news-node (new-again (its-again u i st (omega arith) h))
       (all (opens flow (getD (o .marks) k 0)) w refl r
-      (combines-over flow within k t (stepAmong within (k + 1) t o) s (subst (λ (q : Outcome). isOver (q .result) ≡ true) y d))
-      (record { at = λ j v w. sym (joins-marks k within (stepAmong within (k + 1) t o) j (omega arith)) ∙ subst (λ (q : Outcome). Quiet (q .order .marks) k (1 + sizes within)) y z .at j (omega arith) (omega arith) }))
+      (combines-over flow within k t (stepAmong actor within (k + 1) t o) s (subst (λ (q : Outcome). isOver (q .result) ≡ true) y d))
+      (record { at = λ j v w. sym (joins-marks k within (stepAmong actor within (k + 1) t o) j (omega arith)) ∙ subst (λ (q : Outcome). Quiet (q .order .marks) k (1 + sizes within)) y z .at j (omega arith) (omega arith) }))
   ran-part own within k b s u i st (waits-within g w) e (run-body x r q) h d z one all = absurd (false≢true (sym s))
   ran-part own within k b s u i st (waits-within g w) e (run-done x q) h d z one all = absurd (false≢true (sym s))
   ran-part own within k b s u i st (waits-within g w) e (run-turned x q) h d z one all = absurd (false≢true (sym s))
 
-  over-quiet : (a : Act) (k : ℕ) → isOver (stepIn a k t o .result) ≡ true → Acted k (size a) o (RunAs p a k t o) (stepIn a k t o) → Quiet (stepIn a k t o .order .marks) k (size a)
-  over-quiet a k d w = subst (λ (y : Result). RunAs p a k t o (stepIn a k t o .log) (stepIn a k t o .order) y) (over-is (stepIn a k t o .result) d) (w .comes) .0
+  over-quiet : (a : Act) (k : ℕ) → isOver (stepIn actor a k t o .result) ≡ true → Acted k (size a) o (RunAs p a k t o) (stepIn actor a k t o) → Quiet (stepIn actor a k t o .order .marks) k (size a)
+  over-quiet a k d w = subst (λ (y : Result). RunAs p a k t o (stepIn actor a k t o .log) (stepIn actor a k t o .order) y) (over-is (stepIn actor a k t o .result) d) (w .comes) .0
 
   mutual
     unfolding size kind itself awaits
 
     ran-run : {x : Place} {a : Act} {k : ℕ} → Sits p x a k → isUndo x ≡ true → Stood p a k → (b : Bool) → Waits (o .marks) a k t b → b ≡ false → Run (o .marks) a k → Fit x o → k + size a ≤ length (o .marks)
-        → t < k + size a → isOver (stepIn a k t o .result) ≡ true → News p f t (o .marks) k (size a)
+        → t < k + size a → isOver (stepIn actor a k t o .result) ≡ true → News p f t (o .marks) k (size a)
     ran-run (sits-part {q = x} {own} {within} {k} s g u y l) i st b w e run v m h d =
-        ran-part own within k b s u i st w e run h d (over-quiet (act own within) k d (steps p distinct (sits-part s g u y l) t o b w e run v m))
+        ran-part own within k b s u i st w e run h d (over-quiet (act own within) k d (steps p distinct actor (sits-part s g u y l) t o b w e run v m))
         (λ c w₁ e₁ r₁ d₁. ran-one l i (stood-within st) c w₁ e₁ r₁ v (omega arith) d₁)
         (λ c w₁ e₁ r₁ d₁ q. ran-all l i (stood-within st) c w₁ e₁ r₁ v (omega arith) d₁ q)
     ran-run (sits-scope kn s j sb y sf su) i st b w e run v m h d = absurd (false≢true i)
 
     ran-one : {x : Place} {l : Acts} {c : ℕ} → SitsIn p x l c → isUndo x ≡ true → StoodIn p l c → (b : Bool) → WaitsIn (o .marks) l c t b → b ≡ false → One (o .marks) l c → Fit x o → c + sizes l ≤ length (o .marks)
-        → isOver (stepAmong l c t o .result) ≡ true → News p f t (o .marks) c (sizes l)
+        → isOver (stepAmong actor l c t o .result) ≡ true → News p f t (o .marks) c (sizes l)
     ran-one (sits-more {q = x} {a} {l} {c} s y) i st b (waits-first h w) e (one-here r q) v m d =
-        news-join (ran-run s i (stood-first st) b w e r v (omega arith) h (subst (λ (z : Outcome). isOver (z .result) ≡ true) (its-first a l c t o h) d)) (quiet-news p f t (o .marks) q)
+        news-join (ran-run s i (stood-first st) b w e r v (omega arith) h (subst (λ (z : Outcome). isOver (z .result) ≡ true) (its-first actor a l c t o h) d)) (quiet-news p f t (o .marks) q)
     ran-one (sits-more {q = x} {a} {l} {c} s y) i st b (waits-later h w) e (one-here r q) v m d = absurd (quiet-waits-in w e q)
     ran-one (sits-more {q = x} {a} {l} {c} s y) i st b (waits-first h w) e (one-later q r) v m d = absurd (quiet-waits w e q)
     ran-one (sits-more {q = x} {a} {l} {c} s y) i st b (waits-later h w) e (one-later q r) v m d =
-        news-join (quiet-news p f t (o .marks) q) (ran-one y i (stood-later st) b w e r v (omega arith) (subst (λ (z : Outcome). isOver (z .result) ≡ true) (its-later a l c t o h) d))
+        news-join (quiet-news p f t (o .marks) q) (ran-one y i (stood-later st) b w e r v (omega arith) (subst (λ (z : Outcome). isOver (z .result) ≡ true) (its-later actor a l c t o h) d))
 
     ran-all : {x : Place} {l : Acts} {c : ℕ} → SitsIn p x l c → isUndo x ≡ true → StoodIn p l c → (b : Bool) → WaitsIn (o .marks) l c t b → b ≡ false → All (o .marks) l c → Fit x o → c + sizes l ≤ length (o .marks)
-        → isOver (stepAmong l c t o .result) ≡ true → Quiet (stepAmong l c t o .order .marks) c (sizes l) → News p f t (o .marks) c (sizes l)
+        → isOver (stepAmong actor l c t o .result) ≡ true → Quiet (stepAmong actor l c t o .order .marks) c (sizes l) → News p f t (o .marks) c (sizes l)
     ran-all (sits-more {q = x} {a} {l} {c} s y) i st b (waits-first h w) e (all-run r q) v m d z =
-        let j = its-first a l c t o h in
+        let j = its-first actor a l c t o h in
         news-join (ran-run s i (stood-first st) b w e r v (omega arith) h (subst (λ (z : Outcome). isOver (z .result) ≡ true) j d))
-        (quiet-news p f t (o .marks) (quiet-back (stepIn a c t o .order .marks) (subst (λ (q : Outcome). Quiet (q .order .marks) (c + size a) (sizes l)) j (quiet-part z (omega arith) (omega arith)))
-        (record { at = λ n x y. steps p distinct s t o b w e r v (omega arith) .kept .above n (omega arith) })))
+        (quiet-news p f t (o .marks) (quiet-back (stepIn actor a c t o .order .marks) (subst (λ (q : Outcome). Quiet (q .order .marks) (c + size a) (sizes l)) j (quiet-part z (omega arith) (omega arith)))
+        (record { at = λ n x y. steps p distinct actor s t o b w e r v (omega arith) .kept .above n (omega arith) })))
     ran-all (sits-more {q = x} {a} {l} {c} s y) i st b (waits-first h w) e (all-quiet q r) v m d z = absurd (quiet-waits w e q)
     ran-all (sits-more {q = x} {a} {l} {c} s y) i st b (waits-later h w) e (all-run r q) v m d z =
-        let j = its-later a l c t o h in
-        news-join (quiet-news p f t (o .marks) (quiet-back (stepAmong l (c + size a) t o .order .marks) (subst (λ (q : Outcome). Quiet (q .order .marks) c (size a)) j (quiet-part z (omega arith) (omega arith)))
-        (record { at = λ n x g. steps-all p distinct y t o b w e q v (omega arith) .kept .below n (omega arith) })))
+        let j = its-later actor a l c t o h in
+        news-join (quiet-news p f t (o .marks) (quiet-back (stepAmong actor l (c + size a) t o .order .marks) (subst (λ (q : Outcome). Quiet (q .order .marks) c (size a)) j (quiet-part z (omega arith) (omega arith)))
+        (record { at = λ n x g. steps-all p distinct actor y t o b w e q v (omega arith) .kept .below n (omega arith) })))
         (ran-all y i (stood-later st) b w e q v (omega arith) (subst (λ (z : Outcome). isOver (z .result) ≡ true) j d) (subst (λ (q : Outcome). Quiet (q .order .marks) (c + size a) (sizes l)) j (quiet-part z (omega arith) (omega arith))))
     ran-all (sits-more {q = x} {a} {l} {c} s y) i st b (waits-later h w) e (all-quiet q r) v m d z =
-        let j = its-later a l c t o h in
+        let j = its-later actor a l c t o h in
         news-join (quiet-news p f t (o .marks) q)
         (ran-all y i (stood-later st) b w e r v (omega arith) (subst (λ (z : Outcome). isOver (z .result) ≡ true) j d) (subst (λ (q : Outcome). Quiet (q .order .marks) (c + size a) (sizes l)) j (quiet-part z (omega arith) (omega arith))))
 
   ran-undo : {n c : Name} {a : Act} {k : ℕ} → Remedy p (undoOf n c) a k → Stood p a k → (b : Bool) → Waits (o .marks) a k t b → b ≡ false → Run (o .marks) a k → Fit (undoOf n c) o → k + size a ≤ length (o .marks)
-      → t < k + size a → isOver (stepIn a k t o .result) ≡ true → News p f t (o .marks) k (size a)
+      → t < k + size a → isOver (stepIn actor a k t o .result) ≡ true → News p f t (o .marks) k (size a)
   unfolding size
   ran-undo (remedy {own = own} {within} {k} s a g u z l j) st b w e run v m h d =
-      ran-part own within k b s u refl st w e run h d (over-quiet (act own within) k d (steps-part p distinct (remedy s a g u z l j) t o b w e run v m))
+      ran-part own within k b s u refl st w e run h d (over-quiet (act own within) k d (steps-part p distinct actor (remedy s a g u z l j) t o b w e run v m))
       (λ c w₁ e₁ r₁ d₁. ran-one l refl (stood-within st) c w₁ e₁ r₁ v (omega arith) d₁)
       (λ c w₁ e₁ r₁ d₁ q. ran-all l refl (stood-within st) c w₁ e₁ r₁ v (omega arith) d₁ q)
 
-  from-undo-over : (a : Act) (k : ℕ) → Acted k (size a) o (RunAs p a k t o) (stepIn a k t o) → isUndone (fromUndo (stepIn a k t o) .result) ≡ true → isOver (stepIn a k t o .result) ≡ true
+  from-undo-over : (a : Act) (k : ℕ) → Acted k (size a) o (RunAs p a k t o) (stepIn actor a k t o) → isUndone (fromUndo (stepIn actor a k t o) .result) ≡ true → isOver (stepIn actor a k t o .result) ≡ true
   unfolding fromUndo
-  from-undo-over a k w d = go (stepIn a k t o .result) (w .comes) d
+  from-undo-over a k w d = go (stepIn actor a k t o .result) (w .comes) d
     where
-      go : (x : Result) → RunAs p a k t o (stepIn a k t o .log) (stepIn a k t o .order) x → isUndone (fromUndo (record { result = x; order = o; log = [] }) .result) ≡ true → isOver x ≡ true
+      go : (x : Result) → RunAs p a k t o (stepIn actor a k t o .log) (stepIn actor a k t o .order) x → isUndone (fromUndo (record { result = x; order = o; log = [] }) .result) ≡ true → isOver x ≡ true
       go running c e = e
       go over c e = refl
       go raising c e = absurd (false≢true e)
@@ -336,13 +336,13 @@ module _ (p : Plan) (distinct : Distinct p) (f : ℕ → ℕ) (t : ℕ) (o : Ord
     unfolding size kind Its Whole
 
     pub undoing-calm : {x : Place} {a : Act} {k : ℕ} → Sits p x a k → Stood p a k → (b : Bool) → Waits (o .marks) a k t b → b ≡ false → Undoing (o .marks) a k → Fit (undoOf (nameOf x) (aroundOf x)) o → k + size a ≤ length (o .marks)
-        → isUndone (stepIn a k t o .result) ≡ true → Calm p f t (o .marks) a k
+        → isUndone (stepIn actor a k t o .result) ≡ true → Calm p f t (o .marks) a k
     undoing-calm (sits-part {q = x} {own} {within} {k} s g u y l) st b (waits-itself e₁ d₁) e (undoing-part s₁ i r) v m d =
         absurd (no-less (undoing-waits (undoing-part s₁ i r) (waits-itself e₁ d₁) e) e₁)
     undoing-calm (sits-part {q = x} {own} {within} {k} s g u y l) st b (waits-within h w) e (undoing-part s₁ i r) v m d =
         let c = opens-idle own (getD (o .marks) k 0) i in
         calm-part s (undoing-calm-in l (stood-within st) _ w c r v (omega arith)
-        (combines-undone own within k t (stepAmong within (k + 1) t o) s (subst (λ (q : Outcome). isUndone (q .result) ≡ true) (its-within own within k t o o (λ e. omega arith) (arms-none own within k t o (undoing-part-not p distinct r w c))) d)))
+        (combines-undone own within k t (stepAmong actor within (k + 1) t o) s (subst (λ (q : Outcome). isUndone (q .result) ≡ true) (its-within actor own within k t o o (λ e. omega arith) (arms-none own within k t o (undoing-part-not p distinct actor r w c))) d)))
     undoing-calm (sits-part s g u y l) st b w e (undoing-scope i q r) v m d = absurd (false≢true (sym s))
     undoing-calm (sits-scope kn s j sb y sf su) st b w e (undoing-part s₁ i r) v m d = absurd (false≢true (sym s₁))
     undoing-calm (sits-scope {b = b} {f = g} {u = u} {k = k} kn s j sb y sf su) st c (waits-itself e₁ d₁) e (undoing-scope i q r) v m d =
@@ -352,26 +352,26 @@ module _ (p : Plan) (distinct : Distinct p) (f : ℕ → ℕ) (t : ℕ) (o : Ord
     undoing-calm (sits-scope {b = b} {f = g} {u = u} {k = k} kn s j sb y sf su) st c (waits-within h (waits-later h₁ (waits-later h₂ (waits-first h₃ w)))) e (undoing-scope i q r) v m d =
         calm-scope {b = b} {g = g} {u = u} {k = k}
         (ran-undo su (stood-first (stood-later (stood-later (stood-within st)))) _ w refl r v (omega arith) h₃
-        (from-undo-over u (k + 1 + size b + size g) (steps-part p distinct su t o _ w refl r v (omega arith)) (subst (λ (z : Outcome). isUndone (z .result) ≡ true) (undo-step p distinct b g u k t o h₂ h₃) d)))
+        (from-undo-over u (k + 1 + size b + size g) (steps-part p distinct actor su t o _ w refl r v (omega arith)) (subst (λ (z : Outcome). isUndone (z .result) ≡ true) (undo-step p distinct actor b g u k t o h₂ h₃) d)))
         (λ z. absurd (false≢true (subst (λ (n : ℕ). isOpen n ≡ true) i z)))
 
     undoing-calm-in : {x : Place} {l : Acts} {c : ℕ} → SitsIn p x l c → StoodIn p l c → (b : Bool) → WaitsIn (o .marks) l c t b → b ≡ false → UndoingIn (o .marks) l c → Fit (undoOf (nameOf x) (aroundOf x)) o
-        → c + sizes l ≤ length (o .marks) → isUndone (stepAmong l c t o .result) ≡ true → CalmIn p f t (o .marks) l c
+        → c + sizes l ≤ length (o .marks) → isUndone (stepAmong actor l c t o .result) ≡ true → CalmIn p f t (o .marks) l c
     undoing-calm-in (sits-more {q = x} {a} {l} {c} s y) st b (waits-first h w) e (undoing-here r q) v m d =
-        calm-more (undoing-calm s (stood-first st) b w e r v (omega arith) (subst (λ (z : Outcome). isUndone (z .result) ≡ true) (its-first a l c t o h) d)) (quiet-calm-in p f t (o .marks) y q)
+        calm-more (undoing-calm s (stood-first st) b w e r v (omega arith) (subst (λ (z : Outcome). isUndone (z .result) ≡ true) (its-first actor a l c t o h) d)) (quiet-calm-in p f t (o .marks) y q)
     undoing-calm-in (sits-more {q = x} {a} {l} {c} s y) st b (waits-later h w) e (undoing-here r q) v m d = absurd (quiet-waits-in w e q)
     undoing-calm-in (sits-more {q = x} {a} {l} {c} s y) st b (waits-first h w) e (undoing-later q r) v m d = absurd (quiet-waits w e q)
     undoing-calm-in (sits-more {q = x} {a} {l} {c} s y) st b (waits-later h w) e (undoing-later q r) v m d =
-        calm-more (quiet-calm p f t (o .marks) s q) (undoing-calm-in y (stood-later st) b w e r v (omega arith) (subst (λ (z : Outcome). isUndone (z .result) ≡ true) (its-later a l c t o h) d))
+        calm-more (quiet-calm p f t (o .marks) s q) (undoing-calm-in y (stood-later st) b w e r v (omega arith) (subst (λ (z : Outcome). isUndone (z .result) ≡ true) (its-later actor a l c t o h) d))
 
   -- Activities other than scopes.
 
   -- all that a step logs as begun stands in the activity, and is not that
-  quiet-fresh : {own : Own} {within : Acts} {k : ℕ} → Knows f (act own within) k → k ≤ t → Quiet (o .marks) (k + 1) (sizes within) → Its-fresh (stepIn (act own within) k t o .log)
+  quiet-fresh : {own : Own} {within : Acts} {k : ℕ} → Knows f (act own within) k → k ≤ t → Quiet (o .marks) (k + 1) (sizes within) → Its-fresh (stepIn actor (act own within) k t o .log)
   unfolding size
   quiet-fresh {own} {within} {k} x h q =
-      let s = step-at f t x o h .strict in
-      fresh-range p f t (o .marks) (stepIn (act own within) k t o .log) (k + 1) (sizes within) (λ j e. s .below j (omega arith)) (λ j e. s .above j (omega arith)) (quiet-news p f t (o .marks) q)
+      let s = step-at f t actor x o h .strict in
+      fresh-range p f t (o .marks) (stepIn actor (act own within) k t o .log) (k + 1) (sizes within) (λ j e. s .below j (omega arith)) (λ j e. s .above j (omega arith)) (quiet-news p f t (o .marks) q)
 
   -- what follows in a sequence is quiet
   after-fresh : {l : Acts} {c : ℕ} {b : Bool} → KnowsIn f l c → Arms false l → WaitsIn (o .marks) l c t b → b ≡ false → One (o .marks) l c → (ns : List ℕ) → Its-fresh (beginAfter l c t ns .log)
@@ -430,9 +430,9 @@ module _ (p : Plan) (distinct : Distinct p) (f : ℕ → ℕ) (t : ℕ) (o : Ord
 
   -- A scope, whose body has a step.
   module _ (s : Scope) (h : Seat p s) (kb : Knows f (s .body) (s .bodyAt)) (kf : Knows f (s .fault) (s .faultAt)) (named : Named f (s .fault)) (q : Quiet (o .marks) (s .faultAt) (size (s .fault)))
-      (m : s .bodyAt + size (s .body) ≤ length (o .marks)) (w : Its-fresh (stepIn (s .body) (s .bodyAt) t o .log)) where
+      (m : s .bodyAt + size (s .body) ≤ length (o .marks)) (w : Its-fresh (stepIn actor (s .body) (s .bodyAt) t o .log)) where
     abbrev its : Outcome
-    its = stepIn (s .body) (s .bodyAt) t o
+    its = stepIn actor (s .body) (s .bodyAt) t o
 
     its-mark : {C : List Event → Order → Result → Type 0} → Acted (s .bodyAt) (size (s .body)) o C its → markOf (s .name) (its .order) ≡ markOf (s .name) o
     its-mark v = mark-kept (s .name) (s .bodyAt) o (its .order) (h .before) (omega arith) (v .rooted) (v .kept)
@@ -441,7 +441,7 @@ module _ (p : Plan) (distinct : Distinct p) (f : ℕ → ℕ) (t : ℕ) (o : Ord
     later x v = fresh-append p f t (o .marks) (its .log) (x .log) w v
 
     faults-fresh : (o₁ : Order) → Calm p f t (o .marks) (s .body) (s .bodyAt) → Stoppable (o₁ .marks) (s .body) (s .bodyAt) → length (o₁ .marks) ≡ length (o .marks)
-        → ((j : ℕ) → Stay (o .marks) (o₁ .marks) j) → Its-fresh (faults s o₁ .log)
+        → ((j : ℕ) → Wane (o .marks) (o₁ .marks) j) → Its-fresh (faults s o₁ .log)
     unfolding faults isBeganOf
     faults-fresh o₁ c y n st =
         let o₂ = marking (s .name) faulty o₁ in
@@ -452,12 +452,9 @@ module _ (p : Plan) (distinct : Distinct p) (f : ℕ → ℕ) (t : ℕ) (o : Ord
         (stop-fresh p f t (o .marks) (h .body) kb c o₂ (ap phase (marking-mark (s .name) (s .bodyAt) faulty o₁ (h .before) (omega arith))) (stoppable-agree y g) (omega (arith, marking-length (s .name) faulty o₁))
         (record {
           at = λ j x z e. let d : isOpen (getD (o₁ .marks) j 0) ≡ true = subst (λ (i : ℕ). isOpen i ≡ true) (g .at j x z) e in
-              subst (λ (i : ℕ). isOpen i ≡ true) (st j .same (open-up (getD (o₁ .marks) j 0) d)) d;
+              st j .was d;
         }))
         (turns-fresh p f t (o .marks) s kb kf named c true (λ e. quiet-news p f t (o .marks) q) (r .order)))
-      where
-        open-up : (i : ℕ) → isOpen i ≡ true → eqb i idle ≡ false
-        open-up i e = decide (eqb i idle) (λ d. absurd (false≢true (subst (λ (z : ℕ). isOpen z ≡ true) (eqb-true i idle d) e))) (λ d. d)
 
     pub live-fresh : Run (o .marks) (s .body) (s .bodyAt) → Acted (s .bodyAt) (size (s .body)) o (RunAs p (s .body) (s .bodyAt) t o) its → Its-fresh (fromBody s its .log)
     unfolding fromBody bodyRaised
@@ -475,7 +472,7 @@ module _ (p : Plan) (distinct : Distinct p) (f : ℕ → ℕ) (t : ℕ) (o : Ord
         go raising e d =
             later (bodyRaised s (its .order))
             (fresh-either p f t (o .marks) (isOpen (markOf (s .name) (its .order))) (faults s (its .order)) (looksAgain s (its .order)) (bodyRaised s (its .order)) refl
-            (λ z. faults-fresh (its .order) c (d .0) (v .kept .many) (step-drops f t kb o .stays (subst (λ (y : Result). isRaising y ≡ true) (sym e) refl)))
+            (λ z. faults-fresh (its .order) c (d .0) (v .kept .many) (step-drops f t actor kb o .stays (subst (λ (y : Result). isRaising y ≡ true) (sym e) refl)))
             (λ z. looks-fresh p f t (o .marks) s kb kf named c nf (its .order)))
         go leaving e d = w
         go undone e d = absurd d
@@ -526,78 +523,78 @@ module _ (p : Plan) (distinct : Distinct p) (f : ℕ → ℕ) (t : ℕ) (o : Ord
   arms-of own within e r = subst (λ (b : Bool). Arms b within) (ap (λ (n : ℕ). eqb n 10) (eqb-true (kind own) 8 e)) r
 
   part-fresh : (own : Own) (within : Acts) (k : ℕ) (b : Bool) → isScope own ≡ false → Knows f (act own within) k → Waits (o .marks) (act own within) k t b → b ≡ false → Run (o .marks) (act own within) k
-      → ((c : Bool) → WaitsIn (o .marks) within (k + 1) t c → c ≡ false → One (o .marks) within (k + 1) → Its-fresh (stepAmong within (k + 1) t o .log))
-      → ((c : Bool) → WaitsIn (o .marks) within (k + 1) t c → c ≡ false → All (o .marks) within (k + 1) → Its-fresh (stepAmong within (k + 1) t o .log))
-      → Its-fresh (stepIn (act own within) k t o .log)
+      → ((c : Bool) → WaitsIn (o .marks) within (k + 1) t c → c ≡ false → One (o .marks) within (k + 1) → Its-fresh (stepAmong actor within (k + 1) t o .log))
+      → ((c : Bool) → WaitsIn (o .marks) within (k + 1) t c → c ≡ false → All (o .marks) within (k + 1) → Its-fresh (stepAmong actor within (k + 1) t o .log))
+      → Its-fresh (stepIn actor (act own within) k t o .log)
   unfolding kind itself awaits
   part-fresh own within k b s x (waits-itself e₁ d₁) e (run-awaits s₁ y z q) one all = quiet-fresh x (omega arith) q
   part-fresh own within k b s x (waits-itself e₁ d₁) e (run-one s₁ y r) one all =
-      subst (λ (q : Outcome). Its-fresh (q .log)) (sym (its-own own within k t o e₁ ∙ held-itself p distinct own within k o s (rw (y, e) at d₁))) none-fresh
-  part-fresh flow within k b s x (waits-itself e₁ d₁) e (run-all y r a) one all = subst (λ (q : Outcome). Its-fresh (q .log)) (sym (its-own flow within k t o e₁)) none-fresh
+      subst (λ (q : Outcome). Its-fresh (q .log)) (sym (its-own actor own within k t o e₁ ∙ held-itself p distinct actor own within k o s (rw (y, e) at d₁))) none-fresh
+  part-fresh flow within k b s x (waits-itself e₁ d₁) e (run-all y r a) one all = subst (λ (q : Outcome). Its-fresh (q .log)) (sym (its-own actor flow within k t o e₁ ∙ plain-performs actor flow within k o refl)) none-fresh
   part-fresh own within k b s x (waits-itself e₁ d₁) e (run-body y r q) one all = absurd (false≢true (sym s))
   part-fresh own within k b s x (waits-itself e₁ d₁) e (run-done y q) one all = absurd (false≢true (sym s))
   part-fresh own within k b s x (waits-itself e₁ d₁) e (run-turned y q) one all = absurd (false≢true (sym s))
   part-fresh own within k b s x (waits-within h w) e (run-awaits s₁ y z q) one all = quiet-fresh x (omega arith) q
   part-fresh own within k b s (knows x n r z) (waits-within h w) e (run-one s₁ y l) one all =
-      let c = opens-held p distinct own (getD (o .marks) k 0) y in
-      subst (λ (q : Outcome). Its-fresh (q .log)) (sym (its-within own within k t o o (λ e. omega arith) (arms-held own within k t o y)))
-      (combines-fresh own within k (stepAmong within (k + 1) t o) s (one (opens own (getD (o .marks) k 0)) w c l) (λ i d ns. after-fresh z (arms-of own within i r) w c l ns))
+      let c = opens-held p distinct actor own (getD (o .marks) k 0) y in
+      subst (λ (q : Outcome). Its-fresh (q .log)) (sym (its-within actor own within k t o o (λ e. omega arith) (arms-held own within k t o y)))
+      (combines-fresh own within k (stepAmong actor within (k + 1) t o) s (one (opens own (getD (o .marks) k 0)) w c l) (λ i d ns. after-fresh z (arms-of own within i r) w c l ns))
   part-fresh flow within k b s (knows x n r z) (waits-within h w) e (run-all y l a) one all =
-      subst (λ (q : Outcome). Its-fresh (q .log)) (sym (its-within flow within k t o o (λ e. omega arith) (arms-held flow within k t o y)))
-      (combines-fresh flow within k (stepAmong within (k + 1) t o) s (all (opens flow (getD (o .marks) k 0)) w refl l) (λ i. absurd (false≢true i)))
+      subst (λ (q : Outcome). Its-fresh (q .log)) (sym (its-within actor flow within k t o o (λ e. omega arith) (arms-held flow within k t o y)))
+      (combines-fresh flow within k (stepAmong actor within (k + 1) t o) s (all (opens flow (getD (o .marks) k 0)) w refl l) (λ i. absurd (false≢true i)))
   part-fresh own within k b s x (waits-within h w) e (run-body y r q) one all = absurd (false≢true (sym s))
   part-fresh own within k b s x (waits-within h w) e (run-done y q) one all = absurd (false≢true (sym s))
   part-fresh own within k b s x (waits-within h w) e (run-turned y q) one all = absurd (false≢true (sym s))
 
-  first-fresh : (a : Act) (l : Acts) (c : ℕ) → t < c + size a → Its-fresh (stepIn a c t o .log) → Its-fresh (stepAmong (more a l) c t o .log)
-  first-fresh a l c h w = subst (λ (q : Outcome). Its-fresh (q .log)) (sym (its-first a l c t o h)) w
+  first-fresh : (a : Act) (l : Acts) (c : ℕ) → t < c + size a → Its-fresh (stepIn actor a c t o .log) → Its-fresh (stepAmong actor (more a l) c t o .log)
+  first-fresh a l c h w = subst (λ (q : Outcome). Its-fresh (q .log)) (sym (its-first actor a l c t o h)) w
 
-  later-fresh : (a : Act) (l : Acts) (c : ℕ) → c + size a ≤ t → Its-fresh (stepAmong l (c + size a) t o .log) → Its-fresh (stepAmong (more a l) c t o .log)
-  later-fresh a l c h w = subst (λ (q : Outcome). Its-fresh (q .log)) (sym (its-later a l c t o h)) w
+  later-fresh : (a : Act) (l : Acts) (c : ℕ) → c + size a ≤ t → Its-fresh (stepAmong actor l (c + size a) t o .log) → Its-fresh (stepAmong actor (more a l) c t o .log)
+  later-fresh a l c h w = subst (λ (q : Outcome). Its-fresh (q .log)) (sym (its-later actor a l c t o h)) w
 
   -- an activity of a stopped body, or of one of which an undo part runs: its own mark is idle
   idle-fresh : {C : List Event → Order → Result → Type 0} (own : Own) (within : Acts) (k : ℕ) → isScope own ≡ false → getD (o .marks) k 0 ≡ idle → isPart within (k + 1) t ≡ false → k < t
-      → Acted (k + 1) (sizes within) o C (stepAmong within (k + 1) t o) → Its-fresh (stepAmong within (k + 1) t o .log) → Its-fresh (stepIn (act own within) k t o .log)
+      → Acted (k + 1) (sizes within) o C (stepAmong actor within (k + 1) t o) → Its-fresh (stepAmong actor within (k + 1) t o .log) → Its-fresh (stepIn actor (act own within) k t o .log)
   idle-fresh own within k s i n h v w =
-      subst (λ (q : Outcome). Its-fresh (q .log)) (sym (its-within own within k t o o (λ e. omega arith) (arms-none own within k t o n)))
-      (combines-fresh own within k (stepAmong within (k + 1) t o) s w
+      subst (λ (q : Outcome). Its-fresh (q .log)) (sym (its-within actor own within k t o o (λ e. omega arith) (arms-none own within k t o n)))
+      (combines-fresh own within k (stepAmong actor within (k + 1) t o) s w
       (λ e d. absurd (false≢true (subst (λ (z : ℕ). eqb z active ≡ true) (v .kept .below k (omega arith) ∙ i) d))))
 
-  closing-fresh : (within : Acts) (k : ℕ) → k ≡ t → Its-fresh (stepIn (act scope within) k t o .log)
-  unfolding itself closing some isBeganOf
-  closing-fresh within k e = subst (λ (q : Outcome). Its-fresh (q .log)) (sym (its-own scope within k t o e)) (fresh-none p f t (o .marks) _ (λ j. refl))
+  closing-fresh : (within : Acts) (k : ℕ) → k ≡ t → Its-fresh (stepIn actor (act scope within) k t o .log)
+  unfolding itself closing some isBeganOf kind
+  closing-fresh within k e = subst (λ (q : Outcome). Its-fresh (q .log)) (sym (its-own actor scope within k t o e ∙ plain-performs actor scope within k o refl)) (fresh-none p f t (o .marks) _ (λ j. refl))
 
   -- A scope that has turned.
   turned-fresh : {n : Name} (b g u : Act) (k : ℕ) → Seat p (scopeAt k (trio b g u)) → Sits p (bodyOf (inner k) n) b (k + 1) → Stood p b (k + 1) → (kb : Knows f b (k + 1)) (kf : Knows f g (k + 1 + size b)) → Named f g
       → k + size (act scope (trio b g u)) ≤ length (o .marks)
       → k < t → WaitsIn (o .marks) (trio b g u) (k + 1) t false → Turned (o .marks) (getD (o .marks) k 0) b (k + 1) g (k + 1 + size b) → Quiet (o .marks) (k + 1 + size b + size g) (size u)
-      → ((x : Bool) → Waits (o .marks) b (k + 1) t x → x ≡ false → Stopped (o .marks) b (k + 1) → Its-fresh (stepIn b (k + 1) t o .log))
-      → ((x : Bool) → Waits (o .marks) b (k + 1) t x → x ≡ false → Undoing (o .marks) b (k + 1) → (v : Bool) → phase (getD (o .marks) k 0) ≡ Phase.undoes v → Its-fresh (stepIn b (k + 1) t o .log))
-      → ((x : Bool) → Waits (o .marks) g (k + 1 + size b) t x → x ≡ false → Run (o .marks) g (k + 1 + size b) → phase (getD (o .marks) k 0) ≡ heals → Its-fresh (stepIn g (k + 1 + size b) t o .log))
-      → Its-fresh (stepIn (act scope (trio b g u)) k t o .log)
+      → ((x : Bool) → Waits (o .marks) b (k + 1) t x → x ≡ false → Stopped (o .marks) b (k + 1) → Its-fresh (stepIn actor b (k + 1) t o .log))
+      → ((x : Bool) → Waits (o .marks) b (k + 1) t x → x ≡ false → Undoing (o .marks) b (k + 1) → (v : Bool) → phase (getD (o .marks) k 0) ≡ Phase.undoes v → Its-fresh (stepIn actor b (k + 1) t o .log))
+      → ((x : Bool) → Waits (o .marks) g (k + 1 + size b) t x → x ≡ false → Run (o .marks) g (k + 1 + size b) → phase (getD (o .marks) k 0) ≡ heals → Its-fresh (stepIn actor g (k + 1 + size b) t o .log))
+      → Its-fresh (stepIn actor (act scope (trio b g u)) k t o .log)
   unfolding size part partAt Its Whole
   turned-fresh b g u k h sb st kb kf i m lt (waits-first e w) (turned-waits {w = a} q z _ y) x j l v =
-      subst (λ (d : Outcome). Its-fresh (d .log)) (sym (body-step p distinct b g u k t o lt e))
-      (waits-fresh (scopeAt k (trio b g u)) h kb kf i y (omega arith) (j false w refl z) a q z (steps-stopped p distinct sb t o false w refl z (omega arith)))
+      subst (λ (d : Outcome). Its-fresh (d .log)) (sym (body-step p distinct actor b g u k t o lt e))
+      (waits-fresh (scopeAt k (trio b g u)) h kb kf i y (omega arith) (j false w refl z) a q z (steps-stopped p distinct actor sb t o false w refl z (omega arith)))
   turned-fresh b g u k h sb st kb kf i m lt (waits-first e w) (turned-undoes {w = a} q z y) x j l v =
-      subst (λ (d : Outcome). Its-fresh (d .log)) (sym (body-step p distinct b g u k t o lt e))
-      (undoes-fresh (scopeAt k (trio b g u)) h kb kf i y (omega arith) (l false w refl z a q) a q (λ d. undoing-calm sb st false w refl z (a, q) (omega arith) d) (steps-undoing p distinct sb t o false w refl z (a, q) (omega arith)))
+      subst (λ (d : Outcome). Its-fresh (d .log)) (sym (body-step p distinct actor b g u k t o lt e))
+      (undoes-fresh (scopeAt k (trio b g u)) h kb kf i y (omega arith) (l false w refl z a q) a q (λ d. undoing-calm sb st false w refl z (a, q) (omega arith) d) (steps-undoing p distinct actor sb t o false w refl z (a, q) (omega arith)))
   turned-fresh b g u k h sb st kb kf i m lt (waits-first e w) (turned-heals q z y) x j l v = absurd (quiet-waits w refl z)
   turned-fresh b g u k h sb st kb kf i m lt (waits-later d (waits-first e w)) (turned-waits q z _ y) x j l v = absurd (quiet-waits w refl y)
   turned-fresh b g u k h sb st kb kf i m lt (waits-later d (waits-first e w)) (turned-undoes q z y) x j l v = absurd (quiet-waits w refl y)
   turned-fresh b g u k h sb st kb kf i m lt (waits-later d (waits-first e w)) (turned-heals q z y) x j l v =
-      subst (λ (d : Outcome). Its-fresh (d .log)) (sym (fault-step p distinct b g u k t o d e)) (fault-fresh p f t (o .marks) (scopeAt k (trio b g u)) (stepIn g (k + 1 + size b) t o) (v false w refl y q))
+      subst (λ (d : Outcome). Its-fresh (d .log)) (sym (fault-step p distinct actor b g u k t o d e)) (fault-fresh p f t (o .marks) (scopeAt k (trio b g u)) (stepIn actor g (k + 1 + size b) t o) (v false w refl y q))
   turned-fresh b g u k h sb st kb kf i m lt (waits-later d (waits-later e (waits-first c w))) z x j l v = absurd (quiet-waits w refl x)
 
   -- A scope whose body runs.
   body-fresh : {n : Name} (b g u : Act) (k : ℕ) → Seat p (scopeAt k (trio b g u)) → Sits p (bodyOf (inner k) n) b (k + 1) → (kb : Knows f b (k + 1)) (kf : Knows f g (k + 1 + size b)) → Named f g
       → k + size (act scope (trio b g u)) ≤ length (o .marks)
       → k < t → WaitsIn (o .marks) (trio b g u) (k + 1) t false → getD (o .marks) k 0 ≡ active → Run (o .marks) b (k + 1) → Quiet (o .marks) (k + 1 + size b) (size g + size u)
-      → (Waits (o .marks) b (k + 1) t false → Its-fresh (stepIn b (k + 1) t o .log)) → Its-fresh (stepIn (act scope (trio b g u)) k t o .log)
+      → (Waits (o .marks) b (k + 1) t false → Its-fresh (stepIn actor b (k + 1) t o .log)) → Its-fresh (stepIn actor (act scope (trio b g u)) k t o .log)
   unfolding size part partAt Its Whole
   body-fresh b g u k h sb kb kf i m lt (waits-first e w) x r q j =
-      subst (λ (d : Outcome). Its-fresh (d .log)) (sym (body-step p distinct b g u k t o lt e))
-      (live-fresh (scopeAt k (trio b g u)) h kb kf i (quiet-part q (omega arith) (omega arith)) (omega arith) (j w) r (steps p distinct sb t o false w refl r (ap phase x) (omega arith)))
+      subst (λ (d : Outcome). Its-fresh (d .log)) (sym (body-step p distinct actor b g u k t o lt e))
+      (live-fresh (scopeAt k (trio b g u)) h kb kf i (quiet-part q (omega arith) (omega arith)) (omega arith) (j w) r (steps p distinct actor sb t o false w refl r (ap phase x) (omega arith)))
   body-fresh b g u k h sb kb kf i m lt (waits-later d (waits-first e w)) x r q j = absurd (quiet-waits w refl (quiet-part q (omega arith) (omega arith)))
   body-fresh b g u k h sb kb kf i m lt (waits-later d (waits-later e (waits-first c w))) x r q j = absurd (quiet-waits w refl (quiet-part q (omega arith) (omega arith)))
 
@@ -608,7 +605,7 @@ module _ (p : Plan) (distinct : Distinct p) (f : ℕ → ℕ) (t : ℕ) (o : Ord
     unfolding size kind Its Whole awaits fromUndo
 
     pub fresh-run : {x : Place} {a : Act} {k : ℕ} → Sits p x a k → Knows f a k → Stood p a k → (b : Bool) → Waits (o .marks) a k t b → b ≡ false → Run (o .marks) a k → Fit x o → k + size a ≤ length (o .marks)
-        → Its-fresh (stepIn a k t o .log)
+        → Its-fresh (stepIn actor a k t o .log)
     fresh-run (sits-part {q = x} {own} {within} {k} s g u y l) (knows e n r z) st b w q run v m =
         part-fresh own within k b s (knows e n r z) w q run (λ c w₁ e₁ r₁. fresh-one l z (stood-within st) c w₁ e₁ r₁ v (omega arith)) (λ c w₁ e₁ r₁. fresh-all l z (stood-within st) c w₁ e₁ r₁ v (omega arith))
     fresh-run (sits-scope {n} {c = a} {b} {f = g} {u} {k} kn d i sb y sf su) (knows e n₁ r (knows-more kb (knows-more kf (knows-more ku knows-none)))) st c (waits-itself e₁ d₁) q run v m = closing-fresh (trio b g u) k e₁
@@ -624,25 +621,25 @@ module _ (p : Plan) (distinct : Distinct p) (f : ℕ → ℕ) (t : ℕ) (o : Ord
         (λ x w₁ e₁ r₁ z. fresh-part sf kf (stood-first (stood-later (stood-within st))) x w₁ e₁ r₁ z (omega arith))
 
     fresh-one : {x : Place} {l : Acts} {c : ℕ} → SitsIn p x l c → KnowsIn f l c → StoodIn p l c → (b : Bool) → WaitsIn (o .marks) l c t b → b ≡ false → One (o .marks) l c → Fit x o → c + sizes l ≤ length (o .marks)
-        → Its-fresh (stepAmong l c t o .log)
+        → Its-fresh (stepAmong actor l c t o .log)
     fresh-one (sits-more {q = x} {a} {l} {c} s y) (knows-more z n) st b (waits-first h w) e (one-here r q) v m = first-fresh a l c h (fresh-run s z (stood-first st) b w e r v (omega arith))
     fresh-one (sits-more {q = x} {a} {l} {c} s y) (knows-more z n) st b (waits-later h w) e (one-here r q) v m = absurd (quiet-waits-in w e q)
     fresh-one (sits-more {q = x} {a} {l} {c} s y) (knows-more z n) st b (waits-first h w) e (one-later q r) v m = absurd (quiet-waits w e q)
     fresh-one (sits-more {q = x} {a} {l} {c} s y) (knows-more z n) st b (waits-later h w) e (one-later q r) v m = later-fresh a l c h (fresh-one y n (stood-later st) b w e r v (omega arith))
 
     fresh-all : {x : Place} {l : Acts} {c : ℕ} → SitsIn p x l c → KnowsIn f l c → StoodIn p l c → (b : Bool) → WaitsIn (o .marks) l c t b → b ≡ false → All (o .marks) l c → Fit x o → c + sizes l ≤ length (o .marks)
-        → Its-fresh (stepAmong l c t o .log)
+        → Its-fresh (stepAmong actor l c t o .log)
     fresh-all (sits-more {q = x} {a} {l} {c} s y) (knows-more z n) st b (waits-first h w) e (all-run r q) v m = first-fresh a l c h (fresh-run s z (stood-first st) b w e r v (omega arith))
     fresh-all (sits-more {q = x} {a} {l} {c} s y) (knows-more z n) st b (waits-first h w) e (all-quiet q r) v m = absurd (quiet-waits w e q)
     fresh-all (sits-more {q = x} {a} {l} {c} s y) (knows-more z n) st b (waits-later h w) e (all-run r q) v m = later-fresh a l c h (fresh-all y n (stood-later st) b w e q v (omega arith))
     fresh-all (sits-more {q = x} {a} {l} {c} s y) (knows-more z n) st b (waits-later h w) e (all-quiet q r) v m = later-fresh a l c h (fresh-all y n (stood-later st) b w e r v (omega arith))
 
     pub fresh-stopped : {x : Place} {a : Act} {k : ℕ} → Sits p x a k → Knows f a k → Stood p a k → (b : Bool) → Waits (o .marks) a k t b → b ≡ false → Stopped (o .marks) a k → k + size a ≤ length (o .marks)
-        → Its-fresh (stepIn a k t o .log)
+        → Its-fresh (stepIn actor a k t o .log)
     fresh-stopped (sits-part {q = x} {own} {within} {k} s g u y l) (knows e n r z) st b (waits-itself e₁ d) q d₁ m = absurd (no-less (stopped-waits d₁ (waits-itself e₁ d) q) e₁)
     fresh-stopped (sits-part {q = x} {own} {within} {k} s g u y l) (knows e n r z) st b (waits-within h w) q (stopped-part s₁ i j) m =
         let c = opens-idle own (getD (o .marks) k 0) i in
-        idle-fresh own within k s i (stopped-part-not p distinct j w c) h (steps-stopped-in p distinct l t o _ w c j (omega arith)) (fresh-stopped-in l z (stood-within st) _ w c j (omega arith))
+        idle-fresh own within k s i (stopped-part-not p distinct actor j w c) h (steps-stopped-in p distinct actor l t o _ w c j (omega arith)) (fresh-stopped-in l z (stood-within st) _ w c j (omega arith))
     fresh-stopped (sits-part {q = x} {own} {within} {k} s g u y l) (knows e n r z) st b (waits-within h w) q (stopped-quiet i) m =
         absurd (quiet-waits-in w (opens-idle own (getD (o .marks) k 0) (i .at k (omega arith) (omega arith))) (quiet-part i (omega arith) (omega arith)))
     fresh-stopped (sits-part {q = x} {own} {within} {k} s g u y l) (knows e n r z) st b (waits-within h w) q (stopped-scope i j) m = absurd (false≢true (sym s))
@@ -655,16 +652,16 @@ module _ (p : Plan) (distinct : Distinct p) (f : ℕ → ℕ) (t : ℕ) (o : Ord
         (λ x w₁ e₁ r₁ z. fresh-part sf kf (stood-first (stood-later (stood-within st))) x w₁ e₁ r₁ z (omega arith))
 
     fresh-stopped-in : {x : Place} {l : Acts} {c : ℕ} → SitsIn p x l c → KnowsIn f l c → StoodIn p l c → (b : Bool) → WaitsIn (o .marks) l c t b → b ≡ false → StoppedIn (o .marks) l c → c + sizes l ≤ length (o .marks)
-        → Its-fresh (stepAmong l c t o .log)
+        → Its-fresh (stepAmong actor l c t o .log)
     fresh-stopped-in (sits-more {q = x} {a} {l} {c} s y) (knows-more z n) st b (waits-first h w) e (stopped-more r q) m = first-fresh a l c h (fresh-stopped s z (stood-first st) b w e r (omega arith))
     fresh-stopped-in (sits-more {q = x} {a} {l} {c} s y) (knows-more z n) st b (waits-later h w) e (stopped-more r q) m = later-fresh a l c h (fresh-stopped-in y n (stood-later st) b w e q (omega arith))
 
     pub fresh-undoing : {x : Place} {a : Act} {k : ℕ} → Sits p x a k → Knows f a k → Stood p a k → (b : Bool) → Waits (o .marks) a k t b → b ≡ false → Undoing (o .marks) a k → Fit (undoOf (nameOf x) (aroundOf x)) o
-        → k + size a ≤ length (o .marks) → Its-fresh (stepIn a k t o .log)
+        → k + size a ≤ length (o .marks) → Its-fresh (stepIn actor a k t o .log)
     fresh-undoing (sits-part {q = x} {own} {within} {k} s g u y l) (knows e n r z) st b (waits-itself e₁ d) q d₁ v m = absurd (no-less (undoing-waits d₁ (waits-itself e₁ d) q) e₁)
     fresh-undoing (sits-part {q = x} {own} {within} {k} s g u y l) (knows e n r z) st b (waits-within h w) q (undoing-part s₁ i j) v m =
         let c = opens-idle own (getD (o .marks) k 0) i in
-        idle-fresh own within k s i (undoing-part-not p distinct j w c) h (steps-undoing-in p distinct l t o _ w c j v (omega arith)) (fresh-undoing-in l z (stood-within st) _ w c j v (omega arith))
+        idle-fresh own within k s i (undoing-part-not p distinct actor j w c) h (steps-undoing-in p distinct actor l t o _ w c j v (omega arith)) (fresh-undoing-in l z (stood-within st) _ w c j v (omega arith))
     fresh-undoing (sits-part {q = x} {own} {within} {k} s g u y l) (knows e n r z) st b (waits-within h w) q (undoing-scope i j _) v m = absurd (false≢true (sym s))
     fresh-undoing (sits-scope {n} {c = a} {b} {f = g} {u} {k} kn d i sb y sf su) (knows e n₁ r (knows-more kb (knows-more kf (knows-more ku knows-none)))) st c w q (undoing-part s _ j) v m = absurd (false≢true (sym s))
     fresh-undoing (sits-scope {n} {c = a} {b} {f = g} {u} {k} kn d i sb y sf su) (knows e n₁ r (knows-more kb (knows-more kf (knows-more ku knows-none)))) st c (waits-itself e₁ d₁) q (undoing-scope x z j) v m = closing-fresh (trio b g u) k e₁
@@ -673,16 +670,16 @@ module _ (p : Plan) (distinct : Distinct p) (f : ℕ → ℕ) (t : ℕ) (o : Ord
     fresh-undoing (sits-scope {n} {c = a} {b} {f = g} {u} {k} kn d i sb y sf su) (knows e n₁ r (knows-more kb (knows-more kf (knows-more ku knows-none)))) st c (waits-within h (waits-later h₁ (waits-first h₂ w))) q (undoing-scope x z j) v m =
         absurd (quiet-waits w refl (quiet-part z (omega arith) (omega arith)))
     fresh-undoing (sits-scope {n} {c = a} {b} {f = g} {u} {k} kn d i sb y sf su) (knows e n₁ r (knows-more kb (knows-more kf (knows-more ku knows-none)))) st c (waits-within h (waits-later h₁ (waits-later h₂ (waits-first h₃ w)))) q (undoing-scope x z j) v m =
-        subst (λ (q : Outcome). Its-fresh (q .log)) (sym (undo-step p distinct b g u k t o h₂ h₃)) (fresh-part su ku (stood-first (stood-later (stood-later (stood-within st)))) _ w refl j v (omega arith))
+        subst (λ (q : Outcome). Its-fresh (q .log)) (sym (undo-step p distinct actor b g u k t o h₂ h₃)) (fresh-part su ku (stood-first (stood-later (stood-later (stood-within st)))) _ w refl j v (omega arith))
 
     fresh-undoing-in : {x : Place} {l : Acts} {c : ℕ} → SitsIn p x l c → KnowsIn f l c → StoodIn p l c → (b : Bool) → WaitsIn (o .marks) l c t b → b ≡ false → UndoingIn (o .marks) l c → Fit (undoOf (nameOf x) (aroundOf x)) o
-        → c + sizes l ≤ length (o .marks) → Its-fresh (stepAmong l c t o .log)
+        → c + sizes l ≤ length (o .marks) → Its-fresh (stepAmong actor l c t o .log)
     fresh-undoing-in (sits-more {q = x} {a} {l} {c} s y) (knows-more z n) st b (waits-first h w) e (undoing-here r q) v m = first-fresh a l c h (fresh-undoing s z (stood-first st) b w e r v (omega arith))
     fresh-undoing-in (sits-more {q = x} {a} {l} {c} s y) (knows-more z n) st b (waits-later h w) e (undoing-here r q) v m = absurd (quiet-waits-in w e q)
     fresh-undoing-in (sits-more {q = x} {a} {l} {c} s y) (knows-more z n) st b (waits-first h w) e (undoing-later q r) v m = absurd (quiet-waits w e q)
     fresh-undoing-in (sits-more {q = x} {a} {l} {c} s y) (knows-more z n) st b (waits-later h w) e (undoing-later q r) v m = later-fresh a l c h (fresh-undoing-in y n (stood-later st) b w e r v (omega arith))
 
     pub fresh-part : {x : Place} {a : Act} {k : ℕ} → Remedy p x a k → Knows f a k → Stood p a k → (b : Bool) → Waits (o .marks) a k t b → b ≡ false → Run (o .marks) a k → Fit x o → k + size a ≤ length (o .marks)
-        → Its-fresh (stepIn a k t o .log)
+        → Its-fresh (stepIn actor a k t o .log)
     fresh-part (remedy {q = x} {own} {within} {k} s a g u z₁ l d) (knows e n r z) st b w q run v m =
         part-fresh own within k b s (knows e n r z) w q run (λ c w₁ e₁ r₁. fresh-one l z (stood-within st) c w₁ e₁ r₁ v (omega arith)) (λ c w₁ e₁ r₁. fresh-all l z (stood-within st) c w₁ e₁ r₁ v (omega arith))

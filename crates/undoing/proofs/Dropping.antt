@@ -1,11 +1,12 @@
--- A fault that comes out of a step has set no mark: each that is set then is what it was. Assumes nothing.
-use Prim.Native.Nat.{ℕ, _+_, _≤_, _<_}
+-- A fault that comes out of a step, or of a raise in a receive's place, has opened no scope: each that is open then was open before. Assumes nothing.
+use Prim.Native.Nat.{ℕ, zero, suc, _+_, _≤_, _<_}
 use native.Mathlib.Omega.{arith}
 use mathlib.Core.Path.{_≡_, refl, sym, subst, _∙_}
 use mathlib.Core.Bool.{Bool, true, false, cond, _&&_, _||_, false≢true}
-use mathlib.Core.List.{List, []}
+use mathlib.Core.List.{List, [], _∷_}
+use lib.ListN.{getD, set}
 use lib.Dec.{eqb, ltb}
-use borrow.Author.Tests.{eqb-true, lt-ltb, le-ltb}
+use borrow.Author.Tests.{eqb-true, eqb-false}
 use Rattle.plan.specs.Tree.{Own, empty, send, receive, set as setting, raise, leave, choose, repeat, sequence, flow, pick, scope, arm, kind, Act, act, Acts, none, more, size, sizes}
 use Rattle.order.specs.declared.Order.{Order}
 use Rattle.order.specs.State.{Name, root, inner, idle, active, inside, faulty, undoing, handling, withdrawing, marked, markAt, markOf, marking, binding}
@@ -14,17 +15,41 @@ use Rattle.order.specs.Begin.{part, partAt, beginPart, beginAfter}
 use Rattle.order.specs.declared.Way.{Way as Result}
 use Rattle.order.specs.declared.Way.the-variants.{Running as running, Over as over, Raising as raising, Leaving as leaving, Undone as undone, UndoRaising as undoRaising}
 use Rattle.order.specs.Scope.{Outcome, runs, begunIn, whereOver, Scope, scopeAt, isOpen, forgetting, closing, turns, stop, faults, breaks, looksAgain, bodyOver, bodyRaised, undoOver, undoRaised, fromBody, partOver, partRaised, fromFault, fromUndo}
-use Rattle.order.specs.Acting.{finishes, raises, leaves, orRaises, enters, again, repeats, allBound, itself, isPart, arms, goesOn, joins, inScope, combines, stepIn, stepAmong}
+use Rattle.order.specs.Acting.{finishes, raises, leaves, orRaises, enters, again, repeats, allBound, itself, isPart, arms, goesOn, joins, inScope, combines, stepIn, stepAmong, Actor, replaces, performs}
 use Rattle.undoing.proofs.Parts.{both, decide}
 use Rattle.undoing.proofs.Places.{first-of, second-of}
 use Rattle.undoing.proofs.Orders.{isArm}
 use Rattle.undoing.proofs.Aside.{part-silent}
 use Rattle.undoing.proofs.Shapes.{graves-aside, isGrave, isMild, Mild, mild-either, mild-where, mild-begun, mild-runs, mild-turns, mild-looks, mild-over, mild-undo-over, mild-part-over, mild-finishes, mild-again, mild-joins, mild-enters, mild-repeats, mild-follows}
-use Rattle.undoing.proofs.Truly.{or-case, Stay, stay-still, stay-then, stay-idle, stay-cleared, Arms, Knows, knows, KnowsIn, knows-none, knows-more}
+use Rattle.undoing.proofs.Truly.{or-case, Stay, stay-still, stay-then, stay-other, stay-idle, stay-cleared, Knows, knows, KnowsIn, knows-none, knows-more}
 use Rattle.undoing.proofs.Lasting.{isRaising}
 
+-- a scope that is open was open
+pub record Wane (ms ns : List ℕ) (j : ℕ) : Type 0 where
+  pub was : isOpen (getD ns j 0) ≡ true → isOpen (getD ms j 0) ≡ true
+
+wane-so : {ms ns : List ℕ} {j : ℕ} → Stay ms ns j → Wane ms ns j
+wane-so {ns = ns} {j = j} f = record { was = λ e. subst (λ (i : ℕ). isOpen i ≡ true) (f .same (open-up (getD ns j 0) e)) e }
+  where
+    open-up : (i : ℕ) → isOpen i ≡ true → eqb i idle ≡ false
+    open-up i e = decide (eqb i idle) (λ d. absurd (false≢true (subst (λ (z : ℕ). isOpen z ≡ true) (eqb-true i idle d) e))) (λ d. d)
+
+wane-then : {ls ms ns : List ℕ} {j : ℕ} → Wane ls ms j → Wane ms ns j → Wane ls ns j
+wane-then f g = record { was = λ e. f .was (g .was e) }
+
+inside-shut : (ms : List ℕ) (k : ℕ) → isOpen (getD (set ms k inside) k 0) ≡ false
+inside-shut [] k = refl
+inside-shut (m ∷ ms) zero = refl
+inside-shut (m ∷ ms) (suc k) = inside-shut ms k
+
+wane-inside : (ms : List ℕ) (k j : ℕ) → Wane ms (set ms k inside) j
+wane-inside ms k j =
+    decide (eqb j k)
+    (λ t. record { was = λ e. absurd (false≢true (sym (subst (λ (i : ℕ). isOpen (getD (set ms k inside) i 0) ≡ false) (sym (eqb-true j k t)) (inside-shut ms k)) ∙ e)) })
+    (λ t. wane-so (stay-other ms k inside j (eqb-false j k t)))
+
 pub record Drops (o : Order) (r : Outcome) : Type 0 where
-  pub stays : isRaising (r .result) ≡ true → (j : ℕ) → Stay (o .marks) (r .order .marks) j
+  pub stays : isRaising (r .result) ≡ true → (j : ℕ) → Wane (o .marks) (r .order .marks) j
 
 mild-calm : (x : Result) → isMild x ≡ true → isRaising x ≡ true → ⊥
 mild-calm running m e = false≢true e
@@ -38,7 +63,7 @@ mild-drops : (o : Order) (r : Outcome) → isMild (r .result) ≡ true → Drops
 mild-drops o r m = record { stays = λ e. absurd (mild-calm (r .result) m e) }
 
 raises-drops : (k : ℕ) (o : Order) → Drops o (raises k o)
-raises-drops k o = record { stays = λ e j. stay-idle (o .marks) k j }
+raises-drops k o = record { stays = λ e j. wane-so (stay-idle (o .marks) k j) }
 
 or-drops : (k : ℕ) (o : Order) (g : ℕ → Outcome) (v : Value) → ((n : ℕ) → Mild (g n)) → Drops o (orRaises k o g v)
 or-drops k o g fault h = raises-drops k o
@@ -112,9 +137,9 @@ body-drops s o r w = go (r .result) refl
     go undoRaising e =
         record { stays = λ d. broke (eqb (markOf (s .name) (r .order)) undoing || eqb (markOf (s .name) (r .order)) withdrawing) (undoRaised s (r .order)) refl }
       where
-        broke : (v : Bool) (z : Outcome) → z ≡ elim v [ true ↦ breaks s (r .order) | false ↦ runs (r .order) ] → (j : ℕ) → Stay (o .marks) (z .order .marks) j
-        broke true z d j = subst (λ (q : Outcome). Stay (o .marks) (q .order .marks) j) (sym d) (stay-then (w .stays (subst (λ (y : Result). isRaising y ≡ true) (sym e) refl) j) (breaks-stay s (r .order) j))
-        broke false z d j = subst (λ (q : Outcome). Stay (o .marks) (q .order .marks) j) (sym d) (w .stays (subst (λ (y : Result). isRaising y ≡ true) (sym e) refl) j)
+        broke : (v : Bool) (z : Outcome) → z ≡ elim v [ true ↦ breaks s (r .order) | false ↦ runs (r .order) ] → (j : ℕ) → Wane (o .marks) (z .order .marks) j
+        broke true z d j = subst (λ (q : Outcome). Wane (o .marks) (q .order .marks) j) (sym d) (wane-then (w .stays (subst (λ (y : Result). isRaising y ≡ true) (sym e) refl) j) (wane-so (breaks-stay s (r .order) j)))
+        broke false z d j = subst (λ (q : Outcome). Wane (o .marks) (q .order .marks) j) (sym d) (w .stays (subst (λ (y : Result). isRaising y ≡ true) (sym e) refl) j)
 
 fault-drops : (s : Scope) (o : Order) (r : Outcome) → Drops o r → Drops o (fromFault s r)
 unfolding fromFault partRaised
@@ -125,9 +150,9 @@ fault-drops s o r w = go (r .result) refl
     go over e = record { stays = λ d. absurd (mild-calm (partOver s (r .order) .result) (mild-part-over s (r .order) .goes) d) }
     go raising e = record { stays = λ d. broke (eqb (markOf (s .name) (r .order)) handling) (partRaised s (r .order)) refl }
       where
-        broke : (v : Bool) (z : Outcome) → z ≡ elim v [ true ↦ breaks s (r .order) | false ↦ runs (r .order) ] → (j : ℕ) → Stay (o .marks) (z .order .marks) j
-        broke true z d j = subst (λ (q : Outcome). Stay (o .marks) (q .order .marks) j) (sym d) (stay-then (w .stays (subst (λ (y : Result). isRaising y ≡ true) (sym e) refl) j) (breaks-stay s (r .order) j))
-        broke false z d j = subst (λ (q : Outcome). Stay (o .marks) (q .order .marks) j) (sym d) (w .stays (subst (λ (y : Result). isRaising y ≡ true) (sym e) refl) j)
+        broke : (v : Bool) (z : Outcome) → z ≡ elim v [ true ↦ breaks s (r .order) | false ↦ runs (r .order) ] → (j : ℕ) → Wane (o .marks) (z .order .marks) j
+        broke true z d j = subst (λ (q : Outcome). Wane (o .marks) (q .order .marks) j) (sym d) (wane-then (w .stays (subst (λ (y : Result). isRaising y ≡ true) (sym e) refl) j) (wane-so (breaks-stay s (r .order) j)))
+        broke false z d j = subst (λ (q : Outcome). Wane (o .marks) (q .order .marks) j) (sym d) (w .stays (subst (λ (y : Result). isRaising y ≡ true) (sym e) refl) j)
     go leaving e = record { stays = λ d. absurd (false≢true d) }
     go undone e = record { stays = λ d. absurd (false≢true d) }
     go undoRaising e = record { stays = λ d. absurd (false≢true d) }
@@ -162,74 +187,30 @@ combines-drops scope within k t o r w =
     (drops-either o (ltb t (partAt 2 within (k + 1))) (fromFault (scopeAt k within) r) (fromUndo r) _ refl (fault-drops (scopeAt k within) o r w) (undo-drops o r w))
 combines-drops (arm a b vs) within k t o r w = w
 
--- the step of an arm
-arm-mild : (own : Own) (within : Acts) (k : ℕ) (o : Order) → isArm own ≡ true → Mild (itself own within k o)
-unfolding itself kind
-arm-mild empty within k o e = absurd (false≢true e)
-arm-mild (send x y vs) within k o e = absurd (false≢true e)
-arm-mild (receive x y vs) within k o e = absurd (false≢true e)
-arm-mild (setting v x) within k o e = absurd (false≢true e)
-arm-mild raise within k o e = absurd (false≢true e)
-arm-mild leave within k o e = absurd (false≢true e)
-arm-mild (choose x) within k o e = absurd (false≢true e)
-arm-mild (repeat x) within k o e = absurd (false≢true e)
-arm-mild sequence within k o e = absurd (false≢true e)
-arm-mild flow within k o e = absurd (false≢true e)
-arm-mild pick within k o e = absurd (false≢true e)
-arm-mild scope within k o e = absurd (false≢true e)
-arm-mild (arm x y vs) within k o e = mild-begun o (beginPart 0 within (k + 1) (o .marks)) (part-silent isGrave graves-aside 0 within (k + 1) (o .marks))
+-- what acts: the activity itself, or a raise in its place
+performs-drops : (actor : Actor) (own : Own) (within : Acts) (k : ℕ) (o : Order) → Drops o (performs actor own within k o)
+unfolding performs
+performs-drops actor own within k o = drops-either o (replaces actor (kind own)) (raises k o) (itself own within k o) _ refl (raises-drops k o) (itself-drops own within k o)
 
-part-from : (l : Acts) (c t : ℕ) → isPart l c t ≡ true → c ≤ t
-unfolding isPart
-part-from none c t h = absurd (false≢true h)
-part-from (more a l) c t h =
-    or-case (eqb c t) (isPart l (c + size a) t) h (λ e. let z = eqb-true c t e in omega arith) (λ e. let z = part-from l (c + size a) t e in omega arith)
-
-arms-mild : (l : Acts) (c t : ℕ) (o : Order) → Arms true l → isPart l c t ≡ true → Mild (stepAmong l c t o)
-unfolding isPart stepIn size
-arms-mild none c t o r h = absurd (false≢true h)
-arms-mild (more (act own w) l) c t o r h =
-    decide (eqb c t)
-    (λ d. let i = eqb-true c t d in
-    subst (λ (q : Outcome). Mild q) (sym (first-of (ltb t (c + (1 + sizes w))) (stepIn (act own w) c t o) (stepAmong l (c + (1 + sizes w)) t o) (stepAmong (more (act own w) l) c t o) refl (lt-ltb t (c + (1 + sizes w)) (omega arith))))
-    (subst (λ (q : Outcome). Mild q) (sym (first-of (eqb c t) (itself own w c o) (combines own w c t (stepAmong w (c + 1) t (arms own w c t o))) (stepIn (act own w) c t o) refl d)) (arm-mild own w c o (r .0))))
-    (λ d. let g : isPart l (c + (1 + sizes w)) t ≡ true = rw d at h in
-    subst (λ (q : Outcome). Mild q) (sym (second-of (ltb t (c + (1 + sizes w))) (stepIn (act own w) c t o) (stepAmong l (c + (1 + sizes w)) t o) (stepAmong (more (act own w) l) c t o) refl (le-ltb t (c + (1 + sizes w)) (part-from l (c + (1 + sizes w)) t g))))
-    (arms-mild l (c + (1 + sizes w)) t o (r .1) g))
-
--- what an activity that has arms makes of the step of one of them
-arm-combines : (own : Own) (within : Acts) (k t : ℕ) (r : Outcome) → eqb (kind own) 10 ≡ true → Mild r → Mild (combines own within k t r)
-unfolding combines kind goesOn
-arm-combines empty within k t r e m = absurd (false≢true e)
-arm-combines (send x y vs) within k t r e m = absurd (false≢true e)
-arm-combines (receive x y vs) within k t r e m = absurd (false≢true e)
-arm-combines (setting v x) within k t r e m = absurd (false≢true e)
-arm-combines raise within k t r e m = absurd (false≢true e)
-arm-combines leave within k t r e m = absurd (false≢true e)
-arm-combines (choose x) within k t r e m = absurd (false≢true e)
-arm-combines (repeat x) within k t r e m = absurd (false≢true e)
-arm-combines sequence within k t r e m = absurd (false≢true e)
-arm-combines flow within k t r e m = absurd (false≢true e)
-arm-combines pick within k t r e m = mild-where (λ q. elim (eqb (markAt k q) inside) [ true ↦ finishes k q | false ↦ runs q ]) r m (on-mild k inside (finishes k) (mild-finishes k))
-arm-combines scope within k t r e m = absurd (false≢true e)
-arm-combines (arm x y vs) within k t r e m = absurd (false≢true e)
-
-arms-as : (own : Own) (within : Acts) (k t : ℕ) (o : Order) (v : Bool) → (eqb (kind own) 10 && isPart within (k + 1) t) ≡ v → arms own within k t o ≡ cond v (marked k inside o) o
+-- an arm that acts makes its pick no scope
+arms-wane : (own : Own) (within : Acts) (k t : ℕ) (o : Order) (j : ℕ) → Wane (o .marks) (arms own within k t o .marks) j
 unfolding arms
-arms-as own within k t o v e = rw e
+arms-wane own within k t o j =
+    decide (eqb (kind own) 10 && isPart within (k + 1) t) (λ e. rw e (wane-inside (o .marks) k j)) (λ e. rw e (wane-so (stay-still (o .marks) j)))
+
+drops-from : {o q : Order} {r : Outcome} → ((j : ℕ) → Wane (o .marks) (q .marks) j) → Drops q r → Drops o r
+drops-from f w = record { stays = λ e j. wane-then (f j) (w .stays e j) }
 
 module _ (f : ℕ → ℕ) (t : ℕ) where
   mutual
     unfolding stepIn
 
-    pub step-drops : {a : Act} {k : ℕ} → Knows f a k → (o : Order) → Drops o (stepIn a k t o)
-    step-drops (knows {own} {within} {k} e n r y) o =
-        drops-either o (eqb k t) (itself own within k o) (combines own within k t (stepAmong within (k + 1) t (arms own within k t o))) _ refl (itself-drops own within k o)
-        (decide (eqb (kind own) 10 && isPart within (k + 1) t)
-        (λ d. both (eqb (kind own) 10) (isPart within (k + 1) t) d (λ x z. mild-drops o (combines own within k t (stepAmong within (k + 1) t (arms own within k t o)))
-        (arm-combines own within k t (stepAmong within (k + 1) t (arms own within k t o)) x (arms-mild within (k + 1) t (arms own within k t o) (subst (λ (b : Bool). Arms b within) x r) z) .goes)))
-        (λ d. subst (λ (q : Order). Drops o (combines own within k t (stepAmong within (k + 1) t q))) (sym (arms-as own within k t o false d)) (combines-drops own within k t o (stepAmong within (k + 1) t o) (among-drops y o))))
+    pub step-drops : (actor : Actor) {a : Act} {k : ℕ} → Knows f a k → (o : Order) → Drops o (stepIn actor a k t o)
+    step-drops actor (knows {own} {within} {k} e n r y) o =
+        drops-either o (eqb k t) (performs actor own within k o) (combines own within k t (stepAmong actor within (k + 1) t (arms own within k t o))) _ refl (performs-drops actor own within k o)
+        (combines-drops own within k t o (stepAmong actor within (k + 1) t (arms own within k t o)) (drops-from (arms-wane own within k t o) (among-drops actor y (arms own within k t o))))
 
-    among-drops : {l : Acts} {c : ℕ} → KnowsIn f l c → (o : Order) → Drops o (stepAmong l c t o)
-    among-drops knows-none o = mild-drops o (runs o) refl
-    among-drops (knows-more {a} {l} {c} x y) o = drops-either o (ltb t (c + size a)) (stepIn a c t o) (stepAmong l (c + size a) t o) _ refl (step-drops x o) (among-drops y o)
+    among-drops : (actor : Actor) {l : Acts} {c : ℕ} → KnowsIn f l c → (o : Order) → Drops o (stepAmong actor l c t o)
+    among-drops actor knows-none o = mild-drops o (runs o) refl
+    among-drops actor (knows-more {a} {l} {c} x y) o =
+        drops-either o (ltb t (c + size a)) (stepIn actor a c t o) (stepAmong actor l (c + size a) t o) _ refl (step-drops actor x o) (among-drops actor y o)
