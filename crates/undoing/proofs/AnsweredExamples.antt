@@ -131,8 +131,35 @@ handledScope =
           ∷ [];
     }
 
+-- A receive 1; a scope 2 (undo part 5); a flow 6 of two receives for one thing, 7 and 8; the root's fault part 9. With the close both are open, and nobody answers
+-- the raise that follows.
+unfoldable twiceOpen : Example
+twiceOpen =
+    record {
+      bytes = 1 ∷ 1 ∷ 0 ∷ 8 ∷ 3 ∷ 2 ∷ 0 ∷ 0 ∷ 1 ∷ 0 ∷ 11 ∷ 0 ∷ 0 ∷ 1 ∷ 2 ∷ 1 ∷ 1 ∷ 0 ∷ 9 ∷ 2 ∷ 2 ∷ 1 ∷ 2 ∷ 1 ∷ 0 ∷ 2 ∷ 1 ∷ 2 ∷ 1 ∷ 0 ∷ 0 ∷ [];
+      calls = first ∷ next ∷ next ∷ next ∷ [];
+      rightly = goes 1 ∷ goes 2 ∷ answers 5 Handled ∷ [];
+      wrongly =
+          -- what closed with the step that the raise follows is not taken back
+          (goes 1 ∷ answers 2 Handled ∷ [])
+          ∷ [];
+    }
+
+-- The same two receives, 6 and 7, in a flow 5 that is the undo part; a raise 8: the order fails with the raise that follows it.
+unfoldable twiceOpenBack : Example
+twiceOpenBack =
+    record {
+      bytes = 1 ∷ 1 ∷ 0 ∷ 8 ∷ 3 ∷ 2 ∷ 0 ∷ 0 ∷ 1 ∷ 0 ∷ 11 ∷ 0 ∷ 0 ∷ 9 ∷ 2 ∷ 2 ∷ 1 ∷ 2 ∷ 1 ∷ 0 ∷ 2 ∷ 1 ∷ 2 ∷ 1 ∷ 0 ∷ 4 ∷ 0 ∷ [];
+      calls = first ∷ next ∷ next ∷ next ∷ [];
+      rightly = goes 1 ∷ goes 2 ∷ answers 8 Failed ∷ [];
+      wrongly =
+          -- as if they had been answered
+          (goes 1 ∷ goes 2 ∷ answers 8 Handled ∷ [])
+          ∷ [];
+    }
+
 unfoldable examples : List Example
-examples = twoScopes ∷ threeClosings ∷ inSequence ∷ inFlow ∷ failing ∷ handledScope ∷ []
+examples = twoScopes ∷ threeClosings ∷ inSequence ∷ inFlow ∷ failing ∷ handledScope ∷ twiceOpen ∷ twiceOpenBack ∷ []
 
 -- the activity and the end of each
 brief : List Step → List (List ℕ)
@@ -140,18 +167,18 @@ brief l = map (λ x. x .activity ∷ endNumber (x .end) ∷ []) l
 
 -- the right answers are those of the definitions
 given : map (λ x. brief (answered (x .calls) 0 (loaded (x .bytes)) noTally)) examples ≡ map (λ x. brief (x .rightly)) examples
-unfolding examples twoScopes threeClosings inSequence inFlow failing handledScope brief answered computing judging
+unfolding examples twoScopes threeClosings inSequence inFlow failing handledScope twiceOpen twiceOpenBack brief answered computing judging
 given = refl
 
 judged : List ℕ → List Step → Bool
 judged bytes l = by false (λ p. inOrder p nothingDue l) (readPlan bytes)
 
 accepted : map (λ x. judged (x .bytes) (x .rightly)) examples ≡ map (λ x. true) examples
-unfolding examples twoScopes threeClosings inSequence inFlow failing handledScope judged isSure hasAll surely backIn backOf noted mayNote settles inOrder computing judging
+unfolding examples twoScopes threeClosings inSequence inFlow failing handledScope twiceOpen twiceOpenBack judged isSure hasAll surely backIn backOf noted mayNote settles inOrder computing judging
 accepted = refl
 
 refused : map (λ x. map (judged (x .bytes)) (x .wrongly)) examples ≡ map (λ x. map (λ l. false) (x .wrongly)) examples
-unfolding examples twoScopes threeClosings inSequence inFlow failing handledScope judged isSure hasAll surely backIn backOf noted mayNote settles inOrder computing judging
+unfolding examples twoScopes threeClosings inSequence inFlow failing handledScope twiceOpen twiceOpenBack judged isSure hasAll surely backIn backOf noted mayNote settles inOrder computing judging
 refused = refl
 
 -- the same in numbers: an engine that takes back as often as it should, in another order, is not refused by these alone
@@ -159,7 +186,7 @@ counted : List ℕ → List Step → Bool
 counted bytes l = by false (λ p. eachAsOften p [] l) (readPlan bytes)
 
 often : map (λ x. counted (x .bytes) (x .rightly)) examples ≡ map (λ x. true) examples
-unfolding examples twoScopes threeClosings inSequence inFlow failing handledScope counted isSure hasAll surely backIn backOf asOften eachAsOften computing judging
+unfolding examples twoScopes threeClosings inSequence inFlow failing handledScope twiceOpen twiceOpenBack counted isSure hasAll surely backIn backOf asOften eachAsOften computing judging
 often = refl
 
 notOften : map (counted (threeClosings .bytes)) (threeClosings .wrongly) ≡ false ∷ false ∷ []

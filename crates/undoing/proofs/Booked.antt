@@ -1,5 +1,5 @@
 -- What a buyer has written down of an order agrees with the order, and does so after each step of it. Assumes nothing.
-use Prim.Native.Nat.{ℕ, _+_, _≤_}
+use Prim.Native.Nat.{ℕ, _+_, _≤_, _<_}
 use native.Mathlib.Omega.{arith}
 use mathlib.Core.Path.{_≡_, refl, sym, ap, subst, _∙_}
 use mathlib.Core.Bool.{Bool, true, false, cond, _||_, false≢true, or-true}
@@ -17,7 +17,7 @@ use Rattle.order.specs.Begin.{begin}
 use Rattle.order.specs.declared.Way.{Way as Result}
 use Rattle.order.specs.declared.Way.the-variants.{Running as running, Over as over, Raising as raising, Leaving as leaving, Undone as undone, UndoRaising as undoRaising}
 use Rattle.order.specs.Scope.{Outcome, runs, after, begunIn, whereOver, Scope, rootOf, isOpen, innerRuns, rememberedFor, undo, ends, handle, undoes, turns, stop, faults, breaks, looksAgain, undoOver, undoRaised, partOver, partRaised, fromBody, fromFault}
-use Rattle.order.specs.Acting.{stepIn, stepRoot}
+use Rattle.order.specs.Acting.{Actor, itsOwn, inPlace, stepIn, stepRoot}
 use Rattle.undoing.specs.Demand3.{Inner, insideOf, closingsOf}
 use Rattle.undoing.specs.Ties.{Place, placeOf, fits, isDeed}
 use Rattle.undoing.specs.Answered.{backIn, backOf, isClose, isBack, Book, putting, without, isDue, paid, noted, mayNote}
@@ -35,13 +35,15 @@ use Rattle.undoing.proofs.Scoping.{looks-is, over-is, raised-is, Acted,
 use Rattle.undoing.proofs.Stepping.{steps, steps-stopped, steps-undoing, steps-part}
 use Rattle.undoing.proofs.Roots.{Awaited, in-body, in-fault, Standing, root-is}
 use Rattle.undoing.proofs.Planning.{Promised}
+use Rattle.undoing.proofs.Judged.{isTake, Fitting, doing-body}
 use Rattle.undoing.proofs.Aside.{stop-silent}
 use Rattle.undoing.proofs.Deeds.{deeds-aside}
 use Rattle.undoing.proofs.Fitting.{standing-fits}
 use Rattle.undoing.proofs.Ending.{isStart, start-kept}
 use Rattle.undoing.proofs.Owing.{undoLeftIn, undo-quiet, undo-run, undo-stopped}
 use Rattle.undoing.proofs.Repaying.{Repays, RepaysAs, undo-repays, undo-due, back-place, Back, left-back, none-without, close-place, duesOf, PaysAs, undo-pays}
-use Rattle.undoing.proofs.Pushing.{closedOnto, onto-closings, direct-close, step-closings}
+use Rattle.undoing.proofs.Upsetting.{undo-raises}
+use Rattle.undoing.proofs.Pushing.{closedOnto, onto-closings, direct-close, closedWith, step-closings}
 
 -- what is due for closings directly inside the root, and what an order owes
 abbrev pub duesIn : Plan → List ℕ → List (List ℕ)
@@ -70,6 +72,15 @@ SettledAs p d b o undoRaising = Unit {0}
 
 abbrev pub Settled : Plan → (due : List (List ℕ)) → (begun : Bool) → Outcome → Type 0
 Settled p d b r = SettledAs p d b (r .order) (r .result)
+
+-- What is written down of a step; of a raise in place of a receive nothing, since nobody answers it. And whether it may be.
+abbrev pub written : Actor → Plan → (t : ℕ) → Book → Book
+written itsOwn p t a = noted p root t a
+written inPlace p t a = a
+
+abbrev pub May : Actor → Plan → (t : ℕ) → Book → Type 0
+May itsOwn p t a = mayNote p root t a ≡ true
+May inPlace p t a = Unit {0}
 
 -- a root that runs its fault part has a quiet body
 heals-quiet : {ms : List ℕ} {m kb kf : ℕ} {b f : Act} → Turned ms m b kb f kf → m ≡ handling → Quiet ms kb (size b)
@@ -246,6 +257,16 @@ module _ (p : Plan) (h : Promised p) where
     unfolding noted mayNote
     noted-same a n e = (rw (e, n), rw (e, n))
 
+    -- the same of what is written
+    written-calm : (actor : Actor) (a : Book) (l : List ℕ) → isBack p root t ≡ false → a .due ≡ duesIn p l → a .begun ≡ false
+        → May actor p t a × (written actor p t a .due ≡ duesIn p (closedWith p actor t l)) × (written actor p t a .begun ≡ false)
+    written-calm itsOwn a l n d b = noted-calm a l n d b
+    written-calm inPlace a l n d b = (tt, d, b)
+
+    written-same : (actor : Actor) (a : Book) → isBack p root t ≡ false → isClose p root t ≡ false → May actor p t a × (written actor p t a ≡ a)
+    written-same itsOwn a n e = noted-same a n e
+    written-same inPlace a n e = (tt, refl)
+
     -- what is noted where an undo part runs
     noted-undo : (a : Book) (left : List ℕ) (d : List (List ℕ)) → isClose p root t ≡ false → a .due ≡ putting left d → (isBack p root t ≡ true → some (eqb t) left ≡ true)
         → (isBack p root t ≡ false → some (eqb t) left ≡ false) → (mayNote p root t a ≡ true) × (noted p root t a .due ≡ putting (without t left) d)
@@ -259,34 +280,30 @@ module _ (p : Plan) (h : Promised p) where
   module _ (t : ℕ) (o : Order) (past : List Event) (a : Book) (g : HoldsAt p (momentOf p o) past) (ag : Agrees p o a) (m : size (p .body) + size (p .fault) ≤ length (o .marks))
       (fit : fits (placeOf p t) o ≡ true) where
     -- in the root's body
-    abbrev its : Outcome
-    its = stepIn (p .body) 0 t o
+    abbrev its : Actor → Outcome
+    its actor = stepIn actor (p .body) 0 t o
 
-    -- what closes with it
-    abbrev pushed : List ℕ → List ℕ
-    pushed l = cond (isClose p root t) (t ∷ l) l
-
-    abbrev Right : Outcome → Type 0
-    Right r = (mayNote p root t a ≡ true) × Settled p (noted p root t a .due) (noted p root t a .begun) r
+    abbrev Right : Actor → Outcome → Type 0
+    Right actor r = May actor p t a × Settled p (written actor p t a .due) (written actor p t a .begun) r
 
     -- where nothing is taken back, by what is due then
-    right-calm : (r : Outcome) → undoLeftIn (p .body) 0 (o .marks) ≡ [] → begunMark (o .root) ≡ false → (eqb (o .root) undoing || eqb (o .root) withdrawing) ≡ false
-        → Settled p (duesIn p (pushed (listOf p root o))) false r → Right r
-    right-calm r e b n w =
-        let y = noted-calm t o fit a (listOf p root o) (not-back t o fit n) (sym (ag .due) ∙ quiet-owed p o e) (ag .calm b) in
-        (y .0, subst (λ (d : List (List ℕ)). Settled p d (noted p root t a .begun) r) (sym (y .1)) (subst (λ (c : Bool). Settled p (duesIn p (pushed (listOf p root o))) c r) (sym (y .2)) w))
+    right-calm : (actor : Actor) (r : Outcome) → undoLeftIn (p .body) 0 (o .marks) ≡ [] → begunMark (o .root) ≡ false → (eqb (o .root) undoing || eqb (o .root) withdrawing) ≡ false
+        → Settled p (duesIn p (closedWith p actor t (listOf p root o))) false r → Right actor r
+    right-calm actor r e b n w =
+        let y = written-calm t o fit actor a (listOf p root o) (not-back t o fit n) (sym (ag .due) ∙ quiet-owed p o e) (ag .calm b) in
+        (y .0, subst (λ (d : List (List ℕ)). Settled p d (written actor p t a .begun) r) (sym (y .1)) (subst (λ (c : Bool). Settled p (duesIn p (closedWith p actor t (listOf p root o))) c r) (sym (y .2)) w))
 
     -- The root is live.
-    live-right : o .root ≡ active → Run (o .marks) (p .body) 0 → Quiet (o .marks) (size (p .body)) (size (p .fault)) → Waits (o .marks) (p .body) 0 t false → Right (fromBody (rootOf p) its)
+    live-right : (actor : Actor) → Fitting actor p t → t < size (p .body) → o .root ≡ active → Run (o .marks) (p .body) 0 → Quiet (o .marks) (size (p .body)) (size (p .fault)) → Waits (o .marks) (p .body) 0 t false → Right actor (fromBody (rootOf p) (its actor))
     unfolding fromBody
-    live-right d r q w =
-        right-calm (fromBody (rootOf p) its) (undo-run (h .seat .body) r) (rw d) (rw d) (go (its .result) (v .comes))
+    live-right actor j i d r q w =
+        right-calm actor (fromBody (rootOf p) (its actor)) (undo-run (h .seat .body) r) (rw d) (rw d) (go (its actor .result) (v .comes))
       where
-        v : Acted 0 (size (p .body)) o (RunAs p (p .body) 0 t o) (stepIn (p .body) 0 t o)
-        v = steps p (h .distinct) (h .seat .body) t o false w refl r (ap phase d) (omega arith)
+        v : Acted 0 (size (p .body)) o (RunAs p (p .body) 0 t o) (stepIn actor (p .body) 0 t o)
+        v = steps p (h .distinct) actor (h .seat .body) t o false w refl r (ap phase d) (omega arith)
 
         o₁ : Order
-        o₁ = stepIn (p .body) 0 t o .order
+        o₁ = stepIn actor (p .body) 0 t o .order
 
         d₁ : o₁ .root ≡ active
         d₁ = v .rooted ∙ d
@@ -294,60 +311,60 @@ module _ (p : Plan) (h : Promised p) where
         q₁ : Quiet (o₁ .marks) (size (p .body)) (size (p .fault))
         q₁ = quiet-agree q (agree-above (v .kept) (omega arith))
 
-        listed : Does p None o (stepIn (p .body) 0 t o .log) o₁ → listOf p root o₁ ≡ cond (isClose p root t) (t ∷ listOf p root o) (listOf p root o)
+        listed : Does p None o (stepIn actor (p .body) 0 t o .log) o₁ → listOf p root o₁ ≡ closedWith p actor t (listOf p root o)
         listed c =
             let g₁ = c .does past g .1 in
-            sym (tied-at p (momentOf p o₁) (momentOf p o₁) (onto (stepIn (p .body) 0 t o .log) past) g₁ live root refl (ap phase d₁) .3)
-            ∙ (step-closings p (h .seat) t o past ∙ ap pushed (tied-at p (momentOf p o) (momentOf p o) past g live root refl (ap phase d) .3))
+            sym (tied-at p (momentOf p o₁) (momentOf p o₁) (onto (stepIn actor (p .body) 0 t o .log) past) g₁ live root refl (ap phase d₁) .3)
+            ∙ (step-closings p (h .seat) actor t o past j i ∙ ap (closedWith p actor t) (tied-at p (momentOf p o) (momentOf p o) past g live root refl (ap phase d) .3))
 
-        go : (x : Result) → RunAs p (p .body) 0 t o (stepIn (p .body) 0 t o .log) o₁ x
-            → Settled p (duesIn p (pushed (listOf p root o))) false (fromBody (rootOf p) (record { result = x; order = o₁; log = stepIn (p .body) 0 t o .log }))
+        go : (x : Result) → RunAs p (p .body) 0 t o (stepIn actor (p .body) 0 t o .log) o₁ x
+            → Settled p (duesIn p (closedWith p actor t (listOf p root o))) false (fromBody (rootOf p) (record { result = x; order = o₁; log = stepIn actor (p .body) 0 t o .log }))
         go running c =
-            subst (λ (z : Outcome). Settled p (duesIn p (pushed (listOf p root o))) false (after (stepIn (p .body) 0 t o .log) z)) (sym (looks-is (rootOf p) o₁ active d₁))
+            subst (λ (z : Outcome). Settled p (duesIn p (closedWith p actor t (listOf p root o))) false (after (stepIn actor (p .body) 0 t o .log) z)) (sym (looks-is (rootOf p) o₁ active d₁))
             (quiet-owed p o₁ (undo-run (h .seat .body) (c .0)) ∙ ap (duesIn p) (listed (c .1)), λ x. refl)
         go over c =
-            subst (λ (z : Outcome). Settled p (duesIn p (pushed (listOf p root o))) false (after (stepIn (p .body) 0 t o .log) z)) (sym (over-is (rootOf p) o₁ active d₁))
+            subst (λ (z : Outcome). Settled p (duesIn p (closedWith p actor t (listOf p root o))) false (after (stepIn actor (p .body) 0 t o .log) z)) (sym (over-is (rootOf p) o₁ active d₁))
             (quiet-owed p o₁ (undo-quiet (h .seat .body) (o₁ .marks) (c .0)) ∙ ap (duesIn p) (listed (c .1)), λ x. refl)
         go raising c =
-            subst (λ (z : Outcome). Settled p (duesIn p (pushed (listOf p root o))) false (after (stepIn (p .body) 0 t o .log) z)) (sym (raised-is (rootOf p) o₁ true (rw d₁)))
+            subst (λ (z : Outcome). Settled p (duesIn p (closedWith p actor t (listOf p root o))) false (after (stepIn actor (p .body) 0 t o .log) z)) (sym (raised-is (rootOf p) o₁ true (rw d₁)))
             (subst (λ (l : List ℕ). Settled p (duesIn p l) false (faults (rootOf p) o₁)) (listed (c .1))
-            (faults-settles o₁ (onto (stepIn (p .body) 0 t o .log) past) d₁ (c .0) q₁ (omega (arith, v .kept .many)) (c .1 .does past g .1)))
+            (faults-settles o₁ (onto (stepIn actor (p .body) 0 t o .log) past) d₁ (c .0) q₁ (omega (arith, v .kept .many)) (c .1 .does past g .1)))
         go leaving c = tt
         go undone c = absurd c
         go undoRaising c = absurd c
 
     -- It waits for its inner scopes.
-    waits-right : o .root ≡ faulty → Stopped (o .marks) (p .body) 0 → Quiet (o .marks) (size (p .body)) (size (p .fault)) → Waits (o .marks) (p .body) 0 t false → Right (fromBody (rootOf p) its)
+    waits-right : (actor : Actor) → Fitting actor p t → t < size (p .body) → o .root ≡ faulty → Stopped (o .marks) (p .body) 0 → Quiet (o .marks) (size (p .body)) (size (p .fault)) → Waits (o .marks) (p .body) 0 t false → Right actor (fromBody (rootOf p) (its actor))
     unfolding fromBody
-    waits-right d r q w =
-        right-calm (fromBody (rootOf p) its) (undo-stopped (h .seat .body) r) (rw d) (rw d) (go (its .result) (v .comes))
+    waits-right actor j i d r q w =
+        right-calm actor (fromBody (rootOf p) (its actor)) (undo-stopped (h .seat .body) r) (rw d) (rw d) (go (its actor .result) (v .comes))
       where
-        v : Acted 0 (size (p .body)) o (StopAs p (p .body) 0 o) (stepIn (p .body) 0 t o)
-        v = steps-stopped p (h .distinct) (h .seat .body) t o false w refl r (omega arith)
+        v : Acted 0 (size (p .body)) o (StopAs p (p .body) 0 o) (stepIn actor (p .body) 0 t o)
+        v = steps-stopped p (h .distinct) actor (h .seat .body) t o false w refl r (omega arith)
 
         o₁ : Order
-        o₁ = stepIn (p .body) 0 t o .order
+        o₁ = stepIn actor (p .body) 0 t o .order
 
         d₁ : o₁ .root ≡ faulty
         d₁ = v .rooted ∙ d
 
-        looks : Stopped (o₁ .marks) (p .body) 0 → Does p None o (stepIn (p .body) 0 t o .log) o₁
-            → Settled p (duesIn p (pushed (listOf p root o))) false (after (stepIn (p .body) 0 t o .log) (looksAgain (rootOf p) o₁))
+        looks : Stopped (o₁ .marks) (p .body) 0 → Does p None o (stepIn actor (p .body) 0 t o .log) o₁
+            → Settled p (duesIn p (closedWith p actor t (listOf p root o))) false (after (stepIn actor (p .body) 0 t o .log) (looksAgain (rootOf p) o₁))
         looks s c =
             let g₁ = c .does past g .1 in
-            let e : listOf p root o₁ ≡ cond (isClose p root t) (t ∷ listOf p root o) (listOf p root o)
-            = sym (tied-at p (momentOf p o₁) (momentOf p o₁) (onto (stepIn (p .body) 0 t o .log) past) g₁ (waits true) root refl (ap phase d₁) .3)
-            ∙ (step-closings p (h .seat) t o past ∙ ap pushed (tied-at p (momentOf p o) (momentOf p o) past g (waits true) root refl (ap phase d) .3)) in
-            subst (λ (z : Outcome). Settled p (duesIn p (pushed (listOf p root o))) false (after (stepIn (p .body) 0 t o .log) z)) (sym (looks-is (rootOf p) o₁ faulty d₁))
+            let e : listOf p root o₁ ≡ closedWith p actor t (listOf p root o)
+            = sym (tied-at p (momentOf p o₁) (momentOf p o₁) (onto (stepIn actor (p .body) 0 t o .log) past) g₁ (waits true) root refl (ap phase d₁) .3)
+            ∙ (step-closings p (h .seat) actor t o past j i ∙ ap (closedWith p actor t) (tied-at p (momentOf p o) (momentOf p o) past g (waits true) root refl (ap phase d) .3)) in
+            subst (λ (z : Outcome). Settled p (duesIn p (closedWith p actor t (listOf p root o))) false (after (stepIn actor (p .body) 0 t o .log) z)) (sym (looks-is (rootOf p) o₁ faulty d₁))
             (subst (λ (l : List ℕ). Settled p (duesIn p l) false (turns true (rootOf p) o₁)) e (turns-settles o₁ s (quiet-agree q (agree-above (v .kept) (omega arith))) (omega (arith, v .kept .many))))
 
-        go : (x : Result) → StopAs p (p .body) 0 o (stepIn (p .body) 0 t o .log) o₁ x
-            → Settled p (duesIn p (pushed (listOf p root o))) false (fromBody (rootOf p) (record { result = x; order = o₁; log = stepIn (p .body) 0 t o .log }))
+        go : (x : Result) → StopAs p (p .body) 0 o (stepIn actor (p .body) 0 t o .log) o₁ x
+            → Settled p (duesIn p (closedWith p actor t (listOf p root o))) false (fromBody (rootOf p) (record { result = x; order = o₁; log = stepIn actor (p .body) 0 t o .log }))
         go running c = looks (c .0) (c .1)
         go over c =
-            subst (λ (z : Outcome). Settled p (duesIn p (pushed (listOf p root o))) false (after (stepIn (p .body) 0 t o .log) z)) (sym (over-is (rootOf p) o₁ faulty d₁)) (looks (c .0) (c .1))
+            subst (λ (z : Outcome). Settled p (duesIn p (closedWith p actor t (listOf p root o))) false (after (stepIn actor (p .body) 0 t o .log) z)) (sym (over-is (rootOf p) o₁ faulty d₁)) (looks (c .0) (c .1))
         go raising c =
-            subst (λ (z : Outcome). Settled p (duesIn p (pushed (listOf p root o))) false (after (stepIn (p .body) 0 t o .log) z)) (sym (raised-is (rootOf p) o₁ false (rw d₁))) (looks (c .0) (c .1))
+            subst (λ (z : Outcome). Settled p (duesIn p (closedWith p actor t (listOf p root o))) false (after (stepIn actor (p .body) 0 t o .log) z)) (sym (raised-is (rootOf p) o₁ false (rw d₁))) (looks (c .0) (c .1))
         go leaving c = tt
         go undone c = absurd c
         go undoRaising c = absurd c
@@ -357,15 +374,15 @@ module _ (p : Plan) (h : Promised p) where
     undo-mark k e = rw e
 
     -- One of its undo parts runs.
-    undoing-right : o .root ≡ undoing → Undoing (o .marks) (p .body) 0 → Quiet (o .marks) (size (p .body)) (size (p .fault)) → Waits (o .marks) (p .body) 0 t false → Right (fromBody (rootOf p) its)
+    undoing-right : (actor : Actor) → Fitting actor p t → t < size (p .body) → o .root ≡ undoing → Undoing (o .marks) (p .body) 0 → Quiet (o .marks) (size (p .body)) (size (p .fault)) → Waits (o .marks) (p .body) 0 t false → Right actor (fromBody (rootOf p) (its actor))
     unfolding fromBody undoOver undoRaised breaks
-    undoing-right d r q w =
-        (y .0, subst (λ (e : List (List ℕ)). Settled p e (noted p root t a .begun) (fromBody (rootOf p) (stepIn (p .body) 0 t o))) (sym (y .1)) (go (stepIn (p .body) 0 t o .result) (v .comes) (u .less)))
+    undoing-right itsOwn j i d r q w =
+        (y .0, subst (λ (e : List (List ℕ)). Settled p e (noted p root t a .begun) (fromBody (rootOf p) (stepIn itsOwn (p .body) 0 t o))) (sym (y .1)) (go (stepIn itsOwn (p .body) 0 t o .result) (v .comes) (u .less)))
       where
-        v : Acted 0 (size (p .body)) o (UndoAs p root (p .body) 0 t o) (stepIn (p .body) 0 t o)
-        v = steps-undoing p (h .distinct) (h .seat .body) t o false w refl r (true, ap phase d) (omega arith)
+        v : Acted 0 (size (p .body)) o (UndoAs p root (p .body) 0 t o) (stepIn itsOwn (p .body) 0 t o)
+        v = steps-undoing p (h .distinct) itsOwn (h .seat .body) t o false w refl r (true, ap phase d) (omega arith)
 
-        u : Repays (undoLeftIn (p .body) 0) t o (stepIn (p .body) 0 t o)
+        u : Repays (undoLeftIn (p .body) 0) t o (stepIn itsOwn (p .body) 0 t o)
         u = undo-repays p (h .distinct) (h .seat .body) t o false w refl r (true, ap phase d) (omega arith)
 
         left : List ℕ
@@ -381,7 +398,7 @@ module _ (p : Plan) (h : Promised p) where
         y = noted-undo t o fit a left (duesIn p (listOf p root o)) (not-close t o fit (rw d)) (sym (ag .due)) due undue
 
         o₁ : Order
-        o₁ = stepIn (p .body) 0 t o .order
+        o₁ = stepIn itsOwn (p .body) 0 t o .order
 
         d₁ : o₁ .root ≡ undoing
         d₁ = v .rooted ∙ d
@@ -389,68 +406,80 @@ module _ (p : Plan) (h : Promised p) where
         same-list : listOf p root o₁ ≡ listOf p root o
         same-list = ap (λ (c : List ℕ). reverse (only (isIn p root) c)) (u .lists)
 
-        go : (x : Result) → UndoAs p root (p .body) 0 t o (stepIn (p .body) 0 t o .log) o₁ x → RepaysAs (undoLeftIn (p .body) 0) t (o .marks) (o₁ .marks) x
-            → Settled p (putting (without t left) (duesIn p (listOf p root o))) (noted p root t a .begun) (fromBody (rootOf p) (record { result = x; order = o₁; log = stepIn (p .body) 0 t o .log }))
+        go : (x : Result) → UndoAs p root (p .body) 0 t o (stepIn itsOwn (p .body) 0 t o .log) o₁ x → RepaysAs (undoLeftIn (p .body) 0) t (o .marks) (o₁ .marks) x
+            → Settled p (putting (without t left) (duesIn p (listOf p root o))) (noted p root t a .begun) (fromBody (rootOf p) (record { result = x; order = o₁; log = stepIn itsOwn (p .body) 0 t o .log }))
         go running c l =
-            subst (λ (z : Outcome). Settled p (putting (without t left) (duesIn p (listOf p root o))) (noted p root t a .begun) (after (stepIn (p .body) 0 t o .log) z)) (sym (looks-is (rootOf p) o₁ undoing d₁))
+            subst (λ (z : Outcome). Settled p (putting (without t left) (duesIn p (listOf p root o))) (noted p root t a .begun) (after (stepIn itsOwn (p .body) 0 t o .log) z)) (sym (looks-is (rootOf p) o₁ undoing d₁))
             (rw (l, same-list), λ x. absurd (false≢true (sym x ∙ ap begunMark d₁)))
         go over c l = absurd c
         go raising c l = absurd c
         go leaving c l = tt
         go undone c l =
             subst (λ (z : Bool). Settled p (putting (without t left) (duesIn p (listOf p root o))) (noted p root t a .begun)
-            (after (stepIn (p .body) 0 t o .log) (elim z [ true ↦ undoes true (rootOf p) o₁ | false ↦ elim (eqb (o₁ .root) withdrawing) [ true ↦ undoes false (rootOf p) o₁ | false ↦ runs o₁ ] ])))
+            (after (stepIn itsOwn (p .body) 0 t o .log) (elim z [ true ↦ undoes true (rootOf p) o₁ | false ↦ elim (eqb (o₁ .root) withdrawing) [ true ↦ undoes false (rootOf p) o₁ | false ↦ runs o₁ ] ])))
             (sym (eq-eqb (o₁ .root) undoing d₁))
             (subst (λ (e : List (List ℕ)). Settled p e (noted p root t a .begun) (undoes true (rootOf p) o₁)) (ap (duesIn p) same-list ∙ ap (λ (i : List ℕ). putting i (duesIn p (listOf p root o))) (sym l))
             (undoes-settles (noted p root t a .begun) o₁ (c .0) (quiet-agree q (agree-above (v .kept) (omega arith))) (omega (arith, v .kept .many))))
         go undoRaising c l =
-            subst (λ (z : Bool). Settled p (putting (without t left) (duesIn p (listOf p root o))) (noted p root t a .begun) (after (stepIn (p .body) 0 t o .log) (elim z [ true ↦ breaks (rootOf p) o₁ | false ↦ runs o₁ ])))
+            subst (λ (z : Bool). Settled p (putting (without t left) (duesIn p (listOf p root o))) (noted p root t a .begun) (after (stepIn itsOwn (p .body) 0 t o .log) (elim z [ true ↦ breaks (rootOf p) o₁ | false ↦ runs o₁ ])))
             (sym (undo-mark (o₁ .root) d₁)) tt
-
-    -- Its fault part runs.
-    heals-right : o .root ≡ handling → Quiet (o .marks) 0 (size (p .body)) → Run (o .marks) (p .fault) (size (p .body)) → Waits (o .marks) (p .fault) (size (p .body)) t false
-        → Right (fromFault (rootOf p) (stepIn (p .fault) (size (p .body)) t o))
-    unfolding fromFault partOver partRaised breaks
-    heals-right d q r w = (
-      y .0,
-      subst (λ (b : Book). Settled p (b .due) (b .begun) (fromFault (rootOf p) (stepIn (p .fault) (size (p .body)) t o))) (sym (y .1))
-          (subst (λ (e : List (List ℕ)). Settled p e (a .begun) (fromFault (rootOf p) (stepIn (p .fault) (size (p .body)) t o))) (sym none-due ∙ ag .due) (go (stepIn (p .fault) (size (p .body)) t o .result) (v .comes))),
+    undoing-right inPlace j i d r q w = (
+      tt,
+      subst (λ (x : Result). Settled p (a .due) (a .begun) (fromBody (rootOf p) (record { result = x; order = o₁; log = stepIn inPlace (p .body) 0 t o .log })))
+          (sym (undo-raises p (h .distinct) (h .seat .body) t o false w refl r (ap isTake (sym (doing-body p t i)) ∙ j)))
+          (subst (λ (z : Bool). Settled p (a .due) (a .begun) (after (stepIn inPlace (p .body) 0 t o .log) (elim z [ true ↦ breaks (rootOf p) o₁ | false ↦ runs o₁ ]))) (sym (undo-mark (o₁ .root) d₁)) tt),
     )
       where
-        y : (mayNote p root t a ≡ true) × (noted p root t a ≡ a)
-        y = noted-same t o fit a (not-back t o fit (rw d)) (not-close t o fit (rw d))
+        o₁ : Order
+        o₁ = stepIn inPlace (p .body) 0 t o .order
 
-        v : Acted (size (p .body)) (size (p .fault)) o (RunAs p (p .fault) (size (p .body)) t o) (stepIn (p .fault) (size (p .body)) t o)
-        v = steps-part p (h .distinct) (h .seat .fault) t o false w refl r (ap phase d) m
+        d₁ : o₁ .root ≡ undoing
+        d₁ = steps-undoing p (h .distinct) inPlace (h .seat .body) t o false w refl r (true, ap phase d) (omega arith) .rooted ∙ d
+
+    -- Its fault part runs.
+    heals-right : (actor : Actor) → o .root ≡ handling → Quiet (o .marks) 0 (size (p .body)) → Run (o .marks) (p .fault) (size (p .body)) → Waits (o .marks) (p .fault) (size (p .body)) t false
+        → Right actor (fromFault (rootOf p) (stepIn actor (p .fault) (size (p .body)) t o))
+    unfolding fromFault partOver partRaised breaks
+    heals-right actor d q r w = (
+      y .0,
+      subst (λ (b : Book). Settled p (b .due) (b .begun) (fromFault (rootOf p) (stepIn actor (p .fault) (size (p .body)) t o))) (sym (y .1))
+          (subst (λ (e : List (List ℕ)). Settled p e (a .begun) (fromFault (rootOf p) (stepIn actor (p .fault) (size (p .body)) t o))) (sym none-due ∙ ag .due) (go (stepIn actor (p .fault) (size (p .body)) t o .result) (v .comes))),
+    )
+      where
+        y : May actor p t a × (written actor p t a ≡ a)
+        y = written-same t o fit actor a (not-back t o fit (rw d)) (not-close t o fit (rw d))
+
+        v : Acted (size (p .body)) (size (p .fault)) o (RunAs p (p .fault) (size (p .body)) t o) (stepIn actor (p .fault) (size (p .body)) t o)
+        v = steps-part p (h .distinct) actor (h .seat .fault) t o false w refl r (ap phase d) m
 
         none-due : owed p o ≡ []
         none-due = none-owed p o (undo-quiet (h .seat .body) (o .marks) q) (tied-at p (momentOf p o) (momentOf p o) past g heals root refl (ap phase d) .3)
 
         o₁ : Order
-        o₁ = stepIn (p .fault) (size (p .body)) t o .order
+        o₁ = stepIn actor (p .fault) (size (p .body)) t o .order
 
         d₁ : o₁ .root ≡ handling
         d₁ = v .rooted ∙ d
 
-        go : (x : Result) → RunAs p (p .fault) (size (p .body)) t o (stepIn (p .fault) (size (p .body)) t o .log) o₁ x
-            → Settled p [] (a .begun) (fromFault (rootOf p) (record { result = x; order = o₁; log = stepIn (p .fault) (size (p .body)) t o .log }))
+        go : (x : Result) → RunAs p (p .fault) (size (p .body)) t o (stepIn actor (p .fault) (size (p .body)) t o .log) o₁ x
+            → Settled p [] (a .begun) (fromFault (rootOf p) (record { result = x; order = o₁; log = stepIn actor (p .fault) (size (p .body)) t o .log }))
         go running c = (
           none-owed p o₁ (undo-quiet (h .seat .body) (o₁ .marks) (quiet-agree q (agree-below (v .kept) (omega arith))))
-              (tied-at p (momentOf p o₁) (momentOf p o₁) (onto (stepIn (p .fault) (size (p .body)) t o .log) past) (c .1 .does past g .1) heals root refl (ap phase d₁) .3),
+              (tied-at p (momentOf p o₁) (momentOf p o₁) (onto (stepIn actor (p .fault) (size (p .body)) t o .log) past) (c .1 .does past g .1) heals root refl (ap phase d₁) .3),
           λ x. absurd (false≢true (sym x ∙ ap begunMark d₁)),
         )
         go over c =
-            subst (λ (z : Bool). Settled p [] (a .begun) (after (stepIn (p .fault) (size (p .body)) t o .log) (elim z [ true ↦ ends (rootOf p) o₁ | false ↦ runs o₁ ]))) (sym (eq-eqb (o₁ .root) handling d₁)) refl
+            subst (λ (z : Bool). Settled p [] (a .begun) (after (stepIn actor (p .fault) (size (p .body)) t o .log) (elim z [ true ↦ ends (rootOf p) o₁ | false ↦ runs o₁ ]))) (sym (eq-eqb (o₁ .root) handling d₁)) refl
         go raising c =
-            subst (λ (z : Bool). Settled p [] (a .begun) (after (stepIn (p .fault) (size (p .body)) t o .log) (elim z [ true ↦ breaks (rootOf p) o₁ | false ↦ runs o₁ ]))) (sym (eq-eqb (o₁ .root) handling d₁)) tt
+            subst (λ (z : Bool). Settled p [] (a .begun) (after (stepIn actor (p .fault) (size (p .body)) t o .log) (elim z [ true ↦ breaks (rootOf p) o₁ | false ↦ runs o₁ ]))) (sym (eq-eqb (o₁ .root) handling d₁)) tt
         go leaving c = tt
         go undone c = absurd c
         go undoRaising c = absurd c
 
   -- However it stands.
-  pub root-right : (t : ℕ) (o : Order) (past : List Event) (a : Book) → Awaited p (o .marks) t → Standing p o → (o .root ≡ halted → ⊥) → (o .root ≡ withdrawing → ⊥) → HoldsAt p (momentOf p o) past → Agrees p o a
-      → (mayNote p root t a ≡ true) × Settled p (noted p root t a .due) (noted p root t a .begun) (stepRoot p t o)
-  root-right t o past a w st x y g ag = go w (st .runs)
+  pub root-right : (actor : Actor) (t : ℕ) (o : Order) (past : List Event) (a : Book) → Fitting actor p t → Awaited p (o .marks) t → Standing p o → (o .root ≡ halted → ⊥) → (o .root ≡ withdrawing → ⊥) → HoldsAt p (momentOf p o) past → Agrees p o a
+      → May actor p t a × Settled p (written actor p t a .due) (written actor p t a .begun) (stepRoot actor p t o)
+  root-right actor t o past a fits-so w st x y g ag = go w (st .runs)
     where
       fit : fits (placeOf p t) o ≡ true
       fit = standing-fits p o t st w
@@ -466,18 +495,18 @@ module _ (p : Plan) (h : Promised p) where
       is-handling : phase (o .root) ≡ heals → o .root ≡ handling
       is-handling q = eqb-true (o .root) handling (decide (eqb (o .root) handling) (λ z. z) (λ z. absurd (no-heals (o .root) z q)))
 
-      go : Awaited p (o .marks) t → Running (rootOf p) (o .marks) (o .root) → (mayNote p root t a ≡ true) × Settled p (noted p root t a .due) (noted p root t a .begun) (stepRoot p t o)
+      go : Awaited p (o .marks) t → Running (rootOf p) (o .marks) (o .root) → May actor p t a × Settled p (written actor p t a .due) (written actor p t a .begun) (stepRoot actor p t o)
       go (in-body e i) (scope-live d r q) =
-          subst (λ (z : Outcome). (mayNote p root t a ≡ true) × Settled p (noted p root t a .due) (noted p root t a .begun) z) (sym (root-is p t o true (lt-ltb t (size (p .body)) e))) (live-right t o past a g ag (st .many) fit d r q i)
+          subst (λ (z : Outcome). May actor p t a × Settled p (written actor p t a .due) (written actor p t a .begun) z) (sym (root-is actor p t o true (lt-ltb t (size (p .body)) e))) (live-right t o past a g ag (st .many) fit actor fits-so e d r q i)
       go (in-body e i) (scope-done d q z) = absurd (st .going d)
       go (in-body e i) (scope-turned (turned-waits {w = v} q z _ c)) =
-          subst (λ (z : Outcome). (mayNote p root t a ≡ true) × Settled p (noted p root t a .due) (noted p root t a .begun) z) (sym (root-is p t o true (lt-ltb t (size (p .body)) e))) (waits-right t o past a g ag (st .many) fit (is-faulty v q) z c i)
+          subst (λ (z : Outcome). May actor p t a × Settled p (written actor p t a .due) (written actor p t a .begun) z) (sym (root-is actor p t o true (lt-ltb t (size (p .body)) e))) (waits-right t o past a g ag (st .many) fit actor fits-so e (is-faulty v q) z c i)
       go (in-body e i) (scope-turned (turned-undoes {w = v} q z c)) =
-          subst (λ (z : Outcome). (mayNote p root t a ≡ true) × Settled p (noted p root t a .due) (noted p root t a .begun) z) (sym (root-is p t o true (lt-ltb t (size (p .body)) e))) (undoing-right t o past a g ag (st .many) fit (is-undoing v q) z c i)
+          subst (λ (z : Outcome). May actor p t a × Settled p (written actor p t a .due) (written actor p t a .begun) z) (sym (root-is actor p t o true (lt-ltb t (size (p .body)) e))) (undoing-right t o past a g ag (st .many) fit actor fits-so e (is-undoing v q) z c i)
       go (in-body e i) (scope-turned (turned-heals q z c)) = absurd (quiet-waits i refl z)
       go (in-fault e i) (scope-live d r q) = absurd (quiet-waits i refl q)
       go (in-fault e i) (scope-done d q z) = absurd (st .going d)
       go (in-fault e i) (scope-turned (turned-waits q z _ c)) = absurd (quiet-waits i refl c)
       go (in-fault e i) (scope-turned (turned-undoes q z c)) = absurd (quiet-waits i refl c)
       go (in-fault e i) (scope-turned (turned-heals q z c)) =
-          subst (λ (z : Outcome). (mayNote p root t a ≡ true) × Settled p (noted p root t a .due) (noted p root t a .begun) z) (sym (root-is p t o false (le-ltb t (size (p .body)) e))) (heals-right t o past a g ag (st .many) fit (is-handling q) z c i)
+          subst (λ (z : Outcome). May actor p t a × Settled p (written actor p t a .due) (written actor p t a .begun) z) (sym (root-is actor p t o false (le-ltb t (size (p .body)) e))) (heals-right t o past a g ag (st .many) fit actor (is-handling q) z c i)

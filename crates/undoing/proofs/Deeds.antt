@@ -335,7 +335,7 @@ raise-either false d d′ x y g e f h = f refl h
 mutual
   unfolding stepIn doingIn only isTake
 
-  raise-deeds : (a : Act) (k t : ℕ) (o : Order) → isTake (doingIn a k t) ≡ true → only isDeed (stepIn inPlace a k t o .log) ≡ raised t ∷ []
+  pub raise-deeds : (a : Act) (k t : ℕ) (o : Order) → isTake (doingIn a k t) ≡ true → only isDeed (stepIn inPlace a k t o .log) ≡ raised t ∷ []
   raise-deeds (act own within) k t o =
       raise-either (eqb k t) (doingOf own within k) (doingAmong within (k + 1) t) (performs inPlace own within k o)
       (combines own within k t (stepAmong inPlace within (k + 1) t (arms own within k t o))) (raised t ∷ [])

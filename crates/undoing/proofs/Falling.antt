@@ -364,7 +364,7 @@ cleared-rank (suc n) k ms =
     subst (λ (m : ℕ). rank 11 m ≤ rank 11 (getD ms k 0)) (sym x) (omega (arith, rank-set 11 k idle ms))
 
 -- what acts in a raise's place, and what an arm does then
-raised-receive : (own : Own) (within : Acts) (k : ℕ) (o : Order) → isTake (doingOf own within k) ≡ true → performs inPlace own within k o ≡ raises k o
+pub raised-receive : (own : Own) (within : Acts) (k : ℕ) (o : Order) → isTake (doingOf own within k) ≡ true → performs inPlace own within k o ≡ raises k o
 unfolding isTake doingOf performs replaces kind
 raised-receive empty within k o h = absurd (false≢true h)
 raised-receive (send x y vs) within k o h = absurd (false≢true h)

@@ -18,7 +18,7 @@ use Rattle.order.specs.Begin.{beginAfter, beginPart, quiet}
 use Rattle.order.specs.declared.Way.{Way as Result}
 use Rattle.order.specs.declared.Way.the-variants.{Running as running, Over as over, Raising as raising, Leaving as leaving, Undone as undone, UndoRaising as undoRaising}
 use Rattle.order.specs.Scope.{Outcome, runs, after, begunIn, whereOver}
-use Rattle.order.specs.Acting.{allBound, finishes, raises, orRaises, enters, itself, goesOn, joins, combines, stepIn, stepAmong}
+use Rattle.order.specs.Acting.{allBound, finishes, raises, orRaises, enters, itself, goesOn, joins, combines, arms, itsOwn, replaces, performs, stepIn, stepAmong}
 use Rattle.machine.specs.Fit.{awaits}
 use Rattle.undoing.specs.Ties.{Place, nameOf}
 use Rattle.undoing.specs.Answered.{isSure, hasAll, surely, surelyAmong, without}
@@ -35,6 +35,12 @@ use Rattle.undoing.proofs.Combining.{OneAs, quiet-told, quiet-found, ar
 use Rattle.undoing.proofs.Stepping.{step-is, among-is, steps, steps-one, steps-all}
 use Rattle.undoing.proofs.Sure.{leftIn, leftInTurn, leftOfAll, off-below, off-above, surely-off-in, surely-none, surely-none-in, left-off, turn-off, all-off, left-quiet, left-agree, all-same, surelyAfter, Comes, after-comes}
 use Rattle.undoing.proofs.Sure as sure
+
+-- the definition, by where the step is, of a step that is an activity's own
+pub own-is : (own : Own) (within : Acts) (k t : ℕ) (o : Order) (b : Bool) → eqb k t ≡ b
+    → stepIn itsOwn (act own within) k t o ≡ elim b [ true ↦ itself own within k o | false ↦ combines own within k t (stepAmong itsOwn within (k + 1) t (arms own within k t o)) ]
+unfolding performs replaces
+own-is own within k t o b e = step-is itsOwn own within k t o b e
 
 -- What is left of a tree after a step t in it, of which it was so much before.
 abbrev pub LessAs : (left : List ℕ → List ℕ) (t : ℕ) (ms ns : List ℕ) → Result → Type 0
@@ -334,12 +340,12 @@ sure-runs scope within k y (run-turned _ _) = absurd (no-scope y)
 module _ (p : Plan) (distinct : Distinct p) where
   -- An activity other than a scope that runs, by what stands within it.
   module _ {x : Place} (within : Acts) (k t : ℕ) (o : Order) (b : Bool) (d : Before (nameOf x) k) (f : Fit x o) (l : SitsIn p x within (k + 1)) (m : k + (1 + sizes within) ≤ length (o .marks)) (e : b ≡ false)
-      (i : (c : Bool) → WaitsIn (o .marks) within (k + 1) t c → c ≡ false → One (o .marks) within (k + 1) → TurnAs within (k + 1) t (o .marks) (stepAmong within (k + 1) t o .order .marks) (stepAmong within (k + 1) t o .result))
-      (j : (c : Bool) → WaitsIn (o .marks) within (k + 1) t c → c ≡ false → All (o .marks) within (k + 1) → AllLessAs within (k + 1) t (o .marks) (stepAmong within (k + 1) t o .order .marks) (stepAmong within (k + 1) t o .result)) where
+      (i : (c : Bool) → WaitsIn (o .marks) within (k + 1) t c → c ≡ false → One (o .marks) within (k + 1) → TurnAs within (k + 1) t (o .marks) (stepAmong itsOwn within (k + 1) t o .order .marks) (stepAmong itsOwn within (k + 1) t o .result))
+      (j : (c : Bool) → WaitsIn (o .marks) within (k + 1) t c → c ≡ false → All (o .marks) within (k + 1) → AllLessAs within (k + 1) t (o .marks) (stepAmong itsOwn within (k + 1) t o .order .marks) (stepAmong itsOwn within (k + 1) t o .result)) where
     -- one that is sure to have its step
-    sure-less : (own : Own) → isSure own ≡ true → least own ≤ count within → Waits (o .marks) (act own within) k t b → SureRun (o .marks) own within k → Lessens (act own within) k t (o .marks) (stepIn (act own within) k t o)
+    sure-less : (own : Own) → isSure own ≡ true → least own ≤ count within → Waits (o .marks) (act own within) k t b → SureRun (o .marks) own within k → Lessens (act own within) k t (o .marks) (stepIn itsOwn (act own within) k t o)
     sure-less own y g (waits-itself z a) (sure-awaits c q) =
-        subst (λ (v : Outcome). Lessens (act own within) k t (o .marks) v) (sym (step-is own within k t o true (eq-eqb k t z)))
+        subst (λ (v : Outcome). Lessens (act own within) k t (o .marks) v) (sym (own-is own within k t o true (eq-eqb k t z)))
         (subst (λ (v : ℕ). Lessens (act own within) k v (o .marks) (itself own within k o)) z
         (done-less p (leftIn (act own within) k) k (o .marks) (itself own within k o .order .marks) (itself own within k o .result) (λ ms. sure-left own within k ms y) c (sure-done p own within k o y g d f l q m)))
     sure-less own y g (waits-itself z a) (sure-one c q) =
@@ -347,14 +353,14 @@ module _ (p : Plan) (distinct : Distinct p) where
     sure-less own y g (waits-within h z) (sure-awaits c q) = absurd (quiet-waits-in z (rw (surely-so own y .shut)) q)
     sure-less own y g (waits-within h z) (sure-one c q) =
         let v : opens own (getD (o .marks) k 0) ≡ false = rw (surely-so own y .shut) in
-        let a = steps-one p distinct l t o (opens own (getD (o .marks) k 0)) z v q f (omega arith) in
+        let a = steps-one p distinct itsOwn l t o (opens own (getD (o .marks) k 0)) z v q f (omega arith) in
         subst (λ (u : Outcome). Lessens (act own within) k t (o .marks) u)
-        (sym (step-is own within k t o false (ne-eqb k t (omega arith)) ∙ ap (λ (u : Order). combines own within k t (stepAmong within (k + 1) t u)) (arms-held own within k t o c)))
-        (kept-less (leftIn (act own within) k) k t (o .marks) (stepAmong within (k + 1) t o .order .marks) (combines own within k t (stepAmong within (k + 1) t o) .order .marks) (combines own within k t (stepAmong within (k + 1) t o) .result) (λ ms. sure-left own within k ms y)
-        (ap (λ (u : ℕ). eqb u active) c ∙ surely-so own y .held) (a .kept .below k (omega arith)) (sure-keeps own within k t (stepAmong within (k + 1) t o) y))
+        (sym (own-is own within k t o false (ne-eqb k t (omega arith)) ∙ ap (λ (u : Order). combines own within k t (stepAmong itsOwn within (k + 1) t u)) (arms-held own within k t o c)))
+        (kept-less (leftIn (act own within) k) k t (o .marks) (stepAmong itsOwn within (k + 1) t o .order .marks) (combines own within k t (stepAmong itsOwn within (k + 1) t o) .order .marks) (combines own within k t (stepAmong itsOwn within (k + 1) t o) .result) (λ ms. sure-left own within k ms y)
+        (ap (λ (u : ℕ). eqb u active) c ∙ surely-so own y .held) (a .kept .below k (omega arith)) (sure-keeps own within k t (stepAmong itsOwn within (k + 1) t o) y))
 
     -- a sequence
-    one-over : (z : Result) → z ≡ over → OneAs p within (k + 1) t o (stepAmong within (k + 1) t o .log) (stepAmong within (k + 1) t o .order) z → Quiet (stepAmong within (k + 1) t o .order .marks) (k + 1) (sizes within)
+    one-over : (z : Result) → z ≡ over → OneAs p within (k + 1) t o (stepAmong itsOwn within (k + 1) t o .log) (stepAmong itsOwn within (k + 1) t o .order) z → Quiet (stepAmong itsOwn within (k + 1) t o .order .marks) (k + 1) (sizes within)
     one-over running v c = absurd (let z : _≡_ {A = ℕ} 0 1 = cc in omega arith)
     one-over over v c = c .0
     one-over raising v c = absurd (let z : _≡_ {A = ℕ} 0 1 = cc in omega arith)
@@ -362,52 +368,52 @@ module _ (p : Plan) (distinct : Distinct p) where
     one-over undone v c = absurd c
     one-over undoRaising v c = absurd c
 
-    in-sequence : Waits (o .marks) (act sequence within) k t b → Run (o .marks) (act sequence within) k → Lessens (act sequence within) k t (o .marks) (stepIn (act sequence within) k t o)
+    in-sequence : Waits (o .marks) (act sequence within) k t b → Run (o .marks) (act sequence within) k → Lessens (act sequence within) k t (o .marks) (stepIn itsOwn (act sequence within) k t o)
     unfolding leftIn itself isDoer kind
     in-sequence (waits-itself z a) q =
-        subst (λ (v : Outcome). Lessens (act sequence within) k t (o .marks) v) (sym (step-is sequence within k t o true (eq-eqb k t z)))
+        subst (λ (v : Outcome). Lessens (act sequence within) k t (o .marks) v) (sym (own-is sequence within k t o true (eq-eqb k t z)))
         (sym (turn-off within (k + 1) t (o .marks) (off-below t (k + 1) (sizes within) (omega arith))))
     in-sequence (waits-within h z) (run-awaits _ y _ _) = absurd (false≢true y)
     in-sequence (waits-within h z) (run-one s₁ c q) =
-        let a = steps-one p distinct l t o _ z refl q f (omega arith) in
+        let a = steps-one p distinct itsOwn l t o _ z refl q f (omega arith) in
         subst (λ (u : Outcome). Lessens (act sequence within) k t (o .marks) u)
-        (sym (step-is sequence within k t o false (ne-eqb k t (omega arith)) ∙ ap (λ (u : Order). combines sequence within k t (stepAmong within (k + 1) t u)) (arms-held sequence within k t o c)))
-        (turn-less p within k t o (stepAmong within (k + 1) t o) f d l m (a .kept) (a .rooted) c (stepAmong within (k + 1) t o .result)
-        (λ v. one-over (stepAmong within (k + 1) t o .result) v (a .comes)) (i _ z refl q))
+        (sym (own-is sequence within k t o false (ne-eqb k t (omega arith)) ∙ ap (λ (u : Order). combines sequence within k t (stepAmong itsOwn within (k + 1) t u)) (arms-held sequence within k t o c)))
+        (turn-less p within k t o (stepAmong itsOwn within (k + 1) t o) f d l m (a .kept) (a .rooted) c (stepAmong itsOwn within (k + 1) t o .result)
+        (λ v. one-over (stepAmong itsOwn within (k + 1) t o .result) v (a .comes)) (i _ z refl q))
 
     -- a flow
-    beside : {v : Bool} → k < t → WaitsIn (o .marks) within (k + 1) t v → v ≡ false → getD (o .marks) k 0 ≡ active → All (o .marks) within (k + 1) → Lessens (act flow within) k t (o .marks) (stepIn (act flow within) k t o)
+    beside : {v : Bool} → k < t → WaitsIn (o .marks) within (k + 1) t v → v ≡ false → getD (o .marks) k 0 ≡ active → All (o .marks) within (k + 1) → Lessens (act flow within) k t (o .marks) (stepIn itsOwn (act flow within) k t o)
     unfolding leftIn
     beside {v} h z u c q =
-        let a = steps-all p distinct l t o v z u q f (omega arith) in
+        let a = steps-all p distinct itsOwn l t o v z u q f (omega arith) in
         subst (λ (u : Outcome). Lessens (act flow within) k t (o .marks) u)
-        (sym (step-is flow within k t o false (ne-eqb k t (omega arith)) ∙ ap (λ (u : Order). combines flow within k t (stepAmong within (k + 1) t u)) (arms-held flow within k t o c)))
-        (flow-less p within k t o (stepAmong within (k + 1) t o) f d l m (a .kept) (a .rooted) c (stepAmong within (k + 1) t o .result) (j v z u q))
+        (sym (own-is flow within k t o false (ne-eqb k t (omega arith)) ∙ ap (λ (u : Order). combines flow within k t (stepAmong itsOwn within (k + 1) t u)) (arms-held flow within k t o c)))
+        (flow-less p within k t o (stepAmong itsOwn within (k + 1) t o) f d l m (a .kept) (a .rooted) c (stepAmong itsOwn within (k + 1) t o .result) (j v z u q))
 
-    in-flow : Waits (o .marks) (act flow within) k t b → Run (o .marks) (act flow within) k → Lessens (act flow within) k t (o .marks) (stepIn (act flow within) k t o)
+    in-flow : Waits (o .marks) (act flow within) k t b → Run (o .marks) (act flow within) k → Lessens (act flow within) k t (o .marks) (stepIn itsOwn (act flow within) k t o)
     unfolding leftIn itself isDoer kind
     in-flow (waits-itself z a) q =
-        subst (λ (v : Outcome). Lessens (act flow within) k t (o .marks) v) (sym (step-is flow within k t o true (eq-eqb k t z)))
+        subst (λ (v : Outcome). Lessens (act flow within) k t (o .marks) v) (sym (own-is flow within k t o true (eq-eqb k t z)))
         (sym (all-off within (k + 1) t (o .marks) (off-below t (k + 1) (sizes within) (omega arith))))
     in-flow (waits-within h z) (run-awaits _ y _ _) = absurd (false≢true y)
     in-flow (waits-within h z) (run-one s₁ c q) = beside h z refl c (one-each q)
     in-flow (waits-within h z) (run-all c q _) = beside h z refl c q
 
-    part-less : (own : Own) → least own ≤ count within → Waits (o .marks) (act own within) k t b → Run (o .marks) (act own within) k → Lessens (act own within) k t (o .marks) (stepIn (act own within) k t o)
+    part-less : (own : Own) → least own ≤ count within → Waits (o .marks) (act own within) k t b → Run (o .marks) (act own within) k → Lessens (act own within) k t (o .marks) (stepIn itsOwn (act own within) k t o)
     unfolding isSure leftIn
-    part-less empty g w r = nothing-less (leftIn (act empty within) k) t (o .marks) (stepIn (act empty within) k t o .order .marks) (stepIn (act empty within) k t o .result) (λ ms. refl)
+    part-less empty g w r = nothing-less (leftIn (act empty within) k) t (o .marks) (stepIn itsOwn (act empty within) k t o .order .marks) (stepIn itsOwn (act empty within) k t o .result) (λ ms. refl)
     part-less (send y z vs) g w r = sure-less (send y z vs) refl g w (sure-runs (send y z vs) within k refl r)
     part-less (receive y z vs) g w r = sure-less (receive y z vs) refl g w (sure-runs (receive y z vs) within k refl r)
     part-less (setting v y) g w r = sure-less (setting v y) refl g w (sure-runs (setting v y) within k refl r)
     part-less raise g w r = sure-less raise refl g w (sure-runs raise within k refl r)
     part-less leave g w r = sure-less leave refl g w (sure-runs leave within k refl r)
     part-less (choose y) g w r = sure-less (choose y) refl g w (sure-runs (choose y) within k refl r)
-    part-less (repeat y) g w r = nothing-less (leftIn (act (repeat y) within) k) t (o .marks) (stepIn (act (repeat y) within) k t o .order .marks) (stepIn (act (repeat y) within) k t o .result) (λ ms. refl)
+    part-less (repeat y) g w r = nothing-less (leftIn (act (repeat y) within) k) t (o .marks) (stepIn itsOwn (act (repeat y) within) k t o .order .marks) (stepIn itsOwn (act (repeat y) within) k t o .result) (λ ms. refl)
     part-less sequence g w r = in-sequence w r
     part-less flow g w r = in-flow w r
-    part-less pick g w r = nothing-less (leftIn (act pick within) k) t (o .marks) (stepIn (act pick within) k t o .order .marks) (stepIn (act pick within) k t o .result) (λ ms. refl)
-    part-less scope g w r = nothing-less (leftIn (act scope within) k) t (o .marks) (stepIn (act scope within) k t o .order .marks) (stepIn (act scope within) k t o .result) (λ ms. refl)
-    part-less (arm y z vs) g w r = nothing-less (leftIn (act (arm y z vs) within) k) t (o .marks) (stepIn (act (arm y z vs) within) k t o .order .marks) (stepIn (act (arm y z vs) within) k t o .result) (λ ms. refl)
+    part-less pick g w r = nothing-less (leftIn (act pick within) k) t (o .marks) (stepIn itsOwn (act pick within) k t o .order .marks) (stepIn itsOwn (act pick within) k t o .result) (λ ms. refl)
+    part-less scope g w r = nothing-less (leftIn (act scope within) k) t (o .marks) (stepIn itsOwn (act scope within) k t o .order .marks) (stepIn itsOwn (act scope within) k t o .result) (λ ms. refl)
+    part-less (arm y z vs) g w r = nothing-less (leftIn (act (arm y z vs) within) k) t (o .marks) (stepIn itsOwn (act (arm y z vs) within) k t o .order .marks) (stepIn itsOwn (act (arm y z vs) within) k t o .result) (λ ms. refl)
 
   -- in a list, where the one that runs has the step
   module _ (a : Act) (l : Acts) (c t : ℕ) (o : Order) (r : Outcome) where
@@ -456,51 +462,51 @@ module _ (p : Plan) (distinct : Distinct p) where
     later-all-less h g undoRaising y = tt
 
   -- a scope has no sure step of its own
-  scope-less : (b f u : Act) (k t : ℕ) (o : Order) → Lessens (act scope (trio b f u)) k t (o .marks) (stepIn (act scope (trio b f u)) k t o)
+  scope-less : (b f u : Act) (k t : ℕ) (o : Order) → Lessens (act scope (trio b f u)) k t (o .marks) (stepIn itsOwn (act scope (trio b f u)) k t o)
   unfolding leftIn
-  scope-less b f u k t o = nothing-less (leftIn (act scope (trio b f u)) k) t (o .marks) (stepIn (act scope (trio b f u)) k t o .order .marks) (stepIn (act scope (trio b f u)) k t o .result) (λ ms. refl)
+  scope-less b f u k t o = nothing-less (leftIn (act scope (trio b f u)) k) t (o .marks) (stepIn itsOwn (act scope (trio b f u)) k t o .order .marks) (stepIn itsOwn (act scope (trio b f u)) k t o .result) (λ ms. refl)
 
   -- Every step in a tree that runs.
   mutual
     unfolding size
 
     less : {x : Place} {a : Act} {k : ℕ} → Sits p x a k → (t : ℕ) (o : Order) (b : Bool) → Waits (o .marks) a k t b → b ≡ false → Run (o .marks) a k
-        → Fit x o → k + size a ≤ length (o .marks) → Lessens a k t (o .marks) (stepIn a k t o)
+        → Fit x o → k + size a ≤ length (o .marks) → Lessens a k t (o .marks) (stepIn itsOwn a k t o)
     less (sits-part {q = x} {own} {within} {k} s g u y l) t o b w e r v m =
         part-less within k t o b (u .before) v l m e (λ c w₁ e₁ r₁. less-one l t o c w₁ e₁ r₁ v (omega arith)) (λ c w₁ e₁ r₁. less-all l t o c w₁ e₁ r₁ v (omega arith)) own g w r
     less (sits-scope {n} {c} {b} {f} {u} {k} kn d i sb z sf su) t o b′ w e r v m = scope-less b f u k t o
 
     less-one : {x : Place} {l : Acts} {c : ℕ} → SitsIn p x l c → (t : ℕ) (o : Order) (b : Bool) → WaitsIn (o .marks) l c t b → b ≡ false → One (o .marks) l c
-        → Fit x o → c + sizes l ≤ length (o .marks) → TurnAs l c t (o .marks) (stepAmong l c t o .order .marks) (stepAmong l c t o .result)
+        → Fit x o → c + sizes l ≤ length (o .marks) → TurnAs l c t (o .marks) (stepAmong itsOwn l c t o .order .marks) (stepAmong itsOwn l c t o .result)
     less-one (sits-more {q = x} {a} {l} {c} s y) t o b (waits-first h w) e (one-here r q) v m =
-        subst (λ (z : Outcome). TurnAs (more a l) c t (o .marks) (z .order .marks) (z .result)) (sym (among-is a l c t o true (lt-ltb t (c + size a) h)))
-        (first-turn a l c t o (stepIn a c t o) h r (stepIn a c t o .result) (steps p distinct s t o b w e r v (omega arith) .comes) (less s t o b w e r v (omega arith)))
+        subst (λ (z : Outcome). TurnAs (more a l) c t (o .marks) (z .order .marks) (z .result)) (sym (among-is itsOwn a l c t o true (lt-ltb t (c + size a) h)))
+        (first-turn a l c t o (stepIn itsOwn a c t o) h r (stepIn itsOwn a c t o .result) (steps p distinct itsOwn s t o b w e r v (omega arith) .comes) (less s t o b w e r v (omega arith)))
     less-one (sits-more {q = x} {a} {l} {c} s y) t o b (waits-later h w) e (one-here r q) v m = absurd (quiet-waits-in w e q)
     less-one (sits-more {q = x} {a} {l} {c} s y) t o b (waits-first h w) e (one-later q r) v m = absurd (quiet-waits w e q)
     less-one (sits-more {q = x} {a} {l} {c} s y) t o b (waits-later h w) e (one-later q r) v m =
-        subst (λ (z : Outcome). TurnAs (more a l) c t (o .marks) (z .order .marks) (z .result)) (sym (among-is a l c t o false (le-ltb t (c + size a) h)))
-        (later-turn a l c t o (stepAmong l (c + size a) t o) h q (quiet-agree q (agree-below (steps-one p distinct y t o b w e r v (omega arith) .kept) (omega arith))) (stepAmong l (c + size a) t o .result)
+        subst (λ (z : Outcome). TurnAs (more a l) c t (o .marks) (z .order .marks) (z .result)) (sym (among-is itsOwn a l c t o false (le-ltb t (c + size a) h)))
+        (later-turn a l c t o (stepAmong itsOwn l (c + size a) t o) h q (quiet-agree q (agree-below (steps-one p distinct itsOwn y t o b w e r v (omega arith) .kept) (omega arith))) (stepAmong itsOwn l (c + size a) t o .result)
         (less-one y t o b w e r v (omega arith)))
 
     less-all : {x : Place} {l : Acts} {c : ℕ} → SitsIn p x l c → (t : ℕ) (o : Order) (b : Bool) → WaitsIn (o .marks) l c t b → b ≡ false → All (o .marks) l c
-        → Fit x o → c + sizes l ≤ length (o .marks) → AllLessAs l c t (o .marks) (stepAmong l c t o .order .marks) (stepAmong l c t o .result)
+        → Fit x o → c + sizes l ≤ length (o .marks) → AllLessAs l c t (o .marks) (stepAmong itsOwn l c t o .order .marks) (stepAmong itsOwn l c t o .result)
     less-all (sits-more {q = x} {a} {l} {c} s y) t o b (waits-first h w) e (all-run r q) v m =
-        let z = steps p distinct s t o b w e r v (omega arith) in
-        subst (λ (z : Outcome). AllLessAs (more a l) c t (o .marks) (z .order .marks) (z .result)) (sym (among-is a l c t o true (lt-ltb t (c + size a) h)))
-        (first-all-less a l c t o (stepIn a c t o) h (all-same l (c + size a) (o .marks) (stepIn a c t o .order .marks) (agree-above (z .kept) (omega arith))) (stepIn a c t o .result) (z .comes) (less s t o b w e r v (omega arith)))
+        let z = steps p distinct itsOwn s t o b w e r v (omega arith) in
+        subst (λ (z : Outcome). AllLessAs (more a l) c t (o .marks) (z .order .marks) (z .result)) (sym (among-is itsOwn a l c t o true (lt-ltb t (c + size a) h)))
+        (first-all-less a l c t o (stepIn itsOwn a c t o) h (all-same l (c + size a) (o .marks) (stepIn itsOwn a c t o .order .marks) (agree-above (z .kept) (omega arith))) (stepIn itsOwn a c t o .result) (z .comes) (less s t o b w e r v (omega arith)))
     less-all (sits-more {q = x} {a} {l} {c} s y) t o b (waits-first h w) e (all-quiet q r) v m = absurd (quiet-waits w e q)
     less-all (sits-more {q = x} {a} {l} {c} s y) t o b (waits-later h w) e (all-run r q) v m =
-        subst (λ (z : Outcome). AllLessAs (more a l) c t (o .marks) (z .order .marks) (z .result)) (sym (among-is a l c t o false (le-ltb t (c + size a) h)))
-        (later-all-less a l c t o (stepAmong l (c + size a) t o) h (left-agree a c (o .marks) (stepAmong l (c + size a) t o .order .marks) (agree-below (steps-all p distinct y t o b w e q v (omega arith) .kept) (omega arith)))
-        (stepAmong l (c + size a) t o .result) (less-all y t o b w e q v (omega arith)))
+        subst (λ (z : Outcome). AllLessAs (more a l) c t (o .marks) (z .order .marks) (z .result)) (sym (among-is itsOwn a l c t o false (le-ltb t (c + size a) h)))
+        (later-all-less a l c t o (stepAmong itsOwn l (c + size a) t o) h (left-agree a c (o .marks) (stepAmong itsOwn l (c + size a) t o .order .marks) (agree-below (steps-all p distinct itsOwn y t o b w e q v (omega arith) .kept) (omega arith)))
+        (stepAmong itsOwn l (c + size a) t o .result) (less-all y t o b w e q v (omega arith)))
     less-all (sits-more {q = x} {a} {l} {c} s y) t o b (waits-later h w) e (all-quiet q r) v m =
-        subst (λ (z : Outcome). AllLessAs (more a l) c t (o .marks) (z .order .marks) (z .result)) (sym (among-is a l c t o false (le-ltb t (c + size a) h)))
-        (later-all-less a l c t o (stepAmong l (c + size a) t o) h (left-agree a c (o .marks) (stepAmong l (c + size a) t o .order .marks) (agree-below (steps-all p distinct y t o b w e r v (omega arith) .kept) (omega arith)))
-        (stepAmong l (c + size a) t o .result) (less-all y t o b w e r v (omega arith)))
+        subst (λ (z : Outcome). AllLessAs (more a l) c t (o .marks) (z .order .marks) (z .result)) (sym (among-is itsOwn a l c t o false (le-ltb t (c + size a) h)))
+        (later-all-less a l c t o (stepAmong itsOwn l (c + size a) t o) h (left-agree a c (o .marks) (stepAmong itsOwn l (c + size a) t o .order .marks) (agree-below (steps-all p distinct itsOwn y t o b w e r v (omega arith) .kept) (omega arith)))
+        (stepAmong itsOwn l (c + size a) t o .result) (less-all y t o b w e r v (omega arith)))
 
   -- in an undo part
   pub remedy-less : {x : Place} {a : Act} {k : ℕ} → Remedy p x a k → (t : ℕ) (o : Order) (b : Bool) → Waits (o .marks) a k t b → b ≡ false → Run (o .marks) a k
-      → Fit x o → k + size a ≤ length (o .marks) → Lessens a k t (o .marks) (stepIn a k t o)
+      → Fit x o → k + size a ≤ length (o .marks) → Lessens a k t (o .marks) (stepIn itsOwn a k t o)
   unfolding size
   remedy-less (remedy {q = x} {own} {within} {k} s a g u z l d) t o b w e r v m =
       part-less within k t o b (u .before) v l m e (λ c w₁ e₁ r₁. less-one l t o c w₁ e₁ r₁ v (omega arith)) (λ c w₁ e₁ r₁. less-all l t o c w₁ e₁ r₁ v (omega arith)) own g w r

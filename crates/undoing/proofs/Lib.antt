@@ -72,6 +72,7 @@ pub mod Sure
 pub mod Lessening
 pub mod Owing
 pub mod Repaying
+pub mod Upsetting
 pub mod Pushing
 pub mod Booked
 pub mod TakenBack

@@ -14,16 +14,16 @@ use Rattle.order.specs.Begin.{beginAfter, beginPart, part, partAt, cleared, qui
 use Rattle.order.specs.declared.Way.{Way as Result}
 use Rattle.order.specs.declared.Way.the-variants.{Running as running, Over as over, Raising as raising, Leaving as leaving, Undone as undone, UndoRaising as undoRaising}
 use Rattle.order.specs.Scope.{Outcome, runs, after, begunIn, whereOver, isScope, directly, undo}
-use Rattle.order.specs.Acting.{allBound, finishes, raises, leaves, orRaises, again, repeats, itself, goesOn, joins, combines, arms, isPart, stepIn, stepAmong}
+use Rattle.order.specs.Acting.{allBound, finishes, raises, leaves, orRaises, again, repeats, itself, goesOn, joins, combines, arms, isPart, itsOwn, stepIn, stepAmong}
 use Rattle.undoing.specs.Ties.{Place}
 use Rattle.undoing.specs.Answered.{without}
 use Rattle.undoing.proofs.Parts.{both, decide}
 use Rattle.undoing.proofs.Marks.{trio, Quiet, Run, run-awaits, run-one, run-all, run-body, run-done, run-turned, All, all-run, all-quiet, Stopped, stopped-part, stopped-quiet, stopped-scope, StoppedIn, stopped-more, quiet-part}
 use Rattle.undoing.proofs.Orders.{bare, bareIn, Sits, sits-part, sits-scope, SitsIn, sits-none, sits-more}
 use Rattle.undoing.proofs.Beginning.{quiet-all}
-use Rattle.undoing.proofs.Stepping.{step-is, among-is}
+use Rattle.undoing.proofs.Stepping.{among-is}
 use Rattle.undoing.proofs.Sure.{leftIn, left-quiet}
-use Rattle.undoing.proofs.Lessening.{one-each}
+use Rattle.undoing.proofs.Lessening.{own-is, one-each}
 
 -- A step in a tree without scopes leaves what is remembered.
 
@@ -113,26 +113,26 @@ closings-arms own within k t o = go (eqb (kind own) 10 && isPart within (k + 1) 
     go true = refl
     go false = refl
 
-closings-none : (c t : ℕ) (o : Order) → closings (stepAmong none c t o .order) ≡ closings o
+closings-none : (c t : ℕ) (o : Order) → closings (stepAmong itsOwn none c t o .order) ≡ closings o
 unfolding stepIn
 closings-none c t o = refl
 
 mutual
   unfolding bare
 
-  pub closings-step : (a : Act) (k t : ℕ) (o : Order) → bare a ≡ true → closings (stepIn a k t o .order) ≡ closings o
+  pub closings-step : (a : Act) (k t : ℕ) (o : Order) → bare a ≡ true → closings (stepIn itsOwn a k t o .order) ≡ closings o
   closings-step (act own within) k t o b =
       both (not (isScope own)) (bareIn within) b (λ x y. decide (eqb k t)
-      (λ e. ap (λ (r : Outcome). closings (r .order)) (step-is own within k t o true e) ∙ closings-itself own within k o (not-true (isScope own) x))
-      (λ e. ap (λ (r : Outcome). closings (r .order)) (step-is own within k t o false e)
+      (λ e. ap (λ (r : Outcome). closings (r .order)) (own-is own within k t o true e) ∙ closings-itself own within k o (not-true (isScope own) x))
+      (λ e. ap (λ (r : Outcome). closings (r .order)) (own-is own within k t o false e)
       ∙ (closings-combines own within k t _ (not-true (isScope own) x) ∙ (closings-among within (k + 1) t (arms own within k t o) y ∙ closings-arms own within k t o))))
 
-  closings-among : (l : Acts) (c t : ℕ) (o : Order) → bareIn l ≡ true → closings (stepAmong l c t o .order) ≡ closings o
+  closings-among : (l : Acts) (c t : ℕ) (o : Order) → bareIn l ≡ true → closings (stepAmong itsOwn l c t o .order) ≡ closings o
   closings-among none c t o b = closings-none c t o
   closings-among (more a l) c t o b =
       both (bare a) (bareIn l) b (λ x y. decide (ltb t (c + size a))
-      (λ e. ap (λ (r : Outcome). closings (r .order)) (among-is a l c t o true e) ∙ closings-step a c t o x)
-      (λ e. ap (λ (r : Outcome). closings (r .order)) (among-is a l c t o false e) ∙ closings-among l (c + size a) t o y))
+      (λ e. ap (λ (r : Outcome). closings (r .order)) (among-is itsOwn a l c t o true e) ∙ closings-step a c t o x)
+      (λ e. ap (λ (r : Outcome). closings (r .order)) (among-is itsOwn a l c t o false e) ∙ closings-among l (c + size a) t o y))
 
 -- What is to come of the undo parts that run, of the scopes directly in a tree.
 unfoldable mutual

@@ -1,5 +1,5 @@
 -- What closes directly inside the root with a step, by its log: the step itself, where it is the close of such a scope. Assumes nothing.
-use Prim.Native.Nat.{ℕ, _+_}
+use Prim.Native.Nat.{ℕ, _+_, _<_}
 use native.Mathlib.Omega.{arith}
 use mathlib.Core.Path.{_≡_, refl, sym, ap, subst, _∙_}
 use mathlib.Core.Bool.{Bool, true, false, cond, not, false≢true}
@@ -13,7 +13,7 @@ use Rattle.order.specs.State.{root}
 use Rattle.order.specs.Expression.{evaluate}
 use Rattle.order.specs.Event.{Event, started, began, closed, faulted, stopped, ended, raised, left}
 use Rattle.order.specs.Scope.{rootOf, directly, directlyIn}
-use Rattle.order.specs.Acting.{allBound, stepIn}
+use Rattle.order.specs.Acting.{allBound, Actor, itsOwn, inPlace, stepIn}
 use Rattle.undoing.specs.Demand3.{insideOf, isBegin, closedBy, closingsOf}
 use Rattle.undoing.specs.Ties.{Place, nameOf, isDeed, isFault, raisedIf, deedOf, deedIn, deedAmong}
 use Rattle.undoing.specs.Answered.{isClose}
@@ -22,7 +22,8 @@ use Rattle.undoing.proofs.Accounts.{Account, account-next}
 use Rattle.undoing.proofs.Marks.{trio}
 use Rattle.undoing.proofs.Orders.{onto, innerAt, Sits, sits-part, sits-scope, SitsIn, sits-none, sits-more}
 use Rattle.undoing.proofs.Seats.{Seat, directly-is, directly-range, directly-range-in, directly-directs, number-inside}
-use Rattle.undoing.proofs.Deeds.{step-deeds}
+use Rattle.undoing.proofs.Deeds.{step-deeds, raise-deeds}
+use Rattle.undoing.proofs.Judged.{isTake, Fitting, doing-body}
 use Rattle.undoing.proofs.Ending.{isStart, start-kept, deed-in-starts}
 use Rattle.undoing.proofs.Repaying.{none-directly, later-directly, direct-scope}
 
@@ -154,8 +155,18 @@ module _ (p : Plan) where
       ap (λ (l : List Event). closedOnto l c) (close-deed (p .body) 0 t o (h .body) d) ∙ rw (e, close-one (p .body) 0 t (h .body) d))
       (λ e. rw e (other-deed (p .body) 0 t o c (none-closed t e)))
 
-  -- the closings after it
-  pub step-closings : Seat p (rootOf p) → (t : ℕ) (o : Order) (past : List Event) → closingsOf p root (onto (stepIn (p .body) 0 t o .log) past) ≡ cond (isClose p root t) (t ∷ closingsOf p root past) (closingsOf p root past)
-  step-closings h t o past =
-      onto-closings (stepIn (p .body) 0 t o .log) past (start-kept (stepIn (p .body) 0 t o .log) ∙ (ap (some isStart) (step-deeds (p .body) 0 t o) ∙ deed-in-starts (p .body) 0 t o))
+  -- The closings after it, and after a raise in place of a receive, which closes nothing.
+  abbrev pub closedWith : Actor → (t : ℕ) → List ℕ → List ℕ
+  closedWith itsOwn t c = cond (isClose p root t) (t ∷ c) c
+  closedWith inPlace t c = c
+
+  pub step-closings : Seat p (rootOf p) → (actor : Actor) (t : ℕ) (o : Order) (past : List Event) → Fitting actor p t → t < size (p .body)
+      → closingsOf p root (onto (stepIn actor (p .body) 0 t o .log) past) ≡ closedWith actor t (closingsOf p root past)
+  unfolding some isStart
+  step-closings h itsOwn t o past w e =
+      onto-closings (stepIn itsOwn (p .body) 0 t o .log) past (start-kept (stepIn itsOwn (p .body) 0 t o .log) ∙ (ap (some isStart) (step-deeds (p .body) 0 t o) ∙ deed-in-starts (p .body) 0 t o))
       ∙ (ap (λ (l : List Event). closedOnto l (closingsOf p root past)) (step-deeds (p .body) 0 t o) ∙ step-pushes h t o (closingsOf p root past))
+  step-closings h inPlace t o past w e =
+      let d = raise-deeds (p .body) 0 t o (ap isTake (sym (doing-body p t e)) ∙ w) in
+      onto-closings (stepIn inPlace (p .body) 0 t o .log) past (start-kept (stepIn inPlace (p .body) 0 t o .log) ∙ ap (some isStart) d)
+      ∙ (ap (λ (l : List Event). closedOnto l (closingsOf p root past)) d ∙ nothing-closed t (closingsOf p root past))

@@ -17,7 +17,7 @@ use Rattle.order.specs.Begin.{Begun, begin, beginPart, part, partAt, quiet}
 use Rattle.order.specs.declared.Way.{Way as Result}
 use Rattle.order.specs.declared.Way.the-variants.{Running as running, Over as over, Raising as raising, Leaving as leaving, Undone as undone, UndoRaising as undoRaising}
 use Rattle.order.specs.Scope.{Outcome, after, begunIn, whereOver, Scope, isScope, directly, directlyIn, beginUndo, beginUndoIn, startUndo, undo, fromUndo}
-use Rattle.order.specs.Acting.{combines, stepIn, stepAmong}
+use Rattle.order.specs.Acting.{combines, itsOwn, stepIn, stepAmong}
 use Rattle.undoing.specs.Demand3.{Inner}
 use Rattle.undoing.specs.Ties.{Place, placeOf, bodyOf, undoOf, nameOf, aroundOf}
 use Rattle.undoing.specs.Answered.{surely, surelyAmong, backIn, backAmong, putting, without}
@@ -32,9 +32,9 @@ use Rattle.undoing.proofs.Waiting.{opens, Waits, waits-itself, waits-wi
 use Rattle.undoing.proofs.Breaking.{Distinct}
 use Rattle.undoing.proofs.Scoping.{RunAs}
 use Rattle.undoing.proofs.Combining.{arms-none, Idly, idly-same, idly-runs, combines-idly}
-use Rattle.undoing.proofs.Stepping.{Whole, step-is, among-is, undo-step, undoing-part-not, steps-undoing, steps-undoing-in, steps-part, UndoInAs}
+use Rattle.undoing.proofs.Stepping.{Whole, among-is, undo-step, undoing-part-not, steps-undoing, steps-undoing-in, steps-part, UndoInAs}
 use Rattle.undoing.proofs.Sure.{ofKind, surely-is, leftIn, leftInTurn, leftOfAll, Off, off-below, off-above, off-part, surely-none, Comes, remedy-comes}
-use Rattle.undoing.proofs.Lessening.{LessAs, remedy-less, due-left}
+use Rattle.undoing.proofs.Lessening.{own-is, LessAs, remedy-less, due-left}
 use Rattle.undoing.proofs.Owing.{not-scope, closings-step, undoLeftIn, undoLeftAmong, undo-left-is, undo-left-scope, undo-quiet, undo-quiet-in}
 
 -- the definition, by whether an activity is the scope
@@ -181,12 +181,12 @@ repays-up left t o r e n y = record { lists = e; less = go (r .result) n y }
     go undoRaising n y = tt
 
 -- what an idle activity other than a scope makes of it
-repays-idly : (p : Plan) (distinct : Distinct p) (n : Name) (left : List ℕ → List ℕ) (within : Acts) (k t : ℕ) (o : Order) (r r′ : Outcome) → Idly r r′ → UndoInAs p distinct n within (k + 1) t o (r .log) (r .order) (r .result)
+repays-idly : (p : Plan) (distinct : Distinct p) (n : Name) (left : List ℕ → List ℕ) (within : Acts) (k t : ℕ) (o : Order) (r r′ : Outcome) → Idly r r′ → UndoInAs p distinct itsOwn n within (k + 1) t o (r .log) (r .order) (r .result)
     → Repays left t o r → Repays left t o r′
 repays-idly p distinct n left within k t o r r′ (idly-same i) c w = subst (Repays left t o) (sym i) w
 repays-idly p distinct n left within k t o r r′ (idly-runs j i) c w = absurd (never (r .result) j c)
   where
-    never : (x : Result) → x ≡ over → UndoInAs p distinct n within (k + 1) t o (r .log) (r .order) x → ⊥
+    never : (x : Result) → x ≡ over → UndoInAs p distinct itsOwn n within (k + 1) t o (r .log) (r .order) x → ⊥
     never running i d = let z : _≡_ {A = ℕ} 0 1 = cc in omega arith
     never over i d = d
     never raising i d = d
@@ -201,16 +201,16 @@ no-less y z = omega arith
 module _ (p : Plan) (distinct : Distinct p) where
   scope-repays : {n a : Name} {c : Bool} (b f u : Act) (k t : ℕ) (o : Order) → Remedy p (undoOf n a) u (k + 1 + size b + size f)
       → Waits (o .marks) (act scope (trio b f u)) k t c → c ≡ false → Undoing (o .marks) (act scope (trio b f u)) k → Fit (undoOf n a) o → k + spread b f u ≤ length (o .marks)
-      → Repays (undoLeftIn (act scope (trio b f u)) k) t o (stepIn (act scope (trio b f u)) k t o)
+      → Repays (undoLeftIn (act scope (trio b f u)) k) t o (stepIn itsOwn (act scope (trio b f u)) k t o)
   unfolding Whole kind
   scope-repays b f u k t o su w c (undoing-part s x q) v m = absurd (not-scope s)
   scope-repays b f u k t o su (waits-itself e d) c (undoing-scope x q r) v m = absurd (no-less (undoing-waits (undoing-scope x q r) (waits-itself e d) c) e)
   scope-repays b f u k t o su (waits-within e (waits-first d w)) c (undoing-scope x q r) v m = absurd (quiet-waits w refl (quiet-part q (omega arith) (omega arith)))
   scope-repays b f u k t o su (waits-within e (waits-later d (waits-first y w))) c (undoing-scope x q r) v m = absurd (quiet-waits w refl (quiet-part q (omega arith) (omega arith)))
   scope-repays b f u k t o su (waits-within e (waits-later d (waits-later y (waits-first z w)))) c (undoing-scope x q r) v m =
-      subst (Repays (undoLeftIn (act scope (trio b f u)) k) t o) (sym (undo-step p distinct b f u k t o y z))
-      (repays-so (repays-up (leftIn u (k + 1 + size b + size f)) t o (stepIn u (k + 1 + size b + size f) t o) (closings-step u (k + 1 + size b + size f) t o (remedy-bare su))
-      (not-undone p u (k + 1 + size b + size f) t o _ _ (stepIn u (k + 1 + size b + size f) t o .result) (steps-part p distinct su t o _ w refl r v (omega arith) .comes))
+      subst (Repays (undoLeftIn (act scope (trio b f u)) k) t o) (sym (undo-step p distinct itsOwn b f u k t o y z))
+      (repays-so (repays-up (leftIn u (k + 1 + size b + size f)) t o (stepIn itsOwn u (k + 1 + size b + size f) t o) (closings-step u (k + 1 + size b + size f) t o (remedy-bare su))
+      (not-undone p u (k + 1 + size b + size f) t o _ _ (stepIn itsOwn u (k + 1 + size b + size f) t o .result) (steps-part p distinct itsOwn su t o _ w refl r v (omega arith) .comes))
       (remedy-less p distinct su t o _ w refl r v (omega arith)))
       (undo-left-scope b f u k (o .marks)) (undo-left-scope b f u k _))
 
@@ -218,30 +218,30 @@ module _ (p : Plan) (distinct : Distinct p) where
     unfolding size
 
     pub undo-repays : {x : Place} {a : Act} {k : ℕ} → Sits p x a k → (t : ℕ) (o : Order) (b : Bool) → Waits (o .marks) a k t b → b ≡ false → Undoing (o .marks) a k
-        → Fit (undoOf (nameOf x) (aroundOf x)) o → k + size a ≤ length (o .marks) → Repays (undoLeftIn a k) t o (stepIn a k t o)
+        → Fit (undoOf (nameOf x) (aroundOf x)) o → k + size a ≤ length (o .marks) → Repays (undoLeftIn a k) t o (stepIn itsOwn a k t o)
     undo-repays (sits-part {q = x} {own} {within} {k} s g u y l) t o b (waits-itself z d) e r v m = absurd (no-less (undoing-waits r (waits-itself z d) e) z)
     undo-repays (sits-part {q = x} {own} {within} {k} s g u y l) t o b (waits-within h w) e (undoing-part s₁ z r) v m =
         let i : opens own (getD (o .marks) k 0) ≡ false = opens-idle own (getD (o .marks) k 0) z in
-        let a = steps-undoing-in p distinct l t o _ w i r v (omega arith) in
-        let j = stepAmong within (k + 1) t o in
+        let a = steps-undoing-in p distinct itsOwn l t o _ w i r v (omega arith) in
+        let j = stepAmong itsOwn within (k + 1) t o in
         subst (Repays (undoLeftIn (act own within) k) t o)
-        (sym (step-is own within k t o false (ne-eqb k t (omega arith)) ∙ ap (λ (x : Order). combines own within k t (stepAmong within (k + 1) t x)) (arms-none own within k t o (undoing-part-not p distinct r w i))))
+        (sym (own-is own within k t o false (ne-eqb k t (omega arith)) ∙ ap (λ (x : Order). combines own within k t (stepAmong itsOwn within (k + 1) t x)) (arms-none own within k t o (undoing-part-not p distinct itsOwn r w i))))
         (repays-idly p distinct (nameOf x) (undoLeftIn (act own within) k) within k t o j (combines own within k t j) (combines-idly own within k t j s (a .kept .below k (omega arith) ∙ z)) (a .comes)
         (repays-so (undo-repays-in l t o _ w i r v (omega arith)) (undo-left-is own within k (o .marks) s) (undo-left-is own within k (j .order .marks) s)))
     undo-repays (sits-part {q = x} {own = scope} {within} {k} s g u y l) t o b (waits-within h w) e (undoing-scope _ _ _) v m = absurd (not-scope s)
     undo-repays (sits-scope {n} {c = a} {b} {f} {u} {k} kn d i sb z sf su) t o c w e r v m = scope-repays b f u k t o su w e r v m
 
     pub undo-repays-in : {x : Place} {l : Acts} {c : ℕ} → SitsIn p x l c → (t : ℕ) (o : Order) (b : Bool) → WaitsIn (o .marks) l c t b → b ≡ false → UndoingIn (o .marks) l c
-        → Fit (undoOf (nameOf x) (aroundOf x)) o → c + sizes l ≤ length (o .marks) → Repays (undoLeftAmong l c) t o (stepAmong l c t o)
+        → Fit (undoOf (nameOf x) (aroundOf x)) o → c + sizes l ≤ length (o .marks) → Repays (undoLeftAmong l c) t o (stepAmong itsOwn l c t o)
     undo-repays-in (sits-more {q = x} {a} {l} {c} s y) t o b (waits-first h w) e (undoing-here r q) v m =
-        let i = steps-undoing p distinct s t o b w e r v (omega arith) in
-        subst (Repays (undoLeftAmong (more a l) c) t o) (sym (among-is a l c t o true (lt-ltb t (c + size a) h)))
+        let i = steps-undoing p distinct itsOwn s t o b w e r v (omega arith) in
+        subst (Repays (undoLeftAmong (more a l) c) t o) (sym (among-is itsOwn a l c t o true (lt-ltb t (c + size a) h)))
         (repays-so (undo-repays s t o b w e r v (omega arith)) (first-left a l c (o .marks) (undo-quiet-in y (o .marks) q)) (first-left a l c _ (undo-quiet-in y _ (quiet-agree q (agree-above (i .kept) (omega arith))))))
     undo-repays-in (sits-more {q = x} {a} {l} {c} s y) t o b (waits-later h w) e (undoing-here r q) v m = absurd (quiet-waits-in w e q)
     undo-repays-in (sits-more {q = x} {a} {l} {c} s y) t o b (waits-first h w) e (undoing-later q r) v m = absurd (quiet-waits w e q)
     undo-repays-in (sits-more {q = x} {a} {l} {c} s y) t o b (waits-later h w) e (undoing-later q r) v m =
-        let i = steps-undoing-in p distinct y t o b w e r v (omega arith) in
-        subst (Repays (undoLeftAmong (more a l) c) t o) (sym (among-is a l c t o false (le-ltb t (c + size a) h)))
+        let i = steps-undoing-in p distinct itsOwn y t o b w e r v (omega arith) in
+        subst (Repays (undoLeftAmong (more a l) c) t o) (sym (among-is itsOwn a l c t o false (le-ltb t (c + size a) h)))
         (repays-so (undo-repays-in y t o b w e r v (omega arith)) (later-left a l c (o .marks) (undo-quiet s (o .marks) q)) (later-left a l c _ (undo-quiet s _ (quiet-agree q (agree-below (i .kept) (omega arith))))))
 
 -- one of two tests holds

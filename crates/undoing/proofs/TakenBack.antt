@@ -1,15 +1,15 @@
 -- What closed directly inside the root is taken back once for each closing, the latest first, by the answers alone, over any run. Assumes nothing.
-use Prim.Native.Nat.{ℕ, _+_, _≤_}
+use Prim.Native.Nat.{ℕ, zero, suc}
 use native.Mathlib.Omega.{arith}
 use mathlib.Core.Path.{_≡_, refl, sym, ap, subst, _∙_}
 use mathlib.Core.Bool.{Bool, true, false, cond, false≢true}
 use mathlib.Core.List.{List, [], _∷_, _++_}
-use lib.ListN.{length, getD}
+use lib.ListN.{getD}
 use lib.Dec.{eqb}
 use borrow.Author.Tests.{eqb-true}
 use Rattle.plan.specs.Found.{Found, found}
 use Rattle.plan.specs.Read.{readPlan}
-use Rattle.plan.specs.Tree.{Plan, size}
+use Rattle.plan.specs.Tree.{Plan}
 use Rattle.plan.proofs.Limits.{accepted-is-within}
 use Rattle.order.specs.declared.Order.{Order}
 use Rattle.order.specs.declared.End.{End}
@@ -18,30 +18,31 @@ use Rattle.machine.specs.declared.State.{State}
 use Rattle.machine.specs.declared.Step.{Step}
 use Rattle.machine.specs.declared.Tally.{Tally}
 use Rattle.order.specs.Lists.{only}
-use Rattle.order.specs.State.{root, done, halted, withdrawing, isLive, noOrder}
+use Rattle.order.specs.State.{root, done, isLive, noOrder}
 use Rattle.machine.specs.State.{fresh}
-use Rattle.machine.specs.Limits.{rootInLimits}
 use Rattle.order.specs.Event.{Event, started}
 use Rattle.order.specs.declared.Way.{Way as Result}
 use Rattle.order.specs.declared.Way.the-variants.{Running as running, Over as over, Raising as raising, Leaving as leaving, Undone as undone, UndoRaising as undoRaising}
 use Rattle.order.specs.Scope.{Outcome, rootOf}
-use Rattle.order.specs.Acting.{stepRoot, endOf, Moved, movedTo, stepOrder, begunOrder, startedOrder}
+use Rattle.order.specs.Acting.{Actor, itsOwn, inPlace, stepRoot, endOf, Moved, movedTo, acted, begunOrder, startedOrder}
+use Rattle.order.specs.Judging.{Verdict, clear, clash, conflict, following, upon, judged, spare, settled, stepOrder}
 use Rattle.machine.specs.Calls.{loadedAs, load, post, collect, dropAt, Stepped, doingAt, step, Call, posting, collecting, dropping, stepping}
 use Rattle.undoing.specs.History.{logOf}
 use Rattle.undoing.specs.Ties.{isTaken, endList, endBy}
 use Rattle.undoing.specs.Answered.{Book, nothingDue, noted, mayNote, settles, turned, inOrder, answered, TakenBackOnce}
 use Rattle.undoing.proofs.Parts.{both}
 use Rattle.undoing.proofs.Moves.{HoldsAt}
-use Rattle.undoing.proofs.Orders.{momentOf, onto, does-nothing}
+use Rattle.undoing.proofs.Orders.{momentOf, onto}
 use Rattle.undoing.proofs.Scoping.{scope-live, scope-done, scope-turned, Running, StepsAs}
 use Rattle.undoing.proofs.Roots.{Awaited, Standing, root-steps, EndedAs, Passed, passes-on, passes-end}
 use Rattle.undoing.proofs.Planning.{Promised, promised}
-use Rattle.undoing.proofs.Slots.{standing-live, fresh-order, Alike, taking-alike, root-mild, taken-step, order-starts, started-in-limits, post-same, collect-same, drop-same, Sane, same-sane, fresh-sane}
+use Rattle.undoing.proofs.Judged.{Fitting, root-mild, OnClash, Higher, conflict-awaited, passed-joined, passed-stands, passed-once}
+use Rattle.undoing.proofs.Slots.{standing-live, fresh-order, Alike, taking-alike, alike-awaited, alike-stands, alike-holds, taken-step, order-starts, post-same, collect-same, drop-same, Sane, same-sane, fresh-sane}
 use Rattle.undoing.proofs.Happening.{orderIn, withMessage, Happens, nothing-here, goes-here, starts-here, step-happens}
 use Rattle.undoing.proofs.Demanded.{step-after}
 use Rattle.undoing.proofs.Marks.{turned-not-open}
 use Rattle.undoing.proofs.Owing.{undoLeftIn, undo-run}
-use Rattle.undoing.proofs.Booked.{none-owed, begunMark, Agrees, SettledAs, Settled, root-right}
+use Rattle.undoing.proofs.Booked.{none-owed, begunMark, Agrees, SettledAs, Settled, written, May, root-right}
 
 -- what the book says after a step that ended so
 abbrev Next : Plan → End → Order → Book → Type 0
@@ -116,23 +117,52 @@ module _ (p : Plan) (h : Promised p) where
         calm = λ x. g .calm (ap begunMark (sym (e .root)) ∙ x);
       }
 
-  step-right : (t : ℕ) (o o′ : Order) (past : List Event) (a : Book) → Alike p o o′ → Awaited p (o .marks) t → Standing p o → rootInLimits (o .root) ≡ true → HoldsAt p (momentOf p o) past → Agrees p o a
-      → (mayNote p root t a ≡ true) × (settles (stepOrder p t o′ .end) (noted p root t a) ≡ true) × Next p (stepOrder p t o′ .end) (stepOrder p t o′ .order) (noted p root t a)
-  unfolding stepOrder
-  step-right t o o′ past a e w st l g ag =
-      let m = root-mild (o .root) l in
-      let w′ : Awaited p (o′ .marks) t = subst (λ (ms : List ℕ). Awaited p ms t) (sym (e .marks)) w in
-      let st′ : Standing p o′
-      = record {
-        many = subst (λ (ms : List ℕ). size (p .body) + size (p .fault) ≤ length ms) (sym (e .marks)) (st .many);
-        runs = subst (λ (ms : List ℕ). Running (rootOf p) ms (o′ .root)) (sym (e .marks)) (subst (λ (x : ℕ). Running (rootOf p) (o .marks) x) (sym (e .root)) (st .runs));
-        going = λ d. st .going (sym (e .root) ∙ d);
-      } in
-      let x : o′ .root ≡ halted → ⊥ = λ d. m .0 (sym (e .root) ∙ d) in
-      let y : o′ .root ≡ withdrawing → ⊥ = λ d. m .1 (sym (e .root) ∙ d) in
-      let r = root-right p h t o′ past a w′ st′ x y (does-nothing (e .everywhere) .does past g .1) (agrees-so o o′ a e ag) in
-      let z = settled-end (noted p root t a) (stepRoot p t o′) (not-undone (stepRoot p t o′ .log) o′ (stepRoot p t o′ .order) (stepRoot p t o′ .result) (root-steps p (h .distinct) (h .seat) t o′ w′ st′ x y .comes)) (r .1) in
-      (r .0, z .0, z .1)
+  -- an order after a step or a raise in place of a receive, and what is written down of it then
+  abbrev Kept : Book → Moved → Type 0
+  Kept b m = (settles (m .end) b ≡ true) × Next p (m .end) (m .order) b
+
+  -- once through the order
+  acted-right : (actor : Actor) (t : ℕ) (o : Order) (past : List Event) (a : Book) → Fitting actor p t → Awaited p (o .marks) t → Standing p o → HoldsAt p (momentOf p o) past → Agrees p o a
+      → May actor p t a × Kept (written actor p t a) (acted actor p t o)
+  unfolding acted
+  acted-right actor t o past a v w st g ag =
+      let m = root-mild p o past g in
+      let r = root-right p h actor t o past a v w st (m .0) (m .1) g ag in
+      let y = not-undone (stepRoot actor p t o .log) o (stepRoot actor p t o .order) (stepRoot actor p t o .result) (root-steps p (h .distinct) actor (h .seat) t o w st (m .0) (m .1) .comes) in
+      (r .0, settled-end (written actor p t a) (stepRoot actor p t o) y (r .1))
+
+  -- What is judged: nothing is written down of the raises.
+  judged-right : (b : Book) (n : ℕ) (past : List Event) (m : Moved) → Passed p past m → Kept b m → Kept b (judged n p m)
+  unfolding judged
+  judged-right b zero past m w q = q
+  judged-right b (suc n) past m w q = go (λ m′ w′ q′. judged-right b n past m′ w′ q′) (m .end) refl
+    where
+      on : ((m′ : Moved) → Passed p past m′ → Kept b m′ → Kept b (judged n p m′)) → m .end ≡ None → (v : Verdict) → OnClash (Higher p (m .order)) v → Kept b (upon (judged n p) p m v)
+      on f e clear c = q
+      on f e (clash k) c =
+          let s = passed-stands p past m e w in
+          let l = onto (m .log) past in
+          let m′ = acted inPlace p k (m .order) in
+          f (following (m .log) m′) (passed-joined p past m m′ e w (passed-once p h inPlace k (m .order) l (c .0) (s .0) (s .1)))
+          (acted-right inPlace k (m .order) l b (c .1) (c .0) (s .0) (s .1) (subst (λ (x : End). Next p x (m .order) b) e (q .1)) .1)
+
+      go : ((m′ : Moved) → Passed p past m′ → Kept b m′ → Kept b (judged n p m′)) → (e : End) → m .end ≡ e
+          → Kept b (elim e [ None ↦ upon (judged n p) p m (conflict p (m .order)) | Well ↦ m | Handled ↦ m | Failed ↦ m | Left ↦ m ])
+      go f None e = on f e (conflict p (m .order)) (conflict-awaited p (m .order))
+      go f Well e = q
+      go f Handled e = q
+      go f Failed e = q
+      go f Left e = q
+
+  step-right : (t : ℕ) (o o′ : Order) (past : List Event) (a : Book) → Alike p o o′ → Awaited p (o .marks) t → Standing p o → HoldsAt p (momentOf p o) past → Agrees p o a
+      → (mayNote p root t a ≡ true) × Kept (noted p root t a) (stepOrder p t o′)
+  unfolding stepOrder settled
+  step-right t o o′ past a e w st g ag =
+      let w′ = alike-awaited e t w in
+      let st′ = alike-stands p o o′ e st in
+      let g′ = alike-holds e past g in
+      let r = acted-right itsOwn t o′ past a tt w′ st′ g′ (agrees-so o o′ a e ag) in
+      (r .0, judged-right (noted p root t a) (spare p (acted itsOwn p t o′ .order)) past (acted itsOwn p t o′) (passed-once p h itsOwn t o′ past w′ st′ g′) (r .1))
 
   -- the book afterwards
   book-after : (m : Moved) (past : List Event) (b : Book) → Passed p past m → Next p (m .end) (m .order) b → Books p (m .order) (turned (m .end) b)
@@ -181,16 +211,16 @@ module _ (p : Plan) (h : Promised p) where
     happens-noted s past r a (goes-here t m q w st k y l e d) (books-live n ag) rest f =
         let o = orderIn s i in
         let v = taking-alike p (doingAt p t) m o in
-        let x = step-right t o (withMessage p t m o) past a v w st k y ag in
-        answer-noted s r a t (stepOrder p t (withMessage p t m o)) past q e d (x .0) (x .1) (x .2) (taken-step p h t o (withMessage p t m o) past v w st k y) rest f
+        let x = step-right t o (withMessage p t m o) past a v w st y ag in
+        answer-noted s r a t (stepOrder p t (withMessage p t m o)) past (q .0, q .1) e d (x .0) (x .1 .0) (x .1 .1) (taken-step p h t o (withMessage p t m o) past v w st y) rest f
     happens-noted s past r a (starts-here t m q w z n l e d) (books-live c ag) rest f = absurd (false≢true (sym z ∙ c))
     happens-noted s past r a (starts-here t m q w z n l e d) (books-free c y) rest f =
         let o = startedOrder p in
         let l₀ = started ∷ begunOrder p .log in
         let v = taking-alike p (doingAt p t) m o in
         let b = order-starts p h t past n w in
-        let x = step-right t o (withMessage p t m o) (onto l₀ past) a v w (b .1) (started-in-limits p) (b .2) (subst (λ (a : Book). Agrees p o a) (sym y) (started-agrees (b .1))) in
-        answer-noted s r a t (stepOrder p t (withMessage p t m o)) (onto l₀ past) q e d (x .0) (x .1) (x .2) (taken-step p h t o (withMessage p t m o) (onto l₀ past) v w (b .1) (started-in-limits p) (b .2)) rest f
+        let x = step-right t o (withMessage p t m o) (onto l₀ past) a v w (b .1) (b .2) (subst (λ (a : Book). Agrees p o a) (sym y) (started-agrees (b .1))) in
+        answer-noted s r a t (stepOrder p t (withMessage p t m o)) (onto l₀ past) (q .0, q .1) e d (x .0) (x .1 .0) (x .1 .1) (taken-step p h t o (withMessage p t m o) (onto l₀ past) v w (b .1) (b .2)) rest f
 
     -- over any calls
     all-noted : (calls : List Call) (s : State) (t : Tally) (past : List Event) (a : Book) → Sane p bytes next i accepted h s past → Books p (orderIn s i) a → inOrder p a (answered calls i s t) ≡ true
