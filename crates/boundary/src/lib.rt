@@ -175,7 +175,7 @@ pub extern "C" fn moonhalyard_drop(state: &mut [u8], place: usize, message: &mut
     ensures bytes { λ _. ⌜ now (state .exit) ≡ engine.dropBytes place (now (state .entry)) (now (message .entry)) ⌝ }
     ensures message { λ _. ⌜ now (message .exit) ≡ engine.dropMessage place (now (state .entry)) (now (message .entry)) ⌝ }
 {
-    if message.len() < 28 {
+    if message.len() <= 27 {
         return 18;
     }
     let k = store::unpack(&state[..]);
