@@ -2,7 +2,7 @@
 use commands::Trouble;
 use drawing::put_error;
 use papers::Desk;
-use papers::shown;
+use papers::failed;
 
 fn put_trouble(out: &mut [u8; 4096], used: usize, number: u64, why: Trouble) -> usize {
     match why {
@@ -15,7 +15,7 @@ fn put_trouble(out: &mut [u8; 4096], used: usize, number: u64, why: Trouble) -> 
 }
 
 // The line with this number is wrong.
-pub(crate) fn wrong(desk: Desk, number: u64, why: Trouble, out: &mut [u8; 4096]) -> Desk {
+pub fn wrong(desk: Desk, number: u64, why: Trouble, out: &mut [u8; 4096]) -> Desk {
     let used = put_trouble(out, desk.used, number, why);
-    shown(desk, used)
+    failed(desk, used)
 }

@@ -3,17 +3,25 @@ mod answering;
 mod lists;
 mod taking;
 
-use answering::wrong;
+pub use answering::wrong;
 use commands::Alone;
 use commands::Command;
 use commands::Listed;
 use commands::Numbered;
 use commands::Worded;
 use drawing::put_error;
+pub use lists::Numbers;
+pub use lists::numbers_of;
+pub use lists::rest_of;
 use machine::State;
 use machine::Tally;
 use papers::Desk;
+use papers::failed;
 use papers::shown;
+pub use taking::message_of;
+pub use taking::put_collected;
+pub use taking::put_step;
+pub use taking::put_tally;
 
 // A command that stands alone. (The lines after a write are its caller's to gather: here it has none.)
 fn answer_alone(
@@ -79,7 +87,7 @@ fn answer_order(
 ) -> Desk {
     if 15 < slot {
         let used = put_error(out, desk.used, number, b"the slots are 0 to 15");
-        return shown(desk, used);
+        return failed(desk, used);
     }
     let state = desk.state;
     let used = wording::put_order(out, desk.used, names, state, slot as usize);

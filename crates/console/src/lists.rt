@@ -10,7 +10,7 @@ enum Next {
 }
 
 // The numbers of a line: how many, or what is wrong with them.
-pub(crate) enum Numbers {
+pub enum Numbers {
     All { count: usize },
     Wrong { why: Trouble },
 }
@@ -41,12 +41,7 @@ fn store(numbers: &mut [u32; 1001], n: usize, value: u32) {
 }
 
 // The numbers of a line from a place on, fewer than `limit` of them.
-pub(crate) fn numbers_of(
-    line: &[u8],
-    from: usize,
-    limit: usize,
-    numbers: &mut [u32; 1001],
-) -> Numbers {
+pub fn numbers_of(line: &[u8], from: usize, limit: usize, numbers: &mut [u32; 1001]) -> Numbers {
     let mut at = from;
     let mut n = 0;
     while n < limit {
@@ -71,7 +66,7 @@ fn wide(number: u32) -> usize {
 }
 
 // The numbers after the first.
-pub(crate) fn rest_of(numbers: &[u32; 1001]) -> [usize; 1000] {
+pub fn rest_of(numbers: &[u32; 1001]) -> [usize; 1000] {
     let mut rest = [0usize; 1000];
     let mut i = 0;
     while i < 1000 {

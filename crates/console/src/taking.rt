@@ -16,6 +16,7 @@ use machine::Step;
 use machine::Tally;
 use order::End;
 use papers::Desk;
+use papers::changed;
 use run::Ran;
 use wording::put_message;
 
@@ -28,7 +29,7 @@ fn narrow(count: usize) -> u32 {
 }
 
 // Partner, operation and values. Those beyond the fourth only count.
-fn message_of(numbers: &[u32; 1001], count: usize) -> Message {
+pub fn message_of(numbers: &[u32; 1001], count: usize) -> Message {
     Message {
         partner: numbers[0],
         operation: numbers[1],
@@ -43,12 +44,7 @@ fn posted(desk: Desk, m: Message, out: &mut [u8; 4096]) -> Desk {
     let used = put_refusal(out, desk.used, b"post", p.refusal);
     let state = p.state;
     let tally = desk.tally;
-    Desk {
-        state,
-        tally,
-        plan: desk.plan,
-        used,
-    }
+    changed(desk, state, tally, desk.plan, used)
 }
 
 // Posts a message: a partner, an operation, and up to eight values.
@@ -84,7 +80,7 @@ fn number_of(end: End) -> u64 {
 }
 
 // What a step answers.
-fn put_step(out: &mut [u8; 4096], used: usize, x: Step) -> usize {
+pub fn put_step(out: &mut [u8; 4096], used: usize, x: Step) -> usize {
     if x.refusal != 0 {
         return put_refusal(out, used, b"step", x.refusal);
     }
@@ -105,12 +101,7 @@ pub(crate) fn step(desk: Desk, choice: u32, out: &mut [u8; 4096]) -> Desk {
     let state = r.state;
     let tally = r.tally;
     let used = put_step(out, desk.used, x);
-    Desk {
-        state,
-        tally,
-        plan: desk.plan,
-        used,
-    }
+    changed(desk, state, tally, desk.plan, used)
 }
 
 fn ran_of(state: State, tally: Tally, choices: &[usize], n: usize, budget: u32) -> Ran {
@@ -134,12 +125,7 @@ fn ran_by(
     let state = r.state;
     let tally = r.tally;
     let used = put_pair(out, desk.used, b"run", r.taken as u64, r.refusal as u64);
-    Desk {
-        state,
-        tally,
-        plan: desk.plan,
-        used,
-    }
+    changed(desk, state, tally, desk.plan, used)
 }
 
 // Takes steps by a budget and up to 1,000 choices.
@@ -158,7 +144,7 @@ pub(crate) fn run(desk: Desk, line: &[u8], from: usize, number: u64, out: &mut [
     }
 }
 
-fn put_collected(out: &mut [u8; 4096], used: usize, c: Collected) -> usize {
+pub fn put_collected(out: &mut [u8; 4096], used: usize, c: Collected) -> usize {
     if c.refusal != 0 {
         return put_refusal(out, used, b"collect", c.refusal);
     }
@@ -174,16 +160,11 @@ pub(crate) fn collect(desk: Desk, out: &mut [u8; 4096]) -> Desk {
     let used = put_collected(out, desk.used, c);
     let state = c.state;
     let tally = desk.tally;
-    Desk {
-        state,
-        tally,
-        plan: desk.plan,
-        used,
-    }
+    changed(desk, state, tally, desk.plan, used)
 }
 
 // The five counts.
-pub(crate) fn put_tally(out: &mut [u8; 4096], used: usize, tally: Tally) -> usize {
+pub fn put_tally(out: &mut [u8; 4096], used: usize, tally: Tally) -> usize {
     let mut at = put(out, used, b"tally");
     at = put_next(out, at, tally.started as u64);
     at = put_next(out, at, tally.well as u64);

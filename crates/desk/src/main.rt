@@ -1,21 +1,24 @@
 // The desk: the console of the engine. It reads commands from standard input, one a line, and answers each on standard output (docs/DESK.md).
 mod page;
+mod words;
 
-use commands::Alone;
 use commands::Command;
 use libc::STDIN_FILENO;
 use page::Page;
 use papers::Desk;
+use phrases::What;
 use text::Line;
 
 // The console; the text of a plan that comes in; the number of lines ended so far; how many bytes of the present line are kept; whether each line
-// is repeated before its answer; and whether input may follow.
+// is repeated before its answer, whether an error ends the session, and whether who types is asked for the next line; and whether input may follow.
 struct Session {
     desk: Desk,
     page: Page,
     lines: u64,
     length: usize,
     echo: bool,
+    strict: bool,
+    asking: bool,
     open: bool,
 }
 
@@ -27,6 +30,8 @@ fn turned(s: Session, desk: Desk, page: Page) -> Session {
         lines: s.lines,
         length: s.length,
         echo: s.echo,
+        strict: s.strict,
+        asking: s.asking,
         open: s.open,
     }
 }
@@ -79,26 +84,25 @@ fn text_echoed(desk: Desk, echo: bool, line: &[u8], out: &mut [u8; 4096]) -> Des
 
 // Whether the lines that follow a line are a text.
 fn is_write(line: &[u8]) -> bool {
-    let c = commands::command_of(line);
-    match c {
-        Command::Alone { what } => is_write_word(what),
-        Command::Nothing => false,
-        Command::Wrong { why: _ } => false,
-        Command::Worded {
-            what: _,
-            from: _,
-            to: _,
-        } => false,
-        Command::Numbered { what: _, k: _ } => false,
-        Command::Listed { what: _, from: _ } => false,
+    let p = phrases::phrase_of(line);
+    let what = p.what;
+    match what {
+        What::Write => true,
+        _ => false,
     }
 }
 
-fn is_write_word(what: Alone) -> bool {
-    match what {
-        Alone::Write => true,
-        _ => false,
-    }
+// Whether it is one that drops what is live.
+fn is_bold(line: &[u8]) -> bool {
+    let p = phrases::phrase_of(line);
+    p.bold
+}
+
+// A text begins.
+fn begun(s: Session, desk: Desk, line: &[u8]) -> Session {
+    let mut d = desk;
+    d.bold = is_bold(line);
+    turned(s, d, page::begun(s.lines))
 }
 
 // A command.
@@ -112,9 +116,9 @@ fn answered(
     let before = s.desk;
     let d = echoed(before, s.echo, line, out);
     if is_write(line) {
-        return turned(s, d, page::begun(s.lines));
+        return begun(s, d, line);
     }
-    let desk = console::answer(d, line, s.lines, bytes, names, out);
+    let desk = speaking::answer(d, line, s.lines, bytes, names, out);
     turned(s, desk, page::none())
 }
 
@@ -145,7 +149,7 @@ fn written_of(
 ) -> Desk {
     let used = page.used;
     if used <= text.len() {
-        return papers::write(desk, &text[0..used], page.line, bytes, names, out);
+        return speaking::written(desk, &text[0..used], page.line, bytes, names, out);
     }
     desk
 }
@@ -160,9 +164,8 @@ fn written_in(
     out: &mut [u8; 4096],
 ) -> Desk {
     if 0 < page.wrong {
-        let mut d = desk;
-        d.used = put_spoilt(out, desk.used, page);
-        return d;
+        let used = put_spoilt(out, desk.used, page);
+        return papers::failed(desk, used);
     }
     written_of(desk, page, text, bytes, names, out)
 }
@@ -218,15 +221,15 @@ fn taken(
 // A line that is too long: in a text, the text is not read.
 fn too_long(s: Session, out: &mut [u8; 4096]) -> Session {
     let page = s.page;
-    let mut desk = s.desk;
+    let desk = s.desk;
     if page.line == 0 {
-        desk.used = drawing::put_error(
+        let used = drawing::put_error(
             out,
             desk.used,
             s.lines,
             b"the line has more than 16000 characters",
         );
-        return turned(s, desk, page);
+        return turned(s, papers::failed(desk, used), page);
     }
     turned(s, desk, page::spoilt(page, s.lines, true))
 }
@@ -262,8 +265,34 @@ fn counted(s: Session) -> Session {
         lines: more(s.lines),
         length: 0,
         echo: s.echo,
+        strict: s.strict,
+        asking: s.asking,
         open: s.open,
     }
+}
+
+// Whether the session ends here: it was told to, an answer could not be written, or an error ends it.
+fn is_over(strict: bool, desk: Desk) -> bool {
+    if desk.over {
+        return true;
+    }
+    if drawing::is_lost(desk.used) {
+        return true;
+    }
+    if strict {
+        return desk.said == 1000;
+    }
+    false
+}
+
+// The session after a line.
+fn gone_on(s: Session) -> Session {
+    let mut next = s;
+    let desk = s.desk;
+    if is_over(s.strict, desk) {
+        next.open = false;
+    }
+    next
 }
 
 fn ended_of(
@@ -277,7 +306,8 @@ fn ended_of(
     let length = s.length;
     let next = counted(s);
     if length <= line.len() {
-        return ended_at(next, &line[0..length], text, bytes, names, out);
+        let after = ended_at(next, &line[0..length], text, bytes, names, out);
+        return gone_on(after);
     }
     s
 }
@@ -290,7 +320,10 @@ fn ended(
     names: &mut [u8; 4752],
     out: &mut [u8; 4096],
 ) -> Session {
-    ended_of(s, line, text, bytes, names, out)
+    if s.open {
+        return ended_of(s, line, text, bytes, names, out);
+    }
+    s
 }
 
 fn feed(
@@ -345,15 +378,30 @@ fn closed(
         last = written(last, text, bytes, names, out);
     }
     last.open = false;
-    last
+    warned(last, out)
+}
+
+// What is not saved at the end of the input is told, where the desk speaks to a person.
+fn warned(s: Session, out: &mut [u8; 4096]) -> Session {
+    let mut desk = s.desk;
+    let page = s.page;
+    if desk.spoken {
+        if speaking::is_at_risk(desk) {
+            let at = speaking::put_risk(desk, out, desk.used);
+            desk.used = drawing::put_byte(out, at, 10);
+            return turned(s, desk, page);
+        }
+    }
+    s
 }
 
 fn failed(s: Session, out: &mut [u8; 4096]) -> Session {
-    let mut desk = s.desk;
+    let desk = s.desk;
     let number = more(s.lines);
-    desk.used = drawing::put_error(out, desk.used, number, b"the input cannot be read");
-    let mut last = turned(s, desk, page::none());
+    let used = drawing::put_error(out, desk.used, number, b"the input cannot be read");
+    let mut last = turned(s, papers::failed(desk, used), page::none());
     last.open = false;
+    words::stopped(b"the input cannot be read\n");
     last
 }
 
@@ -383,7 +431,24 @@ fn flushed(s: Session, out: &[u8; 4096]) -> Session {
     let mut desk = s.desk;
     let page = s.page;
     desk.used = drawing::flush(out, desk.used);
-    turned(s, desk, page)
+    gone_on(turned(s, desk, page))
+}
+
+// Who types is asked for the next line.
+fn asked(s: Session, out: &mut [u8; 4096]) -> Session {
+    let mut desk = s.desk;
+    let page = s.page;
+    if s.asking {
+        if s.open {
+            if page.line == 0 {
+                desk.used = drawing::put(out, desk.used, b"desk> ");
+            } else {
+                desk.used = drawing::put(out, desk.used, b"text> ");
+            }
+            return turned(s, desk, page);
+        }
+    }
+    s
 }
 
 // A turn. Who types the commands sees each answer at once.
@@ -396,7 +461,8 @@ fn round(
     out: &mut [u8; 4096],
 ) -> Session {
     let after = turn(s, line, text, bytes, names, out);
-    flushed(after, out)
+    let next = asked(after, out);
+    flushed(next, out)
 }
 
 fn run(
@@ -420,48 +486,65 @@ fn run(
     session
 }
 
-// Whether the desk is asked to repeat what it reads: its argument is `echo`.
-fn wants_echo() -> bool {
-    let mut word = [0u8; 5];
-    let n = os::arg(1, &mut word);
-    if n == 4 {
-        return is_echo(&word);
+// Why the session ended before its input did, where it did, on standard error: so a script that runs the desk knows.
+fn told(s: Session) {
+    let desk = s.desk;
+    if drawing::is_lost(desk.used) {
+        words::stopped(b"an answer could not be written\n");
+        return;
     }
-    false
-}
-
-fn is_echo(word: &[u8; 5]) -> bool {
-    if word[0] == 101 {
-        if word[1] == 99 {
-            if word[2] == 104 {
-                return word[3] == 111;
-            }
+    if s.strict {
+        if desk.said == 1000 {
+            words::stopped(b"the last line is an error\n");
         }
     }
-    false
 }
 
-fn main() {
+// The session on all of the input.
+fn served(start: Session) {
     let mut line = [0u8; 16002];
     let mut text = [0u8; 131072];
     let mut bytes = [0u8; 8000];
     let mut names = [0u8; 4752];
     let mut out = [0u8; 4096];
-    let desk = papers::new();
-    let start = Session {
-        desk,
-        page: page::none(),
-        lines: 0,
-        length: 0,
-        echo: wants_echo(),
-        open: true,
-    };
-    run(
-        start,
+    let first = flushed(asked(start, &mut out), &out);
+    let last = run(
+        first,
         &mut line,
         &mut text,
         &mut bytes,
         &mut names,
         &mut out,
     );
+    told(last);
+}
+
+fn main() {
+    let w = words::given();
+    if w.help {
+        words::put_usage();
+        return;
+    }
+    if w.version {
+        words::put_version();
+        return;
+    }
+    if w.unknown {
+        words::stopped(
+            b"unknown word behind the program's name; desk --help tells those that it takes\n",
+        );
+        return;
+    }
+    let mut desk = papers::new();
+    desk.spoken = !w.plain;
+    served(Session {
+        desk,
+        page: page::none(),
+        lines: 0,
+        length: 0,
+        echo: w.echo,
+        strict: w.strict,
+        asking: words::is_typed(),
+        open: true,
+    });
 }

@@ -5,6 +5,7 @@ use super::output::put;
 use super::output::put_byte;
 use super::output::put_next;
 use super::output::put_number;
+use super::table::after;
 use super::table::wide;
 
 fn byte_in(names: &[u8; 4752], place: usize, i: usize) -> u8 {
@@ -35,6 +36,57 @@ fn put_name(out: &mut [u8; 4096], used: usize, names: &[u8; 4752], place: usize)
         at = put_byte(out, at, byte_in(names, place, i));
     }
     at
+}
+
+// Whether the name at a place is this word.
+fn is_named(names: &[u8; 4752], place: usize, word: &[u8]) -> bool {
+    if length_at(names, place) != word.len() {
+        return false;
+    }
+    let mut i = 0;
+    while i < word.len() {
+        if byte_in(names, place, after(i)) != word[i] {
+            return false;
+        }
+        i += 1;
+    }
+    true
+}
+
+// How far from `first` the name is that a word is, of `many` places; `many` where none is.
+fn place_named(names: &[u8; 4752], first: usize, many: usize, word: &[u8]) -> usize {
+    let mut k = 0;
+    while k < many {
+        if is_named(names, place_after(first, k), word) {
+            return k;
+        }
+        k += 1;
+    }
+    many
+}
+
+fn place_after(first: usize, k: usize) -> usize {
+    if first < 144 {
+        if k < 144 {
+            return first + k;
+        }
+    }
+    144
+}
+
+// The number of a variable by its name, 16 where none is called so.
+pub fn variable_named(names: &[u8; 4752], word: &[u8]) -> usize {
+    place_named(names, 0, 16, word)
+}
+
+// The number of a partner by its name, 64 where none is called so.
+pub fn partner_named(names: &[u8; 4752], word: &[u8]) -> usize {
+    place_named(names, 16, 64, word)
+}
+
+// The same of an operation.
+pub fn operation_named(names: &[u8; 4752], word: &[u8]) -> usize {
+    place_named(names, 80, 64, word)
 }
 
 // The place of a variable, and of what is numbered up to 63 from `first` on; 144, where no name is, for any other.
@@ -74,21 +126,11 @@ fn put_numbered(
     put_number(out, used, number as u64)
 }
 
-pub(crate) fn put_partner(
-    out: &mut [u8; 4096],
-    used: usize,
-    names: &[u8; 4752],
-    number: u32,
-) -> usize {
+pub fn put_partner(out: &mut [u8; 4096], used: usize, names: &[u8; 4752], number: u32) -> usize {
     put_numbered(out, used, names, 16, number)
 }
 
-pub(crate) fn put_operation(
-    out: &mut [u8; 4096],
-    used: usize,
-    names: &[u8; 4752],
-    number: u32,
-) -> usize {
+pub fn put_operation(out: &mut [u8; 4096], used: usize, names: &[u8; 4752], number: u32) -> usize {
     put_numbered(out, used, names, 80, number)
 }
 

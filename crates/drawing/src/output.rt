@@ -1,16 +1,31 @@
-// What is written, gathered so that it is written in large pieces. `used` is how many bytes of `out` wait to be written.
+// What is written, gathered so that it is written in large pieces. `used` is how many bytes of `out` wait to be written; more than there is room for
+// where something could not be written. From then on nothing is put.
 use libc::STDOUT_FILENO;
 
-fn write_front(out: &[u8], used: usize) {
+// `used`, where something could not be written.
+const LOST: usize = 5000;
+
+fn write_front(out: &[u8], used: usize) -> bool {
     if used <= out.len() {
-        io::write_all(STDOUT_FILENO, &out[0..used]);
+        return io::write_all(STDOUT_FILENO, &out[0..used]);
     }
+    false
+}
+
+// Whether something could not be written.
+pub fn is_lost(used: usize) -> bool {
+    4096 < used
 }
 
 // Writes what waits, and answers how much waits then.
 pub fn flush(out: &[u8; 4096], used: usize) -> usize {
-    write_front(out, used);
-    0
+    if used == 0 {
+        return 0;
+    }
+    if write_front(out, used) {
+        return 0;
+    }
+    LOST
 }
 
 pub fn put_byte(out: &mut [u8; 4096], used: usize, b: u8) -> usize {
@@ -18,9 +33,24 @@ pub fn put_byte(out: &mut [u8; 4096], used: usize, b: u8) -> usize {
         out[used] = b;
         return used + 1;
     }
-    flush(out, used);
-    out[0] = b;
-    1
+    let left = flush(out, used);
+    if left == 0 {
+        out[0] = b;
+        return 1;
+    }
+    left
+}
+
+// A line that goes on: what waits, without the line end that it ends in.
+pub fn unended(out: &[u8; 4096], used: usize) -> usize {
+    if 0 < used {
+        if used <= 4096 {
+            if out[used - 1] == 10 {
+                return used - 1;
+            }
+        }
+    }
+    used
 }
 
 pub fn put(out: &mut [u8; 4096], used: usize, text: &[u8]) -> usize {

@@ -1,6 +1,9 @@
 // A state with its tally in a file: save and open.
 use super::Desk;
+use super::changed;
+use super::failed;
 use super::shown;
+use super::sums::sum_of;
 use super::writing::forget;
 use drawing::put;
 use drawing::put_byte;
@@ -30,7 +33,7 @@ fn put_reason(out: &mut [u8; 4096], used: usize, errno: i32) -> usize {
 }
 
 // A command that failed: `error LINE cannot WORD: REASON`.
-fn put_failed(out: &mut [u8; 4096], used: usize, line: u64, word: &[u8], errno: i32) -> usize {
+pub fn put_failed(out: &mut [u8; 4096], used: usize, line: u64, word: &[u8], errno: i32) -> usize {
     let mut at = put(out, used, b"error");
     at = put_next(out, at, line);
     at = put(out, at, b" cannot ");
@@ -41,7 +44,7 @@ fn put_failed(out: &mut [u8; 4096], used: usize, line: u64, word: &[u8], errno: 
 }
 
 // What the last failing call left as its reason; 5, an error of the device, where it left none.
-fn failure() -> i32 {
+pub fn failure() -> i32 {
     let e = os::errno();
     if e == 0 {
         return 5;
@@ -56,7 +59,7 @@ fn set_at(name: &mut [u8; 4096], i: usize, b: u8) {
 }
 
 // A text from a place of a name on; the place after it.
-fn put_name(name: &mut [u8; 4096], at: usize, text: &[u8]) -> usize {
+pub fn put_name(name: &mut [u8; 4096], at: usize, text: &[u8]) -> usize {
     let mut i = 0;
     while i < text.len() {
         set_at(name, at_most(at, i), text[i]);
@@ -98,7 +101,7 @@ fn written_whole(fd: i32, packed: &[u8]) -> i32 {
 }
 
 // A new file takes the name of the old one: 0, or the reason, and then the new file is gone.
-fn renamed(new: &[u8], file: &[u8]) -> i32 {
+pub fn replaced_by(new: &[u8], file: &[u8]) -> i32 {
     if os::rename(new, file) < 0 {
         let e = failure();
         os::unlink(new);
@@ -118,7 +121,7 @@ fn replaced(new: &mut [u8], file: &[u8], packed: &[u8]) -> i32 {
         os::unlink(new);
         return e;
     }
-    renamed(new, file)
+    replaced_by(new, file)
 }
 
 // The place after the last slash of a name: where the name of its folder ends.
@@ -183,17 +186,39 @@ fn told(desk: Desk, number: u64, word: &[u8], e: i32, out: &mut [u8; 4096]) -> D
         return shown(desk, used);
     }
     let used = put_failed(out, desk.used, number, word, e);
-    shown(desk, used)
+    failed(desk, used)
+}
+
+// A desk whose state is in a file, if it is, by the sums of its name and of what it holds.
+fn filed(desk: Desk, file: u64, seen: u64) -> Desk {
+    let mut d = desk;
+    if d.said == 0 {
+        d.unsaved = false;
+        d.filed = true;
+        d.file = file;
+        d.seen = seen;
+    }
+    d
 }
 
 // Saves the state and the tally.
 pub fn save(desk: Desk, file: &[u8], number: u64, out: &mut [u8; 4096]) -> Desk {
+    // what was answered before is written first: where it cannot be, nothing is made lasting
+    let used = drawing::flush(out, desk.used);
+    let before = shown(desk, used);
+    if drawing::is_lost(used) {
+        return before;
+    }
     let mut packed = [0u8; 11964];
     let state = desk.state;
     let tally = desk.tally;
     store::pack(state, tally, &mut packed);
     let e = saved(file, &packed);
-    told(desk, number, b"save", e, out)
+    filed(
+        told(before, number, b"save", e, out),
+        sum_of(file),
+        sum_of(&packed),
+    )
 }
 
 // Why nothing was read: 0 where nothing stands there.
@@ -249,22 +274,17 @@ fn put_foreign(desk: Desk, number: u64, out: &mut [u8; 4096]) -> Desk {
         number,
         b"cannot open: it holds no saved state",
     );
-    shown(desk, used)
+    failed(desk, used)
 }
 
 // The desk on a state that was kept. Its plan is the last plan.
-fn reopened(kept: Kept, bytes: &mut [u8; 8000], out: &mut [u8; 4096], used: usize) -> Desk {
+fn reopened(desk: Desk, kept: Kept, bytes: &mut [u8; 8000], out: &mut [u8; 4096]) -> Desk {
     let state = kept.state;
     let tally = kept.tally;
     let plan = state.plan;
     copied(&plan, bytes);
-    let at = put_refusal(out, used, b"open", 0);
-    Desk {
-        state,
-        tally,
-        plan: state.length,
-        used: at,
-    }
+    let at = put_refusal(out, desk.used, b"open", 0);
+    changed(desk, state, tally, state.length, at)
 }
 
 fn taken(
@@ -281,17 +301,18 @@ fn taken(
     let state = kept.state;
     if is_sound(state) {
         let before = desk.state;
-        let d = reopened(kept, bytes, out, desk.used);
+        let d = reopened(desk, kept, bytes, out);
         forget(before, bytes, d.plan, names);
         return d;
     }
     put_foreign(desk, number, out)
 }
 
-// What a file that was opened holds becomes the state and the tally.
+// What a file that was opened holds becomes the state and the tally; `file` is the sum of its name.
 fn read(
     desk: Desk,
     fd: i32,
+    file: u64,
     number: u64,
     bytes: &mut [u8; 8000],
     names: &mut [u8; 4752],
@@ -305,8 +326,10 @@ fn read(
     if e != 0 {
         return told(desk, number, b"open", e, out);
     }
+    let seen = sum_of(&packed[..n]);
     let kept = store::unpack(&packed[..n]);
-    taken(desk, kept, number, bytes, names, out)
+    let d = taken(desk, kept, number, bytes, names, out);
+    filed(d, file, seen)
 }
 
 // Opens a file that was saved.
@@ -322,5 +345,5 @@ pub fn open(
     if fd < 0 {
         return told(desk, number, b"open", failure(), out);
     }
-    read(desk, fd, number, bytes, names, out)
+    read(desk, fd, sum_of(file), number, bytes, names, out)
 }

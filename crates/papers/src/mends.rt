@@ -1,7 +1,8 @@
 // The command on padded plans: mend.
 use super::Desk;
+use super::failed;
 use super::plans::fresh;
-use super::shown;
+use super::refused;
 use super::writing::forget;
 use drawing::put;
 use drawing::put_byte;
@@ -26,7 +27,7 @@ fn mended_of(desk: Desk, bytes: &[u8], length: usize, cut: usize, out: &mut [u8;
     if length <= bytes.len() {
         let used = put_mended(&bytes[0..length], cut, out, desk.used);
         let loaded = machine::load(&bytes[0..length]);
-        return fresh(loaded, length, used);
+        return fresh(desk, loaded, length, used);
     }
     desk
 }
@@ -56,7 +57,7 @@ fn mend_into(
     match a {
         Answer::Refused { number, place } => {
             let used = put_pair(out, desk.used, b"mend", number as u64, place as u64);
-            shown(desk, used)
+            refused(desk, used, number)
         }
         Answer::Mended { length, cut } => mended(desk, bytes, length, cut, names, out),
     }
@@ -102,11 +103,11 @@ pub fn mend(
         Hex::Bytes { count } => mend_in(desk, &given, count, bytes, names, out),
         Hex::Long => {
             let used = put_error(out, desk.used, number, b"more than 8000 bytes");
-            shown(desk, used)
+            failed(desk, used)
         }
         Hex::Bad => {
             let used = put_error(out, desk.used, number, b"not hexadecimal");
-            shown(desk, used)
+            failed(desk, used)
         }
     }
 }

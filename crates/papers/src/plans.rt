@@ -1,5 +1,8 @@
 // The commands on plans: plan, show, draw and names. The last plan is the first `plan` bytes of `bytes`, accepted or refused.
 use super::Desk;
+use super::changed;
+use super::failed;
+use super::refused;
 use super::shown;
 use super::writing::forget;
 use drawing::put;
@@ -139,22 +142,33 @@ pub fn show(desk: Desk, k: u32, bytes: &[u8; 8000], out: &mut [u8; 4096]) -> Des
 }
 
 // The desk on a state that was loaded, with an empty tally.
-pub(crate) fn fresh(loaded: Loaded, plan: usize, used: usize) -> Desk {
+pub(crate) fn fresh(desk: Desk, loaded: Loaded, plan: usize, used: usize) -> Desk {
+    let state = loaded.state;
+    let tally = machine::no_tally();
+    let d = changed(desk, state, tally, plan, used);
+    refused(d, used, loaded.refusal)
+}
+
+// The desk as it begins: there is no plan, and it answers by numbers alone.
+pub fn new() -> Desk {
+    let none = [0u8; 1];
+    let loaded = machine::load(&none);
     let state = loaded.state;
     let tally = machine::no_tally();
     Desk {
         state,
         tally,
-        plan,
-        used,
+        plan: 0,
+        used: 0,
+        said: 0,
+        spoken: false,
+        bold: false,
+        unsaved: false,
+        filed: false,
+        file: 0,
+        seen: 0,
+        over: false,
     }
-}
-
-// The desk as it begins: there is no plan.
-pub fn new() -> Desk {
-    let none = [0u8; 1];
-    let loaded = machine::load(&none);
-    fresh(loaded, 0, 0)
 }
 
 // A desk on the plan that some bytes spell.
@@ -162,7 +176,7 @@ fn loaded_of(desk: Desk, bytes: &[u8], plan: usize, out: &mut [u8; 4096]) -> Des
     if plan <= bytes.len() {
         let used = put_plan(&bytes[0..plan], out, desk.used);
         let loaded = machine::load(&bytes[0..plan]);
-        return fresh(loaded, plan, used);
+        return fresh(desk, loaded, plan, used);
     }
     desk
 }
@@ -189,11 +203,11 @@ pub fn load(
         }
         Hex::Long => {
             let used = put_error(out, desk.used, number, b"more than 8000 bytes");
-            shown(desk, used)
+            failed(desk, used)
         }
         Hex::Bad => {
             let used = put_error(out, desk.used, number, b"not hexadecimal");
-            shown(desk, used)
+            failed(desk, used)
         }
     }
 }

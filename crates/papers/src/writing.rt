@@ -1,10 +1,13 @@
 // A plan as text: the crate sheet makes rows of it, the crate writer bytes. And the names that it declares, which stay as long as its plan does.
 use super::Desk;
+use super::brakes::braked;
+use super::brakes::is_braked;
 use super::disagreeing::put_disagreeing;
+use super::failed;
 use super::files::copied;
 use super::plans::fresh;
 use super::reasons::put_why;
-use super::shown;
+use super::refused;
 use drawing::put;
 use drawing::put_byte;
 use drawing::put_hex;
@@ -20,6 +23,20 @@ fn is_same(plan: &[u8; 4096], bytes: &[u8; 8000], length: usize) -> bool {
     while i < 4096 {
         if i < length {
             if plan[i] != bytes[i] {
+                return false;
+            }
+        }
+        i += 1;
+    }
+    true
+}
+
+// Whether two plans are the same, of this length.
+fn is_same_plan(a: &[u8; 4096], b: &[u8; 4096], length: usize) -> bool {
+    let mut i = 0;
+    while i < 4096 {
+        if i < length {
+            if a[i] != b[i] {
                 return false;
             }
         }
@@ -94,9 +111,56 @@ fn written_of(desk: Desk, plan: &[u8], length: usize, out: &mut [u8; 4096]) -> D
     if length <= plan.len() {
         let used = put_written(out, desk.used, &plan[0..length]);
         let loaded = machine::load(&plan[0..length]);
-        return fresh(loaded, length, used);
+        return fresh(desk, loaded, length, used);
     }
     desk
+}
+
+// The plan that runs, by other names: nothing but these changes.
+fn renamed(
+    desk: Desk,
+    text: &[u8],
+    plan: &[u8],
+    length: usize,
+    names: &mut [u8; 4752],
+    out: &mut [u8; 4096],
+) -> Desk {
+    if length <= plan.len() {
+        sheet::names_of(text, names);
+        let used = put_written(out, desk.used, &plan[0..length]);
+        return refused(desk, used, 2000);
+    }
+    desk
+}
+
+// Whether a plan that was written runs already.
+fn is_running(state: State, plan: &[u8; 4096], length: usize) -> bool {
+    if state.length == length {
+        let running = state.plan;
+        return is_same_plan(&running, plan, length);
+    }
+    false
+}
+
+// A plan that was written, where the desk speaks to a person: what runs is not dropped by the way.
+fn written_with_care(
+    desk: Desk,
+    text: &[u8],
+    plan: &[u8; 4096],
+    length: usize,
+    number: u64,
+    bytes: &mut [u8; 8000],
+    names: &mut [u8; 4752],
+    out: &mut [u8; 4096],
+) -> Desk {
+    let state = desk.state;
+    if is_running(state, plan, length) {
+        return renamed(desk, text, plan, length, names, out);
+    }
+    if is_braked(desk) {
+        return braked(desk, number, b"write", out);
+    }
+    written(desk, text, plan, length, bytes, names, out)
 }
 
 fn written(
@@ -138,18 +202,23 @@ fn write_rows(
     let mut plan = [0u8; 4096];
     let a = answer_of(rows, length, &mut plan);
     match a {
-        Answer::Wrote { length } => written(desk, text, &plan, length, bytes, names, out),
+        Answer::Wrote { length } => {
+            if desk.spoken {
+                return written_with_care(desk, text, &plan, length, number, bytes, names, out);
+            }
+            written(desk, text, &plan, length, bytes, names, out)
+        }
         Answer::Refused {
             number: refusal,
             place,
         } => {
             if refusal == 21 {
                 let used = put_disagreeing(text, number, rows, lines, place, out, desk.used);
-                return shown(desk, used);
+                return refused(desk, used, refusal);
             }
             let line = line_after(number, line_of(lines, place));
             let used = put_pair(out, desk.used, b"write", wide(refusal), line);
-            shown(desk, used)
+            refused(desk, used, refusal)
         }
     }
 }
@@ -181,7 +250,7 @@ pub fn write(
         ),
         Sheet::Wrong { line, reason } => {
             let used = put_wrong(out, desk.used, line_after(number, line as u64), reason);
-            shown(desk, used)
+            failed(desk, used)
         }
     }
 }

@@ -1,0 +1,83 @@
+// A save with care, for a desk that speaks to a person: what has the name of the file is looked at first, and stays beside it as FILE.old.
+mod ordinary;
+mod retaining;
+
+use drawing::put_error;
+use ordinary::Kind;
+use papers::Desk;
+use papers::failed;
+
+// A save that is not made, and why.
+fn not_saved(desk: Desk, number: u64, why: &[u8], out: &mut [u8; 4096]) -> Desk {
+    let used = put_error(out, desk.used, number, why);
+    failed(desk, used)
+}
+
+// Whether the file is the one that this desk saved or opened last, and holds something else now: another desk saved it since.
+fn is_anothers(desk: Desk, file: &[u8]) -> bool {
+    if desk.bold {
+        return false;
+    }
+    if !desk.filed {
+        return false;
+    }
+    if desk.file != papers::sum_of(file) {
+        return false;
+    }
+    ordinary::sum_at(file) != desk.seen
+}
+
+// A save over an ordinary file.
+fn replacing(desk: Desk, file: &[u8], number: u64, out: &mut [u8; 4096]) -> Desk {
+    if is_anothers(desk, file) {
+        return not_saved(
+            desk,
+            number,
+            b"cannot save: another desk has saved it since: say save! to replace it",
+            out,
+        );
+    }
+    replaced(desk, file, number, out)
+}
+
+// A save over an ordinary file, which stays as FILE.old.
+fn replaced(desk: Desk, file: &[u8], number: u64, out: &mut [u8; 4096]) -> Desk {
+    let e = retaining::retained(file);
+    if e != 0 {
+        let used = papers::put_failed(out, desk.used, number, b"keep what it holds as FILE.old", e);
+        return failed(desk, used);
+    }
+    papers::save(desk, file, number, out)
+}
+
+// A save over a file that holds a plan: a desk without one is likely to have forgotten to open it.
+fn over_plan(desk: Desk, file: &[u8], number: u64, out: &mut [u8; 4096]) -> Desk {
+    let state = desk.state;
+    if state.length == 0 {
+        if !desk.bold {
+            return not_saved(
+                desk,
+                number,
+                b"cannot save: the file has a plan, and the desk has none: say save! to replace it",
+                out,
+            );
+        }
+    }
+    replacing(desk, file, number, out)
+}
+
+// Saves the state.
+pub fn save(desk: Desk, file: &[u8], number: u64, out: &mut [u8; 4096]) -> Desk {
+    if !desk.spoken {
+        return papers::save(desk, file, number, out);
+    }
+    let k = ordinary::kind_of(file);
+    match k {
+        Kind::Nothing => papers::save(desk, file, number, out),
+        Kind::Ordinary => replacing(desk, file, number, out),
+        Kind::Plan => over_plan(desk, file, number, out),
+        Kind::Folder => not_saved(desk, number, b"cannot save: it is a folder", out),
+        Kind::Link => not_saved(desk, number, b"cannot save: it is a link", out),
+        Kind::Other => not_saved(desk, number, b"cannot save: it is no ordinary file", out),
+    }
+}

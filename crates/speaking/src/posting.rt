@@ -1,0 +1,205 @@
+// A message that comes in, by names or numbers.
+use commands::Trouble;
+use drawing::put;
+use drawing::put_byte;
+use drawing::put_next;
+use drawing::put_refusal;
+use drawing::unended;
+use machine::Message;
+use machine::State;
+use papers::Desk;
+use papers::changed;
+use papers::failed;
+use papers::refused;
+use phrases::part;
+use plan::Answer;
+use text::Decimal;
+
+// What stands at a place of a post: a number, the end of the line, a name that nobody has, or trouble.
+enum Next {
+    Number { value: u32, to: usize },
+    End,
+    Unnamed { from: usize, to: usize },
+    Wrong { why: Trouble },
+}
+
+// What the words of a post say.
+enum Reading {
+    All { count: usize },
+    Unnamed { from: usize, to: usize },
+    Wrong { why: Trouble },
+}
+
+// The number that a word names as partner, the first of a post, or as operation, the second; 64 where it names none.
+fn named(names: &[u8; 4752], word: &[u8], n: usize) -> usize {
+    if n == 0 {
+        return drawing::partner_named(names, word);
+    }
+    if n == 1 {
+        return drawing::operation_named(names, word);
+    }
+    64
+}
+
+fn of_name(names: &[u8; 4752], word: &[u8], n: usize, from: usize, to: usize) -> Next {
+    let k = named(names, word, n);
+    if k < 64 {
+        return Next::Number {
+            value: k as u32,
+            to,
+        };
+    }
+    if 1 < n {
+        return Next::Wrong {
+            why: Trouble::Unnumbered,
+        };
+    }
+    Next::Unnamed { from, to }
+}
+
+fn of_word(names: &[u8; 4752], word: &[u8], n: usize, from: usize, to: usize) -> Next {
+    let d = text::decimal_of(word);
+    match d {
+        Decimal::Value { value } => Next::Number { value, to },
+        Decimal::Large => Next::Wrong {
+            why: Trouble::Large,
+        },
+        Decimal::Bad => of_name(names, word, n, from, to),
+    }
+}
+
+fn next_of(names: &[u8; 4752], line: &[u8], at: usize, n: usize) -> Next {
+    let w = text::word_at(line, at);
+    if w.to <= w.from {
+        return Next::End;
+    }
+    of_word(names, part(line, w.from, w.to), n, w.from, w.to)
+}
+
+fn store(numbers: &mut [u32; 1001], n: usize, value: u32) {
+    if n < 1001 {
+        numbers[n] = value;
+    }
+}
+
+// The words of a post as numbers: a partner, an operation, and up to eight values.
+fn numbers_of(names: &[u8; 4752], line: &[u8], from: usize, numbers: &mut [u32; 1001]) -> Reading {
+    let mut at = from;
+    let mut n = 0;
+    while n < 11 {
+        let x = next_of(names, line, at, n);
+        match x {
+            Next::End => return Reading::All { count: n },
+            Next::Unnamed { from, to } => return Reading::Unnamed { from, to },
+            Next::Wrong { why } => return Reading::Wrong { why },
+            Next::Number { value, to } => {
+                store(numbers, n, value);
+                at = to;
+            }
+        }
+        n += 1;
+    }
+    Reading::Wrong {
+        why: Trouble::Extra,
+    }
+}
+
+// What becomes of a message that waits now.
+fn put_fate(
+    out: &mut [u8; 4096],
+    used: usize,
+    table: &[u32; 11584],
+    activities: usize,
+    m: Message,
+) -> usize {
+    if !telling::is_received(table, activities, m.partner) {
+        return put(
+            out,
+            used,
+            b"; the plan never receives on this partner, so it leaves by collect",
+        );
+    }
+    if telling::is_taken(table, activities, m.partner, m.operation, m.count) {
+        return used;
+    }
+    put(out, used, b"; no receive of the plan takes it")
+}
+
+fn put_waits(
+    out: &mut [u8; 4096],
+    used: usize,
+    names: &[u8; 4752],
+    state: State,
+    m: Message,
+) -> usize {
+    let mut table = [0u32; 11584];
+    let mut flags = [0u8; 16];
+    let a = machine::limits::planned(state, &mut table, &mut flags);
+    match a {
+        Answer::Refused {
+            number: _,
+            place: _,
+        } => used,
+        Answer::Accepted {
+            variables: _,
+            activities,
+            nodes: _,
+        } => {
+            let mut at = telling::put_letter(out, used, names, &table, activities, m);
+            at = put(out, at, b"; waits at place");
+            at = put_next(out, at, state.waiting as u64);
+            put_fate(out, at, &table, activities, m)
+        }
+    }
+}
+
+fn posted(desk: Desk, m: Message, names: &[u8; 4752], out: &mut [u8; 4096]) -> Desk {
+    let before = desk.state;
+    let p = mail::post(before, m);
+    let at = put_refusal(out, desk.used, b"post", p.refusal);
+    let at = unended(out, at);
+    if p.refusal != 0 {
+        let used = sayings::put_refused(out, at, p.refusal);
+        return refused(desk, used, p.refusal);
+    }
+    let mut used = put(out, at, b" - ");
+    used = put_waits(out, used, names, before, m);
+    used = put_byte(out, used, 10);
+    let state = p.state;
+    let tally = desk.tally;
+    changed(desk, state, tally, desk.plan, used)
+}
+
+// A name that nobody has.
+fn unnamed(desk: Desk, number: u64, word: &[u8], out: &mut [u8; 4096]) -> Desk {
+    let mut at = put(out, desk.used, b"error");
+    at = put_next(out, at, number);
+    at = put(out, at, b" no such name: ");
+    at = put(out, at, word);
+    at = put_byte(out, at, 10);
+    failed(desk, at)
+}
+
+// Posts a message.
+pub(crate) fn post(
+    desk: Desk,
+    line: &[u8],
+    from: usize,
+    number: u64,
+    names: &[u8; 4752],
+    out: &mut [u8; 4096],
+) -> Desk {
+    let mut numbers = [0u32; 1001];
+    let n = numbers_of(names, line, from, &mut numbers);
+    match n {
+        Reading::Wrong { why } => console::wrong(desk, number, why, out),
+        Reading::Unnamed { from, to } => unnamed(desk, number, part(line, from, to), out),
+        Reading::All { count } => {
+            if count < 2 {
+                return console::wrong(desk, number, Trouble::Missing, out);
+            }
+            let m = console::message_of(&numbers, count - 2);
+            posted(desk, m, names, out)
+        }
+    }
+}

@@ -1,0 +1,250 @@
+// A message by the names of the plan that takes it or sent it.
+use drawing::entry;
+use drawing::put;
+use drawing::put_byte;
+use drawing::put_number;
+use drawing::put_operation;
+use drawing::put_partner;
+use drawing::put_variable;
+use machine::Message;
+
+// Whether row n is a receive or an arm.
+fn is_receive(table: &[u32; 11584], n: usize) -> bool {
+    match entry(table, n, 0) {
+        2 | 12 => true,
+        _ => false,
+    }
+}
+
+// Whether row n receives on a partner.
+fn receives_on(table: &[u32; 11584], n: usize, partner: u32) -> bool {
+    if is_receive(table, n) {
+        return entry(table, n, 1) == partner;
+    }
+    false
+}
+
+// Whether the plan receives on a partner. What is sent to any other leaves.
+pub fn is_received(table: &[u32; 11584], activities: usize, partner: u32) -> bool {
+    let mut n = 0;
+    while n < activities {
+        if receives_on(table, n, partner) {
+            return true;
+        }
+        n += 1;
+    }
+    false
+}
+
+// Whether row n, a send or, where `receiving`, a receive, is of this partner, operation and count.
+fn is_of(
+    table: &[u32; 11584],
+    n: usize,
+    receiving: bool,
+    partner: u32,
+    operation: u32,
+    count: u32,
+) -> bool {
+    if is_receive(table, n) != receiving {
+        return false;
+    }
+    if entry(table, n, 1) != partner {
+        return false;
+    }
+    if entry(table, n, 2) != operation {
+        return false;
+    }
+    entry(table, n, 3) == count
+}
+
+// Whether a receive of the plan takes such messages.
+pub fn is_taken(
+    table: &[u32; 11584],
+    activities: usize,
+    partner: u32,
+    operation: u32,
+    count: u32,
+) -> bool {
+    let mut n = 0;
+    while n < activities {
+        if is_of(table, n, true, partner, operation, count) {
+            return true;
+        }
+        n += 1;
+    }
+    false
+}
+
+// The variable that all rows so far have: 16 where they differ, 17 where there was none.
+fn agreed(before: u32, variable: u32) -> u32 {
+    if before == 17 {
+        return variable;
+    }
+    if before == variable {
+        return variable;
+    }
+    16
+}
+
+// The variable at place i of all rows of this kind, partner, operation and count; 16 or more where they have no one variable there.
+fn variable_at(
+    table: &[u32; 11584],
+    activities: usize,
+    receiving: bool,
+    partner: u32,
+    operation: u32,
+    count: u32,
+    field: usize,
+) -> u32 {
+    let mut v = 17;
+    let mut n = 0;
+    while n < activities {
+        if is_of(table, n, receiving, partner, operation, count) {
+            v = agreed(v, entry(table, n, field));
+        }
+        n += 1;
+    }
+    v
+}
+
+// Value i of a message, by its variable where it has one.
+fn put_value(
+    out: &mut [u8; 4096],
+    used: usize,
+    names: &[u8; 4752],
+    variable: u32,
+    front: &[u8],
+    value: u32,
+) -> usize {
+    let mut at = put(out, used, front);
+    if variable < 16 {
+        at = put_variable(out, at, names, variable);
+        at = put_byte(out, at, 32);
+    }
+    put_number(out, at, value as u64)
+}
+
+// Operation and partner, where the partner speaks to us or we to it.
+pub fn put_exchange(
+    out: &mut [u8; 4096],
+    used: usize,
+    names: &[u8; 4752],
+    receiving: bool,
+    partner: u32,
+    operation: u32,
+) -> usize {
+    let mut at = put_operation(out, used, names, operation);
+    if receiving {
+        at = put(out, at, b" from ");
+    } else {
+        at = put(out, at, b" to ");
+    }
+    put_partner(out, at, names, partner)
+}
+
+fn put_values(
+    out: &mut [u8; 4096],
+    used: usize,
+    names: &[u8; 4752],
+    table: &[u32; 11584],
+    activities: usize,
+    receiving: bool,
+    m: Message,
+) -> usize {
+    let values = m.values;
+    let few = m.count as usize;
+    let mut at = put_place(
+        out,
+        used,
+        names,
+        table,
+        activities,
+        receiving,
+        m,
+        4,
+        b": ",
+        values[0],
+    );
+    if 1 < few {
+        at = put_place(
+            out,
+            at,
+            names,
+            table,
+            activities,
+            receiving,
+            m,
+            5,
+            b", ",
+            values[1],
+        );
+    }
+    if 2 < few {
+        at = put_place(
+            out,
+            at,
+            names,
+            table,
+            activities,
+            receiving,
+            m,
+            6,
+            b", ",
+            values[2],
+        );
+    }
+    if 3 < few {
+        at = put_place(
+            out,
+            at,
+            names,
+            table,
+            activities,
+            receiving,
+            m,
+            7,
+            b", ",
+            values[3],
+        );
+    }
+    at
+}
+
+// The value whose variable stands in this field of the rows.
+fn put_place(
+    out: &mut [u8; 4096],
+    used: usize,
+    names: &[u8; 4752],
+    table: &[u32; 11584],
+    activities: usize,
+    receiving: bool,
+    m: Message,
+    field: usize,
+    front: &[u8],
+    value: u32,
+) -> usize {
+    let v = variable_at(
+        table,
+        activities,
+        receiving,
+        m.partner,
+        m.operation,
+        m.count,
+        field,
+    );
+    put_value(out, used, names, v, front, value)
+}
+
+// A message: operation, partner and values.
+pub fn put_letter(
+    out: &mut [u8; 4096],
+    used: usize,
+    names: &[u8; 4752],
+    table: &[u32; 11584],
+    activities: usize,
+    m: Message,
+) -> usize {
+    let receiving = is_received(table, activities, m.partner);
+    let at = put_exchange(out, used, names, receiving, m.partner, m.operation);
+    put_values(out, at, names, table, activities, receiving, m)
+}

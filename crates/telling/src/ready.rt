@@ -1,0 +1,167 @@
+// The tuple of a send or a receive with the values that an order knows.
+use super::letters::put_exchange;
+use drawing::entry;
+use drawing::put;
+use drawing::put_byte;
+use drawing::put_number;
+use drawing::put_variable;
+
+// A variable, with its value where it is bound and asked for.
+fn put_one(
+    out: &mut [u8; 4096],
+    used: usize,
+    names: &[u8; 4752],
+    wanted: bool,
+    bound: &[u8; 16],
+    values: &[u32; 16],
+    variable: u32,
+) -> usize {
+    let at = put_variable(out, used, names, variable);
+    if wanted {
+        return put_bound(out, at, bound, values, variable);
+    }
+    at
+}
+
+fn wide(value: u32) -> u64 {
+    value as u64
+}
+
+fn put_bound(
+    out: &mut [u8; 4096],
+    used: usize,
+    bound: &[u8; 16],
+    values: &[u32; 16],
+    variable: u32,
+) -> usize {
+    let v = variable as usize;
+    if v < 16 {
+        if bound[v] == 1 {
+            let at = put_byte(out, used, 32);
+            return put_number(out, at, wide(values[v]));
+        }
+        return put(out, used, b" (not bound)");
+    }
+    used
+}
+
+// The value of a variable of an order, plus 1; 0 where it is not bound.
+pub fn value_in(bound: &[u8; 16], values: &[u32; 16], variable: u32) -> u64 {
+    let v = variable as usize;
+    if v < 16 {
+        if bound[v] == 1 {
+            return plus_one(values[v]);
+        }
+    }
+    0
+}
+
+fn plus_one(value: u32) -> u64 {
+    value as u64 + 1
+}
+
+// Whether the value of a variable is told: in what is sent always, in what is asked for only where it is for correlation and bound.
+fn is_wanted(sent: bool, flags: &[u8; 16], bound: &[u8; 16], variable: u32) -> bool {
+    if sent {
+        return true;
+    }
+    let v = variable as usize;
+    if v < 16 {
+        if flags[v] == 1 {
+            return bound[v] == 1;
+        }
+    }
+    false
+}
+
+// The variable in a field of row n.
+fn put_member(
+    out: &mut [u8; 4096],
+    used: usize,
+    names: &[u8; 4752],
+    table: &[u32; 11584],
+    flags: &[u8; 16],
+    n: usize,
+    sent: bool,
+    bound: &[u8; 16],
+    values: &[u32; 16],
+    i: usize,
+) -> usize {
+    if i < 4 {
+        if i < entry(table, n, 3) as usize {
+            let v = entry(table, n, 4 + i);
+            let at = put_front(out, used, i);
+            return put_one(
+                out,
+                at,
+                names,
+                is_wanted(sent, flags, bound, v),
+                bound,
+                values,
+                v,
+            );
+        }
+    }
+    used
+}
+
+fn put_front(out: &mut [u8; 4096], used: usize, i: usize) -> usize {
+    if i == 0 {
+        return put(out, used, b": ");
+    }
+    put(out, used, b", ")
+}
+
+// Operation, partner and tuple of row n, with the values of an order.
+fn put_tuple(
+    out: &mut [u8; 4096],
+    used: usize,
+    names: &[u8; 4752],
+    table: &[u32; 11584],
+    flags: &[u8; 16],
+    n: usize,
+    sent: bool,
+    bound: &[u8; 16],
+    values: &[u32; 16],
+) -> usize {
+    let mut at = put_exchange(
+        out,
+        used,
+        names,
+        !sent,
+        entry(table, n, 1),
+        entry(table, n, 2),
+    );
+    at = put_member(out, at, names, table, flags, n, sent, bound, values, 0);
+    at = put_member(out, at, names, table, flags, n, sent, bound, values, 1);
+    at = put_member(out, at, names, table, flags, n, sent, bound, values, 2);
+    put_member(out, at, names, table, flags, n, sent, bound, values, 3)
+}
+
+// What the send in row n sends.
+pub fn put_sent(
+    out: &mut [u8; 4096],
+    used: usize,
+    names: &[u8; 4752],
+    table: &[u32; 11584],
+    flags: &[u8; 16],
+    n: usize,
+    bound: &[u8; 16],
+    values: &[u32; 16],
+) -> usize {
+    put_tuple(out, used, names, table, flags, n, true, bound, values)
+}
+
+// What the receive or arm in row n asks for: of what is for correlation the value that is known.
+pub fn put_known(
+    out: &mut [u8; 4096],
+    used: usize,
+    names: &[u8; 4752],
+    table: &[u32; 11584],
+    flags: &[u8; 16],
+    n: usize,
+    bound: &[u8; 16],
+    values: &[u32; 16],
+) -> usize {
+    put_tuple(out, used, names, table, flags, n, false, bound, values)
+}

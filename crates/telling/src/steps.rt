@@ -1,0 +1,191 @@
+// A step in words, as it was taken.
+use super::letters::put_letter;
+use super::ready::put_sent;
+use drawing::entry;
+use drawing::put;
+use drawing::put_next;
+use drawing::put_variable;
+use machine::Message;
+use machine::Step;
+use order::End;
+use order::Order;
+use order::Worth;
+
+// How an order ended, if it did.
+pub fn put_end(out: &mut [u8; 4096], used: usize, end: End) -> usize {
+    match end {
+        End::None => used,
+        End::Well => put(out, used, b"; it ended well"),
+        End::Handled => put(out, used, b"; it ended handled"),
+        End::Failed => put(out, used, b"; it failed"),
+        End::Left => put(out, used, b"; it left"),
+    }
+}
+
+// Whose step it was; an order that had not begun starts with it.
+fn put_whose(out: &mut [u8; 4096], used: usize, slot: usize, root: u8) -> usize {
+    let mut at = put(out, used, b"order");
+    at = put_next(out, at, slot as u64);
+    if root == 0 {
+        return put(out, at, b" started: it took ");
+    }
+    put(out, at, b" ")
+}
+
+fn put_took(
+    out: &mut [u8; 4096],
+    used: usize,
+    names: &[u8; 4752],
+    table: &[u32; 11584],
+    activities: usize,
+    root: u8,
+    m: Message,
+) -> usize {
+    let mut at = used;
+    if root != 0 {
+        at = put(out, at, b"took ");
+    }
+    put_letter(out, at, names, table, activities, m)
+}
+
+// A send whose variables are not all bound is a fault.
+fn put_send(
+    out: &mut [u8; 4096],
+    used: usize,
+    names: &[u8; 4752],
+    table: &[u32; 11584],
+    flags: &[u8; 16],
+    n: usize,
+    order: Order,
+) -> usize {
+    let bound = order.bound;
+    let values = order.values;
+    if activity::all_bound(table, n, order) {
+        let at = put(out, used, b"sent ");
+        return put_sent(out, at, names, table, flags, n, &bound, &values);
+    }
+    let mut at = put(out, used, b"faulted: it could not send ");
+    at = put_sent(out, at, names, table, flags, n, &bound, &values);
+    at
+}
+
+fn put_set(
+    out: &mut [u8; 4096],
+    used: usize,
+    names: &[u8; 4752],
+    variable: u32,
+    w: Worth,
+) -> usize {
+    match w {
+        Worth::Value { value } => {
+            let mut at = put(out, used, b"set ");
+            at = put_variable(out, at, names, variable);
+            at = put(out, at, b" to");
+            put_next(out, at, value as u64)
+        }
+        Worth::Fault => {
+            let mut at = put(out, used, b"faulted: it could not set ");
+            at = put_variable(out, at, names, variable);
+            put(
+                out,
+                at,
+                b", since a variable is not bound or the result is no number",
+            )
+        }
+    }
+}
+
+fn put_chosen(out: &mut [u8; 4096], used: usize, w: Worth, yes: &[u8], no: &[u8]) -> usize {
+    match w {
+        Worth::Value { value } => {
+            if value == 0 {
+                return put(out, used, no);
+            }
+            put(out, used, yes)
+        }
+        Worth::Fault => put(
+            out,
+            used,
+            b"faulted: it could not decide, since a variable is not bound or a result is no number",
+        ),
+    }
+}
+
+fn worth_of(table: &[u32; 11584], n: usize, order: Order) -> Worth {
+    order::evaluation::evaluate_at(table, order, entry(table, n, 9) as usize, 8)
+}
+
+fn put_closed(out: &mut [u8; 4096], used: usize, n: usize) -> usize {
+    let at = put(out, used, b"closed scope");
+    put_next(out, at, n as u64)
+}
+
+// What a step did, by its activity.
+fn put_did(
+    out: &mut [u8; 4096],
+    used: usize,
+    names: &[u8; 4752],
+    table: &[u32; 11584],
+    flags: &[u8; 16],
+    activities: usize,
+    n: usize,
+    order: Order,
+    m: Message,
+) -> usize {
+    match entry(table, n, 0) {
+        1 => put_send(out, used, names, table, flags, n, order),
+        2 | 12 => put_took(out, used, names, table, activities, order.root, m),
+        3 => put_set(
+            out,
+            used,
+            names,
+            entry(table, n, 8),
+            worth_of(table, n, order),
+        ),
+        4 => put(out, used, b"raised a fault"),
+        5 => put(out, used, b"left what it was doing"),
+        6 => put_chosen(
+            out,
+            used,
+            worth_of(table, n, order),
+            b"decided: then",
+            b"decided: else",
+        ),
+        7 => put_chosen(
+            out,
+            used,
+            worth_of(table, n, order),
+            b"goes round once more",
+            b"goes round no more",
+        ),
+        _ => put_closed(out, used, n),
+    }
+}
+
+// A step that was taken, where `order` stood in its slot before it and `m` is the message at its place.
+pub fn put_step(
+    out: &mut [u8; 4096],
+    used: usize,
+    names: &[u8; 4752],
+    table: &[u32; 11584],
+    flags: &[u8; 16],
+    activities: usize,
+    order: Order,
+    m: Message,
+    x: Step,
+) -> usize {
+    let end = x.end;
+    let mut at = put_whose(out, used, x.slot, order.root);
+    at = put_did(
+        out,
+        at,
+        names,
+        table,
+        flags,
+        activities,
+        x.activity,
+        order,
+        m,
+    );
+    put_end(out, at, end)
+}

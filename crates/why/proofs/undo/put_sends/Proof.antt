@@ -1,0 +1,25 @@
+-- `why::undo::put_sends` is safe and ends. The measure is what is left to go through. Assumes nothing.
+use borrow.Author.Needs.{needs}
+use native.Mathlib.Omega.{arith}
+use Prim.Native.Nat.{_-_}
+use Rattle.why.proofs.undo.put_sends.Statement.{statement}
+use Rattle.why.proofs.undo.put_sends.Tie as tie
+
+abbrev Inv-loop : tie.InvT-loop
+Inv-loop out₀ used names table flags from to order at₀ n₀ out at n = Unit {0}
+
+abbrev μ-loop : tie.MeasureT-loop
+μ-loop out₀ used names table flags from to order at₀ n₀ out at n = to - n
+
+pub put-sends-spec : {M : Type 1} → statement M
+put-sends-spec =
+    tie.close
+    (tie.spec
+    Inv-loop
+    μ-loop
+    (λ c. tt)
+    (λ c κs. search needs)
+    (λ c. omega arith)
+    (λ c. omega arith)
+    (λ c. tt)
+    (λ c. tt))

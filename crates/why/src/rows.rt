@@ -1,0 +1,160 @@
+// What an order does and waits for, a line for each activity that awaits its step.
+use super::near::put_near;
+use drawing::entry;
+use drawing::put;
+use drawing::put_activity;
+use drawing::put_byte;
+use drawing::put_next;
+use machine::State;
+use order::Order;
+use telling::put_known;
+use telling::put_sent;
+
+fn mark_at(marks: &[u8; 256], n: usize) -> u8 {
+    if n < 256 {
+        return marks[n];
+    }
+    0
+}
+
+fn put_place(out: &mut [u8; 4096], used: usize, n: usize) -> usize {
+    let mut at = put(out, used, b" (activity");
+    at = put_next(out, at, n as u64);
+    put(out, at, b")")
+}
+
+// A receive or an arm that is open, and the messages beside it.
+fn put_open(
+    out: &mut [u8; 4096],
+    used: usize,
+    names: &[u8; 4752],
+    table: &[u32; 11584],
+    flags: &[u8; 16],
+    n: usize,
+    state: State,
+    order: Order,
+) -> usize {
+    let bound = order.bound;
+    let values = order.values;
+    let messages = state.messages;
+    let known = fit::fitness::known_of(flags, order);
+    let asked = fit::fitness::asked_at(table, &known, n);
+    let mut at = put(out, used, b"  waits for ");
+    at = put_known(out, at, names, table, flags, n, &bound, &values);
+    at = put_place(out, at, n);
+    at = put_byte(out, at, 10);
+    put_near(out, at, names, table, n, &asked, messages, state.waiting)
+}
+
+// A send that awaits its step: held while 64 messages wait, and a fault where a variable is not bound.
+fn put_send(
+    out: &mut [u8; 4096],
+    used: usize,
+    names: &[u8; 4752],
+    table: &[u32; 11584],
+    flags: &[u8; 16],
+    n: usize,
+    waiting: usize,
+    order: Order,
+) -> usize {
+    let bound = order.bound;
+    let values = order.values;
+    let mut at = put(out, used, b"  is to send ");
+    at = put_sent(out, at, names, table, flags, n, &bound, &values);
+    at = put_place(out, at, n);
+    if activity::all_bound(table, n, order) {
+        if 64 <= waiting {
+            return put(out, at, b": held, since 64 messages wait\n");
+        }
+        return put_byte(out, at, 10);
+    }
+    put(out, at, b": it will fault\n")
+}
+
+fn put_close(out: &mut [u8; 4096], used: usize, n: usize, kept: usize) -> usize {
+    let mut at = put(out, used, b"  is to close scope");
+    at = put_next(out, at, n as u64);
+    if 32 <= kept {
+        return put(out, at, b": held, where it remembers 32 closings\n");
+    }
+    put_byte(out, at, 10)
+}
+
+fn put_ready(
+    out: &mut [u8; 4096],
+    used: usize,
+    names: &[u8; 4752],
+    table: &[u32; 11584],
+    flags: &[u8; 16],
+    n: usize,
+) -> usize {
+    let mut at = put(out, used, b"  is to ");
+    at = put_activity(out, at, names, table, flags, n);
+    at = put_place(out, at, n);
+    put_byte(out, at, 10)
+}
+
+// Activity n, which has the mark of what awaits its step or runs.
+fn put_active(
+    out: &mut [u8; 4096],
+    used: usize,
+    names: &[u8; 4752],
+    table: &[u32; 11584],
+    flags: &[u8; 16],
+    n: usize,
+    state: State,
+    order: Order,
+) -> usize {
+    match entry(table, n, 0) {
+        1 => put_send(out, used, names, table, flags, n, state.waiting, order),
+        2 => put_open(out, used, names, table, flags, n, state, order),
+        3 | 4 | 5 | 6 | 7 => put_ready(out, used, names, table, flags, n),
+        _ => used,
+    }
+}
+
+// Activity or arm n.
+fn put_row(
+    out: &mut [u8; 4096],
+    used: usize,
+    names: &[u8; 4752],
+    table: &[u32; 11584],
+    flags: &[u8; 16],
+    picks: &[usize; 256],
+    n: usize,
+    state: State,
+    order: Order,
+) -> usize {
+    let marks = order.marks;
+    let mark = mark_at(&marks, n);
+    if mark == 1 {
+        return put_active(out, used, names, table, flags, n, state, order);
+    }
+    if mark == 3 {
+        return put_close(out, used, n, order.kept);
+    }
+    if fit::search::arm_open(table, picks, &marks, n) {
+        return put_open(out, used, names, table, flags, n, state, order);
+    }
+    used
+}
+
+pub(crate) fn put_rows(
+    out: &mut [u8; 4096],
+    used: usize,
+    names: &[u8; 4752],
+    table: &[u32; 11584],
+    flags: &[u8; 16],
+    picks: &[usize; 256],
+    activities: usize,
+    state: State,
+    order: Order,
+) -> usize {
+    let mut at = used;
+    let mut n = 0;
+    while n < activities {
+        at = put_row(out, at, names, table, flags, picks, n, state, order);
+        n += 1;
+    }
+    at
+}

@@ -1,0 +1,189 @@
+// The messages that no receive of the plan can ever take, and those that no order can take now.
+use drawing::put;
+use drawing::put_next;
+use fit::Receiver;
+use machine::Message;
+use machine::State;
+use order::Order;
+use telling::is_received;
+use telling::is_taken;
+use telling::put_letter;
+
+// Whether an order as it starts would take message j.
+fn could_start(
+    table: &[u32; 11584],
+    picks: &[usize; 256],
+    marks: &[u8; 256],
+    known: &[u64; 16],
+    activities: usize,
+    letters: &[u32; 448],
+    j: usize,
+) -> bool {
+    let mut n = 0;
+    while n < activities {
+        if fit::search::takes_at(table, picks, marks, known, n, letters, j) {
+            return true;
+        }
+        n += 1;
+    }
+    false
+}
+
+fn starts(
+    table: &[u32; 11584],
+    flags: &[u8; 16],
+    picks: &[usize; 256],
+    activities: usize,
+    letters: &[u32; 448],
+    j: usize,
+) -> bool {
+    let order = beginning::started_order(table);
+    let marks = order.marks;
+    let known = fit::fitness::known_of(flags, order);
+    could_start(table, picks, &marks, &known, activities, letters, j)
+}
+
+// Who takes message j: 0 nobody, 1 an order that is live, 2 one that would start.
+fn taker_of(
+    table: &[u32; 11584],
+    flags: &[u8; 16],
+    picks: &[usize; 256],
+    activities: usize,
+    orders: [Order; 16],
+    letters: &[u32; 448],
+    j: usize,
+) -> u32 {
+    let r = fit::search::first_receiver(table, flags, picks, orders, activities, letters, j);
+    match r {
+        Receiver::At {
+            slot: _,
+            activity: _,
+        } => 1,
+        Receiver::Nothing => {
+            if starts(table, flags, picks, activities, letters, j) {
+                return 2;
+            }
+            0
+        }
+    }
+}
+
+fn put_message(
+    out: &mut [u8; 4096],
+    used: usize,
+    names: &[u8; 4752],
+    table: &[u32; 11584],
+    activities: usize,
+    j: usize,
+    m: Message,
+    why: &[u8],
+) -> usize {
+    let mut at = put(out, used, b"message");
+    at = put_next(out, at, j as u64);
+    at = put(out, at, b", ");
+    at = put_letter(out, at, names, table, activities, m);
+    put(out, at, why)
+}
+
+// Message j, where nobody takes it.
+fn put_stray(
+    out: &mut [u8; 4096],
+    used: usize,
+    names: &[u8; 4752],
+    table: &[u32; 11584],
+    activities: usize,
+    taker: u32,
+    full: bool,
+    j: usize,
+    m: Message,
+) -> usize {
+    if !is_received(table, activities, m.partner) {
+        return used;
+    }
+    if !is_taken(table, activities, m.partner, m.operation, m.count) {
+        return put_message(
+            out,
+            used,
+            names,
+            table,
+            activities,
+            j,
+            m,
+            b": no receive of the plan takes it\n",
+        );
+    }
+    if taker == 0 {
+        return put_message(
+            out,
+            used,
+            names,
+            table,
+            activities,
+            j,
+            m,
+            b": no order takes it now\n",
+        );
+    }
+    if is_held(taker, full) {
+        return put_message(
+            out,
+            used,
+            names,
+            table,
+            activities,
+            j,
+            m,
+            b": it would start an order: held, since 16 orders are live\n",
+        );
+    }
+    used
+}
+
+// Whether a message that would start an order is held.
+fn is_held(taker: u32, full: bool) -> bool {
+    if taker == 2 {
+        return full;
+    }
+    false
+}
+
+// Whether no slot is free.
+fn is_full(orders: [Order; 16]) -> bool {
+    let mut slot = 0;
+    while slot < 16 {
+        let order = orders[slot];
+        if order.root == 0 {
+            return false;
+        }
+        slot += 1;
+    }
+    true
+}
+
+pub(crate) fn put_strays(
+    out: &mut [u8; 4096],
+    used: usize,
+    names: &[u8; 4752],
+    table: &[u32; 11584],
+    flags: &[u8; 16],
+    picks: &[usize; 256],
+    activities: usize,
+    state: State,
+) -> usize {
+    let orders = state.orders;
+    let messages = state.messages;
+    let waiting = state.waiting;
+    let letters = fit::letters::letters_of(messages, waiting);
+    let full = is_full(orders);
+    let mut at = used;
+    let mut j = 0;
+    while j < 64 {
+        if j < waiting {
+            let m = messages[j];
+            let taker = taker_of(table, flags, picks, activities, orders, &letters, j);
+            at = put_stray(out, at, names, table, activities, taker, full, j, m);
+        }
+        j += 1;
+    }
+    at
+}
