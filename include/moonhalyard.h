@@ -192,6 +192,11 @@ uint32_t moonhalyard_post(uint8_t *state, size_t size, uint32_t partner, uint32_
    below 28 the answer is 18, and neither changes. Bytes of `message` after the first 28 never change. */
 uint32_t moonhalyard_collect(uint8_t *state, size_t size, uint8_t *message, size_t room);
 
+/* Drops the message that waits at a place, counted from 0, oldest first, whatever its partner: a way out for one that nothing will ever take. It is
+   written into the first 28 bytes of `message`, and waits no longer. The answer is 0 or a refusal (18, 17, 15), with the same outcome as that of
+   moonhalyard_collect; 15 where no message waits at that place. */
+uint32_t moonhalyard_drop(uint8_t *state, size_t size, size_t place, uint8_t *message, size_t room);
+
 /* The step that a choice would take, not taken. Choices count from 0. The answer is
      slot times 2^24 + activity times 2^16 + message place times 2^8
    or a refusal (17, 10, 11, 12) times 2^32. Where the slot is free, the step starts an order there. A step of a receive or an arm takes the message at
@@ -262,6 +267,10 @@ static inline uint32_t moonhalyard_collect_apart(uint8_t *state, size_t size, ui
 {
     return moonhalyard_apart(state, size, message, room) ? moonhalyard_collect(state, size, message, room) : (uint32_t)MOONHALYARD_ROOM;
 }
+static inline uint32_t moonhalyard_drop_apart(uint8_t *state, size_t size, size_t place, uint8_t *message, size_t room)
+{
+    return moonhalyard_apart(state, size, message, room) ? moonhalyard_drop(state, size, place, message, room) : (uint32_t)MOONHALYARD_ROOM;
+}
 static inline uint32_t moonhalyard_run_apart(uint8_t *state, size_t size, const uint64_t *choices, size_t many, uint64_t *budget)
 {
     return moonhalyard_apart(state, size, choices, 8 * many) && moonhalyard_apart(state, size, budget, 8) && moonhalyard_apart(choices, 8 * many, budget, 8)
@@ -287,6 +296,7 @@ static inline uint64_t moonhalyard_mend_apart(const uint8_t *plan, size_t n, uin
 #define moonhalyard_load(plan, n, state, size) moonhalyard_load_apart(plan, n, state, size)
 #define moonhalyard_upgrade(old, n, state, size) moonhalyard_upgrade_apart(old, n, state, size)
 #define moonhalyard_collect(state, size, message, room) moonhalyard_collect_apart(state, size, message, room)
+#define moonhalyard_drop(state, size, place, message, room) moonhalyard_drop_apart(state, size, place, message, room)
 #define moonhalyard_run(state, size, choices, many, budget) moonhalyard_run_apart(state, size, choices, many, budget)
 #define moonhalyard_text(text, n, plan, room) moonhalyard_text_apart(text, n, plan, room)
 #define moonhalyard_write(table, numbers, plan, room) moonhalyard_write_apart(table, numbers, plan, room)

@@ -116,6 +116,25 @@ static void offsets(void)
     same(MOONHALYARD_ORDERS + MOONHALYARD_ORDERS_MOST * MOONHALYARD_ORDER, MOONHALYARD_STATE);
 }
 
+/* Any waiting message is dropped by its place, whatever its partner; the others move up. */
+static void drops(void)
+{
+    static uint8_t other[MOONHALYARD_STATE];
+    uint8_t message[MOONHALYARD_MESSAGE];
+    memcpy(other, state, sizeof state);
+    same(moonhalyard_long(other + MOONHALYARD_WAITING), 1);
+    same(moonhalyard_post(other, sizeof other, 0, 0, 1, 9, 0, 0, 0), 0);
+    same(moonhalyard_drop(other, sizeof other, 2, message, sizeof message), 15);
+    same(moonhalyard_drop(other, sizeof other, 0, message, sizeof message - 1), 18);
+    same(moonhalyard_drop(other, sizeof other, 0, other, MOONHALYARD_MESSAGE), 18);
+    same(moonhalyard_drop(other, sizeof other, 1, message, sizeof message), 0);
+    same(moonhalyard_number(message + MOONHALYARD_MESSAGE_VALUES), 9);
+    same(memcmp(other, state, sizeof state), 0);
+    same(moonhalyard_drop(other, sizeof other, 0, message, sizeof message), 0);
+    same(moonhalyard_number(message + MOONHALYARD_MESSAGE_PARTNER), 63);
+    same(moonhalyard_long(other + MOONHALYARD_WAITING), 0);
+}
+
 /* Overlapping buffers are refused, and nothing changes. */
 static void overlaps(void)
 {
@@ -163,6 +182,7 @@ static void *texts_in(void *none)
 static void *calls_in(void *none)
 {
     offsets();
+    drops();
     overlaps();
     same(ended(state) > 0, 1);
     return none;

@@ -78,6 +78,7 @@ def _library() -> ctypes.CDLL:
         ("upgrade", u32, u8, size, u8, size),
         ("post", u32, u8, size, u32, u32, u32, u32, u32, u32, u32),
         ("collect", u32, u8, size, u8, size),
+        ("drop", u32, u8, size, size, u8, size),
         ("offer", u64, u8, size, u64),
         ("offers", u64, u8, size),
         ("step", u64, u8, size, u64),
@@ -271,6 +272,16 @@ class State:
         """The oldest message for a partner that the plan never receives on, which waits no longer; None where there is none."""
         message = ctypes.create_string_buffer(MESSAGE)
         refusal = _c.moonhalyard_collect(self._bytes, STATE, message, MESSAGE)
+        if refusal == 15:
+            return None
+        if refusal:
+            raise Refused(refusal)
+        return _message(message.raw)
+
+    def drop(self, place: int) -> Optional[Message]:
+        """The message that waits at a place, counted from 0, which waits no longer, whatever its partner; None where none waits there."""
+        message = ctypes.create_string_buffer(MESSAGE)
+        refusal = _c.moonhalyard_drop(self._bytes, STATE, _within(place, 2**64 - 1), message, MESSAGE)
         if refusal == 15:
             return None
         if refusal:

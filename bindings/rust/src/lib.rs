@@ -256,6 +256,14 @@ impl State {
         Ok(message(&bytes))
     }
 
+    /// The message that waits at a place, counted from 0, which waits no longer, whatever its partner; 15 where none waits there.
+    pub fn drop_at(&mut self, place: usize) -> Result<Message, Refused> {
+        let mut bytes = [0; layout::MESSAGE];
+        // SAFETY: as above.
+        refused(unsafe { sys::moonhalyard_drop(self.0.as_mut_ptr(), self.0.len(), place, bytes.as_mut_ptr(), bytes.len()) })?;
+        Ok(message(&bytes))
+    }
+
     /// How many steps are offered, and whether something is held.
     pub fn offers(&self) -> Result<Offers, Refused> {
         // SAFETY: as above.
