@@ -32,9 +32,8 @@ fn posted(state: &mut [u8], message: Message) {
 /// A plan of 256 activities: after its start 244 receives are open, all on (1, 1) with variable 0 for correlation, and no two with the same variables.
 fn many_receives() -> Vec<u8> {
     let mut sheet = Sheet::default();
-    let mut others = (1..16).flat_map(|a| {
-        (a + 1..16).flat_map(move |b| (b + 1..16).map(move |c| [0, a, b, c]))
-    });
+    let mut others =
+        (1..16).flat_map(|a| (a + 1..16).flat_map(move |b| (b + 1..16).map(move |c| [0, a, b, c])));
     sheet.header(16, &[0]);
     list(&mut sheet, 8, 2);
     sheet.begin();

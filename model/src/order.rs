@@ -251,7 +251,8 @@ impl Running<'_> {
 
     /// A raise in place of a receive or an arm, which is over with it: an arm with its pick.
     pub fn raise_in_place(&mut self, k: usize) {
-        if let (Kind::Arm(_), Part::Within(pick)) = (self.plan.kind(k), self.plan.activities[k].part)
+        if let (Kind::Arm(_), Part::Within(pick)) =
+            (self.plan.kind(k), self.plan.activities[k].part)
         {
             self.order.marks[pick] = INSIDE;
         }
