@@ -2,7 +2,7 @@
 
    Link with libmoonhalyard (`pkg-config --cflags --libs moonhalyard`), which is for x86-64 Linux and needs nothing but memcpy, memmove and memset.
 
-   A plan is bytes. A state is 11,964 bytes that the caller keeps: it holds the plan, the orders, the messages that wait and the tally. No call
+   A plan is bytes. A state is 12,476 bytes that the caller keeps: it holds the plan, the orders, the messages that wait and the tally. No call
    keeps anything of its own, so a state may be copied, written to a file and read back, and two states have nothing to do with each other.
 
    Every call answers on every input; there is nothing that a caller must have checked before. What a caller must see to:
@@ -57,7 +57,7 @@ enum moonhalyard_refusal {
 const char *moonhalyard_says(uint32_t refusal);
 
 /* The bytes of a state: offsets, sizes, and how many there are at most of what there are several (data/layout.txt; docs/EMBEDDING.md has them with their
-   meaning). All numbers have their least byte first. The offsets in a message count from its first byte, those in an order too.
+   meaning). All numbers have their least byte first. The offsets in a message count from its first byte, those in an order and in a closing too.
 
    An order's root and each activity and arm has a mark. The root's: 0 the slot is free, 1 running, 4 faulted, 5 undoing, 6 running its fault part.
    The marks of activities: 0 not begun, or over; 1 awaits its step, but of a sequence or a flow: runs, and of a scope: its body runs; 2 a choose or a repeat
@@ -70,7 +70,7 @@ const char *moonhalyard_says(uint32_t refusal);
    Bytes of another length or with another mark in front hold no state: every call but load and upgrade answers 17 for them and leaves them as they
    are. */
 /* layout: written by tools/layout from data/layout.txt */
-#define MOONHALYARD_MARK "MOONHAL1"
+#define MOONHALYARD_MARK "MOONHAL2"
 #define MOONHALYARD_TALLY_STARTED 8
 #define MOONHALYARD_TALLY_WELL 12
 #define MOONHALYARD_TALLY_HANDLED 16
@@ -83,7 +83,7 @@ const char *moonhalyard_says(uint32_t refusal);
 #define MOONHALYARD_MESSAGES_MOST 64
 #define MOONHALYARD_ORDERS 5932
 #define MOONHALYARD_ORDERS_MOST 16
-#define MOONHALYARD_STATE 11964
+#define MOONHALYARD_STATE 12476
 #define MOONHALYARD_MESSAGE_PARTNER 0
 #define MOONHALYARD_MESSAGE_OPERATION 4
 #define MOONHALYARD_MESSAGE_COUNT 8
@@ -99,8 +99,11 @@ const char *moonhalyard_says(uint32_t refusal);
 #define MOONHALYARD_ORDER_BOUND_MOST 16
 #define MOONHALYARD_ORDER_REMEMBERED 337
 #define MOONHALYARD_ORDER_REMEMBERED_MOST 32
-#define MOONHALYARD_ORDER_KEPT 369
-#define MOONHALYARD_ORDER 377
+#define MOONHALYARD_ORDER_KEPT 401
+#define MOONHALYARD_ORDER 409
+#define MOONHALYARD_CLOSING_SCOPE 0
+#define MOONHALYARD_CLOSING_PART 1
+#define MOONHALYARD_CLOSING 2
 /* layout end */
 
 /* Numbers in a state or a message, at an offset: of 4 bytes, and of 8. */
@@ -174,12 +177,12 @@ uint64_t moonhalyard_show(const uint8_t *plan, size_t n, uint32_t k);
 
 /* Loads a plan. The answer is 0; or its refusal (1 to 9, 21) times 2^32, and the refusal's place. The state is a fresh one with the plan, with no
    order and no message, or, where the plan is refused, one with no plan; nothing is counted. Whatever `state` held before does not matter.
-   Where `size` is not 11,964 the answer is 18 times 2^32, and nothing is written. */
+   Where `size` is not 12,476 the answer is 18 times 2^32, and nothing is written. */
 uint64_t moonhalyard_load(const uint8_t *plan, size_t n, uint8_t *state, size_t size);
 
 /* Brings a state of this or an older version, as it was saved, up to date: `old` is read, `state` is written. The answer is 0 or a refusal (18 where `size`
-   is not 11,964, 17 where `old` holds no state), and where it is refused nothing is written. There is one version as yet, MOONHAL1, which comes out as it
-   is. Whether its plan is accepted and its numbers are within their limits the other calls see. */
+   is not 12,476, 17 where `old` holds no state), and where it is refused nothing is written. A state of this version, MOONHAL2, comes out as it is; one of the
+   first, MOONHAL1, of 11,964 bytes, as the same state of this one. Whether its plan is accepted and its numbers are within their limits the other calls see. */
 uint32_t moonhalyard_upgrade(const uint8_t *old, size_t n, uint8_t *state, size_t size);
 
 /* Posts a message: it waits after the others. The answer is 0 or a refusal (17, 13, 14), and where it is refused the state is left as it is.

@@ -46,7 +46,7 @@ static const char *const reasons[] = {
     "arms stand in a pick, and nothing else does",
     "expected another part: root body, root fault part; of a scope body, fault part, undo part; of a choose then, else",
     "more than 63 activities within one another",
-    "a part is missing: the root and a choose have 2, a scope 3, a repeat and an arm 1",
+    "a part is missing: the root and a choose have 2, a scope 2 or 3, a repeat and an arm 1",
     "the text has no activity",
     "a tab stands in it, where blanks may",
     "a name has at most 32 characters",

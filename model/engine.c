@@ -2,7 +2,7 @@
    digest of all that the call could write go out for each, in eight bytes each. calls.rs is the other side. It ends where its input does. */
 #include "pipes.h"
 
-enum { BATCH = 1 << 20, STATE = 12000, MESSAGE = 40, CHOICES = 4096 };
+enum { BATCH = 1 << 20, STATE = 12512, MESSAGE = 40, CHOICES = 4096 };
 enum { PUT, LOAD, POST, COLLECT, OFFER, OFFERS, STEP, RUN, GET, SHOW };
 static u8 batch[BATCH], *at;
 static struct { u8 state[STATE], message[MESSAGE]; u64 budget; } desk;

@@ -25,7 +25,7 @@ __all__ = [
 ]
 
 # layout: written by tools/layout from data/layout.txt
-MARK = b"MOONHAL1"
+MARK = b"MOONHAL2"
 TALLY_STARTED = 8
 TALLY_WELL = 12
 TALLY_HANDLED = 16
@@ -38,7 +38,7 @@ MESSAGES = 4140
 MESSAGES_MOST = 64
 ORDERS = 5932
 ORDERS_MOST = 16
-STATE = 11964
+STATE = 12476
 MESSAGE_PARTNER = 0
 MESSAGE_OPERATION = 4
 MESSAGE_COUNT = 8
@@ -54,8 +54,11 @@ ORDER_BOUND = 321
 ORDER_BOUND_MOST = 16
 ORDER_REMEMBERED = 337
 ORDER_REMEMBERED_MOST = 32
-ORDER_KEPT = 369
-ORDER = 377
+ORDER_KEPT = 401
+ORDER = 409
+CLOSING_SCOPE = 0
+CLOSING_PART = 1
+CLOSING = 2
 # layout end
 ROW = 20
 ENDS = ("none", "well", "handled", "failed", "left")
@@ -345,7 +348,7 @@ class State:
                     order[ORDER_ROOT],
                     order[ORDER_MARKS : ORDER_MARKS + ORDER_MARKS_MOST],
                     {i: _number(order, ORDER_VALUES + 4 * i) for i in bound},
-                    tuple(order[ORDER_REMEMBERED : ORDER_REMEMBERED + kept]),
+                    tuple(order[ORDER_REMEMBERED + CLOSING_SCOPE + CLOSING * i] for i in range(kept)),
                 ))
         return found
 

@@ -3,7 +3,7 @@
 use crate::calls::{Call, Desk, Library, Told, tell};
 use crate::describe;
 use crate::packed::{self, SIZE};
-use crate::state::{NO_ORDER, State};
+use crate::state::{NO_CLOSING, NO_ORDER, State};
 use std::process::exit;
 
 const BATCH: usize = 1 << 19;
@@ -256,7 +256,7 @@ fn bare(bytes: &[u8]) -> Vec<Vec<u8>> {
                 let mut less = state.clone();
                 let order = &mut less.orders[slot];
                 order.remembered.copy_within(at + 1.., at);
-                order.remembered[31] = 0;
+                order.remembered[31] = NO_CLOSING;
                 order.kept -= 1;
                 add(&less);
             }

@@ -68,10 +68,12 @@ pub fn fields(state: &State) -> Vec<String> {
                 ));
             }
         }
-        lines.push(format!(
-            "order {slot} kept {} of {:?}",
-            order.kept, order.remembered
-        ));
+        let closings: Vec<(u8, u8)> = order
+            .remembered
+            .iter()
+            .map(|each| (each.scope, each.part))
+            .collect();
+        lines.push(format!("order {slot} kept {} of {closings:?}", order.kept));
     }
     lines
 }

@@ -91,7 +91,7 @@ struct Holder {
     handler: bool,
 }
 
-const HOLDERS: [Holder; 11] = [
+const HOLDERS: [Holder; 13] = [
     Holder {
         name: "choose, first",
         before: &[6, 0, 0],
@@ -180,6 +180,22 @@ const HOLDERS: [Holder; 11] = [
         scope: true,
         handler: true,
     },
+    Holder {
+        name: "scope with no undo part, body",
+        before: &[12],
+        after: &[0],
+        adds: 2,
+        scope: true,
+        handler: false,
+    },
+    Holder {
+        name: "scope with no undo part, fault",
+        before: &[12, 0],
+        after: &[],
+        adds: 2,
+        scope: true,
+        handler: true,
+    },
 ];
 
 /// `inner` held `times` deep: the bytes, and the place of `inner` in them.
@@ -226,7 +242,7 @@ pub fn every_code() -> Sheet {
     sheet.header(5, &[0, 3]);
     let body = sheet.begin();
     sheet.put(Kind::Code, 8);
-    sheet.put(Kind::ListCount, 10);
+    sheet.put(Kind::ListCount, 11);
 
     let receive = sheet.begin();
     sheet.message(Some(2), 63, 0, &[4, 0, 3, 1]);
@@ -299,6 +315,12 @@ pub fn every_code() -> Sheet {
     let undo = sheet.begin();
     sheet.message(Some(1), 1, 1, &[0]);
     sheet.end(undo);
+    sheet.end(scope);
+
+    let scope = sheet.begin();
+    sheet.put(Kind::Code, 12);
+    one(&mut sheet, 0);
+    one(&mut sheet, 4);
     sheet.end(scope);
 
     one(&mut sheet, 4);
@@ -774,7 +796,7 @@ fn lists(cases: &mut Cases) {
         cases.add(format!("pick of {count}, then no bytes"), bytes, answer);
     }
     for code in TELLING {
-        if code > 11 {
+        if code > 12 {
             let name = format!("code {code}");
             cases.add(
                 format!("{name} as body"),
@@ -831,8 +853,9 @@ fn depths(cases: &mut Cases) {
         if holder.before.len() == first_of(holder) {
             for (inner, number) in [
                 (&[0x80, 0x00][..], 3),
-                (&[12], 4),
+                (&[13], 4),
                 (&[11, 0, 0, 0], 8),
+                (&[12, 0, 0], 8),
                 (&[9, 1, 0], 6),
             ] {
                 let (nested, place) = nest(holder, 16, inner);
@@ -865,6 +888,7 @@ fn depths(cases: &mut Cases) {
         ("sequence", &[8, 1][..], &[][..], 1),
         ("flow", &[9, 1], &[], 1),
         ("scope", &[11], &[0, 0], 3),
+        ("scope with no undo part", &[12], &[0], 2),
     ] {
         for times in [15, 16] {
             let bytes = join(&[
@@ -940,7 +964,7 @@ fn first_of(holder: &Holder) -> usize {
     match holder.name {
         "choose, second" => 3,
         "sequence, last" => 2,
-        "scope, fault" | "scope, undo" => 1,
+        "scope, fault" | "scope, undo" | "scope with no undo part, fault" => 1,
         _ => holder.before.len(),
     }
 }
@@ -977,8 +1001,9 @@ fn crowds(cases: &mut Cases) {
     for (more, number) in [
         (&[0x80][..], 2),
         (&[0x80, 0x00], 3),
-        (&[12], 4),
+        (&[13], 4),
         (&[11, 0, 0, 0], 8),
+        (&[12, 0, 0], 8),
         (&[0], 6),
         (&[1, 64], 6),
         (&[0, 0], 6),
@@ -1015,7 +1040,8 @@ fn crowds(cases: &mut Cases) {
         for (value, arm, other) in [
             (&[64][..], 5, 6),
             (&[0x80, 0x00], 3, 3),
-            (&[12], 6, 4),
+            (&[13], 6, 4),
+            (&[12], 6, 6),
             (&[63], 6, 4),
             (&[11], 6, 6),
         ] {
@@ -1069,6 +1095,32 @@ fn scopes(cases: &mut Cases) {
         &after_receive(&[8, 2, 11, 0, 0, 0, 11, 0, 0, 0]),
         12,
     );
+    let bare = &[12, 0, 0][..];
+    cases.good("scope with no undo part", &after_receive(bare), 6);
+    cases.good(
+        "scopes with no undo part, in each other and beside one another",
+        &after_receive(&[12, 8, 3, 12, 0, 0, 11, 12, 0, 0, 0, 0, 12, 0, 0, 0]),
+        18,
+    );
+    cases.add(
+        "scope with no undo part, and an undo part after it",
+        after_receive(&[12, 0, 0, 0]),
+        Refused(9, 15),
+    );
+    cases.add(
+        "scope with no undo part as root fault part",
+        as_fault(bare),
+        Refused(8, 9),
+    );
+    for (at, bytes) in [
+        (12, &[11, 0, 12, 0, 0, 0][..]),
+        (13, &[11, 0, 0, 12, 0, 0]),
+        (12, &[12, 0, 12, 0, 0]),
+        (12, &[12, 0, 11, 0, 0, 0]),
+    ] {
+        let name = format!("{bytes:02x?} has a scope in a part");
+        cases.add(name, after_receive(bytes), Refused(8, at + 1));
+    }
     cases.add("scope as root fault part", as_fault(scope), Refused(8, 9));
     cases.add(
         "scope as root fault part, its code the last byte",
@@ -1103,7 +1155,7 @@ fn scopes(cases: &mut Cases) {
             let answer = if holder.handler {
                 Refused(8, 11 + inner)
             } else {
-                Accepted(10)
+                Accepted(7 + holder.adds)
             };
             cases.add(
                 format!("scope in {}", holder.name),
@@ -1176,10 +1228,12 @@ fn start_forms(cases: &mut Cases) {
             forms.push((join(&[&[9, 2], RECEIVE, bytes]), 2 + count, starts));
             forms.push((join(&[&[9, 3], pick, bytes, RECEIVE]), 5 + count, starts));
             forms.push((join(&[&[11], bytes, EMPTY, EMPTY]), 3 + count, starts));
+            forms.push((join(&[&[12], bytes, EMPTY]), 2 + count, starts));
             forms.push((join(&[&[10, 1, 0, 0, 1, 0], bytes]), 2 + count, true));
             forms.push((join(&[&[7, 0, 0], bytes]), 1 + count, false));
             forms.push((join(&[&[6, 0, 0], bytes, bytes]), 1 + 2 * count, false));
-            if !bytes.contains(&11) {
+            if !bytes.contains(&11) && !bytes.contains(&12) {
+                forms.push((join(&[&[12], EMPTY, bytes]), 2 + count, false));
                 forms.push((join(&[&[11], EMPTY, bytes, RECEIVE]), 3 + count, false));
             }
         }
@@ -1206,7 +1260,7 @@ fn start_forms(cases: &mut Cases) {
         );
         cases.add(
             format!("body {bytes:02x?}, bad fault part"),
-            join(&[&plan[..length - 1], &[12]]),
+            join(&[&plan[..length - 1], &[13]]),
             Refused(4, length - 1),
         );
     }
@@ -1224,7 +1278,7 @@ fn start_forms(cases: &mut Cases) {
 
 /// Two troubles in one plan: the first from the left decides.
 fn orders(cases: &mut Cases) {
-    cases.add("V 0 and a bad code", [1, 0, 0, 12], Refused(5, 1));
+    cases.add("V 0 and a bad code", [1, 0, 0, 13], Refused(5, 1));
     cases.add("bad version and V 0", [2, 0], Refused(4, 0));
     cases.add("V 17 and then no bytes", [1, 17], Refused(5, 1));
     cases.add("V 1, count 2 and then no bytes", [1, 1, 2], Refused(5, 2));
@@ -1333,7 +1387,7 @@ fn agreement(cases: &mut Cases) {
     );
     cases.add(
         "another count, and a bad code after it",
-        join(&[HEAD, THEN, &[2, 3, 5, 2, 0, 1], &[12]]),
+        join(&[HEAD, THEN, &[2, 3, 5, 2, 0, 1], &[13]]),
         Refused(4, 17),
     );
 }

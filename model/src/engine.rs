@@ -1,4 +1,4 @@
-//! The calls of the engine on a state: load, post, collect, offer, offers, step and run, written from document 01 alone.
+//! The calls of the engine on a state: load, post, collect, offer, offers, step and run, written from documents 01 and 02 alone.
 
 use crate::order::{Running, kept_after_close};
 use crate::plan::{Kind, Part, Plan, Tuple};
@@ -15,12 +15,15 @@ pub struct Step {
     pub starts: bool,
 }
 
-/// A step that was taken, how it ended its order if it did, and how many undo parts it started.
+/// A step that was taken, how it ended its order if it did, and what it did there.
 #[derive(Clone, Copy, Debug, PartialEq, Eq)]
 pub struct Taken {
     pub step: Step,
     pub end: Option<End>,
+    /// How many undo parts it started, how many of them for a scope further out than the nearest, and how many closings it handed on.
     pub undone: usize,
+    pub through: usize,
+    pub handed: usize,
     /// How many receives or arms raised because another was open for the same thing.
     pub conflicts: usize,
 }
@@ -229,8 +232,8 @@ fn acts(plan: &Plan, state: &State, order: &Order, k: usize, held: &mut Held) ->
             held.sends += usize::from(full);
             !full
         }
-        Kind::Scope if mark == DONE => {
-            let full = kept_after_close(plan, order, k) > REMEMBERED;
+        Kind::Scope(undo) if mark == DONE => {
+            let full = undo && kept_after_close(plan, order, k) > REMEMBERED;
             held.closes += usize::from(full);
             !full
         }
@@ -301,6 +304,8 @@ fn take(plan: &Plan, state: &mut State, step: Step, tally: &mut Tally) -> Taken 
     let Running {
         mut end,
         mut undone,
+        mut through,
+        handed,
         ..
     } = running;
     // And what is open then is judged.
@@ -313,6 +318,7 @@ fn take(plan: &Plan, state: &mut State, step: Step, tally: &mut Tally) -> Taken 
         running.settle_around(higher);
         end = running.end;
         undone += running.undone;
+        through += running.through;
         conflicts += 1;
     }
     if let Some(end) = end {
@@ -323,6 +329,8 @@ fn take(plan: &Plan, state: &mut State, step: Step, tally: &mut Tally) -> Taken 
         step,
         end,
         undone,
+        through,
+        handed,
         conflicts,
     }
 }

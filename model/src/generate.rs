@@ -356,7 +356,7 @@ impl Writer<'_> {
         let inside = count - 1;
         let high = room(self.shape.max_depth - depth);
         loop {
-            let code = self.random.from_to(6, 11) as u32;
+            let code = self.random.from_to(6, 12) as u32;
             match code {
                 6 if !start && inside >= 2 && inside <= 2 * high => {
                     let shares = self.split(inside, 2, 1, high);
@@ -405,6 +405,12 @@ impl Writer<'_> {
                     self.activity(shares[0], depth + 1, false, start);
                     self.activity(shares[1], depth + 1, true, false);
                     self.activity(shares[2], depth + 1, true, false);
+                }
+                12 if inside >= 2 && inside <= 2 * high && (!handler || self.slip()) => {
+                    let shares = self.split(inside, 2, 1, high);
+                    self.sheet.put(Kind::Code, 12);
+                    self.activity(shares[0], depth + 1, false, start);
+                    self.activity(shares[1], depth + 1, true, false);
                 }
                 _ => continue,
             }
@@ -650,8 +656,8 @@ pub fn wild(random: &mut Random) -> Vec<u8> {
         match manner {
             0 | 1 => bytes.push(random.byte()),
             2 => bytes.push(random.below(4) as u8),
-            3 => bytes.push(random.below(13) as u8),
-            _ => bytes.extend(spell(TELLING[random.below(12)])),
+            3 => bytes.push(random.below(14) as u8),
+            _ => bytes.extend(spell(TELLING[random.below(13)])),
         }
     }
     bytes

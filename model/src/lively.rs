@@ -1,4 +1,4 @@
-//! Random plans that get somewhere in a few calls: few partners, many scopes, faults, undo parts, repeats that close scopes, flows and picks.
+//! Random plans that get somewhere in a few calls: few partners, many scopes with undo parts and without, faults, repeats that close scopes, flows and picks.
 
 use crate::generate::{Kind, Random, Sheet};
 use crate::reader;
@@ -93,33 +93,55 @@ impl Writer<'_> {
         }
     }
 
+    /// A scope's code: with no undo part by this chance. Answers whether it has one.
+    fn scope(&mut self, bare: usize) -> bool {
+        let undo = !self.random.percent(bare);
+        self.code(if undo { 11 } else { 12 });
+        undo
+    }
+
     /// A body that closes scopes again and again, for itself or within a scope.
     fn closings(&mut self) {
         self.list(8, 3);
         self.start(1, 2);
         let within = self.random.percent(50);
-        if within {
-            self.code(11);
-        }
+        let undo = within && self.scope(40);
         self.code(7);
         self.sheet.put(Kind::Form, 0);
         self.sheet.put(Kind::Constant, 1);
         let both = self.random.percent(40);
         if both {
             self.list(9, 2);
-            self.small_scope(5);
+            self.small_scopes(5);
         }
-        self.small_scope(5);
+        self.small_scopes(5);
         if within {
             self.activity(2, 3, true);
+        }
+        if undo {
             self.activity(2, 3, true);
         }
         self.activity(3, 2, false);
     }
 
+    /// A small scope, or some in one with no undo part, which hands them on.
+    fn small_scopes(&mut self, depth: u32) {
+        if self.random.percent(60) {
+            return self.small_scope(depth);
+        }
+        self.code(12);
+        let count = self.random.from_to(1, 3);
+        let code = if self.random.percent(50) { 9 } else { 8 };
+        self.list(code, count);
+        for _ in 0..count {
+            self.small_scope(depth + 2);
+        }
+        self.chores(15);
+    }
+
     /// A scope with scopes side by side in it, some of which close and some of which fault.
     fn storm(&mut self, levels: usize, depth: u32) {
-        self.code(11);
+        let undo = self.scope(35);
         let count = self.random.from_to(2, 3);
         let code = if self.random.percent(75) { 9 } else { 8 };
         self.list(code, count);
@@ -128,7 +150,7 @@ impl Writer<'_> {
                 0..=4 if levels > 0 => self.storm(levels - 1, depth + 2),
                 0..=7 => {
                     self.list(8, 3);
-                    self.small_scope(depth + 3);
+                    self.small_scopes(depth + 3);
                     self.small_scope(depth + 3);
                     self.ending();
                 }
@@ -136,7 +158,9 @@ impl Writer<'_> {
             }
         }
         self.chores(15);
-        self.chores(15);
+        if undo {
+            self.chores(15);
+        }
     }
 
     /// Something that most often raises after a while.
@@ -164,7 +188,7 @@ impl Writer<'_> {
     }
 
     fn small_scope(&mut self, depth: u32) {
-        self.code(11);
+        let undo = self.scope(10);
         if self.random.percent(60) {
             self.chores(0);
         } else {
@@ -172,6 +196,9 @@ impl Writer<'_> {
             self.activity(size, depth + 1, false);
         }
         self.activity(1, depth + 1, true);
+        if !undo {
+            return;
+        }
         if self.random.percent(50) {
             self.chores(10);
         } else {
@@ -202,10 +229,12 @@ impl Writer<'_> {
             }
             6 | 7 => self.pick(size, depth, false),
             _ => {
-                self.code(11);
+                let undo = self.scope(35);
                 self.start(size / 2, depth + 1);
                 self.activity(size / 4, depth + 1, true);
-                self.activity(size / 4, depth + 1, true);
+                if undo {
+                    self.activity(size / 4, depth + 1, true);
+                }
             }
         }
     }
@@ -236,9 +265,9 @@ impl Writer<'_> {
             }
             53..=59 => self.pick(size, depth, handler),
             _ => {
-                self.code(11);
+                let undo = self.scope(35);
                 self.activity(size.saturating_sub(3), depth + 1, false);
-                for _ in 0..2 {
+                for _ in 0..1 + usize::from(undo) {
                     // Handlers that take a while are left to finish by faults around them.
                     let size = self.random.from_to(1, 4);
                     self.activity(size, depth + 1, true);

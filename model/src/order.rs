@@ -2,6 +2,8 @@
 //!
 //! On states that no run reaches document 01 leaves some answers open. There the model was made to answer as the proved engine does:
 //! - a scope that waits for inner scopes looks again after each step within its body, but not where an undo part that it doesn't run ends or raises;
+//!   what comes of an undo part passes scopes around it that have none and are idle, and the next one is asked whether it runs it;
+//! - a closing that is remembered for a scope which cannot have it is taken off its list like any other, and nothing begins;
 //! - inner scopes that it waits for are those directly within it; a body that stops leaves what stands in an idle scope as it is;
 //! - a raise in an undo or fault part that no scope runs does nothing more;
 //! - a flow is over where every mark within it is idle; an empty that is over at once keeps its mark;
@@ -17,8 +19,12 @@ pub struct Running<'a> {
     pub end: Option<End>,
     /// How many undo parts were started.
     pub undone: usize,
-    /// The scope whose undo part ended or raised while no scope ran it.
-    unheard: Option<usize>,
+    /// How many of these by a scope further out than the nearest.
+    pub through: usize,
+    /// How many closings were handed on.
+    pub handed: usize,
+    /// The scope whose undo part ended or raised while no scope ran it, and the one that was asked.
+    unheard: Option<(usize, Scope)>,
 }
 
 impl Running<'_> {
@@ -28,6 +34,8 @@ impl Running<'_> {
             order,
             end: None,
             undone: 0,
+            through: 0,
+            handed: 0,
             unheard: None,
         }
     }
@@ -63,7 +71,7 @@ impl Running<'_> {
                 }
                 over
             }
-            Kind::Scope => {
+            Kind::Scope(_) => {
                 self.order.marks[k] = ACTIVE;
                 if self.begin(plan.body(Some(k))) {
                     self.order.marks[k] = DONE;
@@ -98,14 +106,10 @@ impl Running<'_> {
             Part::Body(None) if self.order.root == ACTIVE => self.end = Some(End::Well),
             Part::Body(Some(s)) if self.order.marks[s] == ACTIVE => self.order.marks[s] = DONE,
             Part::Fault(scope) if self.mark(scope) == HANDLING => self.finish(scope),
-            Part::Undo(s) => {
-                let scope = self.plan.activities[s].around;
-                if matches!(self.mark(scope), UNDOING | STOPPED_UNDOING) {
-                    self.undo_on(scope);
-                } else {
-                    self.unheard = Some(s);
-                }
-            }
+            Part::Undo(s) => match self.runner(s) {
+                Ok(scope) => self.undo_on(scope),
+                Err(asked) => self.unheard = Some((s, asked)),
+            },
             _ => {}
         }
     }
@@ -162,8 +166,10 @@ impl Running<'_> {
                     scope
                 }
                 Part::Fault(scope) => scope,
-                Part::Undo(s) if self.unheard == Some(s) => self.plan.activities[s].around,
-                Part::Undo(s) => Some(s),
+                Part::Undo(s) => match self.unheard {
+                    Some((undo, asked)) if undo == s => asked,
+                    _ => Some(s),
+                },
             };
             match scope {
                 None => return,
@@ -204,7 +210,7 @@ impl Running<'_> {
                 Err(Faulty) => self.raise(k),
             },
             Kind::Leave => self.end = Some(End::Left),
-            Kind::Scope => self.close(k),
+            Kind::Scope(_) => self.close(k),
             _ => self.raise(k),
         }
     }
@@ -214,12 +220,42 @@ impl Running<'_> {
             .value(place, &|variable| self.order.variable(variable))
     }
 
+    /// A scope with an undo part joins the list of the one around it; one with none hands on its own list.
     fn close(&mut self, k: usize) {
+        let around = self.plan.activities[k].around;
+        let kept = &self.order.remembered[..self.order.kept as usize];
+        let scopes: Vec<u8> = if self.plan.has_undo(k) {
+            vec![k as u8]
+        } else {
+            let own = kept.iter().filter(|each| is_for(self.plan, each, Some(k)));
+            own.map(|each| each.scope).collect()
+        };
+        if !self.plan.has_undo(k) {
+            self.handed = scopes.len();
+        }
         self.forget(Some(k));
-        self.order.remembered[self.order.kept as usize] = k as u8;
-        self.order.kept += 1;
+        let part = self.plan.body(around) as u8;
+        for scope in scopes {
+            self.order.remembered[self.order.kept as usize] = Closing { scope, part };
+            self.order.kept += 1;
+        }
         self.over(k);
-        self.settle(self.plan.activities[k].around);
+        self.settle(around);
+    }
+
+    /// The scope that runs the undo part of s, or the one that might and does not: the nearest around it, where those that have handed on don't count.
+    fn runner(&self, s: usize) -> Result<Scope, Scope> {
+        let mut scope = self.plan.activities[s].around;
+        while let Some(around) = scope
+            && self.order.marks[around] == IDLE
+            && !self.plan.has_undo(around)
+        {
+            scope = self.plan.activities[around].around;
+        }
+        match self.mark(scope) {
+            UNDOING | STOPPED_UNDOING => Ok(scope),
+            _ => Err(scope),
+        }
     }
 
     /// A raise at k.
@@ -237,13 +273,10 @@ impl Running<'_> {
                     return;
                 }
                 Part::Undo(s) => {
-                    let scope = self.plan.activities[s].around;
-                    if matches!(self.mark(scope), UNDOING | STOPPED_UNDOING) {
-                        self.break_off(scope);
-                    } else {
-                        self.unheard = Some(s);
-                    }
-                    return;
+                    return match self.runner(s) {
+                        Ok(scope) => self.break_off(scope),
+                        Err(asked) => self.unheard = Some((s, asked)),
+                    };
                 }
             }
         }
@@ -284,9 +317,9 @@ impl Running<'_> {
     fn stop(&mut self, k: usize) {
         let plan = self.plan;
         match (plan.kind(k), self.order.marks[k]) {
-            (Kind::Scope, IDLE | INSIDE | FAULTED..) => {}
+            (Kind::Scope(_), IDLE | INSIDE | FAULTED..) => {}
             // Begun and not yet closed: it turns to undoing, without a fault part.
-            (Kind::Scope, ACTIVE | DONE) => {
+            (Kind::Scope(_), ACTIVE | DONE) => {
                 self.stop(plan.body(Some(k)));
                 self.order.marks[k] = STOPPED;
                 if !self.inner_runs(Some(k)) {
@@ -329,7 +362,11 @@ impl Running<'_> {
     /// Starts undo parts up to the first that isn't over at once. Answers whether the list came to its end.
     fn undo(&mut self, scope: Scope) -> bool {
         while let Some(closed) = self.remove_last(scope) {
+            if !self.plan.may_undo(scope, closed) {
+                continue;
+            }
             self.undone += 1;
+            self.through += usize::from(self.plan.activities[closed].around != scope);
             if !self.begin(self.plan.undo(closed)) {
                 return false;
             }
@@ -363,19 +400,19 @@ impl Running<'_> {
 
     fn forget(&mut self, scope: Scope) {
         for at in (0..self.order.kept as usize).rev() {
-            if is_for(self.plan, self.order.remembered[at], scope) {
+            if is_for(self.plan, &self.order.remembered[at], scope) {
                 self.remove(at);
             }
         }
-        self.order.remembered[self.order.kept as usize..].fill(0);
+        self.order.remembered[self.order.kept as usize..].fill(NO_CLOSING);
     }
 
     fn remove_last(&mut self, scope: Scope) -> Option<usize> {
         let kept = &self.order.remembered[..self.order.kept as usize];
         let at = kept
             .iter()
-            .rposition(|&each| is_for(self.plan, each, scope))?;
-        let closed = usize::from(kept[at]);
+            .rposition(|each| is_for(self.plan, each, scope))?;
+        let closed = usize::from(kept[at].scope);
         self.remove(at);
         Some(closed)
     }
@@ -385,21 +422,20 @@ impl Running<'_> {
         let order = &mut *self.order;
         order.remembered.copy_within(at + 1.., at);
         order.kept -= 1;
-        order.remembered[order.kept as usize..].fill(0);
+        order.remembered[order.kept as usize..].fill(NO_CLOSING);
     }
 }
 
-/// Whether a remembered number is a scope remembered for this one.
-fn is_for(plan: &Plan, number: u8, scope: Scope) -> bool {
-    let k = usize::from(number);
-    plan.is_scope(k) && plan.activities[k].around == scope
+/// Whether a closing is remembered for this scope.
+fn is_for(plan: &Plan, closing: &Closing, scope: Scope) -> bool {
+    usize::from(closing.part) == plan.body(scope)
 }
 
-/// How many are remembered once scope k has closed.
+/// How many are remembered once scope k, which has an undo part, has closed.
 pub fn kept_after_close(plan: &Plan, order: &Order, k: usize) -> usize {
     let kept = &order.remembered[..order.kept as usize];
     1 + kept
         .iter()
-        .filter(|&&each| !is_for(plan, each, Some(k)))
+        .filter(|each| !is_for(plan, each, Some(k)))
         .count()
 }

@@ -1,4 +1,4 @@
-//! The engine over packed states: a state with its tally as 11,964 bytes, and each call as the library's C function of that name answers it.
+//! The engine over packed states: a state with its tally as 12,476 bytes, and each call as the library's C function of that name answers it.
 
 use crate::engine::{self, Step, Taken};
 use crate::layout::{self, MARK, ORDER};
@@ -55,9 +55,13 @@ fn unpack_order(bytes: &[u8]) -> Order {
             .expect("256 marks"),
         values: numbers(&bytes[AT_ORDER_VALUES..]),
         bound: bytes[AT_BOUND..AT_REMEMBERED].try_into().expect("16 flags"),
-        remembered: bytes[AT_REMEMBERED..AT_KEPT]
-            .try_into()
-            .expect("32 remembered"),
+        remembered: std::array::from_fn(|at| {
+            let two = &bytes[AT_REMEMBERED + layout::CLOSING * at..];
+            Closing {
+                scope: two[layout::CLOSING_SCOPE],
+                part: two[layout::CLOSING_PART],
+            }
+        }),
         kept: long(&bytes[AT_KEPT..]),
     }
 }
@@ -67,7 +71,11 @@ fn pack_order(order: &Order, bytes: &mut [u8]) {
     bytes[layout::ORDER_MARKS..AT_ORDER_VALUES].copy_from_slice(&order.marks);
     put_numbers(&mut bytes[AT_ORDER_VALUES..AT_BOUND], &order.values);
     bytes[AT_BOUND..AT_REMEMBERED].copy_from_slice(&order.bound);
-    bytes[AT_REMEMBERED..AT_KEPT].copy_from_slice(&order.remembered);
+    let closings = bytes[AT_REMEMBERED..AT_KEPT].chunks_exact_mut(layout::CLOSING);
+    for (two, closing) in closings.zip(&order.remembered) {
+        two[layout::CLOSING_SCOPE] = closing.scope;
+        two[layout::CLOSING_PART] = closing.part;
+    }
     bytes[AT_KEPT..ORDER].copy_from_slice(&order.kept.to_le_bytes());
 }
 

@@ -19,7 +19,8 @@ pub enum Kind {
     Flow,
     Pick,
     Arm(Tuple),
-    Scope,
+    /// Whether it has an undo part.
+    Scope(bool),
 }
 
 /// Partner, operation and variables of a send, receive or arm.
@@ -122,13 +123,28 @@ impl Plan {
         self.end(self.body(scope))
     }
 
-    /// The undo part of a scope other than the root.
+    /// The undo part of a scope that has one.
     pub fn undo(&self, scope: usize) -> usize {
         self.end(self.fault(Some(scope)))
     }
 
     pub fn is_scope(&self, k: usize) -> bool {
-        k < self.count() && self.kind(k) == Kind::Scope
+        k < self.count() && matches!(self.kind(k), Kind::Scope(_))
+    }
+
+    pub fn has_undo(&self, k: usize) -> bool {
+        k < self.count() && self.kind(k) == Kind::Scope(true)
+    }
+
+    /// Whether the undo part of k may be one that `scope` runs: k stands directly inside it, or in scopes that have none and do.
+    pub fn may_undo(&self, scope: Scope, k: usize) -> bool {
+        let further = |&around: &Scope| {
+            let s = around.filter(|&s| around != scope && !self.has_undo(s))?;
+            Some(self.activities[s].around)
+        };
+        self.has_undo(k)
+            && std::iter::successors(Some(self.activities[k].around), further)
+                .any(|around| around == scope)
     }
 
     /// The value of the expression at `place`, given the variables that are bound.
@@ -223,14 +239,16 @@ impl Reading {
                 inside = self.number();
                 Kind::Pick
             }
-            _ => Kind::Scope,
+            _ => Kind::Scope(code == 11),
         };
         let k = self.add(kind, part, around);
         match kind {
-            Kind::Scope => {
+            Kind::Scope(undo) => {
                 self.activity(Part::Body(Some(k)), Some(k));
                 self.activity(Part::Fault(Some(k)), Some(k));
-                self.activity(Part::Undo(k), Some(k));
+                if undo {
+                    self.activity(Part::Undo(k), Some(k));
+                }
             }
             Kind::Pick => {
                 for _ in 0..inside {

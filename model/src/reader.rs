@@ -1,4 +1,4 @@
-//! The model of the plan reader: one pass over the bytes, written from document 01 and from document 02's eighth request.
+//! The model of the plan reader: one pass over the bytes, written from document 01 and from requests 8 and 13 of document 02.
 
 pub const MAX_BYTES: usize = 4096;
 pub const MAX_ACTIVITIES: usize = 256;
@@ -207,10 +207,10 @@ impl<N: Numbers> Reading<'_, N> {
     fn activity(&mut self, depth: u32, handler: bool) -> Result<bool, Refusal> {
         let start = self.place;
         let code = self.number()?;
-        if code > 11 {
+        if code > 12 {
             return refuse(4, start);
         }
-        if code == 11 && handler {
+        if matches!(code, 11 | 12) && handler {
             return refuse(8, start);
         }
         if depth > MAX_DEPTH {
@@ -279,11 +279,13 @@ impl<N: Numbers> Reading<'_, N> {
                 }
                 true
             }
-            // scope: its body decides
-            11 => {
+            // scope, with an undo part or without: its body decides
+            11 | 12 => {
                 let body = self.activity(depth + 1, false)?;
                 self.activity(depth + 1, true)?;
-                self.activity(depth + 1, true)?;
+                if code == 11 {
+                    self.activity(depth + 1, true)?;
+                }
                 body
             }
             // empty, raise, leave

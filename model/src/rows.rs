@@ -127,9 +127,12 @@ impl Cutting<'_> {
             }
             _ => {
                 self.put(&[code]);
-                if code == 11 {
-                    (0..3).for_each(|_| self.activity());
-                }
+                let parts = match code {
+                    11 => 3,
+                    12 => 2,
+                    _ => 0,
+                };
+                (0..parts).for_each(|_| self.activity());
             }
         }
     }
@@ -271,10 +274,11 @@ impl<'a> Rows<'a> {
     fn activity(&mut self, level: u32, handler: bool) -> Result<bool, Refusal> {
         let (at, row) = self.row()?;
         let code = row[1];
-        if code > 11 {
+        if code > 12 {
             return refuse(4, at);
         }
-        if code == 11 && handler {
+        let scope = code == 11 || code == 12;
+        if scope && handler {
             return refuse(8, at);
         }
         if level > MAX_DEPTH || self.count == MAX_ACTIVITIES {
@@ -304,6 +308,7 @@ impl<'a> Rows<'a> {
             7 => 1,
             8..=10 => row[2],
             11 => 3,
+            12 => 2,
             _ => 0,
         };
         let mut starts = Vec::new();
@@ -311,11 +316,11 @@ impl<'a> Rows<'a> {
             if code == 10 {
                 self.arm()?;
             }
-            starts.push(self.activity(level + 1, handler || code == 11 && order > 0)?);
+            starts.push(self.activity(level + 1, handler || scope && order > 0)?);
         }
         Ok(match code {
             2 | 10 => true,
-            8 | 11 => starts[0],
+            8 | 11 | 12 => starts[0],
             9 => starts.iter().all(|&start| start),
             _ => false,
         })

@@ -79,7 +79,10 @@ fn call_of(words: &[&str], plan: &mut Vec<u8>, state: &mut State, tally: &mut Ta
         "show" => match reader::read(plan) {
             Err(refusal) => refusal.number.to_string(),
             Ok(read) => match read.parts.get(number(1) as usize) {
-                Some(part) => format!("0 {}", vectors::hex(&plan[part.start as usize..part.end as usize])),
+                Some(part) => format!(
+                    "0 {}",
+                    vectors::hex(&plan[part.start as usize..part.end as usize])
+                ),
                 None => "16".to_string(),
             },
         },

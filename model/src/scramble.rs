@@ -43,7 +43,8 @@ pub fn scramble(random: &mut Random, plan: &Plan, state: &mut State, tally: &mut
             state.messages[place].operation = random.value();
         }
         let order = &mut state.orders[random.below(ORDERS)];
-        order.remembered[31] = random.byte();
+        order.remembered[31].scope = random.byte();
+        order.remembered[31].part = random.byte();
         order.values[random.below(16)] = random.value();
     }
     if random.percent(12) {
@@ -111,7 +112,7 @@ fn wild(random: &mut Random, plan: &Plan, order: &mut Order, density: usize) {
     remember(random, plan, order);
 }
 
-/// Another list of remembered numbers; now and then such as no scope has.
+/// Another list of closings; now and then such as no scope has.
 fn remember(random: &mut Random, plan: &Plan, order: &mut Order) {
     let scopes: Vec<usize> = (0..plan.count()).filter(|&k| plan.is_scope(k)).collect();
     let most = [3, 3, 8, 32][random.below(4)];
@@ -121,12 +122,34 @@ fn remember(random: &mut Random, plan: &Plan, order: &mut Order) {
     }
     for at in 0..REMEMBERED {
         order.remembered[at] = if at as u64 >= order.kept {
-            0
-        } else if scopes.is_empty() || random.percent(3) {
-            random.byte()
+            NO_CLOSING
         } else {
-            scopes[random.below(scopes.len())] as u8
+            closing(random, plan, &scopes)
         };
+    }
+}
+
+/// A closing of some scope, most often for one that stands around it.
+fn closing(random: &mut Random, plan: &Plan, scopes: &[usize]) -> Closing {
+    if scopes.is_empty() || random.percent(3) {
+        return Closing {
+            scope: random.byte(),
+            part: random.byte(),
+        };
+    }
+    let k = scopes[random.below(scopes.len())];
+    let mut around = plan.activities[k].around;
+    while let Some(s) = around
+        && random.percent(if plan.has_undo(s) { 5 } else { 60 })
+    {
+        around = plan.activities[s].around;
+    }
+    let some = random
+        .percent(10)
+        .then(|| scopes[random.below(scopes.len())]);
+    Closing {
+        scope: k as u8,
+        part: plan.body(some.or(around)) as u8,
     }
 }
 

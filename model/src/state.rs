@@ -49,6 +49,15 @@ impl Message {
     }
 }
 
+/// A closing that is remembered: the scope that closed, and for which part, by the number of that part's first activity.
+#[derive(Clone, Copy, Debug, Default, PartialEq, Eq)]
+pub struct Closing {
+    pub scope: u8,
+    pub part: u8,
+}
+
+pub const NO_CLOSING: Closing = Closing { scope: 0, part: 0 };
+
 #[derive(Clone, Copy, Debug, PartialEq, Eq)]
 pub struct Order {
     /// The root's mark; idle where the slot is free.
@@ -56,8 +65,8 @@ pub struct Order {
     pub marks: [u8; MARKS],
     pub values: [u32; 16],
     pub bound: [u8; 16],
-    /// Closed scopes, oldest first.
-    pub remembered: [u8; REMEMBERED],
+    /// Oldest first.
+    pub remembered: [Closing; REMEMBERED],
     pub kept: u64,
 }
 
@@ -66,7 +75,7 @@ pub const NO_ORDER: Order = Order {
     marks: [0; MARKS],
     values: [0; 16],
     bound: [0; 16],
-    remembered: [0; REMEMBERED],
+    remembered: [NO_CLOSING; REMEMBERED],
     kept: 0,
 };
 

@@ -220,9 +220,10 @@ fn exchange(names: &Names, tokens: &[Token], front: &[u32]) -> Option<Vec<u32>> 
     Some(numbers)
 }
 
-/// The kinds are the codes; an arm is 12, the root 13.
-const ARM: u32 = 12;
-const ROOT: u32 = 13;
+/// The kinds are the codes; an arm is 255, the root 256. A scope is 12 until an undo part stands in it.
+const ARM: u32 = 255;
+const ROOT: u32 = 256;
+const SCOPE: u32 = 12;
 
 /// What an activity says of itself: its kind, and its rows.
 fn activity(names: &Names, tokens: &[Token]) -> Option<(u32, Vec<Vec<u32>>)> {
@@ -258,7 +259,7 @@ fn activity(names: &Names, tokens: &[Token]) -> Option<(u32, Vec<Vec<u32>>)> {
                 b"sequence" => 8,
                 b"flow" => 9,
                 b"pick" => 10,
-                b"scope" => 11,
+                b"scope" => SCOPE,
                 _ => return None,
             };
             let listed = (8..=10).contains(&code);
@@ -279,19 +280,19 @@ struct Level {
 }
 
 impl Level {
-    /// How many stand in it, where that is fixed.
-    fn wants(&self) -> Option<usize> {
+    /// How many may stand in it, and how many must.
+    fn wants(&self) -> (usize, usize) {
         match self.kind {
-            6 | ROOT => Some(2),
-            7 | ARM => Some(1),
-            8..=10 => None,
-            11 => Some(3),
-            _ => Some(0),
+            6 | ROOT => (2, 2),
+            7 | ARM => (1, 1),
+            8..=10 => (usize::MAX, 0),
+            SCOPE => (3, 2),
+            _ => (0, 0),
         }
     }
 
     fn whole(&self) -> bool {
-        self.wants().is_none_or(|wants| wants == self.within)
+        self.wants().1 <= self.within
     }
 
     /// The words that may name the next part in it.
@@ -299,9 +300,9 @@ impl Level {
         match (self.kind, self.within) {
             (ROOT, 0) => &[b"root", b"body"],
             (ROOT, _) => &[b"root", b"fault", b"part"],
-            (11, 0) => &[b"body"],
-            (11, 1) => &[b"fault", b"part"],
-            (11, _) => &[b"undo", b"part"],
+            (SCOPE, 0) => &[b"body"],
+            (SCOPE, 1) => &[b"fault", b"part"],
+            (SCOPE, _) => &[b"undo", b"part"],
             (6, 0) => &[b"then"],
             (6, _) => &[b"else"],
             _ => &[],
@@ -388,14 +389,16 @@ impl Drawing {
         } else {
             outer.kind == ROOT || (column - outer.column) % 2 == 0
         };
-        let room = outer.wants().is_none_or(|wants| outer.within < wants);
+        let room = outer.within < outer.wants().0;
         if !aligned || !room || (outer.kind == 10) != (kind == ARM) || depth > 63 {
             return Err(wrong);
         }
         outer.within += 1;
         outer.inner = column;
-        if outer.wants().is_none() {
-            self.rows[outer.row][1] = outer.within as u32;
+        match (outer.kind, outer.within) {
+            (8..=10, within) => self.rows[outer.row][1] = within as u32,
+            (SCOPE, 3) => self.rows[outer.row][0] = 11,
+            _ => {}
         }
         self.rows.extend(rows);
         self.lines.resize(self.rows.len(), line);

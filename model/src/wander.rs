@@ -1,6 +1,6 @@
 //! Random runs on the model and the library at once: plans, calls that lean to full tables, states that no run reaches, pairs of steps.
 
-use crate::calls::Call;
+use crate::calls::{self, Call};
 use crate::comparison::Comparison;
 use crate::engine::{self, Offer, Step};
 use crate::generate::{self, Random};
@@ -8,7 +8,7 @@ use crate::lively;
 use crate::packed::{self, SIZE};
 use crate::plan::{Kind, Plan, Tuple};
 use crate::scramble;
-use crate::state::{Message, State, Tally};
+use crate::state::{Message, REMEMBERED, State, Tally};
 
 /// How often things were seen.
 #[derive(Default)]
@@ -22,6 +22,10 @@ pub struct Seen {
     pub held_closes: u64,
     pub held_starts: u64,
     pub undone: u64,
+    /// Undo parts started by a scope further out than the nearest, closings handed on, and closes that handed some on where 32 were remembered.
+    pub through: u64,
+    pub handed: u64,
+    pub handed_full: u64,
     /// Receives and arms that raised because another was open for the same thing, and steps with several of them.
     pub conflicts: u64,
     pub many_conflicts: u64,
@@ -208,6 +212,14 @@ impl Wander {
             self.scopes(taken.step.slot);
             self.seen.taken += 1;
             self.seen.undone += taken.undone as u64;
+            self.seen.through += taken.through as u64;
+            self.seen.handed += taken.handed as u64;
+            if taken.handed > 0 {
+                let kept = self
+                    .state()
+                    .map(|(state, _)| state.orders[taken.step.slot].kept);
+                self.seen.handed_full += u64::from(kept == Some(REMEMBERED as u64));
+            }
             self.seen.conflicts += taken.conflicts as u64;
             self.seen.many_conflicts += u64::from(taken.conflicts > 1);
             self.seen.ends[taken.end.map_or(0, |end| end as usize)] += 1;
@@ -284,7 +296,7 @@ impl Wander {
 
     /// A call with a state of another size.
     fn odd(&mut self) {
-        let size = [0, 8, SIZE - 1, SIZE + 1, 12_000][self.random.below(5)];
+        let size = [0, 8, SIZE - 1, SIZE + 1, calls::STATE][self.random.below(5)];
         let call = match self.random.below(7) {
             0 => Call::Load(self.bytes.clone()),
             1 => Call::Post(Message::default()),
@@ -376,7 +388,7 @@ impl Wander {
             Kind::Repeat(_) => Some(2),
             Kind::Raise => Some(3),
             Kind::Leave => Some(4),
-            Kind::Scope => Some(5),
+            Kind::Scope(_) => Some(5),
             _ => None,
         }
     }

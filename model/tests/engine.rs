@@ -64,7 +64,7 @@ fn every_scenario_of_held_steps() {
 
 #[test]
 fn every_scenario_by_hand() {
-    plays(HAND, 9);
+    plays(HAND, 11);
 }
 
 #[test]
@@ -129,4 +129,26 @@ fn the_states_of_the_benchmark() {
     assert_eq!(packed::offers(&full), 64 * 244);
     assert_eq!(model::fullest::sample().len(), 13);
     assert_eq!(packed::offers(&model::fullest::repeating()), 1);
+}
+
+/// The closings that the first order remembers after this many steps: a receive; scope 2, with no undo part, around scopes 4 and 8; a raise.
+fn remembered(steps: usize) -> Vec<(u8, u8)> {
+    let plan = "010100080302000001000c08020b000001090101000b00000109020100000400";
+    let choices = " 0".repeat(steps);
+    let played = play(&format!(
+        "plan {plan} = 0 15\npost 0 0 5 = 0\nrun 9{choices} = {steps} 0"
+    ));
+    assert!(played.wrong.is_empty(), "{:?}", played.wrong);
+    let order = &played.state.orders[0];
+    let kept = &order.remembered[..order.kept as usize];
+    kept.iter().map(|each| (each.scope, each.part)).collect()
+}
+
+#[test]
+fn a_scope_with_no_undo_part_hands_on_its_list() {
+    assert_eq!(remembered(3), [(4, 3), (8, 3)]);
+    assert_eq!(remembered(4), [(4, 0), (8, 0)]);
+    // The root undoes them, the latest first.
+    assert_eq!(remembered(5), [(4, 0)]);
+    assert_eq!(remembered(6), []);
 }

@@ -234,3 +234,63 @@ fn plans_as_text() {
         vectors::bytes(sample)
     );
 }
+
+/// What a text writes, and the bytes that it says.
+fn write(lines: &[&str]) -> Result<Vec<u8>, Wrong> {
+    text::read(lines.join("\n").as_bytes())
+}
+
+#[test]
+fn scopes_without_an_undo_part_as_text() {
+    let front = [
+        "variable a",
+        "root body: sequence",
+        "  receive from partner 0, operation 0: a",
+    ];
+    let with = |lines: &[&str]| write(&[&front, lines, &["root fault part: empty"]].concat());
+    let bytes = |more: &[u8]| Ok([&[1, 1, 0, 8, 2, 2, 0, 0, 1, 0], more, &[0]].concat());
+    assert_eq!(
+        with(&["  scope", "    body: empty", "    fault part: raise"]),
+        bytes(&[12, 0, 4])
+    );
+    assert_eq!(
+        with(&[
+            "  scope",
+            "    body: empty",
+            "    fault part: raise",
+            "    undo part: leave"
+        ]),
+        bytes(&[11, 0, 4, 5])
+    );
+    // The names of the parts may be left out: the third is the undo part.
+    assert_eq!(
+        with(&["  scope", "    empty", "    raise", "    leave"]),
+        bytes(&[11, 0, 4, 5])
+    );
+    assert_eq!(
+        with(&[
+            "  scope",
+            "    scope",
+            "      empty",
+            "      empty",
+            "    raise"
+        ]),
+        bytes(&[12, 12, 0, 0, 4])
+    );
+    // The undo part is no other part, and there are no more.
+    assert_eq!(
+        with(&["  scope", "    body: empty", "    undo part: raise"]),
+        Err(Wrong::Line(6))
+    );
+    assert_eq!(with(&["  scope", "    body: empty"]), Err(Wrong::Line(4)));
+    assert_eq!(
+        with(&[
+            "  scope",
+            "    empty",
+            "    empty",
+            "    empty",
+            "    empty"
+        ]),
+        Err(Wrong::Line(8))
+    );
+}

@@ -330,6 +330,6 @@ fn order(slot: usize, bytes: &[u8]) -> Order {
         root: bytes[layout::ORDER_ROOT],
         marks: bytes[layout::ORDER_MARKS..][..layout::ORDER_MARKS_MOST].to_vec(),
         variables: (0..layout::ORDER_VALUES_MOST).map(variable).collect(),
-        remembered: bytes[layout::ORDER_REMEMBERED..][..kept].to_vec(),
+        remembered: (0..kept).map(|i| bytes[layout::ORDER_REMEMBERED + layout::CLOSING_SCOPE + layout::CLOSING * i]).collect(),
     }
 }

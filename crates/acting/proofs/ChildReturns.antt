@@ -1,12 +1,14 @@
 -- The returns of the functions that find the part of an activity in which another stands, and go on after it. Assumes nothing.
 use mathlib.Core.Path.{_≡_, refl, sym, ap, _∙_}
-use mathlib.Core.Bool.{Bool, true, false, or-false, and-false}
+use mathlib.Core.Bool.{Bool, true, false, cond, or-false, and-false}
 use mathlib.Core.List.{List}
 use Prim.Native.Nat.{ℕ, _+_, _-_, _<_, _≤_}
 use native.Mathlib.Omega.{arith}
 use borrow.Author.Tests.{eq-eqb, ne-eqb, lt-ltb, le-ltb}
 use lib.Dec.{eqb, ltb}
-use Rattle.plan.specs.Tree.{kind, Act, Acts, none, more, size, sizes}
+use Rattle.plan.specs.Tree.{isPick, Act, Acts, none, more, size, sizes}
+use Rattle.plan.proofs.ByKind.{kind-pick}
+use Rattle.order.specs.declared.Closing.{Closing}
 use Rattle.order.specs.declared.Entered.{Entered}
 use Rattle.order.specs.declared.Order.{Order}
 use Rattle.order.specs.declared.Went.{Went}
@@ -30,9 +32,9 @@ part-before (more a l) c x h =
 
 module _ (a : Act) (l : Acts) (c x : ℕ) where
   module _ (h : x < c + size a) where
-    first-step : (y : Actor) (o : Order) → stepAmong y (more a l) c x o ≡ stepIn y a c x o
+    first-step : (y : Actor) (parts : Bool) (q : ℕ) (o : Order) → stepAmong y (more a l) parts q c x o ≡ stepIn y a (cond parts c q) c x o
     unfolding stepIn
-    first-step y o = yes (ltb x (c + size a)) (stepIn y a c x o) (stepAmong y l (c + size a) x o) (lt-ltb x (c + size a) h)
+    first-step y parts q o = yes (ltb x (c + size a)) (stepIn y a (cond parts c q) c x o) (stepAmong y l parts q (c + size a) x o) (lt-ltb x (c + size a) h)
 
     first-follow : (ms : List ℕ) → beginAfter (more a l) c x ms ≡ beginInTurn l (c + size a) ms
     unfolding beginAfter
@@ -42,14 +44,14 @@ module _ (a : Act) (l : Acts) (c x : ℕ) where
     unfolding isPart
     first-direct = rw (part-before l (c + size a) x h) (or-false (eqb c x))
 
-    first-room : (xs : List ℕ) → roomAmong (more a l) c x xs ≡ roomIn a c x xs
+    first-room : (xs : List Closing) → roomAmong (more a l) c x xs ≡ roomIn a c x xs
     unfolding roomIn
     first-room xs = yes (ltb x (c + size a)) (roomIn a c x xs) (roomAmong l (c + size a) x xs) (lt-ltb x (c + size a) h)
 
   module _ (h : c + size a ≤ x) where
-    later-step : (y : Actor) (o : Order) → stepAmong y (more a l) c x o ≡ stepAmong y l (c + size a) x o
+    later-step : (y : Actor) (parts : Bool) (q : ℕ) (o : Order) → stepAmong y (more a l) parts q c x o ≡ stepAmong y l parts q (c + size a) x o
     unfolding stepIn
-    later-step y o = no (ltb x (c + size a)) (stepIn y a c x o) (stepAmong y l (c + size a) x o) (le-ltb x (c + size a) h)
+    later-step y parts q o = no (ltb x (c + size a)) (stepIn y a (cond parts c q) c x o) (stepAmong y l parts q (c + size a) x o) (le-ltb x (c + size a) h)
 
     later-follow : (ms : List ℕ) → beginAfter (more a l) c x ms ≡ beginAfter l (c + size a) x ms
     unfolding beginAfter
@@ -59,7 +61,7 @@ module _ (a : Act) (l : Acts) (c x : ℕ) where
     unfolding isPart
     later-direct = let g : c ≡ x → ⊥ = λ e. omega (arith, size-pos a) in rw (ne-eqb c x g)
 
-    later-room : (xs : List ℕ) → roomAmong (more a l) c x xs ≡ roomAmong l (c + size a) x xs
+    later-room : (xs : List Closing) → roomAmong (more a l) c x xs ≡ roomAmong l (c + size a) x xs
     unfolding roomIn
     later-room xs = no (ltb x (c + size a)) (roomIn a c x xs) (roomAmong l (c + size a) x xs) (le-ltb x (c + size a) h)
 
@@ -78,7 +80,7 @@ module _ {t : List ℕ} {c e x j : ℕ} (w : Seeing t c e x j) where
     after = λ g. absurd (omega arith);
     is = if-none (λ l. Among t l j e x e) t j e h (record {
       found = λ g. absurd (omega arith);
-      missed = λ g. record { steps = λ y o. refl; follows = λ ms. refl; direct = refl };
+      missed = λ g. record { steps = λ y parts q o. refl; follows = λ ms. refl; direct = refl };
     });
   })
 
@@ -125,7 +127,7 @@ module _ {t : List ℕ} {c e x j : ℕ} (w : Seeing t c e x j) where
                     stands = k .stands;
                     later = k .later;
                     end = k .end;
-                    steps = λ y o. later-step a l j x m y o ∙ (rw i at (k .steps y o));
+                    steps = λ y parts q o. later-step a l j x m y parts q o ∙ (rw i at (k .steps y parts q o));
                     follows = λ ms. later-follow a l j x m ms ∙ (rw i at (k .follows ms));
                     direct = later-direct a l j x m ∙ (rw i at (k .direct));
                     room = λ xs. later-room a l j x m xs ∙ (rw i at (k .room xs));
@@ -133,7 +135,7 @@ module _ {t : List ℕ} {c e x j : ℕ} (w : Seeing t c e x j) where
               missed = λ v.
                   let k = y .missed v in
                   record {
-                    steps = λ y o. later-step a l j x m y o ∙ (rw i at (k .steps y o));
+                    steps = λ y parts q o. later-step a l j x m y parts q o ∙ (rw i at (k .steps y parts q o));
                     follows = λ ms. later-follow a l j x m ms ∙ (rw i at (k .follows ms));
                     direct = later-direct a l j x m ∙ (rw i at (k .direct));
                   };
@@ -145,7 +147,7 @@ module _ (t : List ℕ) (k e child x : ℕ) (o : Order) {kd : ℕ} (q : KindOf t
   unfolding arms
   arms-taken h g i {p} y = record {
     is = λ own l s w.
-        let m : eqb (kind own) 10 ≡ true = eq-eqb _ _ (sym (row-kind q own l s) ∙ h) in
+        let m : isPick own ≡ true = sym (kind-pick own) ∙ eq-eqb _ _ (sym (row-kind q own l s) ∙ h) in
         let n : isPart l (k + 1) x ≡ true = w .found g .direct ∙ eq-eqb _ _ i in
         rw (m, n) y;
   }
@@ -155,7 +157,7 @@ module _ (t : List ℕ) (k e child x : ℕ) (o : Order) {kd : ℕ} (q : KindOf t
   arms-other h g i = record {
     is = λ own l s w.
         let n : isPart l (k + 1) x ≡ false = w .found g .direct ∙ ne-eqb _ _ i in
-        rw (n, and-false (eqb (kind own) 10));
+        rw (n, and-false (isPick own));
   }
 
   pub arms-none : e ≤ child → Arms t k e child x o o
@@ -163,14 +165,14 @@ module _ (t : List ℕ) (k e child x : ℕ) (o : Order) {kd : ℕ} (q : KindOf t
   arms-none g = record {
     is = λ own l s w.
         let n : isPart l (k + 1) x ≡ false = w .missed g .direct in
-        rw (n, and-false (eqb (kind own) 10));
+        rw (n, and-false (isPick own));
   }
 
   pub arms-no-pick : (kd ≡ 10 → ⊥) → Arms t k e child x o o
   unfolding arms
   arms-no-pick h = record {
     is = λ own l s w.
-        let m : eqb (kind own) 10 ≡ false = ne-eqb _ _ (λ g. h (row-kind q own l s ∙ g)) in
+        let m : isPick own ≡ false = sym (kind-pick own) ∙ ne-eqb _ _ (λ g. h (row-kind q own l s ∙ g)) in
         rw m;
   }
 

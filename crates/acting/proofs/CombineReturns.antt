@@ -1,30 +1,30 @@
 -- The returns of the functions by which an activity goes on after a step within it, and of a step in an activity. Assumes nothing.
 use mathlib.Core.Path.{_≡_, refl, sym, ap, subst, _∙_}
-use mathlib.Core.Bool.{Bool, true, false, cond, not, _&&_, false≢true}
+use mathlib.Core.Bool.{Bool, true, false, cond, not, _&&_, false≢true, and-false}
 use mathlib.Core.List.{List, []}
-use Prim.Native.Nat.{ℕ, _+_, _*_, _<_, _≤_}
+use Prim.Native.Nat.{ℕ, _+_, _<_, _≤_}
 use native.Mathlib.Omega.{arith}
 use borrow.Author.Tests.{eq-eqb, ne-eqb, lt-ltb, le-ltb, ltb-true}
 use lib.Dec.{eqb, ltb}
-use lib.ListN.{length, getD}
-use Rattle.plan.specs.Tree.{Own, empty, send, receive, set as setting, raise, leave, choose, repeat, sequence, flow, pick, scope, arm, kind, Act, act, Acts, none, more, size, sizes}
+use lib.ListN.{length}
+use Rattle.plan.specs.Tree.{Own, empty, send, receive, set as setting, raise, leave, choose, repeat, sequence, flow, pick, scope, arm, kind, isScope, hasUndo, isPick, Act, act, Acts, none, more, size, sizes}
 use Rattle.order.specs.declared.Order.{Order}
 use Rattle.order.specs.declared.Spot.{Spot}
 use Rattle.order.specs.declared.Way.{Way}
 use Rattle.order.specs.declared.Way.the-variants.{Running, Over, Raising, Leaving, Undone, UndoRaising}
 use Rattle.order.specs.declared.Went.{Went}
 use Rattle.order.specs.Acting.{finishes, raises, again, isPart, joins, goesOn, inScope, combines, Actor, itsOwn, inPlace, replaces, performs, itself, arms, stepIn, stepAmong}
-use Rattle.order.specs.Answering.{KindOf, went, outcome, isOver, scopeAct, SpotAt, Makes, runsOf, finishesOf, StepsAt, Among, ChildWith, Arms, Follows, JoinsAt, InScope, hasParts, GoesOn, Combines, raisesOf, actorOf, Performs, StepsIn}
+use Rattle.order.specs.Answering.{KindOf, scopeKind, went, outcome, isOver, ofUndo, scopeAct, SpotAt, Makes, runsOf, finishesOf, StepsAt, Among, ChildWith, Arms, Follows, JoinsAt, Through, InScope, hasParts, GoesOn, Combines, raisesOf, actorOf, Performs, PartOf, StepsIn}
 use Rattle.order.specs.Begin.{part, partAt, beginAfter}
 use Rattle.order.specs.Event.{Event}
 use Rattle.order.specs.Lists.{only}
 use Rattle.order.specs.Room.{hasRoom, roomIn, roomAmong}
-use Rattle.order.specs.Scope.{Scope, Outcome, runs, begunIn, whereOver, isScope, isFor, forgetting, scopeAt, fromBody, fromFault, fromUndo}
+use Rattle.order.specs.Scope.{Scope, Outcome, runs, begunIn, whereOver, isFor, forgetting, scopeAt, fromBody, fromFault, goesThrough, fromUndo}
 use Rattle.order.specs.Stands.{End, Stands}
 use Rattle.order.specs.State.{closings, markAt, marked}
 use Rattle.order.proofs.Deciding.{yes, no, where-not}
 use Rattle.order.proofs.Owns.{of-kind}
-use Rattle.order.proofs.Standing.{stands-end, stands-inside, row-kind, if-scope}
+use Rattle.order.proofs.Standing.{size-pos, stands-end, stands-inside, row-kind, scope-kind, own-scope, first-at, if-parts}
 use Rattle.order.proofs.MemoryReturns.{closings-are}
 
 -- `has_parts`
@@ -34,59 +34,129 @@ parts-low n h = rw (lt-ltb n 6 h)
 pub parts-high : (n : ℕ) → 6 ≤ n → ltb n 11 ≡ hasParts n
 parts-high n h = rw (le-ltb n 6 h)
 
--- `in_scope`
-scope-row : (t : List ℕ) (k : ℕ) (l : Acts) → Stands (act scope l) k t → getD t (k * 13) 0 ≡ 11
-unfolding Stands kind
-scope-row t k l s = s .first .row .kind
+-- `of_undo`
+module _ {w : Way} where
+  pub undo-running : w ≡ Running → false ≡ ofUndo w
+  unfolding ofUndo
+  undo-running e = rw e
 
+  pub undo-over : w ≡ Over → false ≡ ofUndo w
+  unfolding ofUndo
+  undo-over e = rw e
+
+  pub undo-raising : w ≡ Raising → false ≡ ofUndo w
+  unfolding ofUndo
+  undo-raising e = rw e
+
+  pub undo-leaving : w ≡ Leaving → false ≡ ofUndo w
+  unfolding ofUndo
+  undo-leaving e = rw e
+
+  pub undo-undone : w ≡ Undone → true ≡ ofUndo w
+  unfolding ofUndo
+  undo-undone e = rw e
+
+  pub undo-undoRaising : w ≡ UndoRaising → true ≡ ofUndo w
+  unfolding ofUndo
+  undo-undoRaising e = rw e
+
+-- `goes_through`
+through-is : (v : Bool) (k : ℕ) (w : Way) (o : Order)
+    → goesThrough v k (record { result = w; order = o; log = [] }) ≡ (not v && (eqb (markAt k o) 0 && ofUndo w))
+unfolding goesThrough ofUndo
+through-is v k Running o = refl
+through-is v k Over o = refl
+through-is v k Raising o = refl
+through-is v k Leaving o = refl
+through-is v k Undone o = refl
+through-is v k UndoRaising o = refl
+
+undo-part : (v : Bool) → kind (scope v) ≡ cond v 11 12
+unfolding kind
+undo-part v = refl
+
+module _ {t : List ℕ} {k : ℕ} (r : Went) {kd : ℕ} (q : KindOf t k kd) where
+  pub through-never : (kd ≡ 12 → ⊥) → Through t k r false
+  through-never h = record { is = λ v l s. go v (row-kind q (scope v) l s ∙ undo-part v) }
+    where
+      go : (v : Bool) → kd ≡ cond v 11 12 → false ≡ goesThrough v k (outcome r)
+      go true e = sym (through-is true k (r .way) (r .order))
+      go false e = absurd (h e)
+
+  module _ (h : kd ≡ 12) {m : ℕ} (i : m ≡ markAt k (r .order)) where
+    pub through-not : (m ≡ 0 → ⊥) → Through t k r false
+    through-not g = record {
+      is = λ v l s.
+          let d : eqb (markAt k (r .order)) 0 ≡ false = ne-eqb _ _ (λ x. g (i ∙ x)) in
+          sym (through-is v k (r .way) (r .order) ∙ rw d (and-false (not v)));
+    }
+
+    pub through-so : m ≡ 0 → {b : Bool} → b ≡ ofUndo (r .way) → Through t k r b
+    through-so g {b} j = record { is = λ v l s. go v (row-kind q (scope v) l s ∙ undo-part v) }
+      where
+        go : (v : Bool) → kd ≡ cond v 11 12 → b ≡ goesThrough v k (outcome r)
+        go true e = absurd (omega arith)
+        go false e = j ∙ sym (through-is false k (r .way) (r .order) ∙ rw (eq-eqb _ _ (sym i ∙ g)))
+
+-- `in_scope`
 module _ (t : List ℕ) (k x : ℕ) (r : Went) {z : Spot} (y : SpotAt t k z) where
   InAct : Went → Act → Type 0
-  InAct p (act own l) = p ≡ went (inScope k x l (outcome r))
+  InAct p (act own l) = p ≡ went (inScope (hasUndo own) k x l (outcome r))
 
-  fault-at : (b f u : Act) → Stands (scopeAct b f u) k t → z .fault ≡ k + 1 + size b
+  fault-at : (v : Bool) (b f : Act) (l : Acts) → Stands (scopeAct v b f l) k t → z .fault ≡ k + 1 + size b
   unfolding part partAt
-  fault-at b f u s = ap (λ (s : Scope). s .faultAt) (y .same b f u s)
+  fault-at v b f l s = ap (λ (s : Scope). s .faultAt) (y .same v b f l s)
 
-  pub in-body : x < z .fault → {p : Went} → Makes t z fromBody r p → InScope t k x r p
-  unfolding inScope partAt InAct
-  in-body h {p} g = record {
-    is = λ l s. if-scope (InAct p) t k (scope-row t k l s) (λ b f u sb sf su s.
-        let m : x < k + 1 + size b = omega (arith, fault-at b f u s) in
-        let i = more b (more f (more u none)) in
-        g .is b f (y .held b f u s)
-        ∙ (ap (λ (c : Scope). went (fromBody c (outcome r))) (y .same b f u s)
-        ∙ sym (ap went (yes (ltb x (k + 1 + size b)) (fromBody (scopeAt k i) (outcome r)) _ (lt-ltb _ _ m))))) (act scope l) s;
-  }
+  module _ (h : x < z .fault) {c : Bool} (i : Through t k r c) where
+    pub in-through : c ≡ true → InScope t k x r r
+    unfolding inScope partAt InAct
+    in-through j = record {
+      is = λ v l s. if-parts (InAct r) t k (λ v b f l sb sf s.
+          let m : x < k + 1 + size b = omega (arith, fault-at v b f l s) in
+          let w = scopeAt k (more b (more f l)) in
+          sym (ap went (yes (ltb x (k + 1 + size b)) _ _ (lt-ltb _ _ m)
+          ∙ yes (goesThrough v k (outcome r)) (outcome r) (fromBody w (outcome r)) (sym (i .is v (more b (more f l)) s) ∙ j)))) v l s;
+    }
+
+    pub in-body : c ≡ false → {p : Went} → Makes t z fromBody r p → InScope t k x r p
+    unfolding inScope partAt InAct
+    in-body j {p} g = record {
+      is = λ v l s. if-parts (InAct p) t k (λ v b f l sb sf s.
+          let m : x < k + 1 + size b = omega (arith, fault-at v b f l s) in
+          let w = scopeAt k (more b (more f l)) in
+          g .is b f (y .held v b f l s)
+          ∙ (ap (λ (c : Scope). went (fromBody c (outcome r))) (y .same v b f l s)
+          ∙ sym (ap went (yes (ltb x (k + 1 + size b)) _ _ (lt-ltb _ _ m)
+          ∙ no (goesThrough v k (outcome r)) (outcome r) (fromBody w (outcome r)) (sym (i .is v (more b (more f l)) s) ∙ j))))) v l s;
+    }
 
   module _ (h : z .fault ≤ x) {n : ℕ} (e : End t (z .fault) n) where
+    past-fault : (v : Bool) (b f : Act) (l : Acts) → Stands (scopeAct v b f l) k t → n ≡ partAt 0 l (k + 1 + size b + size f)
+    past-fault v b f l s =
+        omega (arith, fault-at v b f l s, stands-end f (z .fault) t (y .held v b f l s .fault) e, first-at l (k + 1 + size b + size f))
+
     pub in-fault : x < n → {p : Went} → Makes t z fromFault r p → InScope t k x r p
     unfolding inScope partAt InAct
     in-fault d {p} g = record {
-      is = λ l s. if-scope (InAct p) t k (scope-row t k l s) (λ b f u sb sf su s.
-          let v = y .held b f u s in
-          let a : z .fault ≡ k + 1 + size b = fault-at b f u s in
-          let q : n ≡ z .fault + size f = stands-end f (z .fault) t (v .fault) e in
-          let m : k + 1 + size b ≤ x = omega arith in
-          let w : x < k + 1 + size b + size f = omega arith in
-          let i = more b (more f (more u none)) in
-          g .is b f v
-          ∙ (ap (λ (c : Scope). went (fromFault c (outcome r))) (y .same b f u s)
-          ∙ sym (ap went (no (ltb x (k + 1 + size b)) (fromBody (scopeAt k i) (outcome r)) _ (le-ltb _ _ m)
-          ∙ yes (ltb x (k + 1 + size b + size f)) (fromFault (scopeAt k i) (outcome r)) _ (lt-ltb _ _ w))))) (act scope l) s;
+      is = λ v l s. if-parts (InAct p) t k (λ v b f l sb sf s.
+          let m : k + 1 + size b ≤ x = omega (arith, fault-at v b f l s) in
+          let q : x < partAt 0 l (k + 1 + size b + size f) = omega (arith, past-fault v b f l s) in
+          let w = scopeAt k (more b (more f l)) in
+          g .is b f (y .held v b f l s)
+          ∙ (ap (λ (c : Scope). went (fromFault c (outcome r))) (y .same v b f l s)
+          ∙ sym (ap went (no (ltb x (k + 1 + size b)) _ _ (le-ltb _ _ m)
+          ∙ yes (ltb x (partAt 0 l (k + 1 + size b + size f))) (fromFault w (outcome r)) (fromUndo (outcome r)) (lt-ltb _ _ q))))) v l s;
     }
 
     pub in-undo : n ≤ x → {p : Went} → p ≡ went (fromUndo (outcome r)) → InScope t k x r p
     unfolding inScope partAt InAct
     in-undo d {p} g = record {
-      is = λ l s. if-scope (InAct p) t k (scope-row t k l s) (λ b f u sb sf su s.
-          let v = y .held b f u s in
-          let a : z .fault ≡ k + 1 + size b = fault-at b f u s in
-          let q : n ≡ z .fault + size f = stands-end f (z .fault) t (v .fault) e in
-          let m : k + 1 + size b ≤ x = omega arith in
-          let w : k + 1 + size b + size f ≤ x = omega arith in
-          let i = more b (more f (more u none)) in
-          g ∙ sym (ap went (no (ltb x (k + 1 + size b)) (fromBody (scopeAt k i) (outcome r)) _ (le-ltb _ _ m)
-          ∙ no (ltb x (k + 1 + size b + size f)) (fromFault (scopeAt k i) (outcome r)) (fromUndo (outcome r)) (le-ltb _ _ w)))) (act scope l) s;
+      is = λ v l s. if-parts (InAct p) t k (λ v b f l sb sf s.
+          let m : k + 1 + size b ≤ x = omega (arith, fault-at v b f l s) in
+          let q : partAt 0 l (k + 1 + size b + size f) ≤ x = omega (arith, past-fault v b f l s) in
+          let w = scopeAt k (more b (more f l)) in
+          g ∙ sym (ap went (no (ltb x (k + 1 + size b)) _ _ (le-ltb _ _ m)
+          ∙ no (ltb x (partAt 0 l (k + 1 + size b + size f))) (fromFault w (outcome r)) (fromUndo (outcome r)) (le-ltb _ _ q)))) v l s;
     }
 
 -- `goes_on`: by the kind of the row and its mark
@@ -170,7 +240,8 @@ module _ (t : List ℕ) (k e child : ℕ) (o : Order) {kd : ℕ} (q : KindOf t k
     inside-over sequence l x h d = absurd (h8 h)
     inside-over flow l x h d = absurd (h9 h)
     inside-over pick l x h d = refl
-    inside-over scope l x h d = absurd (false≢true d)
+    inside-over (scope true) l x h d = absurd (false≢true d)
+    inside-over (scope false) l x h d = absurd (false≢true d)
     inside-over (arm p q vs) l x h d = absurd (false≢true d)
 
     pub inside-finishes : m ≡ 2 → {p : Went} → p ≡ finishesOf k o → GoesOn t k e child o p
@@ -201,7 +272,7 @@ goes-waits : (k m : ℕ) (f : Order → Outcome) (R : Outcome) → isOver (R .re
 unfolding goesOn
 goes-waits k m f R h = where-not (λ o. elim (eqb (markAt k o) m) [ true ↦ f o | false ↦ runs o ]) R h
 
-combines-waits : (own : Own) (l : Acts) (k x : ℕ) (R : Outcome) → (kind own ≡ 11 → ⊥) → isOver (R .result) ≡ false → went (combines own l k x R) ≡ went R
+combines-waits : (own : Own) (l : Acts) (k x : ℕ) (R : Outcome) → isScope own ≡ false → isOver (R .result) ≡ false → went (combines own l k x R) ≡ went R
 unfolding combines kind
 combines-waits empty l k x R n h = refl
 combines-waits (send p q vs) l k x R n h = refl
@@ -214,10 +285,10 @@ combines-waits (repeat e) l k x R n h = goes-waits k 2 (again k) R h
 combines-waits sequence l k x R n h = goes-waits k 1 (λ o. whereOver (finishes k) (begunIn o (beginAfter l (k + 1) x (o .marks)))) R h
 combines-waits flow l k x R n h = goes-waits k 1 (joins k l) R h
 combines-waits pick l k x R n h = goes-waits k 2 (finishes k) R h
-combines-waits scope l k x R n h = absurd (n refl)
+combines-waits (scope v) l k x R n h = absurd (false≢true (sym n))
 combines-waits (arm p q vs) l k x R n h = refl
 
-combines-plain : (own : Own) (l : Acts) (k x : ℕ) (R : Outcome) → (kind own ≡ 11 → ⊥) → hasParts (kind own) ≡ false → went (combines own l k x R) ≡ went R
+combines-plain : (own : Own) (l : Acts) (k x : ℕ) (R : Outcome) → isScope own ≡ false → hasParts (kind own) ≡ false → went (combines own l k x R) ≡ went R
 unfolding combines kind
 combines-plain empty l k x R n h = refl
 combines-plain (send p q vs) l k x R n h = refl
@@ -230,40 +301,41 @@ combines-plain (repeat e) l k x R n h = absurd (false≢true (sym h))
 combines-plain sequence l k x R n h = absurd (false≢true (sym h))
 combines-plain flow l k x R n h = absurd (false≢true (sym h))
 combines-plain pick l k x R n h = absurd (false≢true (sym h))
-combines-plain scope l k x R n h = absurd (n refl)
+combines-plain (scope v) l k x R n h = absurd (false≢true (sym n))
 combines-plain (arm p q vs) l k x R n h = refl
 
 module _ (t : List ℕ) (k e child x : ℕ) (r : Went) {kd : ℕ} (q : KindOf t k kd) where
-  pub combines-scope : kd ≡ 11 → {p : Went} → InScope t k x r p → Combines t k e child x r p
-  unfolding combines
-  combines-scope h {p} g = record {
-    is = λ own l s c w.
-        of-kind 11 (λ y. Stands (act y l) k t → p ≡ went (combines y l k x (outcome r))) (λ s. g .is l s) own (sym (row-kind q own l s) ∙ h) s;
-  }
+  module _ {a : Bool} (d : a ≡ scopeKind kd) where
+    scope-there : (own : Own) (l : Acts) → Stands (act own l) k t → isScope own ≡ a
+    scope-there own l s = sym (scope-kind own) ∙ (rw (← row-kind q own l s) (sym d))
 
-  module _ (n : kd ≡ 11 → ⊥) {v : Bool} (i : v ≡ hasParts kd) where
-    no-scope : (own : Own) (l : Acts) → Stands (act own l) k t → kind own ≡ 11 → ⊥
-    no-scope own l s g = n (row-kind q own l s ∙ g)
-
-    parts-are : (own : Own) (l : Acts) → Stands (act own l) k t → hasParts (kind own) ≡ v
-    parts-are own l s = rw (← row-kind q own l s) (sym i)
-
-    pub combines-goes : v ≡ true → {u : Bool} → u ≡ isOver (r .way) → u ≡ true → {p : Went} → GoesOn t k e child (r .order) p → Combines t k e child x r p
-    combines-goes h {u} j y {p} g = record {
+    pub combines-scope : a ≡ true → {p : Went} → InScope t k x r p → Combines t k e child x r p
+    unfolding combines
+    combines-scope h {p} g = record {
       is = λ own l s c w.
-          let z : r .way ≡ Over = over-is (r .way) (sym j ∙ y) in
-          rw z (g .is own l x s c w (parts-are own l s ∙ h));
+          own-scope (λ y. Stands (act y l) k t → p ≡ went (combines y l k x (outcome r))) (λ v s. g .is v l s) own (scope-there own l s ∙ h) s;
     }
 
-    pub combines-runs : v ≡ true → {u : Bool} → u ≡ isOver (r .way) → u ≡ false → Combines t k e child x r r
-    combines-runs h {u} j y = record {
-      is = λ own l s c w. sym (combines-waits own l k x (outcome r) (no-scope own l s) (sym j ∙ y));
-    }
+    module _ (n : a ≡ false) {v : Bool} (i : v ≡ hasParts kd) where
+      parts-are : (own : Own) (l : Acts) → Stands (act own l) k t → hasParts (kind own) ≡ v
+      parts-are own l s = rw (← row-kind q own l s) (sym i)
 
-    pub combines-none : v ≡ false → Combines t k e child x r r
-    combines-none h = record {
-      is = λ own l s c w. sym (combines-plain own l k x (outcome r) (no-scope own l s) (parts-are own l s ∙ h));
-    }
+      pub combines-goes : v ≡ true → {u : Bool} → u ≡ isOver (r .way) → u ≡ true → {p : Went} → GoesOn t k e child (r .order) p → Combines t k e child x r p
+      combines-goes h {u} j y {p} g = record {
+        is = λ own l s c w.
+            let z : r .way ≡ Over = over-is (r .way) (sym j ∙ y) in
+            rw z (g .is own l x s c w (parts-are own l s ∙ h));
+      }
+
+      pub combines-runs : v ≡ true → {u : Bool} → u ≡ isOver (r .way) → u ≡ false → Combines t k e child x r r
+      combines-runs h {u} j y = record {
+        is = λ own l s c w. sym (combines-waits own l k x (outcome r) (scope-there own l s ∙ n) (sym j ∙ y));
+      }
+
+      pub combines-none : v ≡ false → Combines t k e child x r r
+      combines-none h = record {
+        is = λ own l s c w. sym (combines-plain own l k x (outcome r) (scope-there own l s ∙ n) (parts-are own l s ∙ h));
+      }
 
 -- what an activity makes of an outcome does not hang on what happened before
 abbrev Same : (Outcome → Outcome) → Way → Type 0
@@ -297,19 +369,23 @@ undo-same : (R : Outcome) → went (fromUndo R) ≡ went (fromUndo (outcome (wen
 unfolding fromUndo
 undo-same = by-way fromUndo (λ o g. refl) (λ o g. refl) (λ o g. refl) (λ o g. refl) (λ o g. refl) (λ o g. refl)
 
-scope-same : (k x : ℕ) (l : Acts) (R : Outcome) → went (inScope k x l R) ≡ went (inScope k x l (outcome (went R)))
-unfolding inScope
-scope-same k x l R = go (ltb x (partAt 1 l (k + 1))) (ltb x (partAt 2 l (k + 1)))
+scope-same : (v : Bool) (k x : ℕ) (l : Acts) (R : Outcome) → went (inScope v k x l R) ≡ went (inScope v k x l (outcome (went R)))
+unfolding inScope goesThrough
+scope-same v k x l R = go (ltb x (partAt 1 l (k + 1))) (ltb x (partAt 2 l (k + 1))) (goesThrough v k R)
   where
-    go : (a b : Bool) → _≡_ {A = Went}
-        (went (elim a [ true ↦ fromBody (scopeAt k l) R | false ↦ elim b [ true ↦ fromFault (scopeAt k l) R | false ↦ fromUndo R ] ]))
+    go : (a b c : Bool) → _≡_ {A = Went}
         (went (elim a [
-          | true ↦ fromBody (scopeAt k l) (outcome (went R))
+          | true ↦ elim c [ true ↦ R | false ↦ fromBody (scopeAt k l) R ]
+          | false ↦ elim b [ true ↦ fromFault (scopeAt k l) R | false ↦ fromUndo R ]
+        ]))
+        (went (elim a [
+          | true ↦ elim c [ true ↦ outcome (went R) | false ↦ fromBody (scopeAt k l) (outcome (went R)) ]
           | false ↦ elim b [ true ↦ fromFault (scopeAt k l) (outcome (went R)) | false ↦ fromUndo (outcome (went R)) ]
         ]))
-    go true b = body-same (scopeAt k l) R
-    go false true = fault-same (scopeAt k l) R
-    go false false = undo-same R
+    go true b true = refl
+    go true b false = body-same (scopeAt k l) R
+    go false true c = fault-same (scopeAt k l) R
+    go false false c = undo-same R
 
 combines-same : (own : Own) (l : Acts) (k x : ℕ) (R : Outcome) → went (combines own l k x R) ≡ went (combines own l k x (outcome (went R)))
 unfolding combines
@@ -324,69 +400,81 @@ combines-same (repeat e) l k x R = goes-same k 2 (again k) R
 combines-same sequence l k x R = goes-same k 1 (λ o. whereOver (finishes k) (begunIn o (beginAfter l (k + 1) x (o .marks)))) R
 combines-same flow l k x R = goes-same k 1 (joins k l) R
 combines-same pick l k x R = goes-same k 2 (finishes k) R
-combines-same scope l k x R = scope-same k x l R
+combines-same (scope v) l k x R = scope-same v k x l R
 combines-same (arm p q vs) l k x R = refl
 
 -- what room a scope needs
 room-of : (own : Own) (l : Acts) (k : ℕ) (o : Order) → hasRoom own l k (closings o) ≡ true
-    → kind own ≡ 11 → length (closings (forgetting (scopeAt k l) o)) < 32
+    → hasUndo own ≡ true → length (closings (forgetting (scopeAt k l) o)) < 32
 unfolding hasRoom forgetting
 room-of own l k o h e =
     let xs = only (λ e. not (isFor (scopeAt k l) e)) (closings o) in
-    let g : isScope own ≡ true = eq-eqb _ _ e in
-    let m : ltb (length xs) 32 ≡ true = rw g at h in
+    let m : ltb (length xs) 32 ≡ true = rw e at h in
     rw (closings-are xs o) (ltb-true (length xs) 32 m)
 
 -- `replaced`, `performs`
-in-place : (own : Own) (l : Acts) (k : ℕ) (o : Order) (b : Bool) → replaces inPlace (kind own) ≡ b → performs inPlace own l k o ≡ elim b [ true ↦ raises k o | false ↦ itself own l k o ]
+in-place : (own : Own) (l : Acts) (q k : ℕ) (o : Order) (b : Bool) → replaces inPlace (kind own) ≡ b
+    → performs inPlace own l q k o ≡ elim b [ true ↦ raises k o | false ↦ itself own l q k o ]
 unfolding performs
-in-place own l k o b e = subst (λ (z : Bool). performs inPlace own l k o ≡ elim z [ true ↦ raises k o | false ↦ itself own l k o ]) e refl
+in-place own l q k o b e =
+    subst (λ (z : Bool). performs inPlace own l q k o ≡ elim z [ true ↦ raises k o | false ↦ itself own l q k o ]) e refl
 
 kind-there : {t : List ℕ} {k : ℕ} (own : Own) (l : Acts) {n : ℕ} → KindOf t k n → Stands (act own l) k t → kind own ≡ n
 unfolding Stands size
 kind-there {t} {k} own l {n} a s = sym (a .is (omega (arith, stands-inside (act own l) k t s)) ∙ s .first .row .kind)
 
-module _ {t : List ℕ} {k : ℕ} {o : Order} where
-  pub replaced-receive : {n : ℕ} → KindOf t k n → n ≡ 2 → {r : Went} → r ≡ raisesOf k o → Performs t inPlace k o r
+module _ {t : List ℕ} {q k : ℕ} {o : Order} where
+  pub replaced-receive : {n : ℕ} → KindOf t k n → n ≡ 2 → {r : Went} → r ≡ raisesOf k o → Performs t inPlace q k o r
   unfolding replaces
-  replaced-receive a e q = record { is = λ own l s g. q ∙ sym (ap went (in-place own l k o true (rw (kind-there own l a s ∙ e)))) }
+  replaced-receive a e y = record { is = λ own l d s g. y ∙ sym (ap went (in-place own l q k o true (rw (kind-there own l a s ∙ e)))) }
 
-  pub replaced-arm : {n : ℕ} → KindOf t k n → n ≡ 12 → {r : Went} → r ≡ raisesOf k o → Performs t inPlace k o r
+  pub replaced-arm : {n : ℕ} → KindOf t k n → n ≡ 255 → {r : Went} → r ≡ raisesOf k o → Performs t inPlace q k o r
   unfolding replaces
-  replaced-arm a e q = record { is = λ own l s g. q ∙ sym (ap went (in-place own l k o true (rw (kind-there own l a s ∙ e)))) }
+  replaced-arm a e y = record { is = λ own l d s g. y ∙ sym (ap went (in-place own l q k o true (rw (kind-there own l a s ∙ e)))) }
 
-  pub replaced-other : {n : ℕ} → KindOf t k n → (n ≡ 2 → ⊥) → (n ≡ 12 → ⊥) → {r : Went} → StepsAt t k o r → Performs t inPlace k o r
+  pub replaced-other : {n : ℕ} → KindOf t k n → (n ≡ 2 → ⊥) → (n ≡ 255 → ⊥) → {r : Went} → StepsAt t q k o r → Performs t inPlace q k o r
   unfolding replaces
   replaced-other {n} a e d y =
       record {
-        is = λ own l s g.
-            y .is own l s g
-            ∙ sym (ap went (in-place own l k o false (rw (ne-eqb (kind own) 2 (λ z. e (sym (kind-there own l a s) ∙ z)), ne-eqb (kind own) 12 (λ z. d (sym (kind-there own l a s) ∙ z))))));
+        is = λ own l i s g.
+            y .is own l i s g
+            ∙ sym (ap went (in-place own l q k o false (rw (ne-eqb (kind own) 2 (λ z. e (sym (kind-there own l a s) ∙ z)), ne-eqb (kind own) 255 (λ z. d (sym (kind-there own l a s) ∙ z))))));
       }
 
-  pub performs-raise : {b : Bool} → b ≡ true → {r : Went} → Performs t inPlace k o r → Performs t (actorOf b) k o r
+  pub performs-raise : {b : Bool} → b ≡ true → {r : Went} → Performs t inPlace q k o r → Performs t (actorOf b) q k o r
   performs-raise e y = rw e y
 
-  pub performs-own : {b : Bool} → b ≡ false → {r : Went} → StepsAt t k o r → Performs t (actorOf b) k o r
+  pub performs-own : {b : Bool} → b ≡ false → {r : Went} → StepsAt t q k o r → Performs t (actorOf b) q k o r
   unfolding performs replaces
-  performs-own e y = rw e (record { is = λ own l s g. y .is own l s g })
+  performs-own e y = rw e (record { is = λ own l d s g. y .is own l d s g })
+
+-- `part_of`
+module _ {t : List ℕ} (q : ℕ) {k : ℕ} (child : ℕ) {kd : ℕ} (y : KindOf t k kd) {a : Bool} (d : a ≡ scopeKind kd) where
+  part-there : (own : Own) (l : Acts) → Stands (act own l) k t → isScope own ≡ a
+  part-there own l s = sym (scope-kind own) ∙ (rw (← row-kind y own l s) (sym d))
+
+  pub part-own : a ≡ true → PartOf t q k child child
+  part-own e = record { is = λ own l s. rw (part-there own l s, e); small = λ h g. g }
+
+  pub part-around : a ≡ false → PartOf t q k child q
+  part-around e = record { is = λ own l s. rw (part-there own l s, e); small = λ h g. h }
 
 -- `step_in`
-pub step-itself : {t : List ℕ} {z : Actor} {k x : ℕ} {o : Order} → k ≡ x → {r : Went} → Performs t z k o r → StepsIn t z k x o r
+pub step-itself : {t : List ℕ} {z : Actor} {q k x : ℕ} {o : Order} → k ≡ x → {r : Went} → Performs t z q k o r → StepsIn t z q k x o r
 unfolding stepIn roomIn
-step-itself {t} {z} {k} {x} {o} e {r} y = record { is = is }
+step-itself {t} {z} {q} {k} {x} {o} e {r} y = record { is = is }
   where
-    is : (a : Act) → Stands a k t → roomIn a k x (closings o) ≡ true → r ≡ went (stepIn z a k x o)
-    is (act own l) s h =
+    is : (a : Act) → q < 256 → Stands a k t → roomIn a k x (closings o) ≡ true → r ≡ went (stepIn z a q k x o)
+    is (act own l) d s h =
         let m : eqb k x ≡ true = eq-eqb k x e in
         let g : hasRoom own l k (closings o) ≡ true = sym (yes (eqb k x) (hasRoom own l k (closings o)) (roomAmong l (k + 1) x (closings o)) m) ∙ h in
-        y .is own l s (room-of own l k o g)
-        ∙ sym (ap went (yes (eqb k x) (performs z own l k o) (combines own l k x (stepAmong z l (k + 1) x (arms own l k x o))) m))
+        y .is own l d s (room-of own l k o g)
+        ∙ sym (ap went (yes (eqb k x) (performs z own l q k o) (combines own l k x (stepAmong z l (isScope own) q (k + 1) x (arms own l k x o))) m))
 
 -- what is remembered stays as it is where an arm of a pick takes its message
 arms-closings : (own : Own) (l : Acts) (k x : ℕ) (o : Order) → closings (arms own l k x o) ≡ closings o
 unfolding arms
-arms-closings own l k x o = go (eqb (kind own) 10 && isPart l (k + 1) x)
+arms-closings own l k x o = go (isPick own && isPart l (k + 1) x)
   where
     go : (b : Bool) → closings (cond b (marked k 2 o) o) ≡ closings o
     go true = refl
@@ -402,33 +490,36 @@ module _ {t : List ℕ} {k x : ℕ} {o : Order} (n : k ≡ x → ⊥) {e : ℕ} 
   unfolding Stands
   among own l s = y .is l (s .rest) (row-end own l s)
 
-  combined : (v : Actor) (own : Own) (l : Acts) → Stands (act own l) k t → r ≡ went (stepAmong v l (k + 1) x o₁) → p ≡ went (stepIn v (act own l) k x o)
+  combined : (v : Actor) (q : ℕ) (own : Own) (l : Acts) → Stands (act own l) k t → r ≡ went (stepAmong v l (isScope own) q (k + 1) x o₁)
+      → p ≡ went (stepIn v (act own l) q k x o)
   unfolding stepIn
-  combined v own l s g =
+  combined v q own l s g =
       let i : o₁ ≡ arms own l k x o = w .is own l s (among own l s) in
-      let R = stepAmong v l (k + 1) x (arms own l k x o) in
+      let R = stepAmong v l (isScope own) q (k + 1) x (arms own l k x o) in
       let d : r ≡ went R = rw i at g in
       (rw d at (c .is own l s (row-end own l s) (among own l s)))
       ∙ (sym (combines-same own l k x R)
-      ∙ sym (ap went (no (eqb k x) (performs v own l k o) (combines own l k x R) (ne-eqb k x n))))
+      ∙ sym (ap went (no (eqb k x) (performs v own l q k o) (combines own l k x R) (ne-eqb k x n))))
 
   room-within : (own : Own) (l : Acts) → roomIn (act own l) k x (closings o) ≡ true → roomAmong l (k + 1) x (closings o) ≡ true
   unfolding roomIn
   room-within own l h = sym (no (eqb k x) (hasRoom own l k (closings o)) (roomAmong l (k + 1) x (closings o)) (ne-eqb k x n)) ∙ h
 
-  pub step-within : {v : Actor} → child < e → StepsIn t v child x o₁ r → StepsIn t v k x o p
-  step-within {v} h g = record { is = is }
+  pub step-within : {v : Actor} {q u : ℕ} → child < e → PartOf t q k child u → StepsIn t v u child x o₁ r → StepsIn t v q k x o p
+  step-within {v} {q} {u} h f g = record { is = is }
     where
-      is : (a : Act) → Stands a k t → roomIn a k x (closings o) ≡ true → p ≡ went (stepIn v a k x o)
-      is (act own l) s m =
+      is : (a : Act) → q < 256 → Stands a k t → roomIn a k x (closings o) ≡ true → p ≡ went (stepIn v a q k x o)
+      is (act own l) y s m =
           let d = among own l s .found h in
           let i : o₁ ≡ arms own l k x o = w .is own l s (among own l s) in
           let j : closings o₁ ≡ closings o = ap closings i ∙ arms-closings own l k x o in
           let w′ : roomIn (d .part) child x (closings o₁) ≡ true = rw j (sym (d .room (closings o)) ∙ room-within own l m) in
-          combined v own l s (g .is (d .part) (d .stands) w′ ∙ ap went (sym (d .steps v o₁)))
+          let c′ : child < 256 = omega (arith, stands-inside (d .part) child t (d .stands), size-pos (d .part)) in
+          let r′ : r ≡ went (stepIn v (d .part) u child x o₁) = g .is (d .part) (f .small y c′) (d .stands) w′ in
+          combined v q own l s ((rw (f .is own l s) at r′) ∙ ap went (sym (d .steps v (isScope own) q o₁)))
 
-  pub step-nowhere : {v : Actor} → e ≤ child → r ≡ runsOf o₁ → StepsIn t v k x o p
-  step-nowhere {v} h g = record { is = is }
+  pub step-nowhere : {v : Actor} {q : ℕ} → e ≤ child → r ≡ runsOf o₁ → StepsIn t v q k x o p
+  step-nowhere {v} {q} h g = record { is = is }
     where
-      is : (a : Act) → Stands a k t → roomIn a k x (closings o) ≡ true → p ≡ went (stepIn v a k x o)
-      is (act own l) s m = combined v own l s (g ∙ ap went (sym (among own l s .missed h .steps v o₁)))
+      is : (a : Act) → q < 256 → Stands a k t → roomIn a k x (closings o) ≡ true → p ≡ went (stepIn v a q k x o)
+      is (act own l) y s m = combined v q own l s (g ∙ ap went (sym (among own l s .missed h .steps v (isScope own) q o₁)))

@@ -25,13 +25,13 @@ faults-is t z o {o₁} e {p} x {r} y = record {
 }
 
 -- `breaks`
-pub breaks-is : (t : List ℕ) (z : Spot) (o : Order) {o₁ : Order} → o₁ ≡ marking (nameOf z) 0 o → {p : Order} → Forgets t (z .body) (z .fault) o₁ p
+pub breaks-is : (t : List ℕ) (z : Spot) (o : Order) {o₁ : Order} → o₁ ≡ marking (nameOf z) 0 o → {p : Order} → Forgets (z .body) o₁ p
     → {n : List ℕ} → Clears (z .first) (z .end) (p .marks) n → {q : Order} → q ≡ withMarks n p
     → Leads t z breaks o (record { way = Raising; order = q })
 unfolding breaks forgetting
 breaks-is t z o {o₁} e {p} x {n} i {q} j = record {
   is = λ b f h.
-      let a : p ≡ forgetting (scopeOf z b f) o₁ = x .is b (h .body) (h .next) in
+      let a : p ≡ forgetting (scopeOf z b f) o₁ = x .is in
       rw (j, i .is (h .end), a, e);
 }
 

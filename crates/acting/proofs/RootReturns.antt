@@ -7,6 +7,7 @@ use native.Mathlib.Omega.{arith}
 use borrow.Author.Tests.{eq-eqb, ne-eqb, lt-ltb, le-ltb, ltb-false}
 use lib.Dec.{eqb, ltb}
 use Rattle.plan.specs.Tree.{Act, act, Acts, none, more, Plan, size, sizes}
+use Rattle.order.specs.declared.Closing.{Closing}
 use Rattle.order.specs.declared.End.{End}
 use Rattle.order.specs.declared.End.the-variants.{None, Well, Handled, Failed, Left}
 use Rattle.order.specs.declared.Next.{Next}
@@ -98,14 +99,14 @@ root-is t activities {e} h i {n} {f} z u j = record {
         omega (arith, j b)
 
 -- no step is held in what ends before it
-room-past : (l : Acts) (c x : ℕ) (xs : List ℕ) → c + sizes l ≤ x → roomAmong l c x xs ≡ true
+room-past : (l : Acts) (c x : ℕ) (xs : List Closing) → c + sizes l ≤ x → roomAmong l c x xs ≡ true
 unfolding roomIn size
 room-past none c x xs h = refl
 room-past (more a l) c x xs h =
     no (ltb x (c + size a)) (roomIn a c x xs) (roomAmong l (c + size a) x xs) (le-ltb x (c + size a) (omega arith))
     ∙ room-past l (c + size a) x xs (omega arith)
 
-room-beyond : (a : Act) (k x : ℕ) (xs : List ℕ) → k + size a ≤ x → roomIn a k x xs ≡ true
+room-beyond : (a : Act) (k x : ℕ) (xs : List Closing) → k + size a ≤ x → roomIn a k x xs ≡ true
 unfolding roomIn size
 room-beyond (act own l) k x xs h =
     no (eqb k x) (hasRoom own l k xs) (roomAmong l (k + 1) x xs) (ne-eqb k x (λ e. omega arith)) ∙ room-past l (k + 1) x xs (omega arith)
@@ -121,15 +122,15 @@ module _ (t : List ℕ) (activities : ℕ) (v : Actor) (x : ℕ) (o : Order) {z 
       let m : x < 0 + size (p .body) = omega arith in
       sym (yes (ltb x (0 + size (p .body))) (roomIn (p .body) 0 x (closings o)) _ (lt-ltb _ _ m)) ∙ g
 
-  pub step-body : x < z .fault → {r : Went} → StepsIn t v 0 x o r → {p : Went} → Makes t z fromBody r p → {n : Next}
+  pub step-body : x < z .fault → {r : Went} → StepsIn t v 0 0 x o r → {p : Went} → Makes t z fromBody r p → {n : Next}
       → n ≡ nextOf (movedTo (outcome p) (endOf (outcome p))) → ActsOrder t activities v x o n
   unfolding acted stepRoot
   step-body h {r} a {p} b {n} c = record {
     is = λ q s room.
         let w = plan-stands s in
         let m : x < size (q .body) = omega (arith, fault-row q w) in
-        let R = stepIn v (q .body) 0 x o in
-        let d : r ≡ went R = a .is (q .body) (w .body) (room-body q m room) in
+        let R = stepIn v (q .body) 0 0 x o in
+        let d : r ≡ went R = a .is (q .body) (omega arith) (w .body) (room-body q m room) in
         let e : p ≡ went (fromBody (rootOf q) (outcome (went R)))
         = (rw d at (b .is (q .body) (q .fault) (y .held q w))) ∙ ap (λ (s : Scope). went (fromBody s (outcome (went R)))) (y .same q w) in
         let f : p ≡ went (stepRoot v q x o)
@@ -150,7 +151,7 @@ module _ (t : List ℕ) (activities : ℕ) (v : Actor) (x : ℕ) (o : Order) {z 
       go true e v = v
       go false e v = room-beyond (p .fault) (0 + size (p .body)) x (closings o) (ltb-false _ _ e)
 
-  pub step-fault : z .fault ≤ x → {r : Went} → StepsIn t v (z .fault) x o r → {p : Went} → Makes t z fromFault r p → {n : Next}
+  pub step-fault : z .fault ≤ x → {r : Went} → StepsIn t v (z .fault) (z .fault) x o r → {p : Went} → Makes t z fromFault r p → {n : Next}
       → n ≡ nextOf (movedTo (outcome p) (endOf (outcome p))) → ActsOrder t activities v x o n
   unfolding acted stepRoot
   step-fault h {r} a {p} b {n} c = record {
@@ -158,8 +159,8 @@ module _ (t : List ℕ) (activities : ℕ) (v : Actor) (x : ℕ) (o : Order) {z 
         let w = plan-stands s in
         let i : z .fault ≡ size (q .body) = fault-row q w in
         let m : size (q .body) ≤ x = omega arith in
-        let R = stepIn v (q .fault) (size (q .body)) x o in
-        let d : r ≡ went R = (rw i at a) .is (q .fault) (w .fault) (room-fault q m room) in
+        let R = stepIn v (q .fault) (size (q .body)) (size (q .body)) x o in
+        let d : r ≡ went R = (rw i at a) .is (q .fault) (omega (arith, y .low)) (w .fault) (room-fault q m room) in
         let e : p ≡ went (fromFault (rootOf q) (outcome (went R)))
         = (rw d at (b .is (q .body) (q .fault) (y .held q w))) ∙ ap (λ (s : Scope). went (fromFault s (outcome (went R)))) (y .same q w) in
         let f : p ≡ went (stepRoot v q x o)

@@ -104,12 +104,12 @@ module _ (t : List ℕ) (n x : ℕ) (xs : List ℕ) (o : Order) where
     takes-receive h {r} b = by-row (λ own l s.
         of-kind 2 (λ w. Stands (act w l) x t → r ≡ bindOwn w xs o) (λ p y vs s. b .is vs (receive-names t x p y vs l s)) own (sym (row-kind q own l s) ∙ h) s)
 
-    pub takes-arm : kd ≡ 12 → {r : Order} → BindsRow t x xs o r → TakesOrder t n x xs o r
+    pub takes-arm : kd ≡ 255 → {r : Order} → BindsRow t x xs o r → TakesOrder t n x xs o r
     unfolding bindOwn
     takes-arm h {r} b = by-row (λ own l s.
-        of-kind 12 (λ w. Stands (act w l) x t → r ≡ bindOwn w xs o) (λ p y vs s. b .is vs (arm-names t x p y vs l s)) own (sym (row-kind q own l s) ∙ h) s)
+        of-kind 255 (λ w. Stands (act w l) x t → r ≡ bindOwn w xs o) (λ p y vs s. b .is vs (arm-names t x p y vs l s)) own (sym (row-kind q own l s) ∙ h) s)
 
-    no-take : (kd ≡ 2 → ⊥) → (kd ≡ 12 → ⊥) → (own : Own) → kind own ≡ kd → o ≡ bindOwn own xs o
+    no-take : (kd ≡ 2 → ⊥) → (kd ≡ 255 → ⊥) → (own : Own) → kind own ≡ kd → o ≡ bindOwn own xs o
     unfolding bindOwn kind
     no-take h i empty e = refl
     no-take h i (send p y vs) e = refl
@@ -122,8 +122,8 @@ module _ (t : List ℕ) (n x : ℕ) (xs : List ℕ) (o : Order) where
     no-take h i sequence e = refl
     no-take h i flow e = refl
     no-take h i pick e = refl
-    no-take h i scope e = refl
+    no-take h i (scope u) e = refl
     no-take h i (arm p y vs) e = absurd (i (sym e))
 
-    pub takes-none : (kd ≡ 2 → ⊥) → (kd ≡ 12 → ⊥) → TakesOrder t n x xs o o
+    pub takes-none : (kd ≡ 2 → ⊥) → (kd ≡ 255 → ⊥) → TakesOrder t n x xs o o
     takes-none h i = by-row (λ own l s. no-take h i own (sym (row-kind q own l s)))

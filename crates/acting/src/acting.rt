@@ -9,8 +9,10 @@ use activity::raises;
 use beginning::begin_in_turn;
 use order::Entered;
 use order::Order;
+use order::Way;
 use order::Went;
 use order::kind;
+use order::kind::is_scope;
 use order::mark;
 use order::marks::begun_in;
 use order::marks::is_over;
@@ -24,7 +26,7 @@ use order::rows::spot_at;
 ghost use Prim.Native.Nat.{_≤_, _<_};
 ghost use mathlib.Core.Path.{_≡_};
 ghost use Rattle.order.specs.Acting.{inPlace};
-ghost use Rattle.order.specs.Answering.{ChildWith, Arms, BeginsAfter, Follows, JoinsAt, InScope, GoesOn, hasParts, Combines, actorOf, Performs, StepsIn};
+ghost use Rattle.order.specs.Answering.{ChildWith, Arms, BeginsAfter, Follows, JoinsAt, ofUndo, Through, InScope, GoesOn, hasParts, Combines, actorOf, Performs, PartOf, StepsIn};
 
 // The row of those from c to e, side by side, in which row t stands; e where there is none.
 fn child_with(table: &[u32; 11584], c: usize, e: usize, t: usize) -> usize
@@ -92,6 +94,34 @@ fn joins(k: usize, e: usize, order: Order) -> Went
     runs(order)
 }
 
+// Whether this is what became of an undo part.
+fn of_undo(way: Way) -> bool
+    ensures { λ r. ⌜ r ≡ ofUndo way ⌝ }
+{
+    match way {
+        Way::Running => false,
+        Way::Over => false,
+        Way::Raising => false,
+        Way::Leaving => false,
+        Way::Undone => true,
+        Way::UndoRaising => true,
+    }
+}
+
+// Whether what became of an order in the body of scope k goes through it: of an undo part that it handed on, to the scope further around that runs it.
+fn goes_through(table: &[u32; 11584], k: usize, r: Went) -> bool
+    ensures { λ b. ⌜ Through (now (table .entry)) k r b ⌝ }
+{
+    if kind_of(table, k) == kind::OPEN_SCOPE {
+        let o = r.order;
+        if mark_at(k, o) == mark::IDLE {
+            let w = r.way;
+            return of_undo(w);
+        }
+    }
+    false
+}
+
 // What scope k makes of a step t within it.
 fn in_scope(table: &[u32; 11584], k: usize, t: usize, r: Went) -> Went
     ensures { λ p. ⌜ InScope (now (table .entry)) k t r p ⌝ }
@@ -99,6 +129,9 @@ fn in_scope(table: &[u32; 11584], k: usize, t: usize, r: Went) -> Went
     let s = spot_at(table, k);
     let fault = s.fault;
     if t < fault {
+        if goes_through(table, k, r) {
+            return r;
+        }
         return from_body(table, s, r);
     }
     if t < end_of(table, fault) {
@@ -154,7 +187,7 @@ fn combines(table: &[u32; 11584], k: usize, e: usize, child: usize, t: usize, r:
     ensures { λ p. ⌜ Combines (now (table .entry)) k e child t r p ⌝ }
 {
     let kind = kind_of(table, k);
-    if kind == kind::SCOPE {
+    if is_scope(kind) {
         return in_scope(table, k, t, r);
     }
     if has_parts(kind) {
@@ -168,8 +201,8 @@ fn combines(table: &[u32; 11584], k: usize, e: usize, child: usize, t: usize, r:
 }
 
 // A raise in place of activity k, where that is a receive or an arm.
-fn replaced(table: &[u32; 11584], k: usize, order: Order) -> Went
-    ensures { λ p. ⌜ Performs (now (table .entry)) inPlace k order p ⌝ }
+fn replaced(table: &[u32; 11584], q: usize, k: usize, order: Order) -> Went
+    ensures { λ p. ⌜ Performs (now (table .entry)) inPlace q k order p ⌝ }
 {
     let kind = kind_of(table, k);
     if kind == kind::RECEIVE {
@@ -178,32 +211,51 @@ fn replaced(table: &[u32; 11584], k: usize, order: Order) -> Went
     if kind == kind::ARM {
         return raises(k, order);
     }
-    itself(table, k, order)
+    itself(table, q, k, order)
 }
 
 // Activity k acts, or a raise in its place.
-fn performs(table: &[u32; 11584], k: usize, raise: bool, order: Order) -> Went
-    ensures { λ p. ⌜ Performs (now (table .entry)) (actorOf raise) k order p ⌝ }
+fn performs(table: &[u32; 11584], q: usize, k: usize, raise: bool, order: Order) -> Went
+    ensures { λ p. ⌜ Performs (now (table .entry)) (actorOf raise) q k order p ⌝ }
 {
     if raise {
-        return replaced(table, k, order);
+        return replaced(table, q, k, order);
     }
-    itself(table, k, order)
+    itself(table, q, k, order)
 }
 
-// Step t in activity k, or a raise in its place.
-pub(crate) fn step_in(table: &[u32; 11584], k: usize, t: usize, raise: bool, order: Order) -> Went
+// The part that what stands in row `child` within activity k stands in, where k stands in the part q: of what stands directly in a scope each is a part by
+// itself.
+fn part_of(table: &[u32; 11584], q: usize, k: usize, child: usize) -> usize
+    ensures { λ p. ⌜ PartOf (now (table .entry)) q k child p ⌝ }
+{
+    if is_scope(kind_of(table, k)) {
+        return child;
+    }
+    q
+}
+
+// Step t in activity k, which stands in the part whose first activity has the number q, or a raise in its place.
+pub(crate) fn step_in(
+    table: &[u32; 11584],
+    q: usize,
+    k: usize,
+    t: usize,
+    raise: bool,
+    order: Order,
+) -> Went
     requires { ⌜ k < 256 ⌝ }
-    ensures { λ p. ⌜ StepsIn (now (table .entry)) (actorOf raise) k t order p ⌝ }
+    ensures { λ p. ⌜ StepsIn (now (table .entry)) (actorOf raise) q k t order p ⌝ }
 {
     if k == t {
-        return performs(table, k, raise, order);
+        return performs(table, q, k, raise, order);
     }
     let e = end_of(table, k);
     let child = child_with(table, k + 1, e, t);
     let o = arms(table, k, e, child, t, order);
     if child < e {
-        let r = step_in(table, child, t, raise, o);
+        let p = part_of(table, q, k, child);
+        let r = step_in(table, p, child, t, raise, o);
         return combines(table, k, e, child, t, r);
     }
     combines(table, k, e, child, t, runs(o))

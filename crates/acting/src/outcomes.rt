@@ -32,12 +32,7 @@ fn faults(table: &[u32; 11584], spot: Spot, order: Order) -> Went
 fn breaks(table: &[u32; 11584], spot: Spot, order: Order) -> Went
     ensures { λ p. ⌜ Leads (now (table .entry)) spot breaksOf order p ⌝ }
 {
-    let o = forgetting(
-        table,
-        spot.body,
-        spot.fault,
-        marking(spot, mark::IDLE, order),
-    );
+    let o = forgetting(spot.body, marking(spot, mark::IDLE, order));
     let m = o.marks;
     let n = cleared(spot.first, spot.end, m);
     let p = with_marks(n, o);

@@ -96,11 +96,11 @@ pub(crate) fn acted(
     let s = root_spot(table, activities);
     let fault = s.fault;
     if t < fault {
-        let r = step_in(table, 0, t, raise, order);
+        let r = step_in(table, 0, 0, t, raise, order);
         let p = from_body(table, s, r);
         return moved_to(p);
     }
-    let r = step_in(table, fault, t, raise, order);
+    let r = step_in(table, fault, fault, t, raise, order);
     let p = from_fault(table, s, r);
     moved_to(p)
 }

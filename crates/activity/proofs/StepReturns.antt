@@ -15,25 +15,25 @@ use Rattle.plan.specs.Table.{rowOf}
 use Rattle.plan.specs.Tree.{Exp, Own, empty, send, receive, set as setting, raise, leave, choose, repeat, sequence, flow, pick, scope, arm, kind, Act, act, Acts, none, more, size, sizes, count}
 use Rattle.plan.specs.Within.{ownWithin, exchangeWithin, variablesWithin}
 use Rattle.plan.proofs.Accepts.{both}
+use Rattle.order.specs.declared.Closing.{Closing}
 use Rattle.order.specs.declared.Entered.{Entered}
 use Rattle.order.specs.declared.Order.{Order}
-use Rattle.order.specs.declared.Spot.{Spot}
 use Rattle.order.specs.declared.Way.the-variants.{Over, Raising, Leaving}
 use Rattle.order.specs.declared.Went.{Went}
 use Rattle.order.specs.declared.Worth.{Worth}
 use Rattle.order.specs.Acting.{finishes, enters, again, repeats, itself}
-use Rattle.order.specs.Answering.{went, isOver, worthOf, Evaluates, begunOf, Begins, Clears, KindOf, Forgets, Pushes, SpotAt, scopeAct, runsOf, finishesOf, raisesOf, leavesOf, Bound, CountOf, VariableOf, Names, AllBound, Binds, Enters, StepOf, Roomy, Closes, StepsAt, Repeats, WorthAt}
+use Rattle.order.specs.Answering.{went, isOver, worthOf, Evaluates, begunOf, Begins, Clears, KindOf, forPart, notFor, handed, Forgets, Remembers, Hands, runsOf, finishesOf, raisesOf, leavesOf, Bound, CountOf, VariableOf, Names, AllBound, Binds, Enters, StepOf, Roomy, Closes, HandsOn, StepsAt, Repeats, WorthAt}
 use Rattle.order.specs.Begin.{begin, part, partAt, beginPart}
 use Rattle.order.specs.Expression.{Value, fault, value, evaluate, isTrue}
 use Rattle.order.specs.Lists.{only, every}
-use Rattle.order.specs.Scope.{Scope, begunIn, whereOver, scopeAt, isFor, forgetting, closing}
+use Rattle.order.specs.Scope.{begunIn, whereOver, scopeAt, isFor, listOf, forgetting, adds, closing}
 use Rattle.order.specs.Stands.{End, Line, Stands}
 use Rattle.order.specs.State.{closings, remembering, marked, withMarks, isBound, binding}
 use Rattle.order.proofs.EvaluationReturns.{fault-known, value-known}
 use Rattle.order.proofs.Owns.{of-kind}
 use Rattle.order.proofs.MemoryReturns.{closings-are}
 use Rattle.order.proofs.Deciding.{yes, no, goes-on, stays}
-use Rattle.order.proofs.Standing.{size-pos, stands-end, stands-inside, row-kind, if-two, if-one, if-scope}
+use Rattle.order.proofs.Standing.{size-pos, stands-end, stands-inside, row-kind, if-two, if-one}
 
 -- `finishes`, `raises`, `leaves`, `again`
 module _ (k : ℕ) (o : Order) where
@@ -155,16 +155,16 @@ module _ (t : List ℕ) (k : ℕ) (o : Order) {b : Bool} (x : AllBound t k o b) 
   pub send-sends : b ≡ true → {r : Went} → r ≡ finishesOf k o → StepOf 1 t k o r
   unfolding itself
   send-sends e {r} g = record {
-    is = λ own l n s.
-        of-kind 1 (λ w. Stands (act w l) k t → r ≡ went (itself w l k o))
+    is = λ own l pt n s.
+        of-kind 1 (λ w. Stands (act w l) k t → r ≡ went (itself w l pt k o))
         (λ p q vs s. rw (← x .is vs (send-names t k p q vs l s), e) g) own n s;
   }
 
   pub send-raises : b ≡ false → {r : Went} → r ≡ raisesOf k o → StepOf 1 t k o r
   unfolding itself
   send-raises e {r} g = record {
-    is = λ own l n s.
-        of-kind 1 (λ w. Stands (act w l) k t → r ≡ went (itself w l k o))
+    is = λ own l pt n s.
+        of-kind 1 (λ w. Stands (act w l) k t → r ≡ went (itself w l pt k o))
         (λ p q vs s. rw (← x .is vs (send-names t k p q vs l s), e) g) own n s;
   }
 
@@ -190,16 +190,16 @@ module _ (t : List ℕ) (k : ℕ) (o : Order) {w : Worth} (x : WorthAt t k o w) 
   pub set-raises : w ≡ Worth.Fault → {r : Went} → r ≡ raisesOf k o → StepOf 3 t k o r
   unfolding itself
   set-raises h {r} g = record {
-    is = λ own l n s.
-        of-kind 3 (λ y. Stands (act y l) k t → r ≡ went (itself y l k o))
+    is = λ own l pt n s.
+        of-kind 3 (λ y. Stands (act y l) k t → r ≡ went (itself y l pt k o))
         (λ v e s. rw (fault-known (evaluate e o) (set-row t k v o e l x s .worth) h) g) own n s;
   }
 
   pub set-binds : {y : ℕ} → w ≡ Worth.Value y → {v : ℕ} → v ≡ getD t (k * 13 + 8) 0 → {p : Order} → Binds v y o p → {r : Went} → r ≡ finishesOf k p → StepOf 3 t k o r
   unfolding itself
   set-binds {y} h {v} q {p} z {r} g = record {
-    is = λ own l n s.
-        of-kind 3 (λ y. Stands (act y l) k t → r ≡ went (itself y l k o))
+    is = λ own l pt n s.
+        of-kind 3 (λ y. Stands (act y l) k t → r ≡ went (itself y l pt k o))
         (λ u e s.
         let i = set-row t k u o e l x s in
         let j : v ≡ u = q ∙ i .variable in
@@ -222,18 +222,18 @@ choose-row t k o e l x s =
     }))
 
 -- which part a choose enters
-chosen : (e : Exp) (a b : Act) (k : ℕ) (o : Order) (y : ℕ) → evaluate e o ≡ value y → (x : Bool) → isTrue y ≡ x
-    → itself (choose e) (more a (more b none)) k o ≡ enters k o (begin (cond x a b) (cond x (k + 1) (k + 1 + size a)) (marked k 2 o .marks))
+chosen : (e : Exp) (a b : Act) (pt k : ℕ) (o : Order) (y : ℕ) → evaluate e o ≡ value y → (x : Bool) → isTrue y ≡ x
+    → itself (choose e) (more a (more b none)) pt k o ≡ enters k o (begin (cond x a b) (cond x (k + 1) (k + 1 + size a)) (marked k 2 o .marks))
 unfolding itself beginPart part partAt
-chosen e a b k o y h true i = rw (h, i)
-chosen e a b k o y h false i = rw (h, i)
+chosen e a b pt k o y h true i = rw (h, i)
+chosen e a b pt k o y h false i = rw (h, i)
 
 module _ (t : List ℕ) (k : ℕ) (o : Order) {w : Worth} (x : WorthAt t k o w) where
   pub choose-raises : w ≡ Worth.Fault → {r : Went} → r ≡ raisesOf k o → StepOf 6 t k o r
   unfolding itself
   choose-raises h {r} g = record {
-    is = λ own l n s.
-        of-kind 6 (λ y. Stands (act y l) k t → r ≡ went (itself y l k o))
+    is = λ own l pt n s.
+        of-kind 6 (λ y. Stands (act y l) k t → r ≡ went (itself y l pt k o))
         (λ e s. rw (fault-known (evaluate e o) (choose-row t k o e l x s .worth) h) g) own n s;
   }
 
@@ -241,27 +241,27 @@ module _ (t : List ℕ) (k : ℕ) (o : Order) {w : Worth} (x : WorthAt t k o w) 
     pub choose-first : (y ≡ 0 → ⊥) → {r : Went} → Enters t k (k + 1) o r → StepOf 6 t k o r
     unfolding Stands
     choose-first z {r} g = record {
-      is = λ own l n s.
-          of-kind 6 (λ y. Stands (act y l) k t → r ≡ went (itself y l k o))
-          (λ e s. if-two (λ l. Stands (act (choose e) l) k t → r ≡ went (itself (choose e) l k o))
+      is = λ own l pt n s.
+          of-kind 6 (λ y. Stands (act y l) k t → r ≡ went (itself y l pt k o))
+          (λ e s. if-two (λ l. Stands (act (choose e) l) k t → r ≡ went (itself (choose e) l pt k o))
           (λ a b s.
           let i : evaluate e o ≡ value y = value-known (evaluate e o) (choose-row t k o e _ x s .worth) h in
           let m : isTrue y ≡ true = rw (ne-eqb _ _ z) in
-          g .is a (s .rest .first) ∙ sym (ap went (chosen e a b k o y i true m)))
+          g .is a (s .rest .first) ∙ sym (ap went (chosen e a b pt k o y i true m)))
           l (choose-row t k o e l x s .two) s) own n s;
     }
 
     pub choose-second : y ≡ 0 → {c : ℕ} → End t (k + 1) c → {r : Went} → Enters t k c o r → StepOf 6 t k o r
     unfolding Stands
     choose-second z {c} f {r} g = record {
-      is = λ own l n s.
-          of-kind 6 (λ y. Stands (act y l) k t → r ≡ went (itself y l k o))
-          (λ e s. if-two (λ l. Stands (act (choose e) l) k t → r ≡ went (itself (choose e) l k o))
+      is = λ own l pt n s.
+          of-kind 6 (λ y. Stands (act y l) k t → r ≡ went (itself y l pt k o))
+          (λ e s. if-two (λ l. Stands (act (choose e) l) k t → r ≡ went (itself (choose e) l pt k o))
           (λ a b s.
           let i : evaluate e o ≡ value y = value-known (evaluate e o) (choose-row t k o e _ x s .worth) h in
           let m : isTrue y ≡ false = rw (eq-eqb _ _ z) in
           let j : c ≡ k + 1 + size a = stands-end a (k + 1) t (s .rest .first) f in
-          (rw j at (g .is b (rw j (s .rest .rest .first)))) ∙ sym (ap went (chosen e a b k o y i false m)))
+          (rw j at (g .is b (rw j (s .rest .rest .first)))) ∙ sym (ap went (chosen e a b pt k o y i false m)))
           l (choose-row t k o e l x s .two) s) own n s;
     }
 
@@ -304,41 +304,41 @@ repeat-row t k o e l x s =
       worth = x .is (s .first .long) e (s .first .node) (s .first .variables) (s .first .row .expression) (s .first .few) (s .first .expression) d;
     }))
 
-decided : (e : Exp) (l : Acts) (k : ℕ) (o : Order) (y : ℕ) → evaluate e o ≡ value y → (x : Bool) → isTrue y ≡ x
-    → itself (repeat e) l k o ≡ cond x (repeats k l o) (finishes k o)
+decided : (e : Exp) (l : Acts) (pt k : ℕ) (o : Order) (y : ℕ) → evaluate e o ≡ value y → (x : Bool) → isTrue y ≡ x
+    → itself (repeat e) l pt k o ≡ cond x (repeats k l o) (finishes k o)
 unfolding itself
-decided e l k o y h true i = rw h (yes (isTrue y) (repeats k l o) (finishes k o) i)
-decided e l k o y h false i = rw h (no (isTrue y) (repeats k l o) (finishes k o) i)
+decided e l pt k o y h true i = rw h (yes (isTrue y) (repeats k l o) (finishes k o) i)
+decided e l pt k o y h false i = rw h (no (isTrue y) (repeats k l o) (finishes k o) i)
 
 module _ (t : List ℕ) (k : ℕ) (o : Order) {w : Worth} (x : WorthAt t k o w) where
   pub decide-raises : w ≡ Worth.Fault → {r : Went} → r ≡ raisesOf k o → StepOf 7 t k o r
   unfolding itself
   decide-raises h {r} g = record {
-    is = λ own l n s.
-        of-kind 7 (λ y. Stands (act y l) k t → r ≡ went (itself y l k o))
+    is = λ own l pt n s.
+        of-kind 7 (λ y. Stands (act y l) k t → r ≡ went (itself y l pt k o))
         (λ e s. rw (fault-known (evaluate e o) (repeat-row t k o e l x s .worth) h) g) own n s;
   }
 
   module _ {y : ℕ} (h : w ≡ Worth.Value y) where
     pub decide-over : y ≡ 0 → {r : Went} → r ≡ finishesOf k o → StepOf 7 t k o r
     decide-over z {r} g = record {
-      is = λ own l n s.
-          of-kind 7 (λ y. Stands (act y l) k t → r ≡ went (itself y l k o))
+      is = λ own l pt n s.
+          of-kind 7 (λ y. Stands (act y l) k t → r ≡ went (itself y l pt k o))
           (λ e s.
           let i : evaluate e o ≡ value y = value-known (evaluate e o) (repeat-row t k o e l x s .worth) h in
           let m : isTrue y ≡ false = rw (eq-eqb _ _ z) in
-          g ∙ sym (ap went (decided e l k o y i false m))) own n s;
+          g ∙ sym (ap went (decided e l pt k o y i false m))) own n s;
     }
 
     pub decide-again : (y ≡ 0 → ⊥) → {r : Went} → Repeats t k o r → StepOf 7 t k o r
     decide-again z {r} g = record {
-      is = λ own l n s.
-          of-kind 7 (λ y. Stands (act y l) k t → r ≡ went (itself y l k o))
-          (λ e s. if-one (λ l. Stands (act (repeat e) l) k t → r ≡ went (itself (repeat e) l k o))
+      is = λ own l pt n s.
+          of-kind 7 (λ y. Stands (act y l) k t → r ≡ went (itself y l pt k o))
+          (λ e s. if-one (λ l. Stands (act (repeat e) l) k t → r ≡ went (itself (repeat e) l pt k o))
           (λ a s.
           let i : evaluate e o ≡ value y = value-known (evaluate e o) (repeat-row t k o e _ x s .worth) h in
           let m : isTrue y ≡ true = rw (ne-eqb _ _ z) in
-          g .is (repeat e) a s ∙ sym (ap went (decided e (more a none) k o y i true m)))
+          g .is (repeat e) a s ∙ sym (ap went (decided e (more a none) pt k o y i true m)))
           l (repeat-row t k o e l x s .one) s) own n s;
     }
 
@@ -348,96 +348,93 @@ unfolding Stands ownWithin
 arm-one t k p q vs l s =
     both (s .first .arms) _ (s .first .limits) (λ a b. both (eqb (count l) 1) _ b (λ c d. eqb-true (count l) 1 c))
 
-pub takes-is : (t : List ℕ) (k : ℕ) (o : Order) {b : Entered} → Begins t (k + 1) (o .marks) b → {r : Went} → r ≡ begunOf o b → StepOf 12 t k o r
+pub takes-is : (t : List ℕ) (k : ℕ) (o : Order) {b : Entered} → Begins t (k + 1) (o .marks) b → {r : Went} → r ≡ begunOf o b → StepOf 255 t k o r
 unfolding itself beginPart part partAt Stands
 takes-is t k o {b} x {r} y = record {
-  is = λ own l n s.
-      of-kind 12 (λ w. Stands (act w l) k t → r ≡ went (itself w l k o))
-      (λ p q vs s. if-one (λ l. Stands (act (arm p q vs) l) k t → r ≡ went (itself (arm p q vs) l k o))
+  is = λ own l pt n s.
+      of-kind 255 (λ w. Stands (act w l) k t → r ≡ went (itself w l pt k o))
+      (λ p q vs s. if-one (λ l. Stands (act (arm p q vs) l) k t → r ≡ went (itself (arm p q vs) l pt k o))
       (λ a s. rw (x .is a (s .rest .first)) at y)
       l (arm-one t k p q vs l s) s) own n s;
 }
 
--- `closes`
-scope-kind : kind scope ≡ 11
-unfolding kind
-scope-kind = refl
+-- `closes`: the closings that are left
+module _ (q k : ℕ) (o : Order) {f : Order} (y : Forgets (k + 1) o f) where
+  abbrev left-in : Acts → List Closing
+  left-in l = only (λ c. not (isFor (scopeAt k l) c)) (closings o)
 
-module _ (t : List ℕ) (k : ℕ) (o : Order) {z : Spot} (x : SpotAt t k z) {f : Order} (y : Forgets t (z .body) (z .fault) o f) where
-  forgotten : (b g u : Act) → Stands (scopeAct b g u) k t → f ≡ forgetting (scopeAt k (more b (more g (more u none)))) o
+  forgotten : (l : Acts) → f ≡ forgetting (scopeAt k l) o
+  unfolding forgetting partAt
+  forgotten none = y .is
+  forgotten (more a l) = y .is
+
+  kept-all : (l : Acts) → f .kept ≡ length (closings (forgetting (scopeAt k l) o))
   unfolding forgetting
-  forgotten b g u s =
-      let h = x .held b g u s in
-      y .is b (h .body) (h .next) ∙ ap (λ (c : Scope). forgetting c o) (x .same b g u s)
+  kept-all l = ap (λ (w : Order). w .kept) (forgotten l) ∙ ap length (sym (closings-are (left-in l) o))
 
-  -- what is remembered before and after k is remembered
-  kept-all : (b g u : Act) → Stands (scopeAct b g u) k t → f .kept ≡ length (closings (forgetting (scopeAt k (more b (more g (more u none)))) o))
-  unfolding forgetting
-  kept-all b g u s =
-      let e : f ≡ forgetting (scopeAt k (more b (more g (more u none)))) o = forgotten b g u s in
-      ap (λ (w : Order). w .kept) e ∙ ap length (sym (closings-are (only (λ e. not (isFor (scopeAt k (more b (more g (more u none)))) e)) (closings o)) o))
-
-  pushed-on : (b g u : Act) → Stands (scopeAct b g u) k t → f .kept < 32 → {p : Order} → Pushes f k p
-      → p ≡ remembering (closings (forgetting (scopeAt k (more b (more g (more u none)))) o) ++ (k ∷ [])) o
-  unfolding forgetting
-  pushed-on b g u s i j =
-      let h : k < 256 = omega (arith, stands-inside (scopeAct b g u) k t s, size-pos (scopeAct b g u)) in
-      let l = only (λ e. not (isFor (scopeAt k (more b (more g (more u none)))) e)) (closings o) in
-      rw (closings-are l o) (j .is i h l o (forgotten b g u s))
-
-  StepsAct : Went → Act → Type 0
-  StepsAct r (act own l) = Roomy own l k o → r ≡ went (itself own l k o)
-
-  pub closes-is : f .kept < 32 → {p : Order} → Pushes f k p → {r : Went} → r ≡ finishesOf k p → Closes t k o r
-  unfolding itself closing Stands StepsAct
+  pub closes-is : f .kept < 32 → {p : Order} → Remembers k q f p → {r : Went} → r ≡ finishesOf k p → Closes q k o r
+  unfolding closing forgetting adds
   closes-is i {p} j {r} g = record {
-    is = λ own l n s room. if-scope (StepsAct r) t k (s .first .row .kind ∙ n) (λ b c u sb sc su s room. closed b c u s) (act own l) s room;
+    is = λ x z l room.
+        let m : p ≡ remembering (closings (forgetting (scopeAt k l) o) ++ adds true q k (scopeAt k l) o) o
+        = rw (closings-are (left-in l) o) (j .is x z i (left-in l) o (forgotten l)) in
+        rw m at g;
   }
-    where
-      closed : (b c u : Act) → Stands (scopeAct b c u) k t → r ≡ went (itself scope (more b (more c (more u none))) k o)
-      closed b c u s =
-          let m : p ≡ remembering (closings (forgetting (scopeAt k (more b (more c (more u none)))) o) ++ (k ∷ [])) o
-          = pushed-on b c u s i j in
-          rw m at g
 
-  pub closes-full : 32 ≤ f .kept → {r : Went} → Closes t k o r
-  unfolding Stands StepsAct
-  closes-full i {r} = record {
-    is = λ own l n s room. if-scope (StepsAct r) t k (s .first .row .kind ∙ n) (λ b c u sb sc su s room. full b c u s room) (act own l) s room;
-  }
-    where
-      full : (b c u : Act) → Stands (scopeAct b c u) k t → Roomy scope (more b (more c (more u none))) k o
-          → r ≡ went (itself scope (more b (more c (more u none))) k o)
-      full b c u s room = absurd (omega (arith, kept-all b c u s, room scope-kind))
+  pub closes-full : 32 ≤ f .kept → {r : Went} → Closes q k o r
+  closes-full i = record { is = λ x z l room. absurd (omega (arith, kept-all l, room refl)) }
+
+-- `hands_on`
+pub hands-is : (q k : ℕ) (o : Order) {p : Order} → Hands (k + 1) q o p → {r : Went} → r ≡ finishesOf k p → HandsOn q k o r
+unfolding closing forgetting adds listOf partAt
+hands-is q k o {p} y {r} g = record { is = λ x z l. g ∙ rw (y .is z) (sym (go l)) }
+  where
+    go : (l : Acts) → went (closing false q k (scopeAt k l) o)
+        ≡ finishesOf k (remembering (only (notFor (k + 1)) (closings o) ++ handed q (only (forPart (k + 1)) (closings o))) o)
+    go none = rw (closings-are (only (notFor (k + 1)) (closings o)) o)
+    go (more a l) = rw (closings-are (only (notFor (k + 1)) (closings o)) o)
 
 -- `itself`: by the kind of the row
-pub itself-far : (t : List ℕ) (k : ℕ) (o : Order) {r : Went} → 256 ≤ k → StepsAt t k o r
-itself-far t k o h = record { is = λ own l s room. absurd (omega (arith, stands-inside (act own l) k t s, size-pos (act own l))) }
+pub itself-far : (t : List ℕ) (pt k : ℕ) (o : Order) {r : Went} → 256 ≤ k → StepsAt t pt k o r
+itself-far t pt k o h = record { is = λ own l d s room. absurd (omega (arith, stands-inside (act own l) k t s, size-pos (act own l))) }
 
-module _ (t : List ℕ) (k : ℕ) (o : Order) {kd : ℕ} (q : KindOf t k kd) where
-  pub itself-of : (n : ℕ) → kd ≡ n → {r : Went} → StepOf n t k o r → StepsAt t k o r
-  itself-of n e x = record { is = λ own l s room. x .is own l (sym (row-kind q own l s) ∙ e) s }
+module _ (t : List ℕ) (pt k : ℕ) (o : Order) {kd : ℕ} (q : KindOf t k kd) where
+  pub itself-of : (n : ℕ) → kd ≡ n → {r : Went} → StepOf n t k o r → StepsAt t pt k o r
+  itself-of n e x = record { is = λ own l d s room. x .is own l pt (sym (row-kind q own l s) ∙ e) s }
 
-  pub itself-closes : kd ≡ 11 → {r : Went} → Closes t k o r → StepsAt t k o r
-  itself-closes e x = record { is = λ own l s room. x .is own l (sym (row-kind q own l s) ∙ e) s room }
+  below : (own : Own) (l : Acts) → Stands (act own l) k t → k < 256
+  below own l s = omega (arith, stands-inside (act own l) k t s, size-pos (act own l))
 
-  pub itself-receives : kd ≡ 2 → {r : Went} → r ≡ finishesOf k o → StepsAt t k o r
+  pub itself-closes : kd ≡ 11 → {r : Went} → Closes pt k o r → StepsAt t pt k o r
   unfolding itself
-  itself-receives e {r} g = record {
-    is = λ own l s room. of-kind 2 (λ w. r ≡ went (itself w l k o)) (λ p q vs. g) own (sym (row-kind q own l s) ∙ e);
+  itself-closes e {r} x = record {
+    is = λ own l d s room.
+        of-kind 11 (λ w. Roomy w l k o → r ≡ went (itself w l pt k o)) (λ room. x .is (below own l s) d l room) own (sym (row-kind q own l s) ∙ e) room;
   }
 
-  pub itself-raises : kd ≡ 4 → {r : Went} → r ≡ raisesOf k o → StepsAt t k o r
+  pub itself-hands : kd ≡ 12 → {r : Went} → HandsOn pt k o r → StepsAt t pt k o r
   unfolding itself
-  itself-raises e {r} g = record { is = λ own l s room. of-kind 4 (λ w. r ≡ went (itself w l k o)) g own (sym (row-kind q own l s) ∙ e) }
+  itself-hands e {r} x = record {
+    is = λ own l d s room. of-kind 12 (λ w. r ≡ went (itself w l pt k o)) (x .is (below own l s) d l) own (sym (row-kind q own l s) ∙ e);
+  }
 
-  pub itself-leaves : kd ≡ 5 → {r : Went} → r ≡ leavesOf k o → StepsAt t k o r
+  pub itself-receives : kd ≡ 2 → {r : Went} → r ≡ finishesOf k o → StepsAt t pt k o r
   unfolding itself
-  itself-leaves e {r} g = record { is = λ own l s room. of-kind 5 (λ w. r ≡ went (itself w l k o)) g own (sym (row-kind q own l s) ∙ e) }
+  itself-receives e {r} g = record {
+    is = λ own l d s room. of-kind 2 (λ w. r ≡ went (itself w l pt k o)) (λ p q vs. g) own (sym (row-kind q own l s) ∙ e);
+  }
+
+  pub itself-raises : kd ≡ 4 → {r : Went} → r ≡ raisesOf k o → StepsAt t pt k o r
+  unfolding itself
+  itself-raises e {r} g = record { is = λ own l d s room. of-kind 4 (λ w. r ≡ went (itself w l pt k o)) g own (sym (row-kind q own l s) ∙ e) }
+
+  pub itself-leaves : kd ≡ 5 → {r : Went} → r ≡ leavesOf k o → StepsAt t pt k o r
+  unfolding itself
+  itself-leaves e {r} g = record { is = λ own l d s room. of-kind 5 (λ w. r ≡ went (itself w l pt k o)) g own (sym (row-kind q own l s) ∙ e) }
 
   module _ (h1 : kd ≡ 1 → ⊥) (h2 : kd ≡ 2 → ⊥) (h3 : kd ≡ 3 → ⊥) (h4 : kd ≡ 4 → ⊥) (h5 : kd ≡ 5 → ⊥) (h6 : kd ≡ 6 → ⊥) (h7 : kd ≡ 7 → ⊥)
-      (h11 : kd ≡ 11 → ⊥) (h12 : kd ≡ 12 → ⊥) where
-    runs-itself : {r : Went} → r ≡ runsOf o → (own : Own) (l : Acts) → kd ≡ kind own → r ≡ went (itself own l k o)
+      (h11 : kd ≡ 11 → ⊥) (h12 : kd ≡ 12 → ⊥) (h255 : kd ≡ 255 → ⊥) where
+    runs-itself : {r : Went} → r ≡ runsOf o → (own : Own) (l : Acts) → kd ≡ kind own → r ≡ went (itself own l pt k o)
     unfolding itself kind
     runs-itself g empty l e = g
     runs-itself g (send p q vs) l e = absurd (h1 e)
@@ -450,8 +447,9 @@ module _ (t : List ℕ) (k : ℕ) (o : Order) {kd : ℕ} (q : KindOf t k kd) whe
     runs-itself g sequence l e = g
     runs-itself g flow l e = g
     runs-itself g pick l e = g
-    runs-itself g scope l e = absurd (h11 e)
-    runs-itself g (arm p q vs) l e = absurd (h12 e)
+    runs-itself g (scope true) l e = absurd (h11 e)
+    runs-itself g (scope false) l e = absurd (h12 e)
+    runs-itself g (arm p q vs) l e = absurd (h255 e)
 
-    pub itself-runs : {r : Went} → r ≡ runsOf o → StepsAt t k o r
-    itself-runs g = record { is = λ own l s room. runs-itself g own l (row-kind q own l s) }
+    pub itself-runs : {r : Went} → r ≡ runsOf o → StepsAt t pt k o r
+    itself-runs g = record { is = λ own l d s room. runs-itself g own l (row-kind q own l s) }

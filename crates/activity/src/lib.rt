@@ -14,16 +14,16 @@ use order::marks::marked;
 use order::marks::runs;
 use order::marks::with_marks;
 use order::memory::forgetting;
-use order::memory::pushed;
+use order::memory::handed_on;
+use order::memory::remembered;
 use order::rows::count_of;
 use order::rows::end_of;
 use order::rows::kind_of;
-use order::rows::spot_at;
 use order::rows::variable_of;
 ghost use Prim.Native.Nat.{_<_};
 ghost use mathlib.Core.Path.{_≡_};
 ghost use Rattle.order.specs.State.{marked as markedOf};
-ghost use Rattle.order.specs.Answering.{runsOf, finishesOf, raisesOf, leavesOf, Bound, AllBound, Binds, Enters, Repeats, StepOf, Closes, StepsAt, WorthAt};
+ghost use Rattle.order.specs.Answering.{runsOf, finishesOf, raisesOf, leavesOf, Bound, AllBound, Binds, Enters, Repeats, StepOf, Closes, HandsOn, StepsAt, WorthAt};
 
 // Activity k is over.
 pub fn finishes(k: usize, order: Order) -> Went
@@ -144,18 +144,27 @@ fn repeats(table: &[u32; 11584], k: usize, order: Order) -> Went
     r
 }
 
-// Scope k closes. Where it has no room, which no step that is offered leads to, the order stays as it is.
-fn closes(table: &[u32; 11584], k: usize, order: Order) -> Went
-    ensures { λ r. ⌜ Closes (now (table .entry)) k order r ⌝ }
+// Scope k closes, which stands in the part q and has an undo part. Where it has no room, which no step that is offered leads to, the order stays as it is.
+fn closes(q: usize, k: usize, order: Order) -> Went
+    requires { ⌜ k < 256 ⌝ }
+    ensures { λ r. ⌜ Closes q k order r ⌝ }
 {
-    let s = spot_at(table, k);
-    let f = forgetting(table, s.body, s.fault, order);
+    let f = forgetting(k + 1, order);
     let n = f.kept;
     if n < 32 {
-        let p = pushed(f, k);
+        let p = remembered(k, q, f);
         return finishes(k, p);
     }
     runs(order)
+}
+
+// Scope k closes, which stands in the part q and has no undo part: it is not remembered, and hands on what is remembered for it.
+fn hands_on(q: usize, k: usize, order: Order) -> Went
+    requires { ⌜ k < 256 ⌝ }
+    ensures { λ r. ⌜ HandsOn q k order r ⌝ }
+{
+    let p = handed_on(k + 1, q, order);
+    finishes(k, p)
 }
 
 // A send.
@@ -238,15 +247,15 @@ fn decides(table: &[u32; 11584], k: usize, order: Order) -> Went
 // An arm of a pick takes its message.
 fn takes(table: &[u32; 11584], k: usize, order: Order) -> Went
     requires { ⌜ k < 256 ⌝ }
-    ensures { λ r. ⌜ StepOf 12 (now (table .entry)) k order r ⌝ }
+    ensures { λ r. ⌜ StepOf 255 (now (table .entry)) k order r ⌝ }
 {
     let m = order.marks;
     begun_in(order, begin(table, k + 1, m))
 }
 
-// Activity k has its step, where there is one.
-pub fn itself(table: &[u32; 11584], k: usize, order: Order) -> Went
-    ensures { λ r. ⌜ StepsAt (now (table .entry)) k order r ⌝ }
+// Activity k has its step, where there is one. It stands in the part whose first activity has the number q.
+pub fn itself(table: &[u32; 11584], q: usize, k: usize, order: Order) -> Went
+    ensures { λ r. ⌜ StepsAt (now (table .entry)) q k order r ⌝ }
 {
     if 256 <= k {
         return runs(order);
@@ -260,7 +269,8 @@ pub fn itself(table: &[u32; 11584], k: usize, order: Order) -> Went
         kind::LEAVE => leaves(k, order),
         kind::CHOOSE => chooses(table, k, order),
         kind::REPEAT => decides(table, k, order),
-        kind::SCOPE => closes(table, k, order),
+        kind::SCOPE => closes(q, k, order),
+        kind::OPEN_SCOPE => hands_on(q, k, order),
         kind::ARM => takes(table, k, order),
         _ => runs(order),
     }

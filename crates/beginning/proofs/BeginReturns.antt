@@ -11,11 +11,11 @@ use Rattle.plan.specs.Tree.{Own, empty, send, receive, set as setting, raise, l
 use Rattle.order.specs.declared.Entered.{Entered}
 use Rattle.order.specs.declared.Order.{Order}
 use Rattle.order.specs.Acting.{begunOrder, startedOrder}
-use Rattle.order.specs.Answering.{KindOf, entered, throughoutOf, aroundOf, Begins, BeginsInTurn, BeginsAll, StartsOrder}
+use Rattle.order.specs.Answering.{KindOf, scopeKind, entered, throughoutOf, aroundOf, Begins, BeginsInTurn, BeginsAll, StartsOrder}
 use Rattle.order.specs.Begin.{Begun, throughout, around, inTurn, begin, beginInTurn, beginAll, beginFirst}
 use Rattle.order.specs.Event.{Event}
 use Rattle.order.specs.Stands.{End, Stands, StandAll}
-use Rattle.order.specs.State.{noOrder, withMarks, withRoot}
+use Rattle.order.specs.State.{closingOf, noOrder, withMarks, withRoot}
 use Rattle.order.proofs.PlanStands.{plan-stands}
 use Rattle.order.proofs.Standing.{size-pos, stands-inside, all-inside, stands-end, kind-at, row-kind, if-none, if-first, if-more, if-scope}
 
@@ -36,10 +36,10 @@ around-runs k r e = rw e
 abbrev beginKind : (kind : ℕ) → Acts → (k : ℕ) → List ℕ → Entered
 beginKind n l k ms =
     cond (eqb n 0) (record { marks = ms; over = true })
-    (cond (eqb n 12) (record { marks = ms; over = true })
+    (cond (eqb n 255) (record { marks = ms; over = true })
     (cond (eqb n 8) (throughoutOf k (entered (beginInTurn l (k + 1) (set ms k 1))))
     (cond (eqb n 9) (throughoutOf k (entered (beginAll l (k + 1) (set ms k 1))))
-    (cond (eqb n 11) (aroundOf k (entered (beginFirst l (k + 1) (set ms k 1))))
+    (cond (scopeKind n) (aroundOf k (entered (beginFirst l (k + 1) (set ms k 1))))
     (record { marks = set ms k 1; over = false })))))
 
 -- what began, less its log, through the branches of the definitions
@@ -58,7 +58,7 @@ around-entered k b = by-test (b .marks) (b .log) (b .over)
     by-test ms g false = refl
 
 by-kind : (own : Own) (l : Acts) (k : ℕ) (ms : List ℕ) → entered (begin (act own l) k ms) ≡ beginKind (kind own) l k ms
-unfolding begin kind
+unfolding begin kind scopeKind
 by-kind empty l k ms = refl
 by-kind (send p o vs) l k ms = refl
 by-kind (receive p o vs) l k ms = refl
@@ -70,7 +70,8 @@ by-kind (repeat e) l k ms = refl
 by-kind sequence l k ms = throughout-entered k (beginInTurn l (k + 1) (set ms k 1))
 by-kind flow l k ms = throughout-entered k (beginAll l (k + 1) (set ms k 1))
 by-kind pick l k ms = refl
-by-kind scope l k ms = around-entered k (beginFirst l (k + 1) (set ms k 1))
+by-kind (scope true) l k ms = around-entered k (beginFirst l (k + 1) (set ms k 1))
+by-kind (scope false) l k ms = around-entered k (beginFirst l (k + 1) (set ms k 1))
 by-kind (arm p o vs) l k ms = refl
 
 pub begin-far : (t : List ℕ) (k : ℕ) (ms : List ℕ) {r : Entered} → 256 ≤ k → Begins t k ms r
@@ -86,7 +87,7 @@ module _ (t : List ℕ) (k : ℕ) (ms : List ℕ) {kd : ℕ} (q : KindOf t k kd)
       is : (a : Act) → Stands a k t → record { marks = ms; over = true } ≡ entered (begin a k ms)
       is (act own l) s = sym (begin-row own l s ∙ rw e)
 
-  pub begin-arm : kd ≡ 12 → Begins t k ms (record { marks = ms; over = true })
+  pub begin-arm : kd ≡ 255 → Begins t k ms (record { marks = ms; over = true })
   begin-arm e = record { is = is }
     where
       is : (a : Act) → Stands a k t → record { marks = ms; over = true } ≡ entered (begin a k ms)
@@ -111,27 +112,28 @@ module _ (t : List ℕ) (k : ℕ) (ms : List ℕ) {kd : ℕ} (q : KindOf t k kd)
         is : (a : Act) → Stands a k t → p ≡ entered (begin a k ms)
         is (act own l) s = g ∙ sym (begin-row own l s ∙ rw (h, ← b .is l (s .rest) (row-end own l s)))
 
-    pub begin-scope : kd ≡ 11 → {r p : Entered} → Begins t (k + 1) (set ms k 1) r → p ≡ aroundOf k r → Begins t k ms p
-    unfolding begin kind
-    begin-scope h {r} {p} b g = record {
-      is = λ a s. if-scope (λ a. p ≡ entered (begin a k ms)) t k (sym (kind-at q a s) ∙ h)
-          (λ x f u sx sf su s. g ∙ (ap (aroundOf k) (b .is x sx) ∙ sym (by-kind scope (more x (more f (more u none))) k ms))) a s;
-    }
+    module _ {b : Bool} (y : b ≡ scopeKind kd) where
+      pub begin-scope : b ≡ true → {r p : Entered} → Begins t (k + 1) (set ms k 1) r → p ≡ aroundOf k r → Begins t k ms p
+      unfolding begin
+      begin-scope h {r} {p} x g = record {
+        is = λ a s. if-scope (λ a. p ≡ entered (begin a k ms)) t k (rw (← kind-at q a s) (sym y ∙ h))
+            (λ v c f l sc sf s. g ∙ (ap (aroundOf k) (x .is c sc) ∙ sym (around-entered k (begin c (k + 1) (set ms k 1))))) a s;
+      }
 
-    -- no scope has no body
-    pub begin-bare : kd ≡ 11 → e ≤ k + 1 → {p : Entered} → Begins t k ms p
-    unfolding size
-    begin-bare h g {p} = record {
-      is = λ a s. if-scope (λ a. p ≡ entered (begin a k ms)) t k (sym (kind-at q a s) ∙ h)
-          (λ x f u sx sf su s. absurd (omega (arith, stands-end _ k t s z, size-pos x))) a s;
-    }
+      -- no scope has no body
+      pub begin-bare : b ≡ true → e ≤ k + 1 → {p : Entered} → Begins t k ms p
+      unfolding size
+      begin-bare h g {p} = record {
+        is = λ a s. if-scope (λ a. p ≡ entered (begin a k ms)) t k (rw (← kind-at q a s) (sym y ∙ h))
+            (λ v c f l sc sf s. absurd (omega (arith, stands-end _ k t s z, size-pos c))) a s;
+      }
 
-    pub begin-awaiting : (kd ≡ 0 → ⊥) → (kd ≡ 12 → ⊥) → (kd ≡ 8 → ⊥) → (kd ≡ 9 → ⊥) → (kd ≡ 11 → ⊥)
-        → Begins t k ms (record { marks = set ms k 1; over = false })
-    begin-awaiting h0 h12 h8 h9 h11 = record { is = is }
-      where
-        is : (a : Act) → Stands a k t → record { marks = set ms k 1; over = false } ≡ entered (begin a k ms)
-        is (act own l) s = sym (begin-row own l s ∙ rw (ne-eqb _ _ h0, ne-eqb _ _ h12, ne-eqb _ _ h8, ne-eqb _ _ h9, ne-eqb _ _ h11))
+      pub begin-awaiting : (kd ≡ 0 → ⊥) → (kd ≡ 255 → ⊥) → (kd ≡ 8 → ⊥) → (kd ≡ 9 → ⊥) → b ≡ false
+          → Begins t k ms (record { marks = set ms k 1; over = false })
+      begin-awaiting h0 h255 h8 h9 h = record { is = is }
+        where
+          is : (a : Act) → Stands a k t → record { marks = set ms k 1; over = false } ≡ entered (begin a k ms)
+          is (act own l) s = sym (begin-row own l s ∙ rw (ne-eqb _ _ h0, ne-eqb _ _ h255, ne-eqb _ _ h8, ne-eqb _ _ h9, ← y, h))
 
 -- the loop of `begin_in_turn`: how those that are left begin is how all begin
 pub record Turning (t : List ℕ) (e c : ℕ) (ms : List ℕ) (j : ℕ) (m : List ℕ) : Type 0 where
@@ -219,7 +221,7 @@ module _ {t : List ℕ} {e c : ℕ} {ms : List ℕ} {j : ℕ} {m : List ℕ} {o 
 
 -- `no_order`, `started_order`
 pub no-order-is : _≡_ {A = Order}
-    (record { root = 0; marks = replicate 256 0; values = replicate 16 0; bound = replicate 16 0; remembered = replicate 32 0; kept = 0 })
+    (record { root = 0; marks = replicate 256 0; values = replicate 16 0; bound = replicate 16 0; remembered = replicate 32 (closingOf 0 0); kept = 0 })
     noOrder
 unfolding noOrder
 no-order-is = refl

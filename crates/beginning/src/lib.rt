@@ -1,7 +1,9 @@
 // How an activity begins, and an order.
+use order::Closing;
 use order::Entered;
 use order::Order;
 use order::kind;
+use order::kind::is_scope;
 use order::mark;
 use order::marks::with_marks;
 use order::rows::end_of;
@@ -80,7 +82,7 @@ pub fn begin(table: &[u32; 11584], k: usize, marks: [u8; 256]) -> Entered
     if kind == kind::FLOW {
         return throughout(k, begin_all(table, k + 1, e, m));
     }
-    if kind == kind::SCOPE {
+    if is_scope(kind) {
         if k + 1 < e {
             return around(k, begin(table, k + 1, m));
         }
@@ -148,12 +150,13 @@ fn begin_all(table: &[u32; 11584], c: usize, e: usize, marks: [u8; 256]) -> Ente
 pub fn no_order() -> Order
     ensures { λ r. ⌜ r ≡ noOrder ⌝ }
 {
+    let nothing = Closing { scope: 0, part: 0 };
     Order {
         root: mark::IDLE,
         marks: [mark::IDLE; 256],
         values: [0u32; 16],
         bound: [0u8; 16],
-        remembered: [0u8; 32],
+        remembered: [nothing; 32],
         kept: 0,
     }
 }

@@ -103,7 +103,7 @@ fn offers_number(x: Offered) -> u64
     n
 }
 
-// Loads the plan that some bytes spell. The refusal's number times 2^32, and its place; 18 times 2^32 where `state` has not 11,964 bytes.
+// Loads the plan that some bytes spell. The refusal's number times 2^32, and its place; 18 times 2^32 where `state` has not 12,476 bytes.
 #[no_mangle]
 pub extern "C" fn moonhalyard_load(plan: &[u8], state: &mut [u8]) -> u64
     ensures is { λ r. ⌜ r ≡ engine.loadNumber (now (plan .entry)) (now (state .entry)) ⌝ }

@@ -1,5 +1,7 @@
-// For callers in other languages: the version of the library, and a state of any version brought up to date. Today there is one version of a state, so
-// that a state comes out as it is. Built as a static library.
+// For callers in other languages: the version of the library, and a state of any version brought up to date. A state of today comes out as it is, and one of
+// the first version as the same state of today. Built as a static library.
+mod older;
+
 ghost use mathlib.Core.Path.{_≡_};
 ghost use Rattle.boundary_state.specs.Upgrade.{upgradeNumber, upgradeBytes};
 
@@ -11,14 +13,18 @@ pub extern "C" fn moonhalyard_version() -> u32
     10000
 }
 
-// Brings the state that `old` holds, of whatever version, into `state`. 0; 17 where it holds none; 18 where `state` has not 11,964 bytes.
+// Brings the state that `old` holds, of whatever version, into `state`. 0; 17 where it holds none; 18 where `state` has not 12,476 bytes.
 #[no_mangle]
 pub extern "C" fn moonhalyard_upgrade(old: &[u8], state: &mut [u8]) -> u32
     ensures is { λ r. ⌜ r ≡ upgradeNumber (now (old .entry)) (now (state .entry)) ⌝ }
     ensures bytes { λ _. ⌜ now (state .exit) ≡ upgradeBytes (now (old .entry)) (now (state .entry)) ⌝ }
 {
-    if state.len() != 11964 {
+    if state.len() != 12476 {
         return 18;
+    }
+    if older::is_old(old) {
+        older::renew(old, state);
+        return 0;
     }
     let k = store::unpack(old);
     if k.refused {

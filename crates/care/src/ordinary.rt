@@ -57,7 +57,7 @@ fn is_ordinary(fd: i32) -> bool {
 
 // Whether an ordinary file holds a saved state that has a plan.
 fn has_plan(fd: i32) -> bool {
-    let mut packed = [0u8; 11965];
+    let mut packed = [0u8; 12477];
     libc::lseek(fd, 0, SEEK_SET);
     let n = io::read_full(fd, &mut packed);
     let kept = store::unpack(&packed[..n]);
@@ -115,7 +115,7 @@ pub(crate) fn kind_of(file: &[u8]) -> Kind {
 }
 
 fn sum_in(fd: i32) -> u64 {
-    let mut packed = [0u8; 11965];
+    let mut packed = [0u8; 12477];
     let n = io::read_full(fd, &mut packed);
     libc::close(fd);
     papers::sum_of(&packed[..n])

@@ -13,7 +13,7 @@ fn is_receive(kind: u32) -> bool {
     if kind == 2 {
         return true;
     }
-    kind == 12
+    kind == 255
 }
 
 // Whether row n is a receive or an arm that takes such a message, its values apart.

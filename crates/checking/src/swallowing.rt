@@ -5,6 +5,7 @@ use super::ways::fault_of;
 use super::ways::part_in;
 use drawing::after;
 use drawing::entry;
+use drawing::is_scope;
 use drawing::scope_of;
 
 // Whether the step of activity n may fault: a raise, a sum or difference, or a variable that may be unbound.
@@ -52,7 +53,7 @@ fn may_be_faulted(table: &[u32; 11584], s: usize) -> bool {
 
 // Whether activity s is a scope that may fault, and whose fault part is empty.
 pub(crate) fn swallows(table: &[u32; 11584], s: usize) -> bool {
-    if entry(table, s, 0) == 11 {
+    if is_scope(entry(table, s, 0)) {
         if entry(table, fault_of(table, s), 0) == 0 {
             return may_be_faulted(table, s);
         }

@@ -5,18 +5,18 @@ use super::uses::is_used_within;
 use super::ways::around;
 use super::ways::fault_of;
 use super::ways::is_within;
+use super::ways::keeper_of;
 use super::ways::part_in;
 use super::ways::repeats;
 use super::ways::undo_of;
 use drawing::after;
 use drawing::end_of;
 use drawing::entry;
-use drawing::scope_of;
 
-// Whether activity t is a scope whose undo part does something, and that is remembered for scope s.
+// Whether activity t is a scope whose undo part does something, and that is remembered for scope s when that closes.
 fn is_undone_for(table: &[u32; 11584], s: usize, t: usize) -> bool {
     if entry(table, t, 0) == 11 {
-        if scope_of(table, t) == s {
+        if keeper_of(table, t) == s {
             return 0 < entry(table, undo_of(table, t), 0);
         }
     }
@@ -45,7 +45,7 @@ pub(crate) fn forgets(table: &[u32; 11584], s: usize) -> bool {
     false
 }
 
-// Whether m stands in the body that scope s is remembered for: that of the scope around it, or of the root.
+// Whether m stands in the body that scope s is remembered for in the end: that of the nearest scope around it with an undo part, or of the root.
 fn is_in_reach(table: &[u32; 11584], outer: usize, s: usize, m: usize) -> bool {
     if outer == s {
         return is_within(table, 0, m);
@@ -78,7 +78,7 @@ fn is_behind(table: &[u32; 11584], s: usize, m: usize) -> bool {
 
 // Whether m may run after scope s has closed, and before it is undone.
 fn may_follow(table: &[u32; 11584], s: usize, m: usize) -> bool {
-    let outer = scope_of(table, s);
+    let outer = keeper_of(table, s);
     if is_in_reach(table, outer, s, m) {
         if is_behind(table, s, m) {
             return true;

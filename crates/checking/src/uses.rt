@@ -102,7 +102,7 @@ pub(crate) fn uses(table: &[u32; 11584], n: usize, v: u32) -> bool {
 // Whether activity or arm n binds variable v: a receive or an arm that takes it, or a set.
 pub(crate) fn binds(table: &[u32; 11584], n: usize, v: u32) -> bool {
     match entry(table, n, 0) {
-        2 | 12 => is_in_tuple(table, n, v),
+        2 | 255 => is_in_tuple(table, n, v),
         3 => entry(table, n, 8) == v,
         _ => false,
     }

@@ -73,7 +73,7 @@ fn put_words(out: &mut [u8; 4096], used: usize, names: &[u8; 4752], what: u32) -
         2 => put(
             out,
             used,
-            b"its undo part is empty: once it closes, the scopes within it are forgotten and not undone",
+            b"its undo part is empty: once it closes, the scopes within it are forgotten and not undone; with the undo part left out it hands them on",
         ),
         3 => put(
             out,

@@ -59,6 +59,26 @@ pub(crate) fn undo_of(table: &[u32; 11584], s: usize) -> usize {
     end_of(table, fault_of(table, s))
 }
 
+fn is_keeper(table: &[u32; 11584], s: usize, n: usize) -> bool {
+    if entry(table, s, 0) == 11 {
+        return n < end_of(table, s);
+    }
+    false
+}
+
+// The nearest scope around scope n that has an undo part; n itself where none has. Those between hand on what closed in them when they close.
+pub(crate) fn keeper_of(table: &[u32; 11584], n: usize) -> usize {
+    let mut keeper = n;
+    let mut s = 0;
+    while s < n {
+        if is_keeper(table, s, n) {
+            keeper = s;
+        }
+        s += 1;
+    }
+    keeper
+}
+
 // In which part of scope s activity n stands: 0 the body, 1 the fault part, 2 the undo part.
 pub(crate) fn part_in(table: &[u32; 11584], s: usize, n: usize) -> u32 {
     if n < fault_of(table, s) {
@@ -110,7 +130,7 @@ fn comes_before(table: &[u32; 11584], a: usize, m: usize, n: usize) -> bool {
     match entry(table, a, 0) {
         8 => is_earlier(table, a, m, n),
         9 => true,
-        11 => part_in(table, a, m) == 0,
+        11 | 12 => part_in(table, a, m) == 0,
         _ => false,
     }
 }

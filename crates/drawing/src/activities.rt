@@ -10,13 +10,14 @@ use super::table::after;
 use super::table::code_of;
 use super::table::depth_of;
 use super::table::entry;
+use super::table::is_scope;
 use super::table::order_of;
 use super::table::parent_of;
 use super::table::value_of;
 
 // What part of a scope or of a choose an activity is, by its order there.
 fn put_part(out: &mut [u8; 4096], used: usize, kind: u32, order: usize) -> usize {
-    if kind == 11 {
+    if is_scope(kind) {
         if order == 0 {
             return put(out, used, b"body: ");
         }
@@ -234,8 +235,8 @@ pub fn put_activity(
         8 => put(out, used, b"sequence"),
         9 => put(out, used, b"flow"),
         10 => put(out, used, b"pick"),
-        11 => put(out, used, b"scope"),
-        _ => put_exchange(
+        11 | 12 => put(out, used, b"scope"),
+        255 => put_exchange(
             out,
             used,
             names,
@@ -244,7 +245,14 @@ pub fn put_activity(
             correlation,
             n,
         ),
+        _ => put_unknown(out, used, kind),
     }
+}
+
+// What the table of no accepted plan has.
+fn put_unknown(out: &mut [u8; 4096], used: usize, kind: u32) -> usize {
+    let at = put(out, used, b"unknown kind ");
+    put_number(out, at, kind as u64)
 }
 
 fn put_indent(out: &mut [u8; 4096], used: usize, depth: usize) -> usize {

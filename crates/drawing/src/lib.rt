@@ -33,6 +33,7 @@ pub use table::after;
 pub use table::code_of;
 pub use table::end_of;
 pub use table::entry;
+pub use table::is_scope;
 pub use table::parent_of;
 pub use table::scope_of;
 pub use table::value_of;

@@ -98,8 +98,16 @@ pub fn scope_of(table: &[u32; 11584], n: usize) -> usize {
     scope
 }
 
+// Whether an activity of this kind is a scope: with an undo part, or without.
+pub fn is_scope(kind: u32) -> bool {
+    if kind == 11 {
+        return true;
+    }
+    kind == 12
+}
+
 fn is_scope_around(table: &[u32; 11584], m: usize, n: usize) -> bool {
-    if entry(table, m, 0) == 11 {
+    if is_scope(entry(table, m, 0)) {
         return n < end_of(table, m);
     }
     false

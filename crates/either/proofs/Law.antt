@@ -41,7 +41,8 @@ independent-codes (repeat e) l k = refl
 independent-codes sequence l k = refl
 independent-codes flow l k = refl
 independent-codes pick l k = refl
-independent-codes scope l k = refl
+independent-codes (scope true) l k = refl
+independent-codes (scope false) l k = refl
 independent-codes (arm p o vs) l k = refl
 
 -- 1. Only takes look at the messages.
@@ -52,7 +53,7 @@ only-takes-look p w l m i o k (sends a b vs) = (refl, λ e. refl)
 only-takes-look p w l m i o k (takes a b vs) = (refl, λ e. absurd (let z : _≡_ {A = ℕ} 0 1 = cc in omega arith))
 only-takes-look p w l m i o k moves = (refl, λ e. refl)
 only-takes-look p w l m i o k cuts = (refl, λ e. refl)
-only-takes-look p w l m i o k (closes s) = (refl, λ e. refl)
+only-takes-look p w l m i o k (closes u s) = (refl, λ e. refl)
 
 -- 2. What an order has on offer.
 pub not-true : (b : Bool) → not b ≡ true → b ≡ false
@@ -98,7 +99,7 @@ module _ (p : Plan) (w : ℕ) (l : List Letter) (i : ℕ) (o : Order) (k : ℕ) 
       }
   step-in moves m = lone-in moves false (λ e. refl) m
   step-in cuts m = lone-in cuts false (λ e. refl) m
-  step-in (closes s) m = lone-in (closes s) (closeHeld o s) (λ e. e) m
+  step-in (closes u s) m = lone-in (closes u s) (closeHeld o u s) (λ e. e) m
 
   in-step : (d : Doing) → independent d ≡ true → closeWaits o d ≡ false → List·Memᴰ (offering i k 0) (stepOffers p w l i o k d .offered)
   unfolding stepOffers closeWaits independent
@@ -107,7 +108,7 @@ module _ (p : Plan) (w : ℕ) (l : List Letter) (i : ℕ) (o : Order) (k : ℕ) 
   in-step (takes a b vs) h f = absurd (let z : _≡_ {A = ℕ} 0 1 = cc in omega arith)
   in-step moves h f = List·Memᴰ·head refl
   in-step cuts h f = List·Memᴰ·head refl
-  in-step (closes s) h f = rw f (List·Memᴰ·head refl)
+  in-step (closes u s) h f = rw f (List·Memᴰ·head refl)
 
 -- a live order stands in its slot
 record Sits (p : Plan) (i : ℕ) (l : List Order) (v : Live) : Type 0 where
@@ -189,7 +190,7 @@ module _ (p : Plan) (s : State) (x : Offer) (h : independentAt p x ≡ true) whe
       go false n = absurd (List·Memᴰ·not-nil n)
   start-never o y k a moves m e f = absurd (List·Memᴰ·not-nil m)
   start-never o y k a cuts m e f = absurd (List·Memᴰ·not-nil m)
-  start-never o y k a (closes z) m e f = absurd (List·Memᴰ·not-nil m)
+  start-never o y k a (closes u z) m e f = absurd (List·Memᴰ·not-nil m)
 
   start-has : {A : Type 0} (free : ℕ) (o : Order) (y : Letter) → List·Memᴰ x (startOffers p free o (readyOf p o) y .offered) → A
   unfolding startOffers startsOf
@@ -252,7 +253,7 @@ messages-stay (sends a b vs) j o s h = absurd (let z : _≡_ {A = ℕ} 0 1 = cc 
 messages-stay (takes a b vs) j o s h = absurd (let z : _≡_ {A = ℕ} 0 1 = cc in omega arith)
 messages-stay moves j o s h = refl
 messages-stay cuts j o s h = refl
-messages-stay (closes x) j o s h = refl
+messages-stay (closes u x) j o s h = refl
 
 nothing-bound : (d : Doing) (m : Message) (o : Order) → independent d ≡ true → orderTaking d m o ≡ o
 unfolding orderTaking independent
@@ -261,7 +262,7 @@ nothing-bound (sends a b vs) m o h = refl
 nothing-bound (takes a b vs) m o h = absurd (let z : _≡_ {A = ℕ} 0 1 = cc in omega arith)
 nothing-bound moves m o h = refl
 nothing-bound cuts m o h = refl
-nothing-bound (closes x) m o h = refl
+nothing-bound (closes u x) m o h = refl
 
 stepped-alone : (p : Plan) (x : Offer) (s : State) (t : Tally) → independentAt p x ≡ true → stepped p x s t (orderOf s x) [] ≡ steppedAlone p x s t
 unfolding steppedAlone stepped

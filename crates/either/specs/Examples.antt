@@ -108,7 +108,7 @@ secondHeld = (refl, refl)
 
 -- so the claim is false with sends included (`not-with-sends`)
 abbrev pub isSend : Doing → Bool
-isSend d = elim d [ noStep ↦ false | sends p o vs ↦ true | takes p o vs ↦ false | moves ↦ false | cuts ↦ false | closes s ↦ false ]
+isSend d = elim d [ noStep ↦ false | sends p o vs ↦ true | takes p o vs ↦ false | moves ↦ false | cuts ↦ false | closes undo s ↦ false ]
 
 unfoldable pub orSends : Plan → (x y : Offer) → Bool
 orSends p x y =

@@ -27,12 +27,12 @@ independent (sends partner operation vs) = false
 independent (takes partner operation vs) = false
 independent moves = true
 independent cuts = true
-independent (closes s) = true
+independent (closes undo s) = true
 
--- These are the steps of codes 3 to 7 and 11: set, raise, leave, choose, repeat and scope.
+-- These are the steps of codes 3 to 7, 11 and 12: set, raise, leave, choose, repeat and scope.
 unfoldable pub IndependentCodes : Type 0
 IndependentCodes =
-    (own : Own) (within : Acts) (k : ℕ) → independent (doingOf own within k) ≡ among (kind own) (3 ∷ 4 ∷ 5 ∷ 6 ∷ 7 ∷ 11 ∷ [])
+    (own : Own) (within : Acts) (k : ℕ) → independent (doingOf own within k) ≡ among (kind own) (3 ∷ 4 ∷ 5 ∷ 6 ∷ 7 ∷ 11 ∷ 12 ∷ [])
 
 -- an entry of the offer, by the step that its activity is there for
 abbrev pub independentAt : Plan → Offer → Bool
@@ -53,7 +53,7 @@ orderOf s x = getD (s .orders) (x .slot) noOrder
 -- order and by how many messages wait. So a step that ends an order, or opens or ends receives, and with it changes what a message fits, touches
 -- no other order's set, decide, raise, leave, close or send.
 abbrev pub isTake : Doing → Bool
-isTake d = elim d [ noStep ↦ false | sends p o vs ↦ false | takes p o vs ↦ true | moves ↦ false | cuts ↦ false | closes s ↦ false ]
+isTake d = elim d [ noStep ↦ false | sends p o vs ↦ false | takes p o vs ↦ true | moves ↦ false | cuts ↦ false | closes undo s ↦ false ]
 
 unfoldable pub OnlyTakesLook : Type 0
 OnlyTakesLook =
@@ -68,7 +68,7 @@ closeWaits o (sends partner operation vs) = false
 closeWaits o (takes partner operation vs) = false
 closeWaits o moves = false
 closeWaits o cuts = false
-closeWaits o (closes s) = closeHeld o s
+closeWaits o (closes undo s) = closeHeld o undo s
 
 -- whether an order has such a step on offer, by the order alone: it is live, it awaits the step, eagerness does not put it aside, and it is not
 -- held; such a step has no message

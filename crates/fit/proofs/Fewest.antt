@@ -132,7 +132,7 @@ fitting-line p o m (repeat e) w k c = refl
 fitting-line p o m sequence w k c = refl
 fitting-line p o m flow w k c = refl
 fitting-line p o m pick w k c = refl
-fitting-line p o m scope w k c = refl
+fitting-line p o m (scope u) w k c = refl
 fitting-line p o m (arm a b vs) w k c = one-fitting (fits p o a b vs m) (unchecked p o vs) c
 
 least-line : (p : Plan) (l : List Letter) (o : Order) (m : Message) (x : Line) (c : ℕ)

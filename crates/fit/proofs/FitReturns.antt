@@ -114,11 +114,10 @@ module _ {flags : List ℕ} {o : Order} {out : List ℕ} {i : ℕ} (w : Filling 
       → Filling (Known flags o) 16 (set out i r) (i + 1)
   knowing-again h y = filling-again w h (record { is = y })
 
-  pub knowing-done : 16 ≤ i → length (o .bound) ≡ 16 → length (o .remembered) ≡ 32 → KnowsOrder flags o out
+  pub knowing-done : 16 ≤ i → length (o .bound) ≡ 16 → KnowsOrder flags o out
   unfolding askedOf sixteenth
-  knowing-done h b m = record {
+  knowing-done h b = record {
     bindings = b;
-    memory = m;
     is = λ p c. record {
       is = λ v.
           elim (decLt v 16) [

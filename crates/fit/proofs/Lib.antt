@@ -1,4 +1,5 @@
-mod Filled
+pub mod Filled
+pub mod OwnKinds
 pub mod FitReturns
 pub mod SearchReturns
 mod Searched

@@ -7,16 +7,17 @@ use native.Mathlib.Decide.{ℕ-discrete, decLt}
 use native.Mathlib.Nat.{add-zero}
 use native.Mathlib.Numerals.{add-one}
 use native.Mathlib.Omega.{arith}
-use borrow.Author.Tests.{lt-ltb, le-ltb, leb-true, eqb-true}
+use borrow.Author.Tests.{lt-ltb, le-ltb, leb-true}
 use lib.Dec.{eqb, ltb, leb}
 use lib.ListN.{length, getD, drop, length-append, drop-of-length-le}
 use lib.Seq.{drop-cons}
 use Rattle.plan.specs.Read.{laterOf}
 use Rattle.plan.specs.Spells.{Spells, SpellsAll, SpellsPlan, variablesOf}
-use Rattle.plan.specs.Tree.{Own, empty, send, receive, set, raise, leave, choose, repeat, sequence, flow, pick, scope, arm, kind, Act, act, Acts, none, more, Plan, size, sizes, count}
+use Rattle.plan.specs.Tree.{Own, empty, send, receive, set, raise, leave, choose, repeat, sequence, flow, pick, scope, arm, isPick, Act, act, Acts, none, more, Plan, size, sizes, count}
 use Rattle.plan.specs.Spell.{spelling}
 use Rattle.plan.specs.Within.{from1, ascending, levelsBelow, variablesWithin, exchangeWithin, ownWithin, actWithin, actsWithin, planWithin}
 use Rattle.plan.proofs.Accepts.{both}
+use Rattle.plan.proofs.ByKind.{kind-pick}
 use Rattle.order.specs.declared.Order.{Order}
 use Rattle.fit.specs.Answering.{openPick, armsFrom}
 use Rattle.machine.specs.Fit.{doingOf, awaits, Ready, readyIn, readyAmong, readyOf, Letter}
@@ -64,11 +65,11 @@ mutual
   ready-in : (a : Act) (k : ℕ) (b : Bool) (ms : List ℕ) → readyIn a k b ms ≡ each (readyLine ms) (linesIn a k b ms)
   ready-in (act own l) k b ms =
       by-test (awaits own b (getD ms k 0)) (record { activity = k; step = doingOf own l k })
-      ∙ rw (ready-among l (k + 1) (eqb (kind own) 10 && eqb (getD ms k 0) active) ms)
+      ∙ rw (ready-among l (k + 1) (isPick own && eqb (getD ms k 0) active) ms)
     where
       by-test : (x : Bool) (r : Ready)
-          → _≡_ {A = List Ready} (elim x [ true ↦ r ∷ readyAmong l (k + 1) (eqb (kind own) 10 && eqb (getD ms k 0) active) ms | false ↦ readyAmong l (k + 1) (eqb (kind own) 10 && eqb (getD ms k 0) active) ms ])
-          (cond x (r ∷ []) [] ++ readyAmong l (k + 1) (eqb (kind own) 10 && eqb (getD ms k 0) active) ms)
+          → _≡_ {A = List Ready} (elim x [ true ↦ r ∷ readyAmong l (k + 1) (isPick own && eqb (getD ms k 0) active) ms | false ↦ readyAmong l (k + 1) (isPick own && eqb (getD ms k 0) active) ms ])
+          (cond x (r ∷ []) [] ++ readyAmong l (k + 1) (isPick own && eqb (getD ms k 0) active) ms)
       by-test true r = refl
       by-test false r = refl
 
@@ -104,7 +105,7 @@ mutual
   unfolding linesIn size
 
   lines-long : (a : Act) (k : ℕ) (b : Bool) (ms : List ℕ) → length (linesIn a k b ms) ≡ size a
-  lines-long (act own l) k b ms = let e = among-long l (k + 1) (eqb (kind own) 10 && eqb (getD ms k 0) active) ms in omega arith
+  lines-long (act own l) k b ms = let e = among-long l (k + 1) (isPick own && eqb (getD ms k 0) active) ms in omega arith
 
   among-long : (l : Acts) (c : ℕ) (b : Bool) (ms : List ℕ) → length (linesAmong l c b ms) ≡ sizes l
   among-long none c b ms = refl
@@ -150,25 +151,8 @@ few-own vars cs h ar (repeat x) n e = omega arith
 few-own vars cs h ar sequence n e = omega arith
 few-own vars cs h ar flow n e = omega arith
 few-own vars cs h ar pick n e = omega arith
-few-own vars cs h ar scope n e = omega arith
+few-own vars cs h ar (scope u) n e = omega arith
 few-own vars cs h ar (arm a b vs) n e = both ar _ e (λ h1 g1. both (eqb n 1) _ g1 (λ h2 g2. few-exchange vars true a b vs g2))
-
--- a scope within the limits has parts
-parts-own : (vars : ℕ) (cs : List ℕ) (h ar : Bool) (own : Own) (n : ℕ) → ownWithin vars cs h ar own n ≡ true → kind own ≡ 11 → 0 < n
-unfolding ownWithin kind
-parts-own vars cs h ar empty n e z = absurd (omega arith)
-parts-own vars cs h ar (send a b vs) n e z = absurd (omega arith)
-parts-own vars cs h ar (receive a b vs) n e z = absurd (omega arith)
-parts-own vars cs h ar (set v x) n e z = absurd (omega arith)
-parts-own vars cs h ar raise n e z = absurd (omega arith)
-parts-own vars cs h ar leave n e z = absurd (omega arith)
-parts-own vars cs h ar (choose x) n e z = absurd (omega arith)
-parts-own vars cs h ar (repeat x) n e z = absurd (omega arith)
-parts-own vars cs h ar sequence n e z = absurd (omega arith)
-parts-own vars cs h ar flow n e z = absurd (omega arith)
-parts-own vars cs h ar pick n e z = absurd (omega arith)
-parts-own vars cs h ar scope n e z = both (not ar) _ e (λ h1 g1. both (eqb n 3) _ g1 (λ h2 g2. omega (arith, eqb-true n 3 h2)))
-parts-own vars cs h ar (arm a b vs) n e z = absurd (omega arith)
 
 -- each line stands in its row
 data Standing (t ms : List ℕ) : ℕ → List Line → Type 0 where
@@ -240,13 +224,13 @@ module _ (t ms : List ℕ) where
   }
 
   under-first : (own : Own) (l : Acts) (at n q : ℕ) → Spells (act own l) at n q t
-      → Under n (n + 1) (n + 1 + sizes l) (eqb (kind own) 10 && eqb (getD ms n 0) active)
+      → Under n (n + 1) (n + 1 + sizes l) (isPick own && eqb (getD ms n 0) active)
   unfolding Spells
   under-first own l at n q s = record {
     parent = omega arith;
     reach = omega (arith, s .row .end);
     before = λ j h g. absurd (omega arith);
-    flag = rw (s .row .kind);
+    flag = rw (s .row .kind, kind-pick own);
   }
 
   mutual
@@ -258,8 +242,8 @@ module _ (t ms : List ℕ) where
         both (ar || ltb 0 d) _ y
         (λ y1 z1. both (ownWithin vars cs h ar own (count l)) _ z1
         (λ y2 z2.
-        also (record { place = at; node = q; inside = omega arith; activity = refl; spelled = s; arms = sym e; few = few-own vars cs h ar own (count l) y2; parts = parts-own vars cs h ar own (count l) y2 })
-        (standing-among l _ (n + 1) _ n _ vars cs h (laterOf own h) (eqb (kind own) 10) (levelsBelow ar d) (under-first own l at n q s) (s .within) (omega arith) z2)))
+        also (record { place = at; node = q; inside = omega arith; activity = refl; spelled = s; arms = sym e; few = few-own vars cs h ar own (count l) y2 })
+        (standing-among l _ (n + 1) _ n _ vars cs h (laterOf own h) (isPick own) (levelsBelow ar d) (under-first own l at n q s) (s .within) (omega arith) z2)))
 
     standing-among : (l : Acts) (at c q n : ℕ) (b : Bool) (vars : ℕ) (cs : List ℕ) (h h′ ar : Bool) (d : ℕ) → Under n c (c + sizes l) b → SpellsAll l at c q t → c + sizes l ≤ 256
         → actsWithin vars cs h h′ ar l d ≡ true → Standing t ms c (linesAmong l c b ms)

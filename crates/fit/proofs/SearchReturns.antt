@@ -20,6 +20,7 @@ use Rattle.fit.specs.Lines.{Line, isReady, Stands}
 use Rattle.fit.specs.Receiving.{Lent, receives, OpensRow, TakesRow}
 use Rattle.fit.proofs.Filled.{Filling, filling-again, filling-passes, filling-done}
 use Rattle.fit.proofs.FitReturns.{asks-asking}
+use Rattle.fit.proofs.OwnKinds.{awaits-kind}
 
 -- `open_pick`
 pub pick-marked : (t ms : List ℕ) (j : ℕ) → getD t (j * 13) 0 ≡ 10 → eqb (getD ms j 0) 1 ≡ openPick t ms j
@@ -63,7 +64,7 @@ module _ {t : List ℕ} {k j : ℕ} (w : Climbing t k j) where
   }
 
 -- a row that is no arm
-picks-other : (t : List ℕ) (k r : ℕ) → (getD t (k * 13) 0 ≡ 12 → ⊥) → PicksRow t k r
+picks-other : (t : List ℕ) (k r : ℕ) → (getD t (k * 13) 0 ≡ 255 → ⊥) → PicksRow t k r
 picks-other t k r n = record { is = λ z. absurd (n z) }
 
 -- `picks_of`
@@ -71,7 +72,7 @@ module _ {t out : List ℕ} {k : ℕ} (w : Filling (PicksRow t) 256 out k) where
   pub picking-arm : k < 256 → {r : ℕ} → r ≡ aroundFrom t k k → Filling (PicksRow t) 256 (setAt out k r) (k + 1)
   picking-arm h e = filling-again w h (record { is = λ z. e })
 
-  pub picking-other : k < 256 → (getD t (k * 13) 0 ≡ 12 → ⊥) → Filling (PicksRow t) 256 out (k + 1)
+  pub picking-other : k < 256 → (getD t (k * 13) 0 ≡ 255 → ⊥) → Filling (PicksRow t) 256 out (k + 1)
   picking-other h n = filling-passes w h (picks-other t k (getD out k 0) n)
 
   pub picking-done : 256 ≤ k → Picks t out
@@ -104,7 +105,7 @@ pub arms-beyond : (t picks ms : List ℕ) (k : ℕ) → 256 ≤ k → ArmsRow t 
 arms-beyond t picks ms k h = record { is = λ g w z. absurd (omega arith) }
 
 module _ {t picks : List ℕ} (ms : List ℕ) {k : ℕ} (h : k < 256) where
-  arms-say : Picks t picks → getD t (k * 13) 0 ≡ 12 → armsFrom t ms k k ≡ cond (ltb (getD picks k 0) 256) (openPick t ms (getD picks k 0)) false
+  arms-say : Picks t picks → getD t (k * 13) 0 ≡ 255 → armsFrom t ms k k ≡ cond (ltb (getD picks k 0) 256) (openPick t ms (getD picks k 0)) false
   arms-say w z = arms-around t ms k k (omega arith) ∙ rw (← w .is k h .is z)
 
   pub arms-some : {r : Bool} → getD picks k 0 < 256 → r ≡ openPick t ms (getD picks k 0) → ArmsRow t picks ms k r
@@ -139,17 +140,15 @@ and-assoc false b c = refl
 -- `open_at`
 module _ (t picks ms : List ℕ) (k : ℕ) where
   pub opens-receive : getD t (k * 13) 0 ≡ 2 → OpensRow t picks ms k (eqb (getD ms k 0) 1)
-  unfolding awaits
-  opens-receive z = record { is = λ x w y. rw (sym (stands-kind y) ∙ z, y .activity) (and-true (eqb (getD ms k 0) 1)) }
+  opens-receive z = record { is = λ x w y. rw (awaits-kind (x .own), sym (stands-kind y) ∙ z, y .activity) (and-true (eqb (getD ms k 0) 1)) }
 
-  pub opens-arm : {b : Bool} → getD t (k * 13) 0 ≡ 12 → ArmsRow t picks ms k b → OpensRow t picks ms k b
-  unfolding awaits
-  opens-arm {b} z q = record { is = λ x w y. rw (sym (stands-kind y) ∙ z) (q .is (y .inside) w z ∙ (sym (y .arms) ∙ and-true (x .arms))) }
+  pub opens-arm : {b : Bool} → getD t (k * 13) 0 ≡ 255 → ArmsRow t picks ms k b → OpensRow t picks ms k b
+  opens-arm {b} z q = record { is = λ x w y. rw (awaits-kind (x .own), sym (stands-kind y) ∙ z) (q .is (y .inside) w z ∙ (sym (y .arms) ∙ and-true (x .arms))) }
 
-  pub opens-other : (getD t (k * 13) 0 ≡ 2 → ⊥) → (getD t (k * 13) 0 ≡ 12 → ⊥) → OpensRow t picks ms k false
+  pub opens-other : (getD t (k * 13) 0 ≡ 2 → ⊥) → (getD t (k * 13) 0 ≡ 255 → ⊥) → OpensRow t picks ms k false
   opens-other z v = record {
     is = λ x w y.
-        rw (ne-eqb (kind (x .own)) 2 (λ q. z (stands-kind y ∙ q)), ne-eqb (kind (x .own)) 12 (λ q. v (stands-kind y ∙ q))) (and-false (isReady ms x));
+        rw (ne-eqb (kind (x .own)) 2 (λ q. z (stands-kind y ∙ q)), ne-eqb (kind (x .own)) 255 (λ q. v (stands-kind y ∙ q))) (and-false (isReady ms x));
   }
 
 -- `takes_at`
@@ -167,7 +166,8 @@ fits-row p o m (repeat e) q at = refl
 fits-row p o m sequence q at = refl
 fits-row p o m flow q at = refl
 fits-row p o m pick q at = refl
-fits-row p o m scope q at = refl
+fits-row p o m (scope true) q at = refl
+fits-row p o m (scope false) q at = refl
 fits-row p o m (arm a b vs) q at = refl
 
 stands-fits : {t ms : List ℕ} {k : ℕ} {x : Line} (p : Plan) (o : Order) (m : Message) → Stands t ms k x

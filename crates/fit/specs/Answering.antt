@@ -42,10 +42,9 @@ sixteenth l v = cond (ltb v 16) (getD l v 0) 0
 pub record Knows (known : List ℕ) (p : Plan) (o : Order) : Type 0 where
   pub is : (v : ℕ) → sixteenth known v ≡ askedOf p o v
 
--- r has that of an order; and how long the order's lists are, which a lent list does not say
+-- r has that of an order; and how long the list of what is bound is, which a lent list does not say
 pub record KnowsOrder (flags : List ℕ) (o : Order) (r : List ℕ) : Type 0 where
   pub bindings : length (o .bound) ≡ 16
-  pub memory : length (o .remembered) ≡ 32
   pub is : (p : Plan) → Correlated p flags → Knows r p o
 
 -- r is what row k asks at its places
@@ -114,7 +113,7 @@ aroundFrom t k (suc j) = cond (ltb k (getD t (j * 13 + 11) 0)) j (aroundFrom t k
 
 -- r is the row that the arm in row k stands within
 pub record PicksRow (t : List ℕ) (k r : ℕ) : Type 0 where
-  pub is : getD t (k * 13) 0 ≡ 12 → r ≡ aroundFrom t k k
+  pub is : getD t (k * 13) 0 ≡ 255 → r ≡ aroundFrom t k k
 
 -- `picks` has that of each arm
 pub record Picks (t picks : List ℕ) : Type 0 where
@@ -125,7 +124,7 @@ pub record ArmAt (t ms : List ℕ) (k : ℕ) (r : Bool) : Type 0 where
   pub is : k < 256 → r ≡ armsFrom t ms k k
 
 pub record ArmsRow (t picks ms : List ℕ) (k : ℕ) (r : Bool) : Type 0 where
-  pub is : k < 256 → Picks t picks → getD t (k * 13) 0 ≡ 12 → r ≡ armsFrom t ms k k
+  pub is : k < 256 → Picks t picks → getD t (k * 13) 0 ≡ 255 → r ≡ armsFrom t ms k k
 
 -- whether a message fits what an activity or arm says of itself: a receive or an arm
 unfoldable pub fitsOwn : Plan → Order → Message → Own → Bool
@@ -140,7 +139,7 @@ fitsOwn p o m (repeat e) = false
 fitsOwn p o m sequence = false
 fitsOwn p o m flow = false
 fitsOwn p o m pick = false
-fitsOwn p o m scope = false
+fitsOwn p o m (scope undo) = false
 fitsOwn p o m (arm a b vs) = fits p o a b vs m
 
 -- whether it is open too, and so takes the message

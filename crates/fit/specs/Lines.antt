@@ -7,7 +7,7 @@ use mathlib.Core.Path.{_≡_}
 use lib.Dec.{eqb}
 use lib.ListN.{length, getD}
 use Rattle.plan.specs.Spells.{Spells, SpellsPlan, variablesOf}
-use Rattle.plan.specs.Tree.{Own, kind, Act, act, Acts, none, more, Plan, size, count}
+use Rattle.plan.specs.Tree.{Own, isPick, Act, act, Acts, none, more, Plan, size}
 use Rattle.plan.specs.Within.{planWithin}
 use Rattle.order.specs.declared.Order.{Order}
 use Rattle.fit.specs.Answering.{armsFrom}
@@ -27,7 +27,7 @@ unfoldable mutual
   pub linesIn : Act → (k : ℕ) → (arms : Bool) → List ℕ → List Line
   linesIn (act own within) k arms ms =
       record { activity = k; own = own; within = within; arms = arms }
-      ∷ linesAmong within (k + 1) (eqb (kind own) 10 && eqb (getD ms k 0) active) ms
+      ∷ linesAmong within (k + 1) (isPick own && eqb (getD ms k 0) active) ms
 
   pub linesAmong : Acts → (c : ℕ) → (arms : Bool) → List ℕ → List Line
   linesAmong none c arms ms = []
@@ -55,7 +55,6 @@ pub record Stands (t ms : List ℕ) (k : ℕ) (x : Line) : Type 0 where
   pub spelled : Spells (act (x .own) (x .within)) place k node t
   pub arms : x .arms ≡ armsFrom t ms k k
   pub few : length (variablesOf (x .own)) ≤ 4
-  pub parts : kind (x .own) ≡ 11 → 0 < count (x .within)
 
 -- the table is that of the plan
 pub record Tabled (p : Plan) (t : List ℕ) (activities : ℕ) : Type 0 where

@@ -59,7 +59,7 @@ pub fn picks_of(table: &[u32; 11584]) -> [usize; 256]
     let mut out = [256usize; 256];
     let mut k: usize = 0;
     while k < 256 {
-        if table[k * 13] == 12 {
+        if table[k * 13] == 255 {
             out[k] = row_around(table, k);
             k += 1;
             continue;
@@ -97,7 +97,7 @@ pub(crate) fn open_at(
     if kind == 2 {
         return marks[k] == 1;
     }
-    if kind == 12 {
+    if kind == 255 {
         return arm_open(table, picks, marks, k);
     }
     false

@@ -71,7 +71,7 @@ room-allowed (sends p q vs) wait o j a = refl
 room-allowed (takes p q vs) wait o j a = refl
 room-allowed moves wait o j a = refl
 room-allowed cuts wait o j a = refl
-room-allowed (closes s) wait o j a = close-room o s a
+room-allowed (closes u s) wait o j a = close-room o u s a
 
 pub good-room : {p : Plan} {wait : ℕ} {o : Order} {k j : ℕ} → Good p wait o k j → roomPlan p k (closings o) ≡ true
 good-room {p} {wait} {o} {k} {j} g = plan-room p k (closings o) (room-allowed (doingAt p k) wait o j (g .allowed))

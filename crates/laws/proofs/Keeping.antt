@@ -141,7 +141,7 @@ Exchanges (sends p o vs) = exchanged p o (length vs) ≡ true
 Exchanges (takes p o vs) = Unit
 Exchanges moves = Unit
 Exchanges cuts = Unit
-Exchanges (closes s) = Unit
+Exchanges (closes u s) = Unit
 
 own-exchanges : (t : List ℕ) (own : Own) (l : Acts) (k : ℕ) → Stands (act own l) k t → Exchanges (doingOf own l k)
 unfolding Exchanges doingOf Stands ownWithin exchangeWithin exchanged
@@ -162,7 +162,7 @@ own-exchanges t (repeat e) l k s = tt
 own-exchanges t sequence l k s = tt
 own-exchanges t flow l k s = tt
 own-exchanges t pick l k s = tt
-own-exchanges t scope l k s = tt
+own-exchanges t (scope u) l k s = tt
 own-exchanges t (arm p o vs) l k s = tt
 
 plan-exchanges : (p : Plan) (t : ℕ) → planWithin p ≡ true → t < size (p .body) + size (p .fault) → Exchanges (doingAt p t)
@@ -197,7 +197,7 @@ messages-pass (sends p q vs) j o {s} x a f = go (allBound o vs) refl
 messages-pass (takes p q vs) j o x a f = remove-passes j a f
 messages-pass moves j o x a f = f
 messages-pass cuts j o x a f = f
-messages-pass (closes y) j o x a f = f
+messages-pass (closes u y) j o x a f = f
 
 taking-limits : (d : Doing) (m : Message) (o : Order) → orderInLimits o ≡ true → orderInLimits (orderTaking d m o) ≡ true
 unfolding orderTaking
@@ -206,7 +206,7 @@ taking-limits (sends p q vs) m o e = e
 taking-limits (takes p q vs) m o e = bind-limits vs (m .values) o e
 taking-limits moves m o e = e
 taking-limits cuts m o e = e
-taking-limits (closes s) m o e = e
+taking-limits (closes u s) m o e = e
 
 -- an order has its step
 stepped-passes : (p : Plan) (x : Offer) {s : State} (t : Tally) (o : Order) (l : List Event) → planWithin p ≡ true → Good p (s .waiting) o (x .activity) (x .place) → orderInLimits o ≡ true
@@ -264,7 +264,7 @@ messages-same (sends p q vs) j o s = go (allBound o vs) (record { partner = p; o
 messages-same (takes p q vs) j o s = record { plan = refl; length = refl }
 messages-same moves j o s = same s
 messages-same cuts j o s = same s
-messages-same (closes x) j o s = same s
+messages-same (closes u x) j o s = same s
 
 stepped-same : (p : Plan) (x : Offer) (s : State) (t : Tally) (o : Order) (l : List Event) → Same s (stepped p x s t o l .state)
 unfolding stepped

@@ -183,9 +183,9 @@ module _ (p : Plan) (live : List Live) (ms : List Message) (wait : ℕ) {l : Lis
       (each-picked (mayTake p o a b vs) w)
   step-each moves = each-more (record { slot = refl; activity = refl; allowed = tt; heeds = tt }) each-none
   step-each cuts = each-more (record { slot = refl; activity = refl; allowed = tt; heeds = tt }) each-none
-  step-each (closes s) = held (closeHeld o s) refl
+  step-each (closes u s) = held (closeHeld o u s) refl
     where
-      held : (x : Bool) → closeHeld o s ≡ x → Each (Offered p live ms wait false o i k (closes s)) (unlessHeld x (offering i k 0 ∷ []) .offered)
+      held : (x : Bool) → closeHeld o u s ≡ x → Each (Offered p live ms wait false o i k (closes u s)) (unlessHeld x (offering i k 0 ∷ []) .offered)
       held true e = each-none
       held false e = each-more (record { slot = refl; activity = refl; allowed = e; heeds = tt }) each-none
 
@@ -280,7 +280,7 @@ starts-each p o x {l} y = each-where (empties (x .fitted)) (λ q. all q y)
         each-where (fits p o b c vs (x .message)) (λ f. each-more (record { inside = h; partner = b; operation = c; variables = vs; is = e; fit = f; alone = q }) each-none)
     one q a moves h e = each-none
     one q a cuts h e = each-none
-    one q a (closes s) h e = each-none
+    one q a (closes u s) h e = each-none
 
     all : empties (x .fitted) ≡ true → {l : List Ready} → Each (Does (doingAt p) 0 (size (p .body) + size (p .fault))) l → Each (Starts p o x) (each (startOf p o x) l)
     all q each-none = each-none

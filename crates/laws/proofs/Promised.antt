@@ -311,7 +311,7 @@ letters-moved (takes p q vs) j o s l w a =
     ≡ take j (take n (s .messages)) ++ drop (suc j) (take n (s .messages))) (sym e) (take-less (s .messages) (noMessage ∷ []) j k (omega arith) (omega (arith, l))))
 letters-moved moves j o s l w a = refl
 letters-moved cuts j o s l w a = refl
-letters-moved (closes x) j o s l w a = refl
+letters-moved (closes u x) j o s l w a = refl
 
 stepped-letters : (p : Plan) (x : Offer) (s : State) (t : Tally) (o : Order) (l : List Event) → letters (stepped p x s t o l .state) ≡ letters (messagesAfter (doingAt p (x .activity)) (x .place) o s)
 unfolding stepped

@@ -7,13 +7,14 @@ use native.Mathlib.Omega.{arith}
 use borrow.Author.Tests.{ltb-false, lt-ltb}
 use lib.Dec.{eqb, ltb}
 use lib.ListN.{length, getD, drop}
-use Rattle.plan.specs.Tree.{Exp, Own, empty, send, receive, set as setting, raise, leave, choose, repeat, sequence, flow, pick, scope, arm, kind, Act, act, Acts, none, more, Plan, size}
+use Rattle.plan.specs.Tree.{Exp, Own, empty, send, receive, set as setting, raise, leave, choose, repeat, sequence, flow, pick, scope, arm, hasUndo, Act, act, Acts, none, more, Plan, size}
 use Rattle.order.specs.Lists.{only}
 use Rattle.order.specs.Room.{hasRoom, roomIn, roomAmong, roomPlan}
-use Rattle.order.specs.Scope.{Scope, isScope, isFor, forgetting, scopeAt}
+use Rattle.order.specs.Scope.{Scope, isFor, forgetting, scopeAt}
 use Rattle.order.specs.State.{closings, binding}
 use Rattle.order.specs.Taking.{actIn, actAmong, bindAll, bindOwn, bindAct, taking}
 use Rattle.machine.specs.declared.Message.{Message}
+use Rattle.order.specs.declared.Closing.{Closing}
 use Rattle.order.specs.declared.Order.{Order}
 use Rattle.order.proofs.MemoryReturns.{closings-are}
 use Rattle.machine.specs.Calls.{doingIn, doingAmong, doingAt, orderTaking}
@@ -21,20 +22,20 @@ use Rattle.machine.specs.Fit.{Doing, noStep, sends, takes, moves, cuts, closes,
 use Rattle.machine.specs.Offer.{closeHeld}
 
 -- whether a step has room with these closings remembered
-unfoldable pub roomOf : Doing → List ℕ → Bool
+unfoldable pub roomOf : Doing → List Closing → Bool
 roomOf noStep xs = true
 roomOf (sends p o vs) xs = true
 roomOf (takes p o vs) xs = true
 roomOf moves xs = true
 roomOf cuts xs = true
-roomOf (closes s) xs = ltb (length (only (λ e. not (isFor s e)) xs)) 32
+roomOf (closes undo s) xs = not undo || ltb (length (only (λ e. not (isFor s e)) xs)) 32
 
-none-room : (xs : List ℕ) → true ≡ roomOf noStep xs
+none-room : (xs : List Closing) → true ≡ roomOf noStep xs
 unfolding roomOf
 none-room xs = refl
 
-own-room : (own : Own) (l : Acts) (k : ℕ) (xs : List ℕ) → hasRoom own l k xs ≡ roomOf (doingOf own l k) xs
-unfolding hasRoom roomOf doingOf kind
+own-room : (own : Own) (l : Acts) (k : ℕ) (xs : List Closing) → hasRoom own l k xs ≡ roomOf (doingOf own l k) xs
+unfolding hasRoom roomOf doingOf
 own-room empty l k xs = refl
 own-room (send p o vs) l k xs = refl
 own-room (receive p o vs) l k xs = refl
@@ -46,13 +47,13 @@ own-room (repeat e) l k xs = refl
 own-room sequence l k xs = refl
 own-room flow l k xs = refl
 own-room pick l k xs = refl
-own-room scope l k xs = refl
+own-room (scope u) l k xs = refl
 own-room (arm p o vs) l k xs = refl
 
 mutual
   unfolding roomIn doingIn
 
-  pub in-room : (a : Act) (k t : ℕ) (xs : List ℕ) → roomIn a k t xs ≡ roomOf (doingIn a k t) xs
+  pub in-room : (a : Act) (k t : ℕ) (xs : List Closing) → roomIn a k t xs ≡ roomOf (doingIn a k t) xs
   in-room (act own l) k t xs = by-test (eqb k t) (own-room own l k xs) (among-room l (k + 1) t xs)
     where
       by-test : (b : Bool) → hasRoom own l k xs ≡ roomOf (doingOf own l k) xs → roomAmong l (k + 1) t xs ≡ roomOf (doingAmong l (k + 1) t) xs
@@ -61,7 +62,7 @@ mutual
       by-test true e f = e
       by-test false e f = f
 
-  pub among-room : (l : Acts) (c t : ℕ) (xs : List ℕ) → roomAmong l c t xs ≡ roomOf (doingAmong l c t) xs
+  pub among-room : (l : Acts) (c t : ℕ) (xs : List Closing) → roomAmong l c t xs ≡ roomOf (doingAmong l c t) xs
   among-room none c t xs = none-room xs
   among-room (more a l) c t xs = by-test (ltb t (c + size a)) (in-room a c t xs) (among-room l (c + size a) t xs)
     where
@@ -72,7 +73,7 @@ mutual
       by-test false e f = f
 
 -- so the step that an activity of a plan is there for has room where that is said of the step
-pub plan-room : (p : Plan) (t : ℕ) (xs : List ℕ) → roomOf (doingAt p t) xs ≡ true → roomPlan p t xs ≡ true
+pub plan-room : (p : Plan) (t : ℕ) (xs : List Closing) → roomOf (doingAt p t) xs ≡ true → roomPlan p t xs ≡ true
 unfolding doingAt doingIn roomOf
 plan-room p t xs h =
     let z : 0 + size (p .body) ≡ size (p .body) = omega arith in
@@ -92,9 +93,10 @@ plan-room p t xs h =
     go false false h = refl
 
 -- and a close has room where it is not held
-pub close-room : (o : Order) (s : Scope) → closeHeld o s ≡ false → roomOf (closes s) (closings o) ≡ true
+pub close-room : (o : Order) (undo : Bool) (s : Scope) → closeHeld o undo s ≡ false → roomOf (closes undo s) (closings o) ≡ true
 unfolding roomOf forgetting
-close-room o s h =
+close-room o false s h = refl
+close-room o true s h =
     let xs = only (λ e. not (isFor s e)) (closings o) in
     let m : length xs + 1 ≤ 32 = rw (closings-are xs o) at (ltb-false 32 (length (closings (forgetting s o)) + 1) h) in
     lt-ltb (length xs) 32 (omega arith)
@@ -113,7 +115,7 @@ own-takes (repeat e) l k m o = refl
 own-takes sequence l k m o = refl
 own-takes flow l k m o = refl
 own-takes pick l k m o = refl
-own-takes scope l k m o = refl
+own-takes (scope u) l k m o = refl
 own-takes (arm p q vs) l k m o = refl
 
 none-takes : (m : Message) (o : Order) → orderTaking noStep m o ≡ bindAct (act empty none) (m .values) o
@@ -178,4 +180,4 @@ take-closings (sends p q vs) m o = refl
 take-closings (takes p q vs) m o = bind-closings vs (m .values) o
 take-closings moves m o = refl
 take-closings cuts m o = refl
-take-closings (closes s) m o = refl
+take-closings (closes u s) m o = refl

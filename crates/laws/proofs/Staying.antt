@@ -1,15 +1,16 @@
 -- An order within its limits stays within them: whatever begins, stops, undoes or closes, and so for a step of it. Assumes nothing.
 use mathlib.Core.Path.{_≡_, refl, sym, ap, _∙_, subst}
 use mathlib.Core.Bool.{Bool, true, false, cond, not, _&&_, _||_}
-use mathlib.Core.List.{List, [], _∷_, _++_, reverse}
+use mathlib.Core.List.{List, [], _∷_, _++_, reverse, map}
 use Prim.Native.Nat.{ℕ, zero, suc, _+_, _<_, _≤_}
 use native.Mathlib.Omega.{arith}
 use borrow.Author.Tests.{eqb-true, lt-ltb, le-leb, leb-true, ltb-true}
 use lib.Dec.{eqb, ltb, leb}
-use lib.ListN.{length, getD, take, drop, set, length-append, length-reverse}
+use lib.ListN.{length, getD, take, drop, set, length-append, length-map, length-reverse}
 use Rattle.plan.specs.Found.{among}
-use Rattle.plan.specs.Tree.{Exp, Own, empty, send, receive, set as setting, raise, leave, choose, repeat, sequence, flow, pick, scope, arm, kind, Act, act, Acts, none, more, Plan, size, sizes}
+use Rattle.plan.specs.Tree.{Exp, Own, empty, send, receive, set as setting, raise, leave, choose, repeat, sequence, flow, pick, scope, arm, kind, isScope, hasUndo, isPick, Act, act, Acts, none, more, Plan, size, sizes}
 use Rattle.plan.proofs.Accepts.{both}
+use Rattle.order.specs.declared.Closing.{Closing}
 use Rattle.order.specs.declared.Order.{Order}
 use Rattle.order.specs.declared.Way.{Way}
 use Rattle.order.specs.declared.Way.the-variants.{Running as running, Over as over, Raising as raising, Leaving as leaving, Undone as undone, UndoRaising as undoRaising}
@@ -18,9 +19,9 @@ use Rattle.order.specs.declared.End.the-variants.{None, Well, Handled, Failed, 
 use Rattle.order.specs.Lists.{every, only, withoutFirst, withoutLast}
 use Rattle.order.specs.Event.{Event}
 use Rattle.order.specs.Expression.{Value, fault, value, evaluate, isTrue}
-use Rattle.order.specs.State.{idle, active, inside, done, faulty, undoing, handling, halted, withdrawing, Name, root, inner, withMarks, withRoot, binding, closings, remembering, markAt, marked, markOf, marking, noOrder}
+use Rattle.order.specs.State.{idle, active, inside, done, faulty, undoing, handling, halted, withdrawing, Name, root, inner, withMarks, withRoot, binding, closingOf, closings, remembering, markAt, marked, markOf, marking, noOrder}
 use Rattle.order.specs.Begin.{Begun, begin, beginInTurn, beginAll, beginFirst, beginAfter, beginPart, part, partAt, throughout, around, itsBeginning, inTurn, sideBySide, nothingBegun, awaiting, cleared, quiet}
-use Rattle.order.specs.Scope.{Outcome, Scope, Stopped, runs, after, begunIn, scopeAt, rootOf, isScope, isFor, rememberedFor, forgetting, closing, innerRuns, beginUndo, beginUndoIn, whereOver, startUndo, undo, ends, handle, undoes, turns, isOpen, untouched, alsoStopped, withdraws, stop, stopAll, stopFirst, faults, breaks, looksAgain, bodyOver, bodyRaised, undoOver, undoRaised, fromBody, partOver, partRaised, fromFault, fromUndo}
+use Rattle.order.specs.Scope.{Outcome, Scope, Stopped, runs, after, begunIn, scopeAt, rootOf, isFor, listOf, rememberedFor, forgetting, adds, closing, innerRuns, beginUndo, beginUndoFirst, beginUndoIn, whereOver, startUndo, undo, ends, handle, undoes, turns, isOpen, untouched, alsoStopped, withdraws, stop, stopAll, stopFirst, faults, breaks, looksAgain, bodyOver, bodyRaised, undoOver, undoRaised, fromBody, partOver, partRaised, fromFault, goesThrough, fromUndo}
 use Rattle.order.specs.Acting.{finishes, raises, leaves, orRaises, enters, again, repeats, allBound, itself, isPart, arms, goesOn, joins, inScope, combines, stepIn, stepAmong, stepRoot, endOf, movedTo, startedOrder, begunOrder, Actor, itsOwn, inPlace, replaces, performs, Moved, acted}
 use Rattle.order.specs.Awaited.{Doing, noStep, sends, takes, moves, cuts, closes, Ready, readyOf}
 use Rattle.order.specs.Judging.{isSecond, Verdict, clear, clash, clashAfter, conflict, following, upon, judged, spare, settled, stepOrder}
@@ -91,7 +92,7 @@ mutual
   small-begin (act sequence l) k ms s = small-throughout k (beginInTurn l (k + 1) (set ms k active)) (small-in-turn l (k + 1) _ (small-set k active refl s))
   small-begin (act flow l) k ms s = small-throughout k (beginAll l (k + 1) (set ms k active)) (small-all l (k + 1) _ (small-set k active refl s))
   small-begin (act pick l) k ms s = small-set k active refl s
-  small-begin (act scope l) k ms s = small-around k (beginFirst l (k + 1) (set ms k active)) (small-first l (k + 1) _ (small-set k active refl s))
+  small-begin (act (scope u) l) k ms s = small-around k (beginFirst l (k + 1) (set ms k active)) (small-first l (k + 1) _ (small-set k active refl s))
   small-begin (act (arm p o vs) l) k ms s = s
 
   small-in-turn : (l : Acts) (c : ℕ) (ms : List ℕ) → Small ms → Small (beginInTurn l c ms .marks)
@@ -123,12 +124,22 @@ mutual
   unfolding beginUndo size
 
   small-undo : (a : Act) (k e : ℕ) (ms : List ℕ) → Small ms → Small (beginUndo a k e ms .marks)
-  small-undo (act own l) k e ms s = go (isScope own && eqb k e) (small-part 2 l (k + 1) ms s) (small-undo-in l (k + 1) e ms s)
+  small-undo (act own l) k e ms s =
+      go (isScope own) (hasUndo own) (eqb k e) (small-part 2 l (k + 1) ms s) (small-undo-first l (k + 1) e ms s) (small-undo-in l (k + 1) e ms s)
     where
-      go : (b : Bool) → Small (beginPart 2 l (k + 1) ms .marks) → Small (beginUndoIn l (k + 1) e ms .marks)
-          → Smalls (elim b [ true ↦ beginPart 2 l (k + 1) ms | false ↦ beginUndoIn l (k + 1) e ms ])
-      go true x y = x
-      go false x y = y
+      go : (b u v : Bool) → Small (beginPart 2 l (k + 1) ms .marks) → Small (beginUndoFirst l (k + 1) e ms .marks) → Small (beginUndoIn l (k + 1) e ms .marks)
+          → Smalls (elim b [
+            | true ↦ cond u (cond v (beginPart 2 l (k + 1) ms) (nothingBegun ms)) (beginUndoFirst l (k + 1) e ms)
+            | false ↦ beginUndoIn l (k + 1) e ms
+          ])
+      go true true true x y w = x
+      go true true false x y w = s
+      go true false v x y w = y
+      go false u v x y w = w
+
+  small-undo-first : (l : Acts) (c e : ℕ) (ms : List ℕ) → Small ms → Small (beginUndoFirst l c e ms .marks)
+  small-undo-first none c e ms s = s
+  small-undo-first (more a l) c e ms s = small-undo a c e ms s
 
   small-undo-in : (l : Acts) (c e : ℕ) (ms : List ℕ) → Small ms → Small (beginUndoIn l c e ms .marks)
   small-undo-in none c e ms s = s
@@ -172,7 +183,7 @@ module _ {b : Bool} {z : ℕ} where
   fine-marked : {o : Order} (k m : ℕ) → leb m withdrawing ≡ true → Fine b z o → Fine b z (marked k m o)
   fine-marked k m h f = fine-marks f (small-set k m h (f .marks))
 
-  fine-remembering : {o : Order} (l : List ℕ) → length l ≤ 32 → Fine b z o → Fine b z (remembering l o)
+  fine-remembering : {o : Order} (l : List Closing) → length l ≤ 32 → Fine b z o → Fine b z (remembering l o)
   fine-remembering l h f = record { root = f .root; marks = f .marks; bound = f .bound; kept = h }
 
   fine-binding : {o : Order} (v x : ℕ) → Fine b z o → Fine b z (binding v x o)
@@ -203,12 +214,12 @@ fine-pick true x y f g = f refl
 fine-pick false x y f g = g refl
 
 -- the lists of closings get no longer
-take-most : (n : ℕ) (l : List ℕ) → length (take n l) ≤ n
+take-most : {A : Type 0} (n : ℕ) (l : List A) → length (take n l) ≤ n
 take-most zero l = omega arith
 take-most (suc n) [] = omega arith
 take-most (suc n) (x ∷ l) = omega (arith, take-most n l)
 
-only-most : (f : ℕ → Bool) (l : List ℕ) → length (only f l) ≤ length l
+only-most : {A : Type 0} (f : A → Bool) (l : List A) → length (only f l) ≤ length l
 unfolding only
 only-most f [] = omega arith
 only-most f (x ∷ l) = go (f x) (only-most f l)
@@ -217,17 +228,28 @@ only-most f (x ∷ l) = go (f x) (only-most f l)
     go true h = omega arith
     go false h = omega arith
 
-first-most : (x : ℕ) (l : List ℕ) → length (withoutFirst x l) ≤ length l
+first-most : {A : Type 0} (f : A → Bool) (l : List A) → length (withoutFirst f l) ≤ length l
 unfolding withoutFirst
-first-most x [] = omega arith
-first-most x (y ∷ l) = go (eqb x y) (first-most x l)
+first-most f [] = omega arith
+first-most f (y ∷ l) = go (f y) (first-most f l)
   where
-    go : (b : Bool) → length (withoutFirst x l) ≤ length l → length (cond b l (y ∷ withoutFirst x l)) ≤ suc (length l)
+    go : (b : Bool) → length (withoutFirst f l) ≤ length l → length (cond b l (y ∷ withoutFirst f l)) ≤ suc (length l)
     go true h = omega arith
     go false h = omega arith
 
-last-most : (x : ℕ) (l : List ℕ) → length (withoutLast x l) ≤ length l
-last-most x l = omega (arith, length-reverse (withoutFirst x (reverse l)), first-most x (reverse l), length-reverse l)
+last-most : {A : Type 0} (f : A → Bool) (l : List A) → length (withoutLast f l) ≤ length l
+last-most f l = omega (arith, length-reverse (withoutFirst f (reverse l)), first-most f (reverse l), length-reverse l)
+
+-- those of which a test holds and those of which it does not are all
+both-most : {A : Type 0} (f : A → Bool) (l : List A) → length (only (λ x. not (f x)) l) + length (only f l) ≤ length l
+unfolding only
+both-most f [] = omega arith
+both-most f (x ∷ l) = go (f x) (both-most f l)
+  where
+    go : (b : Bool) → length (only (λ x. not (f x)) l) + length (only f l) ≤ length l
+        → length (cond (not b) (x ∷ only (λ x. not (f x)) l) (only (λ x. not (f x)) l)) + length (cond b (x ∷ only f l) (only f l)) ≤ suc (length l)
+    go true h = omega arith
+    go false h = omega arith
 
 fine-closings : {b : Bool} {z : ℕ} {o : Order} → Fine b z o → length (closings o) ≤ 32
 fine-closings {o = o} f = omega (arith, take-most (o .kept) (o .remembered), f .kept)
@@ -252,7 +274,7 @@ any-mark false m h g = h
 fine-start-undo : {b : Bool} {z : ℕ} {o : Order} (e : ℕ) (s : Scope) → Fine b z o → Fine b z (startUndo e s o .order)
 unfolding startUndo
 fine-start-undo {o = o} e s f =
-    fine-marks (fine-remembering (withoutLast e (closings o)) (omega (arith, last-most e (closings o), fine-closings f)) f)
+    fine-marks (fine-remembering (withoutLast (isFor s) (closings o)) (omega (arith, last-most (isFor s) (closings o), fine-closings f)) f)
     (small-undo (s .body) (s .bodyAt) e (o .marks) (f .marks))
 
 fine-undo : {b : Bool} {z : ℕ} {o : Order} (l : List ℕ) (s : Scope) → Fine b z o → Fine b z (undo l s o .order)
@@ -448,35 +470,46 @@ module _ {z : ℕ} where
       let g : Fine false z o′ = fine-marked k inside refl (fine-marks f (small-cleared (sizes l) (k + 1) (f .marks))) in
       fine-over (begunIn o′ (beginPart 0 l (k + 1) (o′ .marks))) (again k) (fine-marks g (small-part 0 l (k + 1) (o′ .marks) (g .marks))) (λ q h. fine-marked k active refl h)
 
-  fine-closing : {o : Order} (k : ℕ) (s : Scope) → length (only (λ e. not (isFor s e)) (closings o)) < 32 → Fine false z o → Fine false z (closing k s o .order)
-  unfolding closing forgetting
-  fine-closing {o} k s h f =
+  -- a close: what is left with what it adds
+  fine-adding : {o : Order} (s : Scope) (ys : List Closing) → length (only (λ e. not (isFor s e)) (closings o)) + length ys ≤ 32 → Fine false z o
+      → Fine false z (remembering (closings (forgetting s o) ++ ys) o)
+  unfolding forgetting
+  fine-adding {o} s ys h f =
       let xs = only (λ e. not (isFor s e)) (closings o) in
-      let e : length (closings (remembering xs o) ++ (k ∷ [])) ≡ length xs + 1 =
-      length-append (closings (remembering xs o)) (k ∷ []) ∙ ap (λ (l : List ℕ). length l + 1) (closings-are xs o) in
-      fine-marked k idle refl (fine-remembering (closings (remembering xs o) ++ (k ∷ [])) (omega (arith, e, h)) f)
+      let e : length (closings (remembering xs o) ++ ys) ≡ length xs + length ys =
+      length-append (closings (remembering xs o)) ys ∙ ap (λ (l : List Closing). length l + length ys) (closings-are xs o) in
+      fine-remembering (closings (remembering xs o) ++ ys) (omega (arith, e, h)) f
 
-  fine-itself : {o : Order} (own : Own) (l : Acts) (k : ℕ) → hasRoom own l k (closings o) ≡ true → Fine false z o → Fine false z (itself own l k o .order)
-  unfolding itself hasRoom kind
-  fine-itself empty l k h f = f
-  fine-itself {o} (send p q vs) l k h f = fine-cond (allBound o vs) (finishes k o) (raises k o) (fine-marked k idle refl f) (fine-marked k idle refl f)
-  fine-itself (receive p q vs) l k h f = fine-marked k idle refl f
-  fine-itself {o} (setting v e) l k h f =
+  fine-closing : {o : Order} (undo : Bool) (q k : ℕ) (s : Scope) → (not undo || ltb (length (only (λ e. not (isFor s e)) (closings o))) 32) ≡ true → Fine false z o
+      → Fine false z (closing undo q k s o .order)
+  unfolding closing adds listOf
+  fine-closing {o} true q k s h f =
+      fine-marked k idle refl (fine-adding s (closingOf k q ∷ []) (omega (arith, ltb-true (length (only (λ e. not (isFor s e)) (closings o))) 32 h)) f)
+  fine-closing {o} false q k s h f =
+      fine-marked k idle refl (fine-adding s (map (λ c. closingOf (c .scope) q) (only (isFor s) (closings o)))
+      (omega (arith, length-map (only (isFor s) (closings o)) (λ c. closingOf (c .scope) q), both-most (isFor s) (closings o), fine-closings f)) f)
+
+  fine-itself : {o : Order} (own : Own) (l : Acts) (c k : ℕ) → hasRoom own l k (closings o) ≡ true → Fine false z o → Fine false z (itself own l c k o .order)
+  unfolding itself hasRoom
+  fine-itself empty l c k h f = f
+  fine-itself {o} (send p q vs) l c k h f = fine-cond (allBound o vs) (finishes k o) (raises k o) (fine-marked k idle refl f) (fine-marked k idle refl f)
+  fine-itself (receive p q vs) l c k h f = fine-marked k idle refl f
+  fine-itself {o} (setting v e) l c k h f =
       fine-or k (λ n. finishes k (binding v n o)) (evaluate e o) f (λ n. fine-marked k idle refl (fine-binding v n f))
-  fine-itself raise l k h f = fine-marked k idle refl f
-  fine-itself leave l k h f = fine-marked k idle refl f
-  fine-itself {o} (choose e) l k h f =
+  fine-itself raise l c k h f = fine-marked k idle refl f
+  fine-itself leave l c k h f = fine-marked k idle refl f
+  fine-itself {o} (choose e) l c k h f =
       fine-or k (λ n. enters k o (beginPart (cond (isTrue n) 0 1) l (k + 1) (marked k inside o .marks))) (evaluate e o) f
       (λ n. fine-enters k (beginPart (cond (isTrue n) 0 1) l (k + 1) (marked k inside o .marks))
       (small-part (cond (isTrue n) 0 1) l (k + 1) (marked k inside o .marks) (small-set k inside refl (f .marks))) f)
-  fine-itself {o} (repeat e) l k h f =
+  fine-itself {o} (repeat e) l c k h f =
       fine-or k (λ n. elim (isTrue n) [ true ↦ repeats k l o | false ↦ finishes k o ]) (evaluate e o) f
       (λ n. fine-pick (isTrue n) (repeats k l o) (finishes k o) (λ d. fine-repeats k l f) (λ d. fine-marked k idle refl f))
-  fine-itself sequence l k h f = f
-  fine-itself flow l k h f = f
-  fine-itself pick l k h f = f
-  fine-itself {o} scope l k h f = fine-closing k (scopeAt k l) (ltb-true (length (only (λ e. not (isFor (scopeAt k l) e)) (closings o))) 32 h) f
-  fine-itself {o} (arm p q vs) l k h f = fine-marks f (small-part 0 l (k + 1) (o .marks) (f .marks))
+  fine-itself sequence l c k h f = f
+  fine-itself flow l c k h f = f
+  fine-itself pick l c k h f = f
+  fine-itself (scope u) l c k h f = fine-closing u c k (scopeAt k l) h f
+  fine-itself {o} (arm p q vs) l c k h f = fine-marks f (small-part 0 l (k + 1) (o .marks) (f .marks))
 
   -- what stands around it
   fine-goes : (k m : ℕ) (g : Order → Outcome) (r : Outcome) → Fine false z (r .order) → ((q : Order) → Fine false z q → Fine false z (g q .order)) → Fine false z (goesOn k m g r .order)
@@ -488,11 +521,12 @@ module _ {z : ℕ} where
   unfolding joins
   fine-joins {o} k l f = fine-pick (quiet (k + 1) (sizes l) (o .marks)) (finishes k o) (runs o) (λ e. fine-marked k idle refl f) (λ e. f)
 
-  fine-in-scope : (k t : ℕ) (l : Acts) (r : Outcome) → Fine false z (r .order) → Fine false z (inScope k t l r .order)
+  fine-in-scope : (undo : Bool) (k t : ℕ) (l : Acts) (r : Outcome) → Fine false z (r .order) → Fine false z (inScope undo k t l r .order)
   unfolding inScope Marks fromUndo
-  fine-in-scope k t l r f =
-      fine-pick (ltb t (partAt 1 l (k + 1))) (fromBody (scopeAt k l) r) (elim (ltb t (partAt 2 l (k + 1))) [ true ↦ fromFault (scopeAt k l) r | false ↦ fromUndo r ])
-      (λ e. fine-from-body (scopeAt k l) r refl f)
+  fine-in-scope undo k t l r f =
+      fine-pick (ltb t (partAt 1 l (k + 1))) (elim (goesThrough undo k r) [ true ↦ r | false ↦ fromBody (scopeAt k l) r ])
+      (elim (ltb t (partAt 2 l (k + 1))) [ true ↦ fromFault (scopeAt k l) r | false ↦ fromUndo r ])
+      (λ e. fine-pick (goesThrough undo k r) r (fromBody (scopeAt k l) r) (λ d. f) (λ d. fine-from-body (scopeAt k l) r refl f))
       (λ e. fine-pick (ltb t (partAt 2 l (k + 1))) (fromFault (scopeAt k l) r) (fromUndo r) (λ d. fine-from-fault (scopeAt k l) r f) (λ d. f))
 
   fine-combines : (own : Own) (l : Acts) (k t : ℕ) (r : Outcome) → Fine false z (r .order) → Fine false z (combines own l k t r .order)
@@ -510,12 +544,12 @@ module _ {z : ℕ} where
       (λ q g. fine-over (begunIn q (beginAfter l (k + 1) t (q .marks))) (finishes k) (fine-marks g (small-after l (k + 1) t (q .marks) (g .marks))) (λ o h. fine-marked k idle refl h))
   fine-combines flow l k t r f = fine-goes k active (joins k l) r f (λ q g. fine-joins k l g)
   fine-combines pick l k t r f = fine-goes k inside (finishes k) r f (λ q g. fine-marked k idle refl g)
-  fine-combines scope l k t r f = fine-in-scope k t l r f
+  fine-combines (scope u) l k t r f = fine-in-scope u k t l r f
   fine-combines (arm p q vs) l k t r f = f
 
   fine-arms : {o : Order} (own : Own) (l : Acts) (k t : ℕ) → Fine false z o → Fine false z (arms own l k t o)
   unfolding arms
-  fine-arms {o} own l k t f = go (eqb (kind own) 10 && isPart l (k + 1) t)
+  fine-arms {o} own l k t f = go (isPick own && isPart l (k + 1) t)
     where
       go : (b : Bool) → Fine false z (cond b (marked k inside o) o)
       go true = fine-marked k inside refl f
@@ -523,47 +557,48 @@ module _ {z : ℕ} where
 
 arms-closings : (own : Own) (l : Acts) (k t : ℕ) (o : Order) → closings (arms own l k t o) ≡ closings o
 unfolding arms
-arms-closings own l k t o = go (eqb (kind own) 10 && isPart l (k + 1) t)
+arms-closings own l k t o = go (isPick own && isPart l (k + 1) t)
   where
     go : (b : Bool) → closings (cond b (marked k inside o) o) ≡ closings o
     go true = refl
     go false = refl
 
 -- what acts, or the raise in its place
-fine-performs : {z : ℕ} {o : Order} (y : Actor) (own : Own) (l : Acts) (k : ℕ) → hasRoom own l k (closings o) ≡ true → Fine false z o → Fine false z (performs y own l k o .order)
+fine-performs : {z : ℕ} {o : Order} (y : Actor) (own : Own) (l : Acts) (c k : ℕ) → hasRoom own l k (closings o) ≡ true → Fine false z o → Fine false z (performs y own l c k o .order)
 unfolding performs
-fine-performs {z} {o} y own l k h f = go (replaces y (kind own))
+fine-performs {z} {o} y own l c k h f = go (replaces y (kind own))
   where
-    go : (b : Bool) → Fine false z (elim b as (λ _. Outcome) [ true ↦ raises k o | false ↦ itself own l k o ] .order)
+    go : (b : Bool) → Fine false z (elim b as (λ _. Outcome) [ true ↦ raises k o | false ↦ itself own l c k o ] .order)
     go true = fine-marked k idle refl f
-    go false = fine-itself own l k h f
+    go false = fine-itself own l c k h f
 
 -- step t in an activity
 mutual
   unfolding stepIn roomIn size
 
-  fine-step-in : {z : ℕ} {o : Order} (y : Actor) (a : Act) (k t : ℕ) → roomIn a k t (closings o) ≡ true → Fine false z o → Fine false z (stepIn y a k t o .order)
-  fine-step-in {z} {o} y (act own l) k t h f =
-      go (eqb k t) h (λ e. fine-performs y own l k e f)
-      (λ e. fine-combines own l k t (stepAmong y l (k + 1) t (arms own l k t o))
-      (fine-step-among y l (k + 1) t (ap (roomAmong l (k + 1) t) (arms-closings own l k t o) ∙ e) (fine-arms own l k t f)))
+  fine-step-in : {z : ℕ} {o : Order} (y : Actor) (a : Act) (c k t : ℕ) → roomIn a k t (closings o) ≡ true → Fine false z o → Fine false z (stepIn y a c k t o .order)
+  fine-step-in {z} {o} y (act own l) c k t h f =
+      go (eqb k t) h (λ e. fine-performs y own l c k e f)
+      (λ e. fine-combines own l k t (stepAmong y l (isScope own) c (k + 1) t (arms own l k t o))
+      (fine-step-among y l (isScope own) c (k + 1) t (ap (roomAmong l (k + 1) t) (arms-closings own l k t o) ∙ e) (fine-arms own l k t f)))
     where
       go : (b : Bool) → elim b [ true ↦ hasRoom own l k (closings o) | false ↦ roomAmong l (k + 1) t (closings o) ] ≡ true
-          → (hasRoom own l k (closings o) ≡ true → Fine false z (performs y own l k o .order))
-          → (roomAmong l (k + 1) t (closings o) ≡ true → Fine false z (combines own l k t (stepAmong y l (k + 1) t (arms own l k t o)) .order))
-          → Fines false z (elim b [ true ↦ performs y own l k o | false ↦ combines own l k t (stepAmong y l (k + 1) t (arms own l k t o)) ])
+          → (hasRoom own l k (closings o) ≡ true → Fine false z (performs y own l c k o .order))
+          → (roomAmong l (k + 1) t (closings o) ≡ true → Fine false z (combines own l k t (stepAmong y l (isScope own) c (k + 1) t (arms own l k t o)) .order))
+          → Fines false z (elim b [ true ↦ performs y own l c k o | false ↦ combines own l k t (stepAmong y l (isScope own) c (k + 1) t (arms own l k t o)) ])
       go true e u v = u e
       go false e u v = v e
 
-  fine-step-among : {z : ℕ} {o : Order} (y : Actor) (l : Acts) (c t : ℕ) → roomAmong l c t (closings o) ≡ true → Fine false z o → Fine false z (stepAmong y l c t o .order)
-  fine-step-among y none c t h f = f
-  fine-step-among {z} {o} y (more a l) c t h f =
-      go (ltb t (c + size a)) h (λ e. fine-step-in y a c t e f) (λ e. fine-step-among y l (c + size a) t e f)
+  fine-step-among : {z : ℕ} {o : Order} (y : Actor) (l : Acts) (w : Bool) (q c t : ℕ) → roomAmong l c t (closings o) ≡ true → Fine false z o
+      → Fine false z (stepAmong y l w q c t o .order)
+  fine-step-among y none w q c t h f = f
+  fine-step-among {z} {o} y (more a l) w q c t h f =
+      go (ltb t (c + size a)) h (λ e. fine-step-in y a (cond w c q) c t e f) (λ e. fine-step-among y l w q (c + size a) t e f)
     where
       go : (b : Bool) → elim b [ true ↦ roomIn a c t (closings o) | false ↦ roomAmong l (c + size a) t (closings o) ] ≡ true
-          → (roomIn a c t (closings o) ≡ true → Fine false z (stepIn y a c t o .order))
-          → (roomAmong l (c + size a) t (closings o) ≡ true → Fine false z (stepAmong y l (c + size a) t o .order))
-          → Fines false z (elim b [ true ↦ stepIn y a c t o | false ↦ stepAmong y l (c + size a) t o ])
+          → (roomIn a c t (closings o) ≡ true → Fine false z (stepIn y a (cond w c q) c t o .order))
+          → (roomAmong l (c + size a) t (closings o) ≡ true → Fine false z (stepAmong y l w q (c + size a) t o .order))
+          → Fines false z (elim b [ true ↦ stepIn y a (cond w c q) c t o | false ↦ stepAmong y l w q (c + size a) t o ])
       go true e u v = u e
       go false e u v = v e
 
@@ -660,31 +695,31 @@ acted-limits y p t o h e f =
           | false ↦ elim b [ true ↦ roomIn (p .fault) (size (p .body)) t (closings o) | false ↦ true ]
         ]) true
         → Ends (elim a [
-          | true ↦ fromBody (rootOf p) (stepIn y (p .body) 0 t o)
-          | false ↦ fromFault (rootOf p) (stepIn y (p .fault) (size (p .body)) t o)
+          | true ↦ fromBody (rootOf p) (stepIn y (p .body) 0 0 t o)
+          | false ↦ fromFault (rootOf p) (stepIn y (p .fault) (size (p .body)) (size (p .body)) t o)
         ])
-    go true b q r = ended-body p (stepIn y (p .body) 0 t o) (fine-out fine (fine-step-in y (p .body) 0 t r (fine-in fine)))
+    go true b q r = ended-body p (stepIn y (p .body) 0 0 t o) (fine-out fine (fine-step-in y (p .body) 0 0 t r (fine-in fine)))
     go false true q r =
-        ended-fine (fromFault (rootOf p) (stepIn y (p .fault) (size (p .body)) t o))
-        (fine-from-fault (rootOf p) (stepIn y (p .fault) (size (p .body)) t o) (fine-out fine (fine-step-in y (p .fault) (size (p .body)) t r (fine-in fine))))
+        ended-fine (fromFault (rootOf p) (stepIn y (p .fault) (size (p .body)) (size (p .body)) t o))
+        (fine-from-fault (rootOf p) (stepIn y (p .fault) (size (p .body)) (size (p .body)) t o) (fine-out fine (fine-step-in y (p .fault) (size (p .body)) (size (p .body)) t r (fine-in fine))))
     go false false q r = absurd (let w : _≡_ {A = ℕ} 0 1 = cc in omega arith)
 
 -- what is for the same thing as one before it closes nothing
-second-room : (before : List Ready) (d : Doing) (xs : List ℕ) → isSecond before d ≡ true → roomOf d xs ≡ true
+second-room : (before : List Ready) (d : Doing) (xs : List Closing) → isSecond before d ≡ true → roomOf d xs ≡ true
 unfolding isSecond roomOf
 second-room before noStep xs e = refl
 second-room before (sends p o vs) xs e = refl
 second-room before (takes p o vs) xs e = refl
 second-room before moves xs e = refl
 second-room before cuts xs e = refl
-second-room before (closes s) xs e = absurd (let z : _≡_ {A = Bool} false true = e in let w : _≡_ {A = ℕ} 0 1 = cc in omega arith)
+second-room before (closes u s) xs e = absurd (let z : _≡_ {A = Bool} false true = e in let w : _≡_ {A = ℕ} 0 1 = cc in omega arith)
 
 -- So the higher of a pair has a number of the plan, and room.
-abbrev pub Roomed : Plan → List ℕ → Verdict → Type 0
+abbrev pub Roomed : Plan → List Closing → Verdict → Type 0
 Roomed p xs clear = Unit {0}
 Roomed p xs (clash k) = (k < size (p .body) + size (p .fault)) × (roomPlan p k xs ≡ true)
 
-clash-room : (p : Plan) (xs : List ℕ) (before l : List Ready) → Each (Does (doingAt p) 0 (size (p .body) + size (p .fault))) l → Roomed p xs (clashAfter before l)
+clash-room : (p : Plan) (xs : List Closing) (before l : List Ready) → Each (Does (doingAt p) 0 (size (p .body) + size (p .fault))) l → Roomed p xs (clashAfter before l)
 unfolding clashAfter
 clash-room p xs before [] each-none = tt
 clash-room p xs before (r ∷ l) (each-more x w) = go (isSecond before (r .step)) refl (clash-room p xs (r ∷ before) l w)

@@ -6,7 +6,8 @@ use Prim.Native.Nat.{ℕ, zero, suc, _+_, _<_}
 use native.Mathlib.Omega.{arith}
 use borrow.Author.Tests.{lt-ltb}
 use lib.Dec.{eqb, ltb}
-use Rattle.plan.specs.Tree.{Exp, constant, variable, binary, Own, empty, send, receive, set as setting, raise, leave, choose, repeat, sequence, flow, pick, scope, arm, kind, Act, act, Acts, none, more, Plan, size, sizes}
+use Rattle.plan.specs.Tree.{Exp, constant, variable, binary, Own, empty, send, receive, set as setting, raise, leave, choose, repeat, sequence, flow, pick, scope, arm, kind, isScope, isPick, Act, act, Acts, none, more, Plan, size, sizes}
+use Rattle.order.specs.declared.Closing.{Closing}
 use Rattle.order.specs.declared.Order.{Order}
 use Rattle.order.specs.declared.Way.{Way}
 use Rattle.order.specs.declared.Way.the-variants.{Running as running, Over as over, Raising as raising, Leaving as leaving, Undone as undone, UndoRaising as undoRaising}
@@ -16,7 +17,7 @@ use Rattle.order.specs.Event.{Event, faulted}
 use Rattle.order.specs.Expression.{Value, fault, value, evaluate, isTrue}
 use Rattle.order.specs.State.{idle, active, inside, done, faulty, undoing, handling, halted, withdrawing, Name, root, inner, withMarks, binding, closings, remembering, markAt, marked, markOf, marking, noOrder}
 use Rattle.order.specs.Begin.{Begun, begin, beginAfter, beginPart, partAt, cleared, quiet}
-use Rattle.order.specs.Scope.{Outcome, Scope, Stopped, runs, after, begunIn, scopeAt, rootOf, isScope, rememberedFor, forgetting, closing, innerRuns, whereOver, startUndo, undo, ends, handle, undoes, turns, isOpen, untouched, withdraws, stop, stopAll, stopFirst, faults, breaks, looksAgain, bodyOver, bodyRaised, undoOver, undoRaised, fromBody, partOver, partRaised, fromFault, fromUndo}
+use Rattle.order.specs.Scope.{Outcome, Scope, Stopped, runs, after, begunIn, scopeAt, rootOf, rememberedFor, forgetting, adds, closing, innerRuns, whereOver, startUndo, undo, ends, handle, undoes, turns, isOpen, untouched, withdraws, stop, stopAll, stopFirst, faults, breaks, looksAgain, bodyOver, bodyRaised, undoOver, undoRaised, fromBody, partOver, partRaised, fromFault, goesThrough, fromUndo}
 use Rattle.order.specs.Acting.{finishes, raises, orRaises, enters, again, repeats, allBound, itself, isPart, arms, goesOn, joins, inScope, combines, stepIn, stepAmong, stepRoot, endOf, Moved, movedTo, Actor, itsOwn, inPlace, replaces, performs, acted}
 use Rattle.order.specs.Awaited.{Doing, noStep, sends, takes, moves, cuts, closes, doingOf, Ready, readyOf}
 use Rattle.order.specs.Judging.{isSecond, Verdict, clear, clash, clashAfter, conflict, following, upon, judged, spare, settled, stepOrder}
@@ -104,7 +105,7 @@ module _ {xs bs : List ℕ} {b : Bool} {z : ℕ} where
   as-marks : {q : Order} (ms : List ℕ) → As xs bs b z q → As xs bs b z (withMarks ms q)
   as-marks ms f = record { values = f .values; bound = f .bound; root = f .root }
 
-  as-remembering : {q : Order} (l : List ℕ) → As xs bs b z q → As xs bs b z (remembering l q)
+  as-remembering : {q : Order} (l : List Closing) → As xs bs b z q → As xs bs b z (remembering l q)
   as-remembering l f = record { values = f .values; bound = f .bound; root = f .root }
 
   loose-marks : {q : Order} (ms : List ℕ) → Loose xs bs b z q → Loose xs bs b z (withMarks ms q)
@@ -356,7 +357,7 @@ setBy (repeat e) o = o
 setBy sequence o = o
 setBy flow o = o
 setBy pick o = o
-setBy scope o = o
+setBy (scope u) o = o
 setBy (arm p q vs) o = o
 
 -- an order with the variables and the root of another
@@ -391,7 +392,7 @@ set-alike (repeat e) o q f = f
 set-alike sequence o q f = f
 set-alike flow o q f = f
 set-alike pick o q f = f
-set-alike scope o q f = f
+set-alike (scope u) o q f = f
 set-alike (arm a b vs) o q f = f
 
 -- the step that an activity has by itself
@@ -412,29 +413,29 @@ alike-cond : (o : Order) (t : Bool) (x y : Outcome) → Alike o (x .order) → A
 alike-cond o true x y f g = f
 alike-cond o false x y f g = g
 
-alike-itself : (own : Own) (l : Acts) (k : ℕ) (o : Order) → Alike (setBy own o) (itself own l k o .order)
+alike-itself : (own : Own) (l : Acts) (c k : ℕ) (o : Order) → Alike (setBy own o) (itself own l c k o .order)
 unfolding itself setBy closing forgetting
-alike-itself empty l k o = alike o
-alike-itself (send p q vs) l k o = alike-cond o (allBound o vs) (finishes k o) (raises k o) (as-marks _ (alike o)) (as-marks _ (alike o))
-alike-itself (receive p q vs) l k o = as-marks _ (alike o)
-alike-itself (setting v e) l k o = go (evaluate e o)
+alike-itself empty l c k o = alike o
+alike-itself (send p q vs) l c k o = alike-cond o (allBound o vs) (finishes k o) (raises k o) (as-marks _ (alike o)) (as-marks _ (alike o))
+alike-itself (receive p q vs) l c k o = as-marks _ (alike o)
+alike-itself (setting v e) l c k o = go (evaluate e o)
   where
     go : (x : Value) → Alike (setTo v x o) (orRaises k o (λ n. finishes k (binding v n o)) x .order)
     go fault = as-marks _ (alike o)
     go (value n) = as-marks _ (alike (binding v n o))
-alike-itself raise l k o = as-marks _ (alike o)
-alike-itself leave l k o = as-marks _ (alike o)
-alike-itself (choose e) l k o =
+alike-itself raise l c k o = as-marks _ (alike o)
+alike-itself leave l c k o = as-marks _ (alike o)
+alike-itself (choose e) l c k o =
     alike-or o k (λ n. enters k o (beginPart (cond (isTrue n) 0 1) l (k + 1) (marked k inside o .marks))) (evaluate e o)
     (λ n. alike-enters o k (beginPart (cond (isTrue n) 0 1) l (k + 1) (marked k inside o .marks)))
-alike-itself (repeat e) l k o =
+alike-itself (repeat e) l c k o =
     alike-or o k (λ n. elim (isTrue n) [ true ↦ repeats k l o | false ↦ finishes k o ]) (evaluate e o)
     (λ n. as-pick (isTrue n) (repeats k l o) (finishes k o) (alike-repeats o k l) (as-marks _ (alike o)))
-alike-itself sequence l k o = alike o
-alike-itself flow l k o = alike o
-alike-itself pick l k o = alike o
-alike-itself scope l k o = as-marks _ (as-remembering (closings (forgetting (scopeAt k l) o) ++ (k ∷ [])) (alike o))
-alike-itself (arm p q vs) l k o = as-marks _ (alike o)
+alike-itself sequence l c k o = alike o
+alike-itself flow l c k o = alike o
+alike-itself pick l c k o = alike o
+alike-itself (scope u) l c k o = as-marks _ (as-remembering (closings (forgetting (scopeAt k l) o) ++ adds u c k (scopeAt k l) o) (alike o))
+alike-itself (arm p q vs) l c k o = as-marks _ (alike o)
 
 -- what stands around it
 module _ {xs bs : List ℕ} {z : ℕ} where
@@ -447,11 +448,12 @@ module _ {xs bs : List ℕ} {z : ℕ} where
   unfolding joins
   as-joins k l q f = as-pick (quiet (k + 1) (sizes l) (q .marks)) (finishes k q) (runs q) (as-marks _ f) f
 
-  as-in-scope : (k t : ℕ) (l : Acts) (r : Outcome) → As xs bs false z (r .order) → As xs bs false z (inScope k t l r .order)
+  as-in-scope : (undo : Bool) (k t : ℕ) (l : Acts) (r : Outcome) → As xs bs false z (r .order) → As xs bs false z (inScope undo k t l r .order)
   unfolding inScope fromUndo
-  as-in-scope k t l r f =
-      as-pick (ltb t (partAt 1 l (k + 1))) (fromBody (scopeAt k l) r) (elim (ltb t (partAt 2 l (k + 1))) [ true ↦ fromFault (scopeAt k l) r | false ↦ fromUndo r ])
-      (inside-as (out-from-body (scopeAt k l) r f))
+  as-in-scope undo k t l r f =
+      as-pick (ltb t (partAt 1 l (k + 1))) (elim (goesThrough undo k r) [ true ↦ r | false ↦ fromBody (scopeAt k l) r ])
+      (elim (ltb t (partAt 2 l (k + 1))) [ true ↦ fromFault (scopeAt k l) r | false ↦ fromUndo r ])
+      (as-pick (goesThrough undo k r) r (fromBody (scopeAt k l) r) f (inside-as (out-from-body (scopeAt k l) r f)))
       (as-pick (ltb t (partAt 2 l (k + 1))) (fromFault (scopeAt k l) r) (fromUndo r) (inside-as (out-from-fault (scopeAt k l) r f)) f)
 
   as-combines : (own : Own) (l : Acts) (k t : ℕ) (r : Outcome) → As xs bs false z (r .order) → As xs bs false z (combines own l k t r .order)
@@ -469,12 +471,12 @@ module _ {xs bs : List ℕ} {z : ℕ} where
       (λ q g. as-where (begunIn q (beginAfter l (k + 1) t (q .marks))) (finishes k) (as-marks (beginAfter l (k + 1) t (q .marks) .marks) g) (λ o h. as-marks _ h))
   as-combines flow l k t r f = as-goes k active (joins k l) r f (λ q g. as-joins k l q g)
   as-combines pick l k t r f = as-goes k inside (finishes k) r f (λ q g. as-marks _ g)
-  as-combines scope l k t r f = as-in-scope k t l r f
+  as-combines (scope u) l k t r f = as-in-scope u k t l r f
   as-combines (arm p q vs) l k t r f = f
 
 alike-arms : (own : Own) (l : Acts) (k t : ℕ) (o : Order) → Alike o (arms own l k t o)
 unfolding arms
-alike-arms own l k t o = go (eqb (kind own) 10 && isPart l (k + 1) t)
+alike-arms own l k t o = go (isPick own && isPart l (k + 1) t)
   where
     go : (b : Bool) → Alike o (cond b (marked k inside o) o)
     go true = as-marks _ (alike o)
@@ -502,43 +504,44 @@ replaced-set y (repeat e) o h = refl
 replaced-set y sequence o h = refl
 replaced-set y flow o h = refl
 replaced-set y pick o h = refl
-replaced-set y scope o h = refl
+replaced-set y (scope u) o h = refl
 replaced-set y (arm p q vs) o h = refl
 
 -- what acts, or the raise in its place
-alike-performs : (y : Actor) (own : Own) (l : Acts) (k : ℕ) (o : Order) → Alike (setBy own o) (performs y own l k o .order)
+alike-performs : (y : Actor) (own : Own) (l : Acts) (c k : ℕ) (o : Order) → Alike (setBy own o) (performs y own l c k o .order)
 unfolding performs
-alike-performs y own l k o = go (replaces y (kind own)) refl
+alike-performs y own l c k o = go (replaces y (kind own)) refl
   where
-    go : (b : Bool) → replaces y (kind own) ≡ b → AlikeOutcome (setBy own o) (elim b [ true ↦ raises k o | false ↦ itself own l k o ])
+    go : (b : Bool) → replaces y (kind own) ≡ b → AlikeOutcome (setBy own o) (elim b [ true ↦ raises k o | false ↦ itself own l c k o ])
     go true e = subst (λ (q : Order). Alike q (marked k idle o)) (sym (replaced-set y own o e)) (as-marks _ (alike o))
-    go false e = alike-itself own l k o
+    go false e = alike-itself own l c k o
 
 -- step t in an activity
 mutual
   unfolding stepIn actIn size setBy
 
-  alike-step : (y : Actor) (a : Act) (k t : ℕ) (o : Order) → Alike (setBy (ownOf (actIn a k t)) o) (stepIn y a k t o .order)
-  alike-step y (act own l) k t o =
-      go (eqb k t) (alike-performs y own l k o)
-      (as-combines own l k t (stepAmong y l (k + 1) t (arms own l k t o))
-      (as-alike (setBy (ownOf (actAmong l (k + 1) t)) o) (setBy (ownOf (actAmong l (k + 1) t)) (arms own l k t o)) (stepAmong y l (k + 1) t (arms own l k t o) .order)
-      (set-alike (ownOf (actAmong l (k + 1) t)) o (arms own l k t o) (alike-arms own l k t o)) (alike-among y l (k + 1) t (arms own l k t o))))
+  alike-step : (y : Actor) (a : Act) (c k t : ℕ) (o : Order) → Alike (setBy (ownOf (actIn a k t)) o) (stepIn y a c k t o .order)
+  alike-step y (act own l) c k t o =
+      go (eqb k t) (alike-performs y own l c k o)
+      (as-combines own l k t (stepAmong y l (isScope own) c (k + 1) t (arms own l k t o))
+      (as-alike (setBy (ownOf (actAmong l (k + 1) t)) o) (setBy (ownOf (actAmong l (k + 1) t)) (arms own l k t o)) (stepAmong y l (isScope own) c (k + 1) t (arms own l k t o) .order)
+      (set-alike (ownOf (actAmong l (k + 1) t)) o (arms own l k t o) (alike-arms own l k t o)) (alike-among y l (isScope own) c (k + 1) t (arms own l k t o))))
     where
-      go : (b : Bool) → Alike (setBy own o) (performs y own l k o .order)
-          → Alike (setBy (ownOf (actAmong l (k + 1) t)) o) (combines own l k t (stepAmong y l (k + 1) t (arms own l k t o)) .order)
+      go : (b : Bool) → Alike (setBy own o) (performs y own l c k o .order)
+          → Alike (setBy (ownOf (actAmong l (k + 1) t)) o) (combines own l k t (stepAmong y l (isScope own) c (k + 1) t (arms own l k t o)) .order)
           → AlikeOutcome (setBy (ownOf (elim b [ true ↦ act own l | false ↦ actAmong l (k + 1) t ])) o)
-          (elim b [ true ↦ performs y own l k o | false ↦ combines own l k t (stepAmong y l (k + 1) t (arms own l k t o)) ])
+          (elim b [ true ↦ performs y own l c k o | false ↦ combines own l k t (stepAmong y l (isScope own) c (k + 1) t (arms own l k t o)) ])
       go true u v = u
       go false u v = v
 
-  alike-among : (y : Actor) (l : Acts) (c t : ℕ) (o : Order) → Alike (setBy (ownOf (actAmong l c t)) o) (stepAmong y l c t o .order)
-  alike-among y none c t o = alike o
-  alike-among y (more a l) c t o = go (ltb t (c + size a)) (alike-step y a c t o) (alike-among y l (c + size a) t o)
+  alike-among : (y : Actor) (l : Acts) (w : Bool) (q c t : ℕ) (o : Order) → Alike (setBy (ownOf (actAmong l c t)) o) (stepAmong y l w q c t o .order)
+  alike-among y none w q c t o = alike o
+  alike-among y (more a l) w q c t o = go (ltb t (c + size a)) (alike-step y a (cond w c q) c t o) (alike-among y l w q (c + size a) t o)
     where
-      go : (b : Bool) → Alike (setBy (ownOf (actIn a c t)) o) (stepIn y a c t o .order) → Alike (setBy (ownOf (actAmong l (c + size a) t)) o) (stepAmong y l (c + size a) t o .order)
+      go : (b : Bool) → Alike (setBy (ownOf (actIn a c t)) o) (stepIn y a (cond w c q) c t o .order)
+          → Alike (setBy (ownOf (actAmong l (c + size a) t)) o) (stepAmong y l w q (c + size a) t o .order)
           → AlikeOutcome (setBy (ownOf (elim b [ true ↦ actIn a c t | false ↦ actAmong l (c + size a) t ])) o)
-          (elim b [ true ↦ stepIn y a c t o | false ↦ stepAmong y l (c + size a) t o ])
+          (elim b [ true ↦ stepIn y a (cond w c q) c t o | false ↦ stepAmong y l w q (c + size a) t o ])
       go true u v = u
       go false u v = v
 
@@ -601,7 +604,7 @@ set-live (repeat e) o = refl
 set-live sequence o = refl
 set-live flow o = refl
 set-live pick o = refl
-set-live scope o = refl
+set-live (scope u) o = refl
 set-live (arm p q vs) o = refl
 
 -- an order that is live, and one with its variables and its root
@@ -630,18 +633,18 @@ acted-goes y p t o h e =
           | false ↦ elim b [ true ↦ actIn (p .fault) (size (p .body)) t | false ↦ act empty none ]
         ])) o)
         (elim a [
-          | true ↦ fromBody (rootOf p) (stepIn y (p .body) 0 t o)
-          | false ↦ fromFault (rootOf p) (stepIn y (p .fault) (size (p .body)) t o)
+          | true ↦ fromBody (rootOf p) (stepIn y (p .body) 0 0 t o)
+          | false ↦ fromFault (rootOf p) (stepIn y (p .fault) (size (p .body)) (size (p .body)) t o)
         ])
     go true b q =
         let own = ownOf (actIn (p .body) 0 t) in
-        moved-goes (setBy own o) 0 (fromBody (rootOf p) (stepIn y (p .body) 0 t o))
-        (out-from-body (rootOf p) (stepIn y (p .body) 0 t o) (live-as (setBy own o) (stepIn y (p .body) 0 t o .order) (live own) (alike-step y (p .body) 0 t o)))
+        moved-goes (setBy own o) 0 (fromBody (rootOf p) (stepIn y (p .body) 0 0 t o))
+        (out-from-body (rootOf p) (stepIn y (p .body) 0 0 t o) (live-as (setBy own o) (stepIn y (p .body) 0 0 t o .order) (live own) (alike-step y (p .body) 0 0 t o)))
     go false true q =
         let own = ownOf (actIn (p .fault) (size (p .body)) t) in
-        moved-goes (setBy own o) 0 (fromFault (rootOf p) (stepIn y (p .fault) (size (p .body)) t o))
-        (out-from-fault (rootOf p) (stepIn y (p .fault) (size (p .body)) t o)
-        (live-as (setBy own o) (stepIn y (p .fault) (size (p .body)) t o .order) (live own) (alike-step y (p .fault) (size (p .body)) t o)))
+        moved-goes (setBy own o) 0 (fromFault (rootOf p) (stepIn y (p .fault) (size (p .body)) (size (p .body)) t o))
+        (out-from-fault (rootOf p) (stepIn y (p .fault) (size (p .body)) (size (p .body)) t o)
+        (live-as (setBy own o) (stepIn y (p .fault) (size (p .body)) (size (p .body)) t o .order) (live own) (alike-step y (p .fault) (size (p .body)) (size (p .body)) t o)))
     go false false q = absurd (false≢true q)
 
 -- An order that is judged: what raises then is a receive or an arm, which sets nothing.
@@ -651,7 +654,7 @@ isTaking (sends p o vs) = false
 isTaking (takes p o vs) = true
 isTaking moves = false
 isTaking cuts = false
-isTaking (closes x) = false
+isTaking (closes u x) = false
 
 second-takes : (before : List Ready) (d : Doing) → isSecond before d ≡ true → isTaking d ≡ true
 unfolding isSecond isTaking
@@ -660,7 +663,7 @@ second-takes before (sends p o vs) e = e
 second-takes before (takes p o vs) e = refl
 second-takes before moves e = e
 second-takes before cuts e = e
-second-takes before (closes x) e = e
+second-takes before (closes u x) e = e
 
 abbrev Takes : Plan → Verdict → Type 0
 Takes p clear = Unit {0}
@@ -692,7 +695,7 @@ taking-sets (act (repeat e) l) k o h = refl
 taking-sets (act sequence l) k o h = refl
 taking-sets (act flow l) k o h = refl
 taking-sets (act pick l) k o h = refl
-taking-sets (act scope l) k o h = refl
+taking-sets (act (scope u) l) k o h = refl
 taking-sets (act (arm p q vs) l) k o h = refl
 
 goes-on : (e : End) (o q r : Order) → Goes None o q → Goes e q r → Goes e o r

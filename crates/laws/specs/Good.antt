@@ -23,7 +23,7 @@ Allowed (sends partner operation vs) wait o j = sendHeld wait o vs ≡ false
 Allowed (takes partner operation vs) wait o j = j < wait
 Allowed moves wait o j = Unit
 Allowed cuts wait o j = Unit
-Allowed (closes s) wait o j = closeHeld o s ≡ false
+Allowed (closes undo s) wait o j = closeHeld o undo s ≡ false
 
 -- what is known of the message of a step on offer, where these are the live orders: it fits the receive that takes it; an order that stands
 -- takes it with the fewest unchecked places of all open receives that it fits; and it starts an order only where it fits none
@@ -35,7 +35,7 @@ Heeds (takes partner operation vs) p live starts o m =
     × (cond starts (empties (fittings p live m)) (every (leb (unchecked p o vs)) (fittings p live m)) ≡ true)
 Heeds moves p live starts o m = Unit
 Heeds cuts p live starts o m = Unit
-Heeds (closes s) p live starts o m = Unit
+Heeds (closes undo s) p live starts o m = Unit
 
 -- activity k of the plan has such a step
 pub record Good (p : Plan) (wait : ℕ) (o : Order) (k j : ℕ) : Type 0 where

@@ -108,7 +108,7 @@ lettersAfter (sends partner operation vs) j o l =
 lettersAfter (takes partner operation vs) j o l = take j l ++ drop (j + 1) l
 lettersAfter moves j o l = l
 lettersAfter cuts j o l = l
-lettersAfter (closes x) j o l = l
+lettersAfter (closes undo x) j o l = l
 
 unfoldable pub LettersMove : Type 0
 LettersMove =

@@ -10,7 +10,7 @@ use Rattle.machine.specs.declared.Message.{Message}
 use Rattle.order.specs.declared.Order.{Order}
 use Rattle.machine.specs.declared.State.{State}
 use Rattle.order.specs.Lists.{stored}
-use Rattle.order.specs.State.{noOrder}
+use Rattle.order.specs.State.{closingOf, noOrder}
 use Rattle.machine.specs.State.{noMessage, fresh}
 use Rattle.machine.specs.Calls.{trimmed}
 
@@ -55,7 +55,7 @@ copied-whole {n} {l} {out} {i} a h = a .is ∙ ap (stored n) (take-all i l h)
 
 -- `no_order`, `no_message`
 pub no-order-is : _≡_ {A = Order}
-    (record { root = 0; marks = replicate 256 0; values = replicate 16 0; bound = replicate 16 0; remembered = replicate 32 0; kept = 0 }) noOrder
+    (record { root = 0; marks = replicate 256 0; values = replicate 16 0; bound = replicate 16 0; remembered = replicate 32 (closingOf 0 0); kept = 0 }) noOrder
 unfolding noOrder
 no-order-is = refl
 

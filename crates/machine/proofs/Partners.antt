@@ -108,9 +108,10 @@ module _ (q : ℕ) (small : q < 64) where
     own-flag sequence = row-flag _ n t (omega arith) h
     own-flag flow = row-flag _ n t (omega arith) h
     own-flag pick = row-flag _ n t (omega arith) h
-    own-flag scope = row-flag _ n t (omega arith) h
+    own-flag (scope true) = row-flag _ n t (omega arith) h
+    own-flag (scope false) = row-flag _ n t (omega arith) h
     own-flag (arm p o vs) =
-        let a = row-flag (row 12 p o vs 0 0 at) n t (omega arith) h in
+        let a = row-flag (row 255 p o vs 0 0 at) n t (omega arith) h in
         flag-then a (partner-flag p _ (a .long ∙ long))
 
   mutual

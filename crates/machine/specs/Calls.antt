@@ -62,7 +62,7 @@ partnerOf (sends partner operation vs) = []
 partnerOf (takes partner operation vs) = partner ∷ []
 partnerOf moves = []
 partnerOf cuts = []
-partnerOf (closes s) = []
+partnerOf (closes undo s) = []
 
 unfoldable mutual
   pub partnersIn : Act → List ℕ
@@ -190,7 +190,7 @@ messagesAfter (sends partner operation vs) j o s =
 messagesAfter (takes partner operation vs) j o s = removing j s
 messagesAfter moves j o s = s
 messagesAfter cuts j o s = s
-messagesAfter (closes x) j o s = s
+messagesAfter (closes undo x) j o s = s
 
 unfoldable pub orderTaking : Doing → Message → Order → Order
 orderTaking noStep m o = o
@@ -198,7 +198,7 @@ orderTaking (sends partner operation vs) m o = o
 orderTaking (takes partner operation vs) m o = bindAll vs (m .values) o
 orderTaking moves m o = o
 orderTaking cuts m o = o
-orderTaking (closes x) m o = o
+orderTaking (closes undo x) m o = o
 
 -- an order has the step x: what its slot, the messages and the tally are then; `l` is what happened before
 unfoldable pub stepped : Plan → Offer → State → Tally → Order → List Event → Stepped

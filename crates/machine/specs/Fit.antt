@@ -55,7 +55,7 @@ fitting p o m (sends partner operation vs) = []
 fitting p o m (takes partner operation vs) = cond (fits p o partner operation vs m) (unchecked p o vs ∷ []) []
 fitting p o m moves = []
 fitting p o m cuts = []
-fitting p o m (closes s) = []
+fitting p o m (closes undo s) = []
 
 -- "all open receives in live orders that a message fits", each by its number of unchecked places
 unfoldable pub fittings : Plan → List Live → Message → List ℕ

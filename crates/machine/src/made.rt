@@ -1,6 +1,7 @@
 // What a state is made of: no order, no message, the bytes of a plan, and a fresh state.
 use super::Message;
 use super::State;
+use order::Closing;
 use order::Order;
 ghost use Prim.Native.Nat.{_≤_};
 ghost use lib.ListN.{length};
@@ -13,12 +14,14 @@ ghost use Rattle.machine.specs.State.{noMessage, fresh};
 pub fn no_order() -> Order
     ensures { λ r. ⌜ r ≡ noOrder ⌝ }
 {
+    let closing = Closing { scope: 0, part: 0 };
+    let remembered = [closing; 32];
     Order {
         root: 0,
         marks: [0u8; 256],
         values: [0u32; 16],
         bound: [0u8; 16],
-        remembered: [0u8; 32],
+        remembered,
         kept: 0,
     }
 }

@@ -17,7 +17,7 @@ use Rattle.numbers.specs.Shortest.{shortest}
 use Rattle.numbers.proofs.Laws.{shortest-is-read, shortest-long}
 use Rattle.plan.specs.Found.{Found, refused, found, andThen, foundNumber, numberIn, fieldIn, among}
 use Rattle.plan.specs.Spell.{spell}
-use Rattle.plan.specs.Tree.{Exp, Own, send, receive, set, choose, repeat, sequence, flow, pick, arm, kind, Act, Plan, size}
+use Rattle.plan.specs.Tree.{Exp, Own, send, receive, set, choose, repeat, sequence, flow, pick, arm, isPick, Act, Plan, size}
 use Rattle.plan.specs.Read.{expressionCodeIn, operationOf, leafIn, expressionIn, variablesIn, tupleIn, Head, head, exchangeIn, armIn, partnerIn, withExpressionIn, setIn, listIn, codeIn, partsIn, headIn, manyIn, wholeIn, readArm, readsIn, laterOf, readAct, startForm, correlationIn, versionIn, closing, rootIn, readAny}
 use Rattle.mend.specs.Padded.{groupsAt, paddedAt, numbersFrom, numbersOf, shortened, placeFrom, placeOf, lastPlace, noNumber, original, readPadded}
 use Rattle.mend.proofs.PaddedLaws.{next-below, padded-bounds, padded-end}
@@ -245,8 +245,8 @@ module _ (o : List ℕ) where
   unfolding codeIn
   code handler depth n r =
       goes-then (number r) (λ c next p m.
-      goes-cond (ltb 11 c) (kept refl refl r)
-      (goes-cond (handler && eqb c 11) (kept refl refl r)
+      goes-cond (ltb 12 c) (kept refl refl r)
+      (goes-cond (handler && (eqb c 11 || eqb c 12)) (kept refl refl r)
       (goes-cond (eqb depth 0 || leb 256 n) (kept refl refl r) (same m))))
 
   parts : (vars : ℕ) (cs : List ℕ) (c : ℕ) {at q : ℕ} → Stands o at q → Goes o (partsIn vars cs o c at) (partsIn vars cs (shortened o) c q)
@@ -263,7 +263,8 @@ module _ (o : List ℕ) where
       (goes-cond (eqb c 8) (list sequence 33 r)
       (goes-cond (eqb c 9) (list flow 33 r)
       (goes-cond (eqb c 10) (list pick 9 r)
-      (same r)))))))))))
+      (goes-cond (eqb c 11) (same r)
+      (same r))))))))))))
 
   in-head : (vars : ℕ) (cs : List ℕ) (handler : Bool) (depth n : ℕ) {at q : ℕ} → Stands o at q
       → Goes o (headIn vars cs o handler depth n at) (headIn vars cs (shortened o) handler depth n q)
@@ -300,7 +301,7 @@ module _ (o : List ℕ) where
   activity zero vars cs handler n at q r = goes-then (in-head vars cs handler 0 n r) (λ h next p m. kept refl refl r)
   activity (suc depth) vars cs handler n at q r =
       goes-then (in-head vars cs handler (suc depth) n r) (λ h next p m.
-      whole (reads (activity depth vars cs) vars (eqb (kind (h .own)) 10)) handler (laterOf (h .own) handler) n h m)
+      whole (reads (activity depth vars cs) vars (isPick (h .own))) handler (laterOf (h .own) handler) n h m)
 
   correlation : (vars left least : ℕ) (read : List ℕ) {at q : ℕ} → Stands o at q
       → Goes o (correlationIn vars o left least read at) (correlationIn vars (shortened o) left least read q)

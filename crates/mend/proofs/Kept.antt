@@ -142,7 +142,7 @@ own-within (repeat e) within at m = no-one m
 own-within sequence within at m = no-one m
 own-within flow within at m = no-one m
 own-within pick within at m = no-one m
-own-within scope within at m = no-one m
+own-within (scope undo) within at m = no-one m
 own-within (arm p o vs) within at m =
     only-one (λ x. Within (p ∷ o ∷ length vs ∷ vs) at (x .place)) _ (record { before = p ∷ o ∷ []; after = length vs ∷ vs; is = refl; place = refl }) m
 

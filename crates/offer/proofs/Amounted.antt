@@ -58,7 +58,7 @@ step-short p wait l i o k (takes a b vs) h =
     omega (arith, e, length-map (only (mayTake p o a b vs) l) (λ x. offering i k (x .place)))
 step-short p wait l i o k moves h = omega arith
 step-short p wait l i o k cuts h = omega arith
-step-short p wait l i o k (closes s) h = let e = unless-short (closeHeld o s) (offering i k 0 ∷ []) in omega (arith, e)
+step-short p wait l i o k (closes u s) h = let e = unless-short (closeHeld o u s) (offering i k 0 ∷ []) in omega (arith, e)
 
 eager-short : (l : List Ready) → length (eager l) ≤ length l
 unfolding eager
@@ -121,7 +121,7 @@ module _ (p : Plan) (y : planWithin p ≡ true) where
   one-step o x k (takes a b vs) = one-test (fits p o a b vs (x .message)) k
   one-step o x k moves = omega arith
   one-step o x k cuts = omega arith
-  one-step o x k (closes s) = omega arith
+  one-step o x k (closes u s) = omega arith
 
   one-short : (o : Order) (x : Letter) (r : Ready) → length (startOf p o x r) ≤ 1
   one-short o x r = one-step o x (r .activity) (r .step)

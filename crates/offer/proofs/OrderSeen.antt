@@ -13,7 +13,7 @@ use Rattle.sight.specs.declared.Sight.{Sight}
 use Rattle.fit.specs.Folds.{folded}
 use Rattle.fit.specs.Answering.{KnowsOrder}
 use Rattle.fit.specs.Lines.{linesOf, Wholes}
-use Rattle.sight.specs.Sights.{pointed, seen, Marked, Opening, cutLine, doingLine, offerLine}
+use Rattle.sight.specs.Sights.{pointed, seen, Marked, Remembers, Opening, cutLine, doingLine, offerLine}
 use Rattle.fit.specs.Receiving.{Slots}
 use Rattle.offer.specs.Seeing.{Informed, offerLive}
 use Rattle.fit.proofs.Lines.{fold-append, fold-only, fold-ready}
@@ -72,22 +72,21 @@ order-lines wait i o p l s =
     ∙ fold-ready (λ r c. cond (not (some isCut (readyOf p o)) || isCut r) (seen (stepOffers p wait l i o (r .activity) (r .step)) c) c) p o s))
 
 -- `offer_slot`
-pub offer-live : {t picks flags known : List ℕ} {n : ℕ} (i : ℕ) {o : Order} {letters : List ℕ} {wait : ℕ} {least : List ℕ} {s r : Sight} {cutting : Bool} → (o .root ≡ 0 → ⊥)
-    → KnowsOrder flags o known → Wholes t n (Marked (o .marks)) cutLine false cutting
-    → Wholes t n (Opening t picks (o .marks) known (o .bound) (o .remembered) (o .kept) letters wait least) (offerLine cutting wait i) s r
+pub offer-live : {t picks flags known parts : List ℕ} {n : ℕ} (i : ℕ) {o : Order} {letters : List ℕ} {wait : ℕ} {least : List ℕ} {s r : Sight} {cutting : Bool} → (o .root ≡ 0 → ⊥)
+    → KnowsOrder flags o known → Remembers o parts → Wholes t n (Marked (o .marks)) cutLine false cutting
+    → Wholes t n (Opening t picks (o .marks) known (o .bound) parts (o .kept) letters wait least) (offerLine cutting wait i) s r
     → Slots t n (Informed t picks flags letters wait least) (offerLive wait) i o s r
-offer-live i {o} {wait = wait} {s = s} {cutting = cutting} h k v w = record {
+offer-live i {o} {wait = wait} {s = s} {cutting = cutting} h k m v w = record {
   is = λ p l g y.
       let e : cutting ≡ some isCut (readyOf p o) = v .is o p l (record { same = refl }) y ∙ cut-some o p l in
-      let f : Opening _ _ (o .marks) _ (o .bound) (o .remembered) (o .kept) _ wait _ o p l = record {
+      let f : Opening _ _ (o .marks) _ (o .bound) _ (o .kept) _ wait _ o p l = record {
         picked = g .picked;
         marked = refl;
         serving = record {
           heeding = record { knows = k .is p (g .correlated); told = g .told };
           bindings = refl;
           sixteen = k .bindings;
-          memory = refl;
-          places = k .memory;
+          memory = m;
           many = refl;
         };
       } in

@@ -7,6 +7,7 @@ use order::Order;
 use sight::Sight;
 use sight::counting::shown;
 use sight::counting::withheld;
+use sight::memory::parts_of;
 use sight::rows::cut_rows;
 use sight::rows::offer_rows;
 ghost use Prim.Native.Nat.{_≤_, _<_};
@@ -36,7 +37,7 @@ pub(crate) fn offer_slot(
     }
     let marks = order.marks;
     let bound = order.bound;
-    let remembered = order.remembered;
+    let parts = parts_of(order);
     let known = known_of(flags, order);
     let cutting = cut_rows(table, &marks, activities);
     offer_rows(
@@ -45,7 +46,7 @@ pub(crate) fn offer_slot(
         &marks,
         &known,
         &bound,
-        &remembered,
+        &parts,
         order.kept,
         slot,
         activities,

@@ -7,9 +7,11 @@ use mir.Val.{Val}
 use denote.Array.{Array, each}
 use denote.Laws.{Is}
 use denote.Shadow.{shadow}
-use denote.Struct.Declared.{row}
+use denote.Struct.Declared.{row, field}
 use denote.Struct.Field.{Field, u8-field, u32-field}
+use Rattle.order.specs.declared.Closing.{Closing}
 use Rattle.order.specs.declared.Order.{Order}
+use Rattle.order.proofs.Closing as closing
 use Rattle.order.proofs.Order as order
 
 -- what holds of each
@@ -57,6 +59,6 @@ order-whole o vs p =
       values = v .0;
       values-long = v .1;
       bound-long = bytes-of 16 (o .bound) _ (a .1 .1 .0);
-      remembered-long = bytes-of 32 (o .remembered) _ (a .1 .1 .1 .0);
+      remembered-long = array-of (field closing.the-type) (λ c. Unit) (λ c us s. tt) 32 (o .remembered) _ (a .1 .1 .1 .0) .1;
       kept = a .1 .1 .1 .1 .0 .1;
     }

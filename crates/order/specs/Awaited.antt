@@ -4,20 +4,20 @@ use mathlib.Core.Bool.{Bool, true, false, cond, _&&_}
 use mathlib.Core.List.{List, [], _∷_, _++_}
 use lib.ListN.{getD}
 use lib.Dec.{ltb, eqb}
-use Rattle.plan.specs.Tree.{Exp, Own, empty, send, receive, set as setting, raise, leave, choose, repeat, sequence, flow, pick, scope, arm, kind, Act, act, Acts, none, more, Plan, size}
+use Rattle.plan.specs.Tree.{Exp, Own, empty, send, receive, set as setting, raise, leave, choose, repeat, sequence, flow, pick, scope, arm, kind, isScope, isPick, isArm, Act, act, Acts, none, more, Plan, size}
 use Rattle.order.specs.declared.Order.{Order}
 use Rattle.order.specs.State.{active, done}
-use Rattle.order.specs.Scope.{Scope, scopeAt, isScope}
+use Rattle.order.specs.Scope.{Scope, scopeAt}
 
 -- "Steps. Send, take, set, decide (choose or repeat), raise, leave, close": the step that activity k is there for. To move is to set or to
--- decide, to cut off is to raise or to leave.
+-- decide, to cut off is to raise or to leave; a close says whether the scope has an undo part of its own.
 pub data Doing : Type 0 where
   noStep : Doing
   sends : (partner operation : ℕ) → (variables : List ℕ) → Doing
   takes : (partner operation : ℕ) → (variables : List ℕ) → Doing
   moves : Doing
   cuts : Doing
-  closes : Scope → Doing
+  closes : (undo : Bool) → Scope → Doing
 
 unfoldable pub doingOf : Own → (within : Acts) → (k : ℕ) → Doing
 doingOf empty within k = noStep
@@ -31,12 +31,12 @@ doingOf (repeat e) within k = moves
 doingOf sequence within k = noStep
 doingOf flow within k = noStep
 doingOf pick within k = noStep
-doingOf scope within k = closes (scopeAt k within)
+doingOf (scope undo) within k = closes undo (scopeAt k within)
 doingOf (arm p o vs) within k = takes p o vs
 
 -- whether it awaits that step: an arm where its pick is active, a scope where its body is done, all else where it is active
 unfoldable pub awaits : Own → (armsOpen : Bool) → (mark : ℕ) → Bool
-awaits own armsOpen m = cond (eqb (kind own) 12) armsOpen (cond (isScope own) (eqb m done) (eqb m active))
+awaits own armsOpen m = cond (isArm own) armsOpen (cond (isScope own) (eqb m done) (eqb m active))
 
 -- an activity or arm with the step that it awaits
 pub record Ready : Type 0 where
@@ -47,7 +47,7 @@ pub record Ready : Type 0 where
 unfoldable mutual
   pub readyIn : Act → (k : ℕ) → (armsOpen : Bool) → List ℕ → List Ready
   readyIn (act own within) k armsOpen ms =
-      let l = readyAmong within (k + 1) (eqb (kind own) 10 && eqb (getD ms k 0) active) ms in
+      let l = readyAmong within (k + 1) (isPick own && eqb (getD ms k 0) active) ms in
       elim (awaits own armsOpen (getD ms k 0)) [ true ↦ record { activity = k; step = doingOf own within k } ∷ l | false ↦ l ]
 
   pub readyAmong : Acts → (c : ℕ) → (armsOpen : Bool) → List ℕ → List Ready

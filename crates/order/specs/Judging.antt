@@ -21,7 +21,7 @@ isThing p q vs (sends p′ q′ ws) = false
 isThing p q vs (takes p′ q′ ws) = eqb p p′ && (eqb q q′ && alike vs ws)
 isThing p q vs moves = false
 isThing p q vs cuts = false
-isThing p q vs (closes s) = false
+isThing p q vs (closes undo s) = false
 
 -- whether this is a receive or an arm, and one of these is for the same thing
 unfoldable pub isSecond : (before : List Ready) → Doing → Bool
@@ -30,7 +30,7 @@ isSecond before (sends p q vs) = false
 isSecond before (takes p q vs) = some (λ r. isThing p q vs (r .step)) before
 isSecond before moves = false
 isSecond before cuts = false
-isSecond before (closes s) = false
+isSecond before (closes undo s) = false
 
 -- What is open, judged: no two are for one thing; or "of several pairs the one whose higher number is least", by that number.
 pub data Verdict : Type 0 where

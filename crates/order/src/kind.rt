@@ -1,4 +1,7 @@
 // The kinds of activities, by document 01's codes; an arm of a pick has a kind of its own.
+ghost use mathlib.Core.Path.{_≡_};
+ghost use Rattle.order.specs.Answering.{scopeKind};
+
 pub const EMPTY: u32 = 0;
 
 pub const SEND: u32 = 1;
@@ -23,4 +26,17 @@ pub const PICK: u32 = 10;
 
 pub const SCOPE: u32 = 11;
 
-pub const ARM: u32 = 12;
+// A scope with no undo part of its own.
+pub const OPEN_SCOPE: u32 = 12;
+
+pub const ARM: u32 = 255;
+
+// Whether this is the kind of a scope, with an undo part or with none.
+pub fn is_scope(kind: u32) -> bool
+    ensures { λ r. ⌜ r ≡ scopeKind kind ⌝ }
+{
+    if kind == SCOPE {
+        return true;
+    }
+    kind == OPEN_SCOPE
+}

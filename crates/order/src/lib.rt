@@ -9,14 +9,21 @@ pub mod rows;
 
 // An order. Where `root` is 0 the slot is free; else `root` is the mark of the root, which counts as a scope and has no number.
 // `marks` has the mark of each activity by its number. `bound` is 1 where the variable of that number is bound and 0 where it is not.
-// The first `kept` places of `remembered` are the numbers of scopes that closed, oldest first, and the places beyond hold 0.
+// The first `kept` places of `remembered` are the closings, oldest first, and the places beyond hold 0.
 pub struct Order {
     pub root: u8,
     pub marks: [u8; 256],
     pub values: [u32; 16],
     pub bound: [u8; 16],
-    pub remembered: [u8; 32],
+    pub remembered: [Closing; 32],
     pub kept: usize,
+}
+
+// A closing that is remembered: the number of the scope that closed, and the part that it is remembered for, by the number of that part's first
+// activity: 0 the root's body, k + 1 the body of scope k.
+pub struct Closing {
+    pub scope: u8,
+    pub part: u8,
 }
 
 // How an order ended with a step, if it did.

@@ -209,7 +209,7 @@ pub fn save(desk: Desk, file: &[u8], number: u64, out: &mut [u8; 4096]) -> Desk 
     if drawing::is_lost(used) {
         return before;
     }
-    let mut packed = [0u8; 11964];
+    let mut packed = [0u8; 12476];
     let state = desk.state;
     let tally = desk.tally;
     store::pack(state, tally, &mut packed);
@@ -319,7 +319,7 @@ fn read(
     out: &mut [u8; 4096],
 ) -> Desk {
     // one byte more than a state has, so that a longer file is known
-    let mut packed = [0u8; 11965];
+    let mut packed = [0u8; 12477];
     let n = io::read_full(fd, &mut packed);
     let e = unread(fd, n);
     libc::close(fd);

@@ -66,7 +66,7 @@ fn put_place(out: &mut [u8; 4096], used: usize, reason: usize) -> usize {
         19 => put(
             out,
             used,
-            b"a part is missing: the root and a choose have 2, a scope 3, a repeat and an arm 1",
+            b"a part is missing: the root and a choose have 2, a scope 2 or 3, a repeat and an arm 1",
         ),
         20 => put(out, used, b"the text has no activity"),
         _ => put(out, used, b"a tab stands in it, where blanks may"),

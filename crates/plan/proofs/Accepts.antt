@@ -16,7 +16,7 @@ use Rattle.numbers.proofs.Laws.{shortest-is-read}
 use Rattle.plan.specs.Found.{Found, found, andThen, numberIn, fieldIn, among}
 use Rattle.plan.specs.Read.{expressionCodeIn, operationOf, leafIn, expressionIn, variablesIn, tupleIn, Head, head, exchangeIn, armIn, partnerIn, withExpressionIn, setIn, listIn, codeIn, partsIn, headIn, manyIn, readArm, laterOf, readAct, startForm, correlationIn, versionIn, rootIn, readAny}
 use Rattle.plan.specs.Spell.{spell, operationCode, expressionNumbers, exchangeNumbers, ownNumbers, actNumbers, actsNumbers, planNumbers, spelling}
-use Rattle.plan.specs.Tree.{Operation, sum, difference, equal, less, Exp, constant, variable, binary, Own, empty, send, receive, set, raise, leave, choose, repeat, sequence, flow, pick, scope, arm, kind, Act, act, Acts, none, more, Plan, size, sizes, count}
+use Rattle.plan.specs.Tree.{Operation, sum, difference, equal, less, Exp, constant, variable, binary, Own, empty, send, receive, set, raise, leave, choose, repeat, sequence, flow, pick, scope, arm, kind, Act, act, Acts, none, more, Plan, size, sizes, count, isPick, isScope}
 use Rattle.plan.specs.Within.{expressionWithin, variablesWithin, exchangeWithin, from1, ownWithin, actWithin, actsWithin, ascending, planWithin}
 
 -- both of two tests hold
@@ -211,7 +211,7 @@ module _ {rest s : List ℕ} (vars : ℕ) (few : vars ≤ 16) where
       and-then _ (field l (omega arith) (omega arith) t) (λ p u. ends u))
 
   module _ (handler : Bool) {depth n : ℕ} (levels : 0 < depth) (room : n < 256) where
-    code : {code at : ℕ} {ns : List ℕ} → code ≤ 11 → (handler && eqb code 11) ≡ false → Left rest s at (code ∷ ns)
+    code : {code at : ℕ} {ns : List ℕ} → code ≤ 12 → (handler && (eqb code 11 || eqb code 12)) ≡ false → Left rest s at (code ∷ ns)
         → Gives rest s (codeIn s handler depth n at) code ns
     unfolding codeIn
     code h k t =
@@ -221,7 +221,7 @@ module _ {rest s : List ℕ} (vars : ℕ) (few : vars ≤ 16) where
     coded : (cs : List ℕ) {code at : ℕ} {h : Head} {ms ns : List ℕ} → code ≤ 10 → Left rest s at (code ∷ ms)
         → ((p : ℕ) → Left rest s p ms → Gives rest s (partsIn vars cs s code p) h ns) → Gives rest s (headIn vars cs s handler depth n at) h ns
     unfolding headIn
-    coded cs {code = c} k t parts = and-then _ (code (omega arith) (rw (ne-eqb c 11 (λ z. omega arith)) (and-false handler)) t) parts
+    coded cs {code = c} k t parts = and-then _ (code (omega arith) (rw (ne-eqb c 11 (λ z. omega arith), ne-eqb c 12 (λ z. omega arith)) (and-false handler)) t) parts
 
     -- an activity before those within it
     an-own : (cs : List ℕ) (own : Own) (within : ℕ) {at : ℕ} {ns : List ℕ} → ownWithin vars cs handler false own within ≡ true
@@ -246,17 +246,20 @@ module _ {rest s : List ℕ} (vars : ℕ) (few : vars ≤ 16) where
     an-own cs sequence within h t = coded cs (omega arith) t (λ p u. a-list sequence 32 within h (omega arith) u)
     an-own cs flow within h t = coded cs (omega arith) t (λ p u. a-list flow 32 within h (omega arith) u)
     an-own cs pick within h t = coded cs (omega arith) t (λ p u. a-list pick 8 within h (omega arith) u)
-    an-own cs scope within h t =
+    an-own cs (scope true) within h t =
         both (eqb within 3) _ h (λ z x. rw (eqb-true within 3 z)
+        (and-then _ (code (omega arith) (rw (not-true handler x)) t) (λ p u. ends u)))
+    an-own cs (scope false) within h t =
+        both (eqb within 2) _ h (λ z x. rw (eqb-true within 2 z)
         (and-then _ (code (omega arith) (rw (not-true handler x)) t) (λ p u. ends u)))
     an-own cs (arm partner operation l) within h t = absurd (false≢true h)
 
   -- an arm before the activity within it
   an-arm-own : (cs : List ℕ) (handler : Bool) (own : Own) (within : ℕ) {n at : ℕ} {ns : List ℕ} → n < 256 → ownWithin vars cs handler true own within ≡ true
-      → Left rest s at (ownNumbers own within ++ ns) → (kind own ≡ 12) × Gives rest s (armIn vars s n at) (head own within) ns
+      → Left rest s at (ownNumbers own within ++ ns) → ((isScope own ≡ false) × (isPick own ≡ false)) × Gives rest s (armIn vars s n at) (head own within) ns
   unfolding ownWithin ownNumbers exchangeNumbers kind
   an-arm-own cs handler (arm partner operation l) within room h t =
-      (refl, both (eqb within 1) _ h (λ z x. rw (eqb-true within 1 z) (an-arm (exchange-of vars true partner operation l x) room t)))
+      ((refl, refl), both (eqb within 1) _ h (λ z x. rw (eqb-true within 1 z) (an-arm (exchange-of vars true partner operation l x) room t)))
   an-arm-own cs handler empty within room h t = absurd (false≢true h)
   an-arm-own cs handler (send partner operation l) within room h t = absurd (false≢true h)
   an-arm-own cs handler (receive partner operation l) within room h t = absurd (false≢true h)
@@ -268,7 +271,7 @@ module _ {rest s : List ℕ} (vars : ℕ) (few : vars ≤ 16) where
   an-arm-own cs handler sequence within room h t = absurd (false≢true h)
   an-arm-own cs handler flow within room h t = absurd (false≢true h)
   an-arm-own cs handler pick within room h t = absurd (false≢true h)
-  an-arm-own cs handler scope within room h t = absurd (false≢true h)
+  an-arm-own cs handler (scope v) within room h t = absurd (false≢true h)
 
 -- Activities and arms with those within them.
 
@@ -291,12 +294,12 @@ module _ (rest s : List ℕ) (vars : ℕ) (few : vars ≤ 16) (cs : List ℕ) wh
   act-accepted own l all true handler depth n at ns room h t =
       both (ownWithin vars cs handler true own (count l)) _ h (λ x y.
       let (k, o) = an-arm-own vars few cs handler own (count l) (omega arith) x (rw append-assoc at t) in
-      and-then _ o (λ p u. and-then _ (all false handler handler depth (n + 1) p ns (omega arith) (rw k at y) u) (λ q w. ends w)))
+      and-then _ o (λ p u. and-then _ (all false handler handler depth (n + 1) p ns (omega arith) (rw (k .0, k .1) at y) u) (λ q w. ends w)))
   act-accepted own l all false handler zero n at ns room h t = absurd (false≢true h)
   act-accepted own l all false handler (suc d) n at ns room h t =
       both (ltb 0 (suc d)) _ h (λ _ h1. both (ownWithin vars cs handler false own (count l)) _ h1 (λ x y.
       and-then _ (an-own vars few handler (omega arith) (omega arith) cs own (count l) x (rw append-assoc at t)) (λ p u.
-      and-then _ (all (eqb (kind own) 10) handler (laterOf own handler) d (n + 1) p ns (omega arith) (rw (sub-one (suc d)) at y) u) (λ q w. ends w))))
+      and-then _ (all (isPick own) handler (laterOf own handler) d (n + 1) p ns (omega arith) (rw (sub-one (suc d)) at y) u) (λ q w. ends w))))
 
   more-accepted : (a : Act) (l : Acts) → Accepted a → AllAccepted l → AllAccepted (more a l)
   unfolding Accepted AllAccepted actsWithin actsNumbers sizes count manyIn

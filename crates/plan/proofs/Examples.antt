@@ -29,7 +29,11 @@ ask = alone (receive 3 5 (0 ∷ 1 ∷ []))
 
 -- the scope of plan C: empty but for its undo part
 abbrev undone : Act → Act
-undone a = act scope (more (alone empty) (more (alone empty) (more a none)))
+undone a = act (scope true) (more (alone empty) (more (alone empty) (more a none)))
+
+-- a scope with no undo part: its body and its fault part
+abbrev handing : Act → Act → Act
+handing a b = act (scope false) (more a (more b none))
 
 abbrev nested : ℕ → Act → Act
 nested zero a = a
@@ -59,7 +63,8 @@ abbrev flagged : List Plan → List Bool
 flagged [] = []
 flagged (p ∷ l) = planWithin p ∷ flagged l
 
--- plan A; plan C's form; 16 deep; an expression 8 deep; an arm whose activity is 16 deep; 256 activities
+-- plan A; plan C's form; 16 deep; an expression 8 deep; an arm whose activity is 16 deep; 256 activities; a scope
+-- with no undo part around one that has it; a body that is one
 abbrev allowed : List Plan
 allowed =
     of ask
@@ -68,10 +73,13 @@ allowed =
     ∷ of (act sequence (more ask (more (act (choose (deep 7)) (more (alone leave) (more (alone (set 1 (deep 0))) none))) none)))
     ∷ of (nested 14 arms)
     ∷ broad 21
+    ∷ of (act sequence (more ask (more (handing (undone (alone empty)) (alone raise)) none)))
+    ∷ of (handing ask (alone empty))
     ∷ []
 
 -- a scope in an undo part; a scope in the fault part; a variable twice in a receive; 17 deep; an expression 9 deep; an arm's activity 17 deep;
--- a variable for correlation set; body no start form; an arm where an activity is due; an empty sequence; 257 activities
+-- a variable for correlation set; body no start form; an arm where an activity is due; an empty sequence; 257 activities; a scope
+-- with no undo part in the fault part of one; one with three parts; one whose body is no start form
 abbrev refused : List Plan
 refused =
     of (act sequence (more ask (more (undone (undone (alone empty))) none)))
@@ -85,9 +93,12 @@ refused =
     ∷ of (act sequence (more ask (more (one (arm 0 0 (0 ∷ [])) (alone empty)) none)))
     ∷ of (act sequence (more ask (more (alone sequence) none)))
     ∷ broad 22
+    ∷ of (handing ask (handing (alone empty) (alone empty)))
+    ∷ of (act (scope false) (more ask (more (alone empty) (more (alone empty) none))))
+    ∷ of (handing (alone empty) ask)
     ∷ []
 
-pub both-sides : (flagged allowed ≡ replicate 6 true) × (flagged refused ≡ replicate 11 false)
+pub both-sides : (flagged allowed ≡ replicate 8 true) × (flagged refused ≡ replicate 14 false)
 unfolding planWithin spelling planNumbers actNumbers actsNumbers ownNumbers exchangeNumbers spell shortest spelled count ascending actWithin actsWithin ownWithin exchangeWithin variablesWithin among size sizes startForm firstStarts everyStarts starts kind expressionNumbers operationCode expressionWithin
 both-sides = (refl, refl)
 
@@ -124,3 +135,25 @@ pub disagree : all (
     ≡ (21 ∷ 14 ∷ []) ∷ (0 ∷ 17 ∷ []) ∷ (0 ∷ 17 ∷ []) ∷ (21 ∷ 15 ∷ []) ∷ (0 ∷ 17 ∷ []) ∷ (9 ∷ 17 ∷ []) ∷ (7 ∷ 3 ∷ []) ∷ (9 ∷ 18 ∷ []) ∷ []
 unfolding lastGroup groups numberAt numberIn fieldIn among kind size count expressionCodeIn leafIn expressionIn variablesIn tupleIn exchangeIn armIn partnerIn withExpressionIn setIn listIn codeIn partsIn headIn manyIn readArm readAct starts startForm firstStarts everyStarts correlationIn versionIn rootIn readAny readPlan inBytes askedOwn spanOf spanAll askedIn askedAll asked agreesWith judged spelled shortest spell operationCode expressionNumbers exchangeNumbers ownNumbers
 disagree = refl
+
+-- Code 12: document 02, request 13.
+
+-- one variable; the body from this code on: a receive, then these bytes
+abbrev from : ℕ → List ℕ → List ℕ
+from code l = 1 ∷ 1 ∷ 0 ∷ code ∷ 2 ∷ 0 ∷ 0 ∷ 1 ∷ 0 ∷ l
+
+-- a body of code 12 has two parts, and then comes the root's fault part; three: 9, at the byte after the plan; code 11 has three; code 13: 4; code 12 in
+-- the fault part, in the undo part of one of code 11, in the root's fault part: 8; a body of code 12 that is no start form: 7
+pub coded : all (
+    from 12 (0 ∷ 0 ∷ [])
+    ∷ from 12 (0 ∷ 0 ∷ 0 ∷ [])
+    ∷ from 11 (0 ∷ 0 ∷ 0 ∷ [])
+    ∷ from 13 (0 ∷ 0 ∷ [])
+    ∷ from 12 (12 ∷ 0 ∷ 0 ∷ 0 ∷ [])
+    ∷ from 11 (0 ∷ 12 ∷ 0 ∷ 0 ∷ 0 ∷ [])
+    ∷ from 12 (0 ∷ 12 ∷ 0 ∷ 0 ∷ [])
+    ∷ (1 ∷ 1 ∷ 0 ∷ 12 ∷ 0 ∷ 0 ∷ 0 ∷ [])
+    ∷ [])
+    ≡ (0 ∷ 11 ∷ []) ∷ (9 ∷ 11 ∷ []) ∷ (0 ∷ 12 ∷ []) ∷ (4 ∷ 3 ∷ []) ∷ (8 ∷ 9 ∷ []) ∷ (8 ∷ 10 ∷ []) ∷ (8 ∷ 10 ∷ []) ∷ (7 ∷ 3 ∷ []) ∷ []
+unfolding lastGroup groups numberAt numberIn fieldIn among kind size count expressionCodeIn leafIn expressionIn variablesIn tupleIn exchangeIn armIn partnerIn withExpressionIn setIn listIn codeIn partsIn headIn manyIn readArm readAct starts startForm firstStarts everyStarts correlationIn versionIn rootIn readAny readPlan inBytes askedOwn spanOf spanAll askedIn askedAll asked agreesWith judged spelled shortest spell operationCode expressionNumbers exchangeNumbers ownNumbers
+coded = refl

@@ -95,7 +95,8 @@ row-is (repeat e) m at = refl
 row-is sequence m at = refl
 row-is flow m at = refl
 row-is pick m at = refl
-row-is scope m at = refl
+row-is (scope true) m at = refl
+row-is (scope false) m at = refl
 row-is (arm p o vs) m at = refl
 
 pub row-length : (own : Own) (m at : ℕ) → length (rowOf own m at) ≡ 11
@@ -136,7 +137,7 @@ module _ (n e m f : ℕ) (ordered : n ≤ e) (small : e ≤ 256) where
 
   pub noted-kept : (k p : ℕ) (t : List ℕ) → p < 64 → Kept n e m f t (noted k p t)
   unfolding noted
-  noted-kept k p t h = go (eqb k 2 || eqb k 12)
+  noted-kept k p t h = go (eqb k 2 || eqb k 255)
     where
       go : (b : Bool) → Kept n e m f t (cond b (store (1 ∷ []) (3328 + p) 0 t) t)
       go true = flags-kept (3328 + p + 0) (3328 + p + 0 + 1) (store-but (1 ∷ []) (3328 + p) 0 t) (omega arith) (omega arith)
@@ -183,7 +184,7 @@ module _ (n e m f : ℕ) (ordered : n ≤ e) (small : e ≤ 256) where
   putOwnNodes-kept sequence j t h g = kept-same n e m f t
   putOwnNodes-kept flow j t h g = kept-same n e m f t
   putOwnNodes-kept pick j t h g = kept-same n e m f t
-  putOwnNodes-kept scope j t h g = kept-same n e m f t
+  putOwnNodes-kept (scope undo) j t h g = kept-same n e m f t
   putOwnNodes-kept (arm p o vs) j t h g = kept-same n e m f t
 
   pub putOwn-kept : (own : Own) (at k j : ℕ) (t : List ℕ) → partnerOf own < 64 → n ≤ k → k < e → m ≤ j → j + ownNodes own ≤ f

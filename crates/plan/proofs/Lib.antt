@@ -3,6 +3,7 @@ pub mod Examples
 pub mod Accepts
 pub mod Agreeing
 pub mod Finds
+pub mod ByKind
 pub mod Stands
 pub mod Spelled
 pub mod Bounds

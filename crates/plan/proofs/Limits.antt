@@ -18,7 +18,7 @@ use Rattle.plan.specs.Agree.{agree}
 use Rattle.plan.specs.Found.{Found, found, foundNumber, numberIn, fieldIn, among}
 use Rattle.plan.specs.Read.{expressionCodeIn, leafIn, expressionIn, variablesIn, tupleIn, Head, head, exchangeIn, armIn, partnerIn, withExpressionIn, setIn, listIn, codeIn, partsIn, headIn, manyIn, readArm, laterOf, readAct, startForm, correlationIn, versionIn, rootIn, readAny, readPlan}
 use Rattle.plan.specs.Spell.{spelling}
-use Rattle.plan.specs.Tree.{Exp, Own, send, receive, set, choose, repeat, sequence, flow, pick, arm, kind, Act, Plan, size}
+use Rattle.plan.specs.Tree.{Exp, Own, send, receive, set, choose, repeat, sequence, flow, pick, arm, kind, Act, Plan, size, isPick, isScope}
 use Rattle.plan.specs.Within.{expressionWithin, variablesWithin, exchangeWithin, from1, ownWithin, actWithin, actsWithin, ascending, planWithin}
 use Rattle.plan.proofs.Accepts.{both, among-append, reader, spelled-is-read}
 use Rattle.plan.proofs.Agreeing.{accepted-any, accepted-agrees, spelled-is-accepted}
@@ -138,12 +138,12 @@ abbrev pub HeadWithin : (vars : ℕ) (cs : List ℕ) (handler arms : Bool) → H
 HeadWithin vars cs handler arms h = ownWithin vars cs handler arms (h .own) (h .within) ≡ true
 
 pub arm-within : (vars : ℕ) (cs s : List ℕ) (handler : Bool) (n at : ℕ)
-    → Finds (λ h next. (kind (h .own) ≡ 12) × HeadWithin vars cs handler true h) (armIn vars s n at)
+    → Finds (λ h next. ((isScope (h .own) ≡ false) × (isPick (h .own) ≡ false)) × HeadWithin vars cs handler true h) (armIn vars s n at)
 unfolding armIn ownWithin kind
 arm-within vars cs s handler n at =
     finds-then (field-within s 0 64 at)
     (λ partner p h. finds-cond (leb 256 n) (λ t. finds-refused)
-    (λ t. exchange-within vars s (λ g. (kind (g .own) ≡ 12) × HeadWithin vars cs handler true g) true partner (arm partner) 1 p (h .1) (λ operation l x. (refl, x))))
+    (λ t. exchange-within vars s (λ g. ((isScope (g .own) ≡ false) × (isPick (g .own) ≡ false)) × HeadWithin vars cs handler true g) true partner (arm partner) 1 p (h .1) (λ operation l x. ((refl, refl), x))))
 
 module _ (vars : ℕ) (cs s : List ℕ) (handler : Bool) where
   partner-within : (once : Bool) (own : ℕ → ℕ → List ℕ → Own) (at : ℕ)
@@ -161,7 +161,7 @@ module _ (vars : ℕ) (cs s : List ℕ) (handler : Bool) where
       (λ t. with-expression-within vars s (HeadWithin vars cs handler false) (set v) 0 p (λ e x. rw (lt-ltb v vars (h .1), t, x))))
 
   -- the table of codes
-  parts-within : (code at : ℕ) → code ≤ 11 → (handler && eqb code 11) ≡ false → Finds (λ h next. HeadWithin vars cs handler false h) (partsIn vars cs s code at)
+  parts-within : (code at : ℕ) → code ≤ 12 → (handler && (eqb code 11 || eqb code 12)) ≡ false → Finds (λ h next. HeadWithin vars cs handler false h) (partsIn vars cs s code at)
   unfolding partsIn ownWithin
   parts-within code at m k =
       finds-code code 0 (omega arith) (λ e. finds-found refl)
@@ -175,16 +175,17 @@ module _ (vars : ℕ) (cs s : List ℕ) (handler : Bool) where
       (λ l. finds-code code 8 l (λ e. list-within vars s (HeadWithin vars cs handler false) sequence 32 at (λ x h. h))
       (λ l. finds-code code 9 l (λ e. list-within vars s (HeadWithin vars cs handler false) flow 32 at (λ x h. h))
       (λ l. finds-code code 10 l (λ e. list-within vars s (HeadWithin vars cs handler false) pick 8 at (λ x h. h))
-      (λ l. let e : code ≡ 11 = omega arith in finds-found (rw (sym (and-true handler) ∙ rw e at k)))))))))))))
+      (λ l. finds-code code 11 l (λ e. finds-found (rw (sym (and-true handler) ∙ rw e at k)))
+      (λ l. let e : code ≡ 12 = omega arith in finds-found (rw (sym (and-true handler) ∙ rw e at k))))))))))))))
 
   pub head-within : (depth n at : ℕ) → Finds (λ h next. HeadWithin vars cs handler false h) (headIn vars cs s handler depth n at)
   unfolding headIn codeIn
   head-within depth n at =
       finds-then
-      (finds-then {Q = λ code next. (code ≤ 11) × ((handler && eqb code 11) ≡ false)} (finds-itself (numberIn s at))
-      (λ code next h. finds-cond (ltb 11 code) (λ t. finds-refused)
-      (λ t. finds-cond (handler && eqb code 11) (λ u. finds-refused)
-      (λ u. finds-cond (eqb depth 0 || leb 256 n) (λ w. finds-refused) (λ w. finds-found (ltb-false 11 code t, u))))))
+      (finds-then {Q = λ code next. (code ≤ 12) × ((handler && (eqb code 11 || eqb code 12)) ≡ false)} (finds-itself (numberIn s at))
+      (λ code next h. finds-cond (ltb 12 code) (λ t. finds-refused)
+      (λ t. finds-cond (handler && (eqb code 11 || eqb code 12)) (λ u. finds-refused)
+      (λ u. finds-cond (eqb depth 0 || leb 256 n) (λ w. finds-refused) (λ w. finds-found (ltb-false 12 code t, u))))))
       (λ code next h. parts-within code next (h .0) (h .1))
 
 -- Activities and arms with those within them.
@@ -208,7 +209,7 @@ module _ (vars : ℕ) (cs s : List ℕ) where
       finds-then (arm-within vars cs s handler n at)
       (λ h p w. finds-then
       (finds-both (many-count read handler handler (h .within) (n + 1) p) (many-within false depth read r handler handler (h .within) (n + 1) p))
-      (λ l q m. finds-found (rw (m .0, w .1, w .0, m .1))))
+      (λ l q m. finds-found (rw (m .0, w .1, w .0 .0, w .0 .1, m .1))))
 
   reads-within : (depth : ℕ) → Keeps vars cs false depth (readAct depth vars cs s) → (arms : Bool) → Keeps vars cs arms depth (reader vars cs s arms depth)
   reads-within depth r true = arm-act-within depth (readAct depth vars cs s) r
@@ -220,7 +221,7 @@ module _ (vars : ℕ) (cs s : List ℕ) where
   act-within (suc depth) handler n at =
       finds-then (head-within vars cs s handler (suc depth) n at)
       (λ h p w.
-      let arms = eqb (kind (h .own)) 10 in
+      let arms = isPick (h .own) in
       let later = laterOf (h .own) handler in
       let read = reader vars cs s arms depth in
       finds-then

@@ -39,11 +39,11 @@ module _ {r : Field} (s : List ℕ) (handler : Bool) (depth n at : ℕ) (e : r �
   activity-code-handed o = handed (numberIn s at) _ e o
 
   module _ {value next : ℕ} (o : r ≡ Got value next) where
-    pub code-unknown : 11 < value → Field.Refused 4 at ≡ fieldOf (codeIn s handler depth n at)
+    pub code-unknown : 12 < value → Field.Refused 4 at ≡ fieldOf (codeIn s handler depth n at)
     unfolding codeIn fieldOf
     code-unknown h = rw (field-got (numberIn s at) e o, lt-ltb _ _ h)
 
-    module _ (h : value ≤ 11) {x : Bool} (i : x ≡ (handler && eqb value 11)) where
+    module _ (h : value ≤ 12) {x : Bool} (i : x ≡ (handler && (eqb value 11 || eqb value 12))) where
       pub code-misplaced : x ≡ true → Field.Refused 8 at ≡ fieldOf (codeIn s handler depth n at)
       unfolding codeIn fieldOf
       code-misplaced t = rw (field-got (numberIn s at) e o, le-ltb _ _ h, sym i ∙ t)
@@ -59,7 +59,7 @@ module _ {r : Field} (s : List ℕ) (handler : Bool) (depth n at : ℕ) (e : r �
 
 -- what holds of a code that is read
 pub record Coded (depth n code : ℕ) : Type 0 where
-  pub known : code ≤ 11
+  pub known : code ≤ 12
   pub deep : depth ≡ 0 → ⊥
   pub numbered : n < 256
 
@@ -70,10 +70,10 @@ pub code-numbered : (s : List ℕ) (handler : Bool) (depth n at : ℕ) → Finds
 unfolding codeIn
 code-numbered s handler depth n at =
     finds-then (finds-itself (numberIn s at))
-    (λ code next h. finds-cond (ltb 11 code) (λ t. finds-refused)
-    (λ t. finds-cond (handler && eqb code 11) (λ u. finds-refused)
+    (λ code next h. finds-cond (ltb 12 code) (λ t. finds-refused)
+    (λ t. finds-cond (handler && (eqb code 11 || eqb code 12)) (λ u. finds-refused)
     (λ u. finds-cond (eqb depth 0 || leb 256 n) (λ w. finds-refused)
-    (λ w. finds-found (record { known = ltb-false 11 code t; deep = none-over depth n w .0; numbered = none-over depth n w .1 })))))
+    (λ w. finds-found (record { known = ltb-false 12 code t; deep = none-over depth n w .0; numbered = none-over depth n w .1 })))))
 
 -- what an activity says of itself comes to, where what is found is known
 module _ (g : Found Head) (at n m : ℕ) (t u : List ℕ) where
@@ -146,7 +146,7 @@ message-row : (g : Found Head) (at n m : ℕ) (t u : List ℕ) (p o : ℕ) (vs :
 unfolding messageOwn kind ownNodes putOwnNodes rowOf
 message-row g at n m t u p o vs sends e w = own-row g at n m t u (messageOwn 1 p o vs) e refl refl refl w
 message-row g at n m t u p o vs receives e w = own-row g at n m t u (messageOwn 2 p o vs) e refl refl refl w
-message-row g at n m t u p o vs isArm e w = own-row g at n m t u (messageOwn 12 p o vs) e refl refl refl w
+message-row g at n m t u p o vs isArm e w = own-row g at n m t u (messageOwn 255 p o vs) e refl refl refl w
 
 -- `expression_own`
 module _ (vars : ℕ) (s : List ℕ) (k v within at place n m : ℕ) (t : List ℕ) where
@@ -192,7 +192,7 @@ module _ (vars : ℕ) (s : List ℕ) (at n m : ℕ) (t u : List ℕ) {p : Field}
   arm-257 o h = own-refused _ at n m t u (rw (field-got (fieldIn s 0 64 at) e o, le-leb _ _ h))
 
   pub arm-partner : {r : code.Own} {partner next : ℕ} → p ≡ Got partner next → n < 256
-      → OwnRead (exchangeIn vars true s (messageOwn 12 partner) 1 next) at n m r t u → OwnRead (armIn vars s n at) at n m r t u
+      → OwnRead (exchangeIn vars true s (messageOwn 255 partner) 1 next) at n m r t u → OwnRead (armIn vars s n at) at n m r t u
   unfolding armIn messageOwn
   arm-partner o h a = rw (field-got (fieldIn s 0 64 at) e o, lt-leb _ _ h) a
 
@@ -313,13 +313,17 @@ module _ (vars : ℕ) (cs s : List ℕ) (k at place n m : ℕ) (t u : List ℕ) 
   unfolding partsIn kind ownNodes putOwnNodes rowOf
   parts-leave h i w = rw (h, i) (own-row _ place n m t u leave refl refl refl refl w)
 
-  pub parts-scope : (k ≡ 0 → ⊥) → 3 ≤ k → (k ≡ 3 → ⊥) → (k ≡ 4 → ⊥) → (k ≡ 5 → ⊥) → (k ≡ 6 → ⊥) → (k ≡ 7 → ⊥) → (k ≡ 8 → ⊥) → (k ≡ 9 → ⊥) → (k ≡ 10 → ⊥)
-      → r ≡ code.Own.Read 11 3 at m → u ≡ putRow n (row 11 0 0 [] 0 0 place) t → OwnRead (partsIn vars cs s k at) place n m r t u
+  pub parts-scope : k ≡ 11 → r ≡ code.Own.Read 11 3 at m → u ≡ putRow n (row 11 0 0 [] 0 0 place) t → OwnRead (partsIn vars cs s k at) place n m r t u
   unfolding partsIn kind ownNodes putOwnNodes rowOf
-  parts-scope n0 l n3 n4 n5 n6 n7 n8 n9 n10 i w =
+  parts-scope h i w = rw (h, i) (own-row _ place n m t u (scope true) refl refl refl refl w)
+
+  pub parts-open : (k ≡ 0 → ⊥) → 3 ≤ k → (k ≡ 3 → ⊥) → (k ≡ 4 → ⊥) → (k ≡ 5 → ⊥) → (k ≡ 6 → ⊥) → (k ≡ 7 → ⊥) → (k ≡ 8 → ⊥) → (k ≡ 9 → ⊥) → (k ≡ 10 → ⊥)
+      → (k ≡ 11 → ⊥) → r ≡ code.Own.Read 12 2 at m → u ≡ putRow n (row 12 0 0 [] 0 0 place) t → OwnRead (partsIn vars cs s k at) place n m r t u
+  unfolding partsIn kind ownNodes putOwnNodes rowOf
+  parts-open n0 l n3 n4 n5 n6 n7 n8 n9 n10 n11 i w =
       let n1 : k ≡ 1 → ⊥ = λ e. omega (arith, l, e) in
       let n2 : k ≡ 2 → ⊥ = λ e. omega (arith, l, e) in
-      rw i (simp (ne-eqb _ _ n0, ne-eqb _ _ n1, ne-eqb _ _ n2, ne-eqb _ _ n3, ne-eqb _ _ n4, ne-eqb _ _ n5, ne-eqb _ _ n6, ne-eqb _ _ n7, ne-eqb _ _ n8, ne-eqb _ _ n9, ne-eqb _ _ n10) (own-row _ place n m t u scope refl refl refl refl w))
+      rw i (simp (ne-eqb _ _ n0, ne-eqb _ _ n1, ne-eqb _ _ n2, ne-eqb _ _ n3, ne-eqb _ _ n4, ne-eqb _ _ n5, ne-eqb _ _ n6, ne-eqb _ _ n7, ne-eqb _ _ n8, ne-eqb _ _ n9, ne-eqb _ _ n10, ne-eqb _ _ n11) (own-row _ place n m t u (scope false) refl refl refl refl w))
 
   pub parts-message : (k ≡ 0 → ⊥) → k < 3 → OwnRead (partnerIn vars (eqb k 2) s (messageOwn k) at) place n m r t u
       → OwnRead (partsIn vars cs s k at) place n m r t u

@@ -50,7 +50,7 @@ AsksOwn (repeat e) = Unit
 AsksOwn sequence = Unit
 AsksOwn flow = Unit
 AsksOwn pick = Unit
-AsksOwn scope = Unit
+AsksOwn (scope undo) = Unit
 AsksOwn (arm p o vs) = Exchanged p o vs
 
 unfoldable mutual
@@ -80,7 +80,7 @@ own-asks vars cs handler arms (repeat e) w h = tt
 own-asks vars cs handler arms sequence w h = tt
 own-asks vars cs handler arms flow w h = tt
 own-asks vars cs handler arms pick w h = tt
-own-asks vars cs handler arms scope w h = tt
+own-asks vars cs handler arms (scope undo) w h = tt
 own-asks vars cs handler arms (arm p o vs) w h = both arms _ h (λ a k. both (eqb w 1) _ k (λ b l. exchanged vars true p o vs l))
 
 mutual
@@ -118,7 +118,7 @@ module _ (c : Places) where
   fit-own sequence at h x = hears.none
   fit-own flow at h x = hears.none
   fit-own pick at h x = hears.none
-  fit-own scope at h x = hears.none
+  fit-own (scope undo) at h x = hears.none
   fit-own (arm p o vs) at h x = fit-one p o (at + c .passed (p ∷ o ∷ [])) vs (omega arith) x
 
   mutual
@@ -173,7 +173,8 @@ row-asked (repeat f) at n m e s t x r = row-none t n (r .kind) refl
 row-asked sequence at n m e s t x r = row-none t n (r .kind) refl
 row-asked flow at n m e s t x r = row-none t n (r .kind) refl
 row-asked pick at n m e s t x r = row-none t n (r .kind) refl
-row-asked scope at n m e s t x r = row-none t n (r .kind) refl
+row-asked (scope true) at n m e s t x r = row-none t n (r .kind) refl
+row-asked (scope false) at n m e s t x r = row-none t n (r .kind) refl
 row-asked (arm p o vs) at n m e s t x r =
     rw (two-bytes p o (x .partner) (x .operation)) (row-some t n 2 (r .kind) refl (λ z. omega arith) (r .partner) (r .operation) (r .count) (r .place))
 

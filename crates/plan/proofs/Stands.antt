@@ -15,7 +15,7 @@ use Rattle.numbers.specs.declared.Number.{Number}
 use Rattle.numbers.specs.declared.Number.the-variants.{Value, Short, Bad}
 use Rattle.numbers.proofs.Laws.{read-ends, read-is-shortest, value-bounds, shortest-long}
 use Rattle.plan.specs.Found.{Found, foundNumber, numberIn, fieldIn, among}
-use Rattle.plan.specs.Tree.{Exp, constant, variable, binary, Own, empty, send, receive, set, raise, leave, choose, repeat, sequence, flow, pick, scope, arm, kind, Act, act, Plan, size, count}
+use Rattle.plan.specs.Tree.{Exp, constant, variable, binary, Own, empty, send, receive, set, raise, leave, choose, repeat, sequence, flow, pick, scope, arm, kind, Act, act, Plan, size, count, isPick}
 use Rattle.plan.specs.Spell.{spell, operationCode, expressionNumbers, exchangeNumbers, ownNumbers, actNumbers, actsNumbers, planNumbers}
 use Rattle.plan.specs.Read.{expressionCodeIn, operationOf, leafIn, expressionIn, variablesIn, tupleIn, Head, exchangeIn, armIn, partnerIn, withExpressionIn, setIn, listIn, codeIn, partsIn, headIn, manyIn, wholeIn, readArm, readsIn, laterOf, readAct, startForm, correlationIn, versionIn, rootIn, readAny}
 use Rattle.plan.proofs.Finds.{Finds, finds-refused, finds-itself, finds-found, finds-cond, finds-code, finds-then, finds-both, finds-so, cond-case, code-case}
@@ -81,7 +81,7 @@ own-some (repeat e) within = omega arith
 own-some sequence within = omega arith
 own-some flow within = omega arith
 own-some pick within = omega arith
-own-some scope within = omega arith
+own-some (scope v) within = omega arith
 own-some (arm partner operation variables) within = omega arith
 
 pub act-some : (a : Act) → 0 < length (actNumbers a)
@@ -245,7 +245,7 @@ module _ (vars : ℕ) (cs s : List ℕ) {start at code : ℕ} (a : Stands s star
       (λ t. with-expression-stands vars s (3 ∷ v ∷ []) (stands-code 3 e a h) (set v) 0 (λ x. refl)))
 
   -- the table of codes
-  pub parts-stand : code ≤ 11 → Standing s start headNumbers (partsIn vars cs s code at)
+  pub parts-stand : code ≤ 12 → Standing s start headNumbers (partsIn vars cs s code at)
   unfolding partsIn ownNumbers
   parts-stand m =
       finds-code code 0 (omega arith) (λ e. finds-found (rw e at a))
@@ -259,16 +259,17 @@ module _ (vars : ℕ) (cs s : List ℕ) {start at code : ℕ} (a : Stands s star
       (λ l. finds-code code 8 l (λ e. list-stands vars s (code ∷ []) a sequence 33 (λ k. rw e))
       (λ l. finds-code code 9 l (λ e. list-stands vars s (code ∷ []) a flow 33 (λ k. rw e))
       (λ l. finds-code code 10 l (λ e. list-stands vars s (code ∷ []) a pick 9 (λ k. rw e))
-      (λ l. let e : code ≡ 11 = omega arith in finds-found (rw e at a))))))))))))
+      (λ l. finds-code code 11 l (λ e. finds-found (rw e at a))
+      (λ l. let e : code ≡ 12 = omega arith in finds-found (rw e at a)))))))))))))
 
 pub head-stands : (vars : ℕ) (cs s : List ℕ) (handler : Bool) (depth n at : ℕ) → Standing s at headNumbers (headIn vars cs s handler depth n at)
 unfolding headIn codeIn
 head-stands vars cs s handler depth n at =
     finds-then
-    (finds-then {Q = λ code next. Stands s at (code ∷ []) next × (code ≤ 11)} (number-stands s at)
-    (λ code next h. finds-cond (ltb 11 code) (λ t. finds-refused)
-    (λ t. finds-cond (handler && eqb code 11) (λ u. finds-refused)
-    (λ u. finds-cond (eqb depth 0 || leb 256 n) (λ w. finds-refused) (λ w. finds-found (h, ltb-false 11 code t))))))
+    (finds-then {Q = λ code next. Stands s at (code ∷ []) next × (code ≤ 12)} (number-stands s at)
+    (λ code next h. finds-cond (ltb 12 code) (λ t. finds-refused)
+    (λ t. finds-cond (handler && (eqb code 11 || eqb code 12)) (λ u. finds-refused)
+    (λ u. finds-cond (eqb depth 0 || leb 256 n) (λ w. finds-refused) (λ w. finds-found (h, ltb-false 12 code t))))))
     (λ code next h. parts-stand vars cs s (h .0) (h .1))
 
 -- whatever a reader of an activity or arm finds stands where it was read
@@ -312,7 +313,7 @@ act-stands zero vars cs s handler n at = finds-then (head-stands vars cs s handl
 act-stands (suc depth) vars cs s handler n at =
     finds-then (head-stands vars cs s handler (suc depth) n at)
     (λ h next a. whole-stands s (readsIn (h .own) (readAct depth vars cs s) vars s)
-    (reads-stand s (readAct depth vars cs s) (act-stands depth vars cs s) (eqb (kind (h .own)) 10) vars)
+    (reads-stand s (readAct depth vars cs s) (act-stands depth vars cs s) (isPick (h .own)) vars)
     handler (laterOf (h .own) handler) n h at next a)
 
 -- a plan's numbers stand from 0 on, and nothing stands after them

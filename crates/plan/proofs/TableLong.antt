@@ -12,7 +12,7 @@ use Rattle.plan.proofs.Stores.{length-store}
 
 length-noted : (k p : ℕ) (t : List ℕ) → length (noted k p t) ≡ length t
 unfolding noted
-length-noted k p t = by-test (eqb k 2 || eqb k 12)
+length-noted k p t = by-test (eqb k 2 || eqb k 255)
   where
     by-test : (b : Bool) → length (cond b (store (1 ∷ []) (3328 + p) 0 t) t) ≡ length t
     by-test true = length-store (1 ∷ []) (3328 + p) 0 t
@@ -37,7 +37,7 @@ length-putOwnNodes (repeat e) m t = length-putNodes e m t
 length-putOwnNodes sequence m t = refl
 length-putOwnNodes flow m t = refl
 length-putOwnNodes pick m t = refl
-length-putOwnNodes scope m t = refl
+length-putOwnNodes (scope undo) m t = refl
 length-putOwnNodes (arm a b vs) m t = refl
 
 length-putOwn : (own : Own) (at n m : ℕ) (t : List ℕ) → length (putOwn own at n m t) ≡ length t

@@ -20,11 +20,12 @@ use Rattle.plan.specs.Nodes.{Base, nodeHeadIn, nodeIn}
 use Rattle.plan.specs.Read.{Head, armIn, headIn, manyIn, wholeIn, readArm, readAct, laterOf, starts, startForm, firstStarts, everyStarts}
 use Rattle.plan.specs.Spell.{spell, ownNumbers, actNumbers, actsNumbers}
 use Rattle.plan.specs.Table.{putOwn, putClose, put, putAll, ownNodes, nodes, nodesAll}
-use Rattle.plan.specs.Tree.{Own, empty, send, receive, set, raise, leave, choose, repeat, sequence, flow, pick, scope, arm, kind, Act, act, Acts, none, more, size, sizes, count}
+use Rattle.plan.specs.Tree.{Own, empty, send, receive, set, raise, leave, choose, repeat, sequence, flow, pick, scope, arm, kind, isPick, Act, act, Acts, none, more, size, sizes, count}
 use Rattle.plan.specs.Within.{levelsBelow, ownWithin}
 use Rattle.plan.proofs.Accepts.{both}
 use Rattle.plan.proofs.Bounds.{arm-numbered, own-nodes-spelled, act-nodes-spelled, many-numbered, reads-numbered, act-numbered, Numbered}
 use Rattle.plan.proofs.Finds.{Finds, finds-refused, finds-itself, finds-found, finds-cond, finds-then, finds-so, finds-both, cond-case}
+use Rattle.plan.proofs.ByKind.{kind-scope, kind-pick}
 use Rattle.plan.proofs.Limits.{arm-within, head-within}
 use Rattle.plan.proofs.OneNumber.{then-found, then-refused}
 use Rattle.plan.proofs.OwnReads.{Said, own-got, own-no, code-numbered}
@@ -48,14 +49,15 @@ few vars cs handler arms (repeat x) within e = let z = eqb-true within 1 (halves
 few vars cs handler arms sequence within e = leb-true within 32 (halves (leb 1 within) _ (halves (not arms) _ e .1) .1)
 few vars cs handler arms flow within e = leb-true within 32 (halves (leb 1 within) _ (halves (not arms) _ e .1) .1)
 few vars cs handler arms pick within e = let z = leb-true within 8 (halves (leb 1 within) _ (halves (not arms) _ e .1) .1) in omega arith
-few vars cs handler arms scope within e = let z = eqb-true within 3 (halves (eqb within 3) _ (halves (not arms) _ e .1) .0) in omega arith
+few vars cs handler arms (scope true) within e = let z = eqb-true within 3 (halves (eqb within 3) _ (halves (not arms) _ e .1) .0) in omega arith
+few vars cs handler arms (scope false) within e = let z = eqb-true within 2 (halves (eqb within 2) _ (halves (not arms) _ e .1) .0) in omega arith
 few vars cs handler arms (arm p o vs) within e = let z = eqb-true within 1 (halves (eqb within 1) _ (halves arms _ e .1) .0) in omega arith
 
 -- What holds of the head of an activity, or of an arm, that was read.
 pub record Noded (arm : Bool) (depth n : ℕ) (h : Head) : Type 0 where
   pub numbered : n < 256
   pub few : h .within ≤ 32
-  pub falls : weigh (eqb (kind (h .own)) 10) (levelsBelow arm depth) + (1 + h .within) < weigh arm depth
+  pub falls : weigh (isPick (h .own)) (levelsBelow arm depth) + (1 + h .within) < weigh arm depth
 
 pos : (d : ℕ) → (d ≡ 0 → ⊥) → 0 < d
 pos zero z = absurd (z refl)
@@ -77,7 +79,7 @@ node-noded true vars cs s handler depth n at =
     (λ h next w. record {
       numbered = w .1;
       few = few vars cs handler true (h .own) (h .within) (w .0 .1);
-      falls = let f = few vars cs handler true (h .own) (h .within) (w .0 .1) in rw (w .0 .0) (omega arith);
+      falls = let f = few vars cs handler true (h .own) (h .within) (w .0 .1) in rw (w .0 .0 .1) (omega arith);
     })
 node-noded false vars cs s handler depth n at =
     finds-so (finds-both (head-within vars cs s handler depth n at) (head-deep vars cs s handler depth n at))
@@ -86,7 +88,7 @@ node-noded false vars cs s handler depth n at =
       few = few vars cs handler false (h .own) (h .within) (w .0);
       falls =
           let f = few vars cs handler false (h .own) (h .within) (w .0) in
-          omega (arith, weigh-most (eqb (kind (h .own)) 10) (depth - 1), pos depth (w .1 .0));
+          omega (arith, weigh-most (isPick (h .own)) (depth - 1), pos depth (w .1 .0));
     })
 
 pub node-stands : (arm : Bool) (vars : ℕ) (cs s : List ℕ) (handler : Bool) (depth n at : ℕ)
@@ -98,22 +100,22 @@ node-stands false vars cs s handler depth n at = head-stands vars cs s handler d
 module _ (vars : ℕ) (cs s : List ℕ) (handler : Bool) (n at : ℕ) where
   level-act : (depth : ℕ) {h : Head} {next : ℕ} → headIn vars cs s handler depth n at ≡ found h next
       → readAct depth vars cs s handler n at
-      ≡ wholeIn (nodeIn (eqb (kind (h .own)) 10) (depth - 1) vars cs s) handler (laterOf (h .own) handler) n h next
+      ≡ wholeIn (nodeIn (isPick (h .own)) (depth - 1) vars cs s) handler (laterOf (h .own) handler) n h next
   unfolding readAct
   level-act zero e = absurd (head-deep vars cs s handler 0 n at .holds e .0 refl)
   level-act (suc depth) e = rw (sub-one (suc depth)) (then-found (headIn vars cs s handler (suc depth) n at) _ e)
 
   level-arm : (depth : ℕ) {h : Head} {next : ℕ} → armIn vars s n at ≡ found h next
       → readArm (readAct depth vars cs s) vars s handler n at
-      ≡ wholeIn (nodeIn (eqb (kind (h .own)) 10) depth vars cs s) handler (laterOf (h .own) handler) n h next
+      ≡ wholeIn (nodeIn (isPick (h .own)) depth vars cs s) handler (laterOf (h .own) handler) n h next
   unfolding readArm
   level-arm depth {h} e =
-      let k : kind (h .own) ≡ 12 = arm-within vars cs s handler n at .holds e .0 in
-      then-found (armIn vars s n at) _ e ∙ rw k
+      let k = arm-within vars cs s handler n at .holds e .0 in
+      then-found (armIn vars s n at) _ e ∙ rw (k .0, k .1)
 
   level : (arm : Bool) (depth : ℕ) {h : Head} {next : ℕ} → nodeHeadIn arm vars cs s handler depth n at ≡ found h next
       → nodeIn arm depth vars cs s handler n at
-      ≡ wholeIn (nodeIn (eqb (kind (h .own)) 10) (levelsBelow arm depth) vars cs s) handler (laterOf (h .own) handler) n h next
+      ≡ wholeIn (nodeIn (isPick (h .own)) (levelsBelow arm depth) vars cs s) handler (laterOf (h .own) handler) n h next
   level true depth e = level-arm depth e
   level false depth e = level-act depth e
 
@@ -268,16 +270,16 @@ module _ (arm : Bool) (depth vars : ℕ) (cs s : List ℕ) (handler : Bool) (n a
 
   module _ (t₁ t₂ : List ℕ) {own : code.Own} {k within next nodes₁ : ℕ} {later : Bool} {below : ℕ} {all : Out}
       (a : OwnRead (nodeHeadIn arm vars cs s handler depth n at) at n m own t t₁) (o : own ≡ code.Own.Read k within next nodes₁)
-      (i : later ≡ (eqb k 11 || handler)) (j : below ≡ levelsBelow arm depth)
+      (i : later ≡ ((eqb k 11 || eqb k 12) || handler)) (j : below ≡ levelsBelow arm depth)
       (b : ActsRead (manyIn (nodeIn (eqb k 10) below vars cs s) handler later within (n + 1) next) next (n + 1) nodes₁ all t₁ t₂) where
     x : Said (nodeHeadIn arm vars cs s handler depth n at) at n m k within next nodes₁ t t₁
     x = own-got _ at n m a o
 
     -- the list that the code reads is the one that the definition reads
     list : (h : Head) → k ≡ kind (h .own) → within ≡ h .within
-        → manyIn (nodeIn (eqb (kind (h .own)) 10) (levelsBelow arm depth) vars cs s) handler (laterOf (h .own) handler) (h .within) (n + 1) next
+        → manyIn (nodeIn (isPick (h .own)) (levelsBelow arm depth) vars cs s) handler (laterOf (h .own) handler) (h .within) (n + 1) next
         ≡ manyIn (nodeIn (eqb k 10) below vars cs s) handler later within (n + 1) next
-    list h e f = rw (i, j, e, f)
+    list h e f = rw (i, j, e, f, kind-scope (h .own), kind-pick (h .own))
 
     pub act-no-within : {number place : ℕ} → all ≡ Out.Refused number place → ActRead (nodeIn arm depth vars cs s handler n at) at n m all t t₂
     act-no-within r =
@@ -298,9 +300,9 @@ module _ (arm : Bool) (depth vars : ℕ) (cs s : List ℕ) (handler : Bool) (n a
         (put-whole (x .h .own) (y .l) at n m t (sym (x .many) ∙ sym c) (e .ends) (x .count) (x .put) (y .end-is) (d .ends) (y .put-is) w)
 
 -- What the calls of the two functions may count on.
-falls-same : (b : Bool) (depth : ℕ) {below t₀ k j within w : ℕ} → below ≡ levelsBelow b depth → weigh b depth ≡ t₀ → k ≡ j → within ≡ w
-    → weigh (eqb j 10) (levelsBelow b depth) + (1 + w) < weigh b depth → weigh (eqb k 10) below + (1 + within) < t₀
-falls-same b depth e f i l h = rw (← f, e, i, l) h
+falls-same : (b : Bool) (depth : ℕ) (own : Own) {below t₀ k within w : ℕ} → below ≡ levelsBelow b depth → weigh b depth ≡ t₀ → k ≡ kind own → within ≡ w
+    → weigh (isPick own) (levelsBelow b depth) + (1 + w) < weigh b depth → weigh (eqb k 10) below + (1 + within) < t₀
+falls-same b depth own e f i l h = rw (← f, e, i, l, kind-pick own) h
 
 module _ (arm : Bool) (depth vars : ℕ) (cs s : List ℕ) (handler : Bool) (n at m : ℕ) {t t₁ : List ℕ} {own : code.Own} {k within next nodes₁ : ℕ}
     (a : OwnRead (nodeHeadIn arm vars cs s handler depth n at) at n m own t t₁) (o : own ≡ code.Own.Read k within next nodes₁) where
@@ -334,7 +336,7 @@ module _ (arm : Bool) (depth vars : ℕ) (cs s : List ℕ) (handler : Bool) (n a
       }
 
   pub own-falls : (below t₀ : ℕ) → below ≡ levelsBelow arm depth → weigh arm depth ≡ t₀ → weigh (eqb k 10) below + (1 + within) < t₀
-  own-falls below t₀ e f = falls-same arm depth e f (said .same) (said .many) (noded .falls)
+  own-falls below t₀ e f = falls-same arm depth (said .h .own) e f (said .same) (said .many) (noded .falls)
 
 module _ (arms : Bool) (depth vars : ℕ) (cs s : List ℕ) (handler : Bool) (n at m : ℕ) {t t₁ : List ℕ} {one : Out} {next end nodes₁ : ℕ} {first every : Bool}
     (a : ActRead (nodeIn arms depth vars cs s handler n at) at n m one t t₁) (o : one ≡ Out.Read next end nodes₁ first every) where

@@ -41,7 +41,7 @@ askedOwn c (repeat e) at = []
 askedOwn c sequence at = []
 askedOwn c flow at = []
 askedOwn c pick at = []
-askedOwn c scope at = []
+askedOwn c (scope undo) at = []
 askedOwn c (arm p o vs) at = asking p o (length vs) (at + c .passed (p ∷ o ∷ [])) ∷ []
 
 -- how many places an activity takes with all that stands within it

@@ -35,7 +35,7 @@ heardAll (a ∷ l) t = heardAll l (heard a t)
 
 -- how many bytes stand before the count of a receive, or of an arm: its code, its partner and its operation have one each
 unfoldable pub aheadOf : (kind : ℕ) → ℕ
-aheadOf kind = cond (eqb kind 2) 3 (cond (eqb kind 12) 2 0)
+aheadOf kind = cond (eqb kind 2) 3 (cond (eqb kind 255) 2 0)
 
 -- what row k of a plan's table asks for
 unfoldable pub rowAsked : List ℕ → (k : ℕ) → List Asked

@@ -9,7 +9,7 @@ use lib.ListN.{length}
 use lib.Dec.{ltb, leb, eqb}
 use Rattle.plan.specs.Agree.{asked, judged}
 use Rattle.plan.specs.Found.{Found, refused, found, andThen, numberIn, fieldIn, among}
-use Rattle.plan.specs.Tree.{Operation, sum, difference, equal, less, Exp, constant, variable, binary, Own, empty, send, receive, set, raise, leave, choose, repeat, sequence, flow, pick, scope, arm, kind, Act, act, Acts, none, more, Plan, size, sizes}
+use Rattle.plan.specs.Tree.{Operation, sum, difference, equal, less, Exp, constant, variable, binary, Own, empty, send, receive, set, raise, leave, choose, repeat, sequence, flow, pick, scope, arm, kind, isScope, isPick, Act, act, Acts, none, more, Plan, size, sizes}
 
 -- Expressions: "0 constant, with its value; 1 variable; and with two operands, left first, 2 sum; 3 difference; 4 equal; 5 less."
 
@@ -94,8 +94,8 @@ listIn s own limit at = andThen (fieldIn s 1 limit at) (λ count next. found (he
 unfoldable pub codeIn : List ℕ → (handler : Bool) → (depth n at : ℕ) → Found ℕ
 codeIn s handler depth n at =
     andThen (numberIn s at) (λ code next.
-    cond (ltb 11 code) (refused 4 at)
-    (cond (handler && eqb code 11) (refused 8 at)
+    cond (ltb 12 code) (refused 4 at)
+    (cond (handler && (eqb code 11 || eqb code 12)) (refused 8 at)
     (cond (eqb depth 0 || leb 256 n) (refused 6 at)
     (found code next))))
 
@@ -113,7 +113,8 @@ partsIn vars cs s code at =
     (cond (eqb code 8) (listIn s sequence 33 at)
     (cond (eqb code 9) (listIn s flow 33 at)
     (cond (eqb code 10) (listIn s pick 9 at)
-    (found (head scope 3) at)))))))))))
+    (cond (eqb code 11) (found (head (scope true) 3) at)
+    (found (head (scope false) 2) at))))))))))))
 
 unfoldable pub headIn : (vars : ℕ) → List ℕ → List ℕ → (handler : Bool) → (depth n at : ℕ) → Found Head
 headIn vars cs s handler depth n at = andThen (codeIn s handler depth n at) (λ code next. partsIn vars cs s code next)
@@ -138,11 +139,11 @@ readArm one vars s handler n at = andThen (armIn vars s n at) (wholeIn one handl
 
 -- what stands within a pick are arms, within all else activities
 abbrev pub readsIn : Own → (one : Bool → ℕ → ℕ → Found Act) → (vars : ℕ) → List ℕ → Bool → ℕ → ℕ → Found Act
-readsIn own one vars s = cond (eqb (kind own) 10) (readArm one vars s) one
+readsIn own one vars s = cond (isPick own) (readArm one vars s) one
 
--- a scope's fault part and undo part are handlers, whatever stands around it
+-- a scope's fault part and its undo part are handlers, whatever stands around it
 abbrev pub laterOf : Own → (handler : Bool) → Bool
-laterOf own handler = eqb (kind own) 11 || handler
+laterOf own handler = isScope own || handler
 
 -- the activity at `at`, where `depth` levels are left
 unfoldable pub readAct : (depth vars : ℕ) → (cs s : List ℕ) → (handler : Bool) → (n at : ℕ) → Found Act
@@ -156,7 +157,7 @@ readAct (suc depth) vars cs s handler n at =
 unfoldable pub starts : (kind : ℕ) → (first every : Bool) → Bool
 starts kind first every =
     cond (eqb kind 2 || eqb kind 10) true
-    (cond (eqb kind 8 || eqb kind 11) first
+    (cond (eqb kind 8 || (eqb kind 11 || eqb kind 12)) first
     (cond (eqb kind 9) every false))
 
 unfoldable mutual

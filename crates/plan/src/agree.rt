@@ -65,7 +65,7 @@ fn ahead(kind: usize) -> usize
 {
     match kind {
         2 => 3,
-        12 => 2,
+        255 => 2,
         _ => 0,
     }
 }

@@ -2,6 +2,7 @@
 pub mod agree;
 mod expressions;
 mod fields;
+mod kinds;
 mod owns;
 mod reading;
 mod root;

@@ -6,6 +6,7 @@ use super::expressions::expression_at;
 use super::fields::field_at;
 use super::fields::number_at;
 use super::fields::tuple_at;
+use super::kinds::is_scope;
 use super::table::write_row;
 ghost use Prim.Native.Nat.{_≤_, _<_};
 ghost use lib.Dec.{eqb, leb};
@@ -142,7 +143,7 @@ fn arm_own(s: &[u8], at: usize, vars: u32, n: usize, m: usize, table: &mut [u32;
                     place: at,
                 };
             }
-            exchange_own(s, next, 12, partner, true, 1, vars, n, m, at, table)
+            exchange_own(s, next, 255, partner, true, 1, vars, n, m, at, table)
         }
     }
 }
@@ -232,9 +233,9 @@ fn list_own(
 
 // Whether a scope stands where none may.
 fn misplaced(code: u32, handler: bool) -> bool
-    ensures { λ r. ⌜ r ≡ (handler && eqb code 11) ⌝ }
+    ensures { λ r. ⌜ r ≡ (handler && (eqb code 11 || eqb code 12)) ⌝ }
 {
-    if handler { code == 11 } else { false }
+    if handler { is_scope(code) } else { false }
 }
 
 // Whether there is no level left, or no number.
@@ -256,7 +257,7 @@ fn code_at(s: &[u8], at: usize, handler: bool, depth: usize, n: usize) -> Field
             place: _,
         } => read,
         Field::Got { value, next: _ } => {
-            if 11 < value {
+            if 12 < value {
                 return Field::Refused {
                     number: 4,
                     place: at,
@@ -305,7 +306,8 @@ fn parts_own(
         8 => list_own(s, at, 8, 33, n, m, place, table),
         9 => list_own(s, at, 9, 33, n, m, place, table),
         10 => list_own(s, at, 10, 9, n, m, place, table),
-        _ => plain_own(at, 11, 3, n, m, place, table),
+        11 => plain_own(at, 11, 3, n, m, place, table),
+        _ => plain_own(at, 12, 2, n, m, place, table),
     }
 }
 

@@ -9,11 +9,11 @@ ghost use Rattle.plan.specs.Table.{noted, putRow, putClose, putNode};
 
 // Whether an activity of this kind takes messages.
 fn receives(kind: u32) -> bool
-    ensures { λ r. ⌜ r ≡ (eqb kind 2 || eqb kind 12) ⌝ }
+    ensures { λ r. ⌜ r ≡ (eqb kind 2 || eqb kind 255) ⌝ }
 {
     match kind {
         2 => true,
-        12 => true,
+        255 => true,
         _ => false,
     }
 }

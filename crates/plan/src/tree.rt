@@ -1,6 +1,7 @@
 // Reads an activity and a list of activities, which call each other.
 use super::Out;
 use super::Own;
+use super::kinds::is_scope;
 use super::owns::own_at;
 use super::table::close_row;
 ghost use Prim.Native.Nat.{_≤_, _<_};
@@ -25,9 +26,9 @@ fn levels_below(arm: bool, depth: usize) -> usize
 
 // Whether those after the first within stand in a fault part or an undo part.
 fn later_of(kind: u32, handler: bool) -> bool
-    ensures { λ r. ⌜ r ≡ (eqb kind 11 || handler) ⌝ }
+    ensures { λ r. ⌜ r ≡ ((eqb kind 11 || eqb kind 12) || handler) ⌝ }
 {
-    if kind == 11 { true } else { handler }
+    if is_scope(kind) { true } else { handler }
 }
 
 // Whether an activity of this kind is a start form.
@@ -40,6 +41,7 @@ fn starts_of(kind: u32, first: bool, every: bool) -> bool
         9 => every,
         10 => true,
         11 => first,
+        12 => first,
         _ => false,
     }
 }

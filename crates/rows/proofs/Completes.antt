@@ -13,7 +13,7 @@ use lib.Seq.{drop-cons, drop-drop, drop-at, take-append-seam, drop-append-seam, 
 use Rattle.plan.specs.Found.{Found, refused, found, andThen, among}
 use Rattle.plan.specs.Read.{operationOf, Head, head, manyIn, laterOf, startForm}
 use Rattle.plan.specs.Spell.{operationCode, exchangeNumbers, spelling}
-use Rattle.plan.specs.Tree.{Operation, sum, difference, equal, less, Exp, constant, variable, binary, Own, empty, send, receive, set, raise, leave, choose, repeat, sequence, flow, pick, scope, arm, kind, Act, act, Acts, none, more, Plan, size, sizes, count}
+use Rattle.plan.specs.Tree.{Operation, sum, difference, equal, less, Exp, constant, variable, binary, Own, empty, send, receive, set, raise, leave, choose, repeat, sequence, flow, pick, scope, arm, isScope, isPick, Act, act, Acts, none, more, Plan, size, sizes, count}
 use Rattle.plan.specs.Agree.{askedFrom, agree, judged}
 use Rattle.plan.specs.Within.{expressionWithin, variablesWithin, exchangeWithin, from1, ownWithin, actWithin, actsWithin, ascending, planWithin}
 use Rattle.plan.proofs.Accepts.{both}
@@ -202,14 +202,14 @@ message-read vars once {t} {r} {k} {p} {o} {vs} h w =
     rw (y .all, y .two, x .partner, y .three, x .operation, y .four, x .some, x .most, x .each, n) (w .shape)
 
 module _ (vars : ℕ) (cs t : List ℕ) (handler : Bool) (d n : ℕ) (room : n < 256) where
-  code-read : {r k : ℕ} {ns : List ℕ} → Row t r (k ∷ ns) → k ≤ 11 → (handler && eqb k 11) ≡ false → codeAt t handler (suc d) n r ≡ found k (r + 1)
+  code-read : {r k : ℕ} {ns : List ℕ} → Row t r (k ∷ ns) → k ≤ 12 → (handler && (eqb k 11 || eqb k 12)) ≡ false → codeAt t handler (suc d) n r ≡ found k (r + 1)
   unfolding codeAt
-  code-read {k = k} w h f = rw (row-read w, le-ltb 11 k h, f, ne-eqb (suc d) 0 (λ z. omega arith), lt-leb 256 n room)
+  code-read {k = k} w h f = rw (row-read w, le-ltb 12 k h, f, ne-eqb (suc d) 0 (λ z. omega arith), lt-leb 256 n room)
 
   known-read : {r k : ℕ} {ns : List ℕ} → Row t r (k ∷ ns) → k ≤ 10 → partsFit vars cs t r k ≡ true
       → headAt vars cs t handler (suc d) n r ≡ partsAt vars t r k (r + 1)
   unfolding headAt
-  known-read {k = k} w h f = rw (code-read w (omega arith) (rw (ne-eqb k 11 (λ z. omega arith)) (and-false handler)), f)
+  known-read {k = k} w h f = rw (code-read w (omega arith) (rw (ne-eqb k 11 (λ z. omega arith), ne-eqb k 12 (λ z. omega arith)) (and-false handler)), f)
 
   own-read : (own : Own) (within : ℕ) {r m : ℕ} → ownWithin vars cs handler false own within ≡ true → Stands t r (ownRows own within) m
       → headAt vars cs t handler (suc d) n r ≡ found (head own within) m
@@ -233,19 +233,21 @@ module _ (vars : ℕ) (cs t : List ℕ) (handler : Bool) (d n : ℕ) (room : n <
   own-read sequence within h (cons w nil) = known-read w (omega arith) (rw (second-read w, h) (w .shape)) ∙ rw (second-read w)
   own-read flow within h (cons w nil) = known-read w (omega arith) (rw (second-read w, h) (w .shape)) ∙ rw (second-read w)
   own-read pick within h (cons w nil) = known-read w (omega arith) (rw (second-read w, h) (w .shape)) ∙ rw (second-read w)
-  own-read scope within h (cons w nil) =
+  own-read (scope true) within h (cons w nil) =
       both (eqb within 3) _ h (λ z x. rw (code-read w (omega arith) (rw (not-true handler x)), w .shape, eqb-true within 3 z))
+  own-read (scope false) within h (cons w nil) =
+      both (eqb within 2) _ h (λ z x. rw (code-read w (omega arith) (rw (not-true handler x)), w .shape, eqb-true within 2 z))
   own-read (arm p o vs) within h x = absurd (false≢true h)
 
   arm-own-read : (own : Own) (within : ℕ) {r m : ℕ} → ownWithin vars cs handler true own within ≡ true → Stands t r (ownRows own within) m
-      → (kind own ≡ 12) × (armAt vars t n r ≡ found (head own within) m)
-  unfolding ownWithin ownRows exchangeNumbers armAt exchangeFits kind
+      → ((isScope own ≡ false) × (isPick own ≡ false)) × (armAt vars t n r ≡ found (head own within) m)
+  unfolding ownWithin ownRows exchangeNumbers armAt exchangeFits
   arm-own-read (arm p o vs) within {r} h (cons w nil) =
       both (eqb within 1) _ h (λ z q.
       let x = exchange-of vars true p o vs q in
       let y : Tupled3 t r o vs = tuple3-read {vs = vs} w in
       let k : 3 + length vs ≡ suc (suc (suc (length vs))) = omega arith in
-      (refl, rw (row-read w, x .partner, lt-leb 256 n room, y .all, y .two, x .operation, y .three, x .some, x .most, x .each, k, w .shape, eqb-true within 1 z)))
+      ((refl, refl), rw (row-read w, x .partner, lt-leb 256 n room, y .all, y .two, x .operation, y .three, x .some, x .most, x .each, k, w .shape, eqb-true within 1 z)))
   arm-own-read empty within h x = absurd (false≢true h)
   arm-own-read (send p o vs) within h x = absurd (false≢true h)
   arm-own-read (receive p o vs) within h x = absurd (false≢true h)
@@ -257,7 +259,7 @@ module _ (vars : ℕ) (cs t : List ℕ) (handler : Bool) (d n : ℕ) (room : n <
   arm-own-read sequence within h x = absurd (false≢true h)
   arm-own-read flow within h x = absurd (false≢true h)
   arm-own-read pick within h x = absurd (false≢true h)
-  arm-own-read scope within h x = absurd (false≢true h)
+  arm-own-read (scope undo) within h x = absurd (false≢true h)
 
 -- Activities and arms with those within them.
 
@@ -276,14 +278,14 @@ module _ (vars : ℕ) (cs t : List ℕ) where
       both (ownWithin vars cs handler true own (count l)) _ h (λ a b.
       let s = stands-split t (ownRows own (count l)) (actsRows l) x in
       let (k, o) = arm-own-read vars cs t handler 0 n (omega arith) own (count l) a (s .first) in
-      rw (o, all false handler handler depth (n + 1) (s .m) m (omega arith) (rw k at b) (s .second)))
+      rw (o, all false handler handler depth (n + 1) (s .m) m (omega arith) (rw (k .0, k .1) at b) (s .second)))
   act-read own l all false handler zero n r m room h x = absurd (false≢true h)
   act-read own l all false handler (suc d) n r m room h x =
       both (ltb 0 (suc d)) _ h (λ _ h1. both (ownWithin vars cs handler false own (count l)) _ h1 (λ a b.
       let s = stands-split t (ownRows own (count l)) (actsRows l) x in
       rw (
         own-read vars cs t handler d n (omega arith) own (count l) a (s .first),
-        all (eqb (kind own) 10) handler (laterOf own handler) d (n + 1) (s .m) m (omega arith) (rw (sub-one (suc d)) at b) (s .second),
+        all (isPick own) handler (laterOf own handler) d (n + 1) (s .m) m (omega arith) (rw (sub-one (suc d)) at b) (s .second),
       )))
 
   more-read : (a : Act) (l : Acts) → ReadsAct a → ReadsAll l → ReadsAll (more a l)
@@ -415,7 +417,8 @@ short-own vars cs handler arms (repeat e) within h = (omega arith, short-express
 short-own vars cs handler arms sequence within h = (omega arith, tt)
 short-own vars cs handler arms flow within h = (omega arith, tt)
 short-own vars cs handler arms pick within h = (omega arith, tt)
-short-own vars cs handler arms scope within h = (omega arith, tt)
+short-own vars cs handler arms (scope true) within h = (omega arith, tt)
+short-own vars cs handler arms (scope false) within h = (omega arith, tt)
 short-own vars cs handler arms (arm p o vs) within h =
     both arms _ h (λ a h1. both (eqb within 1) _ h1 (λ b x. (omega (arith, short-exchange vars true p o vs x), tt)))
 

@@ -155,7 +155,7 @@ module _ {kind : ℕ} (count : ℕ) where
   unfolding widthOf
   width-receive e f = f ∙ rw e
 
-  pub width-arm : {n : ℕ} → kind ≡ 12 → n ≡ used (3 + count) → n ≡ widthOf kind count
+  pub width-arm : {n : ℕ} → kind ≡ 255 → n ≡ used (3 + count) → n ≡ widthOf kind count
   unfolding widthOf
   width-arm e f = f ∙ rw e
 
@@ -175,7 +175,7 @@ module _ {kind : ℕ} (count : ℕ) where
   unfolding widthOf
   width-pick e = rw e
 
-  pub width-code : (kind ≡ 1 → ⊥) → (kind ≡ 2 → ⊥) → (kind ≡ 3 → ⊥) → (kind ≡ 8 → ⊥) → (kind ≡ 9 → ⊥) → (kind ≡ 10 → ⊥) → (kind ≡ 12 → ⊥)
+  pub width-code : (kind ≡ 1 → ⊥) → (kind ≡ 2 → ⊥) → (kind ≡ 3 → ⊥) → (kind ≡ 8 → ⊥) → (kind ≡ 9 → ⊥) → (kind ≡ 10 → ⊥) → (kind ≡ 255 → ⊥)
       → 1 ≡ widthOf kind count
   unfolding widthOf
   width-code a b c d e f g = rw (ne-eqb _ _ a, ne-eqb _ _ b, ne-eqb _ _ c, ne-eqb _ _ d, ne-eqb _ _ e, ne-eqb _ _ f, ne-eqb _ _ g)

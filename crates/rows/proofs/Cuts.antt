@@ -192,7 +192,8 @@ module _ (s t : List ℕ) where
   cut-own sequence within k l a b c = cut-more k 0 0 (8 ∷ within ∷ []) l (own-next k sequence a b (8 ∷ within ∷ []) 0 (λ h. refl) refl (flat l)) c
   cut-own flow within k l a b c = cut-more k 0 0 (9 ∷ within ∷ []) l (own-next k flow a b (9 ∷ within ∷ []) 0 (λ h. refl) refl (flat l)) c
   cut-own pick within k l a b c = cut-more k 0 0 (10 ∷ within ∷ []) l (own-next k pick a b (10 ∷ within ∷ []) 0 (λ h. refl) refl (flat l)) c
-  cut-own scope within k l a b c = cut-more k 0 0 (11 ∷ []) l (own-next k scope a b (11 ∷ []) 0 (λ h. refl) refl (flat l)) c
+  cut-own (scope true) within k l a b c = cut-more k 0 0 (11 ∷ []) l (own-next k (scope true) a b (11 ∷ []) 0 (λ h. refl) refl (flat l)) c
+  cut-own (scope false) within k l a b c = cut-more k 0 0 (12 ∷ []) l (own-next k (scope false) a b (12 ∷ []) 0 (λ h. refl) refl (flat l)) c
   cut-own (arm p o vs) within k l a b c =
       cut-more k 0 0 (exchangeNumbers p o vs) l (own-next k (arm p o vs) a b (exchangeNumbers p o vs) 0 (λ h. arm-wide p o vs h) refl (flat l)) c
 
@@ -243,7 +244,7 @@ own-rows (repeat e) within = omega (arith, expression-rows e)
 own-rows sequence within = refl
 own-rows flow within = refl
 own-rows pick within = refl
-own-rows scope within = refl
+own-rows (scope undo) within = refl
 own-rows (arm p o vs) within = refl
 
 mutual
@@ -328,7 +329,8 @@ module _ (vars : ℕ) (cs : List ℕ) (k : vars ≤ 16) where
   small-own handler arms sequence within h = listed 8 32 (omega arith) (omega arith) arms within h
   small-own handler arms flow within h = listed 9 32 (omega arith) (omega arith) arms within h
   small-own handler arms pick within h = listed 10 8 (omega arith) (omega arith) arms within h
-  small-own handler arms scope within h = ((omega arith, tt), tt)
+  small-own handler arms (scope true) within h = ((omega arith, tt), tt)
+  small-own handler arms (scope false) within h = ((omega arith, tt), tt)
   small-own handler arms (arm p o vs) within h =
       both arms _ h (λ a h1. both (eqb within 1) _ h1 (λ b x. (small-exchange vars true p o vs k x, tt)))
 

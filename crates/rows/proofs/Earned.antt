@@ -16,7 +16,7 @@ use Rattle.numbers.proofs.Laws.{shortest-is-read, shortest-long}
 use Rattle.plan.specs.Agree.{Asked, agreesWith, agreeAfter, agree, asked, askedFrom, judged}
 use Rattle.plan.specs.Found.{Found, refused, found, andThen, numberIn, fieldIn, among}
 use Rattle.plan.specs.Spell.{spell}
-use Rattle.plan.specs.Tree.{Exp, Own, send, receive, set, choose, repeat, sequence, flow, pick, arm, kind, Act, Plan, size}
+use Rattle.plan.specs.Tree.{Exp, Own, send, receive, set, choose, repeat, sequence, flow, pick, arm, isPick, Act, Plan, size}
 use Rattle.plan.specs.Read.{expressionCodeIn, leafIn, expressionIn, variablesIn, tupleIn, Head, head, exchangeIn, armIn, partnerIn, withExpressionIn, setIn, listIn, codeIn, partsIn, headIn, manyIn, wholeIn, readArm, readsIn, laterOf, readAct, startForm, correlationIn, versionIn, closing, rootIn, readAny, readPlan}
 use Rattle.plan.specs.Within.{variablesWithin, from1, ascending}
 use Rattle.plan.proofs.Accepts.{both, among-append}
@@ -435,7 +435,7 @@ module _ (t s : List ℕ) (words : Words t) where
 
   -- what stands within an activity
   abbrev within-of : Own → Part
-  within-of own = cond (eqb (kind own) 10) anArm anActivity
+  within-of own = cond (isPick own) anArm anActivity
 
   -- the rows of an activity, by its code
   module _ (vars : ℕ) (cs : List ℕ) (ps : List Part) (r q : ℕ) where
@@ -446,20 +446,24 @@ module _ (t s : List ℕ) (words : Words t) where
 
     -- no other number
     coded-empty : Coded 0
-    unfolding activityAsks activityHas partsFit partsAt partsIn kind
+    unfolding activityAsks activityHas partsFit partsAt partsIn
     coded-empty k sh e w = rw sh (head-met (leaves (inside-as refl (omega (arith, e)) w)))
 
     coded-raise : Coded 4
-    unfolding activityAsks activityHas partsFit partsAt partsIn kind
+    unfolding activityAsks activityHas partsFit partsAt partsIn
     coded-raise k sh e w = rw sh (head-met (leaves (inside-as refl (omega (arith, e)) w)))
 
     coded-leave : Coded 5
-    unfolding activityAsks activityHas partsFit partsAt partsIn kind
+    unfolding activityAsks activityHas partsFit partsAt partsIn
     coded-leave k sh e w = rw sh (head-met (leaves (inside-as refl (omega (arith, e)) w)))
 
     coded-scope : Coded 11
-    unfolding activityAsks activityHas partsFit partsAt partsIn kind
+    unfolding activityAsks activityHas partsFit partsAt partsIn
     coded-scope k sh e w = rw sh (head-met (leaves (inside-as refl (omega (arith, e)) w)))
+
+    coded-open : Coded 12
+    unfolding activityAsks activityHas partsFit partsAt partsIn
+    coded-open k sh e w = rw sh (head-met (leaves (inside-as refl (omega (arith, e)) w)))
 
     -- an expression
     with-heads : (own : Exp → Own) (within : ℕ) (qs : List Part) → ((e : Exp) → qs ≡ replicate within (within-of (own e)) ++ ps) → (a b : ℕ) → Here (anExpression ∷ qs) a b
@@ -468,15 +472,15 @@ module _ (t s : List ℕ) (words : Words t) where
     with-heads own within qs d a b h = meets-heads (expression-meets 8 vars qs a b h) (λ e. head (own e) within) d
 
     coded-choose : Coded 6
-    unfolding activityAsks activityHas partsFit partsAt partsIn kind
+    unfolding activityAsks activityHas partsFit partsAt partsIn
     coded-choose k sh e w = rw sh (with-heads choose 2 (anActivity ∷ anActivity ∷ ps) (λ x. refl) (r + 1) q (leaves (inside-as refl (omega (arith, e)) w)))
 
     coded-repeat : Coded 7
-    unfolding activityAsks activityHas partsFit partsAt partsIn kind
+    unfolding activityAsks activityHas partsFit partsAt partsIn
     coded-repeat k sh e w = rw sh (with-heads repeat 1 (anActivity ∷ ps) (λ x. refl) (r + 1) q (leaves (inside-as refl (omega (arith, e)) w)))
 
     coded-set : Coded 3
-    unfolding activityAsks activityHas partsFit partsAt partsIn setIn fieldIn kind
+    unfolding activityAsks activityHas partsFit partsAt partsIn setIn fieldIn
     coded-set k sh e w =
         let v = cell t r 2 in
         let y : Inside (anExpression ∷ ps) r 2 1 q = inside-as refl (omega (arith, e)) w in
@@ -504,11 +508,11 @@ module _ (t s : List ℕ) (words : Words t) where
         (λ i. rw (i, below v 64 .1 i) head-same))
 
     coded-send : Coded 1
-    unfolding activityAsks activityHas partsFit partsAt partsIn kind
+    unfolding activityAsks activityHas partsFit partsAt partsIn
     coded-send k sh e w = partner-heads false send k sh e w
 
     coded-receive : Coded 2
-    unfolding activityAsks activityHas partsFit partsAt partsIn kind
+    unfolding activityAsks activityHas partsFit partsAt partsIn
     coded-receive k sh e w = partner-heads true receive k sh e w
 
     -- a list with its count
@@ -536,18 +540,18 @@ module _ (t s : List ℕ) (words : Words t) where
         list-from own most (times most (cell t r 2) (within-of own) ++ ps) (cell-read y) sh (times-few most (cell t r 2) (within-of own))
 
     coded-sequence : Coded 8
-    unfolding activityAsks activityHas partsFit partsAt partsIn kind
+    unfolding activityAsks activityHas partsFit partsAt partsIn
     coded-sequence k sh e w = list-heads sequence 32 k sh e w
 
     coded-flow : Coded 9
-    unfolding activityAsks activityHas partsFit partsAt partsIn kind
+    unfolding activityAsks activityHas partsFit partsAt partsIn
     coded-flow k sh e w = list-heads flow 32 k sh e w
 
     coded-pick : Coded 10
-    unfolding activityAsks activityHas partsFit partsAt partsIn kind
+    unfolding activityAsks activityHas partsFit partsAt partsIn
     coded-pick k sh e w = list-heads pick 8 k sh e w
 
-    coded : (c : ℕ) → c ≤ 11 → Coded c
+    coded : (c : ℕ) → c ≤ 12 → Coded c
     coded zero h = coded-empty
     coded (suc zero) h = coded-send
     coded (suc (suc zero)) h = coded-receive
@@ -560,7 +564,8 @@ module _ (t s : List ℕ) (words : Words t) where
     coded (suc (suc (suc (suc (suc (suc (suc (suc (suc zero))))))))) h = coded-flow
     coded (suc (suc (suc (suc (suc (suc (suc (suc (suc (suc zero)))))))))) h = coded-pick
     coded (suc (suc (suc (suc (suc (suc (suc (suc (suc (suc (suc zero))))))))))) h = coded-scope
-    coded (suc (suc (suc (suc (suc (suc (suc (suc (suc (suc (suc (suc n)))))))))))) h = absurd (omega arith)
+    coded (suc (suc (suc (suc (suc (suc (suc (suc (suc (suc (suc (suc zero)))))))))))) h = coded-open
+    coded (suc (suc (suc (suc (suc (suc (suc (suc (suc (suc (suc (suc (suc n))))))))))))) h = absurd (omega arith)
 
   -- an activity before those within it
   activity-heads : (vars : ℕ) (cs : List ℕ) (handler : Bool) (depth n : ℕ) (ps : List Part) (r q : ℕ) → Here (anActivity ∷ ps) r q
@@ -572,10 +577,10 @@ module _ (t s : List ℕ) (words : Words t) where
       go (ends a b) = rw (a, b) head-same
       go (begins w a k e x) =
           rw (a, x .is)
-          (decide (ltb 11 (cell t r 1)) (λ i. rw i head-same)
-          (λ i. rw i (decide (handler && eqb (cell t r 1) 11) (λ j. rw j head-same)
+          (decide (ltb 12 (cell t r 1)) (λ i. rw i head-same)
+          (λ i. rw i (decide (handler && (eqb (cell t r 1) 11 || eqb (cell t r 1) 12)) (λ j. rw j head-same)
           (λ j. rw j (decide (eqb depth 0 || leb 256 n) (λ b. rw b head-same)
-          (λ b. rw b (coded vars cs ps r (x .next) (cell t r 1) (ltb-false 11 (cell t r 1) i) k (w .shape) e (x .inside))))))))
+          (λ b. rw b (coded vars cs ps r (x .next) (cell t r 1) (ltb-false 12 (cell t r 1) i) k (w .shape) e (x .inside))))))))
 
   -- Those within: two readers of one that go side by side.
   abbrev Ones : Part → (one two : Bool → ℕ → ℕ → Found Act) → Type 0
@@ -607,8 +612,8 @@ module _ (t s : List ℕ) (words : Words t) where
   activity-meets zero vars cs handler n ps r q h = heads-then (activity-heads vars cs handler 0 n ps r q h) (λ d u v i. same)
   activity-meets (suc depth) vars cs handler n ps r q h =
       heads-then (activity-heads vars cs handler (suc depth) n ps r q h) (λ d u v i.
-      whole-meets (within-of (d .own)) (readsAt (eqb (kind (d .own)) 10) (actAt depth vars cs t) vars t) (readsIn (d .own) (readAct depth vars cs s) vars s)
-      (reads-meet (actAt depth vars cs t) (readAct depth vars cs s) vars (activity-meets depth vars cs) (eqb (kind (d .own)) 10)) handler (laterOf (d .own) handler) n d ps u v i)
+      whole-meets (within-of (d .own)) (readsAt (isPick (d .own)) (actAt depth vars cs t) vars t) (readsIn (d .own) (readAct depth vars cs s) vars s)
+      (reads-meet (actAt depth vars cs t) (readAct depth vars cs s) vars (activity-meets depth vars cs) (isPick (d .own))) handler (laterOf (d .own) handler) n d ps u v i)
 
   -- The head: its correlation variables, each below `vars` and above the one before.
   correlation-meet : (vars : ℕ) (left least : ℕ) (read : List ℕ) {ps : List Part} {r c q : ℕ} → Inside ps r c left q

@@ -50,7 +50,7 @@ module _ (c d : Places) where
   own-alike sequence at bt = nil
   own-alike flow at bt = nil
   own-alike pick at bt = nil
-  own-alike scope at bt = nil
+  own-alike (scope undo) at bt = nil
   own-alike (arm p o vs) at bt = cons (record { partner = refl; operation = refl; many = refl }) nil
 
   mutual

@@ -12,7 +12,7 @@ use Rattle.plan.specs.Agree.{askedFrom, agree, judged}
 use Rattle.plan.specs.Found.{Found, refused, found, andThen, among}
 use Rattle.plan.specs.Read.{operationOf, Head, head, manyIn, wholeIn, laterOf, startForm, readPlan}
 use Rattle.plan.specs.Spell.{spelling}
-use Rattle.plan.specs.Tree.{Exp, constant, variable, binary, Own, empty, send, receive, set, raise, leave, choose, repeat, sequence, flow, pick, scope, arm, kind, Act, act, Acts, none, more, Plan, size, count}
+use Rattle.plan.specs.Tree.{Exp, constant, variable, binary, Own, empty, send, receive, set, raise, leave, choose, repeat, sequence, flow, pick, scope, arm, isScope, isPick, Act, act, Acts, none, more, Plan, size, count}
 use Rattle.plan.specs.Within.{expressionWithin, variablesWithin, exchangeWithin, from1, ownWithin, levelsBelow, actWithin, actsWithin, ascending, planWithin}
 use Rattle.plan.proofs.Accepts.{both}
 use Rattle.plan.proofs.Agreeing.{judged-found, spelled-is-accepted}
@@ -90,7 +90,7 @@ module _ (t : List ℕ) (words : Words t) where
     list-within : (most x : ℕ) (s : Bool) → (from1 most x && s) ≡ true → from1 most x ≡ true
     list-within most x s h = both (from1 most x) s h (λ a b. a)
 
-    parts-within : (r k next : ℕ) → There t r k next → k ≤ 11 → (handler && eqb k 11) ≡ false → partsFit vars cs t r k ≡ true → Finds Kept (partsAt vars t r k next)
+    parts-within : (r k next : ℕ) → There t r k next → k ≤ 12 → (handler && (eqb k 11 || eqb k 12)) ≡ false → partsFit vars cs t r k ≡ true → Finds Kept (partsAt vars t r k next)
     unfolding partsAt partsFit ownWithin
     parts-within r k next w l g h =
         finds-code k 0 (omega arith) (λ e. finds-found refl) (λ z.
@@ -107,7 +107,8 @@ module _ (t : List ℕ) (words : Words t) where
         finds-code k 8 (omega arith) (λ e. finds-found (list-within 32 (cell t r 2) _ (rw e at h))) (λ z.
         finds-code k 9 (omega arith) (λ e. finds-found (list-within 32 (cell t r 2) _ (rw e at h))) (λ z.
         finds-code k 10 (omega arith) (λ e. finds-found (list-within 8 (cell t r 2) _ (rw e at h))) (λ z.
-        let e : k ≡ 11 = omega arith in finds-found (rw (sym (and-true handler) ∙ rw e at g)))))))))))))
+        finds-code k 11 (omega arith) (λ e. finds-found (rw (sym (and-true handler) ∙ rw e at g))) (λ z.
+        let e : k ≡ 12 = omega arith in finds-found (rw (sym (and-true handler) ∙ rw e at g))))))))))))))
 
     head-within : (depth n r : ℕ) → Finds (λ h q. Kept h q × (n < 256)) (headAt vars cs t handler depth n r)
     unfolding headAt
@@ -115,13 +116,13 @@ module _ (t : List ℕ) (words : Words t) where
         finds-then (code-finds t handler depth n r) (λ k next c.
         finds-cond (partsFit vars cs t r k) (λ e. finds-so (parts-within r k next (c .row) (c .known) (c .placed) e) (λ h q x. (x, c .numbered))) (λ e. finds-refused))
 
-    arm-within : (n r : ℕ) → Finds (λ h q. (kind (h .own) ≡ 12) × ((ownWithin vars cs handler true (h .own) (h .within) ≡ true) × (n < 256))) (armAt vars t n r)
-    unfolding armAt ownWithin kind
+    arm-within : (n r : ℕ) → Finds (λ h q. ((isScope (h .own) ≡ false) × (isPick (h .own) ≡ false)) × ((ownWithin vars cs handler true (h .own) (h .within) ≡ true) × (n < 256))) (armAt vars t n r)
+    unfolding armAt ownWithin
     arm-within n r =
         finds-then (row-finds t r) (λ p next w.
         finds-cond (ltb p 64) (λ e.
         finds-cond (leb 256 n) (λ f. finds-refused) (λ f.
-        finds-cond (exchangeFits vars true t r 2) (λ g. finds-found (refl, (exchange-within vars true r 2 p (w .there) (omega arith) e g, leb-false _ _ f))) (λ g. finds-refused)))
+        finds-cond (exchangeFits vars true t r 2) (λ g. finds-found ((refl, refl), (exchange-within vars true r 2 p (w .there) (omega arith) e g, leb-false _ _ f))) (λ g. finds-refused)))
         (λ e. finds-refused))
 
   module _ (vars : ℕ) (cs : List ℕ) where
@@ -142,7 +143,7 @@ module _ (t : List ℕ) (words : Words t) where
         finds-then (arm-within vars cs handler n r)
         (λ h p w. finds-then
         (finds-both (many-count read handler handler (h .within) (n + 1) p) (many-within false depth read k handler handler (h .within) (n + 1) p))
-        (λ l q m. finds-found (rw (m .0, w .1 .0, w .0, m .1))))
+        (λ l q m. finds-found (rw (m .0, w .1 .0, w .0 .0, w .0 .1, m .1))))
 
     reads-within : (depth : ℕ) (read : Bool → ℕ → ℕ → Found Act) → Keeps false depth read → (arms : Bool) → Keeps arms depth (readsAt arms read vars t)
     reads-within depth read k true = arm-act-within depth read k
@@ -154,7 +155,7 @@ module _ (t : List ℕ) (words : Words t) where
     act-within (suc depth) handler n r =
         finds-then (head-within vars cs handler (suc depth) n r)
         (λ h p w.
-        let arms = eqb (kind (h .own)) 10 in
+        let arms = isPick (h .own) in
         let later = laterOf (h .own) handler in
         let read = readsAt arms (actAt depth vars cs t) vars t in
         finds-then
@@ -171,8 +172,8 @@ module _ (t : List ℕ) (words : Words t) where
     act-numbered zero handler n r = finds-then (finds-itself (headAt vars cs t handler 0 n r)) (λ h p w. finds-refused)
     act-numbered (suc depth) handler n r =
         finds-then (head-within vars cs handler (suc depth) n r)
-        (λ h p w. whole-numbered (readsAt (eqb (kind (h .own)) 10) (actAt depth vars cs t) vars t)
-        (cond-case Numbered (eqb (kind (h .own)) 10) (λ e. arm-numbered (actAt depth vars cs t) (act-numbered depth)) (λ e. act-numbered depth))
+        (λ h p w. whole-numbered (readsAt (isPick (h .own)) (actAt depth vars cs t) vars t)
+        (cond-case Numbered (isPick (h .own)) (λ e. arm-numbered (actAt depth vars cs t) (act-numbered depth)) (λ e. act-numbered depth))
         handler (laterOf (h .own) handler) n h p (w .1))
 
     root-within : (r : ℕ) → from1 16 vars ≡ true → ascending vars 0 cs ≡ true → Finds (λ p next. length (spelling p) ≤ 4096 → planWithin p ≡ true) (rootAt vars cs t r)

@@ -37,7 +37,8 @@ activityHas code n =
     (cond (eqb code 7) (anExpression ∷ anActivity ∷ [])
     (cond (eqb code 8 || eqb code 9) (times 32 n anActivity)
     (cond (eqb code 10) (times 8 n anArm)
-    (cond (eqb code 11) (anActivity ∷ anActivity ∷ anActivity ∷ []) [])))))
+    (cond (eqb code 11) (anActivity ∷ anActivity ∷ anActivity ∷ [])
+    (cond (eqb code 12) (anActivity ∷ anActivity ∷ []) []))))))
 
 -- what the rows after row r stand for
 unfoldable pub has : Part → List ℕ → (r : ℕ) → List Part

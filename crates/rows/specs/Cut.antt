@@ -53,7 +53,7 @@ widthOf kind count =
     (cond (eqb kind 8) 2
     (cond (eqb kind 9) 2
     (cond (eqb kind 10) 2
-    (cond (eqb kind 12) (used (3 + count))
+    (cond (eqb kind 255) (used (3 + count))
     1))))))
 
 -- how many expressions follow the row of an activity: one after a set, a choose and a repeat

@@ -97,7 +97,7 @@ fn width_of(kind: usize, count: usize) -> usize
         8 => 2,
         9 => 2,
         10 => 2,
-        12 => at_most_19(3 + count),
+        255 => at_most_19(3 + count),
         _ => 1,
     }
 }

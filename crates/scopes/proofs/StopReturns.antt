@@ -2,20 +2,21 @@
 use mathlib.Core.Path.{_≡_, refl, sym, ap, _∙_}
 use mathlib.Core.Bool.{Bool, true, false}
 use mathlib.Core.List.{List}
-use Prim.Native.Nat.{ℕ, _+_, _<_, _≤_}
+use Prim.Native.Nat.{ℕ, _+_, _*_, _<_, _≤_}
 use native.Mathlib.Omega.{arith}
 use borrow.Author.Tests.{ne-eqb}
 use lib.Dec.{eqb}
-use Rattle.plan.specs.Tree.{Own, kind, Act, act, Acts, none, more, size, sizes}
+use lib.ListN.{getD}
+use Rattle.plan.specs.Tree.{Own, isScope, Act, act, Acts, more, size, sizes}
 use Rattle.order.specs.declared.Order.{Order}
 use Rattle.order.specs.declared.Spot.{Spot}
 use Rattle.order.specs.declared.Went.{Went}
-use Rattle.order.specs.Answering.{KindOf, scopeAct, SpotAt, Turns, Withdraws, Stops, StopsAll}
-use Rattle.order.specs.Scope.{Scope, isScope, scopeAt, isOpen, turns, Stopped, untouched, withdraws, stop, stopAll}
+use Rattle.order.specs.Answering.{KindOf, scopeKind, scopeAct, SpotAt, Turns, Withdraws, Stops, StopsAll}
+use Rattle.order.specs.Scope.{Scope, scopeAt, isOpen, turns, Stopped, untouched, withdraws, stop, stopAll}
 use Rattle.order.specs.Stands.{End, Stands}
 use Rattle.order.specs.State.{markAt, marked}
 use Rattle.order.proofs.Deciding.{yes, no}
-use Rattle.order.proofs.Standing.{size-pos, stands-end, stands-inside, kind-at, row-kind, if-none, if-more, if-scope}
+use Rattle.order.proofs.Standing.{size-pos, stands-end, stands-inside, kind-at, row-kind, scope-kind, if-none, if-more, if-scope}
 
 -- `is_open`
 pub open-active : {m : ℕ} → m ≡ 1 → true ≡ isOpen m
@@ -27,20 +28,20 @@ open-done e = rw (ne-eqb _ _ e)
 -- `withdrawn`
 pub withdrawn-is : {t : List ℕ} {k : ℕ} {z : Spot} → SpotAt t k z → {o : Order} {r : Went} → Turns t false z o r → Withdraws t k o (r .order)
 withdrawn-is {t} {k} {z} x {o} {r} y = record {
-  is = λ b f u s.
-      ap (λ (w : Went). w .order) (y .is b f (x .held b f u s))
-      ∙ ap (λ (c : Scope). turns false c o .order) (x .same b f u s);
+  is = λ v b f l s.
+      ap (λ (w : Went). w .order) (y .is b f (x .held v b f l s))
+      ∙ ap (λ (c : Scope). turns false c o .order) (x .same v b f l s);
 }
 
 -- a scope that is open, one that is not, and any other activity
-stop-scope : (b f u : Act) (k : ℕ) (o : Order) → isOpen (markAt k o) ≡ true
-    → stop (scopeAct b f u) k o ≡ withdraws k (scopeAt k (more b (more f (more u none)))) (stop b (k + 1) (marked k 7 o))
-unfolding stop kind
-stop-scope b f u k o e = yes (isOpen (markAt k o)) _ (untouched o) e
+stop-scope : (v : Bool) (b f : Act) (l : Acts) (k : ℕ) (o : Order) → isOpen (markAt k o) ≡ true
+    → stop (scopeAct v b f l) k o ≡ withdraws k (scopeAt k (more b (more f l))) (stop b (k + 1) (marked k 7 o))
+unfolding stop
+stop-scope v b f l k o e = yes (isOpen (markAt k o)) _ (untouched o) e
 
-stop-shut : (b f u : Act) (k : ℕ) (o : Order) → isOpen (markAt k o) ≡ false → stop (scopeAct b f u) k o ≡ untouched o
-unfolding stop kind
-stop-shut b f u k o e = no (isOpen (markAt k o)) _ (untouched o) e
+stop-shut : (v : Bool) (b f : Act) (l : Acts) (k : ℕ) (o : Order) → isOpen (markAt k o) ≡ false → stop (scopeAct v b f l) k o ≡ untouched o
+unfolding stop
+stop-shut v b f l k o e = no (isOpen (markAt k o)) _ (untouched o) e
 
 stop-other : (own : Own) (l : Acts) (k : ℕ) (o : Order) → isScope own ≡ false → stop (act own l) k o ≡ stopAll l (k + 1) (marked k 0 o)
 unfolding stop
@@ -49,39 +50,42 @@ stop-other own l k o e = no (isScope own) _ (stopAll l (k + 1) (marked k 0 o)) e
 pub stop-far : (t : List ℕ) (k : ℕ) (o : Order) {r : Order} → 256 ≤ k → Stops t k o r
 stop-far t k o h = record { is = λ a s. absurd (omega (arith, stands-inside a k t s, size-pos a)) }
 
-module _ (t : List ℕ) (k : ℕ) (o : Order) {kd : ℕ} (q : KindOf t k kd) where
-  module _ (h : kd ≡ 11) {m : ℕ} (i : m ≡ markAt k o) {v : Bool} (j : v ≡ isOpen m) where
+module _ (t : List ℕ) (k : ℕ) (o : Order) {kd : ℕ} (q : KindOf t k kd) {x : Bool} (d : x ≡ scopeKind kd) where
+  here : x ≡ true → (a : Act) → Stands a k t → scopeKind (getD t (k * 13) 0) ≡ true
+  here h a s = rw (← kind-at q a s) (sym d ∙ h)
+
+  module _ (h : x ≡ true) {m : ℕ} (i : m ≡ markAt k o) {v : Bool} (j : v ≡ isOpen m) where
     pub stop-opened : v ≡ true → {o₁ : Order} → o₁ ≡ marked k 7 o → {p : Order} → Stops t (k + 1) o₁ p → {r : Order} → Withdraws t k p r → Stops t k o r
     unfolding withdraws
     stop-opened g {o₁} e {p} x {r} y = record {
-      is = λ a s. if-scope (λ a. r ≡ stop a k o .order) t k (sym (kind-at q a s) ∙ h) (λ b f u sb sf su s.
+      is = λ a s. if-scope (λ a. r ≡ stop a k o .order) t k (here h a s) (λ u b f l sb sf s.
           let a : p ≡ stop b (k + 1) (marked k 7 o) .order = rw e at (x .is b sb) in
           let c : isOpen (markAt k o) ≡ true = rw (← i) (sym j ∙ g) in
-          (rw a at (y .is b f u s)) ∙ ap (λ (d : Stopped). d .order) (sym (stop-scope b f u k o c))) a s;
+          (rw a at (y .is u b f l s)) ∙ ap (λ (d : Stopped). d .order) (sym (stop-scope u b f l k o c))) a s;
     }
 
     pub stop-closed : v ≡ false → Stops t k o o
     stop-closed g = record {
-      is = λ a s. if-scope (λ a. o ≡ stop a k o .order) t k (sym (kind-at q a s) ∙ h) (λ b f u sb sf su s.
+      is = λ a s. if-scope (λ a. o ≡ stop a k o .order) t k (here h a s) (λ u b f l sb sf s.
           let c : isOpen (markAt k o) ≡ false = rw (← i) (sym j ∙ g) in
-          ap (λ (d : Stopped). d .order) (sym (stop-shut b f u k o c))) a s;
+          ap (λ (d : Stopped). d .order) (sym (stop-shut u b f l k o c))) a s;
     }
 
   -- no scope has no body
-  pub stop-bare : kd ≡ 11 → {e : ℕ} → End t k e → e ≤ k + 1 → {r : Order} → Stops t k o r
+  pub stop-bare : x ≡ true → {e : ℕ} → End t k e → e ≤ k + 1 → {r : Order} → Stops t k o r
   unfolding size
   stop-bare h z g {r} = record {
-    is = λ a s. if-scope (λ a. r ≡ stop a k o .order) t k (sym (kind-at q a s) ∙ h)
-        (λ x f u sx sf su s. absurd (omega (arith, stands-end (scopeAct x f u) k t s z, size-pos x))) a s;
+    is = λ a s. if-scope (λ a. r ≡ stop a k o .order) t k (here h a s)
+        (λ u b f l sb sf s. absurd (omega (arith, stands-end (scopeAct u b f l) k t s z, size-pos b))) a s;
   }
 
-  pub stop-all : (kd ≡ 11 → ⊥) → {e : ℕ} → End t k e → {o₁ : Order} → o₁ ≡ marked k 0 o → {r : Order} → StopsAll t (k + 1) e o₁ r → Stops t k o r
+  pub stop-all : x ≡ false → {e : ℕ} → End t k e → {o₁ : Order} → o₁ ≡ marked k 0 o → {r : Order} → StopsAll t (k + 1) e o₁ r → Stops t k o r
   unfolding Stands size
   stop-all h {e} z {o₁} i {r} x = record { is = is }
     where
       is : (a : Act) → Stands a k t → r ≡ stop a k o .order
       is (act own l) s =
-          let n : isScope own ≡ false = ne-eqb _ _ (λ g. h (row-kind q own l s ∙ g)) in
+          let n : isScope own ≡ false = sym (scope-kind own) ∙ (rw (← row-kind q own l s) (sym d ∙ h)) in
           let m : e ≡ k + 1 + sizes l = omega (arith, stands-end (act own l) k t s z) in
           (rw i at (x .is l (s .rest) m)) ∙ ap (λ (d : Stopped). d .order) (sym (stop-other own l k o n))
 

@@ -1,14 +1,15 @@
 -- The returns of the functions that undo. Assumes nothing.
 use mathlib.Core.Path.{_≡_, refl, sym, ap, _∙_}
-use mathlib.Core.Bool.{Bool, true, false, cond, _&&_, _||_, false≢true}
-use mathlib.Core.List.{List, [], _∷_, _++_, reverse, append-assoc, append-nil, reverse-append, reverse-cons, reverse-reverse}
+use mathlib.Core.Bool.{Bool, true, false, cond, false≢true}
+use mathlib.Core.List.{List, [], _∷_, _++_, map, map-append, reverse, append-assoc, append-nil, reverse-append, reverse-cons, reverse-reverse}
 use Prim.Native.Nat.{ℕ, zero, suc, _+_, _*_, _<_, _≤_}
 use native.Mathlib.Numerals.{add-one}
 use native.Mathlib.Omega.{arith}
-use borrow.Author.Tests.{eq-eqb, ne-eqb, eqb-true, lt-ltb, le-ltb}
+use borrow.Author.Tests.{eq-eqb, ne-eqb, lt-ltb, le-ltb, ltb-true, ltb-false}
 use lib.Dec.{eqb, ltb}
 use lib.ListN.{length, getD, take, drop}
-use Rattle.plan.specs.Tree.{Own, scope, kind, Act, act, Acts, none, more, size, sizes}
+use Rattle.plan.specs.Tree.{Own, scope, kind, isScope, hasUndo, Act, act, Acts, none, more, size, sizes}
+use Rattle.order.specs.declared.Closing.{Closing}
 use Rattle.order.specs.declared.Entered.{Entered}
 use Rattle.order.specs.declared.Order.{Order}
 use Rattle.order.specs.declared.Found.{Found}
@@ -16,86 +17,39 @@ use Rattle.order.specs.declared.Found.the-variants.{At, Nothing}
 use Rattle.order.specs.declared.Spot.{Spot}
 use Rattle.order.specs.declared.Way.the-variants.{Over}
 use Rattle.order.specs.declared.Went.{Went}
-use Rattle.order.specs.Answering.{entered, went, isOver, begunOf, Begins, BeginsUndo, Entry, Without, LastAt, Last, FindsLast, StartsUndo, Held, scopeOf, UndoesList}
-use Rattle.order.specs.Begin.{Begun, begin, part, partAt, beginPart}
+use Rattle.order.specs.Answering.{entered, went, isOver, begunOf, scopeKind, forPart, Begins, BeginsPart, LooksTo, BeginsUndo, KindOf, Entry, Without, LastAt, Last, FindsLast, StartsUndo, Held, scopeOf, UndoesList}
+use Rattle.order.specs.Begin.{Begun, nothingBegun, begin, part, partAt, beginPart}
 use Rattle.order.specs.Lists.{only, withoutFirst, withoutLast}
-use Rattle.order.specs.Scope.{Scope, isScope, directly, directlyIn, isFor, rememberedFor, beginUndo, beginUndoIn, startUndo, undo}
+use Rattle.order.specs.Scope.{Scope, isFor, listOf, rememberedFor, beginUndo, beginUndoFirst, beginUndoIn, startUndo, undo}
 use Rattle.order.specs.Stands.{End, Stands, StandAll}
-use Rattle.order.specs.State.{closings, remembering}
-use Rattle.order.proofs.Standing.{stands-end, if-scope}
+use Rattle.order.specs.State.{closingOf, closings, remembering}
+use Rattle.order.proofs.Owns.{of-kind}
+use Rattle.order.proofs.Standing.{stands-inside, stands-end, row-kind, scope-kind, own-scope, if-none, if-more, if-parts, if-undo}
 use Rattle.order.proofs.Deciding.{yes, no, where-over, where-not}
 use Rattle.order.proofs.MemoryReturns.{closings-are, only-append, only-takes}
 
--- a scope directly inside stands among the rows
-mutual
-  unfolding directly size Stands
-
-  directly-low : (a : Act) (k e : ℕ) → directly a k e ≡ true → k ≤ e
-  directly-low (act own l) k e h = by-test (isScope own) h (λ g. directly-in-low l (k + 1) e g)
-    where
-      by-test : (b : Bool) → _≡_ {A = Bool} (elim b [ true ↦ eqb k e | false ↦ directlyIn l (k + 1) e ]) true
-          → (directlyIn l (k + 1) e ≡ true → k + 1 ≤ e) → k ≤ e
-      by-test true g f = omega (arith, eqb-true k e g)
-      by-test false g f = omega (arith, f g)
-
-  directly-in-low : (l : Acts) (c e : ℕ) → directlyIn l c e ≡ true → c ≤ e
-  directly-in-low none c e h = absurd (false≢true h)
-  directly-in-low (more a l) c e h = by-test (directly a c e) refl h (λ g. directly-low a c e g) (λ g. directly-in-low l (c + size a) e g)
-    where
-      by-test : (b : Bool) → directly a c e ≡ b → (b || directlyIn l (c + size a) e) ≡ true
-          → (directly a c e ≡ true → c ≤ e) → (directlyIn l (c + size a) e ≡ true → c + size a ≤ e) → c ≤ e
-      by-test true q g f m = f q
-      by-test false q g f m = omega (arith, m g)
-
-mutual
-  unfolding directly size
-
-  directly-high : (a : Act) (k e : ℕ) → directly a k e ≡ true → e < k + size a
-  directly-high (act own l) k e h = by-test (isScope own) h (λ g. directly-in-high l (k + 1) e g)
-    where
-      by-test : (b : Bool) → _≡_ {A = Bool} (elim b [ true ↦ eqb k e | false ↦ directlyIn l (k + 1) e ]) true
-          → (directlyIn l (k + 1) e ≡ true → e < k + 1 + sizes l) → e < k + (1 + sizes l)
-      by-test true g f = omega (arith, eqb-true k e g)
-      by-test false g f = omega (arith, f g)
-
-  directly-in-high : (l : Acts) (c e : ℕ) → directlyIn l c e ≡ true → e < c + sizes l
-  directly-in-high none c e h = absurd (false≢true h)
-  directly-in-high (more a l) c e h = by-test (directly a c e) refl h (λ g. directly-high a c e g) (λ g. directly-in-high l (c + size a) e g)
-    where
-      by-test : (b : Bool) → directly a c e ≡ b → (b || directlyIn l (c + size a) e) ≡ true
-          → (directly a c e ≡ true → e < c + size a) → (directlyIn l (c + size a) e ≡ true → e < c + size a + sizes l) → e < c + (size a + sizes l)
-      by-test true q g f m = omega (arith, f q)
-      by-test false q g f m = omega (arith, m g)
-
--- the walk down from an activity reaches the scope e that stands in row e
-pub record Reached (t : List ℕ) (e : ℕ) (B : List ℕ → Begun) : Type 0 where
-  pub body : Act
-  pub fault : Act
-  pub undone : Act
-  pub stands : Stands (act scope (more body (more fault (more undone none)))) e t
-  pub same : (ms : List ℕ) → B ms ≡ begin undone (e + 1 + size body + size fault) ms
-
-here : (t : List ℕ) (k : ℕ) (a : Act) → getD t (k * 13) 0 ≡ 11 → Stands a k t → Reached t k (beginUndo a k k)
-unfolding beginUndo beginPart part partAt kind
-here t k a h =
-    if-scope (λ w. Reached t k (beginUndo w k k)) t k h
-    (λ b f u sb sf su s. record { body = b; fault = f; undone = u; stands = s; same = λ ms. at-once b f u ms (eqb k k) (eq-eqb k k refl) }) a
+-- `begin_part`
+pub part-is : {t : List ℕ} {e : ℕ} {ms : List ℕ} {fault undone : ℕ} → End t (e + 1) fault → End t fault undone
+    → {r : Entered} → Begins t undone ms r → BeginsPart t e ms r
+unfolding Stands
+part-is {t} {e} {ms} {fault} {undone} x y {r} z = record { is = is }
   where
-    at-once : (b f u : Act) (ms : List ℕ) (x : Bool) → x ≡ true
-        → _≡_ {A = Begun} (elim x [
-          | true ↦ begin u (k + 1 + size b + size f) ms
-          | false ↦ beginUndoIn (more b (more f (more u none))) (k + 1) k ms
-        ]) (begin u (k + 1 + size b + size f) ms)
-    at-once b f u ms true e = refl
-    at-once b f u ms false e = absurd (false≢true e)
+    is : (b f u : Act) → Stands (act (scope true) (more b (more f (more u none)))) e t → r ≡ entered (begin u (e + 1 + size b + size f) ms)
+    is b f u s =
+        let p : fault ≡ e + 1 + size b = stands-end b (e + 1) t (s .rest .first) x in
+        let q : undone ≡ fault + size f = stands-end f fault t (rw p (s .rest .rest .first)) y in
+        let w : undone ≡ e + 1 + size b + size f = omega arith in
+        rw w at (z .is u (rw w (s .rest .rest .rest .first)))
 
-reached-by : {t : List ℕ} {e : ℕ} {B : List ℕ → Begun} → Reached t e B → (C : List ℕ → Begun) → ((ms : List ℕ) → C ms ≡ B ms) → Reached t e C
-reached-by r C f = record { body = r .body; fault = r .fault; undone = r .undone; stands = r .stands; same = λ ms. f ms ∙ r .same ms }
+-- `looks_to`
+module _ {t : List ℕ} {j kd : ℕ} (q : KindOf t j kd) (h : j < 256) where
+  pub looks-body : kd ≡ 12 → {r : ℕ} → End t (j + 1) r → LooksTo t j r
+  looks-body e z = record { past = omega (arith, z .past); within = z .within; body = λ g. z; other = λ g. absurd (g (sym (q .is h) ∙ e)) }
 
-undo-within : (own : Own) (l : Acts) (k e : ℕ) (ms : List ℕ) → isScope own ≡ false → beginUndo (act own l) k e ms ≡ beginUndoIn l (k + 1) e ms
-unfolding beginUndo
-undo-within own l k e ms i = no (isScope own && eqb k e) (beginPart 2 l (k + 1) ms) (beginUndoIn l (k + 1) e ms) (rw i)
+  pub looks-other : (kd ≡ 12 → ⊥) → {r : ℕ} → End t j r → LooksTo t j r
+  looks-other e z = record { past = omega (arith, z .past); within = z .within; body = λ g. absurd (e (q .is h ∙ g)); other = λ g. z }
 
+-- of those from c on the one is looked through that e is no further than
 undo-first : (a : Act) (l : Acts) (c e : ℕ) (ms : List ℕ) → e < c + size a → beginUndoIn (more a l) c e ms ≡ beginUndo a c e ms
 unfolding beginUndo
 undo-first a l c e ms h = yes (ltb e (c + size a)) (beginUndo a c e ms) (beginUndoIn l (c + size a) e ms) (lt-ltb e (c + size a) h)
@@ -104,51 +58,159 @@ undo-later : (a : Act) (l : Acts) (c e : ℕ) (ms : List ℕ) → c + size a ≤
 unfolding beginUndo
 undo-later a l c e ms h = no (ltb e (c + size a)) (beginUndo a c e ms) (beginUndoIn l (c + size a) e ms) (le-ltb e (c + size a) h)
 
+-- nothing begins where e stands beyond
 mutual
-  unfolding directly beginUndo size Stands
+  unfolding beginUndo size
 
-  reached : (t : List ℕ) (a : Act) (k e : ℕ) → Stands a k t → directly a k e ≡ true → Reached t e (beginUndo a k e)
-  reached t (act own l) k e s h = by-test (isScope own) refl h (λ g. reached-in t l (k + 1) e (s .rest) g)
+  undo-beyond : (a : Act) (k e : ℕ) (ms : List ℕ) → k + size a ≤ e → beginUndo a k e ms ≡ nothingBegun ms
+  undo-beyond (act own l) k e ms h =
+      by-test (isScope own) (hasUndo own) (eqb k e) (ne-eqb k e (λ g. omega arith))
+      (first-beyond l (k + 1) e ms (omega arith)) (in-beyond l (k + 1) e ms (omega arith))
     where
-      by-test : (b : Bool) → isScope own ≡ b → _≡_ {A = Bool} (elim b [ true ↦ eqb k e | false ↦ directlyIn l (k + 1) e ]) true
-          → (directlyIn l (k + 1) e ≡ true → Reached t e (beginUndoIn l (k + 1) e)) → Reached t e (beginUndo (act own l) k e)
-      by-test true i g f =
-          let q : k ≡ e = eqb-true k e g in
-          rw (← q) (here t k (act own l) (s .first .row .kind ∙ eqb-true _ _ i) s)
-      by-test false i g f = reached-by (f g) (beginUndo (act own l) k e) (λ ms. undo-within own l k e ms i)
+      by-test : (x y z : Bool) → z ≡ false → beginUndoFirst l (k + 1) e ms ≡ nothingBegun ms → beginUndoIn l (k + 1) e ms ≡ nothingBegun ms
+          → _≡_ {A = Begun} (elim x [
+            | true ↦ cond y (cond z (beginPart 2 l (k + 1) ms) (nothingBegun ms)) (beginUndoFirst l (k + 1) e ms)
+            | false ↦ beginUndoIn l (k + 1) e ms
+          ]) (nothingBegun ms)
+      by-test true true true g f i = absurd (false≢true (sym g))
+      by-test true true false g f i = refl
+      by-test true false z g f i = f
+      by-test false y z g f i = i
 
-  reached-in : (t : List ℕ) (l : Acts) (c e : ℕ) → StandAll l c t → directlyIn l c e ≡ true → Reached t e (beginUndoIn l c e)
-  reached-in t none c e s h = absurd (false≢true h)
-  reached-in t (more a l) c e s h =
-      by-test (directly a c e) refl h (λ g. reached t a c e (s .first) g) (λ g. reached-in t l (c + size a) e (s .rest) g)
-    where
-      by-test : (b : Bool) → directly a c e ≡ b → (b || directlyIn l (c + size a) e) ≡ true
-          → (directly a c e ≡ true → Reached t e (beginUndo a c e))
-          → (directlyIn l (c + size a) e ≡ true → Reached t e (beginUndoIn l (c + size a) e)) → Reached t e (beginUndoIn (more a l) c e)
-      by-test true q g f m = reached-by (f q) (beginUndoIn (more a l) c e) (λ ms. undo-first a l c e ms (directly-high a c e q))
-      by-test false q g f m = reached-by (m g) (beginUndoIn (more a l) c e) (λ ms. undo-later a l c e ms (directly-in-low l (c + size a) e g))
+  first-beyond : (l : Acts) (c e : ℕ) (ms : List ℕ) → c + sizes l ≤ e → beginUndoFirst l c e ms ≡ nothingBegun ms
+  first-beyond none c e ms h = refl
+  first-beyond (more a l) c e ms h = undo-beyond a c e ms (omega arith)
 
--- `begin_undo`
-pub begin-undo-is : {t : List ℕ} {e : ℕ} {ms : List ℕ} {fault undone : ℕ} → End t (e + 1) fault → End t fault undone
-    → {r : Entered} → Begins t undone ms r → BeginsUndo t e ms r
-unfolding Stands
-begin-undo-is {t} {e} {ms} {fault} {undone} x y {r} b = record { is = λ a k s h. go (reached t a k e s h) }
+  in-beyond : (l : Acts) (c e : ℕ) (ms : List ℕ) → c + sizes l ≤ e → beginUndoIn l c e ms ≡ nothingBegun ms
+  in-beyond none c e ms h = refl
+  in-beyond (more a l) c e ms h = undo-later a l c e ms (omega arith) ∙ in-beyond l (c + size a) e ms (omega arith)
+
+-- one alone
+one-undo : (a : Act) (k e : ℕ) (ms : List ℕ) → beginUndoIn (more a none) k e ms ≡ beginUndo a k e ms
+unfolding beginUndo
+one-undo a k e ms = go (ltb e (k + size a)) refl
   where
-    go : {B : List ℕ → Begun} → Reached t e B → r ≡ entered (B ms)
-    go w =
-        let sb = w .stands .rest in
-        let p : fault ≡ e + 1 + size (w .body) = stands-end (w .body) (e + 1) t (sb .first) x in
-        let q : undone ≡ fault + size (w .fault) = stands-end (w .fault) fault t (rw p (sb .rest .first)) y in
-        let z : undone ≡ e + 1 + size (w .body) + size (w .fault) = omega arith in
-        b .is (w .undone) (rw z (sb .rest .rest .first)) ∙ rw (w .same ms, z)
+    go : (b : Bool) → ltb e (k + size a) ≡ b → beginUndoIn (more a none) k e ms ≡ beginUndo a k e ms
+    go true h = undo-first a none k e ms (ltb-true e (k + size a) h)
+    go false h = undo-later a none k e ms (ltb-false e (k + size a) h) ∙ sym (undo-beyond a k e ms (ltb-false e (k + size a) h))
+
+one-stands : (a : Act) (k : ℕ) (t : List ℕ) → Stands a k t → StandAll (more a none) k t
+unfolding Stands
+one-stands a k t s = record { first = s; rest = tt }
+
+one-size : (a : Act) → sizes (more a none) ≡ size a
+unfolding size
+one-size a = omega arith
+
+-- r is how the undo part of scope e begins, of the activities in rows j to `end`
+pub record UndoesIn (t : List ℕ) (j end e : ℕ) (ms : List ℕ) (r : Entered) : Type 0 where
+  pub is : (l : Acts) → StandAll l j t → end ≡ j + sizes l → r ≡ entered (beginUndoIn l j e ms)
+
+-- the loop of `begin_undo`: what the rows that are left say is what all say
+pub record Looking (t : List ℕ) (from to e : ℕ) (ms : List ℕ) (j end : ℕ) : Type 0 where
+  pub within : end ≤ 256
+  pub on : (r : Entered) → UndoesIn t j end e ms r → BeginsUndo t from to e ms r
+
+pub looking-far : (t : List ℕ) (from to e : ℕ) (ms : List ℕ) {r : Entered} → 256 < to → BeginsUndo t from to e ms r
+looking-far t from to e ms h = record { is = λ a s g. absurd (omega (arith, stands-inside a from t s)) }
+
+pub looking-starts : (t : List ℕ) (from to e : ℕ) (ms : List ℕ) → to ≤ 256 → Looking t from to e ms from to
+looking-starts t from to e ms h = record {
+  within = h;
+  on = λ r x. record { is = λ a s g. x .is (more a none) (one-stands a from t s) (omega (arith, one-size a)) ∙ ap entered (one-undo a from e ms) };
+}
+
+-- what the kind says of what is looked through
+not-open : (own : Own) → isScope own ≡ false → kind own ≡ 12 → ⊥
+unfolding scopeKind
+not-open own h e = false≢true (sym h ∙ (sym (scope-kind own) ∙ rw e))
+
+module _ {t : List ℕ} {from to e : ℕ} {ms : List ℕ} {j end : ℕ} (w : Looking t from to e ms j end) where
+  pub looking-done : end ≤ j → BeginsUndo t from to e ms (record { marks = ms; over = true })
+  unfolding beginUndo
+  looking-done h = w .on _ (record { is = if-none (λ l. record { marks = ms; over = true } ≡ entered (beginUndoIn l j e ms)) t j end h refl })
+
+  module _ (h : j < end) {n : ℕ} (z : End t j n) where
+    pub looking-skips : n ≤ e → Looking t from to e ms n end
+    looking-skips g = record {
+      within = w .within;
+      on = λ r x. w .on r (record {
+        is = if-more (λ l. r ≡ entered (beginUndoIn l j e ms)) t j end h z
+            (λ a l i sa sl q. (rw i at (x .is l sl q)) ∙ ap entered (sym (undo-later a l j e ms (omega arith))));
+      });
+    }
+
+    module _ (g : e < n) {kd : ℕ} (q : KindOf t j kd) where
+      -- the one in row j is looked through
+      first : (r : Entered) → ((a : Act) → Stands a j t → n ≡ j + size a → r ≡ entered (beginUndo a j e ms)) → BeginsUndo t from to e ms r
+      first r f = w .on r (record {
+        is = if-more (λ l. r ≡ entered (beginUndoIn l j e ms)) t j end h z
+            (λ a l i sa sl x. f a sa i ∙ ap entered (sym (undo-first a l j e ms (omega arith))));
+      })
+
+      pub looking-found : kd ≡ 11 → j ≡ e → {r : Entered} → BeginsPart t e ms r → BeginsUndo t from to e ms r
+      unfolding beginUndo beginPart part partAt
+      looking-found k i {r} x = first r go
+        where
+          here : (l : Acts) → Stands (act (scope true) l) j t → r ≡ entered (beginUndo (act (scope true) l) j e ms)
+          here l s =
+              if-undo (λ l. Stands (act (scope true) l) j t → r ≡ entered (beginUndo (act (scope true) l) j e ms)) t j
+              (λ b f u su s. rw (eq-eqb j e i) (rw (← i) at (x .is b f u (rw i at s)))) l s s
+
+          go : (a : Act) → Stands a j t → n ≡ j + size a → r ≡ entered (beginUndo a j e ms)
+          go (act own l) s m =
+              of-kind 11 (λ w. Stands (act w l) j t → r ≡ entered (beginUndo (act w l) j e ms)) (λ s. here l s) own (sym (row-kind q own l s) ∙ k) s
+
+      pub looking-other : kd ≡ 11 → (j ≡ e → ⊥) → BeginsUndo t from to e ms (record { marks = ms; over = true })
+      unfolding beginUndo
+      looking-other k i = first (record { marks = ms; over = true }) go
+        where
+          here : (l : Acts) → record { marks = ms; over = true } ≡ entered (beginUndo (act (scope true) l) j e ms)
+          here l = rw (ne-eqb j e i)
+
+          go : (a : Act) → Stands a j t → n ≡ j + size a → record { marks = ms; over = true } ≡ entered (beginUndo a j e ms)
+          go (act own l) s m =
+              of-kind 11 (λ w. record { marks = ms; over = true } ≡ entered (beginUndo (act w l) j e ms)) (here l) own (sym (row-kind q own l s) ∙ k)
+
+      pub looking-deeper : (kd ≡ 11 → ⊥) → {m : ℕ} → LooksTo t j m → Looking t from to e ms (j + 1) m
+      unfolding Stands beginUndo size kind
+      looking-deeper k {m} y = record { within = y .within; on = λ r x. first r (go r x) }
+        where
+          in-body : (r : Entered) → UndoesIn t (j + 1) m e ms r → (l : Acts) → Stands (act (scope false) l) j t → r ≡ entered (beginUndo (act (scope false) l) j e ms)
+          in-body r x l s =
+              if-parts (λ a. r ≡ entered (beginUndo a j e ms)) t j
+              (λ v b f l sb sf s. by-undo v b f l sb s) false l s
+            where
+              by-undo : (v : Bool) (b f : Act) (l : Acts) → Stands b (j + 1) t → Stands (act (scope v) (more b (more f l))) j t
+                  → r ≡ entered (beginUndo (act (scope v) (more b (more f l))) j e ms)
+              by-undo true b f l sb s = absurd (k (row-kind q (scope true) (more b (more f l)) s))
+              by-undo false b f l sb s =
+                  let i : m ≡ j + 1 + size b = stands-end b (j + 1) t sb (y .body (s .first .row .kind)) in
+                  x .is (more b none) (one-stands b (j + 1) t sb) (omega (arith, one-size b)) ∙ ap entered (one-undo b (j + 1) e ms)
+
+          go : (r : Entered) → UndoesIn t (j + 1) m e ms r → (a : Act) → Stands a j t → n ≡ j + size a → r ≡ entered (beginUndo a j e ms)
+          go r x (act own l) s i = by-test (isScope own) refl
+            where
+              scoped : (v : Bool) → Stands (act (scope v) l) j t → r ≡ entered (beginUndo (act (scope v) l) j e ms)
+              scoped true s = absurd (k (row-kind q (scope true) l s))
+              scoped false s = in-body r x l s
+
+              by-test : (b : Bool) → isScope own ≡ b → r ≡ entered (beginUndo (act own l) j e ms)
+              by-test true c = own-scope (λ w. Stands (act w l) j t → r ≡ entered (beginUndo (act w l) j e ms)) (λ v s. scoped v s) own c s
+              by-test false c =
+                  let d : m ≡ j + (1 + sizes l) = stands-end (act own l) j t s (y .other (λ u. not-open own c (sym (s .first .row .kind) ∙ u))) in
+                  x .is l (s .rest) (omega arith)
+                  ∙ ap entered (sym (no (isScope own)
+                  (cond (hasUndo own) (cond (eqb j e) (beginPart 2 l (j + 1) ms) (nothingBegun ms)) (beginUndoFirst l (j + 1) e ms))
+                  (beginUndoIn l (j + 1) e ms) c))
 
 -- a list around its i-th
-split : (xs : List ℕ) (i : ℕ) → i < length xs → xs ≡ take i xs ++ (getD xs i 0 ∷ drop (suc i) xs)
+split : (xs : List Closing) (i : ℕ) → i < length xs → xs ≡ take i xs ++ (getD xs i (closingOf 0 0) ∷ drop (suc i) xs)
 split [] i h = absurd (omega arith)
 split (x ∷ xs) zero h = refl
-split (x ∷ xs) (suc i) h = ap (λ (l : List ℕ). x ∷ l) (split xs i (omega arith))
+split (x ∷ xs) (suc i) h = ap (λ (l : List Closing). x ∷ l) (split xs i (omega arith))
 
-only-reverse : (P : ℕ → Bool) (l : List ℕ) → only P (reverse l) ≡ reverse (only P l)
+only-reverse : (P : Closing → Bool) (l : List Closing) → only P (reverse l) ≡ reverse (only P l)
 unfolding only
 only-reverse P [] = refl
 only-reverse P (x ∷ l) = rw (reverse-cons x l, only-append P (reverse l) (x ∷ []), only-reverse P l) (by-test (P x))
@@ -157,48 +219,56 @@ only-reverse P (x ∷ l) = rw (reverse-cons x l, only-append P (reverse l) (x �
     by-test true = sym (reverse-cons x (only P l))
     by-test false = append-nil (reverse (only P l))
 
-without-first : (P : ℕ → Bool) (x : ℕ) (zs ys : List ℕ) → P x ≡ true → only P zs ≡ [] → withoutFirst x (zs ++ (x ∷ ys)) ≡ zs ++ ys
+without-first : (P : Closing → Bool) (x : Closing) (zs ys : List Closing) → P x ≡ true → only P zs ≡ [] → withoutFirst P (zs ++ (x ∷ ys)) ≡ zs ++ ys
 unfolding withoutFirst only
-without-first P x [] ys h n = rw (eq-eqb x x refl)
-without-first P x (z ∷ zs) ys h n = by-test (P z) refl n (without-first P x zs ys h)
+without-first P x [] ys h n = rw h
+without-first P x (z ∷ zs) ys h n = by-test (P z) n (without-first P x zs ys h)
   where
-    by-test : (b : Bool) → P z ≡ b → cond b (z ∷ only P zs) (only P zs) ≡ [] → (only P zs ≡ [] → withoutFirst x (zs ++ (x ∷ ys)) ≡ zs ++ ys)
-        → cond (eqb x z) (zs ++ (x ∷ ys)) (z ∷ withoutFirst x (zs ++ (x ∷ ys))) ≡ z ∷ (zs ++ ys)
-    by-test true q m f = let c : _≡_ {A = ℕ} 0 1 = cc in absurd (omega arith)
-    by-test false q m f = rw (ne-eqb x z (λ e. false≢true (sym q ∙ (rw e at h))), f m)
+    by-test : (b : Bool) → cond b (z ∷ only P zs) (only P zs) ≡ [] → (only P zs ≡ [] → withoutFirst P (zs ++ (x ∷ ys)) ≡ zs ++ ys)
+        → cond b (zs ++ (x ∷ ys)) (z ∷ withoutFirst P (zs ++ (x ∷ ys))) ≡ z ∷ (zs ++ ys)
+    by-test true m f = let c : _≡_ {A = ℕ} 0 1 = cc in absurd (omega arith)
+    by-test false m f = rw (f m)
 
-module _ {P : ℕ → Bool} {xs : List ℕ} {i : ℕ} (w : LastAt P xs i) where
-  parted : xs ≡ take i xs ++ (getD xs i 0 ∷ drop (i + 1) xs)
+-- the scopes of some closings
+abbrev scopes : List Closing → List ℕ
+scopes l = map (λ c. c .scope) l
+
+module _ {P : Closing → Bool} {xs : List Closing} {i : ℕ} (w : LastAt P xs i) where
+  parted : xs ≡ take i xs ++ (getD xs i (closingOf 0 0) ∷ drop (i + 1) xs)
   parted = rw add-one (split xs i (w .within))
 
-  pub without-last : withoutLast (getD xs i 0) xs ≡ take i xs ++ drop (i + 1) xs
-  without-last = go (take i xs) (drop (i + 1) xs) (getD xs i 0) xs parted (w .holds) (w .unlike)
+  pub without-last : withoutLast P xs ≡ take i xs ++ drop (i + 1) xs
+  without-last = go (take i xs) (drop (i + 1) xs) (getD xs i (closingOf 0 0)) xs parted (w .holds) (w .unlike)
     where
-      go : (ys zs : List ℕ) (e : ℕ) (l : List ℕ) → l ≡ ys ++ (e ∷ zs) → P e ≡ true → only P zs ≡ [] → withoutLast e l ≡ ys ++ zs
+      go : (ys zs : List Closing) (e : Closing) (l : List Closing) → l ≡ ys ++ (e ∷ zs) → P e ≡ true → only P zs ≡ [] → withoutLast P l ≡ ys ++ zs
       go ys zs e l q h n =
           let a : reverse l ≡ reverse zs ++ (e ∷ reverse ys) = rw q (reverse-append ys (e ∷ zs) ∙ rw (reverse-cons e zs, append-assoc (reverse zs) (e ∷ []) (reverse ys))) in
           let b : only P (reverse zs) ≡ [] = only-reverse P zs ∙ rw n in
           rw (a, without-first P e (reverse zs) (reverse ys) h b, reverse-append (reverse zs) (reverse ys), reverse-reverse ys, reverse-reverse zs)
 
-  pub only-last : reverse (only P xs) ≡ getD xs i 0 ∷ reverse (only P (take i xs ++ drop (i + 1) xs))
-  only-last = go (take i xs) (drop (i + 1) xs) (getD xs i 0) xs parted (w .holds) (w .unlike)
+  pub only-last : reverse (scopes (only P xs)) ≡ getD xs i (closingOf 0 0) .scope ∷ reverse (scopes (only P (take i xs ++ drop (i + 1) xs)))
+  only-last = go (take i xs) (drop (i + 1) xs) (getD xs i (closingOf 0 0)) xs parted (w .holds) (w .unlike)
     where
-      go : (ys zs : List ℕ) (e : ℕ) (l : List ℕ) → l ≡ ys ++ (e ∷ zs) → P e ≡ true → only P zs ≡ [] → reverse (only P l) ≡ e ∷ reverse (only P (ys ++ zs))
+      go : (ys zs : List Closing) (e : Closing) (l : List Closing) → l ≡ ys ++ (e ∷ zs) → P e ≡ true → only P zs ≡ []
+          → reverse (scopes (only P l)) ≡ e .scope ∷ reverse (scopes (only P (ys ++ zs)))
       go ys zs e l q h n =
-          rw (q, only-append P ys (e ∷ zs), only-takes P e zs h, n, reverse-append (only P ys) (e ∷ []), only-append P ys zs, n, append-nil (only P ys))
+          let a : only P l ≡ only P ys ++ (e ∷ []) = rw (q, only-append P ys (e ∷ zs), only-takes P e zs h, n) in
+          let b : only P (ys ++ zs) ≡ only P ys = rw (only-append P ys zs, n, append-nil (only P ys)) in
+          rw (a, b, map-append (λ (c : Closing). c .scope) (only P ys) (e ∷ []), reverse-append (scopes (only P ys)) (e .scope ∷ []))
 
 -- `start_undo`
-pub start-is : {t : List ℕ} {o : Order} {i e : ℕ} → i < length (closings o) → Entry o i e → {p : Order} → Without o i p → {b : Entered} → BeginsUndo t e (p .marks) b
-    → {r : Went} → r ≡ begunOf p b → StartsUndo t o i r
+pub start-is : {t : List ℕ} {z : Spot} {o : Order} {i : ℕ} → i < length (closings o) → {c : Closing} → Entry o i c → {e : ℕ} → e ≡ c .scope
+    → {p : Order} → Without o i p → {b : Entered} → BeginsUndo t (z .body) (z .fault) e (p .marks) b → {r : Went} → r ≡ begunOf p b → StartsUndo t z o i r
 unfolding startUndo
-start-is {t} {o} {i} {e} h x {p} y {b} z {r} q = record { is = is; fewer = rw (ap (λ (w : Went). w .order .kept) q) (y .fewer h) }
+start-is {t} {z} {o} {i} h {c} x {e} k {p} y {b} u {r} q = record { is = is; fewer = rw (ap (λ (w : Went). w .order .kept) q) (y .fewer h) }
   where
-    is : (s : Scope) → Stands (s .body) (s .bodyAt) t → LastAt (isFor s) (closings o) i → r ≡ went (startUndo (getD (closings o) i 0) s o)
-    is s st w =
-        let g : e ≡ getD (closings o) i 0 = x .is (w .within) in
-        let a : p ≡ remembering (withoutLast e (closings o)) o = y .is h ∙ rw (g, without-last w) in
-        let d : b ≡ entered (beginUndo (s .body) (s .bodyAt) e (p .marks)) = z .is (s .body) (s .bodyAt) st (rw g (w .holds)) in
-        q ∙ rw (d, ← g, a)
+    is : (a f : Act) → Held z a f t → LastAt (forPart (z .body)) (closings o) i
+        → r ≡ went (startUndo (getD (closings o) i (closingOf 0 0) .scope) (scopeOf z a f) o)
+    is a f s w =
+        let g : e ≡ getD (closings o) i (closingOf 0 0) .scope = k ∙ ap (λ (c : Closing). c .scope) (x .is (w .within)) in
+        let m : p ≡ remembering (withoutLast (forPart (z .body)) (closings o)) o = y .is h ∙ rw (without-last w) in
+        let d : b ≡ entered (beginUndo a (z .body) e (p .marks)) = u .is a (s .body) (s .next) in
+        q ∙ rw (d, ← g, m)
 
 undo-over : (e : ℕ) (l : List ℕ) (s : Scope) (o : Order) → isOver (startUndo e s o .result) ≡ true → went (undo (e ∷ l) s o) ≡ went (undo l s (startUndo e s o .order))
 unfolding undo
@@ -208,10 +278,10 @@ undo-not : (e : ℕ) (l : List ℕ) (s : Scope) (o : Order) → isOver (startUnd
 unfolding undo
 undo-not e l s o h = where-not (undo l s) (startUndo e s o) h
 
-kept-after : (s : Scope) (o : Order) (i : ℕ) → LastAt (isFor s) (closings o) i
-    → closings (startUndo (getD (closings o) i 0) s o .order) ≡ take i (closings o) ++ drop (i + 1) (closings o)
+kept-after : (e : ℕ) (s : Scope) (o : Order) (i : ℕ) → LastAt (isFor s) (closings o) i
+    → closings (startUndo e s o .order) ≡ take i (closings o) ++ drop (i + 1) (closings o)
 unfolding startUndo
-kept-after s o i w = closings-are (withoutLast (getD (closings o) i 0) (closings o)) o ∙ without-last w
+kept-after e s o i w = closings-are (withoutLast (isFor s) (closings o)) o ∙ without-last w
 
 -- the loop of `undo`: what is left of the list leads to what the whole list leads to
 pub record Undoing (t : List ℕ) (z : Spot) (o₀ o : Order) : Type 0 where
@@ -220,48 +290,50 @@ pub record Undoing (t : List ℕ) (z : Spot) (o₀ o : Order) : Type 0 where
 pub undoing-starts : (t : List ℕ) (z : Spot) (o : Order) → Undoing t z o o
 undoing-starts t z o = record { on = λ r x. x }
 
-module _ {t : List ℕ} {z : Spot} {o₀ o : Order} (w : Undoing t z o₀ o) {f : Found} (x : FindsLast t (z .body) (z .fault) o f) where
+module _ {t : List ℕ} {z : Spot} {o₀ o : Order} (w : Undoing t z o₀ o) {f : Found} (x : FindsLast (z .body) o f) where
   pub undoing-done : f ≡ Nothing → UndoesList t z o₀ (record { way = Over; order = o })
-  unfolding undo rememberedFor Last
+  unfolding undo rememberedFor listOf Last
   undoing-done e = w .on _ (record {
     is = λ b g h.
-        let n : only (isFor (scopeOf z b g)) (closings o) ≡ [] = rw e at (x .is b (h .body) (h .next)) in
+        let n : only (forPart (z .body)) (closings o) ≡ [] = rw e at (x .is) in
         rw n;
   })
 
-  module _ {i : ℕ} (e : f ≡ At i) {r : Went} (y : StartsUndo t o i r) {v : Bool} (q : v ≡ isOver (r .way)) where
-    at-last : (b g : Act) → Held z b g t → LastAt (isFor (scopeOf z b g)) (closings o) i
+  module _ {i : ℕ} (e : f ≡ At i) {r : Went} (y : StartsUndo t z o i r) {v : Bool} (q : v ≡ isOver (r .way)) where
+    abbrev last : ℕ
+    last = getD (closings o) i (closingOf 0 0) .scope
+
+    at-last : LastAt (forPart (z .body)) (closings o) i
     unfolding Last
-    at-last b g h = rw e at (x .is b (h .body) (h .next))
+    at-last = rw e at (x .is)
 
-    list-is : (b g : Act) → Held z b g t → rememberedFor (scopeOf z b g) o
-        ≡ getD (closings o) i 0 ∷ reverse (only (isFor (scopeOf z b g)) (take i (closings o) ++ drop (i + 1) (closings o)))
-    unfolding rememberedFor
-    list-is b g h = only-last (at-last b g h)
+    list-is : (b g : Act) → rememberedFor (scopeOf z b g) o ≡ last ∷ reverse (scopes (only (forPart (z .body)) (take i (closings o) ++ drop (i + 1) (closings o))))
+    unfolding rememberedFor listOf
+    list-is b g = only-last at-last
 
-    went-is : (b g : Act) → Held z b g t → r ≡ went (startUndo (getD (closings o) i 0) (scopeOf z b g) o)
-    went-is b g h = y .is (scopeOf z b g) (h .body) (at-last b g h)
+    went-is : (b g : Act) → Held z b g t → r ≡ went (startUndo last (scopeOf z b g) o)
+    went-is b g h = y .is b g h at-last
 
     pub undoing-stops : v ≡ false → UndoesList t z o₀ r
     undoing-stops n = w .on r (record {
       is = λ b g h.
           let s = scopeOf z b g in
-          let m : isOver (startUndo (getD (closings o) i 0) s o .result) ≡ false = sym (rw (ap (λ (u : Went). u .way) (went-is b g h)) at q) ∙ n in
-          rw (list-is b g h) (went-is b g h ∙ sym (undo-not (getD (closings o) i 0) _ s o m));
+          let m : isOver (startUndo last s o .result) ≡ false = sym (rw (ap (λ (u : Went). u .way) (went-is b g h)) at q) ∙ n in
+          rw (list-is b g) (went-is b g h ∙ sym (undo-not last _ s o m));
     })
 
     pub undoing-again : v ≡ true → Undoing t z o₀ (r .order)
-    unfolding rememberedFor
+    unfolding rememberedFor listOf
     undoing-again n = record {
       on = λ p u. w .on p (record {
         is = λ b g h.
             let s = scopeOf z b g in
-            let m : isOver (startUndo (getD (closings o) i 0) s o .result) ≡ true = sym (rw (ap (λ (u : Went). u .way) (went-is b g h)) at q) ∙ n in
-            let k : r .order ≡ startUndo (getD (closings o) i 0) s o .order = ap (λ (u : Went). u .order) (went-is b g h) in
-            let c : closings (r .order) ≡ take i (closings o) ++ drop (i + 1) (closings o) = rw k (kept-after s o i (at-last b g h)) in
-            rw (list-is b g h, ← c) (u .is b g h ∙ sym (undo-over (getD (closings o) i 0) _ s o m ∙ rw (← k)));
+            let m : isOver (startUndo last s o .result) ≡ true = sym (rw (ap (λ (u : Went). u .way) (went-is b g h)) at q) ∙ n in
+            let k : r .order ≡ startUndo last s o .order = ap (λ (u : Went). u .order) (went-is b g h) in
+            let c : closings (r .order) ≡ take i (closings o) ++ drop (i + 1) (closings o) = rw k (kept-after last s o i at-last) in
+            rw (list-is b g, ← c) (u .is b g h ∙ sym (undo-over last _ s o m ∙ rw (← k)));
       });
     }
 
-pub found-inside : {t : List ℕ} {from to : ℕ} {o : Order} {f : Found} {i : ℕ} → FindsLast t from to o f → f ≡ At i → i < length (closings o)
+pub found-inside : {q : ℕ} {o : Order} {f : Found} {i : ℕ} → FindsLast q o f → f ≡ At i → i < length (closings o)
 found-inside {i = i} x e = x .inside i e

@@ -1,7 +1,7 @@
 // How an activity stops.
 use super::scopes::turns;
 use order::Order;
-use order::kind;
+use order::kind::is_scope;
 use order::mark;
 use order::marks::mark_at;
 use order::marks::marked;
@@ -41,7 +41,7 @@ pub fn stop(table: &[u32; 11584], k: usize, order: Order) -> Order
     }
     let e = end_of(table, k);
     let kind = kind_of(table, k);
-    if kind == kind::SCOPE {
+    if is_scope(kind) {
         if is_open(mark_at(k, order)) {
             if k + 1 < e {
                 let p = stop(table, k + 1, marked(k, mark::HALTED, order));

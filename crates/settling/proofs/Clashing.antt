@@ -21,7 +21,7 @@ isTake (sends p o vs) = false
 isTake (takes p o vs) = true
 isTake moves = false
 isTake cuts = false
-isTake (closes s) = false
+isTake (closes undo s) = false
 
 second-takes : (before : List Ready) (d : Doing) → isSecond before d ≡ true → isTake d ≡ true
 unfolding isSecond isTake
@@ -30,7 +30,7 @@ second-takes before (sends p o vs) e = e
 second-takes before (takes p o vs) e = refl
 second-takes before moves e = e
 second-takes before cuts e = e
-second-takes before (closes s) e = e
+second-takes before (closes undo s) e = e
 
 -- what is done, by where the step is
 doing-first : (b : Bool) (x y z : Doing) → z ≡ elim b [ true ↦ x | false ↦ y ] → b ≡ true → z ≡ x

@@ -14,11 +14,12 @@ use Rattle.plan.specs.Spells.{Spells, variablesOf}
 use Rattle.plan.specs.Table.{rowOf}
 use Rattle.plan.specs.Tree.{Own, empty, send, receive, set as setting, raise, leave, choose, repeat, sequence, flow, pick, scope, arm, kind, Act, act, Acts, none, more, Plan}
 use Rattle.order.specs.declared.Order.{Order}
-use Rattle.order.specs.Answering.{Spelled}
+use Rattle.order.specs.Answering.{scopeKind, Spelled}
 use Rattle.order.specs.Awaited.{Doing, noStep, sends, takes, moves, cuts, closes, doingOf, awaits, Ready, readyOf}
 use Rattle.order.specs.Judging.{isThing, isSecond, Verdict, clear, clash, clashAfter, conflict}
 use Rattle.order.specs.Lists.{alike, some, each}
 use Rattle.order.specs.State.{active}
+use Rattle.order.proofs.Standing.{scope-kind, arm-kind}
 use Rattle.fit.specs.Answering.{Exchange, openPick, armsFrom, ArmAt}
 use Rattle.fit.specs.Lines.{Line, linesOf, isReady, readyAt, readyLine, Stands, Tabled}
 use Rattle.fit.specs.Receiving.{receives}
@@ -180,12 +181,12 @@ and-true false = refl
 
 module _ (t ms : List ℕ) (reach k : ℕ) where
   pub open-receive : getD t (k * 13) 0 ≡ 2 → OpenRow t ms reach k (eqb (getD ms k 0) 1)
-  unfolding awaits
-  open-receive z = record { is = λ x y w. rw (sym (stands-kind y) ∙ z, y .activity) (and-true (eqb (getD ms k 0) 1)) }
+  unfolding awaits scopeKind
+  open-receive z = record { is = λ x y w. rw (arm-kind (x .own), ← scope-kind (x .own), sym (stands-kind y) ∙ z, y .activity) (and-true (eqb (getD ms k 0) 1)) }
 
-  pub open-arm : {b : Bool} → getD t (k * 13) 0 ≡ 12 → ArmAt t ms k b → OpenRow t ms reach k b
-  unfolding awaits
-  open-arm {b} z q = record { is = λ x y w. rw (sym (stands-kind y) ∙ z) (q .is (y .inside) ∙ (sym (y .arms) ∙ and-true (x .arms))) }
+  pub open-arm : {b : Bool} → getD t (k * 13) 0 ≡ 255 → ArmAt t ms k b → OpenRow t ms reach k b
+  unfolding awaits scopeKind
+  open-arm {b} z q = record { is = λ x y w. rw (arm-kind (x .own), ← scope-kind (x .own), sym (stands-kind y) ∙ z) (q .is (y .inside) ∙ (sym (y .arms) ∙ and-true (x .arms))) }
 
   -- where no active pick ends beyond, an arm is not open
   beyond-closed : Beyond t ms reach k → reach ≤ k → (j : ℕ) → j ≤ k → armsFrom t ms k j ≡ false
@@ -196,15 +197,15 @@ module _ (t ms : List ℕ) (reach k : ℕ) where
       (λ e. rw e (decide (openPick t ms j) (λ d. absurd (omega (arith, ltb-true k (getD t (j * 13 + 11) 0) e, w .ends j (omega arith) d))) (λ d. d)))
       (λ e. rw e (beyond-closed w h j (omega arith)))
 
-  pub open-beyond : getD t (k * 13) 0 ≡ 12 → reach ≤ k → OpenRow t ms reach k false
-  unfolding awaits
-  open-beyond z h = record { is = λ x y w. rw (sym (stands-kind y) ∙ z) (sym (beyond-closed w h k (omega arith)) ∙ (sym (y .arms) ∙ and-true (x .arms))) }
+  pub open-beyond : getD t (k * 13) 0 ≡ 255 → reach ≤ k → OpenRow t ms reach k false
+  unfolding awaits scopeKind
+  open-beyond z h = record { is = λ x y w. rw (arm-kind (x .own), ← scope-kind (x .own), sym (stands-kind y) ∙ z) (sym (beyond-closed w h k (omega arith)) ∙ (sym (y .arms) ∙ and-true (x .arms))) }
 
-  pub open-other : (getD t (k * 13) 0 ≡ 2 → ⊥) → (getD t (k * 13) 0 ≡ 12 → ⊥) → OpenRow t ms reach k false
+  pub open-other : (getD t (k * 13) 0 ≡ 2 → ⊥) → (getD t (k * 13) 0 ≡ 255 → ⊥) → OpenRow t ms reach k false
   open-other z v = record {
     is = λ x y w.
         let a : eqb (kind (x .own)) 2 ≡ false = ne-eqb _ _ (λ e. z (stands-kind y ∙ e)) in
-        let b : eqb (kind (x .own)) 12 ≡ false = ne-eqb _ _ (λ e. v (stands-kind y ∙ e)) in
+        let b : eqb (kind (x .own)) 255 ≡ false = ne-eqb _ _ (λ e. v (stands-kind y ∙ e)) in
         rw (a, b) (and-no (isReady ms x));
   }
     where
@@ -242,7 +243,8 @@ taken-at t (repeat x) l k at q h s f e = absurd (false≢true e)
 taken-at t sequence l k at q h s f e = absurd (false≢true e)
 taken-at t flow l k at q h s f e = absurd (false≢true e)
 taken-at t pick l k at q h s f e = absurd (false≢true e)
-taken-at t scope l k at q h s f e = absurd (false≢true e)
+taken-at t (scope true) l k at q h s f e = absurd (false≢true e)
+taken-at t (scope false) l k at q h s f e = absurd (false≢true e)
 taken-at t (arm a b vs) l k at q h s f e =
     record {
       partner = a;
@@ -266,7 +268,7 @@ no-thing (repeat x) l k e a b vs = refl
 no-thing sequence l k e a b vs = refl
 no-thing flow l k e a b vs = refl
 no-thing pick l k e a b vs = refl
-no-thing scope l k e a b vs = refl
+no-thing (scope v) l k e a b vs = refl
 no-thing (arm x y ws) l k e a b vs = absurd (false≢true (sym e))
 
 no-second : (own : Own) (l : Acts) (k : ℕ) → receives own ≡ false → (before : List Ready) → isSecond before (doingOf own l k) ≡ false
@@ -282,7 +284,7 @@ no-second (repeat x) l k e before = refl
 no-second sequence l k e before = refl
 no-second flow l k e before = refl
 no-second pick l k e before = refl
-no-second scope l k e before = refl
+no-second (scope v) l k e before = refl
 no-second (arm x y ws) l k e before = absurd (false≢true (sym e))
 
 -- what stands in the first n rows of a list stays there where the n-th is set

@@ -2,16 +2,15 @@
 use Prim.Native.Nat.{ℕ, _+_, _≤_, _<_}
 use native.Mathlib.Omega.{arith}
 use mathlib.Core.Path.{_≡_, refl, sym, _∙_}
-use mathlib.Core.Bool.{Bool, true, false, cond, _&&_, _||_, false≢true}
+use mathlib.Core.Bool.{Bool, true, false, _||_, false≢true}
 use mathlib.Core.List.{List}
 use lib.Dec.{eqb, ltb}
 use borrow.Author.Tests.{eqb-true, eq-eqb, ne-eqb, lt-ltb, le-ltb}
-use Rattle.plan.specs.Tree.{Own, scope, kind, Act, act, Acts, none, more, Plan, size, sizes, count}
-use Rattle.order.specs.Scope.{isScope}
+use Rattle.plan.specs.Tree.{Own, scope, kind, isPick, isArm, Act, act, Acts, none, more, Plan, size, sizes}
 use Rattle.order.specs.Acting.{isPart}
 use Rattle.order.specs.Awaited.{awaits, kindIn, kindAmong, kindAt}
 use Rattle.settling.proofs.Parts.{or-case, first-of, second-of}
-use Rattle.settling.proofs.Formed.{trio, isArm, least, Formed, formed-part, formed-scope, FormedIn, formed-none, formed-more, Shaped}
+use Rattle.settling.proofs.Formed.{parts, Formed, formed-part, formed-scope, FormedIn, formed-none, formed-more, Shaped}
 use Rattle.settling.proofs.Waiting.{WaitsIn, waits-first, waits-later, waits-itself, waits-within}
 
 -- all of these are arms, or none is
@@ -19,15 +18,11 @@ abbrev pub Arms : Bool → Acts → Type 0
 Arms r none = Unit {0}
 Arms r (more (act own within) l) = (isArm own ≡ r) × Arms r l
 
--- how many must stand within: a scope has its three parts
-unfoldable pub needs : Own → ℕ
-needs own = cond (isScope own) 3 (least own)
-
 module _ (f : ℕ → ℕ) where
   -- a tree whose kinds f knows
   mutual
     pub data Knows : Act → ℕ → Type 0 where
-      knows : {own : Own} {within : Acts} {k : ℕ} → f k ≡ kind own → needs own ≤ count within → Arms (eqb (kind own) 10) within → KnowsIn within (k + 1)
+      knows : {own : Own} {within : Acts} {k : ℕ} → f k ≡ kind own → Arms (isPick own) within → KnowsIn within (k + 1)
           → Knows (act own within) k
 
     pub data KnowsIn : Acts → ℕ → Type 0 where
@@ -51,42 +46,32 @@ module _ (f : ℕ → ℕ) where
   unfolding kindIn
   kind-later a l c t h = second-of (ltb t (c + size a)) (kindIn a c t) (kindAmong l (c + size a) t) (kindAmong (more a l) c t) refl (le-ltb t (c + size a) h)
 
-  needs-part : (own : Own) (n : ℕ) → isScope own ≡ false → least own ≤ n → needs own ≤ n
-  unfolding needs
-  needs-part own n s h = rw s h
-
-  needs-scope : (b g u : Act) → needs scope ≤ count (trio b g u)
-  unfolding needs count kind
-  needs-scope b g u = omega arith
-
   arms-in : {h r : Bool} {l : Acts} → FormedIn h r l → Arms r l
-  unfolding kind
   arms-in formed-none = tt
-  arms-in (formed-more (formed-part s i g y) z) = (i, arms-in z)
+  arms-in (formed-more (formed-part s i y) z) = (i, arms-in z)
   arms-in (formed-more (formed-scope x y w) z) = (refl, arms-in z)
 
   -- no part of a scope is an arm
   not-arms : {h : Bool} {a : Act} (l : Acts) → Formed h false a → Arms false l → Arms false (more a l)
-  unfolding kind
-  not-arms l (formed-part s i g y) z = (i, z)
+  not-arms l (formed-part s i y) z = (i, z)
   not-arms l (formed-scope x y w) z = (refl, z)
 
   mutual
     unfolding size kind
 
     knows-in : {h r : Bool} {a : Act} → Formed h r a → (k : ℕ) → ((t : ℕ) → k ≤ t → t < k + size a → f t ≡ kindIn a k t) → Knows f a k
-    knows-in (formed-part {own = own} {within = within} s i g y) k d =
-        knows (d k (omega arith) (omega arith) ∙ kind-here own within k) (needs-part own (count within) s g) (arms-in y)
+    knows-in (formed-part {own = own} {within = within} s i y) k d =
+        knows (d k (omega arith) (omega arith) ∙ kind-here own within k) (arms-in y)
         (knows-all y (k + 1) (λ t u v. d t (omega arith) (omega arith) ∙ kind-within own within k t (omega arith)))
-    knows-in (formed-scope {b = b} {f = g} {u = u} x y z) k d =
-        knows (d k (omega arith) (omega arith) ∙ kind-here scope (trio b g u) k) (needs-scope b g u) (not-arms (more g (more u none)) x (not-arms (more u none) y (not-arms none z tt)))
-        (knows-more (knows-in x (k + 1) (λ t v w. e t (omega arith) (omega arith) ∙ kind-first b (more g (more u none)) (k + 1) t (omega arith)))
-        (knows-more (knows-in y (k + 1 + size b) (λ t v w. e t (omega arith) (omega arith) ∙ (kind-later b (more g (more u none)) (k + 1) t (omega arith) ∙ kind-first g (more u none) (k + 1 + size b) t (omega arith))))
-        (knows-more (knows-in z (k + 1 + size b + size g) (λ t v w. e t (omega arith) (omega arith)
-        ∙ (kind-later b (more g (more u none)) (k + 1) t (omega arith) ∙ (kind-later g (more u none) (k + 1 + size b) t (omega arith) ∙ kind-first u none (k + 1 + size b + size g) t (omega arith))))) knows-none)))
+    knows-in (formed-scope {v = v} {b = b} {f = g} {l = l} x y z) k d =
+        knows (d k (omega arith) (omega arith) ∙ kind-here (scope v) (parts b g l) k) (not-arms (more g l) x (not-arms l y (arms-in z)))
+        (knows-more (knows-in x (k + 1) (λ t u w. e t (omega arith) (omega arith) ∙ kind-first b (more g l) (k + 1) t (omega arith)))
+        (knows-more (knows-in y (k + 1 + size b) (λ t u w. e t (omega arith) (omega arith) ∙ (kind-later b (more g l) (k + 1) t (omega arith) ∙ kind-first g l (k + 1 + size b) t (omega arith))))
+        (knows-all z (k + 1 + size b + size g) (λ t u w. e t (omega arith) (omega arith)
+        ∙ (kind-later b (more g l) (k + 1) t (omega arith) ∙ kind-later g l (k + 1 + size b) t (omega arith))))))
       where
-        e : (t : ℕ) → k < t → t < k + size (act scope (trio b g u)) → f t ≡ kindAmong (trio b g u) (k + 1) t
-        e t v w = d t (omega arith) w ∙ kind-within scope (trio b g u) k t v
+        e : (t : ℕ) → k < t → t < k + size (act (scope v) (parts b g l)) → f t ≡ kindAmong (parts b g l) (k + 1) t
+        e t u w = d t (omega arith) w ∙ kind-within (scope v) (parts b g l) k t u
 
     knows-all : {h r : Bool} {l : Acts} → FormedIn h r l → (c : ℕ) → ((t : ℕ) → c ≤ t → t < c + sizes l → f t ≡ kindAmong l c t) → KnowsIn f l c
     knows-all formed-none c d = knows-none

@@ -2,20 +2,21 @@
 use Prim.Native.Nat.{ℕ, zero, suc, _+_, _≤_, _<_}
 use native.Mathlib.Omega.{arith}
 use mathlib.Core.Path.{_≡_, refl, sym, ap, subst, _∙_}
-use mathlib.Core.Bool.{Bool, true, false, not, _&&_}
+use mathlib.Core.Bool.{Bool, true, false, cond, not}
 use mathlib.Core.List.{List, [], _∷_, _++_}
 use lib.ListN.{length, getD, set, length-set, List·getD-eq-default}
 use lib.Seq.{getD-set-other, getD-set-same}
 use lib.Dec.{eqb, ltb}
 use borrow.Author.Tests.{eqb-true, ltb-true, ltb-false}
-use Rattle.plan.specs.Tree.{Exp, Own, empty, send, receive, set as setting, raise, leave, choose, repeat, sequence, flow, pick, scope, arm, kind, Act, act, Acts, none, more, Plan, size, sizes}
+use Rattle.plan.specs.Tree.{Exp, Own, empty, send, receive, set as setting, raise, leave, choose, repeat, sequence, flow, pick, scope, arm, isScope, hasUndo, Act, act, Acts, none, more, Plan, size, sizes}
+use Rattle.order.specs.declared.Closing.{Closing}
 use Rattle.order.specs.declared.Order.{Order}
 use Rattle.order.specs.declared.Way.{Way as Result}
 use Rattle.order.specs.declared.Way.the-variants.{Running as running, Over as over, Raising as raising, Leaving as leaving, Undone as undone, UndoRaising as undoRaising}
 use Rattle.order.specs.Lists.{only, withoutLast}
 use Rattle.order.specs.State.{idle, active, done, faulty, undoing, handling, halted, withdrawing, Name, root, inner, withMarks, marked, markAt, markOf, marking, closings, remembering}
 use Rattle.order.specs.Begin.{Begun, nothingBegun, awaiting, throughout, around, itsBeginning, inTurn, sideBySide, begin, beginInTurn, beginAll, beginFirst, beginAfter, part, partAt, beginPart, cleared}
-use Rattle.order.specs.Scope.{Outcome, runs, after, begunIn, whereOver, Scope, scopeAt, rootOf, isScope, isFor, isOpen, innerRuns, rememberedFor, forgetting, beginUndo, beginUndoIn, startUndo, undo, ends, handle, undoes, turns, withdraws, faults, breaks, looksAgain, bodyOver, bodyRaised, Stopped, untouched, alsoStopped, stop, stopAll, stopFirst}
+use Rattle.order.specs.Scope.{Outcome, runs, after, begunIn, whereOver, Scope, scopeAt, rootOf, isFor, isOpen, innerRuns, rememberedFor, forgetting, beginUndo, beginUndoFirst, beginUndoIn, startUndo, undo, ends, handle, undoes, turns, withdraws, faults, breaks, looksAgain, bodyOver, bodyRaised, Stopped, untouched, alsoStopped, stop, stopAll, stopFirst}
 use Rattle.order.specs.Judging.{rank}
 use Rattle.settling.proofs.Parts.{decide}
 
@@ -80,7 +81,7 @@ mutual
   same-begin (act flow within) b k ms e =
       same-throughout k (beginAll within (k + 1) (set ms k active)) e (same-then (same-set b k active ms e) (same-begin-all within b (k + 1) (set ms k active) (omega arith)))
   same-begin (act pick within) b k ms e = same-set b k active ms e
-  same-begin (act scope within) b k ms e =
+  same-begin (act (scope v) within) b k ms e =
       same-around k (beginFirst within (k + 1) (set ms k active)) e (same-then (same-set b k active ms e) (same-begin-first within b (k + 1) (set ms k active) (omega arith)))
   same-begin (act (arm p o vs) within) b k ms e = same-itself b ms
 
@@ -128,12 +129,22 @@ mutual
   unfolding beginUndo size
 
   same-undo : (a : Act) (b k e : ℕ) (ms : List ℕ) → b ≤ k → Same b ms (beginUndo a k e ms .marks)
-  same-undo (act own within) b k e ms h = go (isScope own && eqb k e) (same-undo-in within b (k + 1) e ms (omega arith))
+  same-undo (act own within) b k e ms h =
+      go (isScope own) (hasUndo own) (eqb k e) (same-undo-first within b (k + 1) e ms (omega arith)) (same-undo-in within b (k + 1) e ms (omega arith))
     where
-      go : (v : Bool) → Same b ms (beginUndoIn within (k + 1) e ms .marks)
-          → Same b ms (elim v as (λ _. Begun) [ true ↦ beginPart 2 within (k + 1) ms | false ↦ beginUndoIn within (k + 1) e ms ] .marks)
-      go true x = same-part 2 within b (k + 1) ms (omega arith)
-      go false x = x
+      go : (x y z : Bool) → Same b ms (beginUndoFirst within (k + 1) e ms .marks) → Same b ms (beginUndoIn within (k + 1) e ms .marks)
+          → Same b ms (elim x as (λ _. Begun) [
+            | true ↦ cond y (cond z (beginPart 2 within (k + 1) ms) (nothingBegun ms)) (beginUndoFirst within (k + 1) e ms)
+            | false ↦ beginUndoIn within (k + 1) e ms
+          ] .marks)
+      go true true true f g = same-part 2 within b (k + 1) ms (omega arith)
+      go true true false f g = same-itself b ms
+      go true false z f g = f
+      go false y z f g = g
+
+  same-undo-first : (l : Acts) (b c e : ℕ) (ms : List ℕ) → b ≤ c → Same b ms (beginUndoFirst l c e ms .marks)
+  same-undo-first none b c e ms h = same-itself b ms
+  same-undo-first (more a l) b c e ms h = same-undo a b c e ms h
 
   same-undo-in : (l : Acts) (b c e : ℕ) (ms : List ℕ) → b ≤ c → Same b ms (beginUndoIn l c e ms .marks)
   same-undo-in none b c e ms h = same-itself b ms
@@ -199,7 +210,7 @@ root-then root x y = record { same = tt }
 root-then (inner k) x y = record { same = y .same ∙ x .same }
 
 -- what is remembered has no mark
-mark-remembering : (n : Name) (l : List ℕ) (o : Order) → markOf n (remembering l o) ≡ markOf n o
+mark-remembering : (n : Name) (l : List Closing) (o : Order) → markOf n (remembering l o) ≡ markOf n o
 mark-remembering root l o = refl
 mark-remembering (inner k) l o = refl
 

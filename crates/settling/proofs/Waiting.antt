@@ -6,14 +6,14 @@ use mathlib.Core.Bool.{Bool, true, false, _&&_}
 use mathlib.Core.List.{List, [], _∷_, _++_}
 use lib.ListN.{getD}
 use lib.Dec.{eqb}
-use Rattle.plan.specs.Tree.{Own, kind, Act, act, Acts, none, more, Plan, size, sizes}
+use Rattle.plan.specs.Tree.{Own, isPick, Act, act, Acts, none, more, Plan, size, sizes}
 use Rattle.order.specs.declared.Order.{Order}
 use Rattle.order.specs.State.{active}
 use Rattle.order.specs.Awaited.{doingOf, awaits, Ready, readyIn, readyAmong, readyOf}
 
 -- whether the arms of an activity are open
 abbrev pub opens : Own → (mark : ℕ) → Bool
-opens own m = eqb (kind own) 10 && eqb m active
+opens own m = isPick own && eqb m active
 
 mutual
   -- activity t in an activity k awaits its step; `b` is whether k is an open arm

@@ -17,7 +17,7 @@ use super::names::is_correlation;
 use super::table::add;
 use super::table::begin;
 
-// What an activity is: its kind (12 for an arm), the next row, or what is wrong.
+// What an activity is: its kind (255 for an arm, 12 for a scope), the next row, or what is wrong.
 pub struct Own {
     pub kind: usize,
     pub row: usize,
@@ -174,7 +174,7 @@ fn exchange(s: &[u8], stop: usize, at: usize, rows: &mut [u32; 87100], r: usize)
     tuple(s, stop, d, rows, r)
 }
 
-// A send (1), a receive (2) or an arm (12), from its partner on.
+// A send (1), a receive (2) or an arm (255), from its partner on.
 fn message(
     s: &[u8],
     stop: usize,
@@ -288,7 +288,7 @@ fn own_of(kind: usize, r: usize) -> Own {
     }
 }
 
-// How an activity begins: the kind that its first word tells, 13 for those of one word, and the place after what tells it.
+// How an activity begins: the kind that its first word tells, 256 for those of one word, and the place after what tells it.
 pub struct Begun {
     pub kind: usize,
     pub at: usize,
@@ -335,9 +335,9 @@ fn opening(s: &[u8], at: usize) -> Begun {
     }
     let arm = after_word(s, at, b"arm");
     if 0 < arm {
-        return Begun { kind: 12, at: arm };
+        return Begun { kind: 255, at: arm };
     }
-    Begun { kind: 13, at }
+    Begun { kind: 256, at }
 }
 
 // An activity that is its code and an expression.
@@ -374,7 +374,7 @@ pub(crate) fn activity(
         3 => set(s, stop, o.at, rows, lines, r, line),
         6 => judged(s, stop, o.at, 6, rows, lines, r, line),
         7 => judged(s, stop, o.at, 7, rows, lines, r, line),
-        12 => arm_of(s, stop, after_mark(s, o.at, 58), rows, r),
+        255 => arm_of(s, stop, after_mark(s, o.at, 58), rows, r),
         _ => worded(s, o.at, rows, r),
     }
 }
@@ -387,7 +387,7 @@ fn arm_of(s: &[u8], stop: usize, at: usize, rows: &mut [u32; 87100], r: usize) -
     if receive == 0 {
         return bad(26);
     }
-    message(s, stop, after_word(s, receive, b"from"), 12, rows, r)
+    message(s, stop, after_word(s, receive, b"from"), 255, rows, r)
 }
 
 // An activity of one word.
@@ -418,7 +418,7 @@ fn worded(s: &[u8], at: usize, rows: &mut [u32; 87100], r: usize) -> Own {
     }
     let scope = after_word(s, at, b"scope");
     if 0 < scope {
-        return plain(s, scope, 11, rows, r);
+        return plain(s, scope, 12, rows, r);
     }
     bad(6)
 }

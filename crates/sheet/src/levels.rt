@@ -1,5 +1,6 @@
 // The activities that a line may stand in: those that are open, the outermost first. Each has its column, its kind, its row, how many stand directly
-// in it, and their column. The root is the first, with the kind 13.
+// in it, and their column. Kinds are the codes, but for the arm, which is 255, the root, which is the first and 256, and a scope, which is 12 with an undo
+// part and without.
 use super::table::put;
 
 fn field(levels: &[usize; 512], level: usize, f: usize) -> usize {
@@ -45,18 +46,22 @@ fn wanted(kind: usize) -> usize {
         8 => 1000000,
         9 => 1000000,
         10 => 1000000,
-        11 => 3,
-        12 => 1,
-        13 => 2,
+        12 => 3,
+        255 => 1,
+        256 => 2,
         _ => 0,
     }
 }
 
-// Whether what stands in an open activity is whole.
+// Whether what stands in an open activity is whole. Of a scope the undo part may be left out.
 pub(crate) fn is_whole(levels: &[usize; 512], level: usize) -> bool {
-    let w = wanted(field(levels, level, 1));
+    let kind = field(levels, level, 1);
+    let w = wanted(kind);
     if w == 1000000 {
         return true;
+    }
+    if kind == 12 {
+        return 1 < field(levels, level, 3);
     }
     field(levels, level, 3) == w
 }
@@ -73,8 +78,8 @@ pub(crate) fn stands_in(levels: &[usize; 512], level: usize, column: usize) -> b
 pub(crate) fn part(levels: &[usize; 512], level: usize) -> usize {
     let order = field(levels, level, 3);
     match field(levels, level, 1) {
-        13 => of_root(order),
-        11 => of_scope(order),
+        256 => of_root(order),
+        12 => of_scope(order),
         6 => of_choose(order),
         _ => 0,
     }
@@ -107,9 +112,9 @@ fn of_choose(order: usize) -> usize {
 // Whether an activity of this kind may stand in one of that kind: arms in a pick, and nowhere else.
 fn fits(kind: usize, outer: usize) -> bool {
     if outer == 10 {
-        return kind == 12;
+        return kind == 255;
     }
-    if kind == 12 {
+    if kind == 255 {
         return false;
     }
     true
@@ -130,7 +135,8 @@ fn is_aligned(levels: &[usize; 512], level: usize, column: usize) -> bool {
     false
 }
 
-// One more stands in an open activity: what is wrong with it, by its reason, or 0. A list's count goes into its row.
+// One more stands in an open activity: what is wrong with it, by its reason, or 0. A list's count goes into its row, and the code of a scope that has an
+// undo part.
 pub(crate) fn enter(
     levels: &mut [usize; 512],
     level: usize,
@@ -159,6 +165,11 @@ fn count(rows: &mut [u32; 87100], outer: usize, row: usize, order: usize) {
     if wanted(outer) == 1000000 {
         if order < 4294967295 {
             put(rows, row, 2, order as u32 + 1);
+        }
+    }
+    if outer == 12 {
+        if order == 2 {
+            put(rows, row, 1, 11);
         }
     }
 }

@@ -1,5 +1,5 @@
 pub mod Sighting
 mod Rowed
-mod Directed
 mod Closes
+mod Remembered
 pub mod RowSeen

@@ -1,17 +1,17 @@
 -- What a row has on offer. Assumes nothing.
 use mathlib.Core.Path.{_≡_, refl, sym, ap, _∙_}
-use mathlib.Core.Bool.{Bool, true, false, cond, _||_}
+use mathlib.Core.Bool.{Bool, true, false, false≢true, cond, _||_}
 use mathlib.Core.List.{List, [], _∷_, map}
 use Prim.Native.Nat.{ℕ, _+_, _*_, _<_, _≤_}
 use native.Mathlib.Omega.{arith}
-use borrow.Author.Tests.{ne-eqb, le-leb, lt-leb}
+use borrow.Author.Tests.{eqb-true, ne-eqb, le-leb, lt-leb}
 use lib.Dec.{eqb}
 use lib.ListN.{getD}
 use Rattle.plan.specs.Spells.{Spells, variablesOf}
 use Rattle.plan.specs.Table.{rowOf}
 use Rattle.plan.specs.Tree.{Own, empty, send, receive, set as setting, raise, leave, choose, repeat, sequence, flow, pick, scope, arm, kind, Acts, Plan}
 use Rattle.order.specs.declared.Order.{Order}
-use Rattle.machine.specs.Fit.{noStep, takes, moves, cuts, doingOf, Letter, mayTake}
+use Rattle.machine.specs.Fit.{noStep, takes, moves, cuts, closes, doingOf, Letter, mayTake}
 use Rattle.order.specs.Lists.{only}
 use Rattle.machine.specs.Offer.{Offer, offering, noOffers, unlessHeld, stepOffers}
 use Rattle.order.specs.Scope.{Scope, scopeAt}
@@ -30,6 +30,10 @@ or-false false = refl
 pub or-true : (b : Bool) → (b || true) ≡ true
 or-true true = refl
 or-true false = refl
+
+or-neither : (a b : Bool) → (a || b) ≡ false → (a ≡ false) × (b ≡ false)
+or-neither true b e = absurd (false≢true (sym e))
+or-neither false b e = (refl, e)
 
 -- what is seen of the parts of an offer
 pub seen-none : (s : Sight) → seen noOffers s ≡ s
@@ -65,7 +69,8 @@ doing-own (repeat e) w k q at = refl
 doing-own sequence w k q at = refl
 doing-own flow w k q at = refl
 doing-own pick w k q at = refl
-doing-own scope w k q at = refl
+doing-own (scope true) w k q at = refl
+doing-own (scope false) w k q at = refl
 doing-own (arm a b vs) w k q at = refl
 
 stands-doing : {t ms : List ℕ} {k : ℕ} {x : Line} → Stands t ms k x
@@ -81,19 +86,37 @@ doing-moves n a b vs s h g =
     rw (
       ne-eqb n 1 (λ q. omega arith),
       ne-eqb n 2 (λ q. omega arith),
-      ne-eqb n 12 (λ q. omega arith),
+      ne-eqb n 255 (λ q. omega arith),
       ne-eqb n 11 (λ q. omega arith),
+      ne-eqb n 12 (λ q. omega arith),
       le-leb 3 n h,
       le-leb n 7 g,
     )
 
-doing-nothing : (n a b : ℕ) (vs : List ℕ) (s : Scope) → 7 < n → (n ≡ 12 → ⊥) → (n ≡ 11 → ⊥) → doingBy n a b vs s ≡ noStep
+doing-nothing : (n a b : ℕ) (vs : List ℕ) (s : Scope) → 7 < n → (n ≡ 255 → ⊥) → (eqb n 11 || eqb n 12) ≡ false → doingBy n a b vs s ≡ noStep
 unfolding doingBy
-doing-nothing n a b vs s h x y =
-    rw (ne-eqb n 1 (λ q. omega arith), ne-eqb n 2 (λ q. omega arith), ne-eqb n 12 x, ne-eqb n 11 y, le-leb 3 n (omega arith), lt-leb n 7 h)
+doing-nothing n a b vs s h x e =
+    let y = or-neither (eqb n 11) (eqb n 12) e in
+    rw (ne-eqb n 1 (λ q. omega arith), ne-eqb n 2 (λ q. omega arith), ne-eqb n 255 x, y .0, y .1, le-leb 3 n (omega arith), lt-leb n 7 h)
+
+-- a scope's step is its close
+scope-kind : (n : ℕ) → (eqb n 11 || eqb n 12) ≡ true → n ≡ cond (eqb n 11) 11 12
+scope-kind n e = go (eqb n 11) refl e
+  where
+    go : (b : Bool) → eqb n 11 ≡ b → (b || eqb n 12) ≡ true → n ≡ cond b 11 12
+    go true z e = eqb-true n 11 z
+    go false z e = eqb-true n 12 e
+
+doing-closes : (n a b : ℕ) (vs : List ℕ) (s : Scope) → (eqb n 11 || eqb n 12) ≡ true → doingBy n a b vs s ≡ closes (eqb n 11) s
+unfolding doingBy
+doing-closes n a b vs s e = go (eqb n 11) (scope-kind n e)
+  where
+    go : (u : Bool) → n ≡ cond u 11 12 → doingBy n a b vs s ≡ closes (eqb n 11) s
+    go true z = rw z
+    go false z = rw z
 
 -- `doing_row`
-module _ (t known bound remembered : List ℕ) (kept i k : ℕ) (letters : List ℕ) (wait : ℕ) (least : List ℕ) (s : Sight) where
+module _ (t known bound parts : List ℕ) (kept i k : ℕ) (letters : List ℕ) (wait : ℕ) (least : List ℕ) (s : Sight) where
   doing-says : (n : ℕ) → getD t (k * 13) 0 ≡ n → (o : Order) (p : Plan) (l : List Letter) (x : Line) → Stands t (o .marks) k x
       → doingLine wait i o p l x s
       ≡ seen (stepOffers p wait l i o k (doingBy n (getD t (k * 13 + 1) 0) (getD t (k * 13 + 2) 0) (variablesOf (x .own)) (scopeAt k (x .within)))) s
@@ -101,12 +124,12 @@ module _ (t known bound remembered : List ℕ) (kept i k : ℕ) (letters : List 
   doing-says n z o p l x y = rw (y .activity, stands-doing y, z)
 
   module _ (z : getD t (k * 13) 0 ≡ 1) where
-    pub send-room : {r : Sight} → wait < 64 → r ≡ showing i k 0 s → Rows t k (Serving known bound remembered kept letters wait least) (doingLine wait i) s r
+    pub send-room : {r : Sight} → wait < 64 → r ≡ showing i k 0 s → Rows t k (Serving known bound parts kept letters wait least) (doingLine wait i) s r
     unfolding stepOffers doingBy
     send-room h q = record { is = λ o p l x g y. q ∙ sym (doing-says 1 z o p l x y ∙ rw (lt-leb 64 wait h) (seen-show i k 0 s)) }
 
     module _ (h : 64 ≤ wait) {b : Bool} (v : BoundRow t bound k b) where
-      pub send-held : {r : Sight} → b ≡ true → r ≡ withholding s → Rows t k (Serving known bound remembered kept letters wait least) (doingLine wait i) s r
+      pub send-held : {r : Sight} → b ≡ true → r ≡ withholding s → Rows t k (Serving known bound parts kept letters wait least) (doingLine wait i) s r
       unfolding stepOffers doingBy
       send-held e q = record {
         is = λ o p l x g y.
@@ -114,7 +137,7 @@ module _ (t known bound remembered : List ℕ) (kept i k : ℕ) (letters : List 
             ∙ rw (le-leb 64 wait h, sym (v .is o _ _ (variablesOf (x .own)) (g .bindings) (g .sixteen) (stands-exchange y) (y .few)) ∙ e) (seen-hold (offering i k 0 ∷ []) s));
       }
 
-      pub send-raises : {r : Sight} → b ≡ false → r ≡ showing i k 0 s → Rows t k (Serving known bound remembered kept letters wait least) (doingLine wait i) s r
+      pub send-raises : {r : Sight} → b ≡ false → r ≡ showing i k 0 s → Rows t k (Serving known bound parts kept letters wait least) (doingLine wait i) s r
       unfolding stepOffers doingBy
       send-raises e q = record {
         is = λ o p l x g y.
@@ -131,36 +154,39 @@ module _ (t known bound remembered : List ℕ) (kept i k : ℕ) (letters : List 
       ∙ (fold-only (λ v. showing i k (v .place)) (mayTake p o (getD t (k * 13 + 1) 0) (getD t (k * 13 + 2) 0) (variablesOf (x .own))) l s ∙ rw (y .activity))
 
   module _ {r : Sight} (w : Rows t k (Heeding known letters wait least) (takeLine i (getD t (k * 13 + 1) 0) (getD t (k * 13 + 2) 0)) s r) where
-    pub receive-takes : getD t (k * 13) 0 ≡ 2 → Rows t k (Serving known bound remembered kept letters wait least) (doingLine wait i) s r
+    pub receive-takes : getD t (k * 13) 0 ≡ 2 → Rows t k (Serving known bound parts kept letters wait least) (doingLine wait i) s r
     unfolding doingBy
     receive-takes z = record { is = λ o p l x g y. w .is o p l x (g .heeding) y ∙ sym (doing-says 2 z o p l x y ∙ seen-takes o p l x y) }
 
-    pub arm-takes : getD t (k * 13) 0 ≡ 12 → Rows t k (Serving known bound remembered kept letters wait least) (doingLine wait i) s r
+    pub arm-takes : getD t (k * 13) 0 ≡ 255 → Rows t k (Serving known bound parts kept letters wait least) (doingLine wait i) s r
     unfolding doingBy
-    arm-takes z = record { is = λ o p l x g y. w .is o p l x (g .heeding) y ∙ sym (doing-says 12 z o p l x y ∙ seen-takes o p l x y) }
+    arm-takes z = record { is = λ o p l x g y. w .is o p l x (g .heeding) y ∙ sym (doing-says 255 z o p l x y ∙ seen-takes o p l x y) }
 
-  module _ (z : getD t (k * 13) 0 ≡ 11) {b : Bool} (v : ClosesRow t remembered kept k b) where
-    pub close-held : {r : Sight} → b ≡ true → r ≡ withholding s → Rows t k (Serving known bound remembered kept letters wait least) (doingLine wait i) s r
-    unfolding stepOffers doingBy
-    close-held e q = record {
-      is = λ o p l x g y. q ∙ sym (doing-says 11 z o p l x y ∙ rw (sym (v .is o x (g .memory) (g .places) (g .many) y (sym (stands-kind y) ∙ z)) ∙ e) (seen-hold (offering i k 0 ∷ []) s));
-    }
+  module _ {c : Bool} (z : c ≡ (eqb (getD t (k * 13) 0) 11 || eqb (getD t (k * 13) 0) 12)) (d : c ≡ true) {b : Bool} (v : ClosesRow (getD t (k * 13) 0) parts kept k b) where
+    closes-says : (o : Order) (p : Plan) (l : List Letter) (x : Line) → Serving known bound parts kept letters wait least o p l → Stands t (o .marks) k x
+        → doingLine wait i o p l x s ≡ seen (unlessHeld b (offering i k 0 ∷ [])) s
+    unfolding stepOffers
+    closes-says o p l x g y =
+        doing-says (getD t (k * 13) 0) refl o p l x y
+        ∙ (ap (λ d. seen (stepOffers p wait l i o k d) s) (doing-closes (getD t (k * 13) 0) _ _ (variablesOf (x .own)) (scopeAt k (x .within)) (sym z ∙ d))
+        ∙ ap (λ h. seen (unlessHeld h (offering i k 0 ∷ [])) s)
+          (sym (v .is o (eqb (getD t (k * 13) 0) 11) (x .within) (g .memory) (g .many) (scope-kind (getD t (k * 13) 0) (sym z ∙ d)))))
 
-    pub close-shown : {r : Sight} → b ≡ false → r ≡ showing i k 0 s → Rows t k (Serving known bound remembered kept letters wait least) (doingLine wait i) s r
-    unfolding stepOffers doingBy
-    close-shown e q = record {
-      is = λ o p l x g y. q ∙ sym (doing-says 11 z o p l x y ∙ rw (sym (v .is o x (g .memory) (g .places) (g .many) y (sym (stands-kind y) ∙ z)) ∙ e) (seen-show i k 0 s));
-    }
+    pub close-held : {r : Sight} → b ≡ true → r ≡ withholding s → Rows t k (Serving known bound parts kept letters wait least) (doingLine wait i) s r
+    close-held e q = record { is = λ o p l x g y. q ∙ sym (closes-says o p l x g y ∙ rw e (seen-hold (offering i k 0 ∷ []) s)) }
+
+    pub close-shown : {r : Sight} → b ≡ false → r ≡ showing i k 0 s → Rows t k (Serving known bound parts kept letters wait least) (doingLine wait i) s r
+    close-shown e q = record { is = λ o p l x g y. q ∙ sym (closes-says o p l x g y ∙ rw e (seen-show i k 0 s)) }
 
   pub doing-empty : (getD t (k * 13) 0 ≡ 1 → ⊥) → (getD t (k * 13) 0 ≡ 2 → ⊥) → getD t (k * 13) 0 < 3
-      → Rows t k (Serving known bound remembered kept letters wait least) (doingLine wait i) s s
+      → Rows t k (Serving known bound parts kept letters wait least) (doingLine wait i) s s
   unfolding stepOffers doingBy
   doing-empty x1 x2 h =
       let z : getD t (k * 13) 0 ≡ 0 = omega (arith, x1, x2) in
       record { is = λ o p l x g y. sym (doing-says 0 z o p l x y ∙ seen-none s) }
 
   pub doing-step : {r : Sight} → 3 ≤ getD t (k * 13) 0 → getD t (k * 13) 0 ≤ 7 → r ≡ showing i k 0 s
-      → Rows t k (Serving known bound remembered kept letters wait least) (doingLine wait i) s r
+      → Rows t k (Serving known bound parts kept letters wait least) (doingLine wait i) s r
   unfolding stepOffers
   doing-step h g q = record {
     is = λ o p l x v y.
@@ -173,49 +199,49 @@ module _ (t known bound remembered : List ℕ) (kept i k : ℕ) (letters : List 
       by-test o p l true = seen-show i k 0 s
       by-test o p l false = seen-show i k 0 s
 
-  pub doing-none : 7 < getD t (k * 13) 0 → (getD t (k * 13) 0 ≡ 12 → ⊥) → (getD t (k * 13) 0 ≡ 11 → ⊥)
-      → Rows t k (Serving known bound remembered kept letters wait least) (doingLine wait i) s s
+  pub doing-none : {b : Bool} → 7 < getD t (k * 13) 0 → (getD t (k * 13) 0 ≡ 255 → ⊥) → b ≡ (eqb (getD t (k * 13) 0) 11 || eqb (getD t (k * 13) 0) 12) → b ≡ false
+      → Rows t k (Serving known bound parts kept letters wait least) (doingLine wait i) s s
   unfolding stepOffers
-  doing-none h x1 x2 = record {
+  doing-none h x1 x2 e = record {
     is = λ o p l x v y.
         sym (doing-says (getD t (k * 13) 0) refl o p l x y
-        ∙ (ap (λ d. seen (stepOffers p wait l i o k d) s) (doing-nothing (getD t (k * 13) 0) _ _ (variablesOf (x .own)) (scopeAt k (x .within)) h x1 x2)
+        ∙ (ap (λ d. seen (stepOffers p wait l i o k d) s) (doing-nothing (getD t (k * 13) 0) _ _ (variablesOf (x .own)) (scopeAt k (x .within)) h x1 (sym x2 ∙ e))
         ∙ seen-none s));
   }
 
 -- `offer_row`
-module _ {t picks marks : List ℕ} (known bound remembered : List ℕ) (kept i : ℕ) {k : ℕ} (letters : List ℕ) (wait : ℕ) (least : List ℕ) (s : Sight) {b : Bool}
+module _ {t picks marks : List ℕ} (known bound parts : List ℕ) (kept i : ℕ) {k : ℕ} (letters : List ℕ) (wait : ℕ) (least : List ℕ) (s : Sight) {b : Bool}
     (w : AwaitsRow t picks marks k b) where
   ready-says : (o : Order) (x : Line) → Picks t picks → o .marks ≡ marks → Stands t (o .marks) k x → isReady (o .marks) x ≡ b
   ready-says o x v e y = sym (rw (← e) at w .is x v y)
 
   pub offer-idle : (cutting : Bool) → b ≡ false
-      → Rows t k (Opening t picks marks known bound remembered kept letters wait least) (offerLine cutting wait i) s s
+      → Rows t k (Opening t picks marks known bound parts kept letters wait least) (offerLine cutting wait i) s s
   unfolding offerLine
   offer-idle cutting e = record { is = λ o p l x g y. rw (ready-says o x (g .picked) (g .marked) y ∙ e) }
 
   module _ (e : b ≡ true) {cutting : Bool} where
-    pub offer-free : {r : Sight} → cutting ≡ false → Rows t k (Serving known bound remembered kept letters wait least) (doingLine wait i) s r
-        → Rows t k (Opening t picks marks known bound remembered kept letters wait least) (offerLine cutting wait i) s r
+    pub offer-free : {r : Sight} → cutting ≡ false → Rows t k (Serving known bound parts kept letters wait least) (doingLine wait i) s r
+        → Rows t k (Opening t picks marks known bound parts kept letters wait least) (offerLine cutting wait i) s r
     unfolding offerLine
     offer-free z d = record { is = λ o p l x g y. rw (ready-says o x (g .picked) (g .marked) y ∙ e, z) (d .is o p l x (g .serving) y) }
 
     module _ (z : cutting ≡ true) {c : Bool} (v : CutRow t k c) where
-      pub offer-cut : {r : Sight} → c ≡ true → Rows t k (Serving known bound remembered kept letters wait least) (doingLine wait i) s r
-          → Rows t k (Opening t picks marks known bound remembered kept letters wait least) (offerLine cutting wait i) s r
+      pub offer-cut : {r : Sight} → c ≡ true → Rows t k (Serving known bound parts kept letters wait least) (doingLine wait i) s r
+          → Rows t k (Opening t picks marks known bound parts kept letters wait least) (offerLine cutting wait i) s r
       unfolding offerLine
       offer-cut q d = record {
         is = λ o p l x g y.
             rw (ready-says o x (g .picked) (g .marked) y ∙ e, z, sym (v .is (o .marks) x y) ∙ q) (d .is o p l x (g .serving) y);
       }
 
-      pub offer-aside : c ≡ false → Rows t k (Opening t picks marks known bound remembered kept letters wait least) (offerLine cutting wait i) s s
+      pub offer-aside : c ≡ false → Rows t k (Opening t picks marks known bound parts kept letters wait least) (offerLine cutting wait i) s s
       unfolding offerLine
       offer-aside q = record {
         is = λ o p l x g y. rw (ready-says o x (g .picked) (g .marked) y ∙ e, z, sym (v .is (o .marks) x y) ∙ q);
       }
 
 -- `offer_rows`: of more than 64 messages nothing is known
-pub offer-full : (t picks marks known bound remembered : List ℕ) (kept i n : ℕ) (cutting : Bool) (letters : List ℕ) {wait : ℕ} (least : List ℕ) (s : Sight) → 64 < wait
-    → Wholes t n (Opening t picks marks known bound remembered kept letters wait least) (offerLine cutting wait i) s s
-offer-full t picks marks known bound remembered kept i n cutting letters least s h = record { is = λ o p l g q. absurd (omega (arith, g .serving .heeding .told .few)) }
+pub offer-full : (t picks marks known bound parts : List ℕ) (kept i n : ℕ) (cutting : Bool) (letters : List ℕ) {wait : ℕ} (least : List ℕ) (s : Sight) → 64 < wait
+    → Wholes t n (Opening t picks marks known bound parts kept letters wait least) (offerLine cutting wait i) s s
+offer-full t picks marks known bound parts kept i n cutting letters least s h = record { is = λ o p l g q. absurd (omega (arith, g .serving .heeding .told .few)) }

@@ -25,24 +25,35 @@ use Rattle.fit.specs.Folds.{folded}
 use Rattle.fit.specs.Lines.{Line, isReady, readyAt, Stands, Rows}
 use Rattle.sight.specs.Sights.{Marked, Heeding, Told, Tells, noLetter, AwaitsRow, CutRow, cutLine, BoundRow, showing, takeLetter, TakesLetter, takeLine}
 use Rattle.fit.proofs.FitReturns.{sixteenth-beyond, sixteenth-here, asks-asking}
+use Rattle.fit.proofs.OwnKinds.{awaits-kind}
 use Rattle.fit.proofs.SearchReturns.{stands-kind, stands-exchange, and-false}
+
+-- `is_scope`
+pub scope-undone : (n : ℕ) → n ≡ 11 → true ≡ (eqb n 11 || eqb n 12)
+scope-undone n e = rw (eq-eqb _ _ e)
+
+pub scope-other : (n : ℕ) → (n ≡ 11 → ⊥) → eqb n 12 ≡ (eqb n 11 || eqb n 12)
+scope-other n e = rw (ne-eqb _ _ e)
 
 -- `awaits_at`
 module _ (t picks ms : List ℕ) (k : ℕ) where
-  pub awaits-arm : {b : Bool} → getD t (k * 13) 0 ≡ 12 → ArmsRow t picks ms k b → AwaitsRow t picks ms k b
-  unfolding awaits
-  awaits-arm z q = record { is = λ x w y. rw (sym (stands-kind y) ∙ z) (q .is (y .inside) w z ∙ sym (y .arms)) }
-
-  pub awaits-scope : getD t (k * 13) 0 ≡ 11 → AwaitsRow t picks ms k (eqb (getD ms k 0) 3)
-  unfolding awaits
-  awaits-scope z = record { is = λ x w y. rw (sym (stands-kind y) ∙ z, y .activity) }
-
-  pub awaits-other : (getD t (k * 13) 0 ≡ 12 → ⊥) → (getD t (k * 13) 0 ≡ 11 → ⊥) → AwaitsRow t picks ms k (eqb (getD ms k 0) 1)
-  unfolding awaits
-  awaits-other z v = record {
-    is = λ x w y.
-        rw (ne-eqb (kind (x .own)) 12 (λ q. z (stands-kind y ∙ q)), ne-eqb (kind (x .own)) 11 (λ q. v (stands-kind y ∙ q)), y .activity);
+  pub awaits-arm : {b : Bool} → getD t (k * 13) 0 ≡ 255 → ArmsRow t picks ms k b → AwaitsRow t picks ms k b
+  awaits-arm z q = record {
+    is = λ x w y. rw (awaits-kind (x .own), sym (stands-kind y) ∙ z) (q .is (y .inside) w z ∙ sym (y .arms));
   }
+
+  module _ (z : getD t (k * 13) 0 ≡ 255 → ⊥) {b : Bool} (v : b ≡ (eqb (getD t (k * 13) 0) 11 || eqb (getD t (k * 13) 0) 12)) where
+    pub awaits-scope : b ≡ true → AwaitsRow t picks ms k (eqb (getD ms k 0) 3)
+    awaits-scope e = record {
+      is = λ x w y.
+          rw (awaits-kind (x .own), ne-eqb (kind (x .own)) 255 (λ q. z (stands-kind y ∙ q)), ← stands-kind y, sym v ∙ e, y .activity);
+    }
+
+    pub awaits-other : b ≡ false → AwaitsRow t picks ms k (eqb (getD ms k 0) 1)
+    awaits-other e = record {
+      is = λ x w y.
+          rw (awaits-kind (x .own), ne-eqb (kind (x .own)) 255 (λ q. z (stands-kind y ∙ q)), ← stands-kind y, sym v ∙ e, y .activity);
+    }
 
 -- `is_cut`
 cut-own : (own : Own) (w : Acts) (k : ℕ) → isCut (record { activity = k; step = doingOf own w k }) ≡ (eqb (kind own) 4 || eqb (kind own) 5)
@@ -58,7 +69,8 @@ cut-own (repeat e) w k = refl
 cut-own sequence w k = refl
 cut-own flow w k = refl
 cut-own pick w k = refl
-cut-own scope w k = refl
+cut-own (scope true) w k = refl
+cut-own (scope false) w k = refl
 cut-own (arm a b vs) w k = refl
 
 pub cut-raise : (t : List ℕ) (k : ℕ) → getD t (k * 13) 0 ≡ 4 → CutRow t k true
@@ -84,7 +96,7 @@ cut-awaits (repeat x) w k b m e = refl
 cut-awaits sequence w k b m e = refl
 cut-awaits flow w k b m e = refl
 cut-awaits pick w k b m e = refl
-cut-awaits scope w k b m e = absurd (false≢true e)
+cut-awaits (scope u) w k b m e = absurd (false≢true e)
 cut-awaits (arm a d vs) w k b m e = absurd (false≢true e)
 
 cond-same : {A : Type 0} (b : Bool) (x : A) → cond b x x ≡ x

@@ -5,8 +5,8 @@ use mathlib.Core.List.{List, []}
 use mathlib.Core.Path.{_≡_}
 use lib.Dec.{leb, eqb}
 use lib.ListN.{length, getD}
-use Rattle.plan.specs.Spells.{Spells, variablesOf}
-use Rattle.plan.specs.Tree.{kind, Act, Plan}
+use Rattle.plan.specs.Spells.{variablesOf}
+use Rattle.plan.specs.Tree.{Acts, Plan}
 use Rattle.machine.specs.declared.Message.{Message}
 use Rattle.order.specs.declared.Order.{Order}
 use Rattle.machine.specs.declared.Step.{Step}
@@ -15,8 +15,8 @@ use Rattle.machine.specs.Calls.{Chosen, refusedChoice, chosen, previewed}
 use Rattle.machine.specs.Fit.{Doing, noStep, sends, takes, moves, cuts, closes, doingOf, Letter, mayTake}
 use Rattle.order.specs.Lists.{every}
 use Rattle.machine.specs.Offer.{Offer, offering, Offers, isCut, closeHeld, stepOffers}
-use Rattle.order.specs.Scope.{Scope, scopeAt, directly}
-use Rattle.order.specs.State.{isBound}
+use Rattle.order.specs.Scope.{Scope, scopeAt}
+use Rattle.order.specs.State.{closingOf, isBound}
 use Rattle.machine.specs.State.{noMessage}
 use Rattle.sight.specs.declared.Pointer.{Pointer}
 use Rattle.sight.specs.declared.Sight.{Sight}
@@ -81,28 +81,33 @@ pub record Heeding (known letters : List ℕ) (waiting : ℕ) (least : List ℕ)
   pub knows : Knows known p o
   pub told : Told l letters waiting least
 
+-- `parts` has the parts that an order's closings are remembered for, one for each of the 32 places there are
+pub record Remembers (o : Order) (parts : List ℕ) : Type 0 where
+  pub long : length (o .remembered) ≡ 32
+  pub is : (i : ℕ) → i < 32 → getD parts i 0 ≡ getD (o .remembered) i (closingOf 0 0) .part
+
 -- with what it remembers and which variables are bound
-pub record Serving (known bound remembered : List ℕ) (kept : ℕ) (letters : List ℕ) (waiting : ℕ) (least : List ℕ) (o : Order) (p : Plan) (l : List Letter) : Type 0 where
+pub record Serving (known bound parts : List ℕ) (kept : ℕ) (letters : List ℕ) (waiting : ℕ) (least : List ℕ) (o : Order) (p : Plan) (l : List Letter) : Type 0 where
   pub heeding : Heeding known letters waiting least o p l
   pub bindings : o .bound ≡ bound
   pub sixteen : length bound ≡ 16
-  pub memory : o .remembered ≡ remembered
-  pub places : length remembered ≡ 32
+  pub memory : Remembers o parts
   pub many : o .kept ≡ kept
 
 -- and its marks
-pub record Opening (t picks marks known bound remembered : List ℕ) (kept : ℕ) (letters : List ℕ) (waiting : ℕ) (least : List ℕ) (o : Order) (p : Plan) (l : List Letter) : Type 0 where
+pub record Opening (t picks marks known bound parts : List ℕ) (kept : ℕ) (letters : List ℕ) (waiting : ℕ) (least : List ℕ) (o : Order) (p : Plan) (l : List Letter) : Type 0 where
   pub picked : Picks t picks
   pub marked : o .marks ≡ marks
-  pub serving : Serving known bound remembered kept letters waiting least o p l
+  pub serving : Serving known bound parts kept letters waiting least o p l
 
 -- the step of a row, by its kind and its partner and operation
 unfoldable pub doingBy : (kind partner operation : ℕ) → (variables : List ℕ) → Scope → Doing
 doingBy n a b vs s =
     cond (eqb n 1) (sends a b vs)
-    (cond (eqb n 2 || eqb n 12) (takes a b vs)
-    (cond (eqb n 11) (closes s)
-    (cond (leb 3 n && leb n 7) (cond (eqb n 4 || eqb n 5) cuts moves) noStep)))
+    (cond (eqb n 2 || eqb n 255) (takes a b vs)
+    (cond (eqb n 11) (closes true s)
+    (cond (eqb n 12) (closes false s)
+    (cond (leb 3 n && leb n 7) (cond (eqb n 4 || eqb n 5) cuts moves) noStep))))
 
 -- r says whether row k awaits its step
 pub record AwaitsRow (t picks ms : List ℕ) (k : ℕ) (r : Bool) : Type 0 where
@@ -120,19 +125,9 @@ cutLine o p l x c = cond (isReady (o .marks) x) (isCut (readyAt x) || c) c
 pub record BoundRow (t bound : List ℕ) (k : ℕ) (r : Bool) : Type 0 where
   pub is : (o : Order) (a b : ℕ) (vs : List ℕ) → o .bound ≡ bound → length bound ≡ 16 → Exchange a b vs k t → length vs ≤ 4 → r ≡ every (isBound o) vs
 
--- r says whether row j is a scope with row e in it
-pub record Blocks (t : List ℕ) (j e : ℕ) (r : Bool) : Type 0 where
-  pub yes : r ≡ true → (getD t (j * 13) 0 ≡ 11) × (e < getD t (j * 13 + 11) 0)
-  pub no : r ≡ false → getD t (j * 13) 0 ≡ 11 → getD t (j * 13 + 11) 0 ≤ e
-
--- r says whether e is a scope of the activity in row n with no other scope around it there
-pub record DirectRow (t : List ℕ) (n e : ℕ) (r : Bool) : Type 0 where
-  pub is : (a : Act) (at q : ℕ) → Spells a at n q t → r ≡ directly a n e
-
--- r says whether the close in row k is held
-pub record ClosesRow (t remembered : List ℕ) (kept k : ℕ) (r : Bool) : Type 0 where
-  pub is : (o : Order) (x : Line) → o .remembered ≡ remembered → length remembered ≡ 32 → o .kept ≡ kept → Stands t (o .marks) k x → kind (x .own) ≡ 11
-      → r ≡ closeHeld o (scopeAt k (x .within))
+-- r says whether the close in row k, of a scope of this kind, is held
+pub record ClosesRow (kind : ℕ) (parts : List ℕ) (kept k : ℕ) (r : Bool) : Type 0 where
+  pub is : (o : Order) (undo : Bool) (within : Acts) → Remembers o parts → o .kept ≡ kept → kind ≡ cond undo 11 12 → r ≡ closeHeld o undo (scopeAt k within)
 
 -- what one message adds at a receive or arm
 unfoldable pub takeLetter : (slot partner operation : ℕ) → Order → Plan → Line → Letter → Sight → Sight

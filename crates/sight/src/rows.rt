@@ -9,11 +9,21 @@ use fit::search::arm_open;
 ghost use Prim.Native.Nat.{_+_, _*_, _≤_, _<_};
 ghost use lib.Dec.{eqb};
 ghost use lib.ListN.{getD};
-ghost use mathlib.Core.Bool.{false};
+ghost use mathlib.Core.Bool.{false, _||_};
 ghost use mathlib.Core.Path.{_≡_};
 ghost use Rattle.fit.specs.Answering.{sixteenth};
 ghost use Rattle.fit.specs.Lines.{Rows, Wholes};
-ghost use Rattle.sight.specs.Sights.{Marked, Heeding, Serving, Opening, AwaitsRow, CutRow, cutLine, BoundRow, Blocks, DirectRow, ClosesRow, TakesLetter, takeLine, doingLine, offerLine};
+ghost use Rattle.sight.specs.Sights.{Marked, Heeding, Serving, Opening, AwaitsRow, CutRow, cutLine, BoundRow, ClosesRow, TakesLetter, takeLine, doingLine, offerLine};
+
+// Whether a kind is that of a scope, with an undo part of its own or with none.
+fn is_scope(kind: u32) -> bool
+    ensures { λ r. ⌜ r ≡ (eqb kind 11 || eqb kind 12) ⌝ }
+{
+    if kind == 11 {
+        return true;
+    }
+    kind == 12
+}
 
 // Whether row k awaits its step.
 fn awaits_at(table: &[u32; 11584], picks: &[usize; 256], marks: &[u8; 256], k: usize) -> bool
@@ -21,10 +31,10 @@ fn awaits_at(table: &[u32; 11584], picks: &[usize; 256], marks: &[u8; 256], k: u
     ensures { λ r. ⌜ AwaitsRow (now (table .entry)) (now (picks .entry)) (now (marks .entry)) k r ⌝ }
 {
     let kind = table[k * 13];
-    if kind == 12 {
+    if kind == 255 {
         return arm_open(table, picks, marks, k);
     }
-    if kind == 11 {
+    if is_scope(kind) {
         return marks[k] == 3;
     }
     marks[k] == 1
@@ -152,49 +162,28 @@ fn take_row(
     c
 }
 
-// Whether row j is a scope with row e in it.
-fn blocks(table: &[u32; 11584], j: usize, e: usize) -> bool
-    requires { ⌜ (j < 256) × (e < 256) ⌝ }
-    ensures { λ r. ⌜ Blocks (now (table .entry)) j e r ⌝ }
-{
-    if table[j * 13] == 11 {
-        return (e as u32) < table[j * 13 + 11];
-    }
-    false
-}
-
-// Whether a number is that of a scope of the activity in row n with no other scope around it there.
-fn direct_in(table: &[u32; 11584], n: usize, number: u8) -> bool
-    ensures { λ r. ⌜ DirectRow (now (table .entry)) n number r ⌝ }
-{
-    let e = number as usize;
-    if e < n {
-        return false;
-    }
-    if table[n * 13 + 11] <= e as u32 {
-        return false;
-    }
-    let mut j = n;
-    while j < e {
-        if blocks(table, j, e) {
-            return false;
-        }
-        j += 1;
-    }
-    table[e * 13] == 11
-}
-
-// Whether the close in row k is held: all 32 places are taken, and it forgets nothing.
-fn close_held(table: &[u32; 11584], remembered: &[u8; 32], kept: usize, k: usize) -> bool
+// Whether a part is the body of the scope in row k.
+fn is_body(part: u8, k: usize) -> bool
     requires { ⌜ k < 256 ⌝ }
-    ensures { λ r. ⌜ ClosesRow (now (table .entry)) (now (remembered .entry)) kept k r ⌝ }
+    ensures { λ r. ⌜ r ≡ eqb part (k + 1) ⌝ }
 {
+    part as usize == k + 1
+}
+
+// Whether the close in row k, of a scope of this kind, is held: the scope has an undo part, all 32 places are taken, and the close forgets nothing.
+fn close_held(kind: u32, parts: &[u8; 32], kept: usize, k: usize) -> bool
+    requires { ⌜ k < 256 ⌝ }
+    ensures { λ r. ⌜ ClosesRow kind (now (parts .entry)) kept k r ⌝ }
+{
+    if kind == 12 {
+        return false;
+    }
     if kept < 32 {
         return false;
     }
     let mut i: usize = 0;
     while i < 32 {
-        if direct_in(table, k + 1, remembered[i]) {
+        if is_body(parts[i], k) {
             return false;
         }
         i += 1;
@@ -207,7 +196,7 @@ fn doing_row(
     table: &[u32; 11584],
     known: &[u64; 16],
     bound: &[u8; 16],
-    remembered: &[u8; 32],
+    parts: &[u8; 32],
     kept: usize,
     slot: usize,
     k: usize,
@@ -217,7 +206,7 @@ fn doing_row(
     s: Sight,
 ) -> Sight
     requires { ⌜ (k < 256) × (waiting ≤ 64) ⌝ }
-    ensures { λ r. ⌜ Rows (now (table .entry)) k (Serving (now (known .entry)) (now (bound .entry)) (now (remembered .entry)) kept (now (letters .entry)) waiting (now (least .entry))) (doingLine waiting slot) s r ⌝ }
+    ensures { λ r. ⌜ Rows (now (table .entry)) k (Serving (now (known .entry)) (now (bound .entry)) (now (parts .entry)) kept (now (letters .entry)) waiting (now (least .entry))) (doingLine waiting slot) s r ⌝ }
 {
     let kind = table[k * 13];
     if kind == 1 {
@@ -232,11 +221,11 @@ fn doing_row(
     if kind == 2 {
         return take_row(table, known, slot, k, letters, waiting, least, s);
     }
-    if kind == 12 {
+    if kind == 255 {
         return take_row(table, known, slot, k, letters, waiting, least, s);
     }
-    if kind == 11 {
-        if close_held(table, remembered, kept, k) {
+    if is_scope(kind) {
+        if close_held(kind, parts, kept, k) {
             return withheld(s);
         }
         return shown(s, slot, k, 0);
@@ -257,7 +246,7 @@ fn offer_row(
     marks: &[u8; 256],
     known: &[u64; 16],
     bound: &[u8; 16],
-    remembered: &[u8; 32],
+    parts: &[u8; 32],
     kept: usize,
     slot: usize,
     k: usize,
@@ -268,7 +257,7 @@ fn offer_row(
     s: Sight,
 ) -> Sight
     requires { ⌜ (k < 256) × (waiting ≤ 64) ⌝ }
-    ensures { λ r. ⌜ Rows (now (table .entry)) k (Opening (now (table .entry)) (now (picks .entry)) (now (marks .entry)) (now (known .entry)) (now (bound .entry)) (now (remembered .entry)) kept (now (letters .entry)) waiting (now (least .entry))) (offerLine cutting waiting slot) s r ⌝ }
+    ensures { λ r. ⌜ Rows (now (table .entry)) k (Opening (now (table .entry)) (now (picks .entry)) (now (marks .entry)) (now (known .entry)) (now (bound .entry)) (now (parts .entry)) kept (now (letters .entry)) waiting (now (least .entry))) (offerLine cutting waiting slot) s r ⌝ }
 {
     if awaits_at(table, picks, marks, k) {
         if cutting {
@@ -277,7 +266,7 @@ fn offer_row(
                     table,
                     known,
                     bound,
-                    remembered,
+                    parts,
                     kept,
                     slot,
                     k,
@@ -293,7 +282,7 @@ fn offer_row(
             table,
             known,
             bound,
-            remembered,
+            parts,
             kept,
             slot,
             k,
@@ -313,7 +302,7 @@ pub fn offer_rows(
     marks: &[u8; 256],
     known: &[u64; 16],
     bound: &[u8; 16],
-    remembered: &[u8; 32],
+    parts: &[u8; 32],
     kept: usize,
     slot: usize,
     activities: usize,
@@ -323,7 +312,7 @@ pub fn offer_rows(
     least: &[usize; 64],
     s: Sight,
 ) -> Sight
-    ensures { λ r. ⌜ Wholes (now (table .entry)) activities (Opening (now (table .entry)) (now (picks .entry)) (now (marks .entry)) (now (known .entry)) (now (bound .entry)) (now (remembered .entry)) kept (now (letters .entry)) waiting (now (least .entry))) (offerLine cutting waiting slot) s r ⌝ }
+    ensures { λ r. ⌜ Wholes (now (table .entry)) activities (Opening (now (table .entry)) (now (picks .entry)) (now (marks .entry)) (now (known .entry)) (now (bound .entry)) (now (parts .entry)) kept (now (letters .entry)) waiting (now (least .entry))) (offerLine cutting waiting slot) s r ⌝ }
 {
     if 256 < activities {
         return s;
@@ -340,7 +329,7 @@ pub fn offer_rows(
             marks,
             known,
             bound,
-            remembered,
+            parts,
             kept,
             slot,
             k,

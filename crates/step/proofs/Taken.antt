@@ -153,13 +153,13 @@ module _ (t : List ℕ) (n : ℕ) (s : State) (o : Order) (x j : ℕ) where
       of-kind 2 (λ (v : Own). Allowed (doingOf v l x) (s .waiting) o j → r ≡ messagesAfter (doingOf v l x) j o s)
       (λ a b vs al. y ∙ rw (le-leb _ _ w, lt-ltb _ _ al)) own (e ∙ h) al)
 
-  after-arm : {r : State} → getD t (x * 13) 0 ≡ 12 → r ≡ takenFrom j s → MovesMessages t n s o x j r
+  after-arm : {r : State} → getD t (x * 13) 0 ≡ 255 → r ≡ takenFrom j s → MovesMessages t n s o x j r
   unfolding doingOf Allowed messagesAfter takenFrom
   after-arm {r} h y = by-row (λ own l e st w al.
-      of-kind 12 (λ (v : Own). Allowed (doingOf v l x) (s .waiting) o j → r ≡ messagesAfter (doingOf v l x) j o s)
+      of-kind 255 (λ (v : Own). Allowed (doingOf v l x) (s .waiting) o j → r ≡ messagesAfter (doingOf v l x) j o s)
       (λ a b vs al. y ∙ rw (le-leb _ _ w, lt-ltb _ _ al)) own (e ∙ h) al)
 
-  after-none : (getD t (x * 13) 0 ≡ 1 → ⊥) → (getD t (x * 13) 0 ≡ 2 → ⊥) → (getD t (x * 13) 0 ≡ 12 → ⊥) → MovesMessages t n s o x j s
+  after-none : (getD t (x * 13) 0 ≡ 1 → ⊥) → (getD t (x * 13) 0 ≡ 2 → ⊥) → (getD t (x * 13) 0 ≡ 255 → ⊥) → MovesMessages t n s o x j s
   unfolding doingOf messagesAfter kind
   after-none f g h = by-row (λ own l e st w al. go own l e)
     where
@@ -175,7 +175,7 @@ module _ (t : List ℕ) (n : ℕ) (s : State) (o : Order) (x j : ℕ) where
       go sequence l e = refl
       go flow l e = refl
       go pick l e = refl
-      go scope l e = refl
+      go (scope u) l e = refl
       go (arm a b vs) l e = absurd (h (sym e))
 
 module _ (t : List ℕ) (n : ℕ) (l : List Message) (w : ℕ) (o : Order) (x j : ℕ) where
@@ -191,10 +191,10 @@ module _ (t : List ℕ) (n : ℕ) (l : List Message) (w : ℕ) (o : Order) (x j 
   pub mail-receive : {r : Mail} → getD t (x * 13) 0 ≡ 2 → Removes j l w r → MovesMail t n l w o x j r
   mail-receive h y = record { is = λ s f g. after-receive t n s o x j h (y .is s f g) }
 
-  pub mail-arm : {r : Mail} → getD t (x * 13) 0 ≡ 12 → Removes j l w r → MovesMail t n l w o x j r
+  pub mail-arm : {r : Mail} → getD t (x * 13) 0 ≡ 255 → Removes j l w r → MovesMail t n l w o x j r
   mail-arm h y = record { is = λ s f g. after-arm t n s o x j h (y .is s f g) }
 
-  pub mail-none : (getD t (x * 13) 0 ≡ 1 → ⊥) → (getD t (x * 13) 0 ≡ 2 → ⊥) → (getD t (x * 13) 0 ≡ 12 → ⊥) → MovesMail t n l w o x j (record { messages = l; waiting = w })
+  pub mail-none : (getD t (x * 13) 0 ≡ 1 → ⊥) → (getD t (x * 13) 0 ≡ 2 → ⊥) → (getD t (x * 13) 0 ≡ 255 → ⊥) → MovesMail t n l w o x j (record { messages = l; waiting = w })
   mail-none e f g = mail-kept (λ s. after-none t n s o x j e f g)
 
 -- `letter_values`

@@ -93,7 +93,7 @@ fn messages_after(
     if kind == 2 {
         return letters::without_message(messages, waiting, place);
     }
-    if kind == 12 {
+    if kind == 255 {
         return letters::without_message(messages, waiting, place);
     }
     Mail { messages, waiting }

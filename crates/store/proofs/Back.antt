@@ -9,13 +9,14 @@ use lib.Dec.{eqb}
 use lib.ListN.{length, take, drop, length-append}
 use lib.Seq.{take-at, drop-at, drop-append-add, length-take-le}
 use borrow.Author.Tests.{eqb-true}
+use Rattle.order.specs.declared.Closing.{Closing}
 use Rattle.order.specs.declared.Order.{Order}
 use Rattle.order.specs.Lists.{each}
 use Rattle.machine.specs.declared.Message.{Message}
 use Rattle.machine.specs.declared.State.{State}
 use Rattle.machine.specs.declared.Tally.{Tally}
 use Rattle.store.specs.Bytes.{spelled, valued, numberIn, manyIn}
-use Rattle.store.specs.Packed.{mark, tallyBytes, messageBytes, orderBytes, stateBytes, packed, tallyIn, messageIn, orderIn, stateIn, holds, keptAs, unpacked}
+use Rattle.store.specs.Packed.{mark, tallyBytes, messageBytes, closingBytes, orderBytes, stateBytes, packed, tallyIn, messageIn, closingIn, orderIn, stateIn, holds, keptAs, unpacked}
 use Rattle.store.proofs.Numbers.{spelled-long, spelled-valued, number-back}
 use Rattle.machine.proofs.Whole.{WholeTally, WholeMessage, WholeState}
 use Rattle.order.proofs.Whole.{Each, Word, WholeOrder}
@@ -75,10 +76,23 @@ message-back m r w =
     let d : manyIn (numberIn 4) 4 4 (drop 12 s) ≡ m .values = words-back (m .values) 4 r (w .values) (w .values-long) in
     λ i. record { partner = a i; operation = b i; count = c i; values = d i }
 
-order-long : (o : Order) → WholeOrder o → length (orderBytes o) ≡ 377
+-- closings, of which nothing need be known
+always : {A : Type 0} (l : List A) → Each (λ (x : A). Unit) l
+always [] = tt
+always (x ∷ l) = (tt, always l)
+
+closings-long : (l : List Closing) → length (each closingBytes l) ≡ length l * 2
+unfolding closingBytes
+closings-long l = each-long closingBytes (λ x. Unit) 2 (λ x h. refl) l (always l)
+
+closings-back : (l : List Closing) (n : ℕ) (r : List ℕ) → length l ≡ n → manyIn closingIn 2 n (each closingBytes l ++ r) ≡ l
+unfolding closingBytes closingIn
+closings-back l n r e = many-back closingIn closingBytes (λ x. Unit) 2 (λ x r h. refl) (λ x h. refl) l n r (always l) e
+
+order-long : (o : Order) → WholeOrder o → length (orderBytes o) ≡ 409
 unfolding orderBytes
 order-long o w =
-    simp (length-append, spelled-long, words-long (o .values) 16 (w .values) (w .values-long), w .marks-long, w .bound-long, w .remembered-long)
+    simp (length-append, spelled-long, words-long (o .values) 16 (w .values) (w .values-long), w .marks-long, w .bound-long, closings-long (o .remembered), w .remembered-long)
 
 order-back : (o : Order) (r : List ℕ) → WholeOrder o → orderIn (orderBytes o ++ r) ≡ o
 unfolding orderIn orderBytes
@@ -86,25 +100,27 @@ order-back o r w =
     let v = each (spelled 4) (o .values) in
     let k = spelled 8 (o .kept) ++ r in
     let l = words-long (o .values) 16 (w .values) (w .values-long) in
-    let s = o .marks ++ (v ++ (o .bound ++ (o .remembered ++ k))) in
+    let h = each closingBytes (o .remembered) in
+    let g : length h ≡ 64 = closings-long (o .remembered) ∙ rw (w .remembered-long) in
+    let s = o .marks ++ (v ++ (o .bound ++ (h ++ k))) in
     let e : orderBytes o ++ r ≡ o .root ∷ s = simp append-assoc in
     let m : take 256 s ≡ o .marks = take-at (o .marks) _ 256 (w .marks-long) in
-    let p : drop 256 s ≡ v ++ (o .bound ++ (o .remembered ++ k)) = past 256 0 (o .marks) _ (w .marks-long) in
-    let q : drop 320 s ≡ o .bound ++ (o .remembered ++ k) = past 256 64 (o .marks) _ (w .marks-long) ∙ past 64 0 v _ l in
-    let t : drop 336 s ≡ o .remembered ++ k = past 256 80 (o .marks) _ (w .marks-long) ∙ past 64 16 v _ l ∙ past 16 0 (o .bound) _ (w .bound-long) in
-    let u : drop 368 s ≡ k =
-    past 256 112 (o .marks) _ (w .marks-long) ∙ past 64 48 v _ l ∙ past 16 32 (o .bound) _ (w .bound-long) ∙ past 32 0 (o .remembered) _ (w .remembered-long) in
+    let p : drop 256 s ≡ v ++ (o .bound ++ (h ++ k)) = past 256 0 (o .marks) _ (w .marks-long) in
+    let q : drop 320 s ≡ o .bound ++ (h ++ k) = past 256 64 (o .marks) _ (w .marks-long) ∙ past 64 0 v _ l in
+    let t : drop 336 s ≡ h ++ k = past 256 80 (o .marks) _ (w .marks-long) ∙ past 64 16 v _ l ∙ past 16 0 (o .bound) _ (w .bound-long) in
+    let u : drop 400 s ≡ k =
+    past 256 144 (o .marks) _ (w .marks-long) ∙ past 64 80 v _ l ∙ past 16 64 (o .bound) _ (w .bound-long) ∙ past 64 0 h _ g in
     let b : manyIn (numberIn 4) 4 16 (drop 256 s) ≡ o .values = rw p (words-back (o .values) 16 _ (w .values) (w .values-long)) in
     let c : take 16 (drop 320 s) ≡ o .bound = rw q (take-at (o .bound) _ 16 (w .bound-long)) in
-    let d : take 32 (drop 336 s) ≡ o .remembered = rw t (take-at (o .remembered) _ 32 (w .remembered-long)) in
-    let f : numberIn 8 (drop 368 s) ≡ o .kept = rw u (number-back 8 (o .kept) r (w .kept)) in
+    let d : manyIn closingIn 2 32 (drop 336 s) ≡ o .remembered = rw t (closings-back (o .remembered) 32 _ (w .remembered-long)) in
+    let f : numberIn 8 (drop 400 s) ≡ o .kept = rw u (number-back 8 (o .kept) r (w .kept)) in
     ap orderIn e ∙ (λ i. record { root = o .root; marks = m i; values = b i; bound = c i; remembered = d i; kept = f i })
 
-state-long : (s : State) → WholeState s → length (stateBytes s) ≡ 11936
+state-long : (s : State) → WholeState s → length (stateBytes s) ≡ 12448
 unfolding stateBytes
 state-long s w =
     let m = each-long messageBytes WholeMessage 28 message-long (s .messages) (w .messages) in
-    let o = each-long orderBytes WholeOrder 377 order-long (s .orders) (w .orders) in
+    let o = each-long orderBytes WholeOrder 409 order-long (s .orders) (w .orders) in
     simp (length-append, spelled-long, m, o, w .plan-long, w .messages-long, w .orders-long)
 
 state-back : (s : State) (r : List ℕ) → WholeState s → stateIn (stateBytes s ++ r) ≡ s
@@ -128,16 +144,16 @@ state-back s r w =
     let d : numberIn 8 (drop 4104 b) ≡ s .waiting = rw q (number-back 8 (s .waiting) _ (w .waiting)) in
     let f : manyIn messageIn 28 64 (drop 4112 b) ≡ s .messages =
     rw t (many-back messageIn messageBytes WholeMessage 28 message-back message-long (s .messages) 64 o (w .messages) (w .messages-long)) in
-    let g : manyIn orderIn 377 16 (drop 5904 b) ≡ s .orders =
-    rw u (many-back orderIn orderBytes WholeOrder 377 order-back order-long (s .orders) 16 r (w .orders) (w .orders-long)) in
+    let g : manyIn orderIn 409 16 (drop 5904 b) ≡ s .orders =
+    rw u (many-back orderIn orderBytes WholeOrder 409 order-back order-long (s .orders) 16 r (w .orders) (w .orders-long)) in
     ap stateIn e ∙ (λ x. record { plan = a x; length = c x; orders = g x; messages = f x; waiting = d x })
 
-packed-long : (s : State) (t : Tally) → WholeState s → length (packed s t) ≡ 11964
+packed-long : (s : State) (t : Tally) → WholeState s → length (packed s t) ≡ 12476
 unfolding packed tallyBytes
 packed-long s t w = simp (length-append, spelled-long, state-long s w)
 
 -- in front stands the mark, then the tally, then the state
-packed-mark : (s : State) (t : Tally) → numberIn 8 (packed s t) ≡ 3552285984895749965
+packed-mark : (s : State) (t : Tally) → numberIn 8 (packed s t) ≡ 3624343578933677901
 unfolding packed numberIn valued
 packed-mark s t = refl
 
@@ -175,9 +191,9 @@ and-right false b h = let z : _≡_ {A = Bool} false true = h in cc
 pub held-marked : (s : List ℕ) → Each (λ b. b < 256) (take 8 s) → holds s ≡ true → take 8 s ≡ mark
 unfolding holds
 held-marked s p h =
-    let a = eqb (length s) 11964 in
+    let a = eqb (length s) 12476 in
     let b = eqb (numberIn 8 s) (valued mark) in
-    let l : length s ≡ 11964 = eqb-true (length s) 11964 (and-left a b h) in
+    let l : length s ≡ 12476 = eqb-true (length s) 12476 (and-left a b h) in
     let e : numberIn 8 s ≡ valued mark = eqb-true (numberIn 8 s) (valued mark) (and-right a b h) in
     let n : length (take 8 s) ≡ 8 = length-take-le 8 s (omega arith) in
     sym (spelled-valued (take 8 s) p) ∙ rw n (ap (spelled 8) (first-valued s ∙ e) ∙ mark-spelled)

@@ -6,17 +6,22 @@ use native.Mathlib.Omega.{arith}
 use borrow.Author.Tests.{ne-eqb, le-leb, lt-leb}
 use lib.ListN.{length}
 use lib.Seq.{sets-eq}
+use Rattle.order.specs.declared.Closing.{Closing}
 use Rattle.order.specs.declared.Order.{Order}
 use Rattle.order.specs.Lists.{each}
 use Rattle.machine.specs.declared.Message.{Message}
 use Rattle.machine.specs.declared.State.{State}
 use Rattle.machine.specs.declared.Tally.{Tally}
 use Rattle.store.specs.Bytes.{spelled}
-use Rattle.store.specs.Packed.{tallyBytes, messageBytes, orderBytes, stateBytes, packed, packedInto, messageInto}
+use Rattle.store.specs.Packed.{tallyBytes, messageBytes, closingBytes, orderBytes, stateBytes, packed, packedInto, messageInto}
 use Rattle.store.specs.Putting.{Put}
 use Rattle.store.proofs.Puts.{then, put-all}
 use Rattle.machine.proofs.Whole.{WholeMessage, WholeState}
 use Rattle.order.proofs.Whole.{WholeOrder}
+
+pub closing-put : {l m n : List ℕ} {at : ℕ} (x : Closing) → Put l m at 1 (x .scope ∷ []) → Put m n (at + 1) 1 (x .part ∷ []) → Put l n at 2 (closingBytes x)
+unfolding closingBytes
+closing-put x a b = then a b refl refl
 
 module _ {l m n o p : List ℕ} {at : ℕ} where
   pub message-put : (x : Message) → WholeMessage x → Put l m at 4 (spelled 4 (x .partner)) → Put m n (at + 4) 4 (spelled 4 (x .operation))
@@ -35,18 +40,18 @@ module _ {l m n o p : List ℕ} {at : ℕ} where
 
     pub order-put : {j : List ℕ} (x : Order) → WholeOrder x
         → Put l j at 1 (x .root ∷ []) → Put j m (at + 1) (length (x .marks)) (x .marks) → Put m n (at + 257) (length (x .values) * 4) (each (spelled 4) (x .values)) → Put n o (at + 321) (length (x .bound)) (x .bound)
-        → Put o p (at + 337) (length (x .remembered)) (x .remembered) → Put p q (at + 369) 8 (spelled 8 (x .kept))
-        → Put l q at 377 (orderBytes x)
+        → Put o p (at + 337) 64 (each closingBytes (x .remembered)) → Put p q (at + 401) 8 (spelled 8 (x .kept))
+        → Put l q at 409 (orderBytes x)
     unfolding orderBytes
     order-put x w r a b c d e =
         let f = then {r = 257} r a refl (omega arith) in
         let g = then {r = 321} f b refl (omega arith) in
-        then (then {r = 369} (then {r = 337} g c refl (omega arith)) d refl (omega arith)) e refl refl
+        then (then {r = 401} (then {r = 337} g c refl (omega arith)) d refl refl) e refl refl
 
     pub state-put : (x : State) → WholeState x → Put l m at 8 (spelled 8 (x .length))
         → Put m n (at + 8) (length (x .plan)) (x .plan) → Put n o (at + 4104) 8 (spelled 8 (x .waiting))
-        → Put o p (at + 4112) 1792 (each messageBytes (x .messages)) → Put p q (at + 5904) 6032 (each orderBytes (x .orders))
-        → Put l q at 11936 (stateBytes x)
+        → Put o p (at + 4112) 1792 (each messageBytes (x .messages)) → Put p q (at + 5904) 6544 (each orderBytes (x .orders))
+        → Put l q at 12448 (stateBytes x)
     unfolding stateBytes
     state-put x w a b c d e =
         let f = then {r = 4104} a b refl (omega arith) in
@@ -61,14 +66,14 @@ room-fours k p l e h = omega arith
 
 -- `pack`
 module _ {l m n o : List ℕ} (s : State) (t : Tally) where
-  pub pack-is : length l ≡ 11964 → Put l m 0 8 (spelled 8 3552285984895749965) → Put m n 8 20 (tallyBytes t) → Put n o 28 11936 (stateBytes s)
+  pub pack-is : length l ≡ 12476 → Put l m 0 8 (spelled 8 3624343578933677901) → Put m n 8 20 (tallyBytes t) → Put n o 28 12448 (stateBytes s)
       → o ≡ packedInto s t l
   unfolding packedInto packed spelled
   pack-is e a b c = rw e (put-all (then (then a b refl (refl {a = 28})) c refl refl) e)
 
-pub pack-no : (s : State) (t : Tally) (l : List ℕ) → (length l ≡ 11964 → ⊥) → l ≡ packedInto s t l
+pub pack-no : (s : State) (t : Tally) (l : List ℕ) → (length l ≡ 12476 → ⊥) → l ≡ packedInto s t l
 unfolding packedInto
-pack-no s t l e = rw (ne-eqb (length l) 11964 e)
+pack-no s t l e = rw (ne-eqb (length l) 12476 e)
 
 -- `write_message`
 pub message-fits : (m : Message) (l : List ℕ) {o : List ℕ} → 28 ≤ length l → Put l o 0 28 (messageBytes m) → o ≡ messageInto m l

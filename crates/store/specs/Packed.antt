@@ -1,9 +1,10 @@
--- A state with its tally as 11,964 bytes, and what bytes hold. Assumes nothing: these are definitions.
+-- A state with its tally as 12,476 bytes, and what bytes hold. Assumes nothing: these are definitions.
 use Prim.Native.Nat.{ℕ}
 use mathlib.Core.Bool.{Bool, true, false, cond, _&&_}
 use mathlib.Core.List.{List, [], _∷_, _++_}
 use lib.Dec.{eqb, leb}
 use lib.ListN.{length, getD, take, drop}
+use Rattle.order.specs.declared.Closing.{Closing}
 use Rattle.order.specs.declared.Order.{Order}
 use Rattle.order.specs.Lists.{each}
 use Rattle.machine.specs.declared.Message.{Message}
@@ -13,9 +14,9 @@ use Rattle.machine.specs.State.{unplanned, noTally}
 use Rattle.store.specs.declared.Kept.{Kept}
 use Rattle.store.specs.Bytes.{spelled, valued, numberIn, manyIn}
 
--- in front stands the mark, "MOONHAL1"
+-- in front stands the mark, "MOONHAL2": its last figure is the version of these bytes
 abbrev pub mark : List ℕ
-mark = 77 ∷ 79 ∷ 79 ∷ 78 ∷ 72 ∷ 65 ∷ 76 ∷ 49 ∷ []
+mark = 77 ∷ 79 ∷ 79 ∷ 78 ∷ 72 ∷ 65 ∷ 76 ∷ 50 ∷ []
 
 -- 20 bytes
 unfoldable pub tallyBytes : Tally → List ℕ
@@ -27,12 +28,16 @@ unfoldable pub messageBytes : Message → List ℕ
 messageBytes m =
     spelled 4 (m .partner) ++ spelled 4 (m .operation) ++ spelled 4 (m .count) ++ each (spelled 4) (m .values)
 
--- 377 bytes
+-- 2 bytes
+unfoldable pub closingBytes : Closing → List ℕ
+closingBytes c = c .scope ∷ c .part ∷ []
+
+-- 409 bytes
 unfoldable pub orderBytes : Order → List ℕ
 orderBytes o =
-    (o .root ∷ o .marks) ++ each (spelled 4) (o .values) ++ o .bound ++ o .remembered ++ spelled 8 (o .kept)
+    (o .root ∷ o .marks) ++ each (spelled 4) (o .values) ++ o .bound ++ each closingBytes (o .remembered) ++ spelled 8 (o .kept)
 
--- 11,936 bytes
+-- 12,448 bytes
 unfoldable pub stateBytes : State → List ℕ
 stateBytes s =
     spelled 8 (s .length) ++ s .plan ++ spelled 8 (s .waiting) ++ each messageBytes (s .messages) ++ each orderBytes (s .orders)
@@ -60,6 +65,13 @@ messageIn s =
       values = manyIn (numberIn 4) 4 4 (drop 12 s);
     }
 
+unfoldable pub closingIn : List ℕ → Closing
+closingIn s =
+    record {
+      scope = getD s 0 0;
+      part = getD s 1 0;
+    }
+
 unfoldable pub orderIn : List ℕ → Order
 orderIn s =
     record {
@@ -67,8 +79,8 @@ orderIn s =
       marks = take 256 (drop 1 s);
       values = manyIn (numberIn 4) 4 16 (drop 257 s);
       bound = take 16 (drop 321 s);
-      remembered = take 32 (drop 337 s);
-      kept = numberIn 8 (drop 369 s);
+      remembered = manyIn closingIn 2 32 (drop 337 s);
+      kept = numberIn 8 (drop 401 s);
     }
 
 unfoldable pub stateIn : List ℕ → State
@@ -76,14 +88,14 @@ stateIn s =
     record {
       plan = take 4096 (drop 8 s);
       length = numberIn 8 s;
-      orders = manyIn orderIn 377 16 (drop 5904 s);
+      orders = manyIn orderIn 409 16 (drop 5904 s);
       messages = manyIn messageIn 28 64 (drop 4112 s);
       waiting = numberIn 8 (drop 4104 s);
     }
 
--- bytes hold a state where there are 11,964 of them, with the mark in front
+-- bytes hold a state where there are 12,476 of them, with the mark in front
 unfoldable pub holds : List ℕ → Bool
-holds s = eqb (length s) 11964 && eqb (numberIn 8 s) (valued mark)
+holds s = eqb (length s) 12476 && eqb (numberIn 8 s) (valued mark)
 
 abbrev pub keptAs : (refused : Bool) → State → Tally → Kept
 keptAs r s t = record { refused = r; state = s; tally = t }
@@ -94,7 +106,7 @@ unpacked s = cond (holds s) (keptAs false (stateIn (drop 28 s)) (tallyIn (drop 8
 
 -- a state with its tally is written where there is just room for it
 unfoldable pub packedInto : State → Tally → List ℕ → List ℕ
-packedInto s t l = cond (eqb (length l) 11964) (packed s t) l
+packedInto s t l = cond (eqb (length l) 12476) (packed s t) l
 
 -- a message is written into the first 28 bytes, where there are as many
 unfoldable pub messageInto : Message → List ℕ → List ℕ

@@ -1,16 +1,18 @@
-// A state with its tally as 11,964 bytes, and back.
+// A state with its tally as 12,476 bytes, and back.
 mod reading;
 mod writing;
 
 use machine::Message;
 use machine::State;
 use machine::Tally;
+use order::Closing;
 use order::Order;
 ghost use mathlib.Core.Path.{_≡_};
 ghost use lib.Dec.{eqb, leb};
 ghost use lib.ListN.{length};
 ghost use mathlib.Core.Bool.{true, false};
 ghost use Rattle.machine.specs.State.{unplanned, noTally};
+ghost use Rattle.store.specs.Bytes.{eightAt};
 ghost use Rattle.store.specs.Packed.{packed, packedInto, messageInto, unpacked, keptAs};
 
 // What bytes hold: where `refused` is false, a state with its tally; else the state with no plan, with nothing counted.
@@ -20,15 +22,15 @@ pub struct Kept {
     pub tally: Tally,
 }
 
-// Writes a state with its tally into the caller's bytes, and says whether there are 11,964 of them; it writes nothing where there are not.
+// Writes a state with its tally into the caller's bytes, and says whether there are 12,476 of them; it writes nothing where there are not.
 // What it writes is read back as the same, for every state and tally there is.
 pub fn pack(state: State, tally: Tally, out: &mut [u8]) -> bool
-    ensures fits { λ r. ⌜ r ≡ eqb (length (now (out .entry))) 11964 ⌝ }
+    ensures fits { λ r. ⌜ r ≡ eqb (length (now (out .entry))) 12476 ⌝ }
     ensures is { λ _. ⌜ now (out .exit) ≡ packedInto state tally (now (out .entry)) ⌝ }
     ensures back { λ _. ⌜ unpacked (packed state tally) ≡ keptAs false state tally ⌝ }
 {
-    if out.len() == 11964 {
-        writing::put_number(out, 0, 8, 3552285984895749965);
+    if out.len() == 12476 {
+        writing::put_number(out, 0, 8, 3624343578933677901);
         writing::put_tally(out, 8, tally);
         writing::put_state(out, 28, state);
         return true;
@@ -48,16 +50,31 @@ pub fn write_message(m: Message, out: &mut [u8]) -> bool
     false
 }
 
+// The number in the 8 bytes from a place on, 0 where there are not as many.
+pub fn number_at(s: &[u8], at: usize) -> usize
+    ensures { λ r. ⌜ r ≡ eightAt (now (s .entry)) at ⌝ }
+{
+    if s.len() < 8 {
+        return 0;
+    }
+    if s.len() - 8 < at {
+        return 0;
+    }
+    reading::eight_at(s, at)
+}
+
 // The state with no plan.
 fn no_state() -> State
     ensures { λ r. ⌜ r ≡ unplanned ⌝ }
 {
+    let closing = Closing { scope: 0, part: 0 };
+    let remembered = [closing; 32];
     let o = Order {
         root: 0,
         marks: [0u8; 256],
         values: [0u32; 16],
         bound: [0u8; 16],
-        remembered: [0u8; 32],
+        remembered,
         kept: 0,
     };
     let m = Message {
@@ -94,8 +111,8 @@ fn nothing() -> Kept
 pub fn unpack(s: &[u8]) -> Kept
     ensures { λ r. ⌜ r ≡ unpacked (now (s .entry)) ⌝ }
 {
-    if s.len() == 11964 {
-        if reading::eight_at(s, 0) == 3552285984895749965 {
+    if s.len() == 12476 {
+        if reading::eight_at(s, 0) == 3624343578933677901 {
             let tally = reading::tally_at(s, 8);
             let state = reading::state_at(s, 28);
             return Kept {

@@ -2,12 +2,13 @@
 use machine::Message;
 use machine::State;
 use machine::Tally;
+use order::Closing;
 use order::Order;
 ghost use Prim.Native.Nat.{_+_, _*_, _<_, _≤_};
 ghost use lib.ListN.{length, getD, take, drop};
 ghost use mathlib.Core.Path.{_≡_};
 ghost use Rattle.store.specs.Bytes.{numberIn, manyIn};
-ghost use Rattle.store.specs.Packed.{tallyIn, messageIn, orderIn, stateIn};
+ghost use Rattle.store.specs.Packed.{tallyIn, messageIn, closingIn, orderIn, stateIn};
 
 fn wide(x: u8) -> u64
     ensures { λ r. ⌜ (r ≡ x) × (r < 256) ⌝ }
@@ -102,21 +103,48 @@ fn message_at(s: &[u8], at: usize) -> Message
     }
 }
 
+// A closing.
+fn closing_at(s: &[u8], at: usize) -> Closing
+    requires { ⌜ at + 2 ≤ length (now s) ⌝ }
+    ensures { λ r. ⌜ r ≡ closingIn (drop at (now (s .entry))) ⌝ }
+{
+    let next = at + 1;
+    Closing {
+        scope: s[at],
+        part: s[next],
+    }
+}
+
+// The closings of an order.
+fn closings_at(s: &[u8], at: usize) -> [Closing; 32]
+    requires { ⌜ at + 64 ≤ length (now s) ⌝ }
+    ensures { λ r. ⌜ r ≡ manyIn closingIn 2 32 (drop at (now (s .entry))) ⌝ }
+{
+    let c = closing_at(s, at);
+    let mut out = [c; 32];
+    let mut i = 0;
+    while i < 32 {
+        let n = closing_at(s, at + i * 2);
+        out[i] = n;
+        i += 1;
+    }
+    out
+}
+
 // An order.
 fn order_at(s: &[u8], at: usize) -> Order
-    requires { ⌜ at + 377 ≤ length (now s) ⌝ }
+    requires { ⌜ at + 409 ≤ length (now s) ⌝ }
     ensures { λ r. ⌜ r ≡ orderIn (drop at (now (s .entry))) ⌝ }
 {
     let mut marks = [0u8; 256];
     let mut values = [0u32; 16];
     let mut bound = [0u8; 16];
-    let mut remembered = [0u8; 32];
     take_bytes(s, at + 1, &mut marks);
     take_fours(s, at + 257, &mut values);
     take_bytes(s, at + 321, &mut bound);
-    take_bytes(s, at + 337, &mut remembered);
     let root = s[at];
-    let kept = eight_at(s, at + 369);
+    let remembered = closings_at(s, at + 337);
+    let kept = eight_at(s, at + 401);
     Order {
         root,
         marks,
@@ -145,14 +173,14 @@ fn messages_at(s: &[u8], at: usize) -> [Message; 64]
 
 // The orders.
 fn orders_at(s: &[u8], at: usize) -> [Order; 16]
-    requires { ⌜ at + 6032 ≤ length (now s) ⌝ }
-    ensures { λ r. ⌜ r ≡ manyIn orderIn 377 16 (drop at (now (s .entry))) ⌝ }
+    requires { ⌜ at + 6544 ≤ length (now s) ⌝ }
+    ensures { λ r. ⌜ r ≡ manyIn orderIn 409 16 (drop at (now (s .entry))) ⌝ }
 {
     let o = order_at(s, at);
     let mut out = [o; 16];
     let mut i = 0;
     while i < 16 {
-        let n = order_at(s, at + i * 377);
+        let n = order_at(s, at + i * 409);
         out[i] = n;
         i += 1;
     }
@@ -161,7 +189,7 @@ fn orders_at(s: &[u8], at: usize) -> [Order; 16]
 
 // A state.
 pub(crate) fn state_at(s: &[u8], at: usize) -> State
-    requires { ⌜ at + 11936 ≤ length (now s) ⌝ }
+    requires { ⌜ at + 12448 ≤ length (now s) ⌝ }
     ensures { λ r. ⌜ r ≡ stateIn (drop at (now (s .entry))) ⌝ }
 {
     let mut bytes = [0u8; 4096];

@@ -2,13 +2,14 @@
 use machine::Message;
 use machine::State;
 use machine::Tally;
+use order::Closing;
 use order::Order;
 ghost use Prim.Native.Nat.{_+_, _*_, _≤_};
 ghost use lib.ListN.{length};
 ghost use mathlib.Core.List.{[], _∷_};
 ghost use Rattle.order.specs.Lists.{each};
 ghost use Rattle.store.specs.Bytes.{spelled};
-ghost use Rattle.store.specs.Packed.{tallyBytes, messageBytes, orderBytes, stateBytes};
+ghost use Rattle.store.specs.Packed.{tallyBytes, messageBytes, closingBytes, orderBytes, stateBytes};
 ghost use Rattle.store.specs.Putting.{Put};
 
 // Bytes.
@@ -97,10 +98,32 @@ pub(crate) fn put_message(out: &mut [u8], at: usize, m: Message)
     put_fours(out, at + 12, &values);
 }
 
+// A closing.
+fn put_closing(out: &mut [u8], at: usize, c: Closing)
+    requires { ⌜ at + 2 ≤ length (now out) ⌝ }
+    ensures { λ _. ⌜ Put (now (out .entry)) (now (out .exit)) at 2 (closingBytes c) ⌝ }
+{
+    put_byte(out, at, c.scope);
+    put_byte(out, at + 1, c.part);
+}
+
+// The closings of an order.
+fn put_closings(out: &mut [u8], at: usize, closings: [Closing; 32])
+    requires { ⌜ at + 64 ≤ length (now out) ⌝ }
+    ensures { λ _. ⌜ Put (now (out .entry)) (now (out .exit)) at 64 (each closingBytes closings) ⌝ }
+{
+    let mut i = 0;
+    while i < 32 {
+        let c = closings[i];
+        put_closing(out, at + i * 2, c);
+        i += 1;
+    }
+}
+
 // An order.
 fn put_order(out: &mut [u8], at: usize, o: Order)
-    requires { ⌜ at + 377 ≤ length (now out) ⌝ }
-    ensures { λ _. ⌜ Put (now (out .entry)) (now (out .exit)) at 377 (orderBytes o) ⌝ }
+    requires { ⌜ at + 409 ≤ length (now out) ⌝ }
+    ensures { λ _. ⌜ Put (now (out .entry)) (now (out .exit)) at 409 (orderBytes o) ⌝ }
 {
     put_byte(out, at, o.root);
     let marks = o.marks;
@@ -110,8 +133,8 @@ fn put_order(out: &mut [u8], at: usize, o: Order)
     let bound = o.bound;
     put_bytes(out, at + 321, &bound);
     let remembered = o.remembered;
-    put_bytes(out, at + 337, &remembered);
-    put_eight(out, at + 369, o.kept);
+    put_closings(out, at + 337, remembered);
+    put_eight(out, at + 401, o.kept);
 }
 
 // The messages.
@@ -129,21 +152,21 @@ fn put_messages(out: &mut [u8], at: usize, messages: [Message; 64])
 
 // The orders.
 fn put_orders(out: &mut [u8], at: usize, orders: [Order; 16])
-    requires { ⌜ at + 6032 ≤ length (now out) ⌝ }
-    ensures { λ _. ⌜ Put (now (out .entry)) (now (out .exit)) at 6032 (each orderBytes orders) ⌝ }
+    requires { ⌜ at + 6544 ≤ length (now out) ⌝ }
+    ensures { λ _. ⌜ Put (now (out .entry)) (now (out .exit)) at 6544 (each orderBytes orders) ⌝ }
 {
     let mut i = 0;
     while i < 16 {
         let o = orders[i];
-        put_order(out, at + i * 377, o);
+        put_order(out, at + i * 409, o);
         i += 1;
     }
 }
 
 // A state.
 pub(crate) fn put_state(out: &mut [u8], at: usize, state: State)
-    requires { ⌜ at + 11936 ≤ length (now out) ⌝ }
-    ensures { λ _. ⌜ Put (now (out .entry)) (now (out .exit)) at 11936 (stateBytes state) ⌝ }
+    requires { ⌜ at + 12448 ≤ length (now out) ⌝ }
+    ensures { λ _. ⌜ Put (now (out .entry)) (now (out .exit)) at 12448 (stateBytes state) ⌝ }
 {
     put_eight(out, at, state.length);
     put_bytes(out, at + 8, &state.plan);

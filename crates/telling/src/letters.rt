@@ -11,7 +11,7 @@ use machine::Message;
 // Whether row n is a receive or an arm.
 fn is_receive(table: &[u32; 11584], n: usize) -> bool {
     match entry(table, n, 0) {
-        2 | 12 => true,
+        2 | 255 => true,
         _ => false,
     }
 }

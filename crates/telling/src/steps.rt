@@ -120,6 +120,12 @@ fn put_closed(out: &mut [u8; 4096], used: usize, n: usize) -> usize {
     put_next(out, at, n as u64)
 }
 
+// A scope with no undo part.
+fn put_handed_on(out: &mut [u8; 4096], used: usize, n: usize) -> usize {
+    let at = put_closed(out, used, n);
+    put(out, at, b", and handed on what closed in it")
+}
+
 // What a step did, by its activity.
 fn put_did(
     out: &mut [u8; 4096],
@@ -134,7 +140,7 @@ fn put_did(
 ) -> usize {
     match entry(table, n, 0) {
         1 => put_send(out, used, names, table, flags, n, order),
-        2 | 12 => put_took(out, used, names, table, activities, order.root, m),
+        2 | 255 => put_took(out, used, names, table, activities, order.root, m),
         3 => put_set(
             out,
             used,
@@ -158,7 +164,9 @@ fn put_did(
             b"goes round once more",
             b"goes round no more",
         ),
-        _ => put_closed(out, used, n),
+        11 => put_closed(out, used, n),
+        12 => put_handed_on(out, used, n),
+        _ => put(out, used, b"had a step of an unknown kind"),
     }
 }
 

@@ -53,11 +53,11 @@ module _ (p : Plan) (o : Order) (past : List Event) where
   unfolding markTold
   mark-told n h = rw (bools-same _ _ (h .0), bools-same _ _ (h .1), bools-same _ _ (h .2))
 
-  list-told : (n : Name) → (isLeft n past ≡ true → closingsOf p n past ≡ undoneOf p n past ++ remembered p n o) × (isLeft n past ≡ false → remembered p n o ≡ []) → listTold p o past n ≡ true
+  list-told : (n : Name) → (isLeft n past ≡ true → closingsOf p n past ≡ undoneOf p n past ++ remembered n o) × (isLeft n past ≡ false → remembered n o ≡ []) → listTold p o past n ≡ true
   unfolding listTold
   list-told n h =
       decide (isLeft n past)
-      (λ t. rw (t, h .0 t, alike-itself (undoneOf p n past ++ remembered p n o)))
+      (λ t. rw (t, h .0 t, alike-itself (undoneOf p n past ++ remembered n o)))
       (λ t. rw (t, h .1 t, alike-itself []))
 
 -- The one statement.

@@ -9,7 +9,7 @@ use lib.Dec.{eqb, ltb}
 use borrow.Author.Tests.{eqb-true, eq-eqb, ne-eqb, lt-ltb, le-ltb, not-true}
 use Rattle.plan.specs.Found.{Found, found}
 use Rattle.plan.specs.Read.{readPlan}
-use Rattle.plan.specs.Tree.{Own, scope, kind, Act, act, Acts, none, more, Plan, size, sizes, count}
+use Rattle.plan.specs.Tree.{Own, scope, kind, isScope, Act, act, Acts, none, more, Plan, size, sizes, count, hasUndo}
 use Rattle.plan.proofs.Limits.{accepted-is-within}
 use Rattle.order.specs.declared.Order.{Order}
 use Rattle.machine.specs.declared.Message.{Message}
@@ -22,7 +22,6 @@ use Rattle.order.specs.Event.{Event, started, began, closed, faulted, stopped, 
 use Rattle.order.specs.declared.End.{End}
 use Rattle.order.specs.declared.End.the-variants.{None, Well, Handled, Failed, Left}
 use Rattle.order.specs.declared.Way.the-variants.{Running as running}
-use Rattle.order.specs.Scope.{isScope}
 use Rattle.order.specs.Acting.{Moved, begunOrder, startedOrder, Actor, itsOwn, inPlace, acted}
 use Rattle.order.specs.Judging.{Verdict, clear, clash, conflict, spare}
 use Rattle.undoing.proofs.Judged.{OnClash, Higher, conflict-awaited, passed-stands, passed-once}
@@ -31,20 +30,20 @@ use Rattle.undoing.specs.History.{logOf}
 use Rattle.undoing.specs.Demand3.{Inner, scopesIn, scopesAmong, scopesOf, isBegin, isFinish, isLeft, noneNow}
 use Rattle.undoing.specs.Ties.{isName, isTaken}
 use Rattle.undoing.specs.Orderly.{isBeganOf}
-use Rattle.undoing.specs.Begun.{Lead, alone, together, leadOf, leadIn, leadAmong, leadParts, leadAt, isLed, BegunInTurn, kindIn, kindAmong, kindAt, lasts, ownsAt, hasBegan, Taken, markBefore, isMarked, goesIn, mayBe, hasBegun, numbers, ofEach, raisesOf, takenBy, stepsTaken, BegunTruly, BegunAll}
+use Rattle.undoing.specs.Begun.{Lead, alone, together, leadOf, leadIn, leadAmong, leadParts, leadAt, isLed, BegunInTurn, kindIn, kindAmong, kindAt, lasts, ownsAt, hasBegan, Taken, markBefore, isMarked, goesIn, mayBe, hasBegun, numbers, ofEach, raisesOf, takenBy, stepsTaken, BegunTruly, BegunAll, isScopeKind}
 use Rattle.undoing.proofs.Parts.{decide, every-append, some-append}
 use Rattle.undoing.proofs.Marks.{trio}
 use Rattle.undoing.proofs.Orders.{least, momentOf, onto, onto-append}
 use Rattle.undoing.proofs.Moves.{HoldsAt}
 use Rattle.undoing.proofs.Places.{first-of, second-of}
-use Rattle.undoing.proofs.Planning.{Formed, formed-part, formed-scope, FormedIn, formed-none, formed-more, scopes-is, Promised, promised}
+use Rattle.undoing.proofs.Planning.{Formed, formed-part, formed-scope, FormedIn, formed-none, formed-more, scopes-is, Promised, promised, FormedRest, formed-undo, formed-no}
 use Rattle.undoing.proofs.Roots.{Awaited, Standing, Passed}
 use Rattle.undoing.proofs.Slots.{Slot, slot-live, standing-live, Alike, alike-itself, taking-alike, alike-awaited, alike-stands, alike-holds, passed-slot, idle-marks, order-starts, post-same, collect-same, drop-same, Sane, same-sane, fresh-sane}
 use Rattle.undoing.proofs.Happening.{orderIn, withMessage, Happens, nothing-here, goes-here, starts-here, step-happens}
 use Rattle.undoing.proofs.Demanded.{step-after}
 use Rattle.undoing.proofs.Told.{slot-marks}
-use Rattle.undoing.proofs.Truly.{neither, began-in, began-neither, Up, stay-up, Arms, needs, Knows, knows, KnowsIn, knows-none, knows-more, Began, begin-began}
-use Rattle.undoing.proofs.Leading.{Leads, leads-part, leads-scope, LeadsIn, leads-none, leads-more, Fine, fine-append, fine-event, begin-fine, order-fine}
+use Rattle.undoing.proofs.Truly.{neither, began-in, began-neither, Up, stay-up, Arms, needs, Knows, knows, KnowsIn, knows-none, knows-more, Began, begin-began, scope-kind}
+use Rattle.undoing.proofs.Leading.{Leads, leads-part, leads-scope, LeadsIn, leads-none, leads-more, Fine, fine-append, fine-event, begin-fine, order-fine, LeadsRest, leads-undo, leads-no}
 use Rattle.undoing.proofs.Keeping.{Steps, steps-from, order-steps, awaited-up}
 
 -- A tree of its form, whose kinds f knows as the tree does.
@@ -69,9 +68,14 @@ module _ (f : ℕ → ℕ) where
   unfolding needs
   needs-part own n s h = rw s h
 
-  needs-scope : (b g u : Act) → needs scope ≤ count (trio b g u)
-  unfolding needs count kind
-  needs-scope b g u = omega arith
+  needs-scope : {v : Bool} {u : Acts} → FormedRest v u → (b g : Act) → needs (scope v) ≤ count (trio b g u)
+  unfolding needs count
+  needs-scope (formed-undo z) b g = omega arith
+  needs-scope formed-no b g = omega arith
+
+  rest-arms : {v : Bool} {u : Acts} → FormedRest v u → Arms false u
+  rest-arms (formed-undo (formed-part s i g y)) = (i, tt)
+  rest-arms formed-no = tt
 
   arms-in : {h r : Bool} {l : Acts} → FormedIn h r l → Arms r l
   unfolding kind
@@ -92,15 +96,18 @@ module _ (f : ℕ → ℕ) where
     knows-in (formed-part {own = own} {within = within} s i g y) k d =
         knows (d k (omega arith) (omega arith) ∙ kind-here own within k) (needs-part own (count within) s g) (arms-in y)
         (knows-all y (k + 1) (λ t u v. d t (omega arith) (omega arith) ∙ kind-within own within k t (omega arith)))
-    knows-in (formed-scope {b = b} {f = g} {u = u} x y z) k d =
-        knows (d k (omega arith) (omega arith) ∙ kind-here scope (trio b g u) k) (needs-scope b g u) (not-arms (more g (more u none)) x (not-arms (more u none) y (not-arms none z tt)))
-        (knows-more (knows-in x (k + 1) (λ t v w. e t (omega arith) (omega arith) ∙ kind-first b (more g (more u none)) (k + 1) t (omega arith)))
-        (knows-more (knows-in y (k + 1 + size b) (λ t v w. e t (omega arith) (omega arith) ∙ (kind-later b (more g (more u none)) (k + 1) t (omega arith) ∙ kind-first g (more u none) (k + 1 + size b) t (omega arith))))
-        (knows-more (knows-in z (k + 1 + size b + size g) (λ t v w. e t (omega arith) (omega arith)
-        ∙ (kind-later b (more g (more u none)) (k + 1) t (omega arith) ∙ (kind-later g (more u none) (k + 1 + size b) t (omega arith) ∙ kind-first u none (k + 1 + size b + size g) t (omega arith))))) knows-none)))
+    knows-in (formed-scope {v = v₀} {b = b} {f = g} {u = u} x y z) k d =
+        knows (d k (omega arith) (omega arith) ∙ kind-here (scope v₀) (trio b g u) k) (needs-scope z b g) (not-arms (more g u) x (not-arms u y (rest-arms z)))
+        (knows-more (knows-in x (k + 1) (λ t v w. e t (omega arith) (omega arith) ∙ kind-first b (more g u) (k + 1) t (omega arith)))
+        (knows-more (knows-in y (k + 1 + size b) (λ t v w. e t (omega arith) (omega arith) ∙ (kind-later b (more g u) (k + 1) t (omega arith) ∙ kind-first g u (k + 1 + size b) t (omega arith))))
+        (knows-rest z (k + 1 + size b + size g) (λ t v w. e t (omega arith) (omega arith) ∙ (kind-later b (more g u) (k + 1) t (omega arith) ∙ kind-later g u (k + 1 + size b) t (omega arith))))))
       where
-        e : (t : ℕ) → k < t → t < k + size (act scope (trio b g u)) → f t ≡ kindAmong (trio b g u) (k + 1) t
-        e t v w = d t (omega arith) w ∙ kind-within scope (trio b g u) k t v
+        e : (t : ℕ) → k < t → t < k + size (act (scope v₀) (trio b g u)) → f t ≡ kindAmong (trio b g u) (k + 1) t
+        e t v w = d t (omega arith) w ∙ kind-within (scope v₀) (trio b g u) k t v
+
+    knows-rest : {v : Bool} {l : Acts} → FormedRest v l → (c : ℕ) → ((t : ℕ) → c ≤ t → t < c + sizes l → f t ≡ kindAmong l c t) → KnowsIn f l c
+    knows-rest (formed-undo {u = u} z) c d = knows-more (knows-in z c (λ t v w. d t (omega arith) (omega arith) ∙ kind-first u none c t (omega arith))) knows-none
+    knows-rest formed-no c d = knows-none
 
     knows-all : {h r : Bool} {l : Acts} → FormedIn h r l → (c : ℕ) → ((t : ℕ) → c ≤ t → t < c + sizes l → f t ≡ kindAmong l c t) → KnowsIn f l c
     knows-all formed-none c d = knows-none
@@ -163,22 +170,25 @@ module _ (lead : ℕ → Lead) where
     leads-in (formed-part {own = own} {within = within} s i g y) k q d =
         leads-part s g (leads-all y (k + 1) (leadOf own k) (λ j u v. d j (omega arith) (omega arith) ∙ (lead-within own within k j q (omega arith)
         ∙ second-of (isScope own) (leadParts within (k + 1) j (together k)) (leadAmong within (k + 1) j (leadOf own k)) _ refl s)))
-    leads-in (formed-scope {b = b} {f = g} {u = u} x y z) k q d =
+    leads-in (formed-scope {v = v₀} {b = b} {f = g} {u = u} x y z) k q d =
         leads-scope (kb (k + 1) (omega arith) (size-some b (k + 1)) ∙ lead-here b (k + 1) (together k)) (kg (k + 1 + size b) (omega arith) (size-some g (k + 1 + size b)) ∙ lead-here g (k + 1 + size b) alone)
-        (ku (k + 1 + size b + size g) (omega arith) (size-some u (k + 1 + size b + size g)) ∙ lead-here u (k + 1 + size b + size g) alone) (leads-in x (k + 1) (together k) kb) (leads-in y (k + 1 + size b) alone kg) (leads-in z (k + 1 + size b + size g) alone ku)
+        (leads-in x (k + 1) (together k) kb) (leads-in y (k + 1 + size b) alone kg)
+        (leads-rest z (k + 1 + size b + size g) (λ j v w. parts j (omega arith) (omega arith) ∙ (parts-later b (more g u) (k + 1) j (together k) (omega arith) ∙ lead-later g u (k + 1 + size b) j alone v)))
       where
-        parts : (j : ℕ) → k < j → j < k + size (act scope (trio b g u)) → lead j ≡ leadParts (trio b g u) (k + 1) j (together k)
-        parts j v w = d j (omega arith) w ∙ lead-within scope (trio b g u) k j q v
+        parts : (j : ℕ) → k < j → j < k + size (act (scope v₀) (trio b g u)) → lead j ≡ leadParts (trio b g u) (k + 1) j (together k)
+        parts j v w = d j (omega arith) w ∙ lead-within (scope v₀) (trio b g u) k j q v
 
         kb : Knowing b (k + 1) (together k)
-        kb j v w = parts j (omega arith) (omega arith) ∙ parts-first b (more g (more u none)) (k + 1) j (together k) w
+        kb j v w = parts j (omega arith) (omega arith) ∙ parts-first b (more g u) (k + 1) j (together k) w
 
         kg : Knowing g (k + 1 + size b) alone
-        kg j v w = parts j (omega arith) (omega arith) ∙ (parts-later b (more g (more u none)) (k + 1) j (together k) v ∙ lead-first g (more u none) (k + 1 + size b) j alone w)
+        kg j v w = parts j (omega arith) (omega arith) ∙ (parts-later b (more g u) (k + 1) j (together k) v ∙ lead-first g u (k + 1 + size b) j alone w)
 
-        ku : Knowing u (k + 1 + size b + size g) alone
-        ku j v w = parts j (omega arith) (omega arith)
-            ∙ (parts-later b (more g (more u none)) (k + 1) j (together k) (omega arith) ∙ (lead-later g (more u none) (k + 1 + size b) j alone v ∙ lead-first u none (k + 1 + size b + size g) j alone w))
+    leads-rest : {v : Bool} {l : Acts} → FormedRest v l → (c : ℕ) → ((j : ℕ) → c ≤ j → j < c + sizes l → lead j ≡ leadAmong l c j alone) → LeadsRest lead v l c
+    leads-rest (formed-undo {u = u} z) c d =
+        let e : Knowing u c alone = λ j v w. d j v (omega arith) ∙ lead-first u none c j alone w in
+        leads-undo (e c (omega arith) (size-some u c) ∙ lead-here u c alone) (leads-in z c alone e)
+    leads-rest formed-no c d = leads-no
 
     leads-all : {h r : Bool} {l : Acts} → FormedIn h r l → (c : ℕ) (q : Lead) → ((j : ℕ) → c ≤ j → j < c + sizes l → lead j ≡ leadAmong l c j q)
         → LeadsIn lead l c q
@@ -199,32 +209,32 @@ fault-lead p j v = second-of (ltb j (size (p .body))) (leadIn (p .body) 0 j alon
 mutual
   unfolding scopesIn kindIn some
 
-  scope-named : (a : Act) (k t : ℕ) (n : Name) → kindIn a k t ≡ 11 → some (λ x. eqb (x .number) t) (scopesIn a k n) ≡ true
-  scope-named (act own within) k t n h =
+  scope-named : (a : Act) (k t : ℕ) (n : Name) (ns : List Name) → isScopeKind (kindIn a k t) ≡ true → some (λ x. eqb (x .number) t) (scopesIn a k n ns) ≡ true
+  scope-named (act own within) k t n ns h =
       decide (eqb k t)
-      (λ e. let s : isScope own ≡ true = ap (λ (i : ℕ). eqb i 11) (sym (first-of (eqb k t) (kind own) (kindAmong within (k + 1) t) (kindIn (act own within) k t) refl e) ∙ h) in
-      subst (λ (l : List Inner). some (λ x. eqb (x .number) t) l ≡ true) (sym (scopes-is own within k n true s)) (rw e))
-      (λ e. let y : (m : Name) → some (λ x. eqb (x .number) t) (scopesAmong within (k + 1) m) ≡ true
-      = λ m. among-named within (k + 1) t m (sym (second-of (eqb k t) (kind own) (kindAmong within (k + 1) t) (kindIn (act own within) k t) refl e) ∙ h) in
+      (λ e. let s : isScope own ≡ true = sym (scope-kind own) ∙ (ap isScopeKind (sym (first-of (eqb k t) (kind own) (kindAmong within (k + 1) t) (kindIn (act own within) k t) refl e)) ∙ h) in
+      subst (λ (l : List Inner). some (λ x. eqb (x .number) t) l ≡ true) (sym (scopes-is own within k n ns true s)) (rw e))
+      (λ e. let y : (m : Name) (ms : List Name) → some (λ x. eqb (x .number) t) (scopesAmong within (k + 1) m ms) ≡ true
+      = λ m ms. among-named within (k + 1) t m ms (ap isScopeKind (sym (second-of (eqb k t) (kind own) (kindAmong within (k + 1) t) (kindIn (act own within) k t) refl e)) ∙ h) in
       decide (isScope own)
-      (λ s. subst (λ (l : List Inner). some (λ x. eqb (x .number) t) l ≡ true) (sym (scopes-is own within k n true s)) (rw (y (inner k), or-true)))
-      (λ s. subst (λ (l : List Inner). some (λ x. eqb (x .number) t) l ≡ true) (sym (scopes-is own within k n false s)) (y n)))
+      (λ s. subst (λ (l : List Inner). some (λ x. eqb (x .number) t) l ≡ true) (sym (scopes-is own within k n ns true s)) (rw (y (inner k) (cond (hasUndo own) [] (n ∷ ns)), or-true)))
+      (λ s. subst (λ (l : List Inner). some (λ x. eqb (x .number) t) l ≡ true) (sym (scopes-is own within k n ns false s)) (y n ns)))
 
-  among-named : (l : Acts) (c t : ℕ) (n : Name) → kindAmong l c t ≡ 11 → some (λ x. eqb (x .number) t) (scopesAmong l c n) ≡ true
-  among-named none c t n h = absurd (let z : _≡_ {A = ℕ} 0 11 = h in omega arith)
-  among-named (more a l) c t n h =
-      some-append (λ x. eqb (x .number) t) (scopesIn a c n) (scopesAmong l (c + size a) n)
+  among-named : (l : Acts) (c t : ℕ) (n : Name) (ns : List Name) → isScopeKind (kindAmong l c t) ≡ true → some (λ x. eqb (x .number) t) (scopesAmong l c n ns) ≡ true
+  among-named none c t n ns h = absurd (false≢true h)
+  among-named (more a l) c t n ns h =
+      some-append (λ x. eqb (x .number) t) (scopesIn a c n ns) (scopesAmong l (c + size a) n ns)
       ∙ decide (ltb t (c + size a))
-      (λ e. rw (scope-named a c t n (sym (first-of (ltb t (c + size a)) (kindIn a c t) (kindAmong l (c + size a) t) (kindAmong (more a l) c t) refl e) ∙ h)))
-      (λ e. rw (among-named l (c + size a) t n (sym (second-of (ltb t (c + size a)) (kindIn a c t) (kindAmong l (c + size a) t) (kindAmong (more a l) c t) refl e) ∙ h), or-true))
+      (λ e. rw (scope-named a c t n ns (ap isScopeKind (sym (first-of (ltb t (c + size a)) (kindIn a c t) (kindAmong l (c + size a) t) (kindAmong (more a l) c t) refl e)) ∙ h)))
+      (λ e. rw (among-named l (c + size a) t n ns (ap isScopeKind (sym (second-of (ltb t (c + size a)) (kindIn a c t) (kindAmong l (c + size a) t) (kindAmong (more a l) c t) refl e)) ∙ h), or-true))
 
-plan-named : (p : Plan) (t : ℕ) → eqb (kindAt p t) 11 ≡ true → isName p (inner t) ≡ true
+plan-named : (p : Plan) (t : ℕ) → isScopeKind (kindAt p t) ≡ true → isName p (inner t) ≡ true
 unfolding scopesOf kindAt
 plan-named p t h =
-    some-append (λ x. eqb (x .number) t) (scopesIn (p .body) 0 root) (scopesIn (p .fault) (size (p .body)) root)
+    some-append (λ x. eqb (x .number) t) (scopesIn (p .body) 0 root []) (scopesIn (p .fault) (size (p .body)) root [])
     ∙ decide (ltb t (size (p .body)))
-    (λ e. rw (scope-named (p .body) 0 t root (eqb-true (kindIn (p .body) 0 t) 11 (rw (kindAt, e) at h))))
-    (λ e. rw (scope-named (p .fault) (size (p .body)) t root (eqb-true (kindIn (p .fault) (size (p .body)) t) 11 (rw (kindAt, e) at h)), or-true))
+    (λ e. rw (scope-named (p .body) 0 t root [] (rw (kindAt, e) at h)))
+    (λ e. rw (scope-named (p .fault) (size (p .body)) t root [] (rw (kindAt, e) at h), or-true))
 
 -- A scope that is left running and did not begin was left before.
 left-one : (k : ℕ) (e : Event) (past : List Event) → isBeganOf (eqb k) e ≡ false → isLeft (inner k) (e ∷ past) ≡ true → isLeft (inner k) past ≡ true
@@ -249,7 +259,7 @@ abbrev AllBegun : Plan → List Taken → Type 0
 AllBegun p l = (every (ofEach isMarked p) l ≡ true) × (every (ofEach hasBegun p) l ≡ true) × (every (ofEach isLed p) l ≡ true)
 
 -- what may be, where what is set was
-may-be : (n : ℕ) (s b : Bool) (x y : ℕ) → (eqb y idle ≡ false → (eqb x idle ≡ false) × ((eqb n 11 || cond s (goesIn n y b) (eqb y x || eqb n 7)) ≡ true))
+may-be : (n : ℕ) (s b : Bool) (x y : ℕ) → (eqb y idle ≡ false → (eqb x idle ≡ false) × ((isScopeKind n || cond s (goesIn n y b) (eqb y x || eqb n 7)) ≡ true))
     → mayBe n s b x y ≡ true
 unfolding mayBe
 may-be n s b x y h = decide (eqb y idle) (λ e. rw e) (λ e. let z = h e in rw (e, z .0, z .1))
@@ -263,7 +273,7 @@ module _ (p : Plan) (h : Promised p) where
 
   -- the mark of a scope that did not begin
   scope-up : {o o₁ : Order} (k : ℕ) (l past : List Event) → Slot p o past → Slot p o₁ (onto l past) → isLive o ≡ true → isLive o₁ ≡ true
-      → eqb (kindAt p k) 11 ≡ true → hasBegan k l ≡ false
+      → isScopeKind (kindAt p k) ≡ true → hasBegan k l ≡ false
       → Up (o₁ .marks) k → Up (o .marks) k
   scope-up {o} {o₁} k l past a b v w s n u =
       let i = plan-named p k s in
@@ -272,10 +282,10 @@ module _ (p : Plan) (h : Promised p) where
   -- a step of an order that awaits it
   steps-may : (t : ℕ) (o o₁ : Order) (l : List Event) → Steps (kindAt p) (ownsAt p t) 0 o (record { result = running; order = o₁; log = l })
       → Awaited p (o .marks) t → (k : ℕ) → hasBegan k l ≡ false
-      → (eqb (kindAt p k) 11 ≡ true → Up (o₁ .marks) k → Up (o .marks) k) → mayBe (kindAt p k) (ownsAt p t k) (hasBegan (k + 1) l) (getD (o .marks) k 0) (getD (o₁ .marks) k 0) ≡ true
+      → (isScopeKind (kindAt p k) ≡ true → Up (o₁ .marks) k → Up (o .marks) k) → mayBe (kindAt p k) (ownsAt p t k) (hasBegan (k + 1) l) (getD (o .marks) k 0) (getD (o₁ .marks) k 0) ≡ true
   steps-may t o o₁ l w a k n c =
       may-be (kindAt p k) (ownsAt p t k) (hasBegan (k + 1) l) (getD (o .marks) k 0) (getD (o₁ .marks) k 0)
-      (λ u. decide (eqb (kindAt p k) 11)
+      (λ u. decide (isScopeKind (kindAt p k))
       (λ s. (c s u, rw s))
       (λ s. decide (ownsAt p t k)
       (λ e. (awaited-up t k p kb kf a e, rw (s, e) (w .its k s e n u)))
@@ -313,7 +323,7 @@ module _ (p : Plan) (h : Promised p) where
       → hasBegan k ((started ∷ begunOrder p .log) ++ o .log) ≡ false → Up (o .order .marks) k → ⊥
   unfolding some isBeganOf startedOrder isLeft isBegin isFinish
   starts-idle t m past z a b v k n u =
-      decide (eqb (kindAt p k) 11)
+      decide (isScopeKind (kindAt p k))
       (λ s. false≢true (left-before k (begunOrder p .log ++ o .log) (started ∷ past) n (sym (slot-marks b v (inner k) (plan-named p k s) .0) ∙ rw u)))
       (λ s. decide (ownsAt p t k)
       (λ e. resting (awaited-up t k p kb kf a e))

@@ -2,16 +2,17 @@
 use Prim.Native.Nat.{ℕ, _+_, _≤_, _<_}
 use native.Mathlib.Omega.{arith}
 use mathlib.Core.Path.{_≡_, refl, sym, ap, subst, _∙_}
-use mathlib.Core.Bool.{Bool, true, false, cond, _||_, false≢true, or-true}
-use mathlib.Core.List.{List, [], _∷_, reverse}
+use mathlib.Core.Bool.{Bool, true, false, cond, not, _||_, false≢true, or-true}
+use mathlib.Core.List.{List, [], _∷_, reverse, map}
 use lib.ListN.{length}
 use lib.Dec.{eqb}
 use borrow.Author.Tests.{eqb-true, eq-eqb, lt-ltb, le-ltb}
 use Rattle.plan.specs.Tree.{Act, Plan, size}
+use Rattle.order.specs.declared.Closing.{Closing}
 use Rattle.order.specs.declared.Order.{Order}
 use Rattle.order.specs.declared.End.the-variants.{None}
 use Rattle.order.specs.Lists.{some, only}
-use Rattle.order.specs.State.{root, inner, active, done, faulty, undoing, handling, halted, withdrawing, withRoot, closings}
+use Rattle.order.specs.State.{Name, root, inner, idle, active, done, faulty, undoing, handling, halted, withdrawing, withRoot, closings, markOf}
 use Rattle.order.specs.Event.{Event, faulted}
 use Rattle.order.specs.Begin.{begin}
 use Rattle.order.specs.declared.Way.{Way as Result}
@@ -19,20 +20,20 @@ use Rattle.order.specs.declared.Way.the-variants.{Running as running, Over as o
 use Rattle.order.specs.Scope.{Outcome, runs, after, begunIn, whereOver, Scope, rootOf, isOpen, innerRuns, rememberedFor, undo, ends, handle, undoes, turns, stop, faults, breaks, looksAgain, undoOver, undoRaised, partOver, partRaised, fromBody, fromFault}
 use Rattle.order.specs.Acting.{Actor, itsOwn, inPlace, stepIn, stepRoot}
 use Rattle.undoing.specs.Demand3.{Inner, insideOf, closingsOf}
-use Rattle.undoing.specs.Ties.{Place, placeOf, fits, isDeed}
+use Rattle.undoing.specs.Ties.{Place, undoOf, runAt, seen, placeNow, bodyOfName, fits, isDeed}
 use Rattle.undoing.specs.Answered.{backIn, backOf, isClose, isBack, Book, putting, without, isDue, paid, noted, mayNote}
 use Rattle.undoing.proofs.Parts.{decide}
 use Rattle.undoing.proofs.Accounts.{Phase, live, waits, heals, phase}
 use Rattle.undoing.proofs.Moves.{HoldsAt, tied-at, move-fault}
 use Rattle.undoing.proofs.Marks.{Quiet, Run, Turned, turned-waits, turned-undoes, turned-heals, Stopped, Undoing, Stoppable, quiet-agree, agree-below, agree-above}
-use Rattle.undoing.proofs.Orders.{isIn, listOf, momentOf, onto, Does}
+use Rattle.undoing.proofs.Orders.{listOf, momentOf, onto, Does}
 use Rattle.undoing.proofs.Seats.{marking-elsewhere, stopped-rests, remembered-list}
 use Rattle.undoing.proofs.Undo.{UndoneAs, Undone, undoes-list}
 use Rattle.undoing.proofs.Turning.{TurnsAs, handles}
 use Rattle.undoing.proofs.Stopping.{Stops, stops}
 use Rattle.undoing.proofs.Waiting.{Waits, quiet-waits}
 use Rattle.undoing.proofs.Scoping.{looks-is, over-is, raised-is, Acted, RunAs, StopAs, UndoAs, scope-live, scope-done, scope-turned, Running, waits-mark, undoes-mark, no-heals}
-use Rattle.undoing.proofs.Stepping.{steps, steps-stopped, steps-undoing, steps-part}
+use Rattle.undoing.proofs.Stepping.{awake-first, steps, steps-stopped, steps-undoing, steps-part}
 use Rattle.undoing.proofs.Roots.{Awaited, in-body, in-fault, Standing, root-is}
 use Rattle.undoing.proofs.Planning.{Promised}
 use Rattle.undoing.proofs.Judged.{isTake, Fitting, doing-body}
@@ -41,13 +42,13 @@ use Rattle.undoing.proofs.Deeds.{deeds-aside}
 use Rattle.undoing.proofs.Fitting.{standing-fits}
 use Rattle.undoing.proofs.Ending.{isStart, start-kept}
 use Rattle.undoing.proofs.Owing.{undoLeftIn, undo-quiet, undo-run, undo-stopped}
-use Rattle.undoing.proofs.Repaying.{Repays, RepaysAs, undo-repays, undo-due, back-place, Back, left-back, none-without, close-place, duesOf, PaysAs, undo-pays}
+use Rattle.undoing.proofs.Repaying.{dueIn, Repays, RepaysAs, undo-repays, undo-due, back-place, Back, left-back, none-without, close-place, duesOf, PaysAs, undo-pays}
 use Rattle.undoing.proofs.Upsetting.{undo-raises}
-use Rattle.undoing.proofs.Pushing.{closedOnto, onto-closings, direct-close, closedWith, step-closings}
+use Rattle.undoing.proofs.Pushing.{duesOnto, onto-dues, direct-close, duesWith, step-dues}
 
--- what is due for closings directly inside the root, and what an order owes
+-- what is due for closings at the root, those directly inside it, and what an order owes
 abbrev pub duesIn : Plan → List ℕ → List (List ℕ)
-duesIn p l = duesOf (backIn (p .body) 0) l
+duesIn p l = duesOf (dueIn (p .body) 0) l
 
 abbrev pub owed : Plan → Order → List (List ℕ)
 owed p o = putting (undoLeftIn (p .body) 0 (o .marks)) (duesIn p (listOf p root o))
@@ -157,10 +158,10 @@ module _ (p : Plan) (h : Promised p) where
       u : Undone p s o′ r
       u = undoes-list p true s l o′ (h .seat) refl z (omega arith) (sym i)
 
-      pays : PaysAs p s (duesOf (backIn (p .body) 0) l) (r .order) (r .result)
+      pays : PaysAs p s (duesOf (dueIn (p .body) 0) l) (r .order) (r .result)
       pays = undo-pays p true s l o′ (h .seat) refl z (omega arith) (sym i)
 
-      go : (x : Result) → UndoneAs p s (r .order) x → PaysAs p s (duesOf (backIn (p .body) 0) l) (r .order) x
+      go : (x : Result) → UndoneAs p s (r .order) x → PaysAs p s (duesOf (dueIn (p .body) 0) l) (r .order) x
           → Settled p (duesIn p (listOf p root o)) b (whereOver (handle s) (record { result = x; order = r .order; log = r .log }))
       go running c d = (d ∙ ap (duesIn p) i, λ x. absurd (false≢true (sym x ∙ ap begunMark (u .rooted))))
       go over c d =
@@ -182,9 +183,9 @@ module _ (p : Plan) (h : Promised p) where
 
   faults-settles : (o : Order) (past : List Event) → o .root ≡ active → Stoppable (o .marks) (p .body) 0 → Quiet (o .marks) (size (p .body)) (size (p .fault))
       → size (p .body) + size (p .fault) ≤ length (o .marks) → HoldsAt p (momentOf p o) past → Settled p (duesIn p (listOf p root o)) false (faults (rootOf p) o)
-  unfolding faults only isDeed some isStart closedOnto
+  unfolding faults only isDeed some isStart duesOnto
   faults-settles o past e t y m g =
-      subst (λ (l : List ℕ). Settled p (duesIn p l) false (turns true (rootOf p) o₂)) same-list
+      subst (λ (d : List (List ℕ)). Settled p d false (turns true (rootOf p) o₂)) same-dues
       (turns-settles o₂ (r .stands) (quiet-agree y (agree-above (r .kept) (omega arith))) (omega (arith, r .kept .many)))
     where
       o₁ : Order
@@ -211,16 +212,14 @@ module _ (p : Plan) (h : Promised p) where
       unstarted : some isStart (faulted root ∷ l) ≡ false
       unstarted = start-kept l ∙ ap (some isStart) still
 
-      closed-same : closingsOf p root (onto l (faulted root ∷ past)) ≡ closingsOf p root past
-      closed-same = onto-closings p (faulted root ∷ l) past unstarted ∙ ap (λ (z : List Event). closedOnto p z (closingsOf p root past)) still
-
-      same-list : listOf p root o₂ ≡ listOf p root o
-      same-list =
-          sym (tied-at p (momentOf p o₂) (momentOf p o₂) (onto l (faulted root ∷ past)) g₂ (waits true) root refl (ap phase (r .rooted)) .3)
-          ∙ (closed-same ∙ tied-at p (momentOf p o) (momentOf p o) past g live root refl (ap phase e) .3)
+      same-dues : duesIn p (listOf p root o₂) ≡ duesIn p (listOf p root o)
+      same-dues =
+          ap (duesIn p) (sym (tied-at p (momentOf p o₂) (momentOf p o₂) (onto l (faulted root ∷ past)) g₂ (waits true) root refl (ap phase (r .rooted)) .3))
+          ∙ (onto-dues p (h .seat) (faulted root ∷ l) past unstarted ∙ (ap (λ (z : List Event). duesOnto p (h .seat) z (duesIn p (closingsOf p root past))) still
+          ∙ ap (duesIn p) (tied-at p (momentOf p o) (momentOf p o) past g live root refl (ap phase e) .3)))
 
   -- Which steps close and take back.
-  module _ (t : ℕ) (o : Order) (fit : fits (placeOf p t) o ≡ true) where
+  module _ (t : ℕ) (o : Order) (fit : fits (placeNow p o t) o ≡ true) where
     back-of : isBack p root t ≡ true → Back (p .body) 0 t
     unfolding backOf
     back-of e =
@@ -231,22 +230,28 @@ module _ (p : Plan) (h : Promised p) where
     unfolding backOf
     is-back b = some-found (λ i. some (eqb t) (backOf p i)) (b .scope) (insideOf p root) (sym (direct-close p (h .seat) (b .scope)) ∙ b .direct) (b .takes)
 
+    -- an undo part of one directly inside it is run by the root
+    root-runs : (ns : List Name) → ns ≡ [] → (m : Name) → (eqb (o .root) undoing || eqb (o .root) withdrawing) ≡ fits (seen (λ n. not (eqb (markOf n o) idle)) (undoOf root ns m)) o
+    unfolding runAt
+    root-runs ns e m = subst (λ (z : List Name). (eqb (o .root) undoing || eqb (o .root) withdrawing) ≡ fits (seen (λ n. not (eqb (markOf n o) idle)) (undoOf root z m)) o) (sym e) refl
+
     not-back : (eqb (o .root) undoing || eqb (o .root) withdrawing) ≡ false → isBack p root t ≡ false
     not-back e =
         decide (isBack p root t)
-        (λ i. let b = back-of i in absurd (false≢true (sym e ∙ (ap (λ (q : Place). fits q o) (sym (back-place (p .body) 0 (b .scope) t (h .seat .body) (b .direct) (b .takes))) ∙ fit))))
+        (λ i. let b = back-of i in absurd (false≢true (sym e ∙ (root-runs (h .seat .beyond) (h .alone) (h .seat .around)
+        ∙ (ap (λ (q : Place). fits (seen (λ n. not (eqb (markOf n o) idle)) q) o) (sym (back-place (p .body) 0 (b .scope) t (h .seat .body) (b .direct) (b .takes))) ∙ fit)))))
         (λ i. i)
 
     not-close : isOpen (o .root) ≡ false → isClose p root t ≡ false
     not-close e =
         decide (isClose p root t)
-        (λ i. absurd (false≢true (sym e ∙ (ap (λ (q : Place). fits q o) (sym (close-place (p .body) 0 t (h .seat .body) (direct-close p (h .seat) t ∙ i))) ∙ fit))))
+        (λ i. absurd (false≢true (sym e ∙ (ap (λ (q : Place). fits (seen (λ n. not (eqb (markOf n o) idle)) q) o) (sym (close-place (p .body) 0 t (h .seat .body) (direct-close p (h .seat) t ∙ i))) ∙ fit))))
         (λ i. i)
 
     -- what is noted where nothing is taken back
     noted-calm : (a : Book) (l : List ℕ) → isBack p root t ≡ false → a .due ≡ duesIn p l → a .begun ≡ false
-        → (mayNote p root t a ≡ true) × (noted p root t a .due ≡ duesIn p (cond (isClose p root t) (t ∷ l) l)) × (noted p root t a .begun ≡ false)
-    unfolding noted mayNote duesOf backOf
+        → (mayNote p root t a ≡ true) × (noted p root t a .due ≡ duesWith p (h .seat) itsOwn t (duesIn p l)) × (noted p root t a .begun ≡ false)
+    unfolding noted mayNote
     noted-calm a l n d b =
         decide (isClose p root t)
         (λ e. (rw (e, b), rw (e, d), rw (e, b)))
@@ -259,7 +264,7 @@ module _ (p : Plan) (h : Promised p) where
 
     -- the same of what is written
     written-calm : (actor : Actor) (a : Book) (l : List ℕ) → isBack p root t ≡ false → a .due ≡ duesIn p l → a .begun ≡ false
-        → May actor p t a × (written actor p t a .due ≡ duesIn p (closedWith p actor t l)) × (written actor p t a .begun ≡ false)
+        → May actor p t a × (written actor p t a .due ≡ duesWith p (h .seat) actor t (duesIn p l)) × (written actor p t a .begun ≡ false)
     written-calm itsOwn a l n d b = noted-calm a l n d b
     written-calm inPlace a l n d b = (tt, d, b)
 
@@ -278,20 +283,20 @@ module _ (p : Plan) (h : Promised p) where
 
   -- A step of an order that agrees with a book.
   module _ (t : ℕ) (o : Order) (past : List Event) (a : Book) (g : HoldsAt p (momentOf p o) past) (ag : Agrees p o a) (m : size (p .body) + size (p .fault) ≤ length (o .marks))
-      (fit : fits (placeOf p t) o ≡ true) where
+      (fit : fits (placeNow p o t) o ≡ true) where
     -- in the root's body
     abbrev its : Actor → Outcome
-    its actor = stepIn actor (p .body) 0 t o
+    its actor = stepIn actor (p .body) 0 0 t o
 
     abbrev Right : Actor → Outcome → Type 0
     Right actor r = May actor p t a × Settled p (written actor p t a .due) (written actor p t a .begun) r
 
     -- where nothing is taken back, by what is due then
     right-calm : (actor : Actor) (r : Outcome) → undoLeftIn (p .body) 0 (o .marks) ≡ [] → begunMark (o .root) ≡ false → (eqb (o .root) undoing || eqb (o .root) withdrawing) ≡ false
-        → Settled p (duesIn p (closedWith p actor t (listOf p root o))) false r → Right actor r
+        → Settled p (duesWith p (h .seat) actor t (duesIn p (listOf p root o))) false r → Right actor r
     right-calm actor r e b n w =
         let y = written-calm t o fit actor a (listOf p root o) (not-back t o fit n) (sym (ag .due) ∙ quiet-owed p o e) (ag .calm b) in
-        (y .0, subst (λ (d : List (List ℕ)). Settled p d (written actor p t a .begun) r) (sym (y .1)) (subst (λ (c : Bool). Settled p (duesIn p (closedWith p actor t (listOf p root o))) c r) (sym (y .2)) w))
+        (y .0, subst (λ (d : List (List ℕ)). Settled p d (written actor p t a .begun) r) (sym (y .1)) (subst (λ (c : Bool). Settled p (duesWith p (h .seat) actor t (duesIn p (listOf p root o))) c r) (sym (y .2)) w))
 
     -- The root is live.
     live-right : (actor : Actor) → Fitting actor p t → t < size (p .body) → o .root ≡ active → Run (o .marks) (p .body) 0 → Quiet (o .marks) (size (p .body)) (size (p .fault)) → Waits (o .marks) (p .body) 0 t false → Right actor (fromBody (rootOf p) (its actor))
@@ -299,11 +304,11 @@ module _ (p : Plan) (h : Promised p) where
     live-right actor j i d r q w =
         right-calm actor (fromBody (rootOf p) (its actor)) (undo-run (h .seat .body) r) (rw d) (rw d) (go (its actor .result) (v .comes))
       where
-        v : Acted 0 (size (p .body)) o (RunAs p (p .body) 0 t o) (stepIn actor (p .body) 0 t o)
-        v = steps p (h .distinct) actor (h .seat .body) t o false w refl r (ap phase d) (omega arith)
+        v : Acted 0 (size (p .body)) o (RunAs p (p .body) 0 t o) (stepIn actor (p .body) 0 0 t o)
+        v = steps p actor (h .seat .body) 0 t o false (h .seat .at) w refl r (ap phase d) (omega arith)
 
         o₁ : Order
-        o₁ = stepIn actor (p .body) 0 t o .order
+        o₁ = stepIn actor (p .body) 0 0 t o .order
 
         d₁ : o₁ .root ≡ active
         d₁ = v .rooted ∙ d
@@ -311,24 +316,24 @@ module _ (p : Plan) (h : Promised p) where
         q₁ : Quiet (o₁ .marks) (size (p .body)) (size (p .fault))
         q₁ = quiet-agree q (agree-above (v .kept) (omega arith))
 
-        listed : Does p None o (stepIn actor (p .body) 0 t o .log) o₁ → listOf p root o₁ ≡ closedWith p actor t (listOf p root o)
+        listed : Does p None o (stepIn actor (p .body) 0 0 t o .log) o₁ → duesIn p (listOf p root o₁) ≡ duesWith p (h .seat) actor t (duesIn p (listOf p root o))
         listed c =
             let g₁ = c .does past g .1 in
-            sym (tied-at p (momentOf p o₁) (momentOf p o₁) (onto (stepIn actor (p .body) 0 t o .log) past) g₁ live root refl (ap phase d₁) .3)
-            ∙ (step-closings p (h .seat) actor t o past j i ∙ ap (closedWith p actor t) (tied-at p (momentOf p o) (momentOf p o) past g live root refl (ap phase d) .3))
+            ap (duesIn p) (sym (tied-at p (momentOf p o₁) (momentOf p o₁) (onto (stepIn actor (p .body) 0 0 t o .log) past) g₁ live root refl (ap phase d₁) .3))
+            ∙ (step-dues p (h .seat) actor t o past j i ∙ ap (λ (l : List ℕ). duesWith p (h .seat) actor t (duesIn p l)) (tied-at p (momentOf p o) (momentOf p o) past g live root refl (ap phase d) .3))
 
-        go : (x : Result) → RunAs p (p .body) 0 t o (stepIn actor (p .body) 0 t o .log) o₁ x
-            → Settled p (duesIn p (closedWith p actor t (listOf p root o))) false (fromBody (rootOf p) (record { result = x; order = o₁; log = stepIn actor (p .body) 0 t o .log }))
+        go : (x : Result) → RunAs p (p .body) 0 t o (stepIn actor (p .body) 0 0 t o .log) o₁ x
+            → Settled p (duesWith p (h .seat) actor t (duesIn p (listOf p root o))) false (fromBody (rootOf p) (record { result = x; order = o₁; log = stepIn actor (p .body) 0 0 t o .log }))
         go running c =
-            subst (λ (z : Outcome). Settled p (duesIn p (closedWith p actor t (listOf p root o))) false (after (stepIn actor (p .body) 0 t o .log) z)) (sym (looks-is (rootOf p) o₁ active d₁))
-            (quiet-owed p o₁ (undo-run (h .seat .body) (c .0)) ∙ ap (duesIn p) (listed (c .1)), λ x. refl)
+            subst (λ (z : Outcome). Settled p (duesWith p (h .seat) actor t (duesIn p (listOf p root o))) false (after (stepIn actor (p .body) 0 0 t o .log) z)) (sym (looks-is (rootOf p) o₁ active d₁))
+            (quiet-owed p o₁ (undo-run (h .seat .body) (c .0)) ∙ listed (c .1), λ x. refl)
         go over c =
-            subst (λ (z : Outcome). Settled p (duesIn p (closedWith p actor t (listOf p root o))) false (after (stepIn actor (p .body) 0 t o .log) z)) (sym (over-is (rootOf p) o₁ active d₁))
-            (quiet-owed p o₁ (undo-quiet (h .seat .body) (o₁ .marks) (c .0)) ∙ ap (duesIn p) (listed (c .1)), λ x. refl)
+            subst (λ (z : Outcome). Settled p (duesWith p (h .seat) actor t (duesIn p (listOf p root o))) false (after (stepIn actor (p .body) 0 0 t o .log) z)) (sym (over-is (rootOf p) o₁ active d₁))
+            (quiet-owed p o₁ (undo-quiet (h .seat .body) (o₁ .marks) (c .0)) ∙ listed (c .1), λ x. refl)
         go raising c =
-            subst (λ (z : Outcome). Settled p (duesIn p (closedWith p actor t (listOf p root o))) false (after (stepIn actor (p .body) 0 t o .log) z)) (sym (raised-is (rootOf p) o₁ true (rw d₁)))
-            (subst (λ (l : List ℕ). Settled p (duesIn p l) false (faults (rootOf p) o₁)) (listed (c .1))
-            (faults-settles o₁ (onto (stepIn actor (p .body) 0 t o .log) past) d₁ (c .0) q₁ (omega (arith, v .kept .many)) (c .1 .does past g .1)))
+            subst (λ (z : Outcome). Settled p (duesWith p (h .seat) actor t (duesIn p (listOf p root o))) false (after (stepIn actor (p .body) 0 0 t o .log) z)) (sym (raised-is (rootOf p) o₁ true (rw d₁)))
+            (subst (λ (z : List (List ℕ)). Settled p z false (faults (rootOf p) o₁)) (listed (c .1))
+            (faults-settles o₁ (onto (stepIn actor (p .body) 0 0 t o .log) past) d₁ (c .0) q₁ (omega (arith, v .kept .many)) (c .1 .does past g .1)))
         go leaving c = tt
         go undone c = absurd c
         go undoRaising c = absurd c
@@ -339,32 +344,32 @@ module _ (p : Plan) (h : Promised p) where
     waits-right actor j i d r q w =
         right-calm actor (fromBody (rootOf p) (its actor)) (undo-stopped (h .seat .body) r) (rw d) (rw d) (go (its actor .result) (v .comes))
       where
-        v : Acted 0 (size (p .body)) o (StopAs p (p .body) 0 o) (stepIn actor (p .body) 0 t o)
-        v = steps-stopped p (h .distinct) actor (h .seat .body) t o false w refl r (omega arith)
+        v : Acted 0 (size (p .body)) o (StopAs p (p .body) 0 o) (stepIn actor (p .body) 0 0 t o)
+        v = steps-stopped p actor (h .seat .body) 0 t o false (h .seat .at) w refl r (omega arith)
 
         o₁ : Order
-        o₁ = stepIn actor (p .body) 0 t o .order
+        o₁ = stepIn actor (p .body) 0 0 t o .order
 
         d₁ : o₁ .root ≡ faulty
         d₁ = v .rooted ∙ d
 
-        looks : Stopped (o₁ .marks) (p .body) 0 → Does p None o (stepIn actor (p .body) 0 t o .log) o₁
-            → Settled p (duesIn p (closedWith p actor t (listOf p root o))) false (after (stepIn actor (p .body) 0 t o .log) (looksAgain (rootOf p) o₁))
+        looks : Stopped (o₁ .marks) (p .body) 0 → Does p None o (stepIn actor (p .body) 0 0 t o .log) o₁
+            → Settled p (duesWith p (h .seat) actor t (duesIn p (listOf p root o))) false (after (stepIn actor (p .body) 0 0 t o .log) (looksAgain (rootOf p) o₁))
         looks s c =
             let g₁ = c .does past g .1 in
-            let e : listOf p root o₁ ≡ closedWith p actor t (listOf p root o)
-            = sym (tied-at p (momentOf p o₁) (momentOf p o₁) (onto (stepIn actor (p .body) 0 t o .log) past) g₁ (waits true) root refl (ap phase d₁) .3)
-            ∙ (step-closings p (h .seat) actor t o past j i ∙ ap (closedWith p actor t) (tied-at p (momentOf p o) (momentOf p o) past g (waits true) root refl (ap phase d) .3)) in
-            subst (λ (z : Outcome). Settled p (duesIn p (closedWith p actor t (listOf p root o))) false (after (stepIn actor (p .body) 0 t o .log) z)) (sym (looks-is (rootOf p) o₁ faulty d₁))
-            (subst (λ (l : List ℕ). Settled p (duesIn p l) false (turns true (rootOf p) o₁)) e (turns-settles o₁ s (quiet-agree q (agree-above (v .kept) (omega arith))) (omega (arith, v .kept .many))))
+            let e : duesIn p (listOf p root o₁) ≡ duesWith p (h .seat) actor t (duesIn p (listOf p root o))
+            = ap (duesIn p) (sym (tied-at p (momentOf p o₁) (momentOf p o₁) (onto (stepIn actor (p .body) 0 0 t o .log) past) g₁ (waits true) root refl (ap phase d₁) .3))
+            ∙ (step-dues p (h .seat) actor t o past j i ∙ ap (λ (l : List ℕ). duesWith p (h .seat) actor t (duesIn p l)) (tied-at p (momentOf p o) (momentOf p o) past g (waits true) root refl (ap phase d) .3)) in
+            subst (λ (z : Outcome). Settled p (duesWith p (h .seat) actor t (duesIn p (listOf p root o))) false (after (stepIn actor (p .body) 0 0 t o .log) z)) (sym (looks-is (rootOf p) o₁ faulty d₁))
+            (subst (λ (z : List (List ℕ)). Settled p z false (turns true (rootOf p) o₁)) e (turns-settles o₁ s (quiet-agree q (agree-above (v .kept) (omega arith))) (omega (arith, v .kept .many))))
 
-        go : (x : Result) → StopAs p (p .body) 0 o (stepIn actor (p .body) 0 t o .log) o₁ x
-            → Settled p (duesIn p (closedWith p actor t (listOf p root o))) false (fromBody (rootOf p) (record { result = x; order = o₁; log = stepIn actor (p .body) 0 t o .log }))
+        go : (x : Result) → StopAs p (p .body) 0 o (stepIn actor (p .body) 0 0 t o .log) o₁ x
+            → Settled p (duesWith p (h .seat) actor t (duesIn p (listOf p root o))) false (fromBody (rootOf p) (record { result = x; order = o₁; log = stepIn actor (p .body) 0 0 t o .log }))
         go running c = looks (c .0) (c .1)
         go over c =
-            subst (λ (z : Outcome). Settled p (duesIn p (closedWith p actor t (listOf p root o))) false (after (stepIn actor (p .body) 0 t o .log) z)) (sym (over-is (rootOf p) o₁ faulty d₁)) (looks (c .0) (c .1))
+            subst (λ (z : Outcome). Settled p (duesWith p (h .seat) actor t (duesIn p (listOf p root o))) false (after (stepIn actor (p .body) 0 0 t o .log) z)) (sym (over-is (rootOf p) o₁ faulty d₁)) (looks (c .0) (c .1))
         go raising c =
-            subst (λ (z : Outcome). Settled p (duesIn p (closedWith p actor t (listOf p root o))) false (after (stepIn actor (p .body) 0 t o .log) z)) (sym (raised-is (rootOf p) o₁ false (rw d₁))) (looks (c .0) (c .1))
+            subst (λ (z : Outcome). Settled p (duesWith p (h .seat) actor t (duesIn p (listOf p root o))) false (after (stepIn actor (p .body) 0 0 t o .log) z)) (sym (raised-is (rootOf p) o₁ false (rw d₁))) (looks (c .0) (c .1))
         go leaving c = tt
         go undone c = absurd c
         go undoRaising c = absurd c
@@ -377,13 +382,13 @@ module _ (p : Plan) (h : Promised p) where
     undoing-right : (actor : Actor) → Fitting actor p t → t < size (p .body) → o .root ≡ undoing → Undoing (o .marks) (p .body) 0 → Quiet (o .marks) (size (p .body)) (size (p .fault)) → Waits (o .marks) (p .body) 0 t false → Right actor (fromBody (rootOf p) (its actor))
     unfolding fromBody undoOver undoRaised breaks
     undoing-right itsOwn j i d r q w =
-        (y .0, subst (λ (e : List (List ℕ)). Settled p e (noted p root t a .begun) (fromBody (rootOf p) (stepIn itsOwn (p .body) 0 t o))) (sym (y .1)) (go (stepIn itsOwn (p .body) 0 t o .result) (v .comes) (u .less)))
+        (y .0, subst (λ (e : List (List ℕ)). Settled p e (noted p root t a .begun) (fromBody (rootOf p) (stepIn itsOwn (p .body) 0 0 t o))) (sym (y .1)) (go (stepIn itsOwn (p .body) 0 0 t o .result) (v .comes) (u .less)))
       where
-        v : Acted 0 (size (p .body)) o (UndoAs p root (p .body) 0 t o) (stepIn itsOwn (p .body) 0 t o)
-        v = steps-undoing p (h .distinct) itsOwn (h .seat .body) t o false w refl r (true, ap phase d) (omega arith)
+        v : Acted 0 (size (p .body)) o (UndoAs p root (p .body) 0 t o) (stepIn itsOwn (p .body) 0 0 t o)
+        v = steps-undoing p itsOwn (h .seat .body) 0 t o false (h .seat .at) w refl r root (awake-first p itsOwn (λ n. markOf n o) root (h .seat .beyond) true (ap phase d)) (true, ap (λ (n : Name). phase (markOf n o)) (awake-first p itsOwn (λ n. markOf n o) root (h .seat .beyond) true (ap phase d)) ∙ ap phase d) (omega arith)
 
-        u : Repays (undoLeftIn (p .body) 0) t o (stepIn itsOwn (p .body) 0 t o)
-        u = undo-repays p (h .distinct) (h .seat .body) t o false w refl r (true, ap phase d) (omega arith)
+        u : Repays (undoLeftIn (p .body) 0) t o (stepIn itsOwn (p .body) 0 0 t o)
+        u = undo-repays p (h .seat .body) 0 t o false (h .seat .at) w refl r root (awake-first p itsOwn (λ n. markOf n o) root (h .seat .beyond) true (ap phase d)) (true, ap (λ (n : Name). phase (markOf n o)) (awake-first p itsOwn (λ n. markOf n o) root (h .seat .beyond) true (ap phase d)) ∙ ap phase d) (omega arith)
 
         left : List ℕ
         left = undoLeftIn (p .body) 0 (o .marks)
@@ -398,80 +403,80 @@ module _ (p : Plan) (h : Promised p) where
         y = noted-undo t o fit a left (duesIn p (listOf p root o)) (not-close t o fit (rw d)) (sym (ag .due)) due undue
 
         o₁ : Order
-        o₁ = stepIn itsOwn (p .body) 0 t o .order
+        o₁ = stepIn itsOwn (p .body) 0 0 t o .order
 
         d₁ : o₁ .root ≡ undoing
         d₁ = v .rooted ∙ d
 
         same-list : listOf p root o₁ ≡ listOf p root o
-        same-list = ap (λ (c : List ℕ). reverse (only (isIn p root) c)) (u .lists)
+        same-list = ap (λ (c : List Closing). reverse (map (λ x. x .scope) (only (λ x. eqb (x .part) (bodyOfName root)) c))) (u .lists)
 
-        go : (x : Result) → UndoAs p root (p .body) 0 t o (stepIn itsOwn (p .body) 0 t o .log) o₁ x → RepaysAs (undoLeftIn (p .body) 0) t (o .marks) (o₁ .marks) x
-            → Settled p (putting (without t left) (duesIn p (listOf p root o))) (noted p root t a .begun) (fromBody (rootOf p) (record { result = x; order = o₁; log = stepIn itsOwn (p .body) 0 t o .log }))
+        go : (x : Result) → UndoAs p root (p .body) 0 t o (stepIn itsOwn (p .body) 0 0 t o .log) o₁ x → RepaysAs (undoLeftIn (p .body) 0) t (o .marks) (o₁ .marks) x
+            → Settled p (putting (without t left) (duesIn p (listOf p root o))) (noted p root t a .begun) (fromBody (rootOf p) (record { result = x; order = o₁; log = stepIn itsOwn (p .body) 0 0 t o .log }))
         go running c l =
-            subst (λ (z : Outcome). Settled p (putting (without t left) (duesIn p (listOf p root o))) (noted p root t a .begun) (after (stepIn itsOwn (p .body) 0 t o .log) z)) (sym (looks-is (rootOf p) o₁ undoing d₁))
+            subst (λ (z : Outcome). Settled p (putting (without t left) (duesIn p (listOf p root o))) (noted p root t a .begun) (after (stepIn itsOwn (p .body) 0 0 t o .log) z)) (sym (looks-is (rootOf p) o₁ undoing d₁))
             (rw (l, same-list), λ x. absurd (false≢true (sym x ∙ ap begunMark d₁)))
         go over c l = absurd c
         go raising c l = absurd c
         go leaving c l = tt
         go undone c l =
             subst (λ (z : Bool). Settled p (putting (without t left) (duesIn p (listOf p root o))) (noted p root t a .begun)
-            (after (stepIn itsOwn (p .body) 0 t o .log) (elim z [ true ↦ undoes true (rootOf p) o₁ | false ↦ elim (eqb (o₁ .root) withdrawing) [ true ↦ undoes false (rootOf p) o₁ | false ↦ runs o₁ ] ])))
+            (after (stepIn itsOwn (p .body) 0 0 t o .log) (elim z [ true ↦ undoes true (rootOf p) o₁ | false ↦ elim (eqb (o₁ .root) withdrawing) [ true ↦ undoes false (rootOf p) o₁ | false ↦ runs o₁ ] ])))
             (sym (eq-eqb (o₁ .root) undoing d₁))
             (subst (λ (e : List (List ℕ)). Settled p e (noted p root t a .begun) (undoes true (rootOf p) o₁)) (ap (duesIn p) same-list ∙ ap (λ (i : List ℕ). putting i (duesIn p (listOf p root o))) (sym l))
             (undoes-settles (noted p root t a .begun) o₁ (c .0) (quiet-agree q (agree-above (v .kept) (omega arith))) (omega (arith, v .kept .many))))
         go undoRaising c l =
-            subst (λ (z : Bool). Settled p (putting (without t left) (duesIn p (listOf p root o))) (noted p root t a .begun) (after (stepIn itsOwn (p .body) 0 t o .log) (elim z [ true ↦ breaks (rootOf p) o₁ | false ↦ runs o₁ ])))
+            subst (λ (z : Bool). Settled p (putting (without t left) (duesIn p (listOf p root o))) (noted p root t a .begun) (after (stepIn itsOwn (p .body) 0 0 t o .log) (elim z [ true ↦ breaks (rootOf p) o₁ | false ↦ runs o₁ ])))
             (sym (undo-mark (o₁ .root) d₁)) tt
     undoing-right inPlace j i d r q w = (
       tt,
-      subst (λ (x : Result). Settled p (a .due) (a .begun) (fromBody (rootOf p) (record { result = x; order = o₁; log = stepIn inPlace (p .body) 0 t o .log })))
-          (sym (undo-raises p (h .distinct) (h .seat .body) t o false w refl r (ap isTake (sym (doing-body p t i)) ∙ j)))
-          (subst (λ (z : Bool). Settled p (a .due) (a .begun) (after (stepIn inPlace (p .body) 0 t o .log) (elim z [ true ↦ breaks (rootOf p) o₁ | false ↦ runs o₁ ]))) (sym (undo-mark (o₁ .root) d₁)) tt),
+      subst (λ (x : Result). Settled p (a .due) (a .begun) (fromBody (rootOf p) (record { result = x; order = o₁; log = stepIn inPlace (p .body) 0 0 t o .log })))
+          (sym (undo-raises p (h .seat .body) 0 t o false (h .seat .at) w refl r root (awake-first p inPlace (λ n. markOf n o) root (h .seat .beyond) true (ap phase d)) (true, ap (λ (n : Name). phase (markOf n o)) (awake-first p inPlace (λ n. markOf n o) root (h .seat .beyond) true (ap phase d)) ∙ ap phase d) (omega arith) (ap isTake (sym (doing-body p t i)) ∙ j)))
+          (subst (λ (z : Bool). Settled p (a .due) (a .begun) (after (stepIn inPlace (p .body) 0 0 t o .log) (elim z [ true ↦ breaks (rootOf p) o₁ | false ↦ runs o₁ ]))) (sym (undo-mark (o₁ .root) d₁)) tt),
     )
       where
         o₁ : Order
-        o₁ = stepIn inPlace (p .body) 0 t o .order
+        o₁ = stepIn inPlace (p .body) 0 0 t o .order
 
         d₁ : o₁ .root ≡ undoing
-        d₁ = steps-undoing p (h .distinct) inPlace (h .seat .body) t o false w refl r (true, ap phase d) (omega arith) .rooted ∙ d
+        d₁ = steps-undoing p inPlace (h .seat .body) 0 t o false (h .seat .at) w refl r root (awake-first p inPlace (λ n. markOf n o) root (h .seat .beyond) true (ap phase d)) (true, ap (λ (n : Name). phase (markOf n o)) (awake-first p inPlace (λ n. markOf n o) root (h .seat .beyond) true (ap phase d)) ∙ ap phase d) (omega arith) .rooted ∙ d
 
     -- Its fault part runs.
     heals-right : (actor : Actor) → o .root ≡ handling → Quiet (o .marks) 0 (size (p .body)) → Run (o .marks) (p .fault) (size (p .body)) → Waits (o .marks) (p .fault) (size (p .body)) t false
-        → Right actor (fromFault (rootOf p) (stepIn actor (p .fault) (size (p .body)) t o))
+        → Right actor (fromFault (rootOf p) (stepIn actor (p .fault) (size (p .body)) (size (p .body)) t o))
     unfolding fromFault partOver partRaised breaks
     heals-right actor d q r w = (
       y .0,
-      subst (λ (b : Book). Settled p (b .due) (b .begun) (fromFault (rootOf p) (stepIn actor (p .fault) (size (p .body)) t o))) (sym (y .1))
-          (subst (λ (e : List (List ℕ)). Settled p e (a .begun) (fromFault (rootOf p) (stepIn actor (p .fault) (size (p .body)) t o))) (sym none-due ∙ ag .due) (go (stepIn actor (p .fault) (size (p .body)) t o .result) (v .comes))),
+      subst (λ (b : Book). Settled p (b .due) (b .begun) (fromFault (rootOf p) (stepIn actor (p .fault) (size (p .body)) (size (p .body)) t o))) (sym (y .1))
+          (subst (λ (e : List (List ℕ)). Settled p e (a .begun) (fromFault (rootOf p) (stepIn actor (p .fault) (size (p .body)) (size (p .body)) t o))) (sym none-due ∙ ag .due) (go (stepIn actor (p .fault) (size (p .body)) (size (p .body)) t o .result) (v .comes))),
     )
       where
         y : May actor p t a × (written actor p t a ≡ a)
         y = written-same t o fit actor a (not-back t o fit (rw d)) (not-close t o fit (rw d))
 
-        v : Acted (size (p .body)) (size (p .fault)) o (RunAs p (p .fault) (size (p .body)) t o) (stepIn actor (p .fault) (size (p .body)) t o)
-        v = steps-part p (h .distinct) actor (h .seat .fault) t o false w refl r (ap phase d) m
+        v : Acted (size (p .body)) (size (p .fault)) o (RunAs p (p .fault) (size (p .body)) t o) (stepIn actor (p .fault) (size (p .body)) (size (p .body)) t o)
+        v = steps-part p actor (h .seat .fault) (size (p .body)) t o false tt w refl r (ap phase d) m
 
         none-due : owed p o ≡ []
         none-due = none-owed p o (undo-quiet (h .seat .body) (o .marks) q) (tied-at p (momentOf p o) (momentOf p o) past g heals root refl (ap phase d) .3)
 
         o₁ : Order
-        o₁ = stepIn actor (p .fault) (size (p .body)) t o .order
+        o₁ = stepIn actor (p .fault) (size (p .body)) (size (p .body)) t o .order
 
         d₁ : o₁ .root ≡ handling
         d₁ = v .rooted ∙ d
 
-        go : (x : Result) → RunAs p (p .fault) (size (p .body)) t o (stepIn actor (p .fault) (size (p .body)) t o .log) o₁ x
-            → Settled p [] (a .begun) (fromFault (rootOf p) (record { result = x; order = o₁; log = stepIn actor (p .fault) (size (p .body)) t o .log }))
+        go : (x : Result) → RunAs p (p .fault) (size (p .body)) t o (stepIn actor (p .fault) (size (p .body)) (size (p .body)) t o .log) o₁ x
+            → Settled p [] (a .begun) (fromFault (rootOf p) (record { result = x; order = o₁; log = stepIn actor (p .fault) (size (p .body)) (size (p .body)) t o .log }))
         go running c = (
           none-owed p o₁ (undo-quiet (h .seat .body) (o₁ .marks) (quiet-agree q (agree-below (v .kept) (omega arith))))
-              (tied-at p (momentOf p o₁) (momentOf p o₁) (onto (stepIn actor (p .fault) (size (p .body)) t o .log) past) (c .1 .does past g .1) heals root refl (ap phase d₁) .3),
+              (tied-at p (momentOf p o₁) (momentOf p o₁) (onto (stepIn actor (p .fault) (size (p .body)) (size (p .body)) t o .log) past) (c .1 .does past g .1) heals root refl (ap phase d₁) .3),
           λ x. absurd (false≢true (sym x ∙ ap begunMark d₁)),
         )
         go over c =
-            subst (λ (z : Bool). Settled p [] (a .begun) (after (stepIn actor (p .fault) (size (p .body)) t o .log) (elim z [ true ↦ ends (rootOf p) o₁ | false ↦ runs o₁ ]))) (sym (eq-eqb (o₁ .root) handling d₁)) refl
+            subst (λ (z : Bool). Settled p [] (a .begun) (after (stepIn actor (p .fault) (size (p .body)) (size (p .body)) t o .log) (elim z [ true ↦ ends (rootOf p) o₁ | false ↦ runs o₁ ]))) (sym (eq-eqb (o₁ .root) handling d₁)) refl
         go raising c =
-            subst (λ (z : Bool). Settled p [] (a .begun) (after (stepIn actor (p .fault) (size (p .body)) t o .log) (elim z [ true ↦ breaks (rootOf p) o₁ | false ↦ runs o₁ ]))) (sym (eq-eqb (o₁ .root) handling d₁)) tt
+            subst (λ (z : Bool). Settled p [] (a .begun) (after (stepIn actor (p .fault) (size (p .body)) (size (p .body)) t o .log) (elim z [ true ↦ breaks (rootOf p) o₁ | false ↦ runs o₁ ]))) (sym (eq-eqb (o₁ .root) handling d₁)) tt
         go leaving c = tt
         go undone c = absurd c
         go undoRaising c = absurd c
@@ -481,7 +486,7 @@ module _ (p : Plan) (h : Promised p) where
       → May actor p t a × Settled p (written actor p t a .due) (written actor p t a .begun) (stepRoot actor p t o)
   root-right actor t o past a fits-so w st x y g ag = go w (st .runs)
     where
-      fit : fits (placeOf p t) o ≡ true
+      fit : fits (placeNow p o t) o ≡ true
       fit = standing-fits p o t st w
 
       is-faulty : (v : Bool) → phase (o .root) ≡ waits v → o .root ≡ faulty

@@ -7,13 +7,13 @@ use mathlib.Core.List.{List, [], _∷_, _++_}
 use lib.ListN.{getD}
 use lib.Dec.{eqb, ltb, leb}
 use borrow.Author.Tests.{eqb-true, eqb-false, eq-eqb, ne-eqb, lt-ltb, le-ltb, ltb-true, ltb-false, le-leb, leb-true}
-use Rattle.plan.specs.Tree.{Own, kind, Act, act, Acts, none, more, Plan, size, sizes, scope}
+use Rattle.plan.specs.Tree.{Own, kind, Act, act, Acts, none, more, Plan, size, sizes, scope, isPick}
 use Rattle.plan.proofs.Limits.{accepted-is-within}
 use Rattle.order.specs.declared.Order.{Order}
 use Rattle.order.specs.Event.{Event}
 use Rattle.order.specs.Lists.{every, some}
 use Rattle.order.specs.State.{idle, active, isLive}
-use Rattle.order.specs.Scope.{isScope, rootOf}
+use Rattle.order.specs.Scope.{rootOf}
 use Rattle.order.specs.Taking.{actIn, actAmong, actAt}
 use Rattle.machine.specs.Fit.{Ready, readyIn, readyAmong, readyOf, awaits, doingOf}
 use Rattle.undoing.specs.Ties.{isStep}
@@ -22,8 +22,8 @@ use Rattle.undoing.specs.Entirely.{hasNext, AllGoOn}
 use Rattle.undoing.proofs.Parts.{both, decide, every-append, some-append}
 use Rattle.undoing.proofs.Places.{first-of, second-of}
 use Rattle.undoing.proofs.Truly.{Up}
-use Rattle.undoing.proofs.Marks.{trio, Quiet, Run, run-awaits, run-one, run-all, run-body, run-done, run-turned, One, one-here, one-later, All, all-none, all-run, all-quiet, Turned, turned-waits, turned-undoes, turned-heals, Stopped, stopped-part, stopped-quiet, stopped-scope, StoppedIn, stopped-none, stopped-more, Undoing, undoing-part, undoing-scope, UndoingIn, undoing-here, undoing-later, quiet-part}
-use Rattle.undoing.proofs.Planning.{Formed, formed-part, formed-scope, FormedIn, formed-none, formed-more, Promised, promised}
+use Rattle.undoing.proofs.Marks.{trio, Quiet, Run, run-awaits, run-one, run-all, run-body, run-done, run-turned, One, one-here, one-later, All, all-none, all-run, all-quiet, Turned, turned-waits, turned-undoes, turned-heals, Stopped, stopped-part, stopped-quiet, stopped-scope, StoppedIn, stopped-none, stopped-more, Undoing, undoing-part, undoing-scope, undoing-through, UndoingIn, undoing-here, undoing-later, quiet-part}
+use Rattle.undoing.proofs.Planning.{Formed, formed-part, formed-scope, FormedIn, formed-none, formed-more, FormedRest, formed-undo, formed-no, Promised, promised}
 use Rattle.undoing.proofs.Scoping.{scope-live, scope-done, scope-turned, Running}
 use Rattle.undoing.proofs.Roots.{Standing}
 use Rattle.undoing.proofs.Slots.{Slot, slot-free, slot-live}
@@ -49,7 +49,7 @@ module _ (ms : List ℕ) where
 
     ready-range : (a : Act) (k : ℕ) (b : Bool) → every (In k (size a)) (readyIn a k b ms) ≡ true
     ready-range (act own within) k b =
-        let w = in-wider k (1 + sizes within) (k + 1) (sizes within) (readyAmong within (k + 1) (eqb (kind own) 10 && eqb (getD ms k 0) active) ms) (omega arith) (omega arith) (ready-in-range within (k + 1) (eqb (kind own) 10 && eqb (getD ms k 0) active)) in
+        let w = in-wider k (1 + sizes within) (k + 1) (sizes within) (readyAmong within (k + 1) (isPick own && eqb (getD ms k 0) active) ms) (omega arith) (omega arith) (ready-in-range within (k + 1) (isPick own && eqb (getD ms k 0) active)) in
         decide (awaits own b (getD ms k 0))
         (λ t. subst (λ (l : List Ready). every (In k (1 + sizes within)) l ≡ true) (sym (ready-is ms own within k b true t)) (rw (le-leb k k (omega arith), lt-ltb k (k + (1 + sizes within)) (omega arith), w)))
         (λ t. subst (λ (l : List Ready). every (In k (1 + sizes within)) l ≡ true) (sym (ready-is ms own within k b false t)) w)
@@ -97,7 +97,7 @@ module _ (ms : List ℕ) (rs : List Ready) where
   unfolding some
   among-within own within k w =
       record {
-        free = eqb (kind own) 10 && eqb (getD ms k 0) active;
+        free = isPick own && eqb (getD ms k 0) active;
         among = λ f e. w .among f (decide (awaits own (w .free) (getD ms k 0))
             (λ t. ap (some f) (ready-is ms own within k (w .free) true t) ∙ rw (e, or-true))
             (λ t. ap (some f) (ready-is ms own within k (w .free) false t) ∙ e));
@@ -150,11 +150,9 @@ module _ (ms : List ℕ) (rs : List Ready) where
       (λ t. subst (λ (i : ℕ). Comes i (actIn (act own within) k i)) (eqb-true k j t) (subst (Comes k) (sym (in-here (act own within) k)) (f (subst (λ (i : ℕ). Up ms i) (sym (eqb-true k j t)) u))))
       (λ t. let z : k < j = let w = eqb-false k j t in omega arith in subst (Comes j) (sym (in-within own within k j z)) (g j (omega arith) (omega arith) u))
 
-  each-scope : (b f u : Act) (k : ℕ) → (Up ms k → Comes k (act scope (trio b f u))) → Each b (k + 1) → Each f (k + 1 + size b) → Each u (k + 1 + size b + size f) → Each (act scope (trio b f u)) k
-  unfolding size
-  each-scope b f u k c x y z =
-      each-act scope (trio b f u) k c (each-more b (more f (more u none)) (k + 1) x (each-more f (more u none) (k + 1 + size b) y
-      (each-more u none (k + 1 + size b + size f) z (λ j v w e. absurd (omega arith)))))
+  each-scope : (z : Bool) (b f : Act) (u : Acts) (k : ℕ) → (Up ms k → Comes k (act (scope z) (trio b f u))) → Each b (k + 1) → Each f (k + 1 + size b) → EachIn u (k + 1 + size b + size f)
+      → Each (act (scope z) (trio b f u)) k
+  each-scope z b f u k c x y w = each-act (scope z) (trio b f u) k c (each-more b (more f u) (k + 1) x (each-more f u (k + 1 + size b) y w))
 
   mutual
     unfolding size kind
@@ -171,16 +169,16 @@ module _ (ms : List ℕ) (rs : List Ready) where
     run-each (run-turned e q) (formed-part s i g y) w = absurd (false≢true (sym s))
     run-each (run-awaits s d e q) (formed-scope x y z) w = absurd (false≢true (sym s))
     run-each (run-one s e r) (formed-scope x y z) w = absurd (false≢true (sym s))
-    run-each {k = k} (run-body e r q) (formed-scope {b = b} {f = f} {u = u} x y z) w =
-        each-scope b f u k (λ v. run-comes (run-body e r q) (formed-scope x y z) w) (run-each r x (among-first b (more f (more u none)) (k + 1) (among-within scope (trio b f u) k w)))
-        (each-quiet f (k + 1 + size b) (quiet-part q (omega arith) (omega arith))) (each-quiet u (k + 1 + size b + size f) (quiet-part q (omega arith) (omega arith)))
-    run-each {k = k} (run-done e q) (formed-scope {b = b} {f = f} {u = u} x y z) w =
-        each-scope b f u k (λ v. run-comes (run-done e q) (formed-scope x y z) w) (each-quiet b (k + 1) (quiet-part q (omega arith) (omega arith)))
-        (each-quiet f (k + 1 + size b) (quiet-part q (omega arith) (omega arith))) (each-quiet u (k + 1 + size b + size f) (quiet-part q (omega arith) (omega arith)))
-    run-each {k = k} (run-turned t q) (formed-scope {b = b} {f = f} {u = u} x y z) w =
-        let v = among-within scope (trio b f u) k w in
-        let g = turned-each t x y (among-first b (more f (more u none)) (k + 1) v) (among-first f (more u none) (k + 1 + size b) (among-later b (more f (more u none)) (k + 1) v)) in
-        each-scope b f u k (λ i. run-comes (run-turned t q) (formed-scope x y z) w) (g .0) (g .1) (each-quiet u (k + 1 + size b + size f) q)
+    run-each {k = k} (run-body e r q) (formed-scope {v = v₀} {b = b} {f = f} {u = u} x y z) w =
+        each-scope v₀ b f u k (λ v. run-comes (run-body e r q) (formed-scope x y z) w) (run-each r x (among-first b (more f u) (k + 1) (among-within (scope v₀) (trio b f u) k w)))
+        (each-quiet f (k + 1 + size b) (quiet-part q (omega arith) (omega arith))) (in-quiet u (k + 1 + size b + size f) (quiet-part q (omega arith) (omega arith)))
+    run-each {k = k} (run-done e q) (formed-scope {v = v₀} {b = b} {f = f} {u = u} x y z) w =
+        each-scope v₀ b f u k (λ v. run-comes (run-done e q) (formed-scope x y z) w) (each-quiet b (k + 1) (quiet-part q (omega arith) (omega arith)))
+        (each-quiet f (k + 1 + size b) (quiet-part q (omega arith) (omega arith))) (in-quiet u (k + 1 + size b + size f) (quiet-part q (omega arith) (omega arith)))
+    run-each {k = k} (run-turned t q) (formed-scope {v = v₀} {b = b} {f = f} {u = u} x y z) w =
+        let v = among-within (scope v₀) (trio b f u) k w in
+        let g = turned-each t x y (among-first b (more f u) (k + 1) v) (among-first f u (k + 1 + size b) (among-later b (more f u) (k + 1) v)) in
+        each-scope v₀ b f u k (λ i. run-comes (run-turned t q) (formed-scope x y z) w) (g .0) (g .1) (in-quiet u (k + 1 + size b + size f) q)
 
     one-each : {h r : Bool} {l : Acts} {c : ℕ} → One ms l c → FormedIn h r l → AmongIn l c → EachIn l c
     one-each {c = c} (one-here r q) (formed-more {a = a} {l = l} x y) w = each-more a l c (run-each r x (among-first a l c w)) (in-quiet l (c + size a) q)
@@ -202,10 +200,10 @@ module _ (ms : List ℕ) (rs : List Ready) where
     stopped-each (stopped-scope t q) (formed-part s i g y) w = absurd (false≢true (sym s))
     stopped-each {a = a} {k = k} (stopped-quiet q) x w = each-quiet a k q
     stopped-each (stopped-part s e l) (formed-scope x y z) w = absurd (false≢true (sym s))
-    stopped-each {k = k} (stopped-scope t q) (formed-scope {b = b} {f = f} {u = u} x y z) w =
-        let v = among-within scope (trio b f u) k w in
-        let g = turned-each t x y (among-first b (more f (more u none)) (k + 1) v) (among-first f (more u none) (k + 1 + size b) (among-later b (more f (more u none)) (k + 1) v)) in
-        each-scope b f u k (λ i. run-comes (run-turned t q) (formed-scope x y z) w) (g .0) (g .1) (each-quiet u (k + 1 + size b + size f) q)
+    stopped-each {k = k} (stopped-scope t q) (formed-scope {v = v₀} {b = b} {f = f} {u = u} x y z) w =
+        let v = among-within (scope v₀) (trio b f u) k w in
+        let g = turned-each t x y (among-first b (more f u) (k + 1) v) (among-first f u (k + 1 + size b) (among-later b (more f u) (k + 1) v)) in
+        each-scope v₀ b f u k (λ i. run-comes (run-turned t q) (formed-scope x y z) w) (g .0) (g .1) (in-quiet u (k + 1 + size b + size f) q)
 
     stopped-in-each : {h r : Bool} {l : Acts} {c : ℕ} → StoppedIn ms l c → FormedIn h r l → AmongIn l c → EachIn l c
     stopped-in-each stopped-none formed-none w = λ j x y u. absurd (omega arith)
@@ -215,11 +213,17 @@ module _ (ms : List ℕ) (rs : List Ready) where
     undoing-each {k = k} (undoing-part s₁ e l) (formed-part {own = own} {within = within} s i g y) w =
         each-act own within k (λ u. absurd (false≢true (sym u ∙ rw e))) (undoing-in-each l y (among-within own within k w))
     undoing-each (undoing-scope e q r) (formed-part s i g y) w = absurd (false≢true (sym s))
+    undoing-each (undoing-through e r q) (formed-part s i g y) w = absurd (false≢true (sym s))
     undoing-each (undoing-part s e l) (formed-scope x y z) w = absurd (false≢true (sym s))
-    undoing-each {k = k} (undoing-scope e q r) (formed-scope {b = b} {f = f} {u = u} x y z) w =
-        let v = among-within scope (trio b f u) k w in
-        each-scope b f u k (λ i. absurd (false≢true (sym i ∙ rw e))) (each-quiet b (k + 1) (quiet-part q (omega arith) (omega arith))) (each-quiet f (k + 1 + size b) (quiet-part q (omega arith) (omega arith)))
+    undoing-each {k = k} (undoing-scope e q r) (formed-scope {b = b} {f = f} x y (formed-undo {u = u} z)) w =
+        let v = among-within (scope true) (trio b f (more u none)) k w in
+        each-scope true b f (more u none) k (λ i. absurd (false≢true (sym i ∙ rw e))) (each-quiet b (k + 1) (quiet-part q (omega arith) (omega arith))) (each-quiet f (k + 1 + size b) (quiet-part q (omega arith) (omega arith)))
+        (each-more u none (k + 1 + size b + size f)
         (run-each r z (among-first u none (k + 1 + size b + size f) (among-later f (more u none) (k + 1 + size b) (among-later b (more f (more u none)) (k + 1) v))))
+        (λ j x y i. absurd (omega arith)))
+    undoing-each {k = k} (undoing-through e r q) (formed-scope {b = b} {f = f} {u = u} x y z) w =
+        each-scope false b f u k (λ i. absurd (false≢true (sym i ∙ rw e))) (undoing-each r x (among-first b (more f u) (k + 1) (among-within (scope false) (trio b f u) k w)))
+        (each-quiet f (k + 1 + size b) (quiet-part q (omega arith) (omega arith))) (in-quiet u (k + 1 + size b + size f) (quiet-part q (omega arith) (omega arith)))
 
     undoing-in-each : {h r : Bool} {l : Acts} {c : ℕ} → UndoingIn ms l c → FormedIn h r l → AmongIn l c → EachIn l c
     undoing-in-each {c = c} (undoing-here r q) (formed-more {a = a} {l = l} x y) w = each-more a l c (undoing-each r x (among-first a l c w)) (in-quiet l (c + size a) q)

@@ -5,7 +5,7 @@ use mathlib.Core.Bool.{Bool, true, false, cond, _&&_, _||_, false≢true}
 use mathlib.Core.List.{List, [], _∷_, _++_, append-nil, append-assoc}
 use lib.Dec.{eqb, ltb}
 use borrow.Author.Tests.{eqb-true}
-use Rattle.plan.specs.Tree.{Exp, constant, variable, binary, Own, empty, send, receive, set as setting, raise, leave, choose, repeat, sequence, flow, pick, scope, arm, kind, Act, act, Acts, none, more, Plan, size, sizes}
+use Rattle.plan.specs.Tree.{Exp, constant, variable, binary, Own, empty, send, receive, set as setting, raise, leave, choose, repeat, sequence, flow, pick, scope, arm, kind, isPick, Act, act, Acts, none, more, Plan, size, sizes, isScope}
 use Rattle.order.specs.declared.Order.{Order}
 use Rattle.order.specs.declared.End.{End}
 use Rattle.order.specs.declared.End.the-variants.{None, Well, Handled, Failed, Left}
@@ -17,7 +17,7 @@ use Rattle.order.specs.Event.{Event, started, faulted, ended, raised}
 use Rattle.order.specs.Begin.{Begun, beginAfter, beginPart, partAt, quiet, cleared}
 use Rattle.order.specs.declared.Way.{Way as Result}
 use Rattle.order.specs.declared.Way.the-variants.{Running as running, Over as over, Raising as raising, Leaving as leaving, Undone as undone, UndoRaising as undoRaising}
-use Rattle.order.specs.Scope.{Outcome, runs, begunIn, whereOver, Scope, scopeAt, rootOf, isOpen, closing, ends, undoes, turns, stop, faults, breaks, looksAgain, bodyOver, bodyRaised, undoOver, undoRaised, fromBody, partOver, partRaised, fromFault, fromUndo}
+use Rattle.order.specs.Scope.{Outcome, runs, begunIn, whereOver, Scope, scopeAt, rootOf, isOpen, closing, ends, undoes, turns, stop, faults, breaks, looksAgain, bodyOver, bodyRaised, undoOver, undoRaised, fromBody, partOver, partRaised, fromFault, fromUndo, goesThrough}
 use Rattle.order.specs.Acting.{finishes, orRaises, enters, again, repeats, allBound, itself, isPart, arms, goesOn, joins, inScope, combines, stepIn, stepAmong, stepRoot, endOf, movedTo, begunOrder, itsOwn, inPlace, replaces, performs, Moved, acted}
 use Rattle.order.specs.Judging.{Verdict, clear, clash, conflict, following, upon, judged, spare, settled, stepOrder}
 use Rattle.undoing.proofs.Judged.{isTake, OnClash, Higher, conflict-awaited}
@@ -143,11 +143,11 @@ unfolding joins
 joins-still k within o =
     either (quiet (k + 1) (sizes within) (o .marks)) (finishes k o) (runs o) (joins k within o) refl (finishes-still k o) (runs-silent isDeed deeds-aside o)
 
-scope-deeds : (k t : ℕ) (within : Acts) (r : Outcome) → only isDeed (inScope k t within r .log) ≡ only isDeed (r .log)
+scope-deeds : (v : Bool) (k t : ℕ) (within : Acts) (r : Outcome) → only isDeed (inScope v k t within r .log) ≡ only isDeed (r .log)
 unfolding inScope fromUndo
-scope-deeds k t within r =
+scope-deeds v k t within r =
     decide (ltb t (partAt 1 within (k + 1)))
-    (λ e. rw (e, inScope) (body-deeds (scopeAt k within) r))
+    (λ e. decide (goesThrough v k r) (λ g. rw (e, inScope, g)) (λ g. rw (e, inScope, g) (body-deeds (scopeAt k within) r)))
     (λ e. decide (ltb t (partAt 2 within (k + 1))) (λ d. rw (e, d, inScope) (fault-deeds (scopeAt k within) r)) (λ d. rw (e, d, inScope) refl))
 
 combines-deeds : (own : Own) (within : Acts) (k t : ℕ) (r : Outcome) → only isDeed (combines own within k t r .log) ≡ only isDeed (r .log)
@@ -165,7 +165,7 @@ combines-deeds sequence within k t r =
     (λ o. where-silent isDeed deeds-aside (finishes k) (begunIn o (beginAfter within (k + 1) t (o .marks))) (after-silent isDeed deeds-aside within (k + 1) t (o .marks)) (finishes-still k))
 combines-deeds flow within k t r = goes-deeds k active (joins k within) r (joins-still k within)
 combines-deeds pick within k t r = goes-deeds k inside (finishes k) r (finishes-still k)
-combines-deeds scope within k t r = scope-deeds k t within r
+combines-deeds (scope v) within k t r = scope-deeds v k t within r
 combines-deeds (arm p op vs) within k t r = refl
 
 -- The step of an activity.
@@ -185,25 +185,25 @@ unfolding only isDeed
 or-raises k o g fault h = refl
 or-raises k o g (value n) h = h n
 
-itself-deeds : (own : Own) (within : Acts) (k : ℕ) (o : Order) → only isDeed (itself own within k o .log) ≡ deedOf own k o
+itself-deeds : (own : Own) (within : Acts) (q k : ℕ) (o : Order) → only isDeed (itself own within q k o .log) ≡ deedOf own k o
 unfolding itself closing deedOf only isDeed
-itself-deeds empty within k o = refl
-itself-deeds (send p op vs) within k o = decide (allBound o vs) (λ e. rw e) (λ e. rw e)
-itself-deeds (receive p op vs) within k o = refl
-itself-deeds (setting v e) within k o = or-raises k o (λ n. finishes k (binding v n o)) (evaluate e o) (λ n. refl)
-itself-deeds raise within k o = refl
-itself-deeds leave within k o = refl
-itself-deeds (choose e) within k o =
+itself-deeds empty within q k o = refl
+itself-deeds (send p op vs) within q k o = decide (allBound o vs) (λ e. rw e) (λ e. rw e)
+itself-deeds (receive p op vs) within q k o = refl
+itself-deeds (setting v e) within q k o = or-raises k o (λ n. finishes k (binding v n o)) (evaluate e o) (λ n. refl)
+itself-deeds raise within q k o = refl
+itself-deeds leave within q k o = refl
+itself-deeds (choose e) within q k o =
     or-raises k o (λ n. enters k o (beginPart (cond (isTrue n) 0 1) within (k + 1) (marked k inside o .marks))) (evaluate e o)
     (λ n. enters-still k o (beginPart (cond (isTrue n) 0 1) within (k + 1) (marked k inside o .marks)) (part-silent isDeed deeds-aside (cond (isTrue n) 0 1) within (k + 1) (marked k inside o .marks)))
-itself-deeds (repeat e) within k o =
+itself-deeds (repeat e) within q k o =
     or-raises k o (λ n. elim (isTrue n) [ true ↦ repeats k within o | false ↦ finishes k o ]) (evaluate e o)
     (λ n. either (isTrue n) (repeats k within o) (finishes k o) (elim (isTrue n) [ true ↦ repeats k within o | false ↦ finishes k o ]) refl (repeats-still k within o) (finishes-still k o))
-itself-deeds sequence within k o = refl
-itself-deeds flow within k o = refl
-itself-deeds pick within k o = refl
-itself-deeds scope within k o = refl
-itself-deeds (arm p op vs) within k o = part-silent isDeed deeds-aside 0 within (k + 1) (o .marks)
+itself-deeds sequence within q k o = refl
+itself-deeds flow within q k o = refl
+itself-deeds pick within q k o = refl
+itself-deeds (scope u) within q k o = refl
+itself-deeds (arm p op vs) within q k o = part-silent isDeed deeds-aside 0 within (k + 1) (o .marks)
 
 -- Marks say nothing of a deed.
 evaluate-marked : (e : Exp) (k m : ℕ) (o : Order) → evaluate e (marked k m o) ≡ evaluate e o
@@ -225,7 +225,7 @@ deed-marked (repeat e) j k m o = rw (evaluate-marked e k m o)
 deed-marked sequence j k m o = refl
 deed-marked flow j k m o = refl
 deed-marked pick j k m o = refl
-deed-marked scope j k m o = refl
+deed-marked (scope v) j k m o = refl
 deed-marked (arm p op vs) j k m o = refl
 
 -- the same choice of two that are the same
@@ -249,7 +249,7 @@ mutual
 arms-marked : (own : Own) (within : Acts) (k t : ℕ) (o : Order) → deedAmong within (k + 1) t (arms own within k t o) ≡ deedAmong within (k + 1) t o
 unfolding arms
 arms-marked own within k t o =
-    decide (eqb (kind own) 10 && isPart within (k + 1) t) (λ e. rw e (deeds-among-marked within (k + 1) t k inside o)) (λ e. rw e)
+    decide (isPick own && isPart within (k + 1) t) (λ e. rw e (deeds-among-marked within (k + 1) t k inside o)) (λ e. rw e)
 
 -- the logs of the same choice
 log-either : (b : Bool) (x y : Outcome) (x′ y′ : List Event) → only isDeed (x .log) ≡ x′ → only isDeed (y .log) ≡ y′ → (z : Outcome) (z′ : List Event)
@@ -277,28 +277,28 @@ mutual
   unfolding stepIn deedIn only performs replaces
 
   -- a step in a tree logs its deed
-  pub step-deeds : (a : Act) (k t : ℕ) (o : Order) → only isDeed (stepIn itsOwn a k t o .log) ≡ deedIn a k t o
-  step-deeds (act own within) k t o =
-      log-either (eqb k t) (itself own within k o) (combines own within k t (stepAmong itsOwn within (k + 1) t (arms own within k t o)))
-      (deedOf own k o) (deedAmong within (k + 1) t o) (itself-deeds own within k o)
-      (combines-deeds own within k t (stepAmong itsOwn within (k + 1) t (arms own within k t o)) ∙ (among-deeds within (k + 1) t (arms own within k t o) ∙ arms-marked own within k t o))
-      (stepIn itsOwn (act own within) k t o) (deedIn (act own within) k t o) refl refl
+  pub step-deeds : (a : Act) (q k t : ℕ) (o : Order) → only isDeed (stepIn itsOwn a q k t o .log) ≡ deedIn a k t o
+  step-deeds (act own within) q k t o =
+      log-either (eqb k t) (itself own within q k o) (combines own within k t (stepAmong itsOwn within (isScope own) q (k + 1) t (arms own within k t o)))
+      (deedOf own k o) (deedAmong within (k + 1) t o) (itself-deeds own within q k o)
+      (combines-deeds own within k t (stepAmong itsOwn within (isScope own) q (k + 1) t (arms own within k t o)) ∙ (among-deeds within (isScope own) q (k + 1) t (arms own within k t o) ∙ arms-marked own within k t o))
+      (stepIn itsOwn (act own within) q k t o) (deedIn (act own within) k t o) refl refl
 
   -- in a list
-  among-deeds : (l : Acts) (c t : ℕ) (o : Order) → only isDeed (stepAmong itsOwn l c t o .log) ≡ deedAmong l c t o
-  among-deeds none c t o = refl
-  among-deeds (more a l) c t o =
-      log-either (ltb t (c + size a)) (stepIn itsOwn a c t o) (stepAmong itsOwn l (c + size a) t o) (deedIn a c t o) (deedAmong l (c + size a) t o)
-      (step-deeds a c t o) (among-deeds l (c + size a) t o) (stepAmong itsOwn (more a l) c t o) (deedAmong (more a l) c t o) refl refl
+  among-deeds : (l : Acts) (b : Bool) (q c t : ℕ) (o : Order) → only isDeed (stepAmong itsOwn l b q c t o .log) ≡ deedAmong l c t o
+  among-deeds none b q c t o = refl
+  among-deeds (more a l) b q c t o =
+      log-either (ltb t (c + size a)) (stepIn itsOwn a (cond b c q) c t o) (stepAmong itsOwn l b q (c + size a) t o) (deedIn a c t o) (deedAmong l (c + size a) t o)
+      (step-deeds a (cond b c q) c t o) (among-deeds l b q (c + size a) t o) (stepAmong itsOwn (more a l) b q c t o) (deedAmong (more a l) c t o) refl refl
 
 -- from the root
 root-deeds : (p : Plan) (t : ℕ) (o : Order) → only isDeed (stepRoot itsOwn p t o .log) ≡ deedAt p t o
 unfolding stepRoot deedAt
 root-deeds p t o =
-    log-either (ltb t (size (p .body))) (fromBody (rootOf p) (stepIn itsOwn (p .body) 0 t o)) (fromFault (rootOf p) (stepIn itsOwn (p .fault) (size (p .body)) t o))
+    log-either (ltb t (size (p .body))) (fromBody (rootOf p) (stepIn itsOwn (p .body) 0 0 t o)) (fromFault (rootOf p) (stepIn itsOwn (p .fault) (size (p .body)) (size (p .body)) t o))
     (deedIn (p .body) 0 t o) (deedIn (p .fault) (size (p .body)) t o)
-    (body-deeds (rootOf p) (stepIn itsOwn (p .body) 0 t o) ∙ step-deeds (p .body) 0 t o)
-    (fault-deeds (rootOf p) (stepIn itsOwn (p .fault) (size (p .body)) t o) ∙ step-deeds (p .fault) (size (p .body)) t o) (stepRoot itsOwn p t o) (deedAt p t o) refl refl
+    (body-deeds (rootOf p) (stepIn itsOwn (p .body) 0 0 t o) ∙ step-deeds (p .body) 0 0 t o)
+    (fault-deeds (rootOf p) (stepIn itsOwn (p .fault) (size (p .body)) (size (p .body)) t o) ∙ step-deeds (p .fault) (size (p .body)) (size (p .body)) t o) (stepRoot itsOwn p t o) (deedAt p t o) refl refl
 
 moved-deeds : (r : Outcome) (e : End) → only isDeed (movedTo r e .log) ≡ only isDeed (r .log)
 unfolding movedTo only isDeed
@@ -309,21 +309,21 @@ moved-deeds r Failed = refl
 moved-deeds r Left = refl
 
 -- The raise in place of a receive or an arm is its deed.
-raise-deed : (own : Own) (within : Acts) (k : ℕ) (o : Order) → isTake (doingOf own within k) ≡ true → only isDeed (performs inPlace own within k o .log) ≡ raised k ∷ []
+raise-deed : (own : Own) (within : Acts) (q k : ℕ) (o : Order) → isTake (doingOf own within k) ≡ true → only isDeed (performs inPlace own within q k o .log) ≡ raised k ∷ []
 unfolding isTake doingOf performs replaces kind only isDeed
-raise-deed empty within k o h = absurd (false≢true h)
-raise-deed (send x y vs) within k o h = absurd (false≢true h)
-raise-deed (receive x y vs) within k o h = refl
-raise-deed (setting v x) within k o h = absurd (false≢true h)
-raise-deed raise within k o h = absurd (false≢true h)
-raise-deed leave within k o h = absurd (false≢true h)
-raise-deed (choose x) within k o h = absurd (false≢true h)
-raise-deed (repeat x) within k o h = absurd (false≢true h)
-raise-deed sequence within k o h = absurd (false≢true h)
-raise-deed flow within k o h = absurd (false≢true h)
-raise-deed pick within k o h = absurd (false≢true h)
-raise-deed scope within k o h = absurd (false≢true h)
-raise-deed (arm x y vs) within k o h = refl
+raise-deed empty within q k o h = absurd (false≢true h)
+raise-deed (send x y vs) within q k o h = absurd (false≢true h)
+raise-deed (receive x y vs) within q k o h = refl
+raise-deed (setting v x) within q k o h = absurd (false≢true h)
+raise-deed raise within q k o h = absurd (false≢true h)
+raise-deed leave within q k o h = absurd (false≢true h)
+raise-deed (choose x) within q k o h = absurd (false≢true h)
+raise-deed (repeat x) within q k o h = absurd (false≢true h)
+raise-deed sequence within q k o h = absurd (false≢true h)
+raise-deed flow within q k o h = absurd (false≢true h)
+raise-deed pick within q k o h = absurd (false≢true h)
+raise-deed (scope v) within q k o h = absurd (false≢true h)
+raise-deed (arm x y vs) within q k o h = refl
 
 -- by the same choice of what is done and what is logged
 raise-either : (b : Bool) (d d′ : Doing) (x y : Outcome) (g : List Event) → (b ≡ true → isTake d ≡ true → only isDeed (x .log) ≡ g)
@@ -335,26 +335,26 @@ raise-either false d d′ x y g e f h = f refl h
 mutual
   unfolding stepIn doingIn only isTake
 
-  pub raise-deeds : (a : Act) (k t : ℕ) (o : Order) → isTake (doingIn a k t) ≡ true → only isDeed (stepIn inPlace a k t o .log) ≡ raised t ∷ []
-  raise-deeds (act own within) k t o =
-      raise-either (eqb k t) (doingOf own within k) (doingAmong within (k + 1) t) (performs inPlace own within k o)
-      (combines own within k t (stepAmong inPlace within (k + 1) t (arms own within k t o))) (raised t ∷ [])
-      (λ e h. raise-deed own within k o h ∙ ap (λ (j : ℕ). raised j ∷ []) (eqb-true k t e))
-      (λ e h. combines-deeds own within k t (stepAmong inPlace within (k + 1) t (arms own within k t o)) ∙ raises-among within (k + 1) t (arms own within k t o) h)
+  pub raise-deeds : (a : Act) (q k t : ℕ) (o : Order) → isTake (doingIn a k t) ≡ true → only isDeed (stepIn inPlace a q k t o .log) ≡ raised t ∷ []
+  raise-deeds (act own within) q k t o =
+      raise-either (eqb k t) (doingOf own within k) (doingAmong within (k + 1) t) (performs inPlace own within q k o)
+      (combines own within k t (stepAmong inPlace within (isScope own) q (k + 1) t (arms own within k t o))) (raised t ∷ [])
+      (λ e h. raise-deed own within q k o h ∙ ap (λ (j : ℕ). raised j ∷ []) (eqb-true k t e))
+      (λ e h. combines-deeds own within k t (stepAmong inPlace within (isScope own) q (k + 1) t (arms own within k t o)) ∙ raises-among within (isScope own) q (k + 1) t (arms own within k t o) h)
 
-  raises-among : (l : Acts) (c t : ℕ) (o : Order) → isTake (doingAmong l c t) ≡ true → only isDeed (stepAmong inPlace l c t o .log) ≡ raised t ∷ []
-  raises-among none c t o h = absurd (false≢true h)
-  raises-among (more a l) c t o h =
-      raise-either (ltb t (c + size a)) (doingIn a c t) (doingAmong l (c + size a) t) (stepIn inPlace a c t o) (stepAmong inPlace l (c + size a) t o) (raised t ∷ [])
-      (λ e g. raise-deeds a c t o g) (λ e g. raises-among l (c + size a) t o g) h
+  raises-among : (l : Acts) (b : Bool) (q c t : ℕ) (o : Order) → isTake (doingAmong l c t) ≡ true → only isDeed (stepAmong inPlace l b q c t o .log) ≡ raised t ∷ []
+  raises-among none b q c t o h = absurd (false≢true h)
+  raises-among (more a l) b q c t o h =
+      raise-either (ltb t (c + size a)) (doingIn a c t) (doingAmong l (c + size a) t) (stepIn inPlace a (cond b c q) c t o) (stepAmong inPlace l b q (c + size a) t o) (raised t ∷ [])
+      (λ e g. raise-deeds a (cond b c q) c t o g) (λ e g. raises-among l b q (c + size a) t o g) h
 
 raise-root : (p : Plan) (t : ℕ) (o : Order) → isTake (doingAt p t) ≡ true → only isDeed (stepRoot inPlace p t o .log) ≡ raised t ∷ []
 unfolding stepRoot doingAt
 raise-root p t o =
     raise-either (ltb t (size (p .body))) (doingIn (p .body) 0 t) (doingIn (p .fault) (size (p .body)) t)
-    (fromBody (rootOf p) (stepIn inPlace (p .body) 0 t o)) (fromFault (rootOf p) (stepIn inPlace (p .fault) (size (p .body)) t o)) (raised t ∷ [])
-    (λ e h. body-deeds (rootOf p) (stepIn inPlace (p .body) 0 t o) ∙ raise-deeds (p .body) 0 t o h)
-    (λ e h. fault-deeds (rootOf p) (stepIn inPlace (p .fault) (size (p .body)) t o) ∙ raise-deeds (p .fault) (size (p .body)) t o h)
+    (fromBody (rootOf p) (stepIn inPlace (p .body) 0 0 t o)) (fromFault (rootOf p) (stepIn inPlace (p .fault) (size (p .body)) (size (p .body)) t o)) (raised t ∷ [])
+    (λ e h. body-deeds (rootOf p) (stepIn inPlace (p .body) 0 0 t o) ∙ raise-deeds (p .body) 0 0 t o h)
+    (λ e h. fault-deeds (rootOf p) (stepIn inPlace (p .fault) (size (p .body)) (size (p .body)) t o) ∙ raise-deeds (p .fault) (size (p .body)) (size (p .body)) t o h)
 
 pub raised-deeds : (p : Plan) (t : ℕ) (o : Order) → isTake (doingAt p t) ≡ true → only isDeed (acted inPlace p t o .log) ≡ raised t ∷ []
 unfolding acted
@@ -422,7 +422,7 @@ deed-taking (repeat e) within k m o = refl
 deed-taking sequence within k m o = refl
 deed-taking flow within k m o = refl
 deed-taking pick within k m o = refl
-deed-taking scope within k m o = refl
+deed-taking (scope v) within k m o = refl
 deed-taking (arm p op vs) within k m o = refl
 
 -- by the same choice of what is done and what is logged

@@ -26,7 +26,7 @@ use Rattle.machine.specs.Calls.{loadedAs, load, post, collect, dropAt, Stepped,
 use Rattle.undoing.specs.History.{logOf, history}
 use Rattle.undoing.specs.Demand3.{closingsOf, noneNow, isOver, allowed}
 use Rattle.undoing.specs.Orderly.{orderly}
-use Rattle.undoing.specs.Ties.{isDeed, isFault, deedOf, deedIn, deedAmong, deedAt, placeOf, fits, due, isRaised, endTold, endList, endsIn, endBy, endsTaken, EndsTold, heedsAfter}
+use Rattle.undoing.specs.Ties.{isDeed, isFault, deedOf, deedIn, deedAmong, deedAt, placeNow, fits, due, isRaised, endTold, endList, endsIn, endBy, endsTaken, EndsTold, heedsAfter}
 use Rattle.undoing.specs.Buyer.{atEnds, allBack, HandledTakesAllBack, noneBack, WellTakesNothingBack}
 use Rattle.undoing.proofs.Parts.{both, decide, alike-itself}
 use Rattle.undoing.proofs.Moves.{HoldsAt, fair}
@@ -39,7 +39,7 @@ use Rattle.undoing.proofs.Happening.{orderIn, withMessage, Happens, not
 use Rattle.undoing.proofs.Deeds.{acted-deeds, raised-deeds, start-deed}
 use Rattle.undoing.proofs.Shapes.{isGrave, Calm, Shape, shape-calm, shape-fault, shape-end-fault, shape-end, shape-lost, OrderShape, shaped, out, order-shape, start-calm}
 use Rattle.undoing.proofs.Fitting.{standing-fits}
-use Rattle.undoing.proofs.Heeding.{Clear, clear-raised, heeds-append, heeds-clears, heeds-once, step-heeds, calm-heeds}
+use Rattle.undoing.proofs.Heeding.{leftBy, Clear, clear-raised, heeds-append, heeds-clears, heeds-once, step-heeds, calm-heeds}
 
 -- Starts.
 
@@ -86,7 +86,7 @@ deed-starts (repeat e) k o = if-starts k (isFault (evaluate e o))
 deed-starts sequence k o = refl
 deed-starts flow k o = refl
 deed-starts pick k o = refl
-deed-starts scope k o = refl
+deed-starts (scope u) k o = refl
 deed-starts (arm x y vs) k o = refl
 
 either-starts : (b : Bool) (x y z : List Event) → z ≡ elim b [ true ↦ x | false ↦ y ] → some isStart x ≡ false → some isStart y ≡ false → some isStart z ≡ false
@@ -230,10 +230,10 @@ calm-cool (raised k ∷ l) past c h g = absurd (let z : _≡_ {A = ℕ} 0 1 = cc
 calm-cool (left ∷ l) past c h g = calm-cool l (left ∷ past) c refl refl
 
 -- nor does one of its shape, where no raise is lost
-shape-cool : (p : Plan) (t : ℕ) (o : Order) (l past : List Event) → Shape p t o l → fits (placeOf p t) o ≡ true → isRaised past ≡ false → rawEnd past ≡ false → rawEnd (onto l past) ≡ false
+shape-cool : (p : Plan) (t : ℕ) (o : Order) (l past : List Event) → Shape p t (leftBy o) o l → fits (placeNow p o t) o ≡ true → isRaised past ≡ false → rawEnd past ≡ false → rawEnd (onto l past) ≡ false
 unfolding isRaised rawEnd
 shape-cool p t o l past (shape-calm c) f h g = calm-cool l past c h g
-shape-cool p t o _ past (shape-fault {n} {m} {l} x c) f h g = calm-cool l (faulted n ∷ raised t ∷ past) c refl refl
+shape-cool p t o _ past (shape-fault {n} {m} {ns} {l} x c) f h g = calm-cool l (faulted n ∷ raised t ∷ past) c refl refl
 shape-cool p t o _ past (shape-end-fault {n} {m} {l} x i z c) f h g = calm-cool l (faulted m ∷ ended n ∷ raised t ∷ past) c refl refl
 shape-cool p t o _ past (shape-end {k} {m} {l} x i z c) f h g = calm-cool l (ended (inner k) ∷ raised t ∷ past) c refl refl
 shape-cool p t o _ past (shape-lost {q} {l} x i z c) f h g = absurd (false≢true (sym z ∙ (ap (λ v. fits v o) (sym x) ∙ f)))
@@ -253,7 +253,7 @@ told-turned (raised k ∷ past) b h g = absurd (false≢true h)
 told-turned (left ∷ past) b h g = absurd (false≢true h)
 
 -- the end of an order whose log is of its shape
-told-end : (p : Plan) (t : ℕ) (o : Order) (e : End) (l past : List Event) → EndedAs p e (onto l past) → OrderShape p t o e l → fits (placeOf p t) o ≡ true
+told-end : (p : Plan) (t : ℕ) (o : Order) (e : End) (l past : List Event) → EndedAs p e (onto l past) → OrderShape p t (leftBy o) o e l → fits (placeNow p o t) o ≡ true
     → isRaised past ≡ false → rawEnd past ≡ false → endTold (onto l past) ≡ e
 unfolding rawEnd isRaised
 told-end p t o None l past h s f c g = absurd h
@@ -286,7 +286,7 @@ module _ (p : Plan) (h : Promised p) where
       e : End
       e = acted actor p t o .end
 
-      fit : fits (placeOf p t) o ≡ true
+      fit : fits (placeNow p o t) o ≡ true
       fit = standing-fits p o t st w
 
       go : Passed p past (acted actor p t o) → Ends past l e
@@ -296,7 +296,7 @@ module _ (p : Plan) (h : Promised p) where
             λ f k. fair-at p f (k .none) l past r (log-starts actor p t o v) (g .now) (rw q (k .none (older (onto l past)))),
           )
       go (passes-end r d z) =
-          let q = told-end p t o e l past z (order-shape actor p (h .seat) t o) fit (clear-raised p past c) (now-cool past (g .now)) in (
+          let q = told-end p t o e l past z (order-shape actor p (h .seat) t (leftBy o) o (λ n i. refl)) fit (clear-raised p past c) (now-cool past (g .now)) in (
             fair-ends p l past r (log-starts actor p t o v) (g .now) ∙ ap endList q,
             λ f k. fair-at p f (k .none) l past r (log-starts actor p t o v) (g .now) (rw q (k .ended e (onto l past) z)),
           )

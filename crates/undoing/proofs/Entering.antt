@@ -6,24 +6,26 @@ use mathlib.Core.Bool.{Bool, true, false, cond, _&&_, _||_, false≢true}
 use mathlib.Core.List.{List, [], _∷_, _++_}
 use lib.Dec.{eqb, ltb, leb}
 use borrow.Author.Tests.{eqb-true, eqb-false, ltb-true, ltb-false, lt-ltb, le-leb}
-use Rattle.plan.specs.Tree.{Own, empty, send, receive, set as setting, raise, leave, choose, repeat, sequence, flow, pick, scope, arm, kind, Act, act, Acts, none, more, Plan, size, sizes, count}
+use Rattle.plan.specs.Tree.{Own, empty, send, receive, set as setting, raise, leave, choose, repeat, sequence, flow, pick, scope, arm, kind, Act, act, Acts, none, more, Plan, size, sizes, count, isScope, hasUndo, isPick}
 use Rattle.order.specs.declared.Order.{Order}
 use Rattle.order.specs.State.{idle, active, inside, faulty, undoing, handling, halted, withdrawing, done, withMarks, markAt, marked, markOf, marking, binding}
 use Rattle.order.specs.Event.{Event, began, closed, faulted, stopped, raised, left, ended}
 use Rattle.order.specs.Expression.{Value, fault, value, evaluate, isTrue}
-use Rattle.order.specs.Begin.{Begun, begin, beginInTurn, beginAfter, part, partAt, beginPart, cleared, quiet}
+use Rattle.order.specs.Begin.{Begun, nothingBegun, begin, beginInTurn, beginAfter, part, partAt, beginPart, cleared, quiet}
 use Rattle.order.specs.declared.Way.{Way as Result}
 use Rattle.order.specs.declared.Way.the-variants.{Running as running, Over as over, Raising as raising, Leaving as leaving, Undone as undone, UndoRaising as undoRaising}
-use Rattle.order.specs.Scope.{Outcome, rootOf, runs, after, begunIn, whereOver, Scope, scopeAt, isScope, isOpen, innerRuns, closing, beginUndo, beginUndoIn, startUndo, undo, ends, handle, undoes, turns, rememberedFor, untouched, withdraws, stop, stopAll, stopFirst, alsoStopped, faults, breaks, looksAgain, bodyOver, bodyRaised, undoOver, undoRaised, fromBody, partOver, partRaised, fromFault, fromUndo}
+use Rattle.order.specs.Scope.{Outcome, rootOf, runs, after, begunIn, whereOver, Scope, scopeAt, isOpen, innerRuns, closing, beginUndo, beginUndoFirst, beginUndoIn, startUndo, undo, ends, handle, undoes, turns, rememberedFor, untouched, withdraws, stop, stopAll, stopFirst, alsoStopped, faults, breaks, looksAgain, bodyOver, bodyRaised, undoOver, undoRaised, fromBody, partOver, partRaised, fromFault, fromUndo, goesThrough}
 use Rattle.order.specs.Scope as definitions
 use Rattle.order.specs.Acting.{finishes, raises, orRaises, enters, again, repeats, allBound, itself, arms, goesOn, joins, inScope, combines, stepIn, stepAmong, stepRoot, Actor, replaces, performs}
 use Rattle.undoing.specs.Orderly.{isBeganOf}
+use Rattle.undoing.specs.Begun.{lasts}
 use Rattle.undoing.specs.Entirely.{times}
 use Rattle.undoing.proofs.Parts.{both, decide}
-use Rattle.undoing.proofs.Orders.{isArm, least}
+use Rattle.undoing.proofs.Orders.{least}
 use Rattle.undoing.proofs.Places.{first-of, second-of}
+use Rattle.undoing.proofs.Planning.{scope-own}
 use Rattle.undoing.proofs.Truly.{Arms, needs, Knows, knows, KnowsIn, knows-none, knows-more}
-use Rattle.undoing.proofs.Entire.{Two, times-append, times-event, Zero, Like, zero-part, Even, Row, Rows, First, Node, Holds, HoldsIn, no, even-zero, even-rows, even-even, even-first, holds-zero, holds-in-zero, rows-same, first-same, even-same, holds-same, holds-in-same, rows-append, first-append, holds-append, holds-in-append, Starts, Ranks, none-ranks, rows-row, Named, begin-starts, turn-starts}
+use Rattle.undoing.proofs.Entire.{scope-not, Two, times-append, times-event, Zero, Like, zero-part, Even, Row, Rows, First, Node, Holds, HoldsIn, no, even-zero, even-rows, even-even, even-first, holds-zero, holds-in-zero, rows-same, first-same, even-same, holds-same, holds-in-same, rows-append, first-append, holds-append, holds-in-append, Starts, Ranks, none-ranks, rows-row, Named, begin-starts, turn-starts}
 
 abbrev pub isLeaving : Result → Bool
 isLeaving running = false
@@ -62,15 +64,31 @@ pub record Wide (x : ℕ → ℕ → ℕ) (r : Acts) (c : ℕ) (l : List Event) 
   pub above : (j : ℕ) → c + sizes r ≤ j → times j l ≡ 0
 
 -- no scope is a sequence or a flow, or has arms
-pub scope-kind : (own : Own) (n : ℕ) → isScope own ≡ true → eqb 11 n ≡ false → eqb (kind own) n ≡ false
-scope-kind own n s h = rw (eqb-true (kind own) 11 s) h
+pub scope-kind : (own : Own) (n : ℕ) → isScope own ≡ true → eqb 11 n ≡ false → eqb 12 n ≡ false → eqb (kind own) n ≡ false
+scope-kind own n s h g = ap (λ (x : Own). eqb (kind x) n) (scope-own own s) ∙ scope-not n (hasUndo own) h g
 
-pub scope-arms : (own : Own) (within : Acts) → isScope own ≡ true → Arms (eqb (kind own) 10) within → Arms false within
-scope-arms own within s r = subst (λ (b : Bool). Arms b within) (scope-kind own 10 s refl) r
+pub scope-arms : (own : Own) (within : Acts) → isScope own ≡ true → Arms (isPick own) within → Arms false within
+scope-arms own within s r = subst (λ (b : Bool). Arms b within) (ap isPick (scope-own own s)) r
 
-pub scope-three : (own : Own) (within : Acts) → isScope own ≡ true → needs own ≤ count within → 3 ≤ count within
+pub scope-lasts : (own : Own) → isScope own ≡ true → lasts (kind own) ≡ true
+unfolding lasts kind
+scope-lasts own s = ap (λ (x : Own). lasts (kind x)) (scope-own own s) ∙ go (hasUndo own)
+  where
+    go : (v : Bool) → lasts (kind (scope v)) ≡ true
+    go true = refl
+    go false = refl
+
+pub scope-three : (own : Own) (within : Acts) → isScope own ≡ true → hasUndo own ≡ true → needs own ≤ count within → 3 ≤ count within
 unfolding needs
-scope-three own within s h = rw s at h
+scope-three own within s u h = rw (s, u) at h
+
+pub two-of : (v : Bool) (n : ℕ) → cond v 3 2 ≤ n → 2 ≤ n
+two-of true n h = omega arith
+two-of false n h = h
+
+pub scope-two : (own : Own) (within : Acts) → isScope own ≡ true → needs own ≤ count within → 2 ≤ count within
+unfolding needs
+scope-two own within s h = two-of (hasUndo own) (count within) (rw s at h)
 
 module _ (x : ℕ → ℕ → ℕ) where
   strict-of : (own : Own) (within : Acts) (k : ℕ) (l : List Event) → StrictIn x within (k + 1) l → Strict x (act own within) k l
@@ -94,8 +112,8 @@ module _ (x : ℕ → ℕ → ℕ) where
       let n : times k l ≡ 0 = w .below k (omega arith) in
       record {
         holds = record {
-          rows = λ e. absurd (false≢true (sym (scope-kind own 8 s refl) ∙ e));
-          even = λ e. absurd (false≢true (sym (scope-kind own 9 s refl) ∙ e));
+          rows = λ e. absurd (false≢true (sym (scope-kind own 8 s refl refl) ∙ e));
+          even = λ e. absurd (false≢true (sym (scope-kind own 9 s refl refl) ∙ e));
           first = λ e. subst (λ (n : ℕ). First l n within (k + 1)) (sym n) (w .first);
           rest = w .holds;
         };
@@ -226,15 +244,27 @@ module _ (f : ℕ → ℕ) where
   either-in {l} {c} true x y z e g h = subst (λ (r : Begun). StrictIn no l c (r .log)) (sym e) g
   either-in {l} {c} false x y z e g h = subst (λ (r : Begun). StrictIn no l c (r .log)) (sym e) h
 
+  cond-wide : {l : Acts} {c : ℕ} (v : Bool) (x y : Begun) → (v ≡ true → Wide no l c (x .log)) → (v ≡ false → Wide no l c (y .log)) → Wide no l c (cond v x y .log)
+  cond-wide true x y g h = g refl
+  cond-wide false x y g h = h refl
+
   -- an undo part
   mutual
     unfolding beginUndo times
 
     pub undo-strict : {a : Act} {k : ℕ} → Knows f a k → (e : ℕ) (ms : List ℕ) → Strict no a k (beginUndo a k e ms .log)
     undo-strict (knows {own} {within} {k} x n r y) e ms =
-        either-strict (isScope own && eqb k e) (beginPart 2 within (k + 1) ms) (beginUndoIn within (k + 1) e ms) _ refl
-        (λ t. both (isScope own) (eqb k e) t (λ s v. scope-of no own within k _ s (part-wide y (scope-arms own within s r) 1 (let z = scope-three own within s n in omega arith) ms)))
+        either-strict (isScope own) (cond (hasUndo own) (cond (eqb k e) (beginPart 2 within (k + 1) ms) (nothingBegun ms)) (beginUndoFirst within (k + 1) e ms)) (beginUndoIn within (k + 1) e ms) _ refl
+        (λ s. scope-of no own within k _ s
+        (cond-wide (hasUndo own) (cond (eqb k e) (beginPart 2 within (k + 1) ms) (nothingBegun ms)) (beginUndoFirst within (k + 1) e ms)
+        (λ u. cond-wide (eqb k e) (beginPart 2 within (k + 1) ms) (nothingBegun ms) (λ v. part-wide y (scope-arms own within s r) 1 (let z = scope-three own within s u n in omega arith) ms) (λ v. wide-zero no within (k + 1) [] (λ j. refl)))
+        (λ u. undo-first-wide y e ms)))
         (strict-of no own within k _ (undo-in-strict y e ms))
+
+    -- in the body of a scope
+    undo-first-wide : {l : Acts} {c : ℕ} → KnowsIn f l c → (e : ℕ) (ms : List ℕ) → Wide no l c (beginUndoFirst l c e ms .log)
+    undo-first-wide (knows-none {c}) e ms = wide-zero no none c [] (λ j. refl)
+    undo-first-wide (knows-more {a} {l} {c} x y) e ms = strict-wide no (strict-first no a l c _ (undo-strict x e ms))
 
     pub undo-in-strict : {l : Acts} {c : ℕ} → KnowsIn f l c → (e : ℕ) (ms : List ℕ) → StrictIn no l c (beginUndoIn l c e ms .log)
     undo-in-strict (knows-none {c}) e ms = in-zero no none c [] (λ j. refl)
@@ -249,7 +279,7 @@ module _ (f : ℕ → ℕ) where
     pub inBody : (x : ℕ → ℕ → ℕ) (l : List Event) → Strict x (s .body) (s .bodyAt) l → Wide x r c l
     pub inFault : (l : List Event) → Starts (s .fault) (s .faultAt) l → Wide no r c l
 
-  sit-scope : {within : Acts} {k : ℕ} → KnowsIn f within (k + 1) → Arms false within → 3 ≤ count within → Sit (scopeAt k within) within (k + 1)
+  sit-scope : {within : Acts} {k : ℕ} → KnowsIn f within (k + 1) → Arms false within → 2 ≤ count within → Sit (scopeAt k within) within (k + 1)
   unfolding part partAt count
   sit-scope knows-none r n = absurd (omega arith)
   sit-scope (knows-more x knows-none) r n = absurd (omega arith)
@@ -383,7 +413,7 @@ module _ (f : ℕ → ℕ) where
         halt-strict (isScope own) (elim (isOpen (markAt k o)) [ true ↦ withdraws k (scopeAt k within) (stopFirst within (k + 1) (marked k halted o)) | false ↦ untouched o ]) (stopAll within (k + 1) (marked k idle o)) _ refl
         (λ s. halt-strict (isOpen (markAt k o)) (withdraws k (scopeAt k within) (stopFirst within (k + 1) (marked k halted o))) (untouched o) _ refl
         (λ v. scope-of no own within k _ s (wide-event no (stopped k) (λ j. refl) (wide-append no _ _ (stop-first-wide y (marked k halted o))
-        (turns-goes (scopeAt k within) within (k + 1) (sit-scope y (scope-arms own within s r) (scope-three own within s n)) false _ .wide))))
+        (turns-goes (scopeAt k within) within (k + 1) (sit-scope y (scope-arms own within s r) (scope-two own within s n)) false _ .wide))))
         (λ v. strict-zero no (act own within) k [] (λ j. refl)))
         (λ s. strict-of no own within k _ (stop-all-strict y (marked k idle o)))
 
@@ -534,17 +564,17 @@ module _ (f : ℕ → ℕ) where
     or-at a k o g fault h = silent a k (raises k o) (λ j. refl)
     or-at a k o g (value n) h = h n
 
-    itself-at : (own : Own) (within : Acts) (k : ℕ) (o : Order) → needs own ≤ count within → Arms (eqb (kind own) 10) within → KnowsIn f within (k + 1)
-        → StepsAt (allow t) (act own within) k (itself own within k o)
+    itself-at : (own : Own) (within : Acts) (q₀ k : ℕ) (o : Order) → needs own ≤ count within → Arms (isPick own) within → KnowsIn f within (k + 1)
+        → StepsAt (allow t) (act own within) k (itself own within q₀ k o)
     unfolding itself needs least kind times isBeganOf closing repeats
-    itself-at empty within k o n r y = silent (act empty within) k (runs o) (λ j. refl)
-    itself-at (send a b vs) within k o n r y =
+    itself-at empty within q₀ k o n r y = silent (act empty within) k (runs o) (λ j. refl)
+    itself-at (send a b vs) within q₀ k o n r y =
         decide (allBound o vs) (λ e. rw e (silent (act (send a b vs) within) k (finishes k o) (λ j. refl))) (λ e. rw e (silent (act (send a b vs) within) k (raises k o) (λ j. refl)))
-    itself-at (receive a b vs) within k o n r y = silent (act (receive a b vs) within) k (finishes k o) (λ j. refl)
-    itself-at (setting v e) within k o n r y = or-at (act (setting v e) within) k o _ (evaluate e o) (λ i. silent (act (setting v e) within) k (finishes k (binding v i o)) (λ j. refl))
-    itself-at raise within k o n r y = silent (act raise within) k (raises k o) (λ j. refl)
-    itself-at leave within k o n r y = silent (act leave within) k (itself leave within k o) (λ j. refl)
-    itself-at (choose e) within k o n r y =
+    itself-at (receive a b vs) within q₀ k o n r y = silent (act (receive a b vs) within) k (finishes k o) (λ j. refl)
+    itself-at (setting v e) within q₀ k o n r y = or-at (act (setting v e) within) k o _ (evaluate e o) (λ i. silent (act (setting v e) within) k (finishes k (binding v i o)) (λ j. refl))
+    itself-at raise within q₀ k o n r y = silent (act raise within) k (raises k o) (λ j. refl)
+    itself-at leave within q₀ k o n r y = silent (act leave within) k (itself leave within q₀ k o) (λ j. refl)
+    itself-at (choose e) within q₀ k o n r y =
         or-at (act (choose e) within) k o _ (evaluate e o) (λ z. let o₁ = marked k inside o in
         where-at (act (choose e) within) k (finishes k) (begunIn o₁ (beginPart (cond (isTrue z) 0 1) within (k + 1) (o₁ .marks)))
         (begun-at (act (choose e) within) k o₁ (beginPart (cond (isTrue z) 0 1) within (k + 1) (o₁ .marks)) (plain-of (allow t) (choose e) within k _ refl refl refl (part-list y r (cond (isTrue z) 0 1) (second (isTrue z)) (o₁ .marks)))) (λ q j. refl) (λ q. refl))
@@ -552,18 +582,18 @@ module _ (f : ℕ → ℕ) where
         second : (b : Bool) → cond b 0 1 < count within
         second true = omega arith
         second false = omega arith
-    itself-at (repeat e) within k o n r y = or-at (act (repeat e) within) k o _ (evaluate e o) (λ z. either-at (isTrue z) (repeats k within o) (finishes k o) _ refl (λ d. body) (λ d. silent (act (repeat e) within) k (finishes k o) (λ j. refl)))
+    itself-at (repeat e) within q₀ k o n r y = or-at (act (repeat e) within) k o _ (evaluate e o) (λ z. either-at (isTrue z) (repeats k within o) (finishes k o) _ refl (λ d. body) (λ d. silent (act (repeat e) within) k (finishes k o) (λ j. refl)))
       where
         body : StepsAt (allow t) (act (repeat e) within) k (repeats k within o)
         body =
             let o₁ = marked k inside (withMarks (cleared (k + 1) (sizes within) (o .marks)) o) in
             where-at (act (repeat e) within) k (again k) (begunIn o₁ (beginPart 0 within (k + 1) (o₁ .marks)))
             (begun-at (act (repeat e) within) k o₁ (beginPart 0 within (k + 1) (o₁ .marks)) (plain-of (allow t) (repeat e) within k _ refl refl refl (part-list y r 0 (omega arith) (o₁ .marks)))) (λ q j. refl) (λ q. refl)
-    itself-at sequence within k o n r y = silent (act sequence within) k (runs o) (λ j. refl)
-    itself-at flow within k o n r y = silent (act flow within) k (runs o) (λ j. refl)
-    itself-at pick within k o n r y = silent (act pick within) k (runs o) (λ j. refl)
-    itself-at scope within k o n r y = silent (act scope within) k (closing k (scopeAt k within) o) (λ j. refl)
-    itself-at (arm a b vs) within k o n r y =
+    itself-at sequence within q₀ k o n r y = silent (act sequence within) k (runs o) (λ j. refl)
+    itself-at flow within q₀ k o n r y = silent (act flow within) k (runs o) (λ j. refl)
+    itself-at pick within q₀ k o n r y = silent (act pick within) k (runs o) (λ j. refl)
+    itself-at (scope v) within q₀ k o n r y = silent (act (scope v) within) k (closing v q₀ k (scopeAt k within) o) (λ j. refl)
+    itself-at (arm a b vs) within q₀ k o n r y =
         begun-at (act (arm a b vs) within) k o (beginPart 0 within (k + 1) (o .marks)) (plain-of (allow t) (arm a b vs) within k _ refl refl refl (part-list y r 0 (omega arith) (o .marks)))
 
     -- what an activity other than a sequence or a scope makes of a step within it
@@ -670,7 +700,7 @@ module _ (f : ℕ → ℕ) where
         go undone e = same undone e
         go undoRaising e = same undoRaising e
 
-    combines-at : (own : Own) (within : Acts) (k : ℕ) (o : Outcome) → needs own ≤ count within → Arms (eqb (kind own) 10) within → KnowsIn f within (k + 1) → k + 1 ≤ t
+    combines-at : (own : Own) (within : Acts) (k : ℕ) (o : Outcome) → needs own ≤ count within → Arms (isPick own) within → KnowsIn f within (k + 1) → k + 1 ≤ t
         → StepsIn (allow t) within (k + 1) o → StepsAt (allow t) (act own within) k (combines own within k t o)
     unfolding combines needs kind times next-of inScope
     combines-at empty within k o n r y h w = up-at empty within k o w
@@ -684,14 +714,15 @@ module _ (f : ℕ → ℕ) where
     combines-at sequence within k o n r y h w = sequence-at within k o y r h w
     combines-at flow within k o n r y h w = on-at flow within k active (joins k within) o w (joins-silent k within) (joins-stays k within)
     combines-at pick within k o n r y h w = on-at pick within k inside (finishes k) o w (λ q j. refl) (λ q. refl)
-    combines-at scope within k o n r y h w =
+    combines-at (scope u) within k o n r y h w =
         let s = scopeAt k within in
-        let i = sit-scope y r n in
+        let i = sit-scope y r (two-of u (count within) n) in
         let v : Steps (allow t) within (k + 1) o = record { wide = strict-wide (allow t) (w .strict); leaves = w .leaves } in
-        let z : Steps (allow t) within (k + 1) (inScope k t within o)
-        = steps-either (ltb t (partAt 1 within (k + 1))) (fromBody s o) (elim (ltb t (partAt 2 within (k + 1))) [ true ↦ fromFault s o | false ↦ fromUndo o ]) _ refl (body-steps (allow t) s within (k + 1) i o v)
+        let z : Steps (allow t) within (k + 1) (inScope u k t within o)
+        = steps-either (ltb t (partAt 1 within (k + 1))) (elim (goesThrough u k o) [ true ↦ o | false ↦ fromBody s o ]) (elim (ltb t (partAt 2 within (k + 1))) [ true ↦ fromFault s o | false ↦ fromUndo o ]) _ refl
+        (steps-either (goesThrough u k o) o (fromBody s o) _ refl v (body-steps (allow t) s within (k + 1) i o v))
         (steps-either (ltb t (partAt 2 within (k + 1))) (fromFault s o) (fromUndo o) _ refl (fault-steps (allow t) s within (k + 1) i o v) (undo-steps (allow t) s within (k + 1) i o v)) in
-        record { strict = scope-of (allow t) scope within k _ refl (z .wide); leaves = z .leaves }
+        record { strict = scope-of (allow t) (scope u) within k _ refl (z .wide); leaves = z .leaves }
     combines-at (arm a b vs) within k o n r y h w = up-at (arm a b vs) within k o w
 
     either-list : {l : Acts} {c : ℕ} (v : Bool) (p q z : Outcome) → z ≡ elim v [ true ↦ p | false ↦ q ] → (v ≡ true → StepsIn (allow t) l c p) → (v ≡ false → StepsIn (allow t) l c q)
@@ -700,27 +731,28 @@ module _ (f : ℕ → ℕ) where
     either-list {l} {c} false p q z e g h = subst (λ (o : Outcome). StepsIn (allow t) l c o) (sym e) (h refl)
 
     -- what acts: the activity itself, or a raise in its place
-    performs-at : (actor : Actor) (own : Own) (within : Acts) (k : ℕ) (o : Order) → needs own ≤ count within → Arms (eqb (kind own) 10) within → KnowsIn f within (k + 1)
-        → StepsAt (allow t) (act own within) k (performs actor own within k o)
+    performs-at : (actor : Actor) (own : Own) (within : Acts) (q₀ k : ℕ) (o : Order) → needs own ≤ count within → Arms (isPick own) within → KnowsIn f within (k + 1)
+        → StepsAt (allow t) (act own within) k (performs actor own within q₀ k o)
     unfolding performs times isBeganOf
-    performs-at actor own within k o n r y =
-        either-at (replaces actor (kind own)) (raises k o) (itself own within k o) _ refl (λ e. silent (act own within) k (raises k o) (λ j. refl)) (λ e. itself-at own within k o n r y)
+    performs-at actor own within q₀ k o n r y =
+        either-at (replaces actor (kind own)) (raises k o) (itself own within q₀ k o) _ refl (λ e. silent (act own within) k (raises k o) (λ j. refl)) (λ e. itself-at own within q₀ k o n r y)
 
     mutual
       unfolding stepIn times
 
-      pub step-at : (actor : Actor) {a : Act} {k : ℕ} → Knows f a k → (o : Order) → k ≤ t → StepsAt (allow t) a k (stepIn actor a k t o)
-      step-at actor (knows {own} {within} {k} x n r y) o h =
-          either-at (eqb k t) (performs actor own within k o) (combines own within k t (stepAmong actor within (k + 1) t (arms own within k t o))) _ refl
-          (λ e. performs-at actor own within k o n r y)
-          (λ e. let b : k + 1 ≤ t = let z = eqb-false k t e in omega arith in combines-at own within k (stepAmong actor within (k + 1) t (arms own within k t o)) n r y b (among-at actor y (arms own within k t o) b))
+      pub step-at : (actor : Actor) {a : Act} {k : ℕ} → Knows f a k → (q₀ : ℕ) (o : Order) → k ≤ t → StepsAt (allow t) a k (stepIn actor a q₀ k t o)
+      step-at actor (knows {own} {within} {k} x n r y) q₀ o h =
+          either-at (eqb k t) (performs actor own within q₀ k o) (combines own within k t (stepAmong actor within (isScope own) q₀ (k + 1) t (arms own within k t o))) _ refl
+          (λ e. performs-at actor own within q₀ k o n r y)
+          (λ e. let b : k + 1 ≤ t = let z = eqb-false k t e in omega arith in
+          combines-at own within k (stepAmong actor within (isScope own) q₀ (k + 1) t (arms own within k t o)) n r y b (among-at actor y (isScope own) q₀ (arms own within k t o) b))
 
-      pub among-at : (actor : Actor) {l : Acts} {c : ℕ} → KnowsIn f l c → (o : Order) → c ≤ t → StepsIn (allow t) l c (stepAmong actor l c t o)
-      among-at actor (knows-none {c}) o h = record { strict = in-zero (allow t) none c [] (λ j. refl); leaves = λ e j. refl }
-      among-at actor (knows-more {a} {l} {c} x y) o h =
-          either-list (ltb t (c + size a)) (stepIn actor a c t o) (stepAmong actor l (c + size a) t o) _ refl
-          (λ e. let z = step-at actor x o h in record { strict = strict-first (allow t) a l c _ (z .strict); leaves = z .leaves })
-          (λ e. let z = among-at actor y o (ltb-false t (c + size a) e) in record { strict = strict-later (allow t) a l c _ (z .strict); leaves = z .leaves })
+      pub among-at : (actor : Actor) {l : Acts} {c : ℕ} → KnowsIn f l c → (v : Bool) (q₀ : ℕ) (o : Order) → c ≤ t → StepsIn (allow t) l c (stepAmong actor l v q₀ c t o)
+      among-at actor (knows-none {c}) v q₀ o h = record { strict = in-zero (allow t) none c [] (λ j. refl); leaves = λ e j. refl }
+      among-at actor (knows-more {a} {l} {c} x y) v q₀ o h =
+          either-list (ltb t (c + size a)) (stepIn actor a (cond v c q₀) c t o) (stepAmong actor l v q₀ (c + size a) t o) _ refl
+          (λ e. let z = step-at actor x (cond v c q₀) o h in record { strict = strict-first (allow t) a l c _ (z .strict); leaves = z .leaves })
+          (λ e. let z = among-at actor y v q₀ o (ltb-false t (c + size a) e) in record { strict = strict-later (allow t) a l c _ (z .strict); leaves = z .leaves })
 
     -- From the root, whose body and fault part are a list.
     abbrev pub whole : Plan → Acts
@@ -742,17 +774,17 @@ module _ (f : ℕ → ℕ) where
       root-at actor o =
           decide (ltb t (size (p .body)))
           (λ e. subst (λ (q : Outcome). Steps (allow t) (whole p) 0 q) (sym (first-of (ltb t (size (p .body))) inBody inFault (stepRoot actor p t o) refl e))
-          (body-steps (allow t) (rootOf p) (whole p) 0 sit-root (stepIn actor (p .body) 0 t o) (let z = step-at actor kb o (omega arith) in record { wide = sit-root .inBody (allow t) _ (z .strict); leaves = z .leaves })))
+          (body-steps (allow t) (rootOf p) (whole p) 0 sit-root (stepIn actor (p .body) 0 0 t o) (let z = step-at actor kb 0 o (omega arith) in record { wide = sit-root .inBody (allow t) _ (z .strict); leaves = z .leaves })))
           (λ e. subst (λ (q : Outcome). Steps (allow t) (whole p) 0 q) (sym (second-of (ltb t (size (p .body))) inBody inFault (stepRoot actor p t o) refl e))
-          (fault-steps (allow t) (rootOf p) (whole p) 0 sit-root (stepIn actor (p .fault) (size (p .body)) t o)
-          (let z = step-at actor kf o (ltb-false t (size (p .body)) e) in
+          (fault-steps (allow t) (rootOf p) (whole p) 0 sit-root (stepIn actor (p .fault) (size (p .body)) (size (p .body)) t o)
+          (let z = step-at actor kf (size (p .body)) o (ltb-false t (size (p .body)) e) in
           record {
-            wide = strict-wide (allow t) (strict-later (allow t) (p .body) (more (p .fault) none) 0 _ (subst (λ (c : ℕ). StrictIn (allow t) (more (p .fault) none) c (stepIn actor (p .fault) (size (p .body)) t o .log)) (omega arith) (strict-first (allow t) (p .fault) none (size (p .body)) _ (z .strict))));
+            wide = strict-wide (allow t) (strict-later (allow t) (p .body) (more (p .fault) none) 0 _ (subst (λ (c : ℕ). StrictIn (allow t) (more (p .fault) none) c (stepIn actor (p .fault) (size (p .body)) (size (p .body)) t o .log)) (omega arith) (strict-first (allow t) (p .fault) none (size (p .body)) _ (z .strict))));
             leaves = z .leaves;
           })))
         where
           inBody : Outcome
-          inBody = fromBody (rootOf p) (stepIn actor (p .body) 0 t o)
+          inBody = fromBody (rootOf p) (stepIn actor (p .body) 0 0 t o)
 
           inFault : Outcome
-          inFault = fromFault (rootOf p) (stepIn actor (p .fault) (size (p .body)) t o)
+          inFault = fromFault (rootOf p) (stepIn actor (p .fault) (size (p .body)) (size (p .body)) t o)

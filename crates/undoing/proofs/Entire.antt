@@ -7,15 +7,13 @@ use mathlib.Core.List.{List, [], _∷_, _++_}
 use lib.ListN.{set}
 use lib.Dec.{eqb, ltb, leb}
 use borrow.Author.Tests.{eqb-true, eqb-false, eq-eqb, ne-eqb, ltb-true, ltb-false, lt-ltb, le-leb}
-use Rattle.plan.specs.Tree.{Own, empty, send, receive, set as setting, raise, leave, choose, repeat, sequence, flow, pick, scope, arm, kind, Act, act, Acts, none, more, size, sizes, count}
+use Rattle.plan.specs.Tree.{Own, empty, send, receive, set as setting, raise, leave, choose, repeat, sequence, flow, pick, scope, arm, kind, Act, act, Acts, none, more, size, sizes, count, isScope, isArm, isPick}
 use Rattle.order.specs.State.{active}
 use Rattle.order.specs.Event.{Event, began}
 use Rattle.order.specs.Begin.{Begun, throughout, around, itsBeginning, inTurn, begin, beginInTurn, beginAll, beginFirst, beginAfter, part, partAt, beginPart}
-use Rattle.order.specs.Scope.{isScope}
 use Rattle.undoing.specs.Orderly.{isBeganOf}
 use Rattle.undoing.specs.Entirely.{times}
 use Rattle.undoing.proofs.Parts.{decide}
-use Rattle.undoing.proofs.Orders.{isArm}
 use Rattle.undoing.proofs.Truly.{Arms, Knows, knows, KnowsIn, knows-none, knows-more}
 
 -- two things
@@ -336,11 +334,17 @@ rows-row x l i (more a r) c h g f = record { one = let e = g .one in omega arith
     weaker l i none c g = tt
     weaker l i (more a r) c g = record { one = let e = g .one in omega arith; other = weaker l c r (c + size a) (g .other) }
 
+-- a scope's kind is one of two
+pub scope-not : (n : ℕ) (v : Bool) → eqb 11 n ≡ false → eqb 12 n ≡ false → eqb (kind (scope v)) n ≡ false
+unfolding kind
+scope-not n true x y = x
+scope-not n false x y = y
+
 module _ (f : ℕ → ℕ) where
   own-starts : (own : Own) (within : Acts) (k : ℕ) → isArm own ≡ false → (ms : List ℕ)
-      → (eqb (kind own) 10 ≡ false → (ns : List ℕ) → Ranks (λ l. Rows no l 1 within (k + 1)) within (k + 1) (beginInTurn within (k + 1) ns .log))
-      → (eqb (kind own) 10 ≡ false → (ns : List ℕ) → Ranks (λ l. Even l 1 within (k + 1)) within (k + 1) (beginAll within (k + 1) ns .log))
-      → (eqb (kind own) 10 ≡ false → (ns : List ℕ) → Ranks (λ l. First l 1 within (k + 1)) within (k + 1) (beginFirst within (k + 1) ns .log))
+      → (isPick own ≡ false → (ns : List ℕ) → Ranks (λ l. Rows no l 1 within (k + 1)) within (k + 1) (beginInTurn within (k + 1) ns .log))
+      → (isPick own ≡ false → (ns : List ℕ) → Ranks (λ l. Even l 1 within (k + 1)) within (k + 1) (beginAll within (k + 1) ns .log))
+      → (isPick own ≡ false → (ns : List ℕ) → Ranks (λ l. First l 1 within (k + 1)) within (k + 1) (beginFirst within (k + 1) ns .log))
       → Starts (act own within) k (begin (act own within) k ms .log)
   unfolding begin kind
   own-starts empty within k i ms t a b = leaf-starts empty within k refl refl refl
@@ -358,9 +362,10 @@ module _ (f : ℕ → ℕ) where
       subst (λ (l : List Event). Starts (act flow within) k (began k ∷ l)) (sym (through-log k (beginAll within (k + 1) (set ms k active))))
       (node-starts flow within k _ (λ l. Even l 1 within (k + 1)) (a refl (set ms k active)) (λ e h. absurd (false≢true e)) (λ e h. h) (λ e h. absurd (false≢true e)))
   own-starts pick within k i ms t a b = leaf-starts pick within k refl refl refl
-  own-starts scope within k i ms t a b =
-      subst (λ (l : List Event). Starts (act scope within) k (began k ∷ l)) (sym (around-log k (beginFirst within (k + 1) (set ms k active))))
-      (node-starts scope within k _ (λ l. First l 1 within (k + 1)) (b refl (set ms k active)) (λ e h. absurd (false≢true e)) (λ e h. absurd (false≢true e)) (λ e h. h))
+  own-starts (scope v) within k i ms t a b =
+      subst (λ (l : List Event). Starts (act (scope v) within) k (began k ∷ l)) (sym (around-log k (beginFirst within (k + 1) (set ms k active))))
+      (node-starts (scope v) within k _ (λ l. First l 1 within (k + 1)) (b refl (set ms k active))
+      (λ e h. absurd (false≢true (sym (scope-not 8 v refl refl) ∙ e))) (λ e h. absurd (false≢true (sym (scope-not 9 v refl refl) ∙ e))) (λ e h. h))
   own-starts (arm p o vs) within k i ms t a b = absurd (false≢true (sym i))
 
   -- one that is no arm

@@ -9,7 +9,7 @@ use lib.Dec.{eqb, ltb, leb}
 use borrow.Author.Tests.{eqb-true, eqb-false, eq-eqb, le-leb, ltb-true, ltb-false, not-true}
 use Rattle.plan.specs.Found.{Found, found}
 use Rattle.plan.specs.Read.{readPlan}
-use Rattle.plan.specs.Tree.{Own, kind, Act, act, Acts, none, more, Plan, size, sizes}
+use Rattle.plan.specs.Tree.{Own, kind, Act, act, Acts, none, more, Plan, size, sizes, isScope}
 use Rattle.plan.proofs.Limits.{accepted-is-within}
 use Rattle.order.specs.declared.Order.{Order}
 use Rattle.order.specs.declared.End.{End}
@@ -25,7 +25,7 @@ use Rattle.order.specs.Event.{Event, started, began, closed, faulted, stopped, 
 use Rattle.order.specs.declared.Way.{Way as Result}
 use Rattle.order.specs.declared.Way.the-variants.{Running as running, Over as over, Raising as raising, Leaving as leaving, Undone as undone, UndoRaising as undoRaising}
 use Rattle.order.specs.Begin.{begin}
-use Rattle.order.specs.Scope.{Outcome, rootOf, isScope}
+use Rattle.order.specs.Scope.{Outcome, rootOf}
 use Rattle.order.specs.Acting.{stepRoot, endOf, movedTo, begunOrder, startedOrder, Actor, itsOwn, acted}
 use Rattle.machine.specs.Calls.{loadedAs, load, post, collect, Stepped, doingAt, step, Call, posting, collecting, stepping}
 use Rattle.undoing.specs.History.{logOf}
@@ -228,7 +228,7 @@ module _ (p : Plan) (h : Promised p) where
       r = stepRoot actor p t o
 
       w : scoping.Steps p (rootOf p) (Running (rootOf p)) o r
-      w = roots.root-steps p (h .distinct) actor (h .seat) t o a st x y
+      w = roots.root-steps p actor (h .seat) t o a st x y
 
       s : keeping.Steps (kindAt p) (ownsAt p t) 0 o r
       s = keeping.root-steps (kindAt p) p kb kf actor t o (st .many)

@@ -8,7 +8,7 @@ use lib.ListN.{getD, set}
 use lib.Seq.{getD-set-other}
 use lib.Dec.{eqb, ltb}
 use borrow.Author.Tests.{eqb-true, eqb-false, eq-eqb, ne-eqb, lt-ltb, le-ltb, ltb-true, ltb-false}
-use Rattle.plan.specs.Tree.{Exp, Own, empty, send, receive, set as setting, raise, leave, choose, repeat, sequence, flow, pick, scope, arm, kind, Act, act, Acts, none, more, Plan, size, sizes}
+use Rattle.plan.specs.Tree.{Exp, Own, empty, send, receive, set as setting, raise, leave, choose, repeat, sequence, flow, pick, scope, arm, kind, isScope, isArm, isPick, Act, act, Acts, none, more, Plan, size, sizes}
 use Rattle.order.specs.declared.Order.{Order}
 use Rattle.order.specs.declared.Way.{Way as Result}
 use Rattle.order.specs.declared.Way.the-variants.{Running as running, Over as over, Raising as raising, Leaving as leaving, Undone as undone, UndoRaising as undoRaising}
@@ -16,19 +16,19 @@ use Rattle.order.specs.State.{idle, active, inside, done, faulty, undoing, hand
 use Rattle.order.specs.Lists.{withoutLast}
 use Rattle.order.specs.Event.{Event}
 use Rattle.order.specs.Begin.{Begun, begin, beginAfter, part, partAt, quiet, cleared}
-use Rattle.order.specs.Scope.{Outcome, runs, after, begunIn, whereOver, Scope, scopeAt, rootOf, isScope, isOpen, innerRuns, rememberedFor, beginUndo, startUndo, undo, stop, ends, handle, undoes, turns, faults, breaks, looksAgain, bodyOver, bodyRaised, undoRaised, fromBody, partRaised, fromFault, fromUndo}
+use Rattle.order.specs.Scope.{Outcome, runs, after, begunIn, whereOver, Scope, scopeAt, rootOf, isFor, isOpen, innerRuns, rememberedFor, beginUndo, startUndo, undo, stop, ends, handle, undoes, turns, faults, breaks, looksAgain, bodyOver, bodyRaised, undoRaised, fromBody, partRaised, fromFault, fromUndo, goesThrough}
 use Rattle.order.specs.Acting.{finishes, raises, again, isPart, arms, goesOn, joins, inScope, combines, inPlace, replaces, performs, stepIn, stepAmong}
 use Rattle.order.specs.Awaited.{Doing, doingOf, awaits}
 use Rattle.order.specs.Judging.{rank}
 use Rattle.machine.specs.Calls.{doingIn, doingAmong}
 use Rattle.undoing.proofs.Parts.{both, decide}
-use Rattle.undoing.proofs.Orders.{isArm}
 use Rattle.undoing.proofs.Places.{first-of, second-of}
-use Rattle.undoing.proofs.Planning.{Formed, formed-part, formed-scope, FormedIn, formed-none, formed-more}
+use Rattle.undoing.proofs.Planning.{Formed, formed-part, formed-scope, FormedIn, formed-none, formed-more, FormedRest, formed-undo, formed-no}
 use Rattle.undoing.proofs.Waiting.{opens, Waits, waits-itself, waits-within, WaitsIn, waits-first, waits-later}
 use Rattle.undoing.proofs.Truly.{Arms, Knows, knows, KnowsIn, knows-none, knows-more}
 use Rattle.undoing.proofs.Marks.{trio}
-use Rattle.undoing.proofs.Keeping.{part-from, arm-open}
+use Rattle.undoing.proofs.Keeping.{pick-kind, part-from, arm-open}
+use Rattle.undoing.proofs.Stepping.{in-parts}
 use Rattle.undoing.proofs.Judged.{isTake, doing-here, doing-within, doing-among, doing-later}
 use Rattle.undoing.proofs.Lower.{Same, same-itself, same-then, same-less, same-set, endWith, same-after, same-cleared, rank-set, Low, low-itself, low-then, low-less, Owns, own-at, own-root, Under, Lowered, stays, lowers, again-lowered, over-lowered, breaks-lowered, raised-lowered}
 
@@ -215,7 +215,7 @@ fell-combines f h own within k t o r s n w = go own s n
         goes active (λ o₁. whereOver (finishes k) (begunIn o₁ (beginAfter within (k + 1) t (o₁ .marks)))) (λ o₁ d. goes-sequence f k t within o₁ (omega (arith, z .0)) d)
     go flow s n = goes active (joins k within) (λ o₁ d. goes-flow f k _ within o₁ d)
     go pick s n = goes inside (finishes k) (λ o₁ d. goes-finishes f k _ inside o₁ (inside-some (f k)) d)
-    go scope s n = absurd (false≢true (sym s))
+    go (scope v) s n = absurd (false≢true (sym s))
     go (arm a b vs) s n = plainly
 
 -- Scopes.
@@ -243,7 +243,7 @@ plain-undo : (l : List ℕ) (s : Scope) (o : Order) → isPlain (undo l s o .res
 unfolding undo startUndo
 plain-undo [] s o = refl
 plain-undo (e ∷ l) s o =
-    let o′ = remembering (withoutLast e (closings o)) o in
+    let o′ = remembering (withoutLast (isFor s) (closings o)) o in
     plain-where (undo l s) (startUndo e s o) (plain-begun o′ (beginUndo (s .body) (s .bodyAt) e (o′ .marks))) (λ o₁. plain-undo l s o₁)
 
 plain-handle : (s : Scope) (o : Order) → isPlain (handle s o .result) ≡ true
@@ -330,17 +330,23 @@ module _ (s : Scope) (b : ℕ) (h : Owns s b)
   fault-lowered r x = subst (λ (z : Result). Lowered s b (r .order) (fromFault s (record { result = z; order = r .order; log = r .log })) × (isPlain (fromFault s (record { result = z; order = r .order; log = r .log }) .result) ≡ true)) (sym x)
       (let u = part-lowered s b h f (r .order) in (lowered-after (r .log) (r .order) (partRaised s (r .order)) (u .0), u .1))
 
+-- a scope with an undo part and one with none have the same ranks
+rank-scope : (z : Bool) (m : ℕ) → rank (kind (scope z)) m ≡ rank 11 m
+unfolding rank kind
+rank-scope true m = refl
+rank-scope false m = refl
+
 -- a scope with a number: what fell in it still does, or it does itself
-fell-scope : (f : ℕ → ℕ) (k d : ℕ) (within : Acts) (o : Order) (h : Bool) (r r₁ : Outcome) → f k ≡ 11 → k < d → Fell f h (k + 1) d o r
+fell-scope : (f : ℕ → ℕ) (z : Bool) (k d : ℕ) (within : Acts) (o : Order) (h : Bool) (r r₁ : Outcome) → f k ≡ kind (scope z) → k < d → Fell f h (k + 1) d o r
     → Lowered (scopeAt k within) k (r .order) r₁ → isPlain (r₁ .result) ≡ true → Fell f false k d o r₁
-fell-scope f k d within o h r r₁ n v w (stays e) y =
+fell-scope f z k d within o h r r₁ n v w (stays e) y =
     record {
       falls = subst (λ (x : Order). Falls f k d (o .marks) (x .marks)) (sym e) (falls-wider (omega arith) (omega arith) (w .falls));
       root = ap (λ (x : Order). x .root) e ∙ w .root;
       plain = y;
       out = λ z. absurd (false≢true z);
     }
-fell-scope f k d within o h r r₁ n v w (lowers i u) y =
+fell-scope f z k d within o h r r₁ n v w (lowers i u) y =
     record {
       falls = record {
         at = k;
@@ -348,7 +354,9 @@ fell-scope f k d within o h r r₁ n v w (lowers i u) y =
         to = v;
         same = same-then (same-less (omega arith) (falls-below (w .falls))) (u .marks);
         less = subst (λ (j : ℕ). rank j (getD (r₁ .order .marks) k 0) < rank j (getD (o .marks) k 0)) (sym n)
-            (subst (λ (x : ℕ). rank 11 (getD (r₁ .order .marks) k 0) < rank 11 x) (falls-below (w .falls) .at k (omega arith)) (omega (arith, i, u .rank)));
+            (subst (λ (x : ℕ). x < rank (kind (scope z)) (getD (o .marks) k 0)) (sym (rank-scope z (getD (r₁ .order .marks) k 0)))
+            (subst (λ (x : ℕ). rank 11 (getD (r₁ .order .marks) k 0) < x) (sym (rank-scope z (getD (o .marks) k 0)))
+            (subst (λ (x : ℕ). rank 11 (getD (r₁ .order .marks) k 0) < rank 11 x) (falls-below (w .falls) .at k (omega arith)) (omega (arith, i, u .rank)))));
       };
       root = u .root .same ∙ w .root;
       plain = y;
@@ -364,21 +372,21 @@ cleared-rank (suc n) k ms =
     subst (λ (m : ℕ). rank 11 m ≤ rank 11 (getD ms k 0)) (sym x) (omega (arith, rank-set 11 k idle ms))
 
 -- what acts in a raise's place, and what an arm does then
-pub raised-receive : (own : Own) (within : Acts) (k : ℕ) (o : Order) → isTake (doingOf own within k) ≡ true → performs inPlace own within k o ≡ raises k o
+pub raised-receive : (own : Own) (within : Acts) (q k : ℕ) (o : Order) → isTake (doingOf own within k) ≡ true → performs inPlace own within q k o ≡ raises k o
 unfolding isTake doingOf performs replaces kind
-raised-receive empty within k o h = absurd (false≢true h)
-raised-receive (send x y vs) within k o h = absurd (false≢true h)
-raised-receive (receive x y vs) within k o h = refl
-raised-receive (setting v x) within k o h = absurd (false≢true h)
-raised-receive raise within k o h = absurd (false≢true h)
-raised-receive leave within k o h = absurd (false≢true h)
-raised-receive (choose x) within k o h = absurd (false≢true h)
-raised-receive (repeat x) within k o h = absurd (false≢true h)
-raised-receive sequence within k o h = absurd (false≢true h)
-raised-receive flow within k o h = absurd (false≢true h)
-raised-receive pick within k o h = absurd (false≢true h)
-raised-receive scope within k o h = absurd (false≢true h)
-raised-receive (arm x y vs) within k o h = refl
+raised-receive empty within q k o h = absurd (false≢true h)
+raised-receive (send x y vs) within q k o h = absurd (false≢true h)
+raised-receive (receive x y vs) within q k o h = refl
+raised-receive (setting v x) within q k o h = absurd (false≢true h)
+raised-receive raise within q k o h = absurd (false≢true h)
+raised-receive leave within q k o h = absurd (false≢true h)
+raised-receive (choose x) within q k o h = absurd (false≢true h)
+raised-receive (repeat x) within q k o h = absurd (false≢true h)
+raised-receive sequence within q k o h = absurd (false≢true h)
+raised-receive flow within q k o h = absurd (false≢true h)
+raised-receive pick within q k o h = absurd (false≢true h)
+raised-receive (scope v) within q k o h = absurd (false≢true h)
+raised-receive (arm x y vs) within q k o h = refl
 
 -- a receive that awaits its step is active
 receive-active : (own : Own) (within : Acts) (k : ℕ) (b : Bool) (m : ℕ) → isTake (doingOf own within k) ≡ true → isArm own ≡ false → awaits own b m ≡ true → m ≡ active
@@ -394,28 +402,30 @@ receive-active (repeat x) within k b m h a w = absurd (false≢true h)
 receive-active sequence within k b m h a w = absurd (false≢true h)
 receive-active flow within k b m h a w = absurd (false≢true h)
 receive-active pick within k b m h a w = absurd (false≢true h)
-receive-active scope within k b m h a w = absurd (false≢true h)
+receive-active (scope v) within k b m h a w = absurd (false≢true h)
 receive-active (arm x y vs) within k b m h a w = absurd (false≢true (sym a))
 
 -- the definitions, by where the step is
-here : (own : Own) (within : Acts) (k t : ℕ) (o : Order) → k ≡ t → stepIn inPlace (act own within) k t o ≡ performs inPlace own within k o
+here : (own : Own) (within : Acts) (q k t : ℕ) (o : Order) → k ≡ t → stepIn inPlace (act own within) q k t o ≡ performs inPlace own within q k o
 unfolding stepIn
-here own within k t o e =
-    first-of (eqb k t) (performs inPlace own within k o) (combines own within k t (stepAmong inPlace within (k + 1) t (arms own within k t o))) (stepIn inPlace (act own within) k t o) refl (eq-eqb k t e)
+here own within q k t o e =
+    first-of (eqb k t) (performs inPlace own within q k o) (combines own within k t (stepAmong inPlace within (isScope own) q (k + 1) t (arms own within k t o))) (stepIn inPlace (act own within) q k t o) refl (eq-eqb k t e)
 
-deeper : (own : Own) (within : Acts) (k t : ℕ) (o : Order) → k < t
-    → stepIn inPlace (act own within) k t o ≡ combines own within k t (stepAmong inPlace within (k + 1) t (arms own within k t o))
+deeper : (own : Own) (within : Acts) (q k t : ℕ) (o : Order) → k < t
+    → stepIn inPlace (act own within) q k t o ≡ combines own within k t (stepAmong inPlace within (isScope own) q (k + 1) t (arms own within k t o))
 unfolding stepIn
-deeper own within k t o e =
-    second-of (eqb k t) (performs inPlace own within k o) (combines own within k t (stepAmong inPlace within (k + 1) t (arms own within k t o))) (stepIn inPlace (act own within) k t o) refl (ne-eqb k t (omega arith))
+deeper own within q k t o e =
+    second-of (eqb k t) (performs inPlace own within q k o) (combines own within k t (stepAmong inPlace within (isScope own) q (k + 1) t (arms own within k t o))) (stepIn inPlace (act own within) q k t o) refl (ne-eqb k t (omega arith))
 
-first-among : (a : Act) (l : Acts) (c t : ℕ) (o : Order) → t < c + size a → stepAmong inPlace (more a l) c t o ≡ stepIn inPlace a c t o
+first-among : (a : Act) (l : Acts) (w : Bool) (q c t : ℕ) (o : Order) → t < c + size a → stepAmong inPlace (more a l) w q c t o ≡ stepIn inPlace a (cond w c q) c t o
 unfolding stepIn
-first-among a l c t o e = first-of (ltb t (c + size a)) (stepIn inPlace a c t o) (stepAmong inPlace l (c + size a) t o) (stepAmong inPlace (more a l) c t o) refl (lt-ltb t (c + size a) e)
+first-among a l w q c t o e =
+    first-of (ltb t (c + size a)) (stepIn inPlace a (cond w c q) c t o) (stepAmong inPlace l w q (c + size a) t o) (stepAmong inPlace (more a l) w q c t o) refl (lt-ltb t (c + size a) e)
 
-later-among : (a : Act) (l : Acts) (c t : ℕ) (o : Order) → c + size a ≤ t → stepAmong inPlace (more a l) c t o ≡ stepAmong inPlace l (c + size a) t o
+later-among : (a : Act) (l : Acts) (w : Bool) (q c t : ℕ) (o : Order) → c + size a ≤ t → stepAmong inPlace (more a l) w q c t o ≡ stepAmong inPlace l w q (c + size a) t o
 unfolding stepIn
-later-among a l c t o e = second-of (ltb t (c + size a)) (stepIn inPlace a c t o) (stepAmong inPlace l (c + size a) t o) (stepAmong inPlace (more a l) c t o) refl (le-ltb t (c + size a) e)
+later-among a l w q c t o e =
+    second-of (ltb t (c + size a)) (stepIn inPlace a (cond w c q) c t o) (stepAmong inPlace l w q (c + size a) t o) (stepAmong inPlace (more a l) w q c t o) refl (le-ltb t (c + size a) e)
 
 first-end : (a : Act) (l : Acts) (c t : ℕ) → t < c + size a → endWith (more a l) c t ≡ c + size a
 unfolding endWith
@@ -426,19 +436,19 @@ unfolding endWith
 later-end a l c t e = second-of (ltb t (c + size a)) (c + size a) (endWith l (c + size a) t) (endWith (more a l) c t) refl (le-ltb t (c + size a) e)
 
 -- an arm of an open pick raises
-arm-raises : (l : Acts) (c t : ℕ) (o : Order) → isPart l c t ≡ true → isTake (doingAmong l c t) ≡ true → stepAmong inPlace l c t o ≡ raises t o
+arm-raises : (l : Acts) (w : Bool) (y c t : ℕ) (o : Order) → isPart l c t ≡ true → isTake (doingAmong l c t) ≡ true → stepAmong inPlace l w y c t o ≡ raises t o
 unfolding isPart size
-arm-raises none c t o e h = absurd (false≢true e)
-arm-raises (more (act own within) l) c t o e h =
+arm-raises none w y c t o e h = absurd (false≢true e)
+arm-raises (more (act own within) l) w y c t o e h =
     decide (eqb c t)
     (λ d. let q = eqb-true c t d in
-    first-among (act own within) l c t o (omega arith)
-    ∙ (here own within c t o q
-    ∙ (raised-receive own within c o (subst (λ (x : Doing). isTake x ≡ true) (doing-among (act own within) l c t (omega arith) ∙ (ap (λ (j : ℕ). doingIn (act own within) c j) (sym q) ∙ doing-here own within c)) h)
+    first-among (act own within) l w y c t o (omega arith)
+    ∙ (here own within (cond w c y) c t o q
+    ∙ (raised-receive own within (cond w c y) c o (subst (λ (x : Doing). isTake x ≡ true) (doing-among (act own within) l c t (omega arith) ∙ (ap (λ (j : ℕ). doingIn (act own within) c j) (sym q) ∙ doing-here own within c)) h)
     ∙ ap (λ (j : ℕ). raises j o) q)))
     (λ d. let q = part-from l (c + (1 + sizes within)) t (rw d at e) in
-    later-among (act own within) l c t o (omega (arith, q))
-    ∙ arm-raises l (c + (1 + sizes within)) t o (rw d at e) (subst (λ (x : Doing). isTake x ≡ true) (doing-later (act own within) l c t (omega (arith, q))) h))
+    later-among (act own within) l w y c t o (omega (arith, q))
+    ∙ arm-raises l w y (c + (1 + sizes within)) t o (rw d at e) (subst (λ (x : Doing). isTake x ≡ true) (doing-later (act own within) l c t (omega (arith, q))) h))
 
 -- not an arm itself
 abbrev Deep : Act → (k t : ℕ) → Type 0
@@ -477,69 +487,47 @@ raise-through (repeat x) within k t o s = refl
 raise-through sequence within k t o s = refl
 raise-through flow within k t o s = refl
 raise-through pick within k t o s = refl
-raise-through scope within k t o s = absurd (false≢true (sym s))
+raise-through (scope v) within k t o s = absurd (false≢true (sym s))
 raise-through (arm x y vs) within k t o s = refl
 
 -- what a pick is when one of its arms acts
-arms-so : (own : Own) (within : Acts) (k t : ℕ) (o : Order) (b : Bool) → (eqb (kind own) 10 && isPart within (k + 1) t) ≡ b → arms own within k t o ≡ cond b (marked k inside o) o
+arms-so : (own : Own) (within : Acts) (k t : ℕ) (o : Order) (b : Bool) → (isPick own && isPart within (k + 1) t) ≡ b → arms own within k t o ≡ cond b (marked k inside o) o
 unfolding arms
 arms-so own within k t o b e = rw e
 
 -- an activity other than a scope, where the raise is within it
-part-falls : (f : ℕ → ℕ) (h : Bool) (own : Own) (within : Acts) (k t : ℕ) (o : Order) → isScope own ≡ false → f k ≡ kind own → Arms (eqb (kind own) 10) within → k < t
+part-falls : (f : ℕ → ℕ) (h : Bool) (own : Own) (within : Acts) (y k t : ℕ) (o : Order) → isScope own ≡ false → f k ≡ kind own → Arms (isPick own) within → k < t
     → WaitsIn (o .marks) within (k + 1) t (opens own (getD (o .marks) k 0)) → isTake (doingAmong within (k + 1) t) ≡ true
-    → ((eqb (kind own) 10 && isPart within (k + 1) t) ≡ false → Fell f h (k + 1) (endWith within (k + 1) t) o (stepAmong inPlace within (k + 1) t o))
-    → Fell f h k (k + (1 + sizes within)) o (stepIn inPlace (act own within) k t o)
+    → ((isPick own && isPart within (k + 1) t) ≡ false → Fell f h (k + 1) (endWith within (k + 1) t) o (stepAmong inPlace within (isScope own) y (k + 1) t o))
+    → Fell f h k (k + (1 + sizes within)) o (stepIn inPlace (act own within) y k t o)
 unfolding rank
-part-falls f h own within k t o s x z e q i g =
-    subst (λ (r : Outcome). Fell f h k (k + (1 + sizes within)) o r) (sym (deeper own within k t o e)) (go (eqb (kind own) 10 && isPart within (k + 1) t) refl)
+part-falls f h own within y k t o s x z e q i g =
+    subst (λ (r : Outcome). Fell f h k (k + (1 + sizes within)) o r) (sym (deeper own within y k t o e)) (go (isPick own && isPart within (k + 1) t) refl)
   where
-    go : (b : Bool) → (eqb (kind own) 10 && isPart within (k + 1) t) ≡ b → Fell f h k (k + (1 + sizes within)) o (combines own within k t (stepAmong inPlace within (k + 1) t (arms own within k t o)))
+    go : (b : Bool) → (isPick own && isPart within (k + 1) t) ≡ b → Fell f h k (k + (1 + sizes within)) o (combines own within k t (stepAmong inPlace within (isScope own) y (k + 1) t (arms own within k t o)))
     go true d =
-        both (eqb (kind own) 10) (isPart within (k + 1) t) d (λ u v.
-        both (eqb (kind own) 10) (eqb (getD (o .marks) k 0) active) (arm-open t 0 (subst (λ (w : Bool). Arms w within) u z) q v) (λ _ w.
-        subst (λ (o₁ : Order). Fell f h k (k + (1 + sizes within)) o (combines own within k t (stepAmong inPlace within (k + 1) t o₁))) (sym (arms-so own within k t o true d))
+        both (isPick own) (isPart within (k + 1) t) d (λ u v.
+        both (isPick own) (eqb (getD (o .marks) k 0) active) (arm-open t 0 (subst (λ (w : Bool). Arms w within) u z) q v) (λ _ w.
+        subst (λ (o₁ : Order). Fell f h k (k + (1 + sizes within)) o (combines own within k t (stepAmong inPlace within (isScope own) y (k + 1) t o₁))) (sym (arms-so own within k t o true d))
         (subst (λ (r : Outcome). Fell f h k (k + (1 + sizes within)) o r)
-        (sym (ap (combines own within k t) (arm-raises within (k + 1) t (marked k inside o) v i) ∙ raise-through own within k t (marked k inside o) s))
+        (sym (ap (combines own within k t) (arm-raises within (isScope own) y (k + 1) t (marked k inside o) v i) ∙ raise-through own within k t (marked k inside o) s))
         (record {
           falls = record {
             at = k;
             from = omega arith;
             to = omega arith;
             same = same-then (same-set k k inside (o .marks) (omega arith)) (same-set k t idle (set (o .marks) k inside) (omega arith));
-            less = subst (λ (n : ℕ). rank n (getD (set (set (o .marks) k inside) t idle) k 0) < rank n (getD (o .marks) k 0)) (sym (x ∙ eqb-true (kind own) 10 u))
+            less = subst (λ (n : ℕ). rank n (getD (set (set (o .marks) k inside) t idle) k 0) < rank n (getD (o .marks) k 0)) (sym (x ∙ pick-kind own u))
                 (subst (λ (m : ℕ). rank 10 (getD (set (set (o .marks) k inside) t idle) k 0) < rank 10 m) (sym (eqb-true (getD (o .marks) k 0) active w))
                 (subst (λ (m : ℕ). rank 10 m < 7) (sym (getD-set-other (set (o .marks) k inside) t k idle 0 (omega arith))) (omega (arith, rank-set 10 k inside (o .marks)))));
           };
           root = refl;
           plain = refl;
-          out = λ y. refl;
+          out = λ _. refl;
         }))))
     go false d =
-        subst (λ (o₁ : Order). Fell f h k (k + (1 + sizes within)) o (combines own within k t (stepAmong inPlace within (k + 1) t o₁))) (sym (arms-so own within k t o false d))
-        (fell-combines f h own within k t o (stepAmong inPlace within (k + 1) t o) s x (g d))
-
--- in which part of a scope
-scope-body : (b g u : Act) (k t : ℕ) (r : Outcome) → t < k + 1 + size b → inScope k t (trio b g u) r ≡ fromBody (scopeAt k (trio b g u)) r
-unfolding inScope part partAt
-scope-body b g u k t r e =
-    first-of (ltb t (k + 1 + size b)) (fromBody (scopeAt k (trio b g u)) r)
-    (elim (ltb t (k + 1 + size b + size g)) [ true ↦ fromFault (scopeAt k (trio b g u)) r | false ↦ fromUndo r ]) (inScope k t (trio b g u) r) refl (lt-ltb t (k + 1 + size b) e)
-
-scope-rest : (b g u : Act) (k t : ℕ) (r : Outcome) → k + 1 + size b ≤ t
-    → inScope k t (trio b g u) r ≡ elim (ltb t (k + 1 + size b + size g)) [ true ↦ fromFault (scopeAt k (trio b g u)) r | false ↦ fromUndo r ]
-unfolding inScope part partAt
-scope-rest b g u k t r e =
-    second-of (ltb t (k + 1 + size b)) (fromBody (scopeAt k (trio b g u)) r)
-    (elim (ltb t (k + 1 + size b + size g)) [ true ↦ fromFault (scopeAt k (trio b g u)) r | false ↦ fromUndo r ]) (inScope k t (trio b g u) r) refl (le-ltb t (k + 1 + size b) e)
-
-scope-fault : (b g u : Act) (k t : ℕ) (r : Outcome) → k + 1 + size b ≤ t → t < k + 1 + size b + size g → inScope k t (trio b g u) r ≡ fromFault (scopeAt k (trio b g u)) r
-scope-fault b g u k t r e d =
-    scope-rest b g u k t r e ∙ first-of (ltb t (k + 1 + size b + size g)) (fromFault (scopeAt k (trio b g u)) r) (fromUndo r) _ refl (lt-ltb t (k + 1 + size b + size g) d)
-
-scope-undo : (b g u : Act) (k t : ℕ) (r : Outcome) → k + 1 + size b + size g ≤ t → inScope k t (trio b g u) r ≡ fromUndo r
-scope-undo b g u k t r e =
-    scope-rest b g u k t r (omega arith) ∙ second-of (ltb t (k + 1 + size b + size g)) (fromFault (scopeAt k (trio b g u)) r) (fromUndo r) _ refl (le-ltb t (k + 1 + size b + size g) e)
+        subst (λ (o₁ : Order). Fell f h k (k + (1 + sizes within)) o (combines own within k t (stepAmong inPlace within (isScope own) y (k + 1) t o₁))) (sym (arms-so own within k t o false d))
+        (fell-combines f h own within k t o (stepAmong inPlace within (isScope own) y (k + 1) t o) s x (g d))
 
 -- clearing a scope's numbers
 clears : (k : ℕ) (within : Acts) (o : Order)
@@ -547,71 +535,83 @@ clears : (k : ℕ) (within : Acts) (o : Order)
 clears k within o = cleared-rank (1 + sizes within) k (o .marks)
 
 -- a scope, by where the raise is
-module _ (f : ℕ → ℕ) (b g u : Act) (k t : ℕ) (o : Order) (n : f k ≡ 11) where
+module _ (f : ℕ → ℕ) (z : Bool) (b g : Act) (u : Acts) (y k t : ℕ) (o : Order) (n : f k ≡ kind (scope z)) where
   abbrev Whole : ℕ
   Whole = k + (1 + sizes (trio b g u))
 
-  fell-body : t < k + 1 + size b → Fell f false (k + 1) (k + 1 + size b) o (stepIn inPlace b (k + 1) t o)
-      → Fell f false k Whole o (inScope k t (trio b g u) (stepAmong inPlace (trio b g u) (k + 1) t o))
+  fell-body : t < k + 1 + size b → Fell f false (k + 1) (k + 1 + size b) o (stepIn inPlace b (k + 1) (k + 1) t o)
+      → Fell f false k Whole o (inScope z k t (trio b g u) (stepAmong inPlace (trio b g u) true y (k + 1) t o))
   unfolding size
   fell-body e w =
-      let r = stepIn inPlace b (k + 1) t o in
-      let z = body-lowered (scopeAt k (trio b g u)) k (own-at k (trio b g u)) (clears k (trio b g u)) r (w .plain) in
       subst (λ (x : Outcome). Fell f false k (k + (1 + sizes (trio b g u))) o x)
-      (sym (ap (inScope k t (trio b g u)) (first-among b (more g (more u none)) (k + 1) t o e) ∙ scope-body b g u k t r e))
-      (fell-scope f k (k + (1 + sizes (trio b g u))) (trio b g u) o false r (fromBody (scopeAt k (trio b g u)) r) n (omega arith) (fell-wider (omega arith) (omega arith) w) (z .0) (z .1))
+      (sym (ap (inScope z k t (trio b g u)) (first-among b (more g u) true y (k + 1) t o e) ∙ in-parts z b g u k t r true _ (lt-ltb t (k + 1 + size b) e) refl))
+      (go (goesThrough z k r))
+    where
+      r : Outcome
+      r = stepIn inPlace b (k + 1) (k + 1) t o
 
-  fell-fault : k + 1 + size b ≤ t → t < k + 1 + size b + size g → Fell f true (k + 1 + size b) (k + 1 + size b + size g) o (stepIn inPlace g (k + 1 + size b) t o)
-      → Fell f false k Whole o (inScope k t (trio b g u) (stepAmong inPlace (trio b g u) (k + 1) t o))
+      go : (v : Bool) → Fell f false k (k + (1 + sizes (trio b g u))) o (elim v [ true ↦ r | false ↦ fromBody (scopeAt k (trio b g u)) r ])
+      go true = fell-wider (omega arith) (omega arith) w
+      go false =
+          let x = body-lowered (scopeAt k (trio b g u)) k (own-at k (trio b g u)) (clears k (trio b g u)) r (w .plain) in
+          fell-scope f z k (k + (1 + sizes (trio b g u))) (trio b g u) o false r (fromBody (scopeAt k (trio b g u)) r) n (omega arith) (fell-wider (omega arith) (omega arith) w) (x .0) (x .1)
+
+  fell-fault : k + 1 + size b ≤ t → t < k + 1 + size b + size g → Fell f true (k + 1 + size b) (k + 1 + size b + size g) o (stepIn inPlace g (k + 1 + size b) (k + 1 + size b) t o)
+      → Fell f false k Whole o (inScope z k t (trio b g u) (stepAmong inPlace (trio b g u) true y (k + 1) t o))
   unfolding size
   fell-fault e d w =
-      let r = stepIn inPlace g (k + 1 + size b) t o in
-      let z = fault-lowered (scopeAt k (trio b g u)) k (own-at k (trio b g u)) (clears k (trio b g u)) r (w .out refl) in
+      let r = stepIn inPlace g (k + 1 + size b) (k + 1 + size b) t o in
+      let x = fault-lowered (scopeAt k (trio b g u)) k (own-at k (trio b g u)) (clears k (trio b g u)) r (w .out refl) in
       subst (λ (x : Outcome). Fell f false k (k + (1 + sizes (trio b g u))) o x)
-      (sym (ap (inScope k t (trio b g u)) (later-among b (more g (more u none)) (k + 1) t o e ∙ first-among g (more u none) (k + 1 + size b) t o d) ∙ scope-fault b g u k t r e d))
-      (fell-scope f k (k + (1 + sizes (trio b g u))) (trio b g u) o true r (fromFault (scopeAt k (trio b g u)) r) n (omega arith) (fell-wider (omega arith) (omega arith) w) (z .0) (z .1))
+      (sym (ap (inScope z k t (trio b g u)) (later-among b (more g u) true y (k + 1) t o e ∙ first-among g u true y (k + 1 + size b) t o d)
+      ∙ in-parts z b g u k t r false true (le-ltb t (k + 1 + size b) e) (lt-ltb t (k + 1 + size b + size g) d)))
+      (fell-scope f z k (k + (1 + sizes (trio b g u))) (trio b g u) o true r (fromFault (scopeAt k (trio b g u)) r) n (omega arith) (fell-wider (omega arith) (omega arith) w) (x .0) (x .1))
 
-  fell-undo : k + 1 + size b + size g ≤ t → t < k + 1 + size b + size g + size u
-      → Fell f true (k + 1 + size b + size g) (k + 1 + size b + size g + size u) o (stepIn inPlace u (k + 1 + size b + size g) t o)
-      → Fell f false k Whole o (inScope k t (trio b g u) (stepAmong inPlace (trio b g u) (k + 1) t o))
-  unfolding size fromUndo
-  fell-undo e d w =
-      let r = stepIn inPlace u (k + 1 + size b + size g) t o in
-      subst (λ (x : Outcome). Fell f false k (k + (1 + sizes (trio b g u))) o x)
-      (sym (ap (inScope k t (trio b g u)) (later-among b (more g (more u none)) (k + 1) t o (omega arith) ∙ (later-among g (more u none) (k + 1 + size b) t o e ∙ first-among u none (k + 1 + size b + size g) t o d))
-      ∙ scope-undo b g u k t r e))
-      (record {
-        falls = falls-wider (omega arith) (omega arith) (w .falls);
-        root = w .root;
-        plain = subst (λ (x : Result). isPlain (fromUndo (record { result = x; order = r .order; log = r .log }) .result) ≡ true) (sym (w .out refl)) refl;
-        out = λ y. absurd (false≢true y);
-      })
+-- in the undo part of a scope that has one
+fell-undo : (f : ℕ → ℕ) (b g u : Act) (y k t : ℕ) (o : Order) → k + 1 + size b + size g ≤ t → t < k + 1 + size b + size g + size u
+    → Fell f true (k + 1 + size b + size g) (k + 1 + size b + size g + size u) o (stepIn inPlace u (k + 1 + size b + size g) (k + 1 + size b + size g) t o)
+    → Fell f false k (k + (1 + sizes (trio b g (more u none)))) o (inScope true k t (trio b g (more u none)) (stepAmong inPlace (trio b g (more u none)) true y (k + 1) t o))
+unfolding size fromUndo
+fell-undo f b g u y k t o e d w =
+    let r = stepIn inPlace u (k + 1 + size b + size g) (k + 1 + size b + size g) t o in
+    subst (λ (x : Outcome). Fell f false k (k + (1 + sizes (trio b g (more u none)))) o x)
+    (sym (ap (inScope true k t (trio b g (more u none)))
+    (later-among b (more g (more u none)) true y (k + 1) t o (omega arith)
+    ∙ (later-among g (more u none) true y (k + 1 + size b) t o e ∙ first-among u none true y (k + 1 + size b + size g) t o d))
+    ∙ in-parts true b g (more u none) k t r false false (le-ltb t (k + 1 + size b) (omega arith)) (le-ltb t (k + 1 + size b + size g) e)))
+    (record {
+      falls = falls-wider (omega arith) (omega arith) (w .falls);
+      root = w .root;
+      plain = subst (λ (x : Result). isPlain (fromUndo (record { result = x; order = r .order; log = r .log }) .result) ≡ true) (sym (w .out refl)) refl;
+      out = λ y. absurd (false≢true y);
+    })
 
 -- a scope takes no message
-scope-no-take : (within : Acts) (k : ℕ) → isTake (doingOf scope within k) ≡ false
+scope-no-take : (z : Bool) (within : Acts) (k : ℕ) → isTake (doingOf (scope z) within k) ≡ false
 unfolding isTake doingOf
-scope-no-take within k = refl
+scope-no-take z within k = refl
 
 -- by other names
 take-as : {x y : Doing} → x ≡ y → isTake x ≡ true → isTake y ≡ true
 take-as e h = subst (λ (v : Doing). isTake v ≡ true) e h
 
-among-as : (f : ℕ → ℕ) (h : Bool) (l : Acts) (c t : ℕ) (o : Order) {e : ℕ} {r : Outcome} → endWith l c t ≡ e → stepAmong inPlace l c t o ≡ r → Fell f h c e o r
-    → Fell f h c (endWith l c t) o (stepAmong inPlace l c t o)
-among-as f h l c t o {e} {r} x y w =
-    subst (λ (z : Outcome). Fell f h c (endWith l c t) o z) (sym y) (subst (λ (z : ℕ). Fell f h c z o r) (sym x) w)
+among-as : (f : ℕ → ℕ) (h : Bool) (l : Acts) (w : Bool) (q c t : ℕ) (o : Order) {e : ℕ} {r : Outcome} → endWith l c t ≡ e → stepAmong inPlace l w q c t o ≡ r → Fell f h c e o r
+    → Fell f h c (endWith l c t) o (stepAmong inPlace l w q c t o)
+among-as f h l w q c t o {e} {r} x y z =
+    subst (λ (i : Outcome). Fell f h c (endWith l c t) o i) (sym y) (subst (λ (i : ℕ). Fell f h c i o r) (sym x) z)
 
-in-scope : (b g u : Act) (k t : ℕ) (o : Order) → k < t → stepIn inPlace (act scope (trio b g u)) k t o ≡ inScope k t (trio b g u) (stepAmong inPlace (trio b g u) (k + 1) t o)
+in-scope : (z : Bool) (b g : Act) (u : Acts) (q k t : ℕ) (o : Order) → k < t
+    → stepIn inPlace (act (scope z) (trio b g u)) q k t o ≡ inScope z k t (trio b g u) (stepAmong inPlace (trio b g u) true q (k + 1) t o)
 unfolding combines arms kind
-in-scope b g u k t o e = deeper scope (trio b g u) k t o e
+in-scope z b g u q k t o e = deeper (scope z) (trio b g u) q k t o e
 
 mutual
   unfolding size kind rank
 
-  pub step-falls : {f : ℕ → ℕ} {h r b : Bool} {a : Act} {k : ℕ} → Formed h r a → Knows f a k → (t : ℕ) (o : Order) → Waits (o .marks) a k t b → isTake (doingIn a k t) ≡ true → Deep a k t
-      → Fell f h k (k + size a) o (stepIn inPlace a k t o)
-  step-falls {f} {h} (formed-part {own = own} {within = within} s g n l) (knows {k = k} x y z w) t o (waits-itself {b = b} e q) i d =
-      subst (λ (r : Outcome). Fell f h k (k + (1 + sizes within)) o r) (sym (here own within k t o e ∙ raised-receive own within k o j))
+  pub step-falls : {f : ℕ → ℕ} {h r b : Bool} {a : Act} {k : ℕ} → Formed h r a → Knows f a k → (y t : ℕ) (o : Order) → Waits (o .marks) a k t b → isTake (doingIn a k t) ≡ true → Deep a k t
+      → Fell f h k (k + size a) o (stepIn inPlace a y k t o)
+  step-falls {f} {h} (formed-part {own = own} {within = within} s g n l) (knows {k = k} x y z w) y₀ t o (waits-itself {b = b} e q) i d =
+      subst (λ (r : Outcome). Fell f h k (k + (1 + sizes within)) o r) (sym (here own within y₀ k t o e ∙ raised-receive own within y₀ k o j))
       (record { falls = record { at = k; from = omega arith; to = omega arith; same = same-set k k idle (o .marks) (omega arith); less = down }; root = refl; plain = refl; out = λ u. refl })
     where
       j : isTake (doingOf own within k) ≡ true
@@ -624,30 +624,35 @@ mutual
       down =
           subst (λ (m : ℕ). rank (f k) (getD (set (o .marks) k idle) k 0) < rank (f k) m) (sym (receive-active own within k b (getD (o .marks) k 0) j not-arm q))
           (omega (arith, rank-set (f k) k idle (o .marks), active-some (f k)))
-  step-falls {f} {h} (formed-part {own = own} {within = within} s g n l) (knows {k = k} x y z w) t o (waits-within e q) i d =
-      part-falls f h own within k t o s x z e q (subst (λ (u : Doing). isTake u ≡ true) (doing-within own within k t e) i)
-      (λ c. among-falls l w t o q (subst (λ (u : Doing). isTake u ≡ true) (doing-within own within k t e) i) c)
-  step-falls {f} {h} (formed-scope {b = b} {f = g} {u = u} hb hg hu) (knows {k = k} x y z (knows-more kb (knows-more kg (knows-more ku knows-none)))) t o (waits-itself e q) i d =
-      absurd (false≢true (sym (scope-no-take (trio b g u) k) ∙ subst (λ (v : Doing). isTake v ≡ true) (ap (λ (v : ℕ). doingIn (act scope (trio b g u)) k v) (sym e) ∙ doing-here scope (trio b g u) k) i))
-  step-falls {f} {h} (formed-scope {b = b} {f = g} {u = u} hb hg hu) (knows {k = k} x y z (knows-more kb (knows-more kg (knows-more ku knows-none)))) t o (waits-within e (waits-first v w)) i d =
-      subst (λ (r : Outcome). Fell f false k (k + (1 + sizes (trio b g u))) o r) (sym (in-scope b g u k t o e))
-      (fell-body f b g u k t o x v (step-falls hb kb t o w (take-as (doing-within scope (trio b g u) k t e ∙ doing-among b (more g (more u none)) (k + 1) t v) i) (no-arm (k + 1) t hb)))
-  step-falls {f} {h} (formed-scope {b = b} {f = g} {u = u} hb hg hu) (knows {k = k} x y z (knows-more kb (knows-more kg (knows-more ku knows-none)))) t o (waits-within e (waits-later v (waits-first v₁ w))) i d =
-      subst (λ (r : Outcome). Fell f false k (k + (1 + sizes (trio b g u))) o r) (sym (in-scope b g u k t o e))
-      (fell-fault f b g u k t o x v v₁
-      (step-falls hg kg t o w (take-as (doing-within scope (trio b g u) k t e ∙ (doing-later b (more g (more u none)) (k + 1) t v ∙ doing-among g (more u none) (k + 1 + size b) t v₁)) i) (no-arm (k + 1 + size b) t hg)))
-  step-falls {f} {h} (formed-scope {b = b} {f = g} {u = u} hb hg hu) (knows {k = k} x y z (knows-more kb (knows-more kg (knows-more ku knows-none)))) t o (waits-within e (waits-later v (waits-later v₁ (waits-first v₂ w)))) i d =
-      subst (λ (r : Outcome). Fell f false k (k + (1 + sizes (trio b g u))) o r) (sym (in-scope b g u k t o e))
-      (fell-undo f b g u k t o x v₁ v₂
-      (step-falls hu ku t o w
-      (take-as (doing-within scope (trio b g u) k t e ∙ (doing-later b (more g (more u none)) (k + 1) t v ∙ (doing-later g (more u none) (k + 1 + size b) t v₁ ∙ doing-among u none (k + 1 + size b + size g) t v₂))) i)
-      (no-arm (k + 1 + size b + size g) t hu)))
+  step-falls {f} {h} (formed-part {own = own} {within = within} s g n l) (knows {k = k} x y z w) y₀ t o (waits-within e q) i d =
+      part-falls f h own within y₀ k t o s x z e q (subst (λ (u : Doing). isTake u ≡ true) (doing-within own within k t e) i)
+      (λ c. among-falls l w (isScope own) y₀ t o q (subst (λ (u : Doing). isTake u ≡ true) (doing-within own within k t e) i) c)
+  step-falls {f} {h} (formed-scope {v = v₀} {b = b} {f = g} {u = u} hb hg hu) (knows {k = k} x y z (knows-more kb (knows-more kg ku))) y₀ t o (waits-itself e q) i d =
+      absurd (false≢true (sym (scope-no-take v₀ (trio b g u) k) ∙ subst (λ (v : Doing). isTake v ≡ true) (ap (λ (v : ℕ). doingIn (act (scope v₀) (trio b g u)) k v) (sym e) ∙ doing-here (scope v₀) (trio b g u) k) i))
+  step-falls {f} {h} (formed-scope {v = v₀} {b = b} {f = g} {u = u} hb hg hu) (knows {k = k} x y z (knows-more kb (knows-more kg ku))) y₀ t o (waits-within e (waits-first v w)) i d =
+      subst (λ (r : Outcome). Fell f false k (k + (1 + sizes (trio b g u))) o r) (sym (in-scope v₀ b g u y₀ k t o e))
+      (fell-body f v₀ b g u y₀ k t o x v (step-falls hb kb (k + 1) t o w (take-as (doing-within (scope v₀) (trio b g u) k t e ∙ doing-among b (more g u) (k + 1) t v) i) (no-arm (k + 1) t hb)))
+  step-falls {f} {h} (formed-scope {v = v₀} {b = b} {f = g} {u = u} hb hg hu) (knows {k = k} x y z (knows-more kb (knows-more kg ku))) y₀ t o (waits-within e (waits-later v (waits-first v₁ w))) i d =
+      subst (λ (r : Outcome). Fell f false k (k + (1 + sizes (trio b g u))) o r) (sym (in-scope v₀ b g u y₀ k t o e))
+      (fell-fault f v₀ b g u y₀ k t o x v v₁
+      (step-falls hg kg (k + 1 + size b) t o w (take-as (doing-within (scope v₀) (trio b g u) k t e ∙ (doing-later b (more g u) (k + 1) t v ∙ doing-among g u (k + 1 + size b) t v₁)) i) (no-arm (k + 1 + size b) t hg)))
+  step-falls {f} {h} (formed-scope {v = v₀} {b = b} {f = g} {u = u} hb hg hu) (knows {k = k} x y z (knows-more kb (knows-more kg ku))) y₀ t o (waits-within e (waits-later v (waits-later v₁ w))) i d =
+      subst (λ (r : Outcome). Fell f false k (k + (1 + sizes (trio b g u))) o r) (sym (in-scope v₀ b g u y₀ k t o e))
+      (rest-falls hu b g k ku y₀ t o v₁ w (take-as (doing-within (scope v₀) (trio b g u) k t e ∙ (doing-later b (more g u) (k + 1) t v ∙ doing-later g u (k + 1 + size b) t v₁)) i))
 
-  among-falls : {f : ℕ → ℕ} {h r b : Bool} {l : Acts} {c : ℕ} → FormedIn h r l → KnowsIn f l c → (t : ℕ) (o : Order) → WaitsIn (o .marks) l c t b → isTake (doingAmong l c t) ≡ true
+  -- in what stands after the fault part of a scope
+  rest-falls : {f : ℕ → ℕ} {z c : Bool} {u : Acts} → FormedRest z u → (b g : Act) (k : ℕ) → KnowsIn f u (k + 1 + size b + size g) → (y₀ t : ℕ) (o : Order) → k + 1 + size b + size g ≤ t
+      → WaitsIn (o .marks) u (k + 1 + size b + size g) t c → isTake (doingAmong u (k + 1 + size b + size g) t) ≡ true
+      → Fell f false k (k + (1 + sizes (trio b g u))) o (inScope z k t (trio b g u) (stepAmong inPlace (trio b g u) true y₀ (k + 1) t o))
+  rest-falls {f} (formed-undo {u = u} hu) b g k (knows-more ku knows-none) y₀ t o e (waits-first v w) i =
+      fell-undo f b g u y₀ k t o e v
+      (step-falls hu ku (k + 1 + size b + size g) t o w (take-as (doing-among u none (k + 1 + size b + size g) t v) i) (no-arm (k + 1 + size b + size g) t hu))
+
+  among-falls : {f : ℕ → ℕ} {h r b : Bool} {l : Acts} {c : ℕ} → FormedIn h r l → KnowsIn f l c → (z : Bool) (y₀ t : ℕ) (o : Order) → WaitsIn (o .marks) l c t b → isTake (doingAmong l c t) ≡ true
       → (r && isPart l c t) ≡ false
-      → Fell f h c (endWith l c t) o (stepAmong inPlace l c t o)
-  among-falls {f} {h} {r} (formed-more {a = a} {l = l} x y) (knows-more {c = c} kx ky) t o (waits-first u w) i d =
-      among-as f h (more a l) c t o (first-end a l c t u) (first-among a l c t o u) (step-falls x kx t o w (take-as (doing-among a l c t u) i) (deep-first r l c t x d))
-  among-falls {f} {h} {r} (formed-more {a = a} {l = l} x y) (knows-more {c = c} kx ky) t o (waits-later u w) i d =
-      among-as f h (more a l) c t o (later-end a l c t u) (later-among a l c t o u)
-      (fell-wider (omega arith) (omega arith) (among-falls y ky t o w (take-as (doing-later a l c t u) i) (deep-rest r a l c t d)))
+      → Fell f h c (endWith l c t) o (stepAmong inPlace l z y₀ c t o)
+  among-falls {f} {h} {r} (formed-more {a = a} {l = l} x y) (knows-more {c = c} kx ky) z y₀ t o (waits-first u w) i d =
+      among-as f h (more a l) z y₀ c t o (first-end a l c t u) (first-among a l z y₀ c t o u) (step-falls x kx (cond z c y₀) t o w (take-as (doing-among a l c t u) i) (deep-first r l c t x d))
+  among-falls {f} {h} {r} (formed-more {a = a} {l = l} x y) (knows-more {c = c} kx ky) z y₀ t o (waits-later u w) i d =
+      among-as f h (more a l) z y₀ c t o (later-end a l c t u) (later-among a l z y₀ c t o u)
+      (fell-wider (omega arith) (omega arith) (among-falls y ky z y₀ t o w (take-as (doing-later a l c t u) i) (deep-rest r a l c t d)))

@@ -8,7 +8,7 @@ use lib.ListN.{length, getD, set, length-set}
 use lib.Seq.{getD-set-same}
 use lib.Dec.{ltb}
 use borrow.Author.Tests.{ltb-true, ltb-false}
-use Rattle.plan.specs.Tree.{Exp, Own, empty, send, receive, set as setting, raise, leave, choose, repeat, sequence, flow, pick, scope, arm, kind, Act, act, Acts, more, Plan, size, sizes, count}
+use Rattle.plan.specs.Tree.{Exp, Own, empty, send, receive, set as setting, raise, leave, choose, repeat, sequence, flow, pick, scope, arm, kind, isArm, isScope, Act, act, Acts, more, Plan, size, sizes, count}
 use Rattle.order.specs.declared.Order.{Order}
 use Rattle.order.specs.declared.End.the-variants.{None}
 use Rattle.order.specs.State.{root, inner, idle, active, inside, withMarks, marked, binding}
@@ -17,14 +17,14 @@ use Rattle.order.specs.Expression.{Value, fault, value, evaluate, isTrue}
 use Rattle.order.specs.Begin.{Begun, begin, beginInTurn, beginAfter, part, partAt, beginPart, cleared, quiet}
 use Rattle.order.specs.declared.Way.{Way as Result}
 use Rattle.order.specs.declared.Way.the-variants.{Running as running, Over as over, Raising as raising, Leaving as leaving, Undone as undone, UndoRaising as undoRaising}
-use Rattle.order.specs.Scope.{Outcome, runs, after, begunIn, whereOver, isScope}
+use Rattle.order.specs.Scope.{Outcome, runs, after, begunIn, whereOver}
 use Rattle.order.specs.Acting.{finishes, raises, leaves, orRaises, enters, again, repeats, allBound, itself}
-use Rattle.undoing.specs.Ties.{isName, Place, nameOf, endTold}
+use Rattle.undoing.specs.Ties.{isName, Place, endTold}
 use Rattle.undoing.proofs.Parts.{decide}
 use Rattle.undoing.proofs.Accounts.{phase}
-use Rattle.undoing.proofs.Moves.{Everywhere, Before, Spot, move-raise, order-left}
+use Rattle.undoing.proofs.Moves.{Everywhere, Fore, Spot, move-raise, order-left}
 use Rattle.undoing.proofs.Marks.{isDoer, Quiet, Kept, holding, Run, run-awaits, run-one, One, one-here, one-later, able-part, quiet-part, quiet-agree, quiet-join, agree-below, agree-above, kept-wider, kept-then, kept-itself, kept-set, quiet-stoppable}
-use Rattle.undoing.proofs.Orders.{momentOf, fairAfter, Fit, fit-kept, fit-marked, Does, does-then, does-nothing, does-still, does-one, plain-marked, isArm, least, SitsIn, sits-none, sits-more}
+use Rattle.undoing.proofs.Orders.{momentOf, fairAfter, Fit, fit-kept, fit-marked, Does, does-then, does-nothing, does-still, does-one, plain-marked, least, SitsIn, sits-none, sits-more}
 use Rattle.undoing.proofs.Beginning.{Begins, begins, begins-in-turn, begins-nothing, quiet-set, quiet-cons}
 use Rattle.undoing.proofs.Breaking.{cleared-kept, cleared-quiet}
 use Rattle.undoing.proofs.Scoping.{Acted, RunAs}
@@ -190,7 +190,7 @@ module _ (p : Plan) where
       }
 
   -- a repeat has another turn
-  go-repeats : {x : Place} (e : Exp) (within : Acts) (k : ℕ) (o : Order) → Before (nameOf x) k → Fit x o → SitsIn p x within (k + 1) → 1 ≤ count within → isName p (inner k) ≡ false
+  go-repeats : {x : Place} (e : Exp) (within : Acts) (k : ℕ) (o : Order) → Fore x k → Fit x o → SitsIn p x within (k + 1) → 1 ≤ count within → isName p (inner k) ≡ false
       → Quiet (o .marks) (k + 1) (sizes within) → k + (1 + sizes within) ≤ length (o .marks)
       → Acted k (1 + sizes within) o (GoAs p (act (repeat e) within) k o) (repeats k within o)
   unfolding repeats kind
@@ -214,7 +214,7 @@ module _ (p : Plan) where
           (fit-marked x k inside (withMarks ms o) d (fit-kept x k o (withMarks ms o) d (omega arith) refl w f))
 
   -- a choose enters one of its two
-  go-enters : {x : Place} (e : Exp) (within : Acts) (k i : ℕ) (o : Order) → Before (nameOf x) k → Fit x o → SitsIn p x within (k + 1) → i < count within → isName p (inner k) ≡ false
+  go-enters : {x : Place} (e : Exp) (within : Acts) (k i : ℕ) (o : Order) → Fore x k → Fit x o → SitsIn p x within (k + 1) → i < count within → isName p (inner k) ≡ false
       → Quiet (o .marks) (k + 1) (sizes within) → k + (1 + sizes within) ≤ length (o .marks)
       → Acted k (1 + sizes within) o (GoAs p (act (choose e) within) k o) (enters k o (beginPart i within (k + 1) (marked k inside o .marks)))
   unfolding kind
@@ -239,36 +239,36 @@ module _ (p : Plan) where
   acts-or-raises own within k o f (value n) u i s z q g = g n
 
   -- An activity other than a scope or an arm has its step.
-  pub acts-itself : {x : Place} (own : Own) (within : Acts) (k : ℕ) (o : Order) → isScope own ≡ false → isArm own ≡ false → isDoer own ≡ true → least own ≤ count within
+  pub acts-itself : {x : Place} (own : Own) (within : Acts) (q₀ k : ℕ) (o : Order) → isScope own ≡ false → isArm own ≡ false → isDoer own ≡ true → least own ≤ count within
       → isName p (inner k) ≡ false
       → Spot p x k → Fit x o → SitsIn p x within (k + 1) → getD (o .marks) k 0 ≡ active → Quiet (o .marks) (k + 1) (sizes within) → k + (1 + sizes within) ≤ length (o .marks)
-      → Acted k (1 + sizes within) o (RunAs p (act own within) k k o) (itself own within k o)
+      → Acted k (1 + sizes within) o (RunAs p (act own within) k k o) (itself own within q₀ k o)
   unfolding itself kind least isDoer
-  acts-itself empty within k o s a i c z u f l e q m = absurd (false≢true i)
-  acts-itself (send x y vs) within k o s a i c z u f l e q m = go (allBound o vs)
+  acts-itself empty within q₀ k o s a i c z u f l e q m = absurd (false≢true i)
+  acts-itself (send x y vs) within q₀ k o s a i c z u f l e q m = go (allBound o vs)
     where
       go : (b : Bool) → Acted k (1 + sizes within) o (RunAs p (act (send x y vs) within) k k o) (cond b (finishes k o) (raises k o))
       go true = go-run k (go-finishes (send x y vs) within k o o refl refl (λ s j. (refl, refl)) z q (omega arith))
       go false = acts-raises (send x y vs) within k o u f s z q
-  acts-itself (receive x y vs) within k o s a i c z u f l e q m = go-run k (go-finishes (receive x y vs) within k o o refl refl (λ s j. (refl, refl)) z q (omega arith))
-  acts-itself (setting v x) within k o s a i c z u f l e q m =
+  acts-itself (receive x y vs) within q₀ k o s a i c z u f l e q m = go-run k (go-finishes (receive x y vs) within k o o refl refl (λ s j. (refl, refl)) z q (omega arith))
+  acts-itself (setting v x) within q₀ k o s a i c z u f l e q m =
       acts-or-raises (setting v x) within k o _ (evaluate x o) u f s z q
       (λ n. go-run k (go-finishes (setting v x) within k o (binding v n o) refl refl (bound-everywhere v n o) z q (omega arith)))
-  acts-itself raise within k o s a i c z u f l e q m = acts-raises raise within k o u f s z q
-  acts-itself leave within k o s a i c z u f l e q m = acts-leaves leave within k o
-  acts-itself (choose x) within k o s a i c z u f l e q m =
+  acts-itself raise within q₀ k o s a i c z u f l e q m = acts-raises raise within k o u f s z q
+  acts-itself leave within q₀ k o s a i c z u f l e q m = acts-leaves leave within k o
+  acts-itself (choose x) within q₀ k o s a i c z u f l e q m =
       acts-or-raises (choose x) within k o _ (evaluate x o) u f s z q (λ n. go-run k (go-enters x within k (cond (isTrue n) 0 1) o (u .before) f l (omega (arith, first-two (isTrue n))) z q m))
     where
       first-two : (b : Bool) → cond b 0 1 < 2
       first-two true = omega arith
       first-two false = omega arith
-  acts-itself (repeat x) within k o s a i c z u f l e q m = acts-or-raises (repeat x) within k o _ (evaluate x o) u f s z q (λ n. go (isTrue n))
+  acts-itself (repeat x) within q₀ k o s a i c z u f l e q m = acts-or-raises (repeat x) within k o _ (evaluate x o) u f s z q (λ n. go (isTrue n))
     where
       go : (b : Bool) → Acted k (1 + sizes within) o (RunAs p (act (repeat x) within) k k o) (elim b [ true ↦ repeats k within o | false ↦ finishes k o ])
       go true = go-run k (go-repeats x within k o (u .before) f l c z q m)
       go false = go-run k (go-finishes (repeat x) within k o o refl refl (λ s j. (refl, refl)) z q (omega arith))
-  acts-itself sequence within k o s a i c z u f l e q m = absurd (false≢true i)
-  acts-itself flow within k o s a i c z u f l e q m = absurd (false≢true i)
-  acts-itself pick within k o s a i c z u f l e q m = acts-runs (act pick within) k _ k o (run-awaits s i e q)
-  acts-itself scope within k o s a i c z u f l e q m = absurd (false≢true (sym s))
-  acts-itself (arm x y vs) within k o s a i c z u f l e q m = absurd (false≢true (sym a))
+  acts-itself sequence within q₀ k o s a i c z u f l e q m = absurd (false≢true i)
+  acts-itself flow within q₀ k o s a i c z u f l e q m = absurd (false≢true i)
+  acts-itself pick within q₀ k o s a i c z u f l e q m = acts-runs (act pick within) k _ k o (run-awaits s i e q)
+  acts-itself (scope v) within q₀ k o s a i c z u f l e q m = absurd (false≢true (sym s))
+  acts-itself (arm x y vs) within q₀ k o s a i c z u f l e q m = absurd (false≢true (sym a))

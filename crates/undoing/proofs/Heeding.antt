@@ -2,9 +2,10 @@
 use Prim.Native.Nat.{ℕ, _+_, _≤_}
 use native.Mathlib.Omega.{arith}
 use mathlib.Core.Path.{_≡_, refl, sym, ap, subst, _∙_}
-use mathlib.Core.Bool.{true, false, cond, false≢true}
+use mathlib.Core.Bool.{true, false, cond, false≢true, Bool, not}
 use mathlib.Core.List.{List, [], _∷_, _++_}
 use lib.ListN.{length}
+use lib.Dec.{eqb}
 use Rattle.plan.specs.Found.{Found, found}
 use Rattle.plan.specs.Read.{readPlan}
 use Rattle.plan.specs.Tree.{Plan, size}
@@ -14,7 +15,7 @@ use Rattle.order.specs.declared.End.{End}
 use Rattle.machine.specs.declared.State.{State}
 use Rattle.machine.specs.declared.Tally.{Tally}
 use Rattle.order.specs.Lists.{only}
-use Rattle.order.specs.State.{Name, root, inner, markOf}
+use Rattle.order.specs.State.{Name, root, inner, markOf, idle}
 use Rattle.machine.specs.State.{fresh}
 use Rattle.order.specs.Event.{Event, started, began, closed, faulted, stopped, ended, raised, left}
 use Rattle.order.specs.Scope.{isOpen, rootOf}
@@ -23,14 +24,16 @@ use Rattle.order.specs.declared.End.the-variants.{None}
 use Rattle.order.specs.Judging.{following, stepOrder}
 use Rattle.machine.specs.Calls.{loadedAs, load, post, collect, dropAt, Stepped, doingAt, step, Call, posting, collecting, dropping, stepping}
 use Rattle.undoing.specs.History.{logOf, history}
-use Rattle.undoing.specs.Demand3.{mayTurn}
-use Rattle.undoing.specs.Ties.{isName, fits, Place, bodyOf, faultOf, undoOf, placeOf, Due, nothing, fault, end, dueFirst, dueSecond, dueEnded, due, isFaultOf, isEndOf, heeds, isNothing, heedsAfter, FaultsTold, isRaised}
+use Rattle.undoing.specs.Demand3.{mayTurn, isLeft}
+use Rattle.undoing.specs.Ties.{isName, fits, Place, bodyOf, faultOf, undoOf, placeOf, Due, nothing, fault, end, dueFirst, dueSecond, dueEnded, due, isFaultOf, isEndOf, heeds, isNothing, heedsAfter, FaultsTold, isRaised, seen, placeAfter, placeNow}
 use Rattle.undoing.proofs.Parts.{both, same-itself}
 use Rattle.undoing.proofs.Accounts.{accountOf, left-unfinished}
 use Rattle.undoing.proofs.Moves.{HoldsAt}
 use Rattle.undoing.proofs.Orders.{listOf, momentOf, onto, does-nothing}
 use Rattle.undoing.proofs.Roots.{Awaited, Standing}
 use Rattle.undoing.proofs.Planning.{Promised, promised}
+use Rattle.undoing.proofs.Seats.{Seat}
+use Rattle.undoing.proofs.Chains.{place-named, seen-same}
 use Rattle.undoing.proofs.Shapes.{isGrave, Calm, Handler, in-fault, in-undo, Shape, shape-calm, shape-fault, shape-end-fault, shape-end, shape-lost, OrderShape, shaped, out, order-shape, start-calm}
 use Rattle.undoing.proofs.Fitting.{standing-fits}
 use Rattle.undoing.proofs.Told.{told}
@@ -52,9 +55,9 @@ clear-is (end s) e = absurd (false≢true e)
 
 -- a raise has something due after it
 first-due : (q : Place) → isNothing (dueFirst q) ≡ false
-first-due (bodyOf n m) = refl
-first-due (faultOf n m) = refl
-first-due (undoOf n m) = refl
+first-due (bodyOf n ns m) = refl
+first-due (faultOf n ns m) = refl
+first-due (undoOf n ns m) = refl
 
 -- so that where nothing is due, the newest event is no raise
 pub clear-raised : (p : Plan) (past : List Event) → Clear p past → isRaised past ≡ false
@@ -66,7 +69,7 @@ clear-raised p (closed k ∷ past) h = refl
 clear-raised p (faulted n ∷ past) h = refl
 clear-raised p (stopped k ∷ past) h = refl
 clear-raised p (ended n ∷ past) h = refl
-clear-raised p (raised k ∷ past) h = absurd (false≢true (sym (first-due (placeOf p k)) ∙ h))
+clear-raised p (raised k ∷ past) h = absurd (false≢true (sym (first-due (placeAfter p past k)) ∙ h))
 clear-raised p (left ∷ past) h = refl
 
 -- and nothing is due after an end either
@@ -79,7 +82,7 @@ clear-ended p (closed k ∷ past) h = refl
 clear-ended p (faulted n ∷ past) h = refl
 clear-ended p (stopped k ∷ past) h = refl
 clear-ended p (ended n ∷ past) h = refl
-clear-ended p (raised k ∷ past) h = absurd (false≢true (sym (first-due (placeOf p k)) ∙ h))
+clear-ended p (raised k ∷ past) h = absurd (false≢true (sym (first-due (placeAfter p past k)) ∙ h))
 clear-ended p (left ∷ past) h = refl
 
 -- an event that is no fault, where nothing is due
@@ -113,56 +116,69 @@ unfolding heedsAfter
 heeds-append p [] m past h g = g
 heeds-append p (e ∷ l) m past h g = both (heeds (due p past) e) _ h (λ x y. rw (x, heeds-append p l m (e ∷ past) y g))
 
--- what is due after a raise in a part that a scope runs
-handler-first : (p : Plan) (t : ℕ) (n m : Name) → Handler p t n m → dueFirst (placeOf p t) ≡ end n
-handler-first p t n m (in-fault e) = ap dueFirst e
-handler-first p t n m (in-undo e) = ap dueFirst e
+-- which scopes an order's marks say are left running
+abbrev pub leftBy : Order → Name → Bool
+leftBy o n = not (eqb (markOf n o) idle)
 
-handler-second : (p : Plan) (t : ℕ) (n m : Name) (past : List Event) → Handler p t n m → dueSecond past (placeOf p t) ≡ cond (mayTurn m past) (fault m) nothing
-handler-second p t n m past (in-fault e) = ap (dueSecond past) e
-handler-second p t n m past (in-undo e) = ap (dueSecond past) e
+-- what is due after a raise in a part that a scope runs
+handler-first : (p : Plan) (t : ℕ) (φ : Name → Bool) (n m : Name) → Handler p t φ n m → dueFirst (seen φ (placeOf p t)) ≡ end n
+handler-first p t φ n m (in-fault e y) = ap (λ (q : Place). dueFirst (seen φ q)) e
+handler-first p t φ n m (in-undo e y) = ap dueFirst e
+
+handler-second : (p : Plan) (t : ℕ) (φ : Name → Bool) (n m : Name) (past : List Event) → Handler p t φ n m → dueSecond past (seen φ (placeOf p t)) ≡ cond (mayTurn m past) (fault m) nothing
+handler-second p t φ n m past (in-fault e y) = ap (λ (q : Place). dueSecond past (seen φ q)) e ∙ ap (λ (x : Name). cond (mayTurn x past) (fault x) nothing) y
+handler-second p t φ n m past (in-undo e y) = ap (dueSecond past) e ∙ ap (λ (x : Name). cond (mayTurn x past) (fault x) nothing) y
 
 -- whether a scope may turn is told by its mark
 may-turn : (p : Plan) (o : Order) (past : List Event) (n : Name) → HoldsAt p (momentOf p o) past → isName p n ≡ true → isOpen (markOf n o) ≡ mayTurn n past
 unfolding mayTurn
 may-turn p o past n h i = told (markOf n o) (listOf p n o) (accountOf p n past) (λ l. left-unfinished n past l) (h .ties n i) .opens
 
+-- the history sees the place that the marks do
+pub after-now : (p : Plan) → Seat p (rootOf p) → (t : ℕ) (o : Order) (past : List Event) → HoldsAt p (momentOf p o) past → placeAfter p past t ≡ seen (leftBy o) (placeOf p t)
+after-now p g t o past h =
+    seen-same p (λ n. isLeft n past) (leftBy o)
+    (λ n i. sym (told (markOf n o) (listOf p n o) (accountOf p n past) (λ l. left-unfinished n past l) (h .ties n i) .idles)) (placeOf p t) (place-named p g t)
+
 -- a log of its shape
-shape-heeds : (p : Plan) (t : ℕ) (o : Order) (l past : List Event) → HoldsAt p (momentOf p o) past → fits (placeOf p t) o ≡ true → Clear p past → Shape p t o l
+shape-heeds : (p : Plan) → Seat p (rootOf p) → (t : ℕ) (o : Order) (l past : List Event) → HoldsAt p (momentOf p o) past → fits (placeNow p o t) o ≡ true → Clear p past → Shape p t (leftBy o) o l
     → heedsAfter p past l ≡ true
 unfolding heedsAfter due dueEnded isFaultOf isEndOf
-shape-heeds p t o l past h f c (shape-calm x) = calm-heeds p l past x c
-shape-heeds p t o _ past h f c (shape-fault {n} {m} {l} x y) =
+shape-heeds p g t o l past h f c (shape-calm x) = calm-heeds p l past x c
+shape-heeds p g t o _ past h f c (shape-fault {n} {m} {ns} {l} x y) =
     rw (heeds-clear (due p past) (raised t) c refl, x, same-itself n, calm-heeds p l (faulted n ∷ raised t ∷ past) y refl)
-shape-heeds p t o _ past h f c (shape-end-fault {n} {m} {l} x i z y) =
+shape-heeds p g t o _ past h f c (shape-end-fault {n} {m} {l} x i z y) =
     rw (
       heeds-clear (due p past) (raised t) c refl,
-      handler-first p t n m x,
+      after-now p g t o past h,
+      handler-first p t (leftBy o) n m x,
       same-itself n,
-      handler-second p t n m past x,
+      handler-second p t (leftBy o) n m past x,
       sym (may-turn p o past m h i) ∙ z,
       same-itself m,
       calm-heeds p l (faulted m ∷ ended n ∷ raised t ∷ past) y refl,
     )
-shape-heeds p t o _ past h f c (shape-end {k} {m} {l} x i z y) =
+shape-heeds p g t o _ past h f c (shape-end {k} {m} {l} x i z y) =
     rw (
       heeds-clear (due p past) (raised t) c refl,
-      handler-first p t (inner k) m x,
+      after-now p g t o past h,
+      handler-first p t (leftBy o) (inner k) m x,
       same-itself (inner k),
-      calm-heeds p l (ended (inner k) ∷ raised t ∷ past) y (rw (handler-second p t (inner k) m past x, sym (may-turn p o past m h i) ∙ z) refl),
+      calm-heeds p l (ended (inner k) ∷ raised t ∷ past) y (rw (after-now p g t o past h, handler-second p t (leftBy o) (inner k) m past x, sym (may-turn p o past m h i) ∙ z) refl),
     )
-shape-heeds p t o _ past h f c (shape-lost {q} {l} x i z y) = absurd (false≢true (sym z ∙ (ap (λ (v : Place). fits v o) (sym x) ∙ f)))
+shape-heeds p g t o _ past h f c (shape-lost {q} {l} x i z y) = absurd (false≢true (sym z ∙ (ap (λ (v : Place). fits v o) (sym x) ∙ f)))
 
 -- the log of a step of an order
-order-shape-heeds : (p : Plan) (t : ℕ) (o : Order) (e : End) (l past : List Event) → HoldsAt p (momentOf p o) past → fits (placeOf p t) o ≡ true → Clear p past
-    → OrderShape p t o e l → heedsAfter p past l ≡ true
+order-shape-heeds : (p : Plan) → Seat p (rootOf p) → (t : ℕ) (o : Order) (e : End) (l past : List Event) → HoldsAt p (momentOf p o) past → fits (placeNow p o t) o ≡ true → Clear p past
+    → OrderShape p t (leftBy o) o e l → heedsAfter p past l ≡ true
 unfolding heedsAfter due dueEnded isFaultOf isEndOf
-order-shape-heeds p t o e l past h f c (shaped x y) = shape-heeds p t o l past h f c y
-order-shape-heeds p t o _ _ past h f c (out x z) =
+order-shape-heeds p g t o e l past h f c (shaped x y) = shape-heeds p g t o l past h f c y
+order-shape-heeds p g t o _ _ past h f c (out x z) =
     rw (
       heeds-clear (due p past) (raised t) c refl,
-      handler-first p t root root x,
-      handler-second p t root root past x,
+      after-now p g t o past h,
+      handler-first p t (leftBy o) root root x,
+      handler-second p t (leftBy o) root root past x,
       sym (may-turn p o past root h refl) ∙ z,
     )
 
@@ -173,7 +189,7 @@ module _ (p : Plan) (h : Promised p) where
 
   pub heeds-once : (actor : Actor) (t : ℕ) (o : Order) (past : List Event) → Fitting actor p t → Awaited p (o .marks) t → Standing p o → HoldsAt p (momentOf p o) past → Heeded past (acted actor p t o)
   heeds-once actor t o past y w st g c =
-      order-shape-heeds p t o (acted actor p t o .end) (acted actor p t o .log) past g (standing-fits p o t st w) c (order-shape actor p (h .seat) t o)
+      order-shape-heeds p (h .seat) t o (acted actor p t o .end) (acted actor p t o .log) past g (standing-fits p o t st w) c (order-shape actor p (h .seat) t (leftBy o) o (λ n i. refl))
 
   heeds-joined : (past : List Event) (m m′ : Moved) → m .end ≡ None → Heeded past m → Heeded (onto (m .log) past) m′ → Heeded past (following (m .log) m′)
   heeds-joined past m m′ e x y c = heeds-append p (m .log) (m′ .log) past (x c) (y (heeds-clears p (m .log) past (x c)))

@@ -61,7 +61,7 @@ isTake (sends p o vs) = false
 isTake (takes p o vs) = true
 isTake moves = false
 isTake cuts = false
-isTake (closes s) = false
+isTake (closes undo s) = false
 
 second-takes : (before : List Ready) (d : Doing) → isSecond before d ≡ true → isTake d ≡ true
 unfolding isSecond isTake
@@ -70,7 +70,7 @@ second-takes before (sends p o vs) e = e
 second-takes before (takes p o vs) e = refl
 second-takes before moves e = e
 second-takes before cuts e = e
-second-takes before (closes s) e = e
+second-takes before (closes undo s) e = e
 
 -- a raise stands in place of a receive or an arm
 abbrev pub Fitting : Actor → Plan → (t : ℕ) → Type 0
@@ -188,7 +188,7 @@ module _ (p : Plan) (h : Promised p) where
   pub passed-once : (actor : Actor) (t : ℕ) (o : Order) (past : List Event) → Awaited p (o .marks) t → Standing p o → HoldsAt p (momentOf p o) past
       → Passed p past (acted actor p t o)
   passed-once actor t o past w st g =
-      let m = root-mild p o past g in order-steps p (h .distinct) actor (h .seat) t o past w st (m .0) (m .1) g
+      let m = root-mild p o past g in order-steps p actor (h .seat) t o past w st (m .0) (m .1) g
 
   -- all of them
   module _ (Q : List Event → Moved → Type 0)

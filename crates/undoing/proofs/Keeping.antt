@@ -8,7 +8,7 @@ use lib.ListN.{length, getD, set, length-set}
 use lib.Seq.{getD-set-same}
 use lib.Dec.{eqb, ltb}
 use borrow.Author.Tests.{eqb-true, eqb-false, eq-eqb, ne-eqb, ltb-true, ltb-false, lt-ltb, le-ltb}
-use Rattle.plan.specs.Tree.{Own, empty, send, receive, set as setting, raise, leave, choose, repeat, sequence, flow, pick, scope, arm, kind, Act, act, Acts, none, more, Plan, size, sizes, count}
+use Rattle.plan.specs.Tree.{Own, empty, send, receive, set as setting, raise, leave, choose, repeat, sequence, flow, pick, scope, arm, kind, isArm, isPick, isScope, Act, act, Acts, none, more, Plan, size, sizes, count}
 use Rattle.order.specs.declared.Order.{Order}
 use Rattle.order.specs.declared.End.{End}
 use Rattle.order.specs.declared.End.the-variants.{None, Well, Handled, Failed, Left}
@@ -19,15 +19,15 @@ use Rattle.order.specs.Expression.{Value, fault, value, evaluate, isTrue}
 use Rattle.order.specs.Begin.{Begun, begin, beginAfter, part, partAt, beginPart, cleared, quiet}
 use Rattle.order.specs.declared.Way.{Way as Result}
 use Rattle.order.specs.declared.Way.the-variants.{Running as running, Over as over, Raising as raising, Leaving as leaving, Undone as undone, UndoRaising as undoRaising}
-use Rattle.order.specs.Scope.{Outcome, rootOf, runs, after, begunIn, whereOver, Scope, scopeAt, isScope, isOpen, forgetting, closing, turns, stop, faults, breaks, looksAgain, bodyOver, bodyRaised, undoOver, undoRaised, fromBody, partOver, partRaised, fromFault, fromUndo}
+use Rattle.order.specs.Scope.{Outcome, rootOf, runs, after, begunIn, whereOver, Scope, scopeAt, isOpen, forgetting, closing, turns, stop, faults, breaks, looksAgain, bodyOver, bodyRaised, undoOver, undoRaised, fromBody, partOver, partRaised, fromFault, fromUndo, goesThrough}
 use Rattle.order.specs.Acting.{finishes, raises, leaves, orRaises, enters, again, repeats, allBound, itself, isPart, arms, goesOn, joins, inScope, combines, stepIn, stepAmong, stepRoot, endOf, movedTo, Actor, replaces, performs, acted}
 use Rattle.machine.specs.Fit.{awaits}
 use Rattle.undoing.specs.Orderly.{isBeganOf}
-use Rattle.undoing.specs.Begun.{lasts, acts, ownsIn, ownsAmong, ownsAt, hasBegan, goesIn}
+use Rattle.undoing.specs.Begun.{lasts, acts, ownsIn, ownsAmong, ownsAt, hasBegan, goesIn, isScopeKind}
 use Rattle.undoing.proofs.Parts.{both, decide, some-append}
 use Rattle.undoing.proofs.Seats.{marking-length}
 use Rattle.undoing.proofs.Breaking.{cleared-kept}
-use Rattle.undoing.proofs.Orders.{isArm, least}
+use Rattle.undoing.proofs.Orders.{least}
 use Rattle.undoing.proofs.Places.{first-of, second-of}
 use Rattle.undoing.proofs.Waiting.{Waits, waits-itself, waits-within, WaitsIn, waits-first, waits-later}
 use Rattle.undoing.proofs.Roots.{Awaited, in-body, in-fault}
@@ -35,11 +35,44 @@ use Rattle.undoing.proofs.Truly.{or-case, began-in, began-neither, Up, 
 use Rattle.undoing.proofs.Lasting.{isRaising, part-began, after-began, owned-other, stay-marking, Goes, goes-runs, goes-where, goes-begun, goes-marked, goes-either, finishes-goes, Within, turns-goes, looks-goes, over-goes, undone-goes, part-goes, scope-within, stop-halts}
 
 -- a repeat and no other of these that are no scopes
-repeat-shifts : (n : ℕ) → eqb n 11 ≡ false → shifts n ≡ true → eqb n 7 ≡ true
-repeat-shifts n z s = or-case (eqb n 7) (eqb n 11) s (λ e. e) (λ e. absurd (false≢true (sym z ∙ e)))
+repeat-shifts : (n : ℕ) → isScopeKind n ≡ false → shifts n ≡ true → eqb n 7 ≡ true
+repeat-shifts n z s = or-case (eqb n 7) (isScopeKind n) s (λ e. e) (λ e. absurd (false≢true (sym z ∙ e)))
 
-still-shifts : (n : ℕ) → eqb n 11 ≡ false → eqb n 7 ≡ false → shifts n ≡ false
+still-shifts : (n : ℕ) → isScopeKind n ≡ false → eqb n 7 ≡ false → shifts n ≡ false
 still-shifts n z s = rw (s, z)
+
+-- the kind of a pick, and of an arm
+pub pick-kind : (own : Own) → isPick own ≡ true → kind own ≡ 10
+unfolding kind
+pick-kind empty e = absurd (false≢true e)
+pick-kind (send x y vs) e = absurd (false≢true e)
+pick-kind (receive x y vs) e = absurd (false≢true e)
+pick-kind (setting v x) e = absurd (false≢true e)
+pick-kind raise e = absurd (false≢true e)
+pick-kind leave e = absurd (false≢true e)
+pick-kind (choose x) e = absurd (false≢true e)
+pick-kind (repeat x) e = absurd (false≢true e)
+pick-kind sequence e = absurd (false≢true e)
+pick-kind flow e = absurd (false≢true e)
+pick-kind pick e = refl
+pick-kind (scope v) e = absurd (false≢true e)
+pick-kind (arm x y vs) e = absurd (false≢true e)
+
+arm-kind : (own : Own) → isArm own ≡ true → kind own ≡ 255
+unfolding kind
+arm-kind empty e = absurd (false≢true e)
+arm-kind (send x y vs) e = absurd (false≢true e)
+arm-kind (receive x y vs) e = absurd (false≢true e)
+arm-kind (setting v x) e = absurd (false≢true e)
+arm-kind raise e = absurd (false≢true e)
+arm-kind leave e = absurd (false≢true e)
+arm-kind (choose x) e = absurd (false≢true e)
+arm-kind (repeat x) e = absurd (false≢true e)
+arm-kind sequence e = absurd (false≢true e)
+arm-kind flow e = absurd (false≢true e)
+arm-kind pick e = absurd (false≢true e)
+arm-kind (scope v) e = absurd (false≢true e)
+arm-kind (arm x y vs) e = refl
 
 -- with more begun
 goes-in-more : (n y : ℕ) (a b : Bool) → (a ≡ true → b ≡ true) → goesIn n y a ≡ true → goesIn n y b ≡ true
@@ -65,7 +98,7 @@ begins-said (act (repeat e) within) l k ms h = rw (eq-eqb k k refl)
 begins-said (act sequence within) l k ms h = rw (eq-eqb k k refl)
 begins-said (act flow within) l k ms h = rw (eq-eqb k k refl)
 begins-said (act pick within) l k ms h = rw (eq-eqb k k refl)
-begins-said (act scope within) l k ms h = rw (eq-eqb k k refl)
+begins-said (act (scope v) within) l k ms h = rw (eq-eqb k k refl)
 begins-said (act (arm p o vs) within) l k ms h = absurd (false≢true (sym (h .0)))
 
 first-said : (l : Acts) (c : ℕ) (ms : List ℕ) → Arms false l → 1 ≤ count l → hasBegan c (beginPart 0 l c ms .log) ≡ true
@@ -84,21 +117,21 @@ module _ (t j : ℕ) where
   owns-itself : (own : Own) (within : Acts) (k : ℕ) → k ≡ t → ownsIn (act own within) k t j ≡ (eqb k j && acts (kind own))
   unfolding ownsIn
   owns-itself own within k e =
-      first-of (eqb k t) (eqb k j && acts (kind own)) (elim (eqb (kind own) 10 && isPart within (k + 1) t) [ true ↦ eqb k j | false ↦ ownsAmong within (k + 1) t j ]) (ownsIn (act own within) k t j) refl (eq-eqb k t e)
+      first-of (eqb k t) (eqb k j && acts (kind own)) (elim (isPick own && isPart within (k + 1) t) [ true ↦ eqb k j | false ↦ ownsAmong within (k + 1) t j ]) (ownsIn (act own within) k t j) refl (eq-eqb k t e)
 
   owns-else : (own : Own) (within : Acts) (k : ℕ) → (k ≡ t → ⊥)
-      → ownsIn (act own within) k t j ≡ elim (eqb (kind own) 10 && isPart within (k + 1) t) [ true ↦ eqb k j | false ↦ ownsAmong within (k + 1) t j ]
+      → ownsIn (act own within) k t j ≡ elim (isPick own && isPart within (k + 1) t) [ true ↦ eqb k j | false ↦ ownsAmong within (k + 1) t j ]
   unfolding ownsIn
   owns-else own within k e =
-      second-of (eqb k t) (eqb k j && acts (kind own)) (elim (eqb (kind own) 10 && isPart within (k + 1) t) [ true ↦ eqb k j | false ↦ ownsAmong within (k + 1) t j ]) (ownsIn (act own within) k t j) refl (ne-eqb k t e)
+      second-of (eqb k t) (eqb k j && acts (kind own)) (elim (isPick own && isPart within (k + 1) t) [ true ↦ eqb k j | false ↦ ownsAmong within (k + 1) t j ]) (ownsIn (act own within) k t j) refl (ne-eqb k t e)
 
-  owns-arm : (own : Own) (within : Acts) (k : ℕ) → (k ≡ t → ⊥) → (eqb (kind own) 10 && isPart within (k + 1) t) ≡ true
+  owns-arm : (own : Own) (within : Acts) (k : ℕ) → (k ≡ t → ⊥) → (isPick own && isPart within (k + 1) t) ≡ true
       → ownsIn (act own within) k t j ≡ eqb k j
-  owns-arm own within k e h = owns-else own within k e ∙ first-of (eqb (kind own) 10 && isPart within (k + 1) t) (eqb k j) (ownsAmong within (k + 1) t j) _ refl h
+  owns-arm own within k e h = owns-else own within k e ∙ first-of (isPick own && isPart within (k + 1) t) (eqb k j) (ownsAmong within (k + 1) t j) _ refl h
 
-  owns-within : (own : Own) (within : Acts) (k : ℕ) → (k ≡ t → ⊥) → (eqb (kind own) 10 && isPart within (k + 1) t) ≡ false
+  owns-within : (own : Own) (within : Acts) (k : ℕ) → (k ≡ t → ⊥) → (isPick own && isPart within (k + 1) t) ≡ false
       → ownsIn (act own within) k t j ≡ ownsAmong within (k + 1) t j
-  owns-within own within k e h = owns-else own within k e ∙ second-of (eqb (kind own) 10 && isPart within (k + 1) t) (eqb k j) (ownsAmong within (k + 1) t j) _ refl h
+  owns-within own within k e h = owns-else own within k e ∙ second-of (isPick own && isPart within (k + 1) t) (eqb k j) (ownsAmong within (k + 1) t j) _ refl h
 
   owns-first : (a : Act) (l : Acts) (c : ℕ) → ltb t (c + size a) ≡ true → ownsAmong (more a l) c t j ≡ ownsIn a c t j
   unfolding ownsIn
@@ -116,7 +149,7 @@ module _ (t j : ℕ) where
     owns-from (act own within) k h =
         decide (eqb k t)
         (λ e. both (eqb k j) (acts (kind own)) (sym (owns-itself own within k (eqb-true k t e)) ∙ h) (λ x y. let z = eqb-true k j x in omega arith))
-        (λ e. decide (eqb (kind own) 10 && isPart within (k + 1) t)
+        (λ e. decide (isPick own && isPart within (k + 1) t)
         (λ d. let z = eqb-true k j (sym (owns-arm own within k (eqb-false k t e) d) ∙ h) in omega arith)
         (λ d. let z = owns-in-from within (k + 1) (sym (owns-within own within k (eqb-false k t e) d) ∙ h) in omega arith))
 
@@ -128,7 +161,7 @@ module _ (t j : ℕ) where
   -- an arm's step is none of an arm
   arm-acts : (own : Own) → isArm own ≡ true → acts (kind own) ≡ false
   unfolding acts kind
-  arm-acts own h = rw (eqb-true (kind own) 12 h)
+  arm-acts own h = rw (arm-kind own h)
 
   arm-owns : (l : Acts) (c : ℕ) → Arms true l → isPart l c t ≡ true → ownsAmong l c t j ≡ false
   unfolding isPart size
@@ -149,7 +182,7 @@ module _ (f : ℕ → ℕ) where
   record Falls (b : ℕ) (o : Order) (r : Outcome) : Type 0 where
     truly : (j : ℕ) → lasts (f j) ≡ true → hasBegan j (r .log) ≡ true → Up (r .order .marks) j
     range : (j : ℕ) → hasBegan j (r .log) ≡ true → b ≤ j
-    stays : (j : ℕ) → eqb (f j) 11 ≡ false → hasBegan j (r .log) ≡ false → Stay (o .marks) (r .order .marks) j
+    stays : (j : ℕ) → isScopeKind (f j) ≡ false → hasBegan j (r .log) ≡ false → Stay (o .marks) (r .order .marks) j
     long : length (r .order .marks) ≡ length (o .marks)
     quits : isRaising (r .result) ≡ true → (j : ℕ) → hasBegan j (r .log) ≡ false
 
@@ -253,9 +286,9 @@ module _ (f : ℕ → ℕ) where
   pub record Steps (g : ℕ → Bool) (b : ℕ) (o : Order) (r : Outcome) : Type 0 where
     pub truly : (j : ℕ) → lasts (f j) ≡ true → hasBegan j (r .log) ≡ true → Up (r .order .marks) j
     pub range : (j : ℕ) → hasBegan j (r .log) ≡ true → b ≤ j
-    pub keeps : (j : ℕ) → eqb (f j) 11 ≡ false → g j ≡ false → hasBegan j (r .log) ≡ false → Up (r .order .marks) j
+    pub keeps : (j : ℕ) → isScopeKind (f j) ≡ false → g j ≡ false → hasBegan j (r .log) ≡ false → Up (r .order .marks) j
         → Up (o .marks) j × (eqb (f j) 7 ≡ false → getD (r .order .marks) j 0 ≡ getD (o .marks) j 0)
-    pub its : (j : ℕ) → eqb (f j) 11 ≡ false → g j ≡ true → hasBegan j (r .log) ≡ false → Up (r .order .marks) j
+    pub its : (j : ℕ) → isScopeKind (f j) ≡ false → g j ≡ true → hasBegan j (r .log) ≡ false → Up (r .order .marks) j
         → goesIn (f j) (getD (r .order .marks) j 0) (hasBegan (j + 1) (r .log)) ≡ true
     pub long : length (r .order .marks) ≡ length (o .marks)
     pub quits : isRaising (r .result) ≡ true → (j : ℕ) → hasBegan j (r .log) ≡ false
@@ -291,12 +324,12 @@ module _ (f : ℕ → ℕ) where
     steps-either {b} {o} false x y z d w q = subst (λ (r : Outcome). Steps g b o r) (sym d) q
 
     -- what stays after the step
-    keeps-then : {b : ℕ} {o : Order} {r : Outcome} (l : List Event) (o₁ : Order) (j : ℕ) → Steps g b o r → eqb (f j) 11 ≡ false → g j ≡ false
+    keeps-then : {b : ℕ} {o : Order} {r : Outcome} (l : List Event) (o₁ : Order) (j : ℕ) → Steps g b o r → isScopeKind (f j) ≡ false → g j ≡ false
         → hasBegan j (r .log ++ l) ≡ false
         → Stay (r .order .marks) (o₁ .marks) j → Up (o₁ .marks) j → Up (o .marks) j × (eqb (f j) 7 ≡ false → getD (o₁ .marks) j 0 ≡ getD (o .marks) j 0)
     keeps-then {r = r} l o₁ j w z y n s u = let k = w .keeps j z y (began-neither j (r .log) l n .0) (stay-up s u) in (k .0, λ q. s .same u ∙ k .1 q)
 
-    its-then : {b : ℕ} {o : Order} {r : Outcome} (l : List Event) (o₁ : Order) (j : ℕ) → Steps g b o r → eqb (f j) 11 ≡ false → g j ≡ true
+    its-then : {b : ℕ} {o : Order} {r : Outcome} (l : List Event) (o₁ : Order) (j : ℕ) → Steps g b o r → isScopeKind (f j) ≡ false → g j ≡ true
         → hasBegan j (r .log ++ l) ≡ false
         → Stay (r .order .marks) (o₁ .marks) j → Up (o₁ .marks) j → goesIn (f j) (getD (o₁ .marks) j 0) (hasBegan (j + 1) (r .log ++ l)) ≡ true
     its-then {r = r} l o₁ j w z y n s u =
@@ -305,7 +338,7 @@ module _ (f : ℕ → ℕ) where
 
     -- What follows in the same step; the step is not that of a repeat before b, which was set if it is set again.
     abbrev Free : (b : ℕ) → (r x : Outcome) → Type 0
-    Free b r x = (j : ℕ) → j + 1 ≡ b → eqb (f j) 11 ≡ false → shifts (f j) ≡ true → (g j ≡ false) × (Up (x .order .marks) j → Up (r .order .marks) j)
+    Free b r x = (j : ℕ) → j + 1 ≡ b → isScopeKind (f j) ≡ false → shifts (f j) ≡ true → (g j ≡ false) × (Up (x .order .marks) j → Up (r .order .marks) j)
 
     shift-case : {P : Type 0} (b j : ℕ) → ((j + 1 ≡ b → shifts (f j) ≡ false) → P) → (j + 1 ≡ b → shifts (f j) ≡ true → P) → P
     shift-case b j h k = decide (shifts (f j)) (λ t. decide (eqb (j + 1) b) (λ e. k (eqb-true (j + 1) b e) t) (λ e. h (λ d. absurd (eqb-false (j + 1) b e d)))) (λ t. h (λ d. t))
@@ -415,15 +448,15 @@ module _ (f : ℕ → ℕ) where
         go undoRaising d = steps-as r undoRaising (λ q. ap isRaising d) w
 
     -- what it makes of a step within it
-    scope-steps : (within : Acts) (k t : ℕ) (o : Order) (r : Outcome) → eqb (f k) 11 ≡ true → 3 ≤ count within → KnowsIn f within (k + 1)
+    scope-steps : (v : Bool) (within : Acts) (k t : ℕ) (o : Order) (r : Outcome) → isScopeKind (f k) ≡ true → 2 ≤ count within → KnowsIn f within (k + 1)
         → k + 1 + sizes within ≤ length (o .marks) → Steps g (k + 1) o r
-        → Steps g (k + 1) o (inScope k t within r)
+        → Steps g (k + 1) o (inScope v k t within r)
     unfolding inScope
-    scope-steps within k t o r q n y m w =
+    scope-steps v within k t o r q n y m w =
         let s = scopeAt k within in
         let h = scope-within f q n y in
-        steps-either (ltb t (partAt 1 within (k + 1))) (fromBody s r) (elim (ltb t (partAt 2 within (k + 1))) [ true ↦ fromFault s r | false ↦ fromUndo r ]) _ refl
-        (body-steps s (k + 1) (k + 1 + sizes within) h o r m w)
+        steps-either (ltb t (partAt 1 within (k + 1))) (elim (goesThrough v k r) [ true ↦ r | false ↦ fromBody s r ]) (elim (ltb t (partAt 2 within (k + 1))) [ true ↦ fromFault s r | false ↦ fromUndo r ]) _ refl
+        (steps-either (goesThrough v k r) r (fromBody s r) _ refl w (body-steps s (k + 1) (k + 1 + sizes within) h o r m w))
         (steps-either (ltb t (partAt 2 within (k + 1))) (fromFault s r) (fromUndo r) _ refl (fault-steps s (k + 1) (k + 1 + sizes within) h o r w) (undo-steps o r w))
 
     combines-steps : (own : Own) (within : Acts) (k t : ℕ) (o : Order) (r : Outcome) → f k ≡ kind own → needs own ≤ count within → KnowsIn f within (k + 1)
@@ -441,7 +474,8 @@ module _ (f : ℕ → ℕ) where
     combines-steps sequence within k t o r e n y m q w = goes-on-steps {e = k + 1 + sizes within} k active o _ r refl (λ s. q) w (λ o₁ d. follows-goes k t o₁ y (omega arith))
     combines-steps flow within k t o r e n y m q w = goes-on-steps {e = 0} k active o (joins k within) r refl (λ s. q) w (λ o₁ d. joins-goes k 0 within o₁)
     combines-steps pick within k t o r e n y m q w = goes-on-steps {e = 0} k inside o (finishes k) r refl (λ s. q) w (λ o₁ d. finishes-goes f k 0 o₁)
-    combines-steps scope within k t o r e n y m q w = scope-steps within k t o r (ap (λ (i : ℕ). eqb i 11) e) n y m w
+    combines-steps (scope true) within k t o r e n y m q w = scope-steps true within k t o r (ap isScopeKind e) (omega arith) y m w
+    combines-steps (scope false) within k t o r e n y m q w = scope-steps false within k t o r (ap isScopeKind e) n y m w
     combines-steps (arm a b vs) within k t o r e n y m q w = w
 
     -- nothing happens
@@ -513,18 +547,18 @@ module _ (f : ℕ → ℕ) where
         (λ u. rw (e, where-began (k + 1) (again k) (begunIn o₁ (beginPart 0 within (k + 1) (o₁ .marks))) (first-said within (k + 1) (o₁ .marks) a n)))
 
     -- its own step
-    itself-steps : (own : Own) (within : Acts) (k : ℕ) (o : Order) → f k ≡ kind own → needs own ≤ count within → Arms (eqb (kind own) 10) within
+    itself-steps : (own : Own) (within : Acts) (q₀ k : ℕ) (o : Order) → f k ≡ kind own → needs own ≤ count within → Arms (isPick own) within
         → KnowsIn f within (k + 1) → k + 1 + sizes within ≤ length (o .marks)
-        → (acts (kind own) ≡ true → g k ≡ true) → ((j : ℕ) → g j ≡ true → (j ≡ k) × (acts (kind own) ≡ true)) → Steps g (k + 1) o (itself own within k o)
+        → (acts (kind own) ≡ true → g k ≡ true) → ((j : ℕ) → g j ≡ true → (j ≡ k) × (acts (kind own) ≡ true)) → Steps g (k + 1) o (itself own within q₀ k o)
     unfolding itself needs least kind acts goesIn closing some isBeganOf
-    itself-steps empty within k o e n a y m q h = still-steps (k + 1) o (λ j z. false≢true (h j z .1))
-    itself-steps (send b c vs) within k o e n a y m q h =
+    itself-steps empty within q₀ k o e n a y m q h = still-steps (k + 1) o (λ j z. false≢true (h j z .1))
+    itself-steps (send b c vs) within q₀ k o e n a y m q h =
         decide (allBound o vs) (λ t. rw t (idle-steps k o (finishes k o) refl (λ j. refl) (λ j z. h j z .0))) (λ t. rw t (idle-steps k o (raises k o) refl (λ j. refl) (λ j z. h j z .0)))
-    itself-steps (receive b c vs) within k o e n a y m q h = idle-steps k o (finishes k o) refl (λ j. refl) (λ j z. h j z .0)
-    itself-steps (setting v x) within k o e n a y m q h = or-steps k o _ (evaluate x o) (λ j z. h j z .0) (λ i. idle-steps k o (finishes k (binding v i o)) refl (λ j. refl) (λ j z. h j z .0))
-    itself-steps raise within k o e n a y m q h = idle-steps k o (raises k o) refl (λ j. refl) (λ j z. h j z .0)
-    itself-steps leave within k o e n a y m q h = idle-steps k o (leaves k o) refl (λ j. refl) (λ j z. h j z .0)
-    itself-steps (choose x) within k o e n a y m q h = or-steps k o _ (evaluate x o) (λ j z. h j z .0) (λ z. enters-steps (cond (isTrue z) 0 1) (first-two (isTrue z)))
+    itself-steps (receive b c vs) within q₀ k o e n a y m q h = idle-steps k o (finishes k o) refl (λ j. refl) (λ j z. h j z .0)
+    itself-steps (setting v x) within q₀ k o e n a y m q h = or-steps k o _ (evaluate x o) (λ j z. h j z .0) (λ i. idle-steps k o (finishes k (binding v i o)) refl (λ j. refl) (λ j z. h j z .0))
+    itself-steps raise within q₀ k o e n a y m q h = idle-steps k o (raises k o) refl (λ j. refl) (λ j z. h j z .0)
+    itself-steps leave within q₀ k o e n a y m q h = idle-steps k o (leaves k o) refl (λ j. refl) (λ j z. h j z .0)
+    itself-steps (choose x) within q₀ k o e n a y m q h = or-steps k o _ (evaluate x o) (λ j z. h j z .0) (λ z. enters-steps (cond (isTrue z) 0 1) (first-two (isTrue z)))
       where
         first-two : (b : Bool) → cond b 0 1 < 2
         first-two true = omega arith
@@ -538,37 +572,37 @@ module _ (f : ℕ → ℕ) where
             own-steps {e = k + 1 + sizes within} k o o₁ (enters k o b) (q refl) (λ j z. h j z .0) (length-set (o .marks) k inside) (λ j d. stay-other (o .marks) k inside j d)
             (goes-where f (finishes k) (begunIn o₁ b) (goes-begun f {b = k + 1} {e = k + 1 + sizes within} o₁ b w (omega arith) (omega arith)) (λ o₂ d. finishes-goes f k _ o₂))
             (λ u. rw (e, entered k o b (omega arith) w u))
-    itself-steps (repeat x) within k o e n a y m q h = or-steps k o _ (evaluate x o) (λ j z. h j z .0) (λ z. turn (isTrue z))
+    itself-steps (repeat x) within q₀ k o e n a y m q h = or-steps k o _ (evaluate x o) (λ j z. h j z .0) (λ z. turn (isTrue z))
       where
         turn : (b : Bool) → Steps g (k + 1) o (elim b [ true ↦ repeats k within o | false ↦ finishes k o ])
         turn true = repeats-steps within k o e (omega arith) a y m (q refl) (λ j z. h j z .0)
         turn false = idle-steps k o (finishes k o) refl (λ j. refl) (λ j z. h j z .0)
-    itself-steps sequence within k o e n a y m q h = still-steps (k + 1) o (λ j z. false≢true (h j z .1))
-    itself-steps flow within k o e n a y m q h = still-steps (k + 1) o (λ j z. false≢true (h j z .1))
-    itself-steps pick within k o e n a y m q h = still-steps (k + 1) o (λ j z. false≢true (h j z .1))
-    itself-steps scope within k o e n a y m q h = idle-steps k o (closing k (scopeAt k within) o) refl (λ j. refl) (λ j z. h j z .0)
-    itself-steps (arm b c vs) within k o e n a y m q h =
+    itself-steps sequence within q₀ k o e n a y m q h = still-steps (k + 1) o (λ j z. false≢true (h j z .1))
+    itself-steps flow within q₀ k o e n a y m q h = still-steps (k + 1) o (λ j z. false≢true (h j z .1))
+    itself-steps pick within q₀ k o e n a y m q h = still-steps (k + 1) o (λ j z. false≢true (h j z .1))
+    itself-steps (scope v) within q₀ k o e n a y m q h = idle-steps k o (closing v q₀ k (scopeAt k within) o) refl (λ j. refl) (λ j z. h j z .0)
+    itself-steps (arm b c vs) within q₀ k o e n a y m q h =
         let w = goes-begun f {b = k + 1} {e = k + 1 + sizes within} o (beginPart 0 within (k + 1) (o .marks)) (part-began f y 0 (omega arith) (o .marks) m) (omega arith) (omega arith) in
         record {
           truly = w .truly;
           range = λ j z. w .range j z .0;
           keeps = λ j z x i u.
-              let v = w .stays j (λ d. ap shifts (subst (λ (i : ℕ). f i ≡ 12) (omega arith) e)) i in (stay-up v u, λ t. v .same u);
+              let v = w .stays j (λ d. ap shifts (subst (λ (i : ℕ). f i ≡ 255) (omega arith) e)) i in (stay-up v u, λ t. v .same u);
           its = λ j z x. absurd (false≢true (h j x .1));
           long = w .long;
           quits = λ x. absurd (false≢true (sym (w .calm) ∙ x));
         }
 
     -- a raise in its place
-    performs-steps : (actor : Actor) (own : Own) (within : Acts) (k : ℕ) (o : Order) → f k ≡ kind own → needs own ≤ count within → Arms (eqb (kind own) 10) within
+    performs-steps : (actor : Actor) (own : Own) (within : Acts) (q₀ k : ℕ) (o : Order) → f k ≡ kind own → needs own ≤ count within → Arms (isPick own) within
         → KnowsIn f within (k + 1) → k + 1 + sizes within ≤ length (o .marks)
-        → (acts (kind own) ≡ true → g k ≡ true) → ((j : ℕ) → g j ≡ true → (j ≡ k) × (acts (kind own) ≡ true)) → Steps g (k + 1) o (performs actor own within k o)
+        → (acts (kind own) ≡ true → g k ≡ true) → ((j : ℕ) → g j ≡ true → (j ≡ k) × (acts (kind own) ≡ true)) → Steps g (k + 1) o (performs actor own within q₀ k o)
     unfolding performs some isBeganOf
-    performs-steps actor own within k o e n a y m q h = go (replaces actor (kind own))
+    performs-steps actor own within q₀ k o e n a y m q h = go (replaces actor (kind own))
       where
-        go : (b : Bool) → Steps g (k + 1) o (elim b [ true ↦ raises k o | false ↦ itself own within k o ])
+        go : (b : Bool) → Steps g (k + 1) o (elim b [ true ↦ raises k o | false ↦ itself own within q₀ k o ])
         go true = idle-steps k o (raises k o) refl (λ j. refl) (λ j z. h j z .0)
-        go false = itself-steps own within k o e n a y m q h
+        go false = itself-steps own within q₀ k o e n a y m q h
 
   -- the step of an arm is its pick's, which goes inside with it
   pick-steps : (g : ℕ → Bool) (k : ℕ) (o : Order) (r : Outcome) → f k ≡ 10 → k < length (o .marks) → ((j : ℕ) → g j ≡ false)
@@ -582,13 +616,13 @@ module _ (f : ℕ → ℕ) where
             let q = w .keeps j z (h j) n u in
             let s = stay-other (o .marks) k inside j (λ d. eqb-false k j y (sym d)) in (stay-up s (q .0), λ x. q .1 x ∙ s .same (q .0));
         its = λ j z y. subst (λ (i : ℕ). hasBegan i (r .log) ≡ false → Up (r .order .marks) i → goesIn (f i) (getD (r .order .marks) i 0) (hasBegan (i + 1) (r .log)) ≡ true) (eqb-true k j y)
-            (λ n u. rw (e, w .keeps k (ap (λ (i : ℕ). eqb i 11) e) (h k) n u .1 (ap (λ (i : ℕ). eqb i 7) e) ∙ getD-set-same (o .marks) k inside 0 l));
+            (λ n u. rw (e, w .keeps k (ap isScopeKind e) (h k) n u .1 (ap (λ (i : ℕ). eqb i 7) e) ∙ getD-set-same (o .marks) k inside 0 l));
         long = w .long ∙ length-set (o .marks) k inside;
         quits = w .quits;
       }
 
   -- what a pick is when one of its arms acts
-  arms-here : (own : Own) (within : Acts) (k t : ℕ) (o : Order) (b : Bool) → (eqb (kind own) 10 && isPart within (k + 1) t) ≡ b
+  arms-here : (own : Own) (within : Acts) (k t : ℕ) (o : Order) (b : Bool) → (isPick own && isPart within (k + 1) t) ≡ b
       → arms own within k t o ≡ cond b (marked k inside o) o
   unfolding arms
   arms-here own within k t o b e = rw e
@@ -598,49 +632,49 @@ module _ (f : ℕ → ℕ) where
   not-around within k t = decide (ownsAmong within (k + 1) t k) (λ e. let z = owns-in-from t k within (k + 1) e in absurd (omega arith)) (λ e. e)
 
   -- where it stands within, by what stands there
-  within-steps : (actor : Actor) (own : Own) (within : Acts) (k t : ℕ) (o : Order) → f k ≡ kind own → needs own ≤ count within → Arms (eqb (kind own) 10) within
+  within-steps : (actor : Actor) (own : Own) (within : Acts) (q₀ k t : ℕ) (o : Order) → f k ≡ kind own → needs own ≤ count within → Arms (isPick own) within
       → KnowsIn f within (k + 1) → k + 1 + sizes within ≤ length (o .marks)
-      → (k ≡ t → ⊥) → ((o₁ : Order) → length (o₁ .marks) ≡ length (o .marks) → Steps (ownsAmong within (k + 1) t) (k + 1) o₁ (stepAmong actor within (k + 1) t o₁))
-      → Steps (ownsIn (act own within) k t) (k + 1) o (combines own within k t (stepAmong actor within (k + 1) t (arms own within k t o)))
-  within-steps actor own within k t o e n a y m i w =
-      decide (eqb (kind own) 10 && isPart within (k + 1) t)
-      (λ d. both (eqb (kind own) 10) (isPart within (k + 1) t) d (λ b c.
-      subst (λ (o₁ : Order). Steps (ownsIn (act own within) k t) (k + 1) o (combines own within k t (stepAmong actor within (k + 1) t o₁))) (sym (arms-here own within k t o true d))
+      → (k ≡ t → ⊥) → ((o₁ : Order) → length (o₁ .marks) ≡ length (o .marks) → Steps (ownsAmong within (k + 1) t) (k + 1) o₁ (stepAmong actor within (isScope own) q₀ (k + 1) t o₁))
+      → Steps (ownsIn (act own within) k t) (k + 1) o (combines own within k t (stepAmong actor within (isScope own) q₀ (k + 1) t (arms own within k t o)))
+  within-steps actor own within q₀ k t o e n a y m i w =
+      decide (isPick own && isPart within (k + 1) t)
+      (λ d. both (isPick own) (isPart within (k + 1) t) d (λ b c.
+      subst (λ (o₁ : Order). Steps (ownsIn (act own within) k t) (k + 1) o (combines own within k t (stepAmong actor within (isScope own) q₀ (k + 1) t o₁))) (sym (arms-here own within k t o true d))
       (steps-owned (eqb k) (ownsIn (act own within) k t) (λ j. owns-arm t j own within k i d)
-      (pick-steps (ownsAmong within (k + 1) t) k o _ (e ∙ eqb-true (kind own) 10 b) (omega arith) (λ j. arm-owns t j within (k + 1) (subst (λ (r : Bool). Arms r within) b a) c)
+      (pick-steps (ownsAmong within (k + 1) t) k o _ (e ∙ pick-kind own b) (omega arith) (λ j. arm-owns t j within (k + 1) (subst (λ (r : Bool). Arms r within) b a) c)
       (combined (marked k inside o) (length-set (o .marks) k inside))))))
-      (λ d. subst (λ (o₁ : Order). Steps (ownsIn (act own within) k t) (k + 1) o (combines own within k t (stepAmong actor within (k + 1) t o₁))) (sym (arms-here own within k t o false d))
+      (λ d. subst (λ (o₁ : Order). Steps (ownsIn (act own within) k t) (k + 1) o (combines own within k t (stepAmong actor within (isScope own) q₀ (k + 1) t o₁))) (sym (arms-here own within k t o false d))
       (steps-owned (ownsAmong within (k + 1) t) (ownsIn (act own within) k t) (λ j. owns-within t j own within k i d) (combined o refl)))
     where
       combined : (o₁ : Order) → length (o₁ .marks) ≡ length (o .marks)
-          → Steps (ownsAmong within (k + 1) t) (k + 1) o₁ (combines own within k t (stepAmong actor within (k + 1) t o₁))
-      combined o₁ l = combines-steps (ownsAmong within (k + 1) t) own within k t o₁ (stepAmong actor within (k + 1) t o₁) e n y (omega arith) (not-around within k t) (w o₁ l)
+          → Steps (ownsAmong within (k + 1) t) (k + 1) o₁ (combines own within k t (stepAmong actor within (isScope own) q₀ (k + 1) t o₁))
+      combined o₁ l = combines-steps (ownsAmong within (k + 1) t) own within k t o₁ (stepAmong actor within (isScope own) q₀ (k + 1) t o₁) e n y (omega arith) (not-around within k t) (w o₁ l)
 
   mutual
     unfolding stepIn ownsIn size
 
-    pub step-steps : (actor : Actor) {a : Act} {k : ℕ} → Knows f a k → (t : ℕ) (o : Order) → k + size a ≤ length (o .marks) → Steps (ownsIn a k t) k o (stepIn actor a k t o)
-    step-steps actor (knows {own} {within} {k} x n r y) t o h =
+    pub step-steps : (actor : Actor) {a : Act} {k : ℕ} → Knows f a k → (q₀ t : ℕ) (o : Order) → k + size a ≤ length (o .marks) → Steps (ownsIn a k t) k o (stepIn actor a q₀ k t o)
+    step-steps actor (knows {own} {within} {k} x n r y) q₀ t o h =
         decide (eqb k t)
         (λ e. subst (λ (z : Outcome). Steps (ownsIn (act own within) k t) k o z)
-        (sym (first-of (eqb k t) (performs actor own within k o) (combines own within k t (stepAmong actor within (k + 1) t (arms own within k t o))) (stepIn actor (act own within) k t o) refl e))
-        (steps-lower (ownsIn (act own within) k t) (omega arith) (performs-steps (ownsIn (act own within) k t) actor own within k o x n r y (omega arith)
+        (sym (first-of (eqb k t) (performs actor own within q₀ k o) (combines own within k t (stepAmong actor within (isScope own) q₀ (k + 1) t (arms own within k t o))) (stepIn actor (act own within) q₀ k t o) refl e))
+        (steps-lower (ownsIn (act own within) k t) (omega arith) (performs-steps (ownsIn (act own within) k t) actor own within q₀ k o x n r y (omega arith)
         (λ q. owns-itself t k own within k (eqb-true k t e) ∙ rw (eq-eqb k k refl, q))
         (λ j q. both (eqb k j) (acts (kind own)) (sym (owns-itself t j own within k (eqb-true k t e)) ∙ q) (λ u v. (sym (eqb-true k j u), v))))))
         (λ e. subst (λ (z : Outcome). Steps (ownsIn (act own within) k t) k o z)
-        (sym (second-of (eqb k t) (performs actor own within k o) (combines own within k t (stepAmong actor within (k + 1) t (arms own within k t o))) (stepIn actor (act own within) k t o) refl e))
-        (steps-lower (ownsIn (act own within) k t) (omega arith) (within-steps actor own within k t o x n r y (omega arith) (eqb-false k t e) (λ o₁ l. among-steps actor y t o₁ (omega arith)))))
+        (sym (second-of (eqb k t) (performs actor own within q₀ k o) (combines own within k t (stepAmong actor within (isScope own) q₀ (k + 1) t (arms own within k t o))) (stepIn actor (act own within) q₀ k t o) refl e))
+        (steps-lower (ownsIn (act own within) k t) (omega arith) (within-steps actor own within q₀ k t o x n r y (omega arith) (eqb-false k t e) (λ o₁ l. among-steps actor y (isScope own) q₀ t o₁ (omega arith)))))
 
-    among-steps : (actor : Actor) {l : Acts} {c : ℕ} → KnowsIn f l c → (t : ℕ) (o : Order) → c + sizes l ≤ length (o .marks) → Steps (ownsAmong l c t) c o (stepAmong actor l c t o)
-    among-steps actor (knows-none {c}) t o h = still-steps (ownsAmong none c t) c o (λ j. false≢true)
-    among-steps actor (knows-more {a} {l} {c} x y) t o h =
+    among-steps : (actor : Actor) {l : Acts} {c : ℕ} → KnowsIn f l c → (v : Bool) (q₀ t : ℕ) (o : Order) → c + sizes l ≤ length (o .marks) → Steps (ownsAmong l c t) c o (stepAmong actor l v q₀ c t o)
+    among-steps actor (knows-none {c}) v q₀ t o h = still-steps (ownsAmong none c t) c o (λ j. false≢true)
+    among-steps actor (knows-more {a} {l} {c} x y) v q₀ t o h =
         decide (ltb t (c + size a))
         (λ e. subst (λ (z : Outcome). Steps (ownsAmong (more a l) c t) c o z)
-        (sym (first-of (ltb t (c + size a)) (stepIn actor a c t o) (stepAmong actor l (c + size a) t o) (stepAmong actor (more a l) c t o) refl e))
-        (steps-owned (ownsIn a c t) (ownsAmong (more a l) c t) (λ j. owns-first t j a l c e) (step-steps actor x t o (omega arith))))
+        (sym (first-of (ltb t (c + size a)) (stepIn actor a (cond v c q₀) c t o) (stepAmong actor l v q₀ (c + size a) t o) (stepAmong actor (more a l) v q₀ c t o) refl e))
+        (steps-owned (ownsIn a c t) (ownsAmong (more a l) c t) (λ j. owns-first t j a l c e) (step-steps actor x (cond v c q₀) t o (omega arith))))
         (λ e. subst (λ (z : Outcome). Steps (ownsAmong (more a l) c t) c o z)
-        (sym (second-of (ltb t (c + size a)) (stepIn actor a c t o) (stepAmong actor l (c + size a) t o) (stepAmong actor (more a l) c t o) refl e))
-        (steps-owned (ownsAmong l (c + size a) t) (ownsAmong (more a l) c t) (λ j. owns-later t j a l c e) (steps-lower (ownsAmong l (c + size a) t) (omega arith) (among-steps actor y t o (omega arith)))))
+        (sym (second-of (ltb t (c + size a)) (stepIn actor a (cond v c q₀) c t o) (stepAmong actor l v q₀ (c + size a) t o) (stepAmong actor (more a l) v q₀ c t o) refl e))
+        (steps-owned (ownsAmong l (c + size a) t) (ownsAmong (more a l) c t) (λ j. owns-later t j a l c e) (steps-lower (ownsAmong l (c + size a) t) (omega arith) (among-steps actor y v q₀ t o (omega arith)))))
 
   module _ (p : Plan) (kb : Knows f (p .body) 0) (kf : Knows f (p .fault) (size (p .body))) where
     -- From the root.
@@ -650,17 +684,17 @@ module _ (f : ℕ → ℕ) where
         decide (ltb t (size (p .body)))
         (λ e. steps-owned (ownsIn (p .body) 0 t) (ownsAt p t) (λ j. first-of (ltb t (size (p .body))) (ownsIn (p .body) 0 t j) (ownsIn (p .fault) (size (p .body)) t j) (ownsAt p t j) refl e)
         (subst (λ (z : Outcome). Steps (ownsIn (p .body) 0 t) 0 o z) (sym (first-of (ltb t (size (p .body))) inBody inFault (stepRoot actor p t o) refl e))
-        (body-steps (ownsIn (p .body) 0 t) (rootOf p) 0 (size (p .body) + size (p .fault)) w o (stepIn actor (p .body) 0 t o) m (step-steps actor kb t o (omega arith)))))
+        (body-steps (ownsIn (p .body) 0 t) (rootOf p) 0 (size (p .body) + size (p .fault)) w o (stepIn actor (p .body) 0 0 t o) m (step-steps actor kb 0 t o (omega arith)))))
         (λ e. steps-owned (ownsIn (p .fault) (size (p .body)) t) (ownsAt p t) (λ j. second-of (ltb t (size (p .body))) (ownsIn (p .body) 0 t j) (ownsIn (p .fault) (size (p .body)) t j) (ownsAt p t j) refl e)
         (subst (λ (z : Outcome). Steps (ownsIn (p .fault) (size (p .body)) t) 0 o z) (sym (second-of (ltb t (size (p .body))) inBody inFault (stepRoot actor p t o) refl e))
-        (fault-steps (ownsIn (p .fault) (size (p .body)) t) (rootOf p) 0 (size (p .body) + size (p .fault)) w o (stepIn actor (p .fault) (size (p .body)) t o)
-        (steps-lower (ownsIn (p .fault) (size (p .body)) t) (omega arith) (step-steps actor kf t o (omega arith))))))
+        (fault-steps (ownsIn (p .fault) (size (p .body)) t) (rootOf p) 0 (size (p .body) + size (p .fault)) w o (stepIn actor (p .fault) (size (p .body)) (size (p .body)) t o)
+        (steps-lower (ownsIn (p .fault) (size (p .body)) t) (omega arith) (step-steps actor kf (size (p .body)) t o (omega arith))))))
       where
         inBody : Outcome
-        inBody = fromBody (rootOf p) (stepIn actor (p .body) 0 t o)
+        inBody = fromBody (rootOf p) (stepIn actor (p .body) 0 0 t o)
 
         inFault : Outcome
-        inFault = fromFault (rootOf p) (stepIn actor (p .fault) (size (p .body)) t o)
+        inFault = fromFault (rootOf p) (stepIn actor (p .fault) (size (p .body)) (size (p .body)) t o)
 
         w : Within f (rootOf p) 0 (size (p .body) + size (p .fault))
         w = record { name = refl; body = kb; fault = kf; bodyFrom = omega arith; bodyTo = omega arith; faultFrom = omega arith; faultTo = omega arith }
@@ -686,8 +720,8 @@ module _ (f : ℕ → ℕ) where
 awaits-up : (own : Own) (b : Bool) (m : ℕ) → acts (kind own) ≡ true → awaits own b m ≡ true → eqb m idle ≡ false
 unfolding awaits acts
 awaits-up own b m a h =
-    decide (eqb (kind own) 12)
-    (λ e. absurd (false≢true (rw (eqb-true (kind own) 12 e) at a)))
+    decide (isArm own)
+    (λ e. absurd (false≢true (rw (arm-kind own e) at a)))
     (λ e. decide (isScope own) (λ s. rw (eqb-true m done (rw (e, s) at h))) (λ s. rw (eqb-true m active (rw (e, s) at h))))
 
 module _ {ms : List ℕ} (t j : ℕ) where
@@ -707,9 +741,9 @@ module _ {ms : List ℕ} (t j : ℕ) where
     own-up (knows {own} {within} {k} x n r y) (waits-itself {b = b} e q) h =
         both (eqb k j) (acts (kind own)) (sym (owns-itself t j own within k e) ∙ h) (λ u v. subst (λ (i : ℕ). Up ms i) (eqb-true k j u) (awaits-up own b (getD ms k 0) v q))
     own-up (knows {own} {within} {k} x n r y) (waits-within e w) h =
-        decide (eqb (kind own) 10 && isPart within (k + 1) t)
-        (λ d. both (eqb (kind own) 10) (isPart within (k + 1) t) d (λ u v.
-        both (eqb (kind own) 10) (eqb (getD ms k 0) active) (arm-open (subst (λ (z : Bool). Arms z within) u r) w v) (λ a b.
+        decide (isPick own && isPart within (k + 1) t)
+        (λ d. both (isPick own) (isPart within (k + 1) t) d (λ u v.
+        both (isPick own) (eqb (getD ms k 0) active) (arm-open (subst (λ (z : Bool). Arms z within) u r) w v) (λ a b.
         subst (λ (i : ℕ). Up ms i) (eqb-true k j (sym (owns-arm t j own within k (λ i. omega arith) d) ∙ h)) (rw (eqb-true (getD ms k 0) active b)))))
         (λ d. own-up-in y w (sym (owns-within t j own within k (λ i. omega arith) d) ∙ h))
 

@@ -2,25 +2,25 @@
 use Prim.Native.Nat.{ℕ, zero, suc, _+_, _≤_, _<_}
 use native.Mathlib.Omega.{arith}
 use mathlib.Core.Path.{_≡_, refl, sym, ap, subst, _∙_}
-use mathlib.Core.Bool.{Bool, true, false, _&&_, false≢true, or-true}
+use mathlib.Core.Bool.{Bool, true, false, _&&_, false≢true, or-true, cond}
 use mathlib.Core.List.{List, [], _∷_}
 use lib.ListN.{length, length-set}
 use lib.Dec.{eqb, ltb}
-use Rattle.plan.specs.Tree.{Own, Act, Acts, none, more, size, sizes, count}
+use Rattle.plan.specs.Tree.{Own, isScope, Act, Acts, none, more, size, sizes, count, hasUndo}
 use Rattle.order.specs.declared.Order.{Order}
 use Rattle.order.specs.Lists.{some, withoutLast}
 use Rattle.order.specs.State.{Name, root, inner, idle, active, done, faulty, undoing, handling, halted, withdrawing, closings, remembering, markAt, marked, markOf, marking}
-use Rattle.order.specs.Begin.{Begun, begin, beginInTurn, beginAfter, part, partAt, beginPart}
+use Rattle.order.specs.Begin.{Begun, begin, beginInTurn, beginAfter, part, partAt, beginPart, nothingBegun}
 use Rattle.order.specs.declared.Way.{Way as Result}
 use Rattle.order.specs.declared.Way.the-variants.{Running as running, Over as over, Raising as raising, Leaving as leaving, Undone as undone, UndoRaising as undoRaising}
-use Rattle.order.specs.Scope.{Outcome, runs, begunIn, whereOver, Scope, scopeAt, isScope, isOpen, innerRuns, beginUndo, beginUndoIn, startUndo, undo, ends, handle, undoes, turns, rememberedFor, untouched, withdraws, stop, stopAll, stopFirst, alsoStopped, looksAgain, bodyOver, undoOver, partOver}
+use Rattle.order.specs.Scope.{Outcome, runs, begunIn, whereOver, Scope, scopeAt, isOpen, innerRuns, beginUndo, beginUndoIn, startUndo, undo, ends, handle, undoes, turns, rememberedFor, untouched, withdraws, stop, stopAll, stopFirst, alsoStopped, looksAgain, bodyOver, undoOver, partOver, isFor, beginUndoFirst}
 use Rattle.order.specs.Scope as definitions
 use Rattle.order.specs.Acting.{finishes}
 use Rattle.undoing.specs.Orderly.{isBeganOf}
-use Rattle.undoing.specs.Begun.{lasts, hasBegan}
+use Rattle.undoing.specs.Begun.{lasts, hasBegan, isScopeKind}
 use Rattle.undoing.proofs.Parts.{both, decide}
 use Rattle.undoing.proofs.Seats.{marking-length}
-use Rattle.undoing.proofs.Truly.{began-in, began-neither, Up, up-other, Stay, stay-still, stay-then, stay-other, stay-idle, shifts, needs, Knows, knows, KnowsIn, knows-none, knows-more, Began, began-wider, begin-began, turn-list, nothing-began}
+use Rattle.undoing.proofs.Truly.{began-in, began-neither, Up, up-other, Stay, stay-still, stay-then, stay-other, stay-idle, shifts, needs, Knows, knows, KnowsIn, knows-none, knows-more, Began, began-wider, begin-began, turn-list, nothing-began, scope-kind}
 
 -- a fault came out
 abbrev pub isRaising : Result → Bool
@@ -67,9 +67,17 @@ module _ (f : ℕ → ℕ) where
   either-began {k} {n} {ms} true x y z e b d = subst (λ (r : Begun). Began f k n ms r) (sym e) (b refl)
   either-began {k} {n} {ms} false x y z e b d = subst (λ (r : Begun). Began f k n ms r) (sym e) d
 
-  scope-needs : (own : Own) (n : ℕ) → isScope own ≡ true → needs own ≤ n → 3 ≤ n
+  scope-needs : (own : Own) (n : ℕ) → isScope own ≡ true → needs own ≤ n → 2 ≤ n
   unfolding needs
-  scope-needs own n s h = rw s at h
+  scope-needs own n s h = decide (hasUndo own) (λ u. let z : 3 ≤ n = rw (s, u) at h in omega arith) (λ u. rw (s, u) at h)
+
+  undo-needs : (own : Own) (n : ℕ) → isScope own ≡ true → hasUndo own ≡ true → needs own ≤ n → 3 ≤ n
+  unfolding needs
+  undo-needs own n s u h = rw (s, u) at h
+
+  cond-began : {k n : ℕ} {ms : List ℕ} (v : Bool) (x y : Begun) → (v ≡ true → Began f k n ms x) → Began f k n ms y → Began f k n ms (cond v x y)
+  cond-began true x y b d = b refl
+  cond-began false x y b d = d
 
   -- an undo part
   mutual
@@ -77,9 +85,16 @@ module _ (f : ℕ → ℕ) where
 
     pub undo-began : {a : Act} {k : ℕ} → Knows f a k → (e : ℕ) (ms : List ℕ) → k + size a ≤ length ms → Began f k (size a) ms (beginUndo a k e ms)
     undo-began (knows {own} {within} {k} x n r y) e ms h =
-        either-began (isScope own && eqb k e) (beginPart 2 within (k + 1) ms) (beginUndoIn within (k + 1) e ms) _ refl
-        (λ t. both (isScope own) (eqb k e) t (λ s v. began-wider f (part-began y 2 (let z = scope-needs own (count within) s n in omega arith) ms (omega arith)) (omega arith) (omega arith)))
+        either-began (isScope own) (cond (hasUndo own) (cond (eqb k e) (beginPart 2 within (k + 1) ms) (nothingBegun ms)) (beginUndoFirst within (k + 1) e ms)) (beginUndoIn within (k + 1) e ms) _ refl
+        (λ s. cond-began (hasUndo own) (cond (eqb k e) (beginPart 2 within (k + 1) ms) (nothingBegun ms)) (beginUndoFirst within (k + 1) e ms)
+        (λ u. cond-began (eqb k e) (beginPart 2 within (k + 1) ms) (nothingBegun ms)
+        (λ v. began-wider f (part-began y 2 (let z = undo-needs own (count within) s u n in omega arith) ms (omega arith)) (omega arith) (omega arith)) (nothing-began f k (1 + sizes within) ms))
+        (began-wider f (undo-first-began y e ms (omega arith)) (omega arith) (omega arith)))
         (began-wider f (undo-in-began y e ms (omega arith)) (omega arith) (omega arith))
+
+    undo-first-began : {l : Acts} {c : ℕ} → KnowsIn f l c → (e : ℕ) (ms : List ℕ) → c + sizes l ≤ length ms → Began f c (sizes l) ms (beginUndoFirst l c e ms)
+    undo-first-began (knows-none {c}) e ms h = nothing-began f c 0 ms
+    undo-first-began (knows-more {a} {l} {c} x y) e ms h = began-wider f (undo-began x e ms (omega arith)) (omega arith) (omega arith)
 
     undo-in-began : {l : Acts} {c : ℕ} → KnowsIn f l c → (e : ℕ) (ms : List ℕ) → c + sizes l ≤ length ms → Began f c (sizes l) ms (beginUndoIn l c e ms)
     undo-in-began (knows-none {c}) e ms h = nothing-began f c 0 ms
@@ -90,17 +105,17 @@ module _ (f : ℕ → ℕ) where
   -- the number before b, if there is one, is a scope's own
   abbrev pub Owned : Name → (b : ℕ) → Type 0
   Owned root b = b ≡ 0
-  Owned (inner k) b = (k + 1 ≡ b) × (eqb (f k) 11 ≡ true)
+  Owned (inner k) b = (k + 1 ≡ b) × (isScopeKind (f k) ≡ true)
 
-  pub owned-scope : (n : Name) (b j : ℕ) → Owned n b → j + 1 ≡ b → eqb (f j) 11 ≡ true
+  pub owned-scope : (n : Name) (b j : ℕ) → Owned n b → j + 1 ≡ b → isScopeKind (f j) ≡ true
   owned-scope root b j h e = absurd (omega arith)
-  owned-scope (inner k) b j h e = subst (λ (i : ℕ). eqb (f i) 11 ≡ true) (omega (arith, h .0)) (h .1)
+  owned-scope (inner k) b j h e = subst (λ (i : ℕ). isScopeKind (f i) ≡ true) (omega (arith, h .0)) (h .1)
 
   -- so its mark is not one that stays
-  pub owned-other : (n : Name) (b j : ℕ) → Owned n b → eqb (f j) 11 ≡ false → j + 1 ≡ b → ⊥
+  pub owned-other : (n : Name) (b j : ℕ) → Owned n b → isScopeKind (f j) ≡ false → j + 1 ≡ b → ⊥
   owned-other n b j h z e = false≢true (sym z ∙ owned-scope n b j h e)
 
-  pub stay-marking : (n : Name) (b v : ℕ) (o : Order) (j : ℕ) → Owned n b → eqb (f j) 11 ≡ false → Stay (o .marks) (marking n v o .marks) j
+  pub stay-marking : (n : Name) (b v : ℕ) (o : Order) (j : ℕ) → Owned n b → isScopeKind (f j) ≡ false → Stay (o .marks) (marking n v o .marks) j
   stay-marking root b v o j h z = stay-still (o .marks) j
   stay-marking (inner k) b v o j h z = stay-other (o .marks) k v j (λ d. owned-other (inner k) b j h z (ap (λ (i : ℕ). i + 1) d ∙ h .0))
 
@@ -199,7 +214,7 @@ module _ (f : ℕ → ℕ) where
     unfolding undo startUndo some
     undo-goes [] o m = record { grows = λ j x y u. u; truly = λ j x y. absurd (false≢true y); range = λ j y. absurd (false≢true y); stays = λ j y n. stay-still (o .marks) j; long = refl; calm = refl }
     undo-goes (x ∷ l) o m =
-        let o₁ = remembering (withoutLast x (closings o)) o in
+        let o₁ = remembering (withoutLast (isFor s) (closings o)) o in
         let w = goes-begun {b = b} {e = e} o₁ (beginUndo (s .body) (s .bodyAt) x (o .marks)) (undo-began (h .body) x (o .marks) (omega (arith, h .bodyTo))) (h .bodyFrom) (h .bodyTo) in
         goes-where (undo l s) (startUndo x s o) (record { grows = w .grows; truly = w .truly; range = w .range; stays = w .stays; long = w .long; calm = w .calm }) (λ o₂ d. undo-goes l o₂ (omega arith))
 
@@ -252,7 +267,7 @@ module _ (f : ℕ → ℕ) where
     part-goes o = goes-either (eqb (markOf (s .name) o) handling) (ends s o) (runs o) (partOver s o) refl (ends-goes o) (goes-runs b e o)
 
   -- A scope that stands at k has its parts beyond it.
-  pub scope-within : {within : Acts} {k : ℕ} → eqb (f k) 11 ≡ true → 3 ≤ count within → KnowsIn f within (k + 1)
+  pub scope-within : {within : Acts} {k : ℕ} → isScopeKind (f k) ≡ true → 2 ≤ count within → KnowsIn f within (k + 1)
       → Within (scopeAt k within) (k + 1) (k + 1 + sizes within)
   scope-within {within} {k} q n y =
       let b = part-within within (k + 1) 0 (omega arith) in
@@ -272,7 +287,7 @@ module _ (f : ℕ → ℕ) where
     pub below : (j : ℕ) → lasts (f j) ≡ true → j < k → Up (o .marks) j → Up (r .order .marks) j
     pub truly : (j : ℕ) → lasts (f j) ≡ true → hasBegan j (r .log) ≡ true → Up (r .order .marks) j
     pub range : (j : ℕ) → hasBegan j (r .log) ≡ true → (k ≤ j) × (j < k + n)
-    pub stays : (j : ℕ) → eqb (f j) 11 ≡ false → hasBegan j (r .log) ≡ false → Stay (o .marks) (r .order .marks) j
+    pub stays : (j : ℕ) → isScopeKind (f j) ≡ false → hasBegan j (r .log) ≡ false → Stay (o .marks) (r .order .marks) j
     pub long : length (r .order .marks) ≡ length (o .marks)
 
   untouched-halts : (k n : ℕ) (o : Order) → Halts k n o (untouched o)
@@ -291,7 +306,7 @@ module _ (f : ℕ → ℕ) where
       }
 
   -- a scope withdraws
-  withdraws-halts : {k n : ℕ} (s : Scope) (o : Order) (r : definitions.Stopped) → eqb (f k) 11 ≡ true → Within s (k + 1) (k + 1 + n)
+  withdraws-halts : {k n : ℕ} (s : Scope) (o : Order) (r : definitions.Stopped) → isScopeKind (f k) ≡ true → Within s (k + 1) (k + 1 + n)
       → k + 1 + n ≤ length (o .marks)
       → Halts (k + 1) n (marked k halted o) r → Halts k (1 + n) o (withdraws k s r)
   unfolding withdraws some isBeganOf
@@ -335,7 +350,7 @@ module _ (f : ℕ → ℕ) where
         (elim (isOpen (markAt k o)) [ true ↦ withdraws k (scopeAt k within) (stopFirst within (k + 1) (marked k halted o)) | false ↦ untouched o ])
         (stopAll within (k + 1) (marked k idle o)) _ refl
         (λ s. halts-either (isOpen (markAt k o)) (withdraws k (scopeAt k within) (stopFirst within (k + 1) (marked k halted o))) (untouched o) _ refl
-        (λ v. withdraws-halts (scopeAt k within) o (stopFirst within (k + 1) (marked k halted o)) (ap (λ (i : ℕ). eqb i 11) x ∙ s) (scope-within (ap (λ (i : ℕ). eqb i 11) x ∙ s) (scope-needs own (count within) s n) y) (omega arith)
+        (λ v. withdraws-halts (scopeAt k within) o (stopFirst within (k + 1) (marked k halted o)) (ap isScopeKind x ∙ (scope-kind own ∙ s)) (scope-within (ap isScopeKind x ∙ (scope-kind own ∙ s)) (scope-needs own (count within) s n) y) (omega arith)
         (stop-first-halts y (marked k halted o) (omega (arith, length-set (o .marks) k halted))))
         (λ v. untouched-halts k _ o))
         (λ s. halts-marked {k = k} {c = k + 1} {m = sizes within} o (stopAll within (k + 1) (marked k idle o)) (omega arith) (omega arith) (stop-all-halts y (marked k idle o) (omega (arith, length-set (o .marks) k idle))))

@@ -7,7 +7,7 @@ use mathlib.Core.List.{List, [], _∷_, _++_}
 use lib.ListN.{set}
 use lib.Dec.{eqb, ltb}
 use borrow.Author.Tests.{eqb-true, eqb-false, eq-eqb, ltb-true, ltb-false, lt-ltb}
-use Rattle.plan.specs.Tree.{Own, empty, send, receive, set as setting, raise, leave, choose, repeat, sequence, flow, pick, scope, arm, kind, Act, act, Acts, none, more, Plan, size, sizes, count}
+use Rattle.plan.specs.Tree.{Own, empty, send, receive, set as setting, raise, leave, choose, repeat, sequence, flow, pick, scope, arm, kind, isScope, Act, act, Acts, none, more, Plan, size, sizes, count, hasUndo}
 use Rattle.order.specs.declared.Order.{Order}
 use Rattle.order.specs.declared.End.{End}
 use Rattle.order.specs.declared.End.the-variants.{None, Well, Handled, Failed, Left}
@@ -15,13 +15,13 @@ use Rattle.order.specs.Lists.{some}
 use Rattle.order.specs.State.{root, idle, active, inside, faulty, undoing, handling, halted, withdrawing, done, withMarks, markAt, marked, markOf, marking}
 use Rattle.order.specs.Event.{Event, began, closed, faulted, stopped, raised, left, ended}
 use Rattle.order.specs.Expression.{Value, fault, value, evaluate, isTrue}
-use Rattle.order.specs.Begin.{Begun, throughout, around, itsBeginning, inTurn, begin, beginInTurn, beginAll, beginAfter, part, partAt, beginPart, cleared, quiet}
+use Rattle.order.specs.Begin.{Begun, throughout, around, itsBeginning, inTurn, begin, beginInTurn, beginAll, beginAfter, part, partAt, beginPart, cleared, quiet, nothingBegun}
 use Rattle.order.specs.declared.Way.{Way as Result}
 use Rattle.order.specs.declared.Way.the-variants.{Running as running, Over as over, Raising as raising, Leaving as leaving, Undone as undone, UndoRaising as undoRaising}
-use Rattle.order.specs.Scope.{Outcome, rootOf, runs, begunIn, whereOver, Scope, scopeAt, isScope, isOpen, innerRuns, closing, beginUndo, beginUndoIn, startUndo, undo, ends, handle, undoes, turns, rememberedFor, untouched, withdraws, stop, stopAll, stopFirst, faults, breaks, looksAgain, bodyOver, bodyRaised, undoOver, undoRaised, fromBody, partOver, partRaised, fromFault, fromUndo}
+use Rattle.order.specs.Scope.{Outcome, rootOf, runs, begunIn, whereOver, Scope, scopeAt, isOpen, innerRuns, closing, beginUndo, beginUndoIn, startUndo, undo, ends, handle, undoes, turns, rememberedFor, untouched, withdraws, stop, stopAll, stopFirst, faults, breaks, looksAgain, bodyOver, bodyRaised, undoOver, undoRaised, fromBody, partOver, partRaised, fromFault, fromUndo, goesThrough, beginUndoFirst}
 use Rattle.order.specs.Scope as definitions
 use Rattle.order.specs.Acting.{finishes, raises, orRaises, again, repeats, allBound, itself, arms, goesOn, joins, inScope, combines, stepIn, stepAmong, stepRoot, endOf, movedTo, Actor, replaces, performs, acted}
-use Rattle.undoing.proofs.Stepping.{plain-performs}
+use Rattle.undoing.proofs.Stepping.{scope-performs}
 use Rattle.undoing.specs.Orderly.{isBeganOf}
 use Rattle.undoing.specs.Begun.{hasBegan, Lead, alone, together, inOrder, inStep, leadOf, mayLead}
 use Rattle.undoing.proofs.Parts.{both, decide, some-append}
@@ -35,12 +35,17 @@ module _ (lead : ℕ → Lead) where
     pub data Leads : Act → ℕ → Type 0 where
       leads-part : {own : Own} {within : Acts} {k : ℕ} → isScope own ≡ false → least own ≤ count within → LeadsIn within (k + 1) (leadOf own k)
           → Leads (act own within) k
-      leads-scope : {b g u : Act} {k : ℕ} → lead (k + 1) ≡ together k → lead (k + 1 + size b) ≡ alone → lead (k + 1 + size b + size g) ≡ alone
-          → Leads b (k + 1) → Leads g (k + 1 + size b) → Leads u (k + 1 + size b + size g) → Leads (act scope (trio b g u)) k
+      leads-scope : {v : Bool} {b g : Act} {u : Acts} {k : ℕ} → lead (k + 1) ≡ together k → lead (k + 1 + size b) ≡ alone
+          → Leads b (k + 1) → Leads g (k + 1 + size b) → LeadsRest v u (k + 1 + size b + size g) → Leads (act (scope v) (trio b g u)) k
 
     pub data LeadsIn : Acts → ℕ → Lead → Type 0 where
       leads-none : {c : ℕ} {q : Lead} → LeadsIn none c q
       leads-more : {a : Act} {l : Acts} {c : ℕ} {q : Lead} → lead c ≡ q → Leads a c → LeadsIn l (c + size a) q → LeadsIn (more a l) c q
+
+    -- what stands after a fault part
+    pub data LeadsRest : Bool → Acts → ℕ → Type 0 where
+      leads-undo : {u : Act} {c : ℕ} → lead c ≡ alone → Leads u c → LeadsRest true (more u none) c
+      leads-no : {c : ℕ} → LeadsRest false none c
 
   module _ (t : ℕ) where
     -- with more events it may still
@@ -147,7 +152,7 @@ module _ (lead : ℕ → Lead) where
     own-led sequence within k s q e ms x y = led-through k q (inOrder k) (beginInTurn within (k + 1) (set ms k active)) e (λ j l. rw (eq-eqb k k refl)) (x (set ms k active))
     own-led flow within k s q e ms x y = led-through k q (together k) (beginAll within (k + 1) (set ms k active)) e (λ j l. rw (eq-eqb k k refl)) (y (set ms k active))
     own-led pick within k s q e ms x y = led-alone k q e
-    own-led scope within k s q e ms x y = absurd (false≢true (sym s))
+    own-led (scope v) within k s q e ms x y = absurd (false≢true (sym s))
     own-led (arm p o vs) within k s q e ms x y = led-none q k
 
     mutual
@@ -155,7 +160,7 @@ module _ (lead : ℕ → Lead) where
 
       begin-led : {a : Act} {k : ℕ} → Leads a k → (q : Lead) → lead k ≡ q → (ms : List ℕ) → Led q k (begin a k ms .log)
       begin-led (leads-part {own} {within} {k} s n y) q e ms = own-led own within k s q e ms (λ ns. turn-led y ns) (λ ns. all-led y ns)
-      begin-led (leads-scope {b} {g} {u} {k} x y z hb hg hu) q e ms = led-around k q (begin b (k + 1) (set ms k active)) e (begin-led hb (together k) x (set ms k active))
+      begin-led (leads-scope {v = v₀} {b} {g} {u} {k} x y hb hg hu) q e ms = led-around k q (begin b (k + 1) (set ms k active)) e (begin-led hb (together k) x (set ms k active))
 
       turn-led : {l : Acts} {c : ℕ} {q : Lead} → LeadsIn l c q → (ms : List ℕ) → Led q c (beginInTurn l c ms .log)
       turn-led (leads-none {c} {q}) ms = led-none q c
@@ -217,17 +222,24 @@ module _ (lead : ℕ → Lead) where
     either-fine true x y z e w v = subst (λ (r : Begun). Fine (r .log)) (sym e) (w refl)
     either-fine false x y z e w v = subst (λ (r : Begun). Fine (r .log)) (sym e) v
 
+    cond-fine : (v : Bool) (x y : Begun) → Fine (x .log) → Fine (y .log) → Fine (cond v x y .log)
+    cond-fine true x y w v = w
+    cond-fine false x y w v = v
+
+    rest-fine : {u : Acts} {c : ℕ} → LeadsRest true u c → (b g : Act) (k : ℕ) (ms : List ℕ) → c ≡ k + 1 + size b + size g → Fine (beginPart 2 (trio b g u) (k + 1) ms .log)
+    unfolding beginPart part partAt
+    rest-fine (leads-undo {u} {c} z hu) b g k ms d = subst (λ (i : ℕ). Fine (begin u i ms .log)) d (begin-fine hu z ms)
+
     mutual
       unfolding beginUndo beginPart part partAt kind
 
       undo-fine : {a : Act} {k : ℕ} → Leads a k → (e : ℕ) (ms : List ℕ) → Fine (beginUndo a k e ms .log)
       undo-fine (leads-part {own} {within} {k} s n y) e ms =
-          either-fine (isScope own && eqb k e) (beginPart 2 within (k + 1) ms) (beginUndoIn within (k + 1) e ms) _ refl (λ v. both (isScope own) (eqb k e) v (λ a b. absurd (false≢true (sym s ∙ a)))) (undo-in-fine y e ms)
-      undo-fine (leads-scope {b} {g} {u} {k} x y z hb hg hu) e ms =
-          either-fine (isScope scope && eqb k e) (beginPart 2 (trio b g u) (k + 1) ms) (beginUndoIn (trio b g u) (k + 1) e ms) _ refl (λ v. begin-fine hu z ms)
-          (either-fine (ltb e (k + 1 + size b)) (beginUndo b (k + 1) e ms) (beginUndoIn (more g (more u none)) (k + 1 + size b) e ms) _ refl (λ v. undo-fine hb e ms)
-          (either-fine (ltb e (k + 1 + size b + size g)) (beginUndo g (k + 1 + size b) e ms) (beginUndoIn (more u none) (k + 1 + size b + size g) e ms) _ refl (λ v. undo-fine hg e ms)
-          (either-fine (ltb e (k + 1 + size b + size g + size u)) (beginUndo u (k + 1 + size b + size g) e ms) (beginUndoIn none (k + 1 + size b + size g + size u) e ms) _ refl (λ v. undo-fine hu e ms) fine-none)))
+          either-fine (isScope own) (cond (hasUndo own) (cond (eqb k e) (beginPart 2 within (k + 1) ms) (nothingBegun ms)) (beginUndoFirst within (k + 1) e ms)) (beginUndoIn within (k + 1) e ms) _ refl
+          (λ v. absurd (false≢true (sym s ∙ v))) (undo-in-fine y e ms)
+      undo-fine (leads-scope {v = true} {b} {g} {u} {k} x y hb hg hu) e ms =
+          cond-fine (eqb k e) (beginPart 2 (trio b g u) (k + 1) ms) (nothingBegun ms) (rest-fine hu b g k ms refl) fine-none
+      undo-fine (leads-scope {v = false} {b} {g} {u} {k} x y hb hg hu) e ms = undo-fine hb e ms
 
       undo-in-fine : {l : Acts} {c : ℕ} {q : Lead} → LeadsIn l c q → (e : ℕ) (ms : List ℕ) → Fine (beginUndoIn l c e ms .log)
       undo-in-fine leads-none e ms = fine-none
@@ -305,7 +317,7 @@ module _ (lead : ℕ → Lead) where
       unfolding partOver
       part-fine o = choose-fine (eqb (markOf (s .name) o) handling) (ends s o) (runs o) (partOver s o) refl (ends-fine o) fine-none
 
-    scope-part : {b g : Act} {k : ℕ} (u : Act) → lead (k + 1 + size b) ≡ alone → Leads b (k + 1) → Leads g (k + 1 + size b) → Part (scopeAt k (trio b g u))
+    scope-part : {b g : Act} {k : ℕ} (u : Acts) → lead (k + 1 + size b) ≡ alone → Leads b (k + 1) → Leads g (k + 1 + size b) → Part (scopeAt k (trio b g u))
     unfolding part partAt
     scope-part u y hb hg = record { body = hb; fault = hg; free = y }
 
@@ -326,7 +338,7 @@ module _ (lead : ℕ → Lead) where
       stop-fine (leads-part {own} {within} {k} s n y) o =
           halt-fine (isScope own) (elim (isOpen (markAt k o)) [ true ↦ withdraws k (scopeAt k within) (stopFirst within (k + 1) (marked k halted o)) | false ↦ untouched o ]) (stopAll within (k + 1) (marked k idle o)) _ refl
           (λ v. absurd (false≢true (sym s ∙ v))) (λ v. stop-all-fine y (marked k idle o))
-      stop-fine (leads-scope {b} {g} {u} {k} x y z hb hg hu) o =
+      stop-fine (leads-scope {v = v₀} {b} {g} {u} {k} x y hb hg hu) o =
           halt-fine (isOpen (markAt k o)) (withdraws k (scopeAt k (trio b g u)) (stop b (k + 1) (marked k halted o))) (untouched o) _ refl
           (λ v. withdraws-fine k (scopeAt k (trio b g u)) (stop b (k + 1) (marked k halted o)) (scope-part u y hb hg) (stop-fine hb (marked k halted o))) (λ v. fine-none)
 
@@ -408,7 +420,7 @@ module _ (lead : ℕ → Lead) where
         (led-fine (λ j b. rw (lt-ltb k t (omega arith), lt-ltb t j (omega arith), or-true)) (after-led y (o .marks))) (λ o₁. fine-none))
     combines-fine flow within k r s y n w = on-fine k active (joins k within) r w (λ o. joins-fine k within o)
     combines-fine pick within k r s y n w = on-fine k inside (finishes k) r w (λ o. fine-none)
-    combines-fine scope within k r s y n w = absurd (false≢true (sym s))
+    combines-fine (scope v) within k r s y n w = absurd (false≢true (sym s))
     combines-fine (arm a b vs) within k r s y n w = w
 
     or-fine : (k : ℕ) (o : Order) (x : ℕ → Outcome) (v : Value) → ((n : ℕ) → Fine (x n .log)) → Fine (orRaises k o x v .log)
@@ -422,41 +434,42 @@ module _ (lead : ℕ → Lead) where
     unfolding mayLead
     step-part {k = k} e y i n ms = led-fine (λ j b. eq-eqb k t e) (part-led y i n ms)
 
-    itself-fine : (own : Own) (within : Acts) (k : ℕ) (o : Order) → isScope own ≡ false → least own ≤ count within → LeadsIn within (k + 1) (leadOf own k)
-        → k ≡ t → Fine (itself own within k o .log)
+    itself-fine : (own : Own) (within : Acts) (q k : ℕ) (o : Order) → isScope own ≡ false → least own ≤ count within → LeadsIn within (k + 1) (leadOf own k)
+        → k ≡ t → Fine (itself own within q k o .log)
     unfolding itself kind least isBeganOf repeats
-    itself-fine empty within k o s n y e = fine-none
-    itself-fine (send a b vs) within k o s n y e = decide (allBound o vs) (λ d. rw d fine-none) (λ d. rw d (fine-event (raised k) [] (λ j. refl) fine-none))
-    itself-fine (receive a b vs) within k o s n y e = fine-none
-    itself-fine (setting v x) within k o s n y e = or-fine k o _ (evaluate x o) (λ i. fine-none)
-    itself-fine raise within k o s n y e = fine-event (raised k) [] (λ j. refl) fine-none
-    itself-fine leave within k o s n y e = fine-event left [] (λ j. refl) fine-none
-    itself-fine (choose x) within k o s n y e = or-fine k o _ (evaluate x o) (λ z. let o₁ = marked k inside o in where-fine (finishes k) (begunIn o₁ (beginPart (cond (isTrue z) 0 1) within (k + 1) (o₁ .marks))) (step-part e y (cond (isTrue z) 0 1) (second (isTrue z)) (o₁ .marks)) (λ o₂. fine-none))
+    itself-fine empty within q k o s n y e = fine-none
+    itself-fine (send a b vs) within q k o s n y e = decide (allBound o vs) (λ d. rw d fine-none) (λ d. rw d (fine-event (raised k) [] (λ j. refl) fine-none))
+    itself-fine (receive a b vs) within q k o s n y e = fine-none
+    itself-fine (setting v x) within q k o s n y e = or-fine k o _ (evaluate x o) (λ i. fine-none)
+    itself-fine raise within q k o s n y e = fine-event (raised k) [] (λ j. refl) fine-none
+    itself-fine leave within q k o s n y e = fine-event left [] (λ j. refl) fine-none
+    itself-fine (choose x) within q k o s n y e = or-fine k o _ (evaluate x o) (λ z. let o₁ = marked k inside o in where-fine (finishes k) (begunIn o₁ (beginPart (cond (isTrue z) 0 1) within (k + 1) (o₁ .marks))) (step-part e y (cond (isTrue z) 0 1) (second (isTrue z)) (o₁ .marks)) (λ o₂. fine-none))
       where
         second : (b : Bool) → cond b 0 1 < count within
         second true = omega arith
         second false = omega arith
-    itself-fine (repeat x) within k o s n y e = or-fine k o _ (evaluate x o) (λ z. choose-fine (isTrue z) (repeats k within o) (finishes k o) _ refl body fine-none)
+    itself-fine (repeat x) within q k o s n y e = or-fine k o _ (evaluate x o) (λ z. choose-fine (isTrue z) (repeats k within o) (finishes k o) _ refl body fine-none)
       where
         body : Fine (repeats k within o .log)
         body =
             let o₁ = marked k inside (withMarks (cleared (k + 1) (sizes within) (o .marks)) o) in
             where-fine (again k) (begunIn o₁ (beginPart 0 within (k + 1) (o₁ .marks))) (step-part e y 0 (omega arith) (o₁ .marks)) (λ o₂. fine-none)
-    itself-fine sequence within k o s n y e = fine-none
-    itself-fine flow within k o s n y e = fine-none
-    itself-fine pick within k o s n y e = fine-none
-    itself-fine scope within k o s n y e = absurd (false≢true (sym s))
-    itself-fine (arm a b vs) within k o s n y e = step-part e y 0 (omega arith) (o .marks)
+    itself-fine sequence within q k o s n y e = fine-none
+    itself-fine flow within q k o s n y e = fine-none
+    itself-fine pick within q k o s n y e = fine-none
+    itself-fine (scope v) within q k o s n y e = absurd (false≢true (sym s))
+    itself-fine (arm a b vs) within q k o s n y e = step-part e y 0 (omega arith) (o .marks)
 
-    closing-fine : (k : ℕ) (s : Scope) (o : Order) → Fine (closing k s o .log)
+    closing-fine : (v : Bool) (q k : ℕ) (s : Scope) (o : Order) → Fine (closing v q k s o .log)
     unfolding closing isBeganOf
-    closing-fine k s o = fine-event (closed k) [] (λ j. refl) fine-none
+    closing-fine v q k s o = fine-event (closed k) [] (λ j. refl) fine-none
 
-    in-scope-fine : (b g u : Act) (k : ℕ) (r : Outcome) → Part (scopeAt k (trio b g u)) → Fine (r .log) → Fine (inScope k t (trio b g u) r .log)
+    in-scope-fine : (v : Bool) (b g : Act) (u : Acts) (k : ℕ) (r : Outcome) → Part (scopeAt k (trio b g u)) → Fine (r .log) → Fine (inScope v k t (trio b g u) r .log)
     unfolding inScope fromUndo
-    in-scope-fine b g u k r h w =
+    in-scope-fine v b g u k r h w =
         let s = scopeAt k (trio b g u) in
-        choose-fine (ltb t (partAt 1 (trio b g u) (k + 1))) (fromBody s r) (elim (ltb t (partAt 2 (trio b g u) (k + 1))) [ true ↦ fromFault s r | false ↦ fromUndo r ]) _ refl (body-fine s h r w)
+        choose-fine (ltb t (partAt 1 (trio b g u) (k + 1))) (elim (goesThrough v k r) [ true ↦ r | false ↦ fromBody s r ]) (elim (ltb t (partAt 2 (trio b g u) (k + 1))) [ true ↦ fromFault s r | false ↦ fromUndo r ]) _ refl
+        (choose-fine (goesThrough v k r) r (fromBody s r) _ refl w (body-fine s h r w))
         (choose-fine (ltb t (partAt 2 (trio b g u) (k + 1))) (fromFault s r) (fromUndo r) _ refl (fault-fine s h r w) w)
 
     case-fine : (v : Bool) (x y z : Outcome) → z ≡ elim v [ true ↦ x | false ↦ y ] → (v ≡ true → Fine (x .log)) → (v ≡ false → Fine (y .log)) → Fine (z .log)
@@ -464,38 +477,42 @@ module _ (lead : ℕ → Lead) where
     case-fine false x y z e w v = subst (λ (r : Outcome). Fine (r .log)) (sym e) (v refl)
 
     -- a raise in its place begins nothing
-    performs-fine : (actor : Actor) (own : Own) (within : Acts) (k : ℕ) (o : Order) → Fine (itself own within k o .log) → Fine (performs actor own within k o .log)
+    performs-fine : (actor : Actor) (own : Own) (within : Acts) (q k : ℕ) (o : Order) → Fine (itself own within q k o .log) → Fine (performs actor own within q k o .log)
     unfolding performs isBeganOf
-    performs-fine actor own within k o w =
-        choose-fine (replaces actor (kind own)) (raises k o) (itself own within k o) _ refl (fine-event (raised k) [] (λ j. refl) fine-none) w
+    performs-fine actor own within q k o w =
+        choose-fine (replaces actor (kind own)) (raises k o) (itself own within q k o) _ refl (fine-event (raised k) [] (λ j. refl) fine-none) w
 
     mutual
       unfolding stepIn itself combines kind size
 
-      step-fine : (actor : Actor) {a : Act} {k : ℕ} → Leads a k → (o : Order) → k ≤ t → Fine (stepIn actor a k t o .log)
-      step-fine actor (leads-part {own} {within} {k} s n y) o m =
-          case-fine (eqb k t) (performs actor own within k o) (combines own within k t (stepAmong actor within (k + 1) t (arms own within k t o))) _ refl
-          (λ e. performs-fine actor own within k o (itself-fine own within k o s n y (eqb-true k t e)))
-          (λ e. combines-fine own within k (stepAmong actor within (k + 1) t (arms own within k t o)) s y (below e) (among-fine actor y (arms own within k t o) (below e)))
+      step-fine : (actor : Actor) {a : Act} {k : ℕ} → Leads a k → (q : ℕ) (o : Order) → k ≤ t → Fine (stepIn actor a q k t o .log)
+      step-fine actor (leads-part {own} {within} {k} s n y) q o m =
+          case-fine (eqb k t) (performs actor own within q k o) (combines own within k t (stepAmong actor within (isScope own) q (k + 1) t (arms own within k t o))) _ refl
+          (λ e. performs-fine actor own within q k o (itself-fine own within q k o s n y (eqb-true k t e)))
+          (λ e. combines-fine own within k (stepAmong actor within (isScope own) q (k + 1) t (arms own within k t o)) s y (below e) (among-fine actor y (isScope own) q (arms own within k t o) (below e)))
         where
           below : eqb k t ≡ false → k + 1 ≤ t
           below e = let z = eqb-false k t e in omega arith
-      step-fine actor (leads-scope {b} {g} {u} {k} x y z hb hg hu) o m =
-          case-fine (eqb k t) (performs actor scope (trio b g u) k o) (inScope k t (trio b g u) (stepAmong actor (trio b g u) (k + 1) t (arms scope (trio b g u) k t o))) _ refl
-          (λ e. subst (λ (r : Outcome). Fine (r .log)) (sym (plain-performs actor scope (trio b g u) k o refl)) (closing-fine k (scopeAt k (trio b g u)) o))
-          (λ e. let o₁ = arms scope (trio b g u) k t o in
-          in-scope-fine b g u k (stepAmong actor (trio b g u) (k + 1) t o₁) (scope-part u y hb hg)
-          (case-fine (ltb t (k + 1 + size b)) (stepIn actor b (k + 1) t o₁) (stepAmong actor (more g (more u none)) (k + 1 + size b) t o₁) _ refl
-          (λ d. step-fine actor hb o₁ (let i = eqb-false k t e in omega arith))
-          (λ d. case-fine (ltb t (k + 1 + size b + size g)) (stepIn actor g (k + 1 + size b) t o₁) (stepAmong actor (more u none) (k + 1 + size b + size g) t o₁) _ refl
-          (λ c. step-fine actor hg o₁ (ltb-false t (k + 1 + size b) d))
-          (λ c. case-fine (ltb t (k + 1 + size b + size g + size u)) (stepIn actor u (k + 1 + size b + size g) t o₁) (stepAmong actor none (k + 1 + size b + size g + size u) t o₁) _ refl
-          (λ i. step-fine actor hu o₁ (ltb-false t (k + 1 + size b + size g) c)) (λ i. fine-none)))))
+      step-fine actor (leads-scope {v = v₀} {b} {g} {u} {k} x y hb hg hu) q o m =
+          case-fine (eqb k t) (performs actor (scope v₀) (trio b g u) q k o) (inScope v₀ k t (trio b g u) (stepAmong actor (trio b g u) true q (k + 1) t (arms (scope v₀) (trio b g u) k t o))) _ refl
+          (λ e. subst (λ (r : Outcome). Fine (r .log)) (sym (scope-performs actor v₀ (trio b g u) q k o)) (closing-fine v₀ q k (scopeAt k (trio b g u)) o))
+          (λ e. let o₁ = arms (scope v₀) (trio b g u) k t o in
+          in-scope-fine v₀ b g u k (stepAmong actor (trio b g u) true q (k + 1) t o₁) (scope-part u y hb hg)
+          (case-fine (ltb t (k + 1 + size b)) (stepIn actor b (k + 1) (k + 1) t o₁) (stepAmong actor (more g u) true q (k + 1 + size b) t o₁) _ refl
+          (λ d. step-fine actor hb (k + 1) o₁ (let i = eqb-false k t e in omega arith))
+          (λ d. case-fine (ltb t (k + 1 + size b + size g)) (stepIn actor g (k + 1 + size b) (k + 1 + size b) t o₁) (stepAmong actor u true q (k + 1 + size b + size g) t o₁) _ refl
+          (λ c. step-fine actor hg (k + 1 + size b) o₁ (ltb-false t (k + 1 + size b) d))
+          (λ c. rest-step-fine actor hu q o₁ (ltb-false t (k + 1 + size b + size g) c)))))
 
-      among-fine : (actor : Actor) {l : Acts} {c : ℕ} {q : Lead} → LeadsIn l c q → (o : Order) → c ≤ t → Fine (stepAmong actor l c t o .log)
-      among-fine actor leads-none o m = fine-none
-      among-fine actor (leads-more {a} {l} {c} e x y) o m =
-          case-fine (ltb t (c + size a)) (stepIn actor a c t o) (stepAmong actor l (c + size a) t o) _ refl (λ d. step-fine actor x o m) (λ d. among-fine actor y o (ltb-false t (c + size a) d))
+      rest-step-fine : (actor : Actor) {v : Bool} {u : Acts} {c : ℕ} → LeadsRest v u c → (q : ℕ) (o : Order) → c ≤ t → Fine (stepAmong actor u true q c t o .log)
+      rest-step-fine actor (leads-undo {u} {c} z hu) q o m =
+          case-fine (ltb t (c + size u)) (stepIn actor u c c t o) (stepAmong actor none true q (c + size u) t o) _ refl (λ d. step-fine actor hu c o m) (λ d. fine-none)
+      rest-step-fine actor leads-no q o m = fine-none
+
+      among-fine : (actor : Actor) {l : Acts} {c : ℕ} {q : Lead} → LeadsIn l c q → (v : Bool) (r : ℕ) (o : Order) → c ≤ t → Fine (stepAmong actor l v r c t o .log)
+      among-fine actor leads-none v r o m = fine-none
+      among-fine actor (leads-more {a} {l} {c} e x y) v r o m =
+          case-fine (ltb t (c + size a)) (stepIn actor a (cond v c r) c t o) (stepAmong actor l v r (c + size a) t o) _ refl (λ d. step-fine actor x (cond v c r) o m) (λ d. among-fine actor y v r o (ltb-false t (c + size a) d))
 
     -- A step of an order.
     pub order-fine : (actor : Actor) (p : Plan) → Leads (p .body) 0 → Leads (p .fault) (size (p .body)) → lead (size (p .body)) ≡ alone → (o : Order)
@@ -507,9 +524,9 @@ module _ (lead : ℕ → Lead) where
         h = record { body = hb; fault = hf; free = e }
 
         w : Fine (stepRoot actor p t o .log)
-        w = case-fine (ltb t (size (p .body))) (fromBody (rootOf p) (stepIn actor (p .body) 0 t o)) (fromFault (rootOf p) (stepIn actor (p .fault) (size (p .body)) t o)) (stepRoot actor p t o) refl
-            (λ d. body-fine (rootOf p) h (stepIn actor (p .body) 0 t o) (step-fine actor hb o (omega arith)))
-            (λ d. fault-fine (rootOf p) h (stepIn actor (p .fault) (size (p .body)) t o) (step-fine actor hf o (ltb-false t (size (p .body)) d)))
+        w = case-fine (ltb t (size (p .body))) (fromBody (rootOf p) (stepIn actor (p .body) 0 0 t o)) (fromFault (rootOf p) (stepIn actor (p .fault) (size (p .body)) (size (p .body)) t o)) (stepRoot actor p t o) refl
+            (λ d. body-fine (rootOf p) h (stepIn actor (p .body) 0 0 t o) (step-fine actor hb 0 o (omega arith)))
+            (λ d. fault-fine (rootOf p) h (stepIn actor (p .fault) (size (p .body)) (size (p .body)) t o) (step-fine actor hf (size (p .body)) o (ltb-false t (size (p .body)) d)))
 
         go : (x : End) → Fine (movedTo (stepRoot actor p t o) x .log)
         go None = w

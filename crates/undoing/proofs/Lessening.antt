@@ -9,7 +9,7 @@ use lib.ListN.{length, getD, length-set}
 use lib.Seq.{getD-set-same}
 use lib.Dec.{eqb}
 use borrow.Author.Tests.{eqb-true, eq-eqb, ne-eqb, lt-ltb, le-ltb}
-use Rattle.plan.specs.Tree.{Own, empty, send, receive, set as setting, raise, leave, choose, repeat, sequence, flow, pick, scope, arm, kind, Act, act, Acts, more, Plan, size, sizes, count}
+use Rattle.plan.specs.Tree.{Own, empty, send, receive, set as setting, raise, leave, choose, repeat, sequence, flow, pick, scope, arm, kind, Act, act, Acts, more, Plan, size, sizes, count, isPick, isScope}
 use Rattle.order.specs.declared.Order.{Order}
 use Rattle.order.specs.Lists.{some, only}
 use Rattle.order.specs.State.{active, inside, binding, markAt, marked}
@@ -24,23 +24,22 @@ use Rattle.undoing.specs.Ties.{Place, nameOf}
 use Rattle.undoing.specs.Answered.{isSure, hasAll, surely, surelyAmong, without}
 use Rattle.undoing.proofs.Parts.{decide, only-append, some-append}
 use Rattle.undoing.proofs.Marks.{trio, isDoer, run-loud, Quiet, Kept, holding, Run, run-awaits, run-one, run-all, run-body, run-done, run-turned, One, one-here, one-later, All, all-run, all-quiet, quiet-agree, agree-below, agree-above}
-use Rattle.undoing.proofs.Orders.{Fit, fit-kept, fit-marked, least, before-on, Sits, sits-part, sits-scope, SitsIn, sits-more, Remedy, remedy}
-use Rattle.undoing.proofs.Moves.{Before}
+use Rattle.undoing.proofs.Orders.{Fit, fit-kept, fit-marked, least, fore-on, Sits, sits-part, sits-scope, SitsIn, sits-more, Remedy, remedy}
+use Rattle.undoing.proofs.Moves.{Fore}
 use Rattle.undoing.proofs.Beginning.{quiet-set, quiet-all}
 use Rattle.undoing.proofs.Waiting.{opens, Waits, waits-itself, waits-within, WaitsIn, waits-first, waits-later, quiet-waits, quiet-waits-in}
-use Rattle.undoing.proofs.Breaking.{Distinct}
 use Rattle.undoing.proofs.Scoping.{RunAs}
 use Rattle.undoing.proofs.Goings.{begins-at}
 use Rattle.undoing.proofs.Combining.{OneAs, quiet-told, quiet-found, arms-held}
-use Rattle.undoing.proofs.Stepping.{step-is, among-is, steps, steps-one, steps-all}
+use Rattle.undoing.proofs.Stepping.{PartOf, step-is, among-is, steps, steps-one, steps-all}
 use Rattle.undoing.proofs.Sure.{leftIn, leftInTurn, leftOfAll, off-below, off-above, surely-off-in, surely-none, surely-none-in, left-off, turn-off, all-off, left-quiet, left-agree, all-same, surelyAfter, Comes, after-comes}
 use Rattle.undoing.proofs.Sure as sure
 
 -- the definition, by where the step is, of a step that is an activity's own
-pub own-is : (own : Own) (within : Acts) (k t : ℕ) (o : Order) (b : Bool) → eqb k t ≡ b
-    → stepIn itsOwn (act own within) k t o ≡ elim b [ true ↦ itself own within k o | false ↦ combines own within k t (stepAmong itsOwn within (k + 1) t (arms own within k t o)) ]
+pub own-is : (own : Own) (within : Acts) (y₀ k t : ℕ) (o : Order) (b : Bool) → isScope own ≡ false → eqb k t ≡ b
+    → stepIn itsOwn (act own within) y₀ k t o ≡ elim b [ true ↦ itself own within y₀ k o | false ↦ combines own within k t (stepAmong itsOwn within false y₀ (k + 1) t (arms own within k t o)) ]
 unfolding performs replaces
-own-is own within k t o b e = step-is itsOwn own within k t o b e
+own-is own within y₀ k t o b s e = step-is itsOwn own within y₀ k t o b s e
 
 -- What is left of a tree after a step t in it, of which it was so much before.
 abbrev pub LessAs : (left : List ℕ → List ℕ) (t : ℕ) (ms ns : List ℕ) → Result → Type 0
@@ -96,29 +95,30 @@ sure-left (repeat x) within k ms s = absurd (false≢true s)
 sure-left sequence within k ms s = absurd (false≢true s)
 sure-left flow within k ms s = absurd (false≢true s)
 sure-left pick within k ms s = absurd (false≢true s)
-sure-left scope within k ms s = absurd (false≢true s)
+sure-left (scope u) within k ms s = absurd (false≢true s)
 sure-left (arm x y vs) within k ms s = absurd (false≢true s)
 
 -- what it is not while it awaits its step, and while something runs in it
 record Surely (own : Own) : Type 0 where
-  shut : eqb (kind own) 10 ≡ false
+  plain : isScope own ≡ false
+  shut : isPick own ≡ false
   held : eqb (holding own) active ≡ false
   awaits-so : (m : ℕ) → awaits own false m ≡ eqb m active
 
 surely-so : (own : Own) → isSure own ≡ true → Surely own
 unfolding isSure kind awaits
 surely-so empty s = absurd (false≢true s)
-surely-so (send x y vs) s = record { shut = refl; held = refl; awaits-so = λ m. refl }
-surely-so (receive x y vs) s = record { shut = refl; held = refl; awaits-so = λ m. refl }
-surely-so (setting v x) s = record { shut = refl; held = refl; awaits-so = λ m. refl }
-surely-so raise s = record { shut = refl; held = refl; awaits-so = λ m. refl }
-surely-so leave s = record { shut = refl; held = refl; awaits-so = λ m. refl }
-surely-so (choose x) s = record { shut = refl; held = refl; awaits-so = λ m. refl }
+surely-so (send x y vs) s = record { plain = refl; shut = refl; held = refl; awaits-so = λ m. refl }
+surely-so (receive x y vs) s = record { plain = refl; shut = refl; held = refl; awaits-so = λ m. refl }
+surely-so (setting v x) s = record { plain = refl; shut = refl; held = refl; awaits-so = λ m. refl }
+surely-so raise s = record { plain = refl; shut = refl; held = refl; awaits-so = λ m. refl }
+surely-so leave s = record { plain = refl; shut = refl; held = refl; awaits-so = λ m. refl }
+surely-so (choose x) s = record { plain = refl; shut = refl; held = refl; awaits-so = λ m. refl }
 surely-so (repeat x) s = absurd (false≢true s)
 surely-so sequence s = absurd (false≢true s)
 surely-so flow s = absurd (false≢true s)
 surely-so pick s = absurd (false≢true s)
-surely-so scope s = absurd (false≢true s)
+surely-so (scope u) s = absurd (false≢true s)
 surely-so (arm x y vs) s = absurd (false≢true s)
 
 -- it makes of a step within it what leaves its mark, or it is over
@@ -165,7 +165,7 @@ sure-keeps (repeat x) within k t r s = absurd (false≢true s)
 sure-keeps sequence within k t r s = absurd (false≢true s)
 sure-keeps flow within k t r s = absurd (false≢true s)
 sure-keeps pick within k t r s = absurd (false≢true s)
-sure-keeps scope within k t r s = absurd (false≢true s)
+sure-keeps (scope u) within k t r s = absurd (false≢true s)
 sure-keeps (arm x y vs) within k t r s = absurd (false≢true s)
 
 -- so that nothing is left of it, where its mark was no active one
@@ -194,7 +194,7 @@ module _ (p : Plan) where
   DoneAs k ns undone = Unit {0}
   DoneAs k ns undoRaising = Unit {0}
 
-  choose-done : {x : Place} (within : Acts) (k i : ℕ) (o : Order) → Before (nameOf x) k → Fit x o → SitsIn p x within (k + 1) → i < count within → Quiet (o .marks) (k + 1) (sizes within)
+  choose-done : {x : Place} (within : Acts) (k i : ℕ) (o : Order) → Fore x k → Fit x o → SitsIn p x within (k + 1) → i < count within → Quiet (o .marks) (k + 1) (sizes within)
       → k + (1 + sizes within) ≤ length (o .marks)
       → DoneAs k (enters k o (beginPart i within (k + 1) (marked k inside o .marks)) .order .marks) (enters k o (beginPart i within (k + 1) (marked k inside o .marks)) .result)
   choose-done {x} within k i o d f l c q m =
@@ -209,24 +209,24 @@ module _ (p : Plan) where
       go true e = tt
       go false e = e
 
-  sure-done : {x : Place} (own : Own) (within : Acts) (k : ℕ) (o : Order) → isSure own ≡ true → least own ≤ count within → Before (nameOf x) k → Fit x o → SitsIn p x within (k + 1)
-      → Quiet (o .marks) (k + 1) (sizes within) → k + (1 + sizes within) ≤ length (o .marks) → DoneAs k (itself own within k o .order .marks) (itself own within k o .result)
+  sure-done : {x : Place} (own : Own) (within : Acts) (y₀ k : ℕ) (o : Order) → isSure own ≡ true → least own ≤ count within → Fore x k → Fit x o → SitsIn p x within (k + 1)
+      → Quiet (o .marks) (k + 1) (sizes within) → k + (1 + sizes within) ≤ length (o .marks) → DoneAs k (itself own within y₀ k o .order .marks) (itself own within y₀ k o .result)
   unfolding isSure itself least kind
-  sure-done empty within k o s g d f l q m = absurd (false≢true s)
-  sure-done (send x y vs) within k o s g d f l q m = go (allBound o vs)
+  sure-done empty within y₀ k o s g d f l q m = absurd (false≢true s)
+  sure-done (send x y vs) within y₀ k o s g d f l q m = go (allBound o vs)
     where
       go : (b : Bool) → DoneAs k (cond b (finishes k o) (raises k o) .order .marks) (cond b (finishes k o) (raises k o) .result)
       go true = tt
       go false = tt
-  sure-done (receive x y vs) within k o s g d f l q m = tt
-  sure-done (setting v x) within k o s g d f l q m = go (evaluate x o)
+  sure-done (receive x y vs) within y₀ k o s g d f l q m = tt
+  sure-done (setting v x) within y₀ k o s g d f l q m = go (evaluate x o)
     where
       go : (z : Value) → DoneAs k (orRaises k o (λ n. finishes k (binding v n o)) z .order .marks) (orRaises k o (λ n. finishes k (binding v n o)) z .result)
       go fault = tt
       go (value n) = tt
-  sure-done raise within k o s g d f l q m = tt
-  sure-done leave within k o s g d f l q m = tt
-  sure-done (choose x) within k o s g d f l q m = go (evaluate x o) (λ i h. choose-done within k i o d f l h q m)
+  sure-done raise within y₀ k o s g d f l q m = tt
+  sure-done leave within y₀ k o s g d f l q m = tt
+  sure-done (choose x) within y₀ k o s g d f l q m = go (evaluate x o) (λ i h. choose-done within k i o d f l h q m)
     where
       first-two : (b : Bool) → cond b 0 1 < 2
       first-two true = omega arith
@@ -237,12 +237,12 @@ module _ (p : Plan) where
           (orRaises k o (λ n. enters k o (beginPart (cond (isTrue n) 0 1) within (k + 1) (marked k inside o .marks))) z .result)
       go fault h = tt
       go (value n) h = h (cond (isTrue n) 0 1) (omega (arith, first-two (isTrue n)))
-  sure-done (repeat x) within k o s g d f l q m = absurd (false≢true s)
-  sure-done sequence within k o s g d f l q m = absurd (false≢true s)
-  sure-done flow within k o s g d f l q m = absurd (false≢true s)
-  sure-done pick within k o s g d f l q m = absurd (false≢true s)
-  sure-done scope within k o s g d f l q m = absurd (false≢true s)
-  sure-done (arm x y vs) within k o s g d f l q m = absurd (false≢true s)
+  sure-done (repeat x) within y₀ k o s g d f l q m = absurd (false≢true s)
+  sure-done sequence within y₀ k o s g d f l q m = absurd (false≢true s)
+  sure-done flow within y₀ k o s g d f l q m = absurd (false≢true s)
+  sure-done pick within y₀ k o s g d f l q m = absurd (false≢true s)
+  sure-done (scope u) within y₀ k o s g d f l q m = absurd (false≢true s)
+  sure-done (arm x y vs) within y₀ k o s g d f l q m = absurd (false≢true s)
 
   done-less : (left : List ℕ → List ℕ) (k : ℕ) (ms ns : List ℕ) (x : Result) → ((ms : List ℕ) → left ms ≡ cond (eqb (getD ms k 0) active) (k ∷ []) [])
       → getD ms k 0 ≡ active → DoneAs k ns x → LessAs left k ms ns x
@@ -254,7 +254,7 @@ module _ (p : Plan) where
   done-less left k ms ns undoRaising f e d = tt
 
   -- What a sequence makes of a step in it, and a flow.
-  module _ {x : Place} (within : Acts) (k t : ℕ) (o : Order) (r : Outcome) (f : Fit x o) (d : Before (nameOf x) k) (l : SitsIn p x within (k + 1)) (m : k + (1 + sizes within) ≤ length (o .marks))
+  module _ {x : Place} (within : Acts) (k t : ℕ) (o : Order) (r : Outcome) (f : Fit x o) (d : Fore x k) (l : SitsIn p x within (k + 1)) (m : k + (1 + sizes within) ≤ length (o .marks))
       (w : Kept (k + 1) (sizes within) (o .marks) (r .order .marks)) (rooted : r .order .root ≡ o .root) (e : getD (o .marks) k 0 ≡ active) where
     mark-after : eqb (getD (r .order .marks) k 0) active ≡ true
     mark-after = eq-eqb (getD (r .order .marks) k 0) active (w .below k (omega arith) ∙ e)
@@ -277,7 +277,7 @@ module _ (p : Plan) where
     turn-less running q y = y
     turn-less over q y =
         subst (λ (b : Bool). LessAs (leftInTurn within (k + 1)) t (o .marks) (goesSo b .order .marks) (goesSo b .result)) (sym mark-after)
-        (begun-less y (after-comes p l t (r .order) (q refl) (omega (arith, w .many)) (fit-kept x (k + 1) o (r .order) (before-on (nameOf x) d (omega arith)) (omega arith) rooted w f)) (beginAfter within (k + 1) t (r .order .marks) .over) refl)
+        (begun-less y (after-comes p l t (r .order) (q refl) (omega (arith, w .many)) (fit-kept x (k + 1) o (r .order) (fore-on x d (omega arith)) (omega arith) rooted w f)) (beginAfter within (k + 1) t (r .order .marks) .over) refl)
     turn-less raising q y = tt
     turn-less leaving q y = tt
     turn-less undone q y = tt
@@ -320,9 +320,9 @@ no-flow : isSure flow ≡ true → ⊥
 unfolding isSure
 no-flow y = false≢true y
 
-no-scope : isSure scope ≡ true → ⊥
+no-scope : (u : Bool) → isSure (scope u) ≡ true → ⊥
 unfolding isSure
-no-scope y = false≢true y
+no-scope u y = false≢true y
 
 -- how one that is sure to have its step runs: it awaits it, or one within it runs
 data SureRun (ms : List ℕ) (own : Own) (within : Acts) (k : ℕ) : Type 0 where
@@ -333,34 +333,34 @@ sure-runs : {ms : List ℕ} (own : Own) (within : Acts) (k : ℕ) → isSure own
 sure-runs own within k y (run-awaits _ _ c q) = sure-awaits c q
 sure-runs own within k y (run-one _ c q) = sure-one c q
 sure-runs flow within k y (run-all _ _ _) = absurd (no-flow y)
-sure-runs scope within k y (run-body _ _ _) = absurd (no-scope y)
-sure-runs scope within k y (run-done _ _) = absurd (no-scope y)
-sure-runs scope within k y (run-turned _ _) = absurd (no-scope y)
+sure-runs (scope u) within k y (run-body _ _ _) = absurd (no-scope u y)
+sure-runs (scope u) within k y (run-done _ _) = absurd (no-scope u y)
+sure-runs (scope u) within k y (run-turned _ _) = absurd (no-scope u y)
 
-module _ (p : Plan) (distinct : Distinct p) where
+module _ (p : Plan) where
   -- An activity other than a scope that runs, by what stands within it.
-  module _ {x : Place} (within : Acts) (k t : ℕ) (o : Order) (b : Bool) (d : Before (nameOf x) k) (f : Fit x o) (l : SitsIn p x within (k + 1)) (m : k + (1 + sizes within) ≤ length (o .marks)) (e : b ≡ false)
-      (i : (c : Bool) → WaitsIn (o .marks) within (k + 1) t c → c ≡ false → One (o .marks) within (k + 1) → TurnAs within (k + 1) t (o .marks) (stepAmong itsOwn within (k + 1) t o .order .marks) (stepAmong itsOwn within (k + 1) t o .result))
-      (j : (c : Bool) → WaitsIn (o .marks) within (k + 1) t c → c ≡ false → All (o .marks) within (k + 1) → AllLessAs within (k + 1) t (o .marks) (stepAmong itsOwn within (k + 1) t o .order .marks) (stepAmong itsOwn within (k + 1) t o .result)) where
+  module _ {x : Place} (within : Acts) (y₀ k t : ℕ) (o : Order) (b : Bool) (y₁ : PartOf x y₀) (d : Fore x k) (f : Fit x o) (l : SitsIn p x within (k + 1)) (m : k + (1 + sizes within) ≤ length (o .marks)) (e : b ≡ false)
+      (i : (c : Bool) → WaitsIn (o .marks) within (k + 1) t c → c ≡ false → One (o .marks) within (k + 1) → TurnAs within (k + 1) t (o .marks) (stepAmong itsOwn within false y₀ (k + 1) t o .order .marks) (stepAmong itsOwn within false y₀ (k + 1) t o .result))
+      (j : (c : Bool) → WaitsIn (o .marks) within (k + 1) t c → c ≡ false → All (o .marks) within (k + 1) → AllLessAs within (k + 1) t (o .marks) (stepAmong itsOwn within false y₀ (k + 1) t o .order .marks) (stepAmong itsOwn within false y₀ (k + 1) t o .result)) where
     -- one that is sure to have its step
-    sure-less : (own : Own) → isSure own ≡ true → least own ≤ count within → Waits (o .marks) (act own within) k t b → SureRun (o .marks) own within k → Lessens (act own within) k t (o .marks) (stepIn itsOwn (act own within) k t o)
+    sure-less : (own : Own) → isSure own ≡ true → least own ≤ count within → Waits (o .marks) (act own within) k t b → SureRun (o .marks) own within k → Lessens (act own within) k t (o .marks) (stepIn itsOwn (act own within) y₀ k t o)
     sure-less own y g (waits-itself z a) (sure-awaits c q) =
-        subst (λ (v : Outcome). Lessens (act own within) k t (o .marks) v) (sym (own-is own within k t o true (eq-eqb k t z)))
-        (subst (λ (v : ℕ). Lessens (act own within) k v (o .marks) (itself own within k o)) z
-        (done-less p (leftIn (act own within) k) k (o .marks) (itself own within k o .order .marks) (itself own within k o .result) (λ ms. sure-left own within k ms y) c (sure-done p own within k o y g d f l q m)))
+        subst (λ (v : Outcome). Lessens (act own within) k t (o .marks) v) (sym (own-is own within y₀ k t o true (surely-so own y .plain) (eq-eqb k t z)))
+        (subst (λ (v : ℕ). Lessens (act own within) k v (o .marks) (itself own within y₀ k o)) z
+        (done-less p (leftIn (act own within) k) k (o .marks) (itself own within y₀ k o .order .marks) (itself own within y₀ k o .result) (λ ms. sure-left own within k ms y) c (sure-done p own within y₀ k o y g d f l q m)))
     sure-less own y g (waits-itself z a) (sure-one c q) =
         absurd (false≢true (sym (surely-so own y .held) ∙ (sym (surely-so own y .awaits-so (holding own)) ∙ subst (λ (v : ℕ). awaits own false v ≡ true) c (subst (λ (v : Bool). awaits own v (getD (o .marks) k 0) ≡ true) e a))))
     sure-less own y g (waits-within h z) (sure-awaits c q) = absurd (quiet-waits-in z (rw (surely-so own y .shut)) q)
     sure-less own y g (waits-within h z) (sure-one c q) =
         let v : opens own (getD (o .marks) k 0) ≡ false = rw (surely-so own y .shut) in
-        let a = steps-one p distinct itsOwn l t o (opens own (getD (o .marks) k 0)) z v q f (omega arith) in
+        let a = steps-one p itsOwn l y₀ t o (opens own (getD (o .marks) k 0)) y₁ z v q f (omega arith) in
         subst (λ (u : Outcome). Lessens (act own within) k t (o .marks) u)
-        (sym (own-is own within k t o false (ne-eqb k t (omega arith)) ∙ ap (λ (u : Order). combines own within k t (stepAmong itsOwn within (k + 1) t u)) (arms-held own within k t o c)))
-        (kept-less (leftIn (act own within) k) k t (o .marks) (stepAmong itsOwn within (k + 1) t o .order .marks) (combines own within k t (stepAmong itsOwn within (k + 1) t o) .order .marks) (combines own within k t (stepAmong itsOwn within (k + 1) t o) .result) (λ ms. sure-left own within k ms y)
-        (ap (λ (u : ℕ). eqb u active) c ∙ surely-so own y .held) (a .kept .below k (omega arith)) (sure-keeps own within k t (stepAmong itsOwn within (k + 1) t o) y))
+        (sym (own-is own within y₀ k t o false (surely-so own y .plain) (ne-eqb k t (omega arith)) ∙ ap (λ (u : Order). combines own within k t (stepAmong itsOwn within false y₀ (k + 1) t u)) (arms-held own within k t o c)))
+        (kept-less (leftIn (act own within) k) k t (o .marks) (stepAmong itsOwn within false y₀ (k + 1) t o .order .marks) (combines own within k t (stepAmong itsOwn within false y₀ (k + 1) t o) .order .marks) (combines own within k t (stepAmong itsOwn within false y₀ (k + 1) t o) .result) (λ ms. sure-left own within k ms y)
+        (ap (λ (u : ℕ). eqb u active) c ∙ surely-so own y .held) (a .kept .below k (omega arith)) (sure-keeps own within k t (stepAmong itsOwn within false y₀ (k + 1) t o) y))
 
     -- a sequence
-    one-over : (z : Result) → z ≡ over → OneAs p within (k + 1) t o (stepAmong itsOwn within (k + 1) t o .log) (stepAmong itsOwn within (k + 1) t o .order) z → Quiet (stepAmong itsOwn within (k + 1) t o .order .marks) (k + 1) (sizes within)
+    one-over : (z : Result) → z ≡ over → OneAs p within (k + 1) t o (stepAmong itsOwn within false y₀ (k + 1) t o .log) (stepAmong itsOwn within false y₀ (k + 1) t o .order) z → Quiet (stepAmong itsOwn within false y₀ (k + 1) t o .order .marks) (k + 1) (sizes within)
     one-over running v c = absurd (let z : _≡_ {A = ℕ} 0 1 = cc in omega arith)
     one-over over v c = c .0
     one-over raising v c = absurd (let z : _≡_ {A = ℕ} 0 1 = cc in omega arith)
@@ -368,52 +368,52 @@ module _ (p : Plan) (distinct : Distinct p) where
     one-over undone v c = absurd c
     one-over undoRaising v c = absurd c
 
-    in-sequence : Waits (o .marks) (act sequence within) k t b → Run (o .marks) (act sequence within) k → Lessens (act sequence within) k t (o .marks) (stepIn itsOwn (act sequence within) k t o)
+    in-sequence : Waits (o .marks) (act sequence within) k t b → Run (o .marks) (act sequence within) k → Lessens (act sequence within) k t (o .marks) (stepIn itsOwn (act sequence within) y₀ k t o)
     unfolding leftIn itself isDoer kind
     in-sequence (waits-itself z a) q =
-        subst (λ (v : Outcome). Lessens (act sequence within) k t (o .marks) v) (sym (own-is sequence within k t o true (eq-eqb k t z)))
+        subst (λ (v : Outcome). Lessens (act sequence within) k t (o .marks) v) (sym (own-is sequence within y₀ k t o true refl (eq-eqb k t z)))
         (sym (turn-off within (k + 1) t (o .marks) (off-below t (k + 1) (sizes within) (omega arith))))
     in-sequence (waits-within h z) (run-awaits _ y _ _) = absurd (false≢true y)
     in-sequence (waits-within h z) (run-one s₁ c q) =
-        let a = steps-one p distinct itsOwn l t o _ z refl q f (omega arith) in
+        let a = steps-one p itsOwn l y₀ t o _ y₁ z refl q f (omega arith) in
         subst (λ (u : Outcome). Lessens (act sequence within) k t (o .marks) u)
-        (sym (own-is sequence within k t o false (ne-eqb k t (omega arith)) ∙ ap (λ (u : Order). combines sequence within k t (stepAmong itsOwn within (k + 1) t u)) (arms-held sequence within k t o c)))
-        (turn-less p within k t o (stepAmong itsOwn within (k + 1) t o) f d l m (a .kept) (a .rooted) c (stepAmong itsOwn within (k + 1) t o .result)
-        (λ v. one-over (stepAmong itsOwn within (k + 1) t o .result) v (a .comes)) (i _ z refl q))
+        (sym (own-is sequence within y₀ k t o false refl (ne-eqb k t (omega arith)) ∙ ap (λ (u : Order). combines sequence within k t (stepAmong itsOwn within false y₀ (k + 1) t u)) (arms-held sequence within k t o c)))
+        (turn-less p within k t o (stepAmong itsOwn within false y₀ (k + 1) t o) f d l m (a .kept) (a .rooted) c (stepAmong itsOwn within false y₀ (k + 1) t o .result)
+        (λ v. one-over (stepAmong itsOwn within false y₀ (k + 1) t o .result) v (a .comes)) (i _ z refl q))
 
     -- a flow
-    beside : {v : Bool} → k < t → WaitsIn (o .marks) within (k + 1) t v → v ≡ false → getD (o .marks) k 0 ≡ active → All (o .marks) within (k + 1) → Lessens (act flow within) k t (o .marks) (stepIn itsOwn (act flow within) k t o)
+    beside : {v : Bool} → k < t → WaitsIn (o .marks) within (k + 1) t v → v ≡ false → getD (o .marks) k 0 ≡ active → All (o .marks) within (k + 1) → Lessens (act flow within) k t (o .marks) (stepIn itsOwn (act flow within) y₀ k t o)
     unfolding leftIn
     beside {v} h z u c q =
-        let a = steps-all p distinct itsOwn l t o v z u q f (omega arith) in
+        let a = steps-all p itsOwn l y₀ t o v y₁ z u q f (omega arith) in
         subst (λ (u : Outcome). Lessens (act flow within) k t (o .marks) u)
-        (sym (own-is flow within k t o false (ne-eqb k t (omega arith)) ∙ ap (λ (u : Order). combines flow within k t (stepAmong itsOwn within (k + 1) t u)) (arms-held flow within k t o c)))
-        (flow-less p within k t o (stepAmong itsOwn within (k + 1) t o) f d l m (a .kept) (a .rooted) c (stepAmong itsOwn within (k + 1) t o .result) (j v z u q))
+        (sym (own-is flow within y₀ k t o false refl (ne-eqb k t (omega arith)) ∙ ap (λ (u : Order). combines flow within k t (stepAmong itsOwn within false y₀ (k + 1) t u)) (arms-held flow within k t o c)))
+        (flow-less p within k t o (stepAmong itsOwn within false y₀ (k + 1) t o) f d l m (a .kept) (a .rooted) c (stepAmong itsOwn within false y₀ (k + 1) t o .result) (j v z u q))
 
-    in-flow : Waits (o .marks) (act flow within) k t b → Run (o .marks) (act flow within) k → Lessens (act flow within) k t (o .marks) (stepIn itsOwn (act flow within) k t o)
+    in-flow : Waits (o .marks) (act flow within) k t b → Run (o .marks) (act flow within) k → Lessens (act flow within) k t (o .marks) (stepIn itsOwn (act flow within) y₀ k t o)
     unfolding leftIn itself isDoer kind
     in-flow (waits-itself z a) q =
-        subst (λ (v : Outcome). Lessens (act flow within) k t (o .marks) v) (sym (own-is flow within k t o true (eq-eqb k t z)))
+        subst (λ (v : Outcome). Lessens (act flow within) k t (o .marks) v) (sym (own-is flow within y₀ k t o true refl (eq-eqb k t z)))
         (sym (all-off within (k + 1) t (o .marks) (off-below t (k + 1) (sizes within) (omega arith))))
     in-flow (waits-within h z) (run-awaits _ y _ _) = absurd (false≢true y)
     in-flow (waits-within h z) (run-one s₁ c q) = beside h z refl c (one-each q)
     in-flow (waits-within h z) (run-all c q _) = beside h z refl c q
 
-    part-less : (own : Own) → least own ≤ count within → Waits (o .marks) (act own within) k t b → Run (o .marks) (act own within) k → Lessens (act own within) k t (o .marks) (stepIn itsOwn (act own within) k t o)
+    part-less : (own : Own) → least own ≤ count within → Waits (o .marks) (act own within) k t b → Run (o .marks) (act own within) k → Lessens (act own within) k t (o .marks) (stepIn itsOwn (act own within) y₀ k t o)
     unfolding isSure leftIn
-    part-less empty g w r = nothing-less (leftIn (act empty within) k) t (o .marks) (stepIn itsOwn (act empty within) k t o .order .marks) (stepIn itsOwn (act empty within) k t o .result) (λ ms. refl)
+    part-less empty g w r = nothing-less (leftIn (act empty within) k) t (o .marks) (stepIn itsOwn (act empty within) y₀ k t o .order .marks) (stepIn itsOwn (act empty within) y₀ k t o .result) (λ ms. refl)
     part-less (send y z vs) g w r = sure-less (send y z vs) refl g w (sure-runs (send y z vs) within k refl r)
     part-less (receive y z vs) g w r = sure-less (receive y z vs) refl g w (sure-runs (receive y z vs) within k refl r)
     part-less (setting v y) g w r = sure-less (setting v y) refl g w (sure-runs (setting v y) within k refl r)
     part-less raise g w r = sure-less raise refl g w (sure-runs raise within k refl r)
     part-less leave g w r = sure-less leave refl g w (sure-runs leave within k refl r)
     part-less (choose y) g w r = sure-less (choose y) refl g w (sure-runs (choose y) within k refl r)
-    part-less (repeat y) g w r = nothing-less (leftIn (act (repeat y) within) k) t (o .marks) (stepIn itsOwn (act (repeat y) within) k t o .order .marks) (stepIn itsOwn (act (repeat y) within) k t o .result) (λ ms. refl)
+    part-less (repeat y) g w r = nothing-less (leftIn (act (repeat y) within) k) t (o .marks) (stepIn itsOwn (act (repeat y) within) y₀ k t o .order .marks) (stepIn itsOwn (act (repeat y) within) y₀ k t o .result) (λ ms. refl)
     part-less sequence g w r = in-sequence w r
     part-less flow g w r = in-flow w r
-    part-less pick g w r = nothing-less (leftIn (act pick within) k) t (o .marks) (stepIn itsOwn (act pick within) k t o .order .marks) (stepIn itsOwn (act pick within) k t o .result) (λ ms. refl)
-    part-less scope g w r = nothing-less (leftIn (act scope within) k) t (o .marks) (stepIn itsOwn (act scope within) k t o .order .marks) (stepIn itsOwn (act scope within) k t o .result) (λ ms. refl)
-    part-less (arm y z vs) g w r = nothing-less (leftIn (act (arm y z vs) within) k) t (o .marks) (stepIn itsOwn (act (arm y z vs) within) k t o .order .marks) (stepIn itsOwn (act (arm y z vs) within) k t o .result) (λ ms. refl)
+    part-less pick g w r = nothing-less (leftIn (act pick within) k) t (o .marks) (stepIn itsOwn (act pick within) y₀ k t o .order .marks) (stepIn itsOwn (act pick within) y₀ k t o .result) (λ ms. refl)
+    part-less (scope u) g w r = nothing-less (leftIn (act (scope u) within) k) t (o .marks) (stepIn itsOwn (act (scope u) within) y₀ k t o .order .marks) (stepIn itsOwn (act (scope u) within) y₀ k t o .result) (λ ms. refl)
+    part-less (arm y z vs) g w r = nothing-less (leftIn (act (arm y z vs) within) k) t (o .marks) (stepIn itsOwn (act (arm y z vs) within) y₀ k t o .order .marks) (stepIn itsOwn (act (arm y z vs) within) y₀ k t o .result) (λ ms. refl)
 
   -- in a list, where the one that runs has the step
   module _ (a : Act) (l : Acts) (c t : ℕ) (o : Order) (r : Outcome) where
@@ -462,54 +462,54 @@ module _ (p : Plan) (distinct : Distinct p) where
     later-all-less h g undoRaising y = tt
 
   -- a scope has no sure step of its own
-  scope-less : (b f u : Act) (k t : ℕ) (o : Order) → Lessens (act scope (trio b f u)) k t (o .marks) (stepIn itsOwn (act scope (trio b f u)) k t o)
+  scope-less : (z₀ : Bool) (within : Acts) (y₀ k t : ℕ) (o : Order) → Lessens (act (scope z₀) within) k t (o .marks) (stepIn itsOwn (act (scope z₀) within) y₀ k t o)
   unfolding leftIn
-  scope-less b f u k t o = nothing-less (leftIn (act scope (trio b f u)) k) t (o .marks) (stepIn itsOwn (act scope (trio b f u)) k t o .order .marks) (stepIn itsOwn (act scope (trio b f u)) k t o .result) (λ ms. refl)
+  scope-less z₀ within y₀ k t o = nothing-less (leftIn (act (scope z₀) within) k) t (o .marks) (stepIn itsOwn (act (scope z₀) within) y₀ k t o .order .marks) (stepIn itsOwn (act (scope z₀) within) y₀ k t o .result) (λ ms. refl)
 
   -- Every step in a tree that runs.
   mutual
     unfolding size
 
-    less : {x : Place} {a : Act} {k : ℕ} → Sits p x a k → (t : ℕ) (o : Order) (b : Bool) → Waits (o .marks) a k t b → b ≡ false → Run (o .marks) a k
-        → Fit x o → k + size a ≤ length (o .marks) → Lessens a k t (o .marks) (stepIn itsOwn a k t o)
-    less (sits-part {q = x} {own} {within} {k} s g u y l) t o b w e r v m =
-        part-less within k t o b (u .before) v l m e (λ c w₁ e₁ r₁. less-one l t o c w₁ e₁ r₁ v (omega arith)) (λ c w₁ e₁ r₁. less-all l t o c w₁ e₁ r₁ v (omega arith)) own g w r
-    less (sits-scope {n} {c} {b} {f} {u} {k} kn d i sb z sf su) t o b′ w e r v m = scope-less b f u k t o
+    less : {x : Place} {a : Act} {k : ℕ} → Sits p x a k → (y₀ t : ℕ) (o : Order) (b : Bool) → PartOf x y₀ → Waits (o .marks) a k t b → b ≡ false → Run (o .marks) a k
+        → Fit x o → k + size a ≤ length (o .marks) → Lessens a k t (o .marks) (stepIn itsOwn a y₀ k t o)
+    less (sits-part {q = x} {own} {within} {k} s g u y l) y₀ t o b y₁ w e r v m =
+        part-less within y₀ k t o b y₁ (u .before) v l m e (λ c w₁ e₁ r₁. less-one l y₀ t o c y₁ w₁ e₁ r₁ v (omega arith)) (λ c w₁ e₁ r₁. less-all l y₀ t o c y₁ w₁ e₁ r₁ v (omega arith)) own g w r
+    less (sits-scope {v = z₀} {b = b} {f = f} {u = u} {k = k} kn d i sb z sf su) y₀ t o b′ y₁ w e r v m = scope-less z₀ (trio b f u) y₀ k t o
 
-    less-one : {x : Place} {l : Acts} {c : ℕ} → SitsIn p x l c → (t : ℕ) (o : Order) (b : Bool) → WaitsIn (o .marks) l c t b → b ≡ false → One (o .marks) l c
-        → Fit x o → c + sizes l ≤ length (o .marks) → TurnAs l c t (o .marks) (stepAmong itsOwn l c t o .order .marks) (stepAmong itsOwn l c t o .result)
-    less-one (sits-more {q = x} {a} {l} {c} s y) t o b (waits-first h w) e (one-here r q) v m =
-        subst (λ (z : Outcome). TurnAs (more a l) c t (o .marks) (z .order .marks) (z .result)) (sym (among-is itsOwn a l c t o true (lt-ltb t (c + size a) h)))
-        (first-turn a l c t o (stepIn itsOwn a c t o) h r (stepIn itsOwn a c t o .result) (steps p distinct itsOwn s t o b w e r v (omega arith) .comes) (less s t o b w e r v (omega arith)))
-    less-one (sits-more {q = x} {a} {l} {c} s y) t o b (waits-later h w) e (one-here r q) v m = absurd (quiet-waits-in w e q)
-    less-one (sits-more {q = x} {a} {l} {c} s y) t o b (waits-first h w) e (one-later q r) v m = absurd (quiet-waits w e q)
-    less-one (sits-more {q = x} {a} {l} {c} s y) t o b (waits-later h w) e (one-later q r) v m =
-        subst (λ (z : Outcome). TurnAs (more a l) c t (o .marks) (z .order .marks) (z .result)) (sym (among-is itsOwn a l c t o false (le-ltb t (c + size a) h)))
-        (later-turn a l c t o (stepAmong itsOwn l (c + size a) t o) h q (quiet-agree q (agree-below (steps-one p distinct itsOwn y t o b w e r v (omega arith) .kept) (omega arith))) (stepAmong itsOwn l (c + size a) t o .result)
-        (less-one y t o b w e r v (omega arith)))
+    less-one : {x : Place} {l : Acts} {c : ℕ} → SitsIn p x l c → (y₀ t : ℕ) (o : Order) (b : Bool) → PartOf x y₀ → WaitsIn (o .marks) l c t b → b ≡ false → One (o .marks) l c
+        → Fit x o → c + sizes l ≤ length (o .marks) → TurnAs l c t (o .marks) (stepAmong itsOwn l false y₀ c t o .order .marks) (stepAmong itsOwn l false y₀ c t o .result)
+    less-one (sits-more {q = x} {a} {l} {c} s y) y₀ t o b y₁ (waits-first h w) e (one-here r q) v m =
+        subst (λ (z : Outcome). TurnAs (more a l) c t (o .marks) (z .order .marks) (z .result)) (sym (among-is itsOwn a l y₀ c t o true (lt-ltb t (c + size a) h)))
+        (first-turn a l c t o (stepIn itsOwn a y₀ c t o) h r (stepIn itsOwn a y₀ c t o .result) (steps p itsOwn s y₀ t o b y₁ w e r v (omega arith) .comes) (less s y₀ t o b y₁ w e r v (omega arith)))
+    less-one (sits-more {q = x} {a} {l} {c} s y) y₀ t o b y₁ (waits-later h w) e (one-here r q) v m = absurd (quiet-waits-in w e q)
+    less-one (sits-more {q = x} {a} {l} {c} s y) y₀ t o b y₁ (waits-first h w) e (one-later q r) v m = absurd (quiet-waits w e q)
+    less-one (sits-more {q = x} {a} {l} {c} s y) y₀ t o b y₁ (waits-later h w) e (one-later q r) v m =
+        subst (λ (z : Outcome). TurnAs (more a l) c t (o .marks) (z .order .marks) (z .result)) (sym (among-is itsOwn a l y₀ c t o false (le-ltb t (c + size a) h)))
+        (later-turn a l c t o (stepAmong itsOwn l false y₀ (c + size a) t o) h q (quiet-agree q (agree-below (steps-one p itsOwn y y₀ t o b y₁ w e r v (omega arith) .kept) (omega arith))) (stepAmong itsOwn l false y₀ (c + size a) t o .result)
+        (less-one y y₀ t o b y₁ w e r v (omega arith)))
 
-    less-all : {x : Place} {l : Acts} {c : ℕ} → SitsIn p x l c → (t : ℕ) (o : Order) (b : Bool) → WaitsIn (o .marks) l c t b → b ≡ false → All (o .marks) l c
-        → Fit x o → c + sizes l ≤ length (o .marks) → AllLessAs l c t (o .marks) (stepAmong itsOwn l c t o .order .marks) (stepAmong itsOwn l c t o .result)
-    less-all (sits-more {q = x} {a} {l} {c} s y) t o b (waits-first h w) e (all-run r q) v m =
-        let z = steps p distinct itsOwn s t o b w e r v (omega arith) in
-        subst (λ (z : Outcome). AllLessAs (more a l) c t (o .marks) (z .order .marks) (z .result)) (sym (among-is itsOwn a l c t o true (lt-ltb t (c + size a) h)))
-        (first-all-less a l c t o (stepIn itsOwn a c t o) h (all-same l (c + size a) (o .marks) (stepIn itsOwn a c t o .order .marks) (agree-above (z .kept) (omega arith))) (stepIn itsOwn a c t o .result) (z .comes) (less s t o b w e r v (omega arith)))
-    less-all (sits-more {q = x} {a} {l} {c} s y) t o b (waits-first h w) e (all-quiet q r) v m = absurd (quiet-waits w e q)
-    less-all (sits-more {q = x} {a} {l} {c} s y) t o b (waits-later h w) e (all-run r q) v m =
-        subst (λ (z : Outcome). AllLessAs (more a l) c t (o .marks) (z .order .marks) (z .result)) (sym (among-is itsOwn a l c t o false (le-ltb t (c + size a) h)))
-        (later-all-less a l c t o (stepAmong itsOwn l (c + size a) t o) h (left-agree a c (o .marks) (stepAmong itsOwn l (c + size a) t o .order .marks) (agree-below (steps-all p distinct itsOwn y t o b w e q v (omega arith) .kept) (omega arith)))
-        (stepAmong itsOwn l (c + size a) t o .result) (less-all y t o b w e q v (omega arith)))
-    less-all (sits-more {q = x} {a} {l} {c} s y) t o b (waits-later h w) e (all-quiet q r) v m =
-        subst (λ (z : Outcome). AllLessAs (more a l) c t (o .marks) (z .order .marks) (z .result)) (sym (among-is itsOwn a l c t o false (le-ltb t (c + size a) h)))
-        (later-all-less a l c t o (stepAmong itsOwn l (c + size a) t o) h (left-agree a c (o .marks) (stepAmong itsOwn l (c + size a) t o .order .marks) (agree-below (steps-all p distinct itsOwn y t o b w e r v (omega arith) .kept) (omega arith)))
-        (stepAmong itsOwn l (c + size a) t o .result) (less-all y t o b w e r v (omega arith)))
+    less-all : {x : Place} {l : Acts} {c : ℕ} → SitsIn p x l c → (y₀ t : ℕ) (o : Order) (b : Bool) → PartOf x y₀ → WaitsIn (o .marks) l c t b → b ≡ false → All (o .marks) l c
+        → Fit x o → c + sizes l ≤ length (o .marks) → AllLessAs l c t (o .marks) (stepAmong itsOwn l false y₀ c t o .order .marks) (stepAmong itsOwn l false y₀ c t o .result)
+    less-all (sits-more {q = x} {a} {l} {c} s y) y₀ t o b y₁ (waits-first h w) e (all-run r q) v m =
+        let z = steps p itsOwn s y₀ t o b y₁ w e r v (omega arith) in
+        subst (λ (z : Outcome). AllLessAs (more a l) c t (o .marks) (z .order .marks) (z .result)) (sym (among-is itsOwn a l y₀ c t o true (lt-ltb t (c + size a) h)))
+        (first-all-less a l c t o (stepIn itsOwn a y₀ c t o) h (all-same l (c + size a) (o .marks) (stepIn itsOwn a y₀ c t o .order .marks) (agree-above (z .kept) (omega arith))) (stepIn itsOwn a y₀ c t o .result) (z .comes) (less s y₀ t o b y₁ w e r v (omega arith)))
+    less-all (sits-more {q = x} {a} {l} {c} s y) y₀ t o b y₁ (waits-first h w) e (all-quiet q r) v m = absurd (quiet-waits w e q)
+    less-all (sits-more {q = x} {a} {l} {c} s y) y₀ t o b y₁ (waits-later h w) e (all-run r q) v m =
+        subst (λ (z : Outcome). AllLessAs (more a l) c t (o .marks) (z .order .marks) (z .result)) (sym (among-is itsOwn a l y₀ c t o false (le-ltb t (c + size a) h)))
+        (later-all-less a l c t o (stepAmong itsOwn l false y₀ (c + size a) t o) h (left-agree a c (o .marks) (stepAmong itsOwn l false y₀ (c + size a) t o .order .marks) (agree-below (steps-all p itsOwn y y₀ t o b y₁ w e q v (omega arith) .kept) (omega arith)))
+        (stepAmong itsOwn l false y₀ (c + size a) t o .result) (less-all y y₀ t o b y₁ w e q v (omega arith)))
+    less-all (sits-more {q = x} {a} {l} {c} s y) y₀ t o b y₁ (waits-later h w) e (all-quiet q r) v m =
+        subst (λ (z : Outcome). AllLessAs (more a l) c t (o .marks) (z .order .marks) (z .result)) (sym (among-is itsOwn a l y₀ c t o false (le-ltb t (c + size a) h)))
+        (later-all-less a l c t o (stepAmong itsOwn l false y₀ (c + size a) t o) h (left-agree a c (o .marks) (stepAmong itsOwn l false y₀ (c + size a) t o .order .marks) (agree-below (steps-all p itsOwn y y₀ t o b y₁ w e r v (omega arith) .kept) (omega arith)))
+        (stepAmong itsOwn l false y₀ (c + size a) t o .result) (less-all y y₀ t o b y₁ w e r v (omega arith)))
 
   -- in an undo part
-  pub remedy-less : {x : Place} {a : Act} {k : ℕ} → Remedy p x a k → (t : ℕ) (o : Order) (b : Bool) → Waits (o .marks) a k t b → b ≡ false → Run (o .marks) a k
-      → Fit x o → k + size a ≤ length (o .marks) → Lessens a k t (o .marks) (stepIn itsOwn a k t o)
+  pub remedy-less : {x : Place} {a : Act} {k : ℕ} → Remedy p x a k → (y₀ t : ℕ) (o : Order) (b : Bool) → PartOf x y₀ → Waits (o .marks) a k t b → b ≡ false → Run (o .marks) a k
+      → Fit x o → k + size a ≤ length (o .marks) → Lessens a k t (o .marks) (stepIn itsOwn a y₀ k t o)
   unfolding size
-  remedy-less (remedy {q = x} {own} {within} {k} s a g u z l d) t o b w e r v m =
-      part-less within k t o b (u .before) v l m e (λ c w₁ e₁ r₁. less-one l t o c w₁ e₁ r₁ v (omega arith)) (λ c w₁ e₁ r₁. less-all l t o c w₁ e₁ r₁ v (omega arith)) own g w r
+  remedy-less (remedy {q = x} {own} {within} {k} s a g u z l d) y₀ t o b y₁ w e r v m =
+      part-less within y₀ k t o b y₁ (u .before) v l m e (λ c w₁ e₁ r₁. less-one l y₀ t o c y₁ w₁ e₁ r₁ v (omega arith)) (λ c w₁ e₁ r₁. less-all l y₀ t o c y₁ w₁ e₁ r₁ v (omega arith)) own g w r
 
 -- of two lists the one that has a number
 first-some : (t : ℕ) (x y : List ℕ) → some (eqb t) (x ++ y) ≡ true → some (eqb t) y ≡ false → some (eqb t) x ≡ true
@@ -547,7 +547,7 @@ mutual
   due-left (act flow within) k t b (waits-within z w) e (run-one _ y q) h = due-all within (k + 1) t _ w refl (one-each q) h
   due-left (act flow within) k t b (waits-within z w) e (run-all _ q _) h = due-all within (k + 1) t _ w refl q h
   due-left (act pick within) k t b w e r h = absurd (false≢true h)
-  due-left (act scope within) k t b w e r h = absurd (false≢true h)
+  due-left (act (scope u) within) k t b w e r h = absurd (false≢true h)
   due-left (act (arm x y vs) within) k t b w e r h = absurd (false≢true h)
 
   due-turn : {ms : List ℕ} (l : Acts) (c t : ℕ) (b : Bool) → WaitsIn ms l c t b → b ≡ false → One ms l c → some (eqb t) (surelyAmong l c) ≡ true → some (eqb t) (leftInTurn l c ms) ≡ true

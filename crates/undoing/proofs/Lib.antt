@@ -28,6 +28,7 @@ pub mod Deeds
 pub mod Shapes
 pub mod Fitting
 pub mod Told
+pub mod Chains
 pub mod Stepped
 pub mod Heeding
 pub mod Ending
@@ -61,10 +62,6 @@ pub mod OnceSteps
 pub mod OnceOver
 pub mod Nearing
 pub mod NearTold
-pub mod Dropping
-pub mod Afresh
-pub mod AfreshSteps
-pub mod AfreshTold
 pub mod Firmly
 pub mod Weighed
 pub mod AnsweredExamples

@@ -2,7 +2,7 @@
 use Prim.Native.Nat.{ℕ, _+_, _≤_, _<_}
 use native.Mathlib.Omega.{arith}
 use mathlib.Core.Path.{_≡_, refl, sym, ap, subst, _∙_}
-use mathlib.Core.Bool.{Bool, true, false, not, _&&_, _||_, false≢true, or-true}
+use mathlib.Core.Bool.{Bool, true, false, cond, not, _&&_, _||_, false≢true, or-true}
 use mathlib.Core.List.{List, [], _∷_, _++_}
 use lib.Dec.{eqb, ltb, leb}
 use borrow.Author.Tests.{eqb-true, eq-eqb, lt-ltb, le-leb, ltb-true}
@@ -20,7 +20,6 @@ use Rattle.order.specs.State.{Name, root, inner, noOrder}
 use Rattle.machine.specs.State.{fresh}
 use Rattle.order.specs.Event.{Event, started, began, closed, faulted, stopped, ended, raised, left}
 use Rattle.order.specs.Begin.{part, partAt, begin}
-use Rattle.order.specs.Scope.{isScope}
 use Rattle.order.specs.Acting.{stepRoot, endOf, movedTo, begunOrder, startedOrder, Actor, itsOwn, acted}
 use Rattle.undoing.proofs.EachTime.{time, OfTimes, OfStarts, each-time}
 use Rattle.machine.specs.Calls.{loadedAs, load, post, collect, Stepped, step, Call, posting, collecting, stepping}
@@ -29,11 +28,11 @@ use Rattle.undoing.specs.Demand3.{Inner, scopesIn, scopesAmong, scopesOf
 use Rattle.undoing.specs.Ties.{isTaken}
 use Rattle.undoing.specs.Orderly.{isBeganOf}
 use Rattle.undoing.specs.Begun.{kindAt, hasBegan, Taken, takenBy, stepsTaken}
-use Rattle.undoing.specs.Entirely.{times, isStopOf, isLocal, LeftToFinish}
+use Rattle.undoing.specs.Entirely.{times, isStopOf, isLocal, LeftToFinish, inParts, beyondAll}
 use Rattle.undoing.proofs.Parts.{both, decide, every-append}
 use Rattle.undoing.proofs.Marks.{trio}
 use Rattle.undoing.proofs.Orders.{onto, innerAt}
-use Rattle.undoing.proofs.Planning.{Formed, formed-part, formed-scope, FormedIn, formed-none, formed-more, scopes-is, bare-formed, Promised, promised, whole}
+use Rattle.undoing.proofs.Planning.{Formed, formed-part, formed-scope, FormedIn, formed-none, formed-more, scopes-is, Promised, promised, whole, FormedRest, formed-undo, formed-no, scopes-scope}
 use Rattle.undoing.proofs.Waiting.{Waits, waits-itself, waits-within, WaitsIn, waits-first, waits-later}
 use Rattle.undoing.proofs.Roots.{Awaited, in-body, in-fault}
 use Rattle.undoing.proofs.Slots.{post-same, collect-same, Sane, same-sane, fresh-sane}
@@ -60,45 +59,61 @@ awaited-to : {p : Plan} {ms : List ℕ} {t : ℕ} → Awaited p ms t → t < siz
 awaited-to (in-body e w) = omega arith
 awaited-to (in-fault e w) = waits-to w
 
--- none begins between two numbers
-none-some : (k u : ℕ) (l : List Event) → ((j : ℕ) → k < j → j < u → times j l ≡ 0) → some (isBeganOf (λ j. ltb k j && ltb j u)) l ≡ false
+-- none of which a test holds begins
+none-some : (f : ℕ → Bool) (l : List Event) → ((j : ℕ) → f j ≡ true → times j l ≡ 0) → some (isBeganOf f) l ≡ false
 unfolding some times isBeganOf
-none-some k u [] z = refl
-none-some k u (started ∷ l) z = none-some k u l (λ j x y. let e = z j x y in omega arith)
-none-some k u (began i ∷ l) z =
-    decide (ltb k i && ltb i u)
-    (λ e. both (ltb k i) (ltb i u) e (λ a b. absurd (let y = z i (ltb-true k i a) (ltb-true i u b) in let w : 1 + times i l ≡ 0 = rw (eq-eqb i i refl) at y in omega arith)))
-    (λ e. rw e (none-some k u l (λ j x y. decide (eqb j i)
-    (λ d. absurd (let v = z j x y in let w : 1 + times j l ≡ 0 = rw d at v in omega arith))
-    (λ d. let v = z j x y in let w : 0 + times j l ≡ 0 = rw d at v in omega arith))))
-none-some k u (closed i ∷ l) z = none-some k u l (λ j x y. let e = z j x y in omega arith)
-none-some k u (faulted n ∷ l) z = none-some k u l (λ j x y. let e = z j x y in omega arith)
-none-some k u (stopped i ∷ l) z = none-some k u l (λ j x y. let e = z j x y in omega arith)
-none-some k u (ended n ∷ l) z = none-some k u l (λ j x y. let e = z j x y in omega arith)
-none-some k u (raised i ∷ l) z = none-some k u l (λ j x y. let e = z j x y in omega arith)
-none-some k u (left ∷ l) z = none-some k u l (λ j x y. let e = z j x y in omega arith)
+none-some f [] z = refl
+none-some f (started ∷ l) z = none-some f l (λ j x. let e = z j x in omega arith)
+none-some f (began i ∷ l) z =
+    decide (f i)
+    (λ e. absurd (let y = z i e in let w : 1 + times i l ≡ 0 = rw (eq-eqb i i refl) at y in omega arith))
+    (λ e. rw e (none-some f l (λ j x. decide (eqb j i)
+    (λ d. absurd (let v = z j x in let w : 1 + times j l ≡ 0 = rw d at v in omega arith))
+    (λ d. let v = z j x in let w : 0 + times j l ≡ 0 = rw d at v in omega arith))))
+none-some f (closed i ∷ l) z = none-some f l (λ j x. let e = z j x in omega arith)
+none-some f (faulted n ∷ l) z = none-some f l (λ j x. let e = z j x in omega arith)
+none-some f (stopped i ∷ l) z = none-some f l (λ j x. let e = z j x in omega arith)
+none-some f (ended n ∷ l) z = none-some f l (λ j x. let e = z j x in omega arith)
+none-some f (raised i ∷ l) z = none-some f l (λ j x. let e = z j x in omega arith)
+none-some f (left ∷ l) z = none-some f l (λ j x. let e = z j x in omega arith)
+
+-- where a scope ends
+scope-end : {v : Bool} {u : Acts} → FormedRest v u → (b g : Act) (k : ℕ) (n : Name) (ns : List Name) → beyondAll (innerAt v k n ns (trio b g u)) ≡ k + (1 + (size b + (size g + sizes u)))
+unfolding part partAt size
+scope-end (formed-undo {u = u} z) b g k n ns = omega arith
+scope-end formed-no b g k n ns = omega arith
 
 module _ (x : Taken) where
-  near-told : (b g u : Act) (k : ℕ) (n : Name) → Near (x .activity) (x .log) k (partAt 2 (trio b g u) (k + 1)) (k + size (act scope (trio b g u))) → isLocal x (innerAt k n (trio b g u)) ≡ true
-  unfolding isLocal part partAt size
-  near-told b g u k n (near-stands h e) = rw (le-leb k (x .activity) h, lt-ltb (x .activity) (k + 1 + size b + size g + size u) (omega arith))
-  near-told b g u k n (near-began h) = rw (h, or-true)
-  near-told b g u k n (near-stopped h) = rw (h, or-true, or-true)
-  near-told b g u k n (near-none h) = rw (none-some k (k + 1 + size b + size g) (x .log) h, or-true, or-true)
+  near-told : {v : Bool} {u : Acts} → FormedRest v u → (b g : Act) (k : ℕ) (n : Name) (ns : List Name)
+      → Near (x .activity) (x .log) v k (partAt 1 (trio b g u) (k + 1)) (partAt 2 (trio b g u) (k + 1)) (k + size (act (scope v) (trio b g u))) → isLocal x (innerAt v k n ns (trio b g u)) ≡ true
+  unfolding isLocal size
+  near-told {v} {u} r b g k n ns (near-stands h e) =
+      rw (le-leb k (x .activity) h, lt-ltb (x .activity) (beyondAll (innerAt v k n ns (trio b g u))) (subst (λ (i : ℕ). x .activity < i) (sym (scope-end r b g k n ns)) e))
+  near-told r b g k n ns (near-began h) = rw (h, or-true)
+  near-told r b g k n ns (near-stopped h) = rw (h, or-true, or-true)
+  near-told {v} {u} r b g k n ns (near-none h) =
+      rw (
+        none-some (inParts (innerAt v k n ns (trio b g u))) (x .log)
+            (λ j e. both (ltb k j && ltb j (partAt 2 (trio b g u) (k + 1))) (v || (eqb j (k + 1) || leb (partAt 1 (trio b g u) (k + 1)) j)) e (λ c d.
+            both (ltb k j) (ltb j (partAt 2 (trio b g u) (k + 1))) c (λ y z. h j (ltb-true k j y) (ltb-true j (partAt 2 (trio b g u) (k + 1)) z) d))),
+        or-true,
+        or-true,
+      )
 
   mutual
     unfolding Local scopesIn every kind
 
-    local-told : {h r : Bool} {a : Act} → Formed h r a → (k : ℕ) (n : Name) → Local (x .activity) (x .log) a k → every (isLocal x) (scopesIn a k n) ≡ true
-    local-told (formed-part {own = own} {within = within} s i g y) k n w = subst (λ (l : List Inner). every (isLocal x) l ≡ true) (sym (scopes-is own within k n false s)) (in-told y (k + 1) n (w .other))
-    local-told (formed-scope {b = b} {f = g} {u = u} fb fg fu) k n w =
-        rw (near-told b g u k n (w .one refl))
-        (every-append (isLocal x) (scopesIn b (k + 1) (inner k)) _ (local-told fb (k + 1) (inner k) (w .other .one))
-        (rw (bare-formed fg refl .1 (k + 1 + size b) (inner k), bare-formed fu refl .1 (k + 1 + size b + size g) (inner k))))
+    local-told : {h r : Bool} {a : Act} → Formed h r a → (k : ℕ) (n : Name) (ns : List Name) → Local (x .activity) (x .log) a k → every (isLocal x) (scopesIn a k n ns) ≡ true
+    local-told (formed-part {own = own} {within = within} s i g y) k n ns w =
+        subst (λ (l : List Inner). every (isLocal x) l ≡ true) (sym (scopes-is own within k n ns false s)) (in-told y (k + 1) n ns (w .other))
+    local-told (formed-scope {v = v} {b = b} {f = g} {u = u} fb fg fu) k n ns w =
+        subst (λ (l : List Inner). every (isLocal x) l ≡ true) (sym (scopes-scope b fg fu k n ns))
+        (rw (near-told fu b g k n ns (w .one refl)) (local-told fb (k + 1) (inner k) (cond v [] (n ∷ ns)) (w .other .one)))
 
-    in-told : {h r : Bool} {l : Acts} → FormedIn h r l → (c : ℕ) (n : Name) → LocalIn (x .activity) (x .log) l c → every (isLocal x) (scopesAmong l c n) ≡ true
-    in-told formed-none c n w = refl
-    in-told (formed-more {a = a} {l = l} y z) c n w = every-append (isLocal x) (scopesIn a c n) (scopesAmong l (c + size a) n) (local-told y c n (w .one)) (in-told z (c + size a) n (w .other))
+    in-told : {h r : Bool} {l : Acts} → FormedIn h r l → (c : ℕ) (n : Name) (ns : List Name) → LocalIn (x .activity) (x .log) l c → every (isLocal x) (scopesAmong l c n ns) ≡ true
+    in-told formed-none c n ns w = refl
+    in-told (formed-more {a = a} {l = l} y z) c n ns w =
+        every-append (isLocal x) (scopesIn a c n ns) (scopesAmong l (c + size a) n ns) (local-told y c n ns (w .one)) (in-told z (c + size a) n ns (w .other))
 
 module _ (p : Plan) (h : Promised p) where
   order-local : (actor : Actor) (t : ℕ) (o : Order) → t < size (p .body) + size (p .fault) → LocalIn t (acted actor p t o .log) (more (p .body) (more (p .fault) none)) 0
@@ -125,7 +140,7 @@ module _ (p : Plan) (h : Promised p) where
 
   taken-local : (x : Taken) → LocalIn (x .activity) (x .log) (more (p .body) (more (p .fault) none)) 0 → every (isLocal x) (scopesOf p) ≡ true
   unfolding Local
-  taken-local x w = subst (λ (l : List Inner). every (isLocal x) l ≡ true) (sym (whole p (h .body) (h .fault))) (local-told x (h .body) 0 root (w .one))
+  taken-local x w = subst (λ (l : List Inner). every (isLocal x) l ≡ true) (sym (whole p (h .body) (h .fault))) (local-told x (h .body) 0 root [] (w .one))
 
   near-time : OfTimes p (λ x. every (isLocal x) (scopesOf p))
   near-time actor t o o′ past like a st g = taken-local (time t o [] (acted actor p t o′)) (order-local actor t o′ (awaited-to a))

@@ -6,62 +6,53 @@ use mathlib.Core.Bool.{Bool, true, false, cond, not, _&&_, _||_, false≢true, o
 use mathlib.Core.List.{List, [], _∷_, _++_, reverse, reverse-cons}
 use lib.ListN.{set}
 use lib.Dec.{eqb, ltb, leb}
-use borrow.Author.Tests.{eqb-true, eqb-false, eq-eqb, ltb-true, ltb-false, lt-ltb, le-ltb}
-use Rattle.plan.specs.Tree.{Own, empty, send, receive, set as setting, raise, leave, choose, repeat, sequence, flow, pick, scope, arm, kind, Act, act, Acts, none, more, Plan, size, sizes, count}
+use borrow.Author.Tests.{eqb-true, eqb-false, eq-eqb, ltb-true, ltb-false, lt-ltb, le-ltb, leb-true}
+use Rattle.plan.specs.Tree.{Own, empty, send, receive, set as setting, raise, leave, choose, repeat, sequence, flow, pick, scope, arm, kind, Act, act, Acts, none, more, Plan, size, sizes, count, isScope, hasUndo, isPick}
 use Rattle.order.specs.declared.Order.{Order}
 use Rattle.order.specs.Lists.{every, some, only, withoutLast}
 use Rattle.order.specs.State.{idle, active, inside, faulty, undoing, handling, halted, withdrawing, done, withMarks, closings, remembering, markAt, marked, markOf, marking, binding}
 use Rattle.order.specs.Event.{Event, began, stopped, faulted, ended}
 use Rattle.order.specs.Expression.{Value, fault, value, evaluate, isTrue}
-use Rattle.order.specs.Begin.{Begun, throughout, around, itsBeginning, inTurn, begin, beginInTurn, beginAll, beginFirst, beginAfter, part, partAt, beginPart, cleared, quiet}
+use Rattle.order.specs.Begin.{Begun, nothingBegun, throughout, around, itsBeginning, inTurn, begin, beginInTurn, beginAll, beginFirst, beginAfter, part, partAt, beginPart, cleared, quiet}
 use Rattle.order.specs.declared.Way.{Way as Result}
 use Rattle.order.specs.declared.Way.the-variants.{Running as running, Over as over, Raising as raising, Leaving as leaving, Undone as undone, UndoRaising as undoRaising}
-use Rattle.order.specs.Scope.{Outcome, rootOf, runs, begunIn, whereOver, Scope, scopeAt, isScope, isOpen, isFor, directly, directlyIn, innerRuns, closing, beginUndo, beginUndoIn, startUndo, undo, ends, handle, undoes, turns, rememberedFor, untouched, withdraws, stop, stopAll, stopFirst, faults, breaks, looksAgain, bodyOver, bodyRaised, undoOver, undoRaised, fromBody, partOver, partRaised, fromFault, fromUndo}
+use Rattle.order.specs.Scope.{Outcome, rootOf, runs, begunIn, whereOver, Scope, scopeAt, isOpen, innerRuns, closing, beginUndo, beginUndoFirst, beginUndoIn, startUndo, undo, ends, handle, undoes, turns, rememberedFor, untouched, withdraws, stop, stopAll, stopFirst, faults, breaks, looksAgain, bodyOver, bodyRaised, undoOver, undoRaised, fromBody, partOver, partRaised, fromFault, fromUndo, goesThrough}
 use Rattle.order.specs.Scope as definitions
 use Rattle.order.specs.Acting.{finishes, raises, orRaises, enters, again, repeats, allBound, itself, arms, goesOn, joins, inScope, combines, stepIn, stepAmong, stepRoot, Actor, replaces, performs}
 use Rattle.undoing.specs.Orderly.{isBeganOf}
 use Rattle.undoing.specs.Begun.{hasBegan}
 use Rattle.undoing.specs.Entirely.{times, isStopOf}
 use Rattle.undoing.proofs.Parts.{both, decide, every-append, some-append}
-use Rattle.undoing.proofs.Orders.{isArm, least}
+use Rattle.undoing.proofs.Orders.{least}
 use Rattle.undoing.proofs.Places.{first-of, second-of}
-use Rattle.undoing.proofs.Seats.{directly-is, directly-range, directly-range-in}
+use Rattle.undoing.proofs.Stepping.{at-first}
 use Rattle.undoing.proofs.Truly.{Arms, needs, Knows, knows, KnowsIn, knows-none, knows-more}
 use Rattle.undoing.proofs.Entire.{Two, times-append, times-event, Zero, zero-part, Starts, Ranks, Named, begin-starts, turn-starts, all-starts}
-use Rattle.undoing.proofs.Entering.{scope-kind, scope-arms, scope-three, Strict, StrictIn, InList, part-list, undo-strict, undo-in-strict, stop-strict, stop-all-strict, StepsAt, StepsIn, step-at, among-at}
+use Rattle.undoing.proofs.Entering.{scope-arms, scope-three, scope-two, two-of, Strict, StrictIn, InList, part-list, undo-strict, undo-in-strict, stop-strict, stop-all-strict, StepsAt, StepsIn, step-at, among-at}
 
 abbrev log-of : Outcome → List Event
 log-of o = o .log
 
-every-only-so : {A : Type 0} (f : A → Bool) (l : List A) → every f (only f l) ≡ true
-unfolding every only
-every-only-so f [] = refl
-every-only-so f (a ∷ l) = decide (f a) (λ e. rw (e, every-only-so f l) (rw e)) (λ e. rw (e, every-only-so f l))
-
-every-reverse : {A : Type 0} (f : A → Bool) (l : List A) → every f l ≡ true → every f (reverse l) ≡ true
-unfolding every
-every-reverse f [] e = refl
-every-reverse f (a ∷ l) e = both (f a) (every f l) e (λ x y. subst (λ (m : List _). every f m ≡ true) (sym (reverse-cons a l)) (every-append f (reverse l) (a ∷ []) (every-reverse f l y) (rw x)))
-
 module _ (t : ℕ) where
-  pub data Near (l : List Event) (k u e : ℕ) : Type 0 where
-    near-stands : k ≤ t → t < e → Near l k u e
-    near-began : hasBegan k l ≡ true → Near l k u e
-    near-stopped : some (isStopOf k) l ≡ true → Near l k u e
-    near-none : ((j : ℕ) → k < j → j < u → times j l ≡ 0) → Near l k u e
+  -- of scope k, with an undo part where z is true, whose fault part starts at f, whose undo part would at u, and which ends at e
+  pub data Near (l : List Event) (z : Bool) (k f u e : ℕ) : Type 0 where
+    near-stands : k ≤ t → t < e → Near l z k f u e
+    near-began : hasBegan k l ≡ true → Near l z k f u e
+    near-stopped : some (isStopOf k) l ≡ true → Near l z k f u e
+    near-none : ((j : ℕ) → k < j → j < u → (z || (eqb j (k + 1) || leb f j)) ≡ true → times j l ≡ 0) → Near l z k f u e
 
-  near-append : (l m : List Event) (k u e : ℕ) → Near l k u e → Near m k u e → Near (l ++ m) k u e
-  near-append l m k u e (near-stands a b) y = near-stands a b
-  near-append l m k u e (near-began a) y = near-began (some-append (isBeganOf (eqb k)) l m ∙ rw a)
-  near-append l m k u e (near-stopped a) y = near-stopped (some-append (isStopOf k) l m ∙ rw a)
-  near-append l m k u e (near-none a) (near-stands b c) = near-stands b c
-  near-append l m k u e (near-none a) (near-began b) = near-began (some-append (isBeganOf (eqb k)) l m ∙ rw (b, or-true))
-  near-append l m k u e (near-none a) (near-stopped b) = near-stopped (some-append (isStopOf k) l m ∙ rw (b, or-true))
-  near-append l m k u e (near-none a) (near-none b) = near-none (λ j x y. let z = times-append j l m in let c = a j x y in let d = b j x y in omega arith)
+  near-append : (l m : List Event) (z : Bool) (k f u e : ℕ) → Near l z k f u e → Near m z k f u e → Near (l ++ m) z k f u e
+  near-append l m z k f u e (near-stands a b) y = near-stands a b
+  near-append l m z k f u e (near-began a) y = near-began (some-append (isBeganOf (eqb k)) l m ∙ rw a)
+  near-append l m z k f u e (near-stopped a) y = near-stopped (some-append (isStopOf k) l m ∙ rw a)
+  near-append l m z k f u e (near-none a) (near-stands b c) = near-stands b c
+  near-append l m z k f u e (near-none a) (near-began b) = near-began (some-append (isBeganOf (eqb k)) l m ∙ rw (b, or-true))
+  near-append l m z k f u e (near-none a) (near-stopped b) = near-stopped (some-append (isStopOf k) l m ∙ rw (b, or-true))
+  near-append l m z k f u e (near-none a) (near-none b) = near-none (λ j x y w. let z = times-append j l m in let c = a j x y w in let d = b j x y w in omega arith)
 
   unfoldable mutual
     pub Local : List Event → Act → (k : ℕ) → Type 0
-    Local l (act own within) k = Two (isScope own ≡ true → Near l k (partAt 2 within (k + 1)) (k + size (act own within))) (LocalIn l within (k + 1))
+    Local l (act own within) k = Two (isScope own ≡ true → Near l (hasUndo own) k (partAt 1 within (k + 1)) (partAt 2 within (k + 1)) (k + size (act own within))) (LocalIn l within (k + 1))
 
     pub LocalIn : List Event → Acts → (c : ℕ) → Type 0
     LocalIn l none c = Unit {0}
@@ -78,7 +69,7 @@ module _ (t : ℕ) where
 
     local-zero : (l : List Event) (a : Act) (k : ℕ) → Zero l k (size a) → Local l a k
     local-zero l (act own within) k z =
-        record { one = λ s. near-none (λ j x y. z .at j (omega arith) (omega (arith, part-to 2 within (k + 1)))); other = in-zero l within (k + 1) (zero-part z (omega arith) (omega arith)) }
+        record { one = λ s. near-none (λ j x y w. z .at j (omega arith) (omega (arith, part-to 2 within (k + 1)))); other = in-zero l within (k + 1) (zero-part z (omega arith) (omega arith)) }
 
     in-zero : (l : List Event) (r : Acts) (c : ℕ) → Zero l c (sizes r) → LocalIn l r c
     in-zero l none c z = tt
@@ -89,7 +80,7 @@ module _ (t : ℕ) where
 
     local-append : (l m : List Event) (a : Act) (k : ℕ) → Local l a k → Local m a k → Local (l ++ m) a k
     local-append l m (act own within) k h g =
-        record { one = λ s. near-append l m k (partAt 2 within (k + 1)) (k + size (act own within)) (h .one s) (g .one s); other = in-append l m within (k + 1) (h .other) (g .other) }
+        record { one = λ s. near-append l m (hasUndo own) k (partAt 1 within (k + 1)) (partAt 2 within (k + 1)) (k + size (act own within)) (h .one s) (g .one s); other = in-append l m within (k + 1) (h .other) (g .other) }
 
     pub in-append : (l m : List Event) (r : Acts) (c : ℕ) → LocalIn l r c → LocalIn m r c → LocalIn (l ++ m) r c
     in-append l m none c h g = tt
@@ -136,8 +127,8 @@ module _ (t : ℕ) where
         go false = refl
 
     own-local : (own : Own) (within : Acts) (k : ℕ) (ms : List ℕ)
-        → (eqb (kind own) 10 ≡ false → (ns : List ℕ) → LocalIn (beginInTurn within (k + 1) ns .log) within (k + 1)) → (eqb (kind own) 10 ≡ false → (ns : List ℕ) → LocalIn (beginAll within (k + 1) ns .log) within (k + 1))
-        → (eqb (kind own) 10 ≡ false → (ns : List ℕ) → LocalIn (beginFirst within (k + 1) ns .log) within (k + 1)) → Local (begin (act own within) k ms .log) (act own within) k
+        → (isPick own ≡ false → (ns : List ℕ) → LocalIn (beginInTurn within (k + 1) ns .log) within (k + 1)) → (isPick own ≡ false → (ns : List ℕ) → LocalIn (beginAll within (k + 1) ns .log) within (k + 1))
+        → (isPick own ≡ false → (ns : List ℕ) → LocalIn (beginFirst within (k + 1) ns .log) within (k + 1)) → Local (begin (act own within) k ms .log) (act own within) k
     unfolding begin kind Local some isBeganOf times
     own-local empty within k ms a b c = plain-local empty within k _ refl (in-zero _ within (k + 1) (single k (k + 1) (sizes within) (omega arith)))
     own-local (send p o vs) within k ms a b c = plain-local (send p o vs) within k _ refl (in-zero _ within (k + 1) (single k (k + 1) (sizes within) (omega arith)))
@@ -152,7 +143,7 @@ module _ (t : ℕ) where
     own-local flow within k ms a b c =
         plain-local flow within k _ refl (in-event (began k) _ within (k + 1) (single k (k + 1) (sizes within) (omega arith)) (subst (λ (l : List Event). LocalIn l within (k + 1)) (sym (through-log k (beginAll within (k + 1) (set ms k active)))) (b refl (set ms k active))))
     own-local pick within k ms a b c = plain-local pick within k _ refl (in-zero _ within (k + 1) (single k (k + 1) (sizes within) (omega arith)))
-    own-local scope within k ms a b c =
+    own-local (scope v) within k ms a b c =
         record {
           one = λ s. near-began (rw (eq-eqb k k refl));
           other = in-event (began k) _ within (k + 1) (single k (k + 1) (sizes within) (omega arith)) (subst (λ (l : List Event). LocalIn l within (k + 1)) (sym (around-log k (beginFirst within (k + 1) (set ms k active)))) (c refl (set ms k active)));
@@ -196,32 +187,51 @@ module _ (t : ℕ) where
         let z = part-local y (r .1) i (omega arith) ms in
         (tail-in (act own w) l c _ (z .0) (λ j q. part-list f y (r .1) i (omega arith) ms .below j q), z .1)
 
-    -- an undo part of a scope directly in it
+    cond-local : (a : Act) (k : ℕ) (v : Bool) (x y : Begun) → (v ≡ true → Local (x .log) a k) → (v ≡ false → Local (y .log) a k) → Local (cond v x y .log) a k
+    cond-local a k true x y g h = g refl
+    cond-local a k false x y g h = h refl
+
+    -- looking for an undo part in the body of a scope begins neither that body nor anything behind it
+    undo-first-times : {l : Acts} {c : ℕ} → KnowsIn f l c → (e : ℕ) (ms : List ℕ) (j : ℕ) → (eqb j c || leb (partAt 1 l c) j) ≡ true → times j (beginUndoFirst l c e ms .log) ≡ 0
+    unfolding beginUndo partAt times
+    undo-first-times (knows-none {c}) e ms j h = refl
+    undo-first-times (knows-more {a} {l} {c} x y) e ms j h =
+        decide (eqb j c)
+        (λ d. undo-strict f x e ms .below j (omega (arith, eqb-true j c d)))
+        (λ d. undo-strict f x e ms .above j (leb-true (c + size a) j (subst (λ (i : ℕ). leb i j ≡ true) (at-first l (c + size a)) (rw d at h))))
+
+    -- an undo part
     mutual
-      unfolding beginUndo Local directly
+      unfolding beginUndo Local times
 
-      undo-local : {a : Act} {k : ℕ} → Knows f a k → (e : ℕ) → directly a k e ≡ true → (ms : List ℕ) → Local (beginUndo a k e ms .log) a k
-      undo-local (knows {own} {within} {k} x n r y) e d ms =
+      undo-local : {a : Act} {k : ℕ} → Knows f a k → (e : ℕ) (ms : List ℕ) → Local (beginUndo a k e ms .log) a k
+      undo-local (knows {own} {within} {k} x n r y) e ms =
           decide (isScope own)
-          (λ s. let z = part-local y (scope-arms own within s r) 2 (let v = scope-three own within s n in omega arith) ms in
-          subst (λ (b : Begun). Local (b .log) (act own within) k)
-          (sym (first-of (isScope own && eqb k e) (beginPart 2 within (k + 1) ms) (beginUndoIn within (k + 1) e ms) (beginUndo (act own within) k e ms) refl (rw (s, sym (directly-is own within k e true s) ∙ d))))
-          (record { one = λ c. near-none (λ j u v. z .1 j v); other = z .0 }))
           (λ s. subst (λ (b : Begun). Local (b .log) (act own within) k)
-          (sym (second-of (isScope own && eqb k e) (beginPart 2 within (k + 1) ms) (beginUndoIn within (k + 1) e ms) (beginUndo (act own within) k e ms) refl (rw s)))
-          (plain-local own within k _ s (undo-in-local y e (sym (directly-is own within k e false s) ∙ d) ms)))
+          (sym (first-of (isScope own) (cond (hasUndo own) (cond (eqb k e) (beginPart 2 within (k + 1) ms) (nothingBegun ms)) (beginUndoFirst within (k + 1) e ms)) (beginUndoIn within (k + 1) e ms) (beginUndo (act own within) k e ms) refl s))
+          (cond-local (act own within) k (hasUndo own) (cond (eqb k e) (beginPart 2 within (k + 1) ms) (nothingBegun ms)) (beginUndoFirst within (k + 1) e ms)
+          (λ u. let z = part-local y (scope-arms own within s r) 2 (let v = scope-three own within s u n in omega arith) ms in
+          cond-local (act own within) k (eqb k e) (beginPart 2 within (k + 1) ms) (nothingBegun ms) (λ v. record { one = λ c. near-none (λ j a b w. z .1 j b); other = z .0 })
+          (λ v. local-zero [] (act own within) k (record { at = λ j a b. refl })))
+          (λ u. record { one = λ c. near-none (λ j a b w. undo-first-times y e ms j (rw u at w)); other = undo-first-local y e ms })))
+          (λ s. subst (λ (b : Begun). Local (b .log) (act own within) k)
+          (sym (second-of (isScope own) (cond (hasUndo own) (cond (eqb k e) (beginPart 2 within (k + 1) ms) (nothingBegun ms)) (beginUndoFirst within (k + 1) e ms)) (beginUndoIn within (k + 1) e ms) (beginUndo (act own within) k e ms) refl s))
+          (plain-local own within k _ s (undo-in-local y e ms)))
 
-      undo-in-local : {l : Acts} {c : ℕ} → KnowsIn f l c → (e : ℕ) → directlyIn l c e ≡ true → (ms : List ℕ) → LocalIn (beginUndoIn l c e ms .log) l c
-      undo-in-local (knows-none {c}) e d ms = tt
-      undo-in-local (knows-more {a} {l} {c} x y) e d ms =
-          decide (directly a c e)
+      undo-first-local : {l : Acts} {c : ℕ} → KnowsIn f l c → (e : ℕ) (ms : List ℕ) → LocalIn (beginUndoFirst l c e ms .log) l c
+      undo-first-local (knows-none {c}) e ms = tt
+      undo-first-local (knows-more {a} {l} {c} x y) e ms = head-in a l c _ (undo-local x e ms) (undo-strict f x e ms .above)
+
+      undo-in-local : {l : Acts} {c : ℕ} → KnowsIn f l c → (e : ℕ) (ms : List ℕ) → LocalIn (beginUndoIn l c e ms .log) l c
+      undo-in-local (knows-none {c}) e ms = tt
+      undo-in-local (knows-more {a} {l} {c} x y) e ms =
+          decide (ltb e (c + size a))
           (λ b. subst (λ (z : Begun). LocalIn (z .log) (more a l) c)
-          (sym (first-of (ltb e (c + size a)) (beginUndo a c e ms) (beginUndoIn l (c + size a) e ms) (beginUndoIn (more a l) c e ms) refl (lt-ltb e (c + size a) (directly-range a c e b .1))))
-          (head-in a l c _ (undo-local x e b ms) (undo-strict f x e ms .above)))
-          (λ b. let g : directlyIn l (c + size a) e ≡ true = rw b at d in
-          subst (λ (z : Begun). LocalIn (z .log) (more a l) c)
-          (sym (second-of (ltb e (c + size a)) (beginUndo a c e ms) (beginUndoIn l (c + size a) e ms) (beginUndoIn (more a l) c e ms) refl (le-ltb e (c + size a) (directly-range-in l (c + size a) e g .0))))
-          (tail-in a l c _ (undo-in-local y e g ms) (undo-in-strict f y e ms .below)))
+          (sym (first-of (ltb e (c + size a)) (beginUndo a c e ms) (beginUndoIn l (c + size a) e ms) (beginUndoIn (more a l) c e ms) refl b))
+          (head-in a l c _ (undo-local x e ms) (undo-strict f x e ms .above)))
+          (λ b. subst (λ (z : Begun). LocalIn (z .log) (more a l) c)
+          (sym (second-of (ltb e (c + size a)) (beginUndo a c e ms) (beginUndoIn l (c + size a) e ms) (beginUndoIn (more a l) c e ms) refl b))
+          (tail-in a l c _ (undo-in-local y e ms) (undo-in-strict f y e ms .below)))
 
     -- A scope whose body and fault part are the first two of a list.
     record Sits (s : Scope) (r : Acts) (c : ℕ) : Type 0 where
@@ -231,7 +241,7 @@ module _ (t : ℕ) where
       inBody : (l : List Event) → Local l (s .body) (s .bodyAt) → ((j : ℕ) → s .bodyAt + size (s .body) ≤ j → times j l ≡ 0) → LocalIn l r c
       inFault : (l : List Event) → Local l (s .fault) (s .faultAt) → Starts (s .fault) (s .faultAt) l → LocalIn l r c
 
-    sits-scope : {within : Acts} {k : ℕ} → KnowsIn f within (k + 1) → Arms false within → 3 ≤ count within → Sits (scopeAt k within) within (k + 1)
+    sits-scope : {within : Acts} {k : ℕ} → KnowsIn f within (k + 1) → Arms false within → 2 ≤ count within → Sits (scopeAt k within) within (k + 1)
     unfolding part partAt count
     sits-scope knows-none r n = absurd (omega arith)
     sits-scope (knows-more x knows-none) r n = absurd (omega arith)
@@ -264,21 +274,16 @@ module _ (t : ℕ) where
       unfolding times
       runs-local o = in-none [] r c (λ j. refl)
 
-    -- what is remembered for a scope stands directly in its body
-    pub all-directly : (s : Scope) (o : Order) → every (isFor s) (rememberedFor s o) ≡ true
-    unfolding rememberedFor
-    all-directly s o = every-reverse (isFor s) (only (isFor s) (closings o)) (every-only-so (isFor s) (closings o))
-
     module _ (s : Scope) (r : Acts) (c : ℕ) (h : Sits s r c) where
       ends-local : (o : Order) → LocalIn (ends s o .log) r c
       unfolding times isBeganOf
       ends-local o = in-none _ r c (λ j. refl)
 
-      list-local : (l : List ℕ) (o : Order) → every (isFor s) l ≡ true → LocalIn (undo l s o .log) r c
-      unfolding undo startUndo times every
-      list-local [] o e = in-none [] r c (λ j. refl)
-      list-local (x ∷ l) o e =
-          both (isFor s x) (every (isFor s) l) e (λ d g. where-local r c (undo l s) (startUndo x s o) (h .inBody _ (undo-local (h .body) x d (o .marks)) (undo-strict f (h .body) x (o .marks) .above)) (λ q. list-local l q g))
+      list-local : (l : List ℕ) (o : Order) → LocalIn (undo l s o .log) r c
+      unfolding undo startUndo times
+      list-local [] o = in-none [] r c (λ j. refl)
+      list-local (x ∷ l) o =
+          where-local r c (undo l s) (startUndo x s o) (h .inBody _ (undo-local (h .body) x (o .marks)) (undo-strict f (h .body) x (o .marks) .above)) (λ q. list-local l q)
 
       handle-local : (o : Order) → LocalIn (handle s o .log) r c
       unfolding handle
@@ -288,8 +293,8 @@ module _ (t : ℕ) where
 
       undoes-local : (w : Bool) (o : Order) → LocalIn (undoes w s o .log) r c
       unfolding undoes
-      undoes-local true o = let o₁ = marking (s .name) undoing o in where-local r c (handle s) (undo (rememberedFor s o₁) s o₁) (list-local (rememberedFor s o₁) o₁ (all-directly s o₁)) (λ q. handle-local q)
-      undoes-local false o = let o₁ = marking (s .name) withdrawing o in where-local r c (ends s) (undo (rememberedFor s o₁) s o₁) (list-local (rememberedFor s o₁) o₁ (all-directly s o₁)) (λ q. ends-local q)
+      undoes-local true o = let o₁ = marking (s .name) undoing o in where-local r c (handle s) (undo (rememberedFor s o₁) s o₁) (list-local (rememberedFor s o₁) o₁) (λ q. handle-local q)
+      undoes-local false o = let o₁ = marking (s .name) withdrawing o in where-local r c (ends s) (undo (rememberedFor s o₁) s o₁) (list-local (rememberedFor s o₁) o₁) (λ q. ends-local q)
 
       turns-local : (w : Bool) (o : Order) → LocalIn (turns w s o .log) r c
       unfolding turns
@@ -342,7 +347,7 @@ module _ (t : ℕ) where
           (λ v. record {
             one = λ e. near-stopped (rw (eq-eqb k k refl));
             other = in-event (stopped k) _ within (k + 1) (record { at = λ j p q. refl }) (in-append _ _ within (k + 1) (stop-first-local y (marked k halted o))
-                (turns-local (scopeAt k within) within (k + 1) (sits-scope y (scope-arms own within s r) (scope-three own within s n)) false _));
+                (turns-local (scopeAt k within) within (k + 1) (sits-scope y (scope-arms own within s r) (scope-two own within s n)) false _));
           })
           (λ v. local-zero [] (act own within) k (record { at = λ j p q. refl })))
           (λ s. plain-local own within k _ s (stop-all-local y (marked k idle o)))
@@ -418,33 +423,33 @@ module _ (t : ℕ) where
     or-local r c k o g fault h = in-none _ r c (λ j. refl)
     or-local r c k o g (value n) h = h n
 
-    itself-local : (own : Own) (within : Acts) (k : ℕ) (o : Order) → needs own ≤ count within → Arms (eqb (kind own) 10) within → KnowsIn f within (k + 1) → LocalIn (itself own within k o .log) within (k + 1)
+    itself-local : (own : Own) (within : Acts) (q₀ k : ℕ) (o : Order) → needs own ≤ count within → Arms (isPick own) within → KnowsIn f within (k + 1) → LocalIn (itself own within q₀ k o .log) within (k + 1)
     unfolding itself needs least kind times isBeganOf closing repeats
-    itself-local empty within k o n r y = in-none [] within (k + 1) (λ j. refl)
-    itself-local (send a b vs) within k o n r y = decide (allBound o vs) (λ e. rw e (in-none [] within (k + 1) (λ j. refl))) (λ e. rw e (in-none _ within (k + 1) (λ j. refl)))
-    itself-local (receive a b vs) within k o n r y = in-none [] within (k + 1) (λ j. refl)
-    itself-local (setting v e) within k o n r y = or-local within (k + 1) k o _ (evaluate e o) (λ i. in-none [] within (k + 1) (λ j. refl))
-    itself-local raise within k o n r y = in-none _ within (k + 1) (λ j. refl)
-    itself-local leave within k o n r y = in-none _ within (k + 1) (λ j. refl)
-    itself-local (choose e) within k o n r y = or-local within (k + 1) k o _ (evaluate e o) (λ z. let o₁ = marked k inside o in
+    itself-local empty within q₀ k o n r y = in-none [] within (k + 1) (λ j. refl)
+    itself-local (send a b vs) within q₀ k o n r y = decide (allBound o vs) (λ e. rw e (in-none [] within (k + 1) (λ j. refl))) (λ e. rw e (in-none _ within (k + 1) (λ j. refl)))
+    itself-local (receive a b vs) within q₀ k o n r y = in-none [] within (k + 1) (λ j. refl)
+    itself-local (setting v e) within q₀ k o n r y = or-local within (k + 1) k o _ (evaluate e o) (λ i. in-none [] within (k + 1) (λ j. refl))
+    itself-local raise within q₀ k o n r y = in-none _ within (k + 1) (λ j. refl)
+    itself-local leave within q₀ k o n r y = in-none _ within (k + 1) (λ j. refl)
+    itself-local (choose e) within q₀ k o n r y = or-local within (k + 1) k o _ (evaluate e o) (λ z. let o₁ = marked k inside o in
         where-local within (k + 1) (finishes k) (begunIn o₁ (beginPart (cond (isTrue z) 0 1) within (k + 1) (o₁ .marks))) (part-local y r (cond (isTrue z) 0 1) (second (isTrue z)) (o₁ .marks) .0) (λ q. in-none [] within (k + 1) (λ j. refl)))
       where
         second : (b : Bool) → cond b 0 1 < count within
         second true = omega arith
         second false = omega arith
-    itself-local (repeat e) within k o n r y = or-local within (k + 1) k o _ (evaluate e o) (λ z. either-local within (k + 1) (isTrue z) (repeats k within o) (finishes k o) _ refl body (in-none [] within (k + 1) (λ j. refl)))
+    itself-local (repeat e) within q₀ k o n r y = or-local within (k + 1) k o _ (evaluate e o) (λ z. either-local within (k + 1) (isTrue z) (repeats k within o) (finishes k o) _ refl body (in-none [] within (k + 1) (λ j. refl)))
       where
         body : LocalIn (repeats k within o .log) within (k + 1)
         body =
             let o₁ = marked k inside (withMarks (cleared (k + 1) (sizes within) (o .marks)) o) in
             where-local within (k + 1) (again k) (begunIn o₁ (beginPart 0 within (k + 1) (o₁ .marks))) (part-local y r 0 (omega arith) (o₁ .marks) .0) (λ q. in-none [] within (k + 1) (λ j. refl))
-    itself-local sequence within k o n r y = in-none [] within (k + 1) (λ j. refl)
-    itself-local flow within k o n r y = in-none [] within (k + 1) (λ j. refl)
-    itself-local pick within k o n r y = in-none [] within (k + 1) (λ j. refl)
-    itself-local scope within k o n r y = in-none _ within (k + 1) (λ j. refl)
-    itself-local (arm a b vs) within k o n r y = part-local y r 0 (omega arith) (o .marks) .0
+    itself-local sequence within q₀ k o n r y = in-none [] within (k + 1) (λ j. refl)
+    itself-local flow within q₀ k o n r y = in-none [] within (k + 1) (λ j. refl)
+    itself-local pick within q₀ k o n r y = in-none [] within (k + 1) (λ j. refl)
+    itself-local (scope v) within q₀ k o n r y = in-none _ within (k + 1) (λ j. refl)
+    itself-local (arm a b vs) within q₀ k o n r y = part-local y r 0 (omega arith) (o .marks) .0
 
-    combines-local : (own : Own) (within : Acts) (k : ℕ) (q : Outcome) → needs own ≤ count within → Arms (eqb (kind own) 10) within → KnowsIn f within (k + 1) → LocalIn (q .log) within (k + 1)
+    combines-local : (own : Own) (within : Acts) (k : ℕ) (q : Outcome) → needs own ≤ count within → Arms (isPick own) within → KnowsIn f within (k + 1) → LocalIn (q .log) within (k + 1)
         → LocalIn (combines own within k t q .log) within (k + 1)
     unfolding combines needs kind times inScope fromUndo
     combines-local empty within k q n r y w = w
@@ -459,10 +464,11 @@ module _ (t : ℕ) where
         on-local within (k + 1) k active _ q w (λ o. where-local within (k + 1) (finishes k) (begunIn o (beginAfter within (k + 1) t (o .marks))) (after-local y r (o .marks) .0) (λ o₁. in-none [] within (k + 1) (λ j. refl)))
     combines-local flow within k q n r y w = on-local within (k + 1) k active (joins k within) q w (λ o. joins-local within (k + 1) k within o)
     combines-local pick within k q n r y w = on-local within (k + 1) k inside (finishes k) q w (λ o. in-none [] within (k + 1) (λ j. refl))
-    combines-local scope within k q n r y w =
+    combines-local (scope u) within k q n r y w =
         let s = scopeAt k within in
-        let i = sits-scope y r n in
-        either-local within (k + 1) (ltb t (partAt 1 within (k + 1))) (fromBody s q) (elim (ltb t (partAt 2 within (k + 1))) [ true ↦ fromFault s q | false ↦ fromUndo q ]) _ refl (body-local s within (k + 1) i q w)
+        let i = sits-scope y r (two-of u (count within) n) in
+        either-local within (k + 1) (ltb t (partAt 1 within (k + 1))) (elim (goesThrough u k q) [ true ↦ q | false ↦ fromBody s q ]) (elim (ltb t (partAt 2 within (k + 1))) [ true ↦ fromFault s q | false ↦ fromUndo q ]) _ refl
+        (either-local within (k + 1) (goesThrough u k q) q (fromBody s q) _ refl w (body-local s within (k + 1) i q w))
         (either-local within (k + 1) (ltb t (partAt 2 within (k + 1))) (fromFault s q) (fromUndo q) _ refl (fault-local s within (k + 1) i q w) w)
     combines-local (arm a b vs) within k q n r y w = w
 
@@ -471,29 +477,31 @@ module _ (t : ℕ) where
     case-local r c false x y z e g h = subst (λ (q : Outcome). LocalIn (q .log) r c) (sym e) (h refl)
 
     -- what acts: the activity itself, or a raise in its place
-    performs-local : (actor : Actor) (own : Own) (within : Acts) (k : ℕ) (o : Order) → needs own ≤ count within → Arms (eqb (kind own) 10) within → KnowsIn f within (k + 1)
-        → LocalIn (performs actor own within k o .log) within (k + 1)
+    performs-local : (actor : Actor) (own : Own) (within : Acts) (q₀ k : ℕ) (o : Order) → needs own ≤ count within → Arms (isPick own) within → KnowsIn f within (k + 1)
+        → LocalIn (performs actor own within q₀ k o .log) within (k + 1)
     unfolding performs times isBeganOf
-    performs-local actor own within k o n r y =
-        case-local within (k + 1) (replaces actor (kind own)) (raises k o) (itself own within k o) _ refl (λ e. in-none _ within (k + 1) (λ j. refl)) (λ e. itself-local own within k o n r y)
+    performs-local actor own within q₀ k o n r y =
+        case-local within (k + 1) (replaces actor (kind own)) (raises k o) (itself own within q₀ k o) _ refl (λ e. in-none _ within (k + 1) (λ j. refl)) (λ e. itself-local own within q₀ k o n r y)
 
     mutual
       unfolding stepIn Local times size
 
-      step-local : (actor : Actor) {a : Act} {k : ℕ} → Knows f a k → (o : Order) → k ≤ t → t < k + size a → Local (stepIn actor a k t o .log) a k
-      step-local actor (knows {own} {within} {k} x n r y) o h e =
+      step-local : (actor : Actor) {a : Act} {k : ℕ} → Knows f a k → (q₀ : ℕ) (o : Order) → k ≤ t → t < k + size a → Local (stepIn actor a q₀ k t o .log) a k
+      step-local actor (knows {own} {within} {k} x n r y) q₀ o h e =
           record {
             one = λ s. near-stands h e;
-            other = case-local within (k + 1) (eqb k t) (performs actor own within k o) (combines own within k t (stepAmong actor within (k + 1) t (arms own within k t o))) _ refl (λ d. performs-local actor own within k o n r y)
-                (λ d. combines-local own within k (stepAmong actor within (k + 1) t (arms own within k t o)) n r y (among-local actor y (arms own within k t o) (let z = eqb-false k t d in omega arith)));
+            other = case-local within (k + 1) (eqb k t) (performs actor own within q₀ k o) (combines own within k t (stepAmong actor within (isScope own) q₀ (k + 1) t (arms own within k t o))) _ refl
+                (λ d. performs-local actor own within q₀ k o n r y)
+                (λ d. combines-local own within k (stepAmong actor within (isScope own) q₀ (k + 1) t (arms own within k t o)) n r y
+                (among-local actor y (isScope own) q₀ (arms own within k t o) (let z = eqb-false k t d in omega arith)));
           }
 
-      among-local : (actor : Actor) {l : Acts} {c : ℕ} → KnowsIn f l c → (o : Order) → c ≤ t → LocalIn (stepAmong actor l c t o .log) l c
-      among-local actor (knows-none {c}) o h = tt
-      among-local actor (knows-more {a} {l} {c} x y) o h =
-          case-local (more a l) c (ltb t (c + size a)) (stepIn actor a c t o) (stepAmong actor l (c + size a) t o) _ refl
-          (λ e. head-in a l c _ (step-local actor x o h (ltb-true t (c + size a) e)) (step-at f t actor x o h .strict .above))
-          (λ e. tail-in a l c _ (among-local actor y o (ltb-false t (c + size a) e)) (λ j q. among-at f t actor y o (ltb-false t (c + size a) e) .strict .below j q))
+      among-local : (actor : Actor) {l : Acts} {c : ℕ} → KnowsIn f l c → (v : Bool) (q₀ : ℕ) (o : Order) → c ≤ t → LocalIn (stepAmong actor l v q₀ c t o .log) l c
+      among-local actor (knows-none {c}) v q₀ o h = tt
+      among-local actor (knows-more {a} {l} {c} x y) v q₀ o h =
+          case-local (more a l) c (ltb t (c + size a)) (stepIn actor a (cond v c q₀) c t o) (stepAmong actor l v q₀ (c + size a) t o) _ refl
+          (λ e. head-in a l c _ (step-local actor x (cond v c q₀) o h (ltb-true t (c + size a) e)) (step-at f t actor x (cond v c q₀) o h .strict .above))
+          (λ e. tail-in a l c _ (among-local actor y v q₀ o (ltb-false t (c + size a) e)) (λ j q. among-at f t actor y v q₀ o (ltb-false t (c + size a) e) .strict .below j q))
 
     -- From the root.
     module _ (p : Plan) (kb : Knows f (p .body) 0) (kf : Knows f (p .fault) (size (p .body))) (named : Named f (p .fault)) where
@@ -517,11 +525,11 @@ module _ (t : ℕ) where
       pub root-local : (actor : Actor) (o : Order) → t < size (p .body) + size (p .fault) → LocalIn (stepRoot actor p t o .log) all 0
       unfolding stepRoot
       root-local actor o n =
-          case-local all 0 (ltb t (size (p .body))) (fromBody (rootOf p) (stepIn actor (p .body) 0 t o)) (fromFault (rootOf p) (stepIn actor (p .fault) (size (p .body)) t o)) (stepRoot actor p t o) refl
-          (λ e. body-local (rootOf p) all 0 sits-root (stepIn actor (p .body) 0 t o) (head-in (p .body) (more (p .fault) none) 0 _ (step-local actor kb o (omega arith) (let z = ltb-true t (size (p .body)) e in omega arith)) (step-at f t actor kb o (omega arith) .strict .above)))
+          case-local all 0 (ltb t (size (p .body))) (fromBody (rootOf p) (stepIn actor (p .body) 0 0 t o)) (fromFault (rootOf p) (stepIn actor (p .fault) (size (p .body)) (size (p .body)) t o)) (stepRoot actor p t o) refl
+          (λ e. body-local (rootOf p) all 0 sits-root (stepIn actor (p .body) 0 0 t o) (head-in (p .body) (more (p .fault) none) 0 _ (step-local actor kb 0 o (omega arith) (let z = ltb-true t (size (p .body)) e in omega arith)) (step-at f t actor kb 0 o (omega arith) .strict .above)))
           (λ e. let z = ltb-false t (size (p .body)) e in
-          let w = step-at f t actor kf o z .strict in
-          fault-local (rootOf p) all 0 sits-root (stepIn actor (p .fault) (size (p .body)) t o) (fault-in _ (step-local actor kf o z n) (λ j x. w .below j (omega arith)) (w .above)))
+          let w = step-at f t actor kf (size (p .body)) o z .strict in
+          fault-local (rootOf p) all 0 sits-root (stepIn actor (p .fault) (size (p .body)) (size (p .body)) t o) (fault-in _ (step-local actor kf (size (p .body)) o z n) (λ j x. w .below j (omega arith)) (w .above)))
 
       pub start-local : Named f (p .body) → (ms : List ℕ) → LocalIn (begin (p .body) 0 ms .log) all 0
       start-local i ms = head-in (p .body) (more (p .fault) none) 0 _ (begin-local kb ms) (begin-starts f kb i ms .above)

@@ -106,7 +106,7 @@ step-each p wait l i o k (sends a b vs) = unless-each (sendHeld wait o vs) (each
 step-each p wait l i o k (takes a b vs) = each-map _ (λ x. (refl, refl)) (only (mayTake p o a b vs) l)
 step-each p wait l i o k moves = each-more (refl, refl) each-none
 step-each p wait l i o k cuts = each-more (refl, refl) each-none
-step-each p wait l i o k (closes s) = unless-each (closeHeld o s) (each-more (refl, refl) each-none)
+step-each p wait l i o k (closes undo s) = unless-each (closeHeld o undo s) (each-more (refl, refl) each-none)
 
 -- An offer is good: it awaits its step in its slot's live order, or in an order as it starts where the slot is free.
 pub data Good (p : Plan) (os : List Order) (x : Offer) : Type 0 where
@@ -169,7 +169,7 @@ starts-each p o x {l} y = decide (empties (x .fitted)) (λ t. rw t (all y)) (λ 
     one a (takes b c vs) w = decide (fits p o b c vs (x .message)) (λ t. rw t (each-more w each-none)) (λ t. rw t each-none)
     one a moves w = each-none
     one a cuts w = each-none
-    one a (closes s) w = each-none
+    one a (closes undo s) w = each-none
 
     all : {l : List Ready} → Each {A = Ready} (λ r. Awaited p (o .marks) (r .activity)) l → Each (λ k. Awaited p (o .marks) k) (each (startOf p o x) l)
     all each-none = each-none

@@ -18,7 +18,7 @@ use Rattle.machine.specs.declared.Message.{Message}
 use Rattle.machine.specs.declared.State.{State}
 use Rattle.machine.specs.declared.Tally.{Tally}
 use Rattle.order.specs.Lists.{every}
-use Rattle.order.specs.State.{root, isLive, noOrder}
+use Rattle.order.specs.State.{Name, root, markOf, isLive, noOrder}
 use Rattle.machine.specs.State.{fresh}
 use Rattle.order.specs.Event.{Event, started, ended}
 use Rattle.order.specs.Scope.{Outcome, rootOf, fromBody, fromFault}
@@ -37,7 +37,7 @@ use Rattle.undoing.proofs.Places.{first-of, second-of}
 use Rattle.undoing.proofs.Planning.{Promised, promised}
 use Rattle.undoing.proofs.Waiting.{quiet-waits}
 use Rattle.undoing.proofs.Scoping.{scope-live, scope-done, scope-turned, Running}
-use Rattle.undoing.proofs.Stepping.{steps, steps-stopped, steps-undoing}
+use Rattle.undoing.proofs.Stepping.{awake-first, steps, steps-stopped, steps-undoing}
 use Rattle.undoing.proofs.Roots.{Awaited, in-body, in-fault, Standing}
 use Rattle.undoing.proofs.Slots.{standing-live, Alike, taking-alike, alike-awaited, alike-stands, order-starts}
 use Rattle.undoing.proofs.Happening.{orderIn, withMessage, Happens, nothing-here, goes-here, starts-here, step-happens}
@@ -62,37 +62,37 @@ module _ (p : Plan) (h : Promised p) where
   unfolding stepRoot
   root-once actor t o (in-body e w) st =
       subst (λ (r : Outcome). Once (kindAt p) (r .log))
-      (sym (first-of (ltb t (size (p .body))) (fromBody (rootOf p) (stepIn actor (p .body) 0 t o)) (fromFault (rootOf p) (stepIn actor (p .fault) (size (p .body)) t o)) (stepRoot actor p t o) refl (lt-ltb t (size (p .body)) e))) (go (st .runs))
+      (sym (first-of (ltb t (size (p .body))) (fromBody (rootOf p) (stepIn actor (p .body) 0 0 t o)) (fromFault (rootOf p) (stepIn actor (p .fault) (size (p .body)) (size (p .body)) t o)) (stepRoot actor p t o) refl (lt-ltb t (size (p .body)) e))) (go (st .runs))
     where
       m : size (p .body) + size (p .fault) ≤ length (o .marks)
       m = st .many
 
-      go : Running (rootOf p) (o .marks) (o .root) → Once (kindAt p) (fromBody (rootOf p) (stepIn actor (p .body) 0 t o) .log)
+      go : Running (rootOf p) (o .marks) (o .root) → Once (kindAt p) (fromBody (rootOf p) (stepIn actor (p .body) 0 0 t o) .log)
       go (scope-live d r q) =
-          live-body p (h .distinct) actor (kindAt p) (rootOf p) (h .seat) kb kf t o (omega arith) (omega arith) (once-run p (h .distinct) actor (kindAt p) (h .seat .body) kb t o false w refl r (ap phase d) (omega arith)) d
-          (steps p (h .distinct) actor (h .seat .body) t o false w refl r (ap phase d) (omega arith))
+          live-body p actor (kindAt p) (rootOf p) (h .seat) kb kf t o (omega arith) (omega arith) (once-run p actor (kindAt p) (h .seat .body) kb 0 t o false w refl r (ap phase d) (omega arith)) d
+          (steps p actor (h .seat .body) 0 t o false (h .seat .at) w refl r (ap phase d) (omega arith))
       go (scope-done d q z) = absurd (st .going d)
       go (scope-turned (turned-waits q z _ v)) =
-          waits-body p (h .distinct) actor (kindAt p) (rootOf p) (h .seat) kb kf t o (omega arith) (omega arith) (once-stopped p (h .distinct) actor (kindAt p) (h .seat .body) kb t o false w refl z (omega arith))
-          (steps-stopped p (h .distinct) actor (h .seat .body) t o false w refl z (omega arith))
+          waits-body p actor (kindAt p) (rootOf p) (h .seat) kb kf t o (omega arith) (omega arith) (once-stopped p actor (kindAt p) (h .seat .body) kb 0 t o false w refl z (omega arith))
+          (steps-stopped p actor (h .seat .body) 0 t o false (h .seat .at) w refl z (omega arith))
       go (scope-turned (turned-undoes {w = a} q z v)) =
-          undoing-body p (h .distinct) actor (kindAt p) (rootOf p) (h .seat) kb kf t o (omega arith) (omega arith) (once-undoing p (h .distinct) actor (kindAt p) (h .seat .body) kb t o false w refl z (a, q) (omega arith)) a q
-          (steps-undoing p (h .distinct) actor (h .seat .body) t o false w refl z (a, q) (omega arith))
+          undoing-body p actor (kindAt p) (rootOf p) (h .seat) kb kf t o (omega arith) (omega arith) (once-undoing p actor (kindAt p) (h .seat .body) kb 0 t o false w refl z root (awake-first p actor (λ n. markOf n o) root (h .seat .beyond) a q) (a, ap (λ (n : Name). phase (markOf n o)) (awake-first p actor (λ n. markOf n o) root (h .seat .beyond) a q) ∙ q) (omega arith)) a q
+          (steps-undoing p actor (h .seat .body) 0 t o false (h .seat .at) w refl z root (awake-first p actor (λ n. markOf n o) root (h .seat .beyond) a q) (a, ap (λ (n : Name). phase (markOf n o)) (awake-first p actor (λ n. markOf n o) root (h .seat .beyond) a q) ∙ q) (omega arith))
       go (scope-turned (turned-heals q z v)) = absurd (quiet-waits w refl z)
   root-once actor t o (in-fault e w) st =
       subst (λ (r : Outcome). Once (kindAt p) (r .log))
-      (sym (second-of (ltb t (size (p .body))) (fromBody (rootOf p) (stepIn actor (p .body) 0 t o)) (fromFault (rootOf p) (stepIn actor (p .fault) (size (p .body)) t o)) (stepRoot actor p t o) refl (le-ltb t (size (p .body)) e))) (go (st .runs))
+      (sym (second-of (ltb t (size (p .body))) (fromBody (rootOf p) (stepIn actor (p .body) 0 0 t o)) (fromFault (rootOf p) (stepIn actor (p .fault) (size (p .body)) (size (p .body)) t o)) (stepRoot actor p t o) refl (le-ltb t (size (p .body)) e))) (go (st .runs))
     where
       m : size (p .body) + size (p .fault) ≤ length (o .marks)
       m = st .many
 
-      go : Running (rootOf p) (o .marks) (o .root) → Once (kindAt p) (fromFault (rootOf p) (stepIn actor (p .fault) (size (p .body)) t o) .log)
+      go : Running (rootOf p) (o .marks) (o .root) → Once (kindAt p) (fromFault (rootOf p) (stepIn actor (p .fault) (size (p .body)) (size (p .body)) t o) .log)
       go (scope-live d r q) = absurd (quiet-waits w refl q)
       go (scope-done d q z) = absurd (st .going d)
       go (scope-turned (turned-waits q z _ v)) = absurd (quiet-waits w refl v)
       go (scope-turned (turned-undoes q z v)) = absurd (quiet-waits w refl v)
       go (scope-turned (turned-heals q z v)) =
-          fault-once (kindAt p) (rootOf p) kb kf (stepIn actor (p .fault) (size (p .body)) t o) (once-part p (h .distinct) actor (kindAt p) (h .seat .fault) kf t o false w refl v q (omega arith))
+          fault-once (kindAt p) (rootOf p) kb kf (stepIn actor (p .fault) (size (p .body)) (size (p .body)) t o) (once-part p actor (kindAt p) (h .seat .fault) kf (size (p .body)) t o false w refl v q (omega arith))
 
   order-once : (actor : Actor) (t : ℕ) (o : Order) → Awaited p (o .marks) t → Standing p o → Once (kindAt p) (acted actor p t o .log)
   unfolding acted movedTo times isBeganOf

@@ -7,7 +7,7 @@ use mathlib.Core.List.{List, [], _∷_, _++_}
 use lib.ListN.{length, getD}
 use lib.Dec.{eqb, ltb, leb}
 use borrow.Author.Tests.{eqb-true, eqb-false, eq-eqb, ne-eqb, ltb-true, ltb-false, lt-ltb, le-ltb}
-use Rattle.plan.specs.Tree.{Own, empty, send, receive, set as setting, raise, leave, choose, repeat, sequence, flow, pick, scope, arm, kind, Act, act, Acts, none, more, Plan, size, sizes, count}
+use Rattle.plan.specs.Tree.{Own, empty, send, receive, set as setting, raise, leave, choose, repeat, sequence, flow, pick, scope, arm, kind, Act, act, Acts, none, more, Plan, size, sizes, count, isScope, isPick}
 use Rattle.order.specs.declared.Order.{Order}
 use Rattle.order.specs.Lists.{some}
 use Rattle.order.specs.State.{Name, root, inner, idle, active, inside, faulty, undoing, handling, halted, withdrawing, done, withMarks, markAt, marked, markOf, marking, binding}
@@ -16,13 +16,13 @@ use Rattle.order.specs.Expression.{Value, fault, value, evaluate, isTrue}
 use Rattle.order.specs.Begin.{Begun, begin, beginInTurn, beginAfter, part, partAt, beginPart, cleared, quiet}
 use Rattle.order.specs.declared.Way.{Way as Result}
 use Rattle.order.specs.declared.Way.the-variants.{Running as running, Over as over, Raising as raising, Leaving as leaving, Undone as undone, UndoRaising as undoRaising}
-use Rattle.order.specs.Scope.{Outcome, rootOf, runs, after, begunIn, whereOver, Scope, scopeAt, isScope, isOpen, innerRuns, closing, ends, turns, stop, faults, breaks, looksAgain, bodyOver, bodyRaised, undoOver, undoRaised, fromBody, partOver, partRaised, fromFault, fromUndo}
+use Rattle.order.specs.Scope.{Outcome, rootOf, runs, after, begunIn, whereOver, Scope, scopeAt, isOpen, innerRuns, closing, ends, turns, stop, faults, breaks, looksAgain, bodyOver, bodyRaised, undoOver, undoRaised, fromBody, partOver, partRaised, fromFault, fromUndo}
 use Rattle.order.specs.Acting.{finishes, raises, orRaises, enters, again, repeats, allBound, itself, isPart, arms, goesOn, joins, inScope, combines, stepIn, stepAmong, stepRoot, Actor, replaces, performs}
 use Rattle.undoing.specs.Orderly.{isBeganOf}
 use Rattle.undoing.specs.Begun.{lasts, hasBegan}
 use Rattle.undoing.specs.Entirely.{times}
 use Rattle.undoing.proofs.Parts.{both, decide}
-use Rattle.undoing.proofs.Orders.{isArm, least}
+use Rattle.undoing.proofs.Orders.{least}
 use Rattle.undoing.proofs.Places.{first-of, second-of}
 use Rattle.undoing.proofs.Seats.{marking-length}
 use Rattle.undoing.proofs.Truly.{Up, Arms, needs, Knows, knows, KnowsIn, knows-none, knows-more}
@@ -145,15 +145,15 @@ module _ (f : ℕ → ℕ) where
   or-lone k o g fault h = lone-zero f (raises k o) (λ j. refl)
   or-lone k o g (value n) h = h n
 
-  pub itself-lone : (own : Own) (within : Acts) (k : ℕ) (o : Order) → needs own ≤ count within → KnowsIn f within (k + 1) → Lone f (itself own within k o)
+  pub itself-lone : (own : Own) (within : Acts) (q₀ k : ℕ) (o : Order) → needs own ≤ count within → KnowsIn f within (k + 1) → Lone f (itself own within q₀ k o)
   unfolding itself needs least kind times isBeganOf closing repeats
-  itself-lone empty within k o n y = lone-zero f (runs o) (λ j. refl)
-  itself-lone (send a b vs) within k o n y = decide (allBound o vs) (λ e. rw e (lone-zero f (finishes k o) (λ j. refl))) (λ e. rw e (lone-zero f (raises k o) (λ j. refl)))
-  itself-lone (receive a b vs) within k o n y = lone-zero f (finishes k o) (λ j. refl)
-  itself-lone (setting v e) within k o n y = or-lone k o _ (evaluate e o) (λ i. lone-zero f (finishes k (binding v i o)) (λ j. refl))
-  itself-lone raise within k o n y = lone-zero f (raises k o) (λ j. refl)
-  itself-lone leave within k o n y = lone-zero f (itself leave within k o) (λ j. refl)
-  itself-lone (choose e) within k o n y =
+  itself-lone empty within q₀ k o n y = lone-zero f (runs o) (λ j. refl)
+  itself-lone (send a b vs) within q₀ k o n y = decide (allBound o vs) (λ e. rw e (lone-zero f (finishes k o) (λ j. refl))) (λ e. rw e (lone-zero f (raises k o) (λ j. refl)))
+  itself-lone (receive a b vs) within q₀ k o n y = lone-zero f (finishes k o) (λ j. refl)
+  itself-lone (setting v e) within q₀ k o n y = or-lone k o _ (evaluate e o) (λ i. lone-zero f (finishes k (binding v i o)) (λ j. refl))
+  itself-lone raise within q₀ k o n y = lone-zero f (raises k o) (λ j. refl)
+  itself-lone leave within q₀ k o n y = lone-zero f (itself leave within q₀ k o) (λ j. refl)
+  itself-lone (choose e) within q₀ k o n y =
       or-lone k o _ (evaluate e o) (λ z. let o₁ = marked k inside o in
       lone-where f (finishes k) (begunIn o₁ (beginPart (cond (isTrue z) 0 1) within (k + 1) (o₁ .marks))) (lone-begun f o₁ (beginPart (cond (isTrue z) 0 1) within (k + 1) (o₁ .marks)) (part-onto f y (cond (isTrue z) 0 1) (second (isTrue z)) (o₁ .marks)))
       (λ q. lone-zero f (finishes k q) (λ j. refl)))
@@ -161,39 +161,39 @@ module _ (f : ℕ → ℕ) where
       second : (b : Bool) → cond b 0 1 < count within
       second true = omega arith
       second false = omega arith
-  itself-lone (repeat e) within k o n y = or-lone k o _ (evaluate e o) (λ z. turn (isTrue z))
+  itself-lone (repeat e) within q₀ k o n y = or-lone k o _ (evaluate e o) (λ z. turn (isTrue z))
     where
       turn : (b : Bool) → Lone f (elim b [ true ↦ repeats k within o | false ↦ finishes k o ])
       turn true =
           let o₁ = marked k inside (withMarks (cleared (k + 1) (sizes within) (o .marks)) o) in
           lone-where f (again k) (begunIn o₁ (beginPart 0 within (k + 1) (o₁ .marks))) (lone-begun f o₁ (beginPart 0 within (k + 1) (o₁ .marks)) (part-onto f y 0 (omega arith) (o₁ .marks))) (λ q. lone-zero f (again k q) (λ j. refl))
       turn false = lone-zero f (finishes k o) (λ j. refl)
-  itself-lone sequence within k o n y = lone-zero f (runs o) (λ j. refl)
-  itself-lone flow within k o n y = lone-zero f (runs o) (λ j. refl)
-  itself-lone pick within k o n y = lone-zero f (runs o) (λ j. refl)
-  itself-lone scope within k o n y = lone-zero f (closing k (scopeAt k within) o) (λ j. refl)
-  itself-lone (arm a b vs) within k o n y = lone-begun f o (beginPart 0 within (k + 1) (o .marks)) (part-onto f y 0 (omega arith) (o .marks))
+  itself-lone sequence within q₀ k o n y = lone-zero f (runs o) (λ j. refl)
+  itself-lone flow within q₀ k o n y = lone-zero f (runs o) (λ j. refl)
+  itself-lone pick within q₀ k o n y = lone-zero f (runs o) (λ j. refl)
+  itself-lone (scope v) within q₀ k o n y = lone-zero f (closing v q₀ k (scopeAt k within) o) (λ j. refl)
+  itself-lone (arm a b vs) within q₀ k o n y = lone-begun f o (beginPart 0 within (k + 1) (o .marks)) (part-onto f y 0 (omega arith) (o .marks))
 
   -- where the step's part of a list ends: what it logs stands before, what follows in a sequence after
-  record Edge (actor : Actor) (l : Acts) (c t : ℕ) : Type 0 where
+  record Edge (actor : Actor) (l : Acts) (v : Bool) (q₀ c t : ℕ) : Type 0 where
     edge : ℕ
-    before : (o : Order) (j : ℕ) → edge ≤ j → times j (stepAmong actor l c t o .log) ≡ 0
+    before : (o : Order) (j : ℕ) → edge ≤ j → times j (stepAmong actor l v q₀ c t o .log) ≡ 0
     behind : (ms : List ℕ) (j : ℕ) → j < edge → times j (beginAfter l c t ms .log) ≡ 0
 
-  edge-of : (actor : Actor) {l : Acts} {c : ℕ} → KnowsIn f l c → Arms false l → (t : ℕ) → c ≤ t → Edge actor l c t
+  edge-of : (actor : Actor) {l : Acts} {c : ℕ} → KnowsIn f l c → Arms false l → (v : Bool) (q₀ t : ℕ) → c ≤ t → Edge actor l v q₀ c t
   unfolding stepIn beginAfter times
-  edge-of actor (knows-none {c}) r t h = record { edge = c; before = λ o j e. refl; behind = λ ms j e. refl }
-  edge-of actor (knows-more {a = act own w} {l} {c} x y) r t h =
+  edge-of actor (knows-none {c}) r v q₀ t h = record { edge = c; before = λ o j e. refl; behind = λ ms j e. refl }
+  edge-of actor (knows-more {a = act own w} {l} {c} x y) r v q₀ t h =
       decide (ltb t (c + size (act own w)))
       (λ d. record {
         edge = c + size (act own w);
-        before = λ o j e. ap (λ (z : Outcome). times j (z .log)) (first-of (ltb t (c + size (act own w))) (stepIn actor (act own w) c t o) (stepAmong actor l (c + size (act own w)) t o) (stepAmong actor (more (act own w) l) c t o) refl d) ∙ step-at f t actor x o h .strict .above j e;
+        before = λ o j e. ap (λ (z : Outcome). times j (z .log)) (first-of (ltb t (c + size (act own w))) (stepIn actor (act own w) (cond v c q₀) c t o) (stepAmong actor l v q₀ (c + size (act own w)) t o) (stepAmong actor (more (act own w) l) v q₀ c t o) refl d) ∙ step-at f t actor x (cond v c q₀) o h .strict .above j e;
         behind = λ ms j e. ap (λ (z : Begun). times j (z .log)) (first-of (ltb t (c + size (act own w))) (beginInTurn-of ms) (beginAfter l (c + size (act own w)) t ms) (beginAfter (more (act own w) l) c t ms) refl d) ∙ turn-starts f y (r .1) ms .below j e;
       })
-      (λ d. let z = edge-of actor y (r .1) t (ltb-false t (c + size (act own w)) d) in
+      (λ d. let z = edge-of actor y (r .1) v q₀ t (ltb-false t (c + size (act own w)) d) in
       record {
         edge = z .edge;
-        before = λ o j e. ap (λ (z : Outcome). times j (z .log)) (second-of (ltb t (c + size (act own w))) (stepIn actor (act own w) c t o) (stepAmong actor l (c + size (act own w)) t o) (stepAmong actor (more (act own w) l) c t o) refl d) ∙ z .before o j e;
+        before = λ o j e. ap (λ (z : Outcome). times j (z .log)) (second-of (ltb t (c + size (act own w))) (stepIn actor (act own w) (cond v c q₀) c t o) (stepAmong actor l v q₀ (c + size (act own w)) t o) (stepAmong actor (more (act own w) l) v q₀ c t o) refl d) ∙ z .before o j e;
         behind = λ ms j e. ap (λ (z : Begun). times j (z .log)) (second-of (ltb t (c + size (act own w))) (beginInTurn-of ms) (beginAfter l (c + size (act own w)) t ms) (beginAfter (more (act own w) l) c t ms) refl d) ∙ z .behind ms j e;
       })
     where
@@ -217,16 +217,16 @@ module _ (f : ℕ → ℕ) where
       go undone = w
       go undoRaising = w
 
-  sequence-once : (actor : Actor) {within : Acts} (k t : ℕ) (o : Order) → KnowsIn f within (k + 1) → Arms false within → k + 1 ≤ t → Once f (stepAmong actor within (k + 1) t o .log)
-      → Once f (goesOn k active (λ q. whereOver (finishes k) (begunIn q (beginAfter within (k + 1) t (q .marks)))) (stepAmong actor within (k + 1) t o) .log)
+  sequence-once : (actor : Actor) {within : Acts} (v₀ : Bool) (q₀ k t : ℕ) (o : Order) → KnowsIn f within (k + 1) → Arms false within → k + 1 ≤ t → Once f (stepAmong actor within v₀ q₀ (k + 1) t o .log)
+      → Once f (goesOn k active (λ q. whereOver (finishes k) (begunIn q (beginAfter within (k + 1) t (q .marks)))) (stepAmong actor within v₀ q₀ (k + 1) t o) .log)
   unfolding goesOn times
-  sequence-once actor {within} k t o y a h w = go (r .result)
+  sequence-once actor {within} v₀ q₀ k t o y a h w = go (r .result)
     where
       r : Outcome
-      r = stepAmong actor within (k + 1) t o
+      r = stepAmong actor within v₀ q₀ (k + 1) t o
 
-      e : Edge actor within (k + 1) t
-      e = edge-of actor y a t h
+      e : Edge actor within v₀ q₀ (k + 1) t
+      e = edge-of actor y a v₀ q₀ t h
 
       b : Begun
       b = beginAfter within (k + 1) t (r .order .marks)
@@ -260,22 +260,22 @@ module _ (f : ℕ → ℕ) where
       go false = refl
 
   -- what an activity other than a scope makes of a step within it
-  pub combines-once : (actor : Actor) (own : Own) (within : Acts) (k t : ℕ) (o : Order) → isScope own ≡ false → Arms (eqb (kind own) 10) within → KnowsIn f within (k + 1) → k + 1 ≤ t
-      → Once f (stepAmong actor within (k + 1) t o .log) → Once f (combines own within k t (stepAmong actor within (k + 1) t o) .log)
+  pub combines-once : (actor : Actor) (own : Own) (within : Acts) (q₀ k t : ℕ) (o : Order) → isScope own ≡ false → Arms (isPick own) within → KnowsIn f within (k + 1) → k + 1 ≤ t
+      → Once f (stepAmong actor within (isScope own) q₀ (k + 1) t o .log) → Once f (combines own within k t (stepAmong actor within (isScope own) q₀ (k + 1) t o) .log)
   unfolding combines kind times
-  combines-once actor empty within k t o s r y h w = w
-  combines-once actor (send a b vs) within k t o s r y h w = w
-  combines-once actor (receive a b vs) within k t o s r y h w = w
-  combines-once actor (setting v e) within k t o s r y h w = w
-  combines-once actor raise within k t o s r y h w = w
-  combines-once actor leave within k t o s r y h w = w
-  combines-once actor (choose e) within k t o s r y h w = on-once k inside (finishes k) _ w (λ q j. refl)
-  combines-once actor (repeat e) within k t o s r y h w = on-once k inside (again k) _ w (λ q j. refl)
-  combines-once actor sequence within k t o s r y h w = sequence-once actor k t o y r h w
-  combines-once actor flow within k t o s r y h w = on-once k active (joins k within) _ w (joins-none k within)
-  combines-once actor pick within k t o s r y h w = on-once k inside (finishes k) _ w (λ q j. refl)
-  combines-once actor scope within k t o s r y h w = absurd (false≢true (sym s))
-  combines-once actor (arm a b vs) within k t o s r y h w = w
+  combines-once actor empty within q₀ k t o s r y h w = w
+  combines-once actor (send a b vs) within q₀ k t o s r y h w = w
+  combines-once actor (receive a b vs) within q₀ k t o s r y h w = w
+  combines-once actor (setting v e) within q₀ k t o s r y h w = w
+  combines-once actor raise within q₀ k t o s r y h w = w
+  combines-once actor leave within q₀ k t o s r y h w = w
+  combines-once actor (choose e) within q₀ k t o s r y h w = on-once k inside (finishes k) _ w (λ q j. refl)
+  combines-once actor (repeat e) within q₀ k t o s r y h w = on-once k inside (again k) _ w (λ q j. refl)
+  combines-once actor sequence within q₀ k t o s r y h w = sequence-once actor false q₀ k t o y r h w
+  combines-once actor flow within q₀ k t o s r y h w = on-once k active (joins k within) _ w (joins-none k within)
+  combines-once actor pick within q₀ k t o s r y h w = on-once k inside (finishes k) _ w (λ q j. refl)
+  combines-once actor (scope v) within q₀ k t o s r y h w = absurd (false≢true (sym s))
+  combines-once actor (arm a b vs) within q₀ k t o s r y h w = w
 
   part-from : (l : Acts) (c t : ℕ) → isPart l c t ≡ true → c ≤ t
   unfolding isPart size
@@ -284,23 +284,23 @@ module _ (f : ℕ → ℕ) where
       decide (eqb c t) (λ e. let z = eqb-true c t e in omega arith) (λ e. let z = part-from l (c + (1 + sizes v)) t (rw e at h) in omega arith)
 
   -- what acts: the activity itself, or a raise in its place
-  pub performs-once : (actor : Actor) (own : Own) (within : Acts) (k : ℕ) (o : Order) → needs own ≤ count within → KnowsIn f within (k + 1) → Once f (performs actor own within k o .log)
+  pub performs-once : (actor : Actor) (own : Own) (within : Acts) (q₀ k : ℕ) (o : Order) → needs own ≤ count within → KnowsIn f within (k + 1) → Once f (performs actor own within q₀ k o .log)
   unfolding performs times isBeganOf
-  performs-once actor own within k o n y = go (replaces actor (kind own))
+  performs-once actor own within q₀ k o n y = go (replaces actor (kind own))
     where
-      go : (b : Bool) → Once f (log-of (elim b [ true ↦ raises k o | false ↦ itself own within k o ]))
+      go : (b : Bool) → Once f (log-of (elim b [ true ↦ raises k o | false ↦ itself own within q₀ k o ]))
       go true = lone-zero f (raises k o) (λ j. refl) .once
-      go false = itself-lone own within k o n y .once
+      go false = itself-lone own within q₀ k o n y .once
 
   -- the step of one of a list
-  pub own-once : (actor : Actor) {l : Acts} {c : ℕ} → KnowsIn f l c → (t : ℕ) (o : Order) → isPart l c t ≡ true → Once f (stepAmong actor l c t o .log)
+  pub own-once : (actor : Actor) {l : Acts} {c : ℕ} → KnowsIn f l c → (v : Bool) (q₀ t : ℕ) (o : Order) → isPart l c t ≡ true → Once f (stepAmong actor l v q₀ c t o .log)
   unfolding isPart stepIn size
-  own-once actor knows-none t o e = absurd (false≢true e)
-  own-once actor (knows-more {a = act own w} {l} {c} (knows x n r y) z) t o e =
+  own-once actor knows-none v q₀ t o e = absurd (false≢true e)
+  own-once actor (knows-more {a = act own w} {l} {c} (knows x n r y) z) v q₀ t o e =
       decide (eqb c t)
       (λ d. let i = eqb-true c t d in
-      subst (λ (q : Outcome). Once f (q .log)) (sym (first-of (ltb t (c + (1 + sizes w))) (stepIn actor (act own w) c t o) (stepAmong actor l (c + (1 + sizes w)) t o) (stepAmong actor (more (act own w) l) c t o) refl (lt-ltb t (c + (1 + sizes w)) (omega arith))))
-      (subst (λ (q : Outcome). Once f (q .log)) (sym (first-of (eqb c t) (performs actor own w c o) (combines own w c t (stepAmong actor w (c + 1) t (arms own w c t o))) (stepIn actor (act own w) c t o) refl d)) (performs-once actor own w c o n y)))
+      subst (λ (q : Outcome). Once f (q .log)) (sym (first-of (ltb t (c + (1 + sizes w))) (stepIn actor (act own w) (cond v c q₀) c t o) (stepAmong actor l v q₀ (c + (1 + sizes w)) t o) (stepAmong actor (more (act own w) l) v q₀ c t o) refl (lt-ltb t (c + (1 + sizes w)) (omega arith))))
+      (subst (λ (q : Outcome). Once f (q .log)) (sym (first-of (eqb c t) (performs actor own w (cond v c q₀) c o) (combines own w c t (stepAmong actor w (isScope own) (cond v c q₀) (c + 1) t (arms own w c t o))) (stepIn actor (act own w) (cond v c q₀) c t o) refl d)) (performs-once actor own w (cond v c q₀) c o n y)))
       (λ d. let g : isPart l (c + (1 + sizes w)) t ≡ true = rw d at e in
-      subst (λ (q : Outcome). Once f (q .log)) (sym (second-of (ltb t (c + (1 + sizes w))) (stepIn actor (act own w) c t o) (stepAmong actor l (c + (1 + sizes w)) t o) (stepAmong actor (more (act own w) l) c t o) refl (le-ltb t (c + (1 + sizes w)) (part-from l (c + (1 + sizes w)) t g))))
-      (own-once actor z t o g))
+      subst (λ (q : Outcome). Once f (q .log)) (sym (second-of (ltb t (c + (1 + sizes w))) (stepIn actor (act own w) (cond v c q₀) c t o) (stepAmong actor l v q₀ (c + (1 + sizes w)) t o) (stepAmong actor (more (act own w) l) v q₀ c t o) refl (le-ltb t (c + (1 + sizes w)) (part-from l (c + (1 + sizes w)) t g))))
+      (own-once actor z v q₀ t o g))

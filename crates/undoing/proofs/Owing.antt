@@ -1,26 +1,28 @@
 -- What an order still owes: what is to come of the undo part that runs, and the sure steps of those that are remembered. Assumes nothing.
-use Prim.Native.Nat.{ℕ, _+_}
+use Prim.Native.Nat.{ℕ, _+_, _≤_, _<_}
 use native.Mathlib.Omega.{arith}
-use mathlib.Core.Path.{_≡_, refl, sym, ap, _∙_}
-use mathlib.Core.Bool.{Bool, true, false, cond, not, _&&_, false≢true}
+use mathlib.Core.Path.{_≡_, refl, sym, ap, subst, _∙_}
+use mathlib.Core.Bool.{Bool, true, false, cond, not, _&&_, _||_, or-false, false≢true}
 use mathlib.Core.List.{List, [], _++_}
 use lib.Dec.{eqb, ltb}
-use borrow.Author.Tests.{not-true}
-use Rattle.plan.specs.Tree.{Own, empty, send, receive, set as setting, raise, leave, choose, repeat, sequence, flow, pick, scope, arm, kind, Act, act, Acts, none, more, Plan, size, sizes}
+use borrow.Author.Tests.{eqb-true, not-true}
+use Rattle.plan.specs.Tree.{Own, empty, send, receive, set as setting, raise, leave, choose, repeat, sequence, flow, pick, scope, arm, kind, Act, act, Acts, none, more, Plan, size, sizes, isScope, isPick}
 use Rattle.order.specs.declared.Order.{Order}
-use Rattle.order.specs.State.{active, inside, withMarks, closings, binding, markAt, marked}
+use Rattle.order.specs.Lists.{some}
+use Rattle.order.specs.State.{Name, active, inside, withMarks, closings, binding, markAt, marked}
 use Rattle.order.specs.Expression.{Value, fault, value, evaluate, isTrue}
 use Rattle.order.specs.Begin.{beginAfter, beginPart, part, partAt, cleared, quiet}
 use Rattle.order.specs.declared.Way.{Way as Result}
 use Rattle.order.specs.declared.Way.the-variants.{Running as running, Over as over, Raising as raising, Leaving as leaving, Undone as undone, UndoRaising as undoRaising}
-use Rattle.order.specs.Scope.{Outcome, runs, after, begunIn, whereOver, isScope, directly, undo}
+use Rattle.order.specs.Scope.{Outcome, runs, after, begunIn, whereOver, undo}
 use Rattle.order.specs.Acting.{allBound, finishes, raises, leaves, orRaises, again, repeats, itself, goesOn, joins, combines, arms, isPart, itsOwn, stepIn, stepAmong}
 use Rattle.undoing.specs.Ties.{Place}
 use Rattle.undoing.specs.Answered.{without}
-use Rattle.undoing.proofs.Parts.{both, decide}
+use Rattle.undoing.proofs.Parts.{both, decide, some-append}
 use Rattle.undoing.proofs.Marks.{trio, Quiet, Run, run-awaits, run-one, run-all, run-body, run-done, run-turned, All, all-run, all-quiet, Stopped, stopped-part, stopped-quiet, stopped-scope, StoppedIn, stopped-more, quiet-part}
-use Rattle.undoing.proofs.Orders.{bare, bareIn, Sits, sits-part, sits-scope, SitsIn, sits-none, sits-more}
+use Rattle.undoing.proofs.Orders.{directs, directsIn, bare, bareIn, Sits, sits-part, sits-scope, SitsIn, sits-none, sits-more, Rest, rest-undo, rest-none}
 use Rattle.undoing.proofs.Beginning.{quiet-all}
+use Rattle.undoing.proofs.Seats.{directs-is}
 use Rattle.undoing.proofs.Stepping.{among-is}
 use Rattle.undoing.proofs.Sure.{leftIn, left-quiet}
 use Rattle.undoing.proofs.Lessening.{own-is, one-each}
@@ -63,30 +65,30 @@ unfolding repeats
 closings-repeats k within o =
     let o₁ = marked k inside (withMarks (cleared (k + 1) (sizes within) (o .marks)) o) in closings-where (again k) (begunIn o₁ (beginPart 0 within (k + 1) (o₁ .marks))) (λ o. refl)
 
-closings-itself : (own : Own) (within : Acts) (k : ℕ) (o : Order) → isScope own ≡ false → closings (itself own within k o .order) ≡ closings o
+closings-itself : (own : Own) (within : Acts) (y₀ k : ℕ) (o : Order) → isScope own ≡ false → closings (itself own within y₀ k o .order) ≡ closings o
 unfolding itself kind
-closings-itself empty within k o s = refl
-closings-itself (send x y vs) within k o s = go (allBound o vs)
+closings-itself empty within y₀ k o s = refl
+closings-itself (send x y vs) within y₀ k o s = go (allBound o vs)
   where
     go : (b : Bool) → closings (cond b (finishes k o) (raises k o) .order) ≡ closings o
     go true = refl
     go false = refl
-closings-itself (receive x y vs) within k o s = refl
-closings-itself (setting v x) within k o s = closings-raises k o (λ n. finishes k (binding v n o)) (evaluate x o) (λ n. refl)
-closings-itself raise within k o s = refl
-closings-itself leave within k o s = refl
-closings-itself (choose x) within k o s =
+closings-itself (receive x y vs) within y₀ k o s = refl
+closings-itself (setting v x) within y₀ k o s = closings-raises k o (λ n. finishes k (binding v n o)) (evaluate x o) (λ n. refl)
+closings-itself raise within y₀ k o s = refl
+closings-itself leave within y₀ k o s = refl
+closings-itself (choose x) within y₀ k o s =
     closings-raises k o _ (evaluate x o) (λ n. closings-where (finishes k) (begunIn (marked k inside o) (beginPart (cond (isTrue n) 0 1) within (k + 1) (marked k inside o .marks))) (λ o. refl))
-closings-itself (repeat x) within k o s = closings-raises k o (λ n. elim (isTrue n) [ true ↦ repeats k within o | false ↦ finishes k o ]) (evaluate x o) (λ n. go (isTrue n))
+closings-itself (repeat x) within y₀ k o s = closings-raises k o (λ n. elim (isTrue n) [ true ↦ repeats k within o | false ↦ finishes k o ]) (evaluate x o) (λ n. go (isTrue n))
   where
     go : (b : Bool) → closings (after [] (elim b [ true ↦ repeats k within o | false ↦ finishes k o ]) .order) ≡ closings o
     go true = closings-repeats k within o
     go false = refl
-closings-itself sequence within k o s = refl
-closings-itself flow within k o s = refl
-closings-itself pick within k o s = refl
-closings-itself scope within k o s = absurd (false≢true (sym s))
-closings-itself (arm x y vs) within k o s = refl
+closings-itself sequence within y₀ k o s = refl
+closings-itself flow within y₀ k o s = refl
+closings-itself pick within y₀ k o s = refl
+closings-itself (scope u) within y₀ k o s = absurd (false≢true (sym s))
+closings-itself (arm x y vs) within y₀ k o s = refl
 
 pub closings-combines : (own : Own) (within : Acts) (k t : ℕ) (r : Outcome) → isScope own ≡ false → closings (combines own within k t r .order) ≡ closings (r .order)
 unfolding combines kind
@@ -102,37 +104,81 @@ closings-combines sequence within k t r s =
     closings-goes k active (λ o. whereOver (finishes k) (begunIn o (beginAfter within (k + 1) t (o .marks)))) r (λ o. closings-where (finishes k) (begunIn o (beginAfter within (k + 1) t (o .marks))) (λ o. refl))
 closings-combines flow within k t r s = closings-goes k active (joins k within) r (λ o. closings-joins k within o)
 closings-combines pick within k t r s = closings-goes k inside (finishes k) r (λ o. refl)
-closings-combines scope within k t r s = absurd (false≢true (sym s))
+closings-combines (scope u) within k t r s = absurd (false≢true (sym s))
 closings-combines (arm x y vs) within k t r s = refl
 
 closings-arms : (own : Own) (within : Acts) (k t : ℕ) (o : Order) → closings (arms own within k t o) ≡ closings o
 unfolding arms
-closings-arms own within k t o = go (eqb (kind own) 10 && isPart within (k + 1) t)
+closings-arms own within k t o = go (isPick own && isPart within (k + 1) t)
   where
     go : (b : Bool) → closings (cond b (marked k inside o) o) ≡ closings o
     go true = refl
     go false = refl
 
-closings-none : (c t : ℕ) (o : Order) → closings (stepAmong itsOwn none c t o .order) ≡ closings o
+closings-none : (y₀ c t : ℕ) (o : Order) → closings (stepAmong itsOwn none false y₀ c t o .order) ≡ closings o
 unfolding stepIn
-closings-none c t o = refl
+closings-none y₀ c t o = refl
 
 mutual
   unfolding bare
 
-  pub closings-step : (a : Act) (k t : ℕ) (o : Order) → bare a ≡ true → closings (stepIn itsOwn a k t o .order) ≡ closings o
-  closings-step (act own within) k t o b =
-      both (not (isScope own)) (bareIn within) b (λ x y. decide (eqb k t)
-      (λ e. ap (λ (r : Outcome). closings (r .order)) (own-is own within k t o true e) ∙ closings-itself own within k o (not-true (isScope own) x))
-      (λ e. ap (λ (r : Outcome). closings (r .order)) (own-is own within k t o false e)
-      ∙ (closings-combines own within k t _ (not-true (isScope own) x) ∙ (closings-among within (k + 1) t (arms own within k t o) y ∙ closings-arms own within k t o))))
+  pub closings-step : (a : Act) (y₀ k t : ℕ) (o : Order) → bare a ≡ true → closings (stepIn itsOwn a y₀ k t o .order) ≡ closings o
+  closings-step (act own within) y₀ k t o b =
+      both (not (isScope own)) (bareIn within) b (λ x y. let s = not-true (isScope own) x in decide (eqb k t)
+      (λ e. ap (λ (r : Outcome). closings (r .order)) (own-is own within y₀ k t o true s e) ∙ closings-itself own within y₀ k o s)
+      (λ e. ap (λ (r : Outcome). closings (r .order)) (own-is own within y₀ k t o false s e)
+      ∙ (closings-combines own within k t _ s ∙ (closings-among within y₀ (k + 1) t (arms own within k t o) y ∙ closings-arms own within k t o))))
 
-  closings-among : (l : Acts) (c t : ℕ) (o : Order) → bareIn l ≡ true → closings (stepAmong itsOwn l c t o .order) ≡ closings o
-  closings-among none c t o b = closings-none c t o
-  closings-among (more a l) c t o b =
+  closings-among : (l : Acts) (y₀ c t : ℕ) (o : Order) → bareIn l ≡ true → closings (stepAmong itsOwn l false y₀ c t o .order) ≡ closings o
+  closings-among none y₀ c t o b = closings-none y₀ c t o
+  closings-among (more a l) y₀ c t o b =
       both (bare a) (bareIn l) b (λ x y. decide (ltb t (c + size a))
-      (λ e. ap (λ (r : Outcome). closings (r .order)) (among-is itsOwn a l c t o true e) ∙ closings-step a c t o x)
-      (λ e. ap (λ (r : Outcome). closings (r .order)) (among-is itsOwn a l c t o false e) ∙ closings-among l (c + size a) t o y))
+      (λ e. ap (λ (r : Outcome). closings (r .order)) (among-is itsOwn a l y₀ c t o true e) ∙ closings-step a y₀ c t o x)
+      (λ e. ap (λ (r : Outcome). closings (r .order)) (among-is itsOwn a l y₀ c t o false e) ∙ closings-among l y₀ (c + size a) t o y))
+
+-- Whether scope e stands directly in an activity: with no other scope around it there.
+unfoldable mutual
+  pub directly : Act → (k e : ℕ) → Bool
+  directly (act own within) k e = elim (isScope own) [ true ↦ eqb k e | false ↦ directlyIn within (k + 1) e ]
+
+  pub directlyIn : Acts → (c e : ℕ) → Bool
+  directlyIn none c e = false
+  directlyIn (more a l) c e = directly a c e || directlyIn l (c + size a) e
+
+pub directly-is : (own : Own) (within : Acts) (k e : ℕ) (b : Bool) → isScope own ≡ b
+    → directly (act own within) k e ≡ elim b [ true ↦ eqb k e | false ↦ directlyIn within (k + 1) e ]
+unfolding directly
+directly-is own within k e b t = subst (λ (z : Bool). directly (act own within) k e ≡ elim z [ true ↦ eqb k e | false ↦ directlyIn within (k + 1) e ]) t refl
+
+mutual
+  unfolding directly directs some size
+
+  pub directly-directs : (a : Act) (k e : ℕ) (n : Name) (ns : List Name) → directly a k e ≡ some (λ x. eqb (x .number) e) (directs a k n ns)
+  directly-directs (act own within) k e n ns =
+      decide (isScope own) (λ t. rw (directly-is own within k e true t, directs-is own within k n ns true t, or-false))
+      (λ t. rw (directly-is own within k e false t, directs-is own within k n ns false t) (directly-directs-in within (k + 1) e n ns))
+
+  pub directly-directs-in : (l : Acts) (c e : ℕ) (n : Name) (ns : List Name) → directlyIn l c e ≡ some (λ x. eqb (x .number) e) (directsIn l c n ns)
+  directly-directs-in none c e n ns = refl
+  directly-directs-in (more a l) c e n ns =
+      rw (some-append (λ x. eqb (x .number) e) (directs a c n ns) (directsIn l (c + size a) n ns), ← directly-directs a c e n ns, ← directly-directs-in l (c + size a) e n ns)
+
+-- it has one of the numbers of the activity
+mutual
+  unfolding directly size
+
+  pub directly-range : (a : Act) (k e : ℕ) → directly a k e ≡ true → (k ≤ e) × (e < k + size a)
+  directly-range (act own within) k e d =
+      decide (isScope own)
+      (λ t. let z : k ≡ e = eqb-true k e (sym (directly-is own within k e true t) ∙ d) in (omega arith, omega arith))
+      (λ t. let r = directly-range-in within (k + 1) e (sym (directly-is own within k e false t) ∙ d) in (omega arith, omega arith))
+
+  pub directly-range-in : (l : Acts) (c e : ℕ) → directlyIn l c e ≡ true → (c ≤ e) × (e < c + sizes l)
+  directly-range-in none c e d = absurd (false≢true d)
+  directly-range-in (more a l) c e d =
+      decide (directly a c e)
+      (λ t. let r = directly-range a c e t in (omega arith, omega arith))
+      (λ t. let r = directly-range-in l (c + size a) e (rw t at d) in (omega arith, omega arith))
 
 -- What is to come of the undo parts that run, of the scopes directly in a tree.
 unfoldable mutual
@@ -148,9 +194,21 @@ unfolding undoLeftIn
 undo-left-is own within k ms s = rw s
 
 -- that of a scope
-pub undo-left-scope : (b f u : Act) (k : ℕ) (ms : List ℕ) → undoLeftIn (act scope (trio b f u)) k ms ≡ leftIn u (k + 1 + size b + size f) ms
+pub undo-left-scope : (b f u : Act) (k : ℕ) (ms : List ℕ) → undoLeftIn (act (scope true) (trio b f (more u none))) k ms ≡ leftIn u (k + 1 + size b + size f) ms
 unfolding undoLeftIn kind part partAt
 undo-left-scope b f u k ms = refl
+
+-- of one with no undo part nothing is to come: what it has handed on is not looked for here
+pub undo-left-none : (b f : Act) (k : ℕ) (ms : List ℕ) → undoLeftIn (act (scope false) (trio b f none)) k ms ≡ []
+unfolding undoLeftIn kind part partAt leftIn
+undo-left-none b f k ms = refl
+
+-- of either, where what stands after the fault part is quiet
+rest-quiet : {p : Plan} {z : Bool} {x : Place} {u : Acts} {c : ℕ} → Rest p z x u c → (b f : Act) (k : ℕ) → c ≡ k + 1 + size b + size f → (ms : List ℕ) → Quiet ms c (sizes u) → undoLeftIn (act (scope z) (trio b f u)) k ms ≡ []
+unfolding size
+rest-quiet (rest-undo {u = u} {k = c} su) b f k e ms q =
+    undo-left-scope b f u k ms ∙ left-quiet u (k + 1 + size b + size f) ms (subst (λ (i : ℕ). Quiet ms i (size u)) e (quiet-part q (omega arith) (omega arith)))
+rest-quiet rest-none b f k e ms q = undo-left-none b f k ms
 
 -- nothing where all is quiet
 mutual
@@ -158,15 +216,14 @@ mutual
 
   pub undo-quiet : {p : Plan} {x : Place} {a : Act} {k : ℕ} → Sits p x a k → (ms : List ℕ) → Quiet ms k (size a) → undoLeftIn a k ms ≡ []
   undo-quiet (sits-part {own = own} {within} {k} s g v y l) ms q = undo-left-is own within k ms s ∙ undo-quiet-in l ms (quiet-part q (omega arith) (omega arith))
-  undo-quiet (sits-scope {b = b} {f} {u} {k} kn v i sb z sf su) ms q = undo-left-scope b f u k ms ∙ left-quiet u (k + 1 + size b + size f) ms (quiet-part q (omega arith) (omega arith))
+  undo-quiet (sits-scope {b = b} {f} {u} {k} kn v i sb z sf su) ms q = rest-quiet su b f k refl ms (quiet-part q (omega arith) (omega arith))
 
   pub undo-quiet-in : {p : Plan} {x : Place} {l : Acts} {c : ℕ} → SitsIn p x l c → (ms : List ℕ) → Quiet ms c (sizes l) → undoLeftAmong l c ms ≡ []
   undo-quiet-in sits-none ms q = refl
   undo-quiet-in (sits-more {a = a} {l} {c} s y) ms q = rw (undo-quiet s ms (quiet-part q (omega arith) (omega arith)), undo-quiet-in y ms (quiet-part q (omega arith) (omega arith)))
 
 -- an activity other than a scope is none
-pub not-scope : isScope scope ≡ false → ⊥
-unfolding kind
+pub not-scope : true ≡ false → ⊥
 not-scope s = false≢true (sym s)
 
 -- what stands within an activity that runs runs or is quiet
@@ -186,9 +243,9 @@ mutual
   undo-run {ms = ms} (sits-part {own = own} {within} {k} s g v y l) r = undo-left-is own within k ms s ∙ undo-within l (run-within s r)
   undo-run {ms = ms} (sits-scope {b = b} {f} {u} {k} kn v i sb z sf su) (run-awaits s _ _ _) = absurd (not-scope s)
   undo-run {ms = ms} (sits-scope {b = b} {f} {u} {k} kn v i sb z sf su) (run-one s _ _) = absurd (not-scope s)
-  undo-run {ms = ms} (sits-scope {b = b} {f} {u} {k} kn v i sb z sf su) (run-body e r q) = undo-left-scope b f u k ms ∙ left-quiet u (k + 1 + size b + size f) ms (quiet-part q (omega arith) (omega arith))
-  undo-run {ms = ms} (sits-scope {b = b} {f} {u} {k} kn v i sb z sf su) (run-done e q) = undo-left-scope b f u k ms ∙ left-quiet u (k + 1 + size b + size f) ms (quiet-part q (omega arith) (omega arith))
-  undo-run {ms = ms} (sits-scope {b = b} {f} {u} {k} kn v i sb z sf su) (run-turned e q) = undo-left-scope b f u k ms ∙ left-quiet u (k + 1 + size b + size f) ms q
+  undo-run {ms = ms} (sits-scope {b = b} {f} {u} {k} kn v i sb z sf su) (run-body e r q) = rest-quiet su b f k refl ms (quiet-part q (omega arith) (omega arith))
+  undo-run {ms = ms} (sits-scope {b = b} {f} {u} {k} kn v i sb z sf su) (run-done e q) = rest-quiet su b f k refl ms (quiet-part q (omega arith) (omega arith))
+  undo-run {ms = ms} (sits-scope {b = b} {f} {u} {k} kn v i sb z sf su) (run-turned e q) = rest-quiet su b f k refl ms q
 
   undo-within : {p : Plan} {x : Place} {l : Acts} {c : ℕ} {ms : List ℕ} → SitsIn p x l c → All ms l c → undoLeftAmong l c ms ≡ []
   undo-within sits-none r = refl
@@ -201,10 +258,10 @@ mutual
   pub undo-stopped : {p : Plan} {x : Place} {a : Act} {k : ℕ} {ms : List ℕ} → Sits p x a k → Stopped ms a k → undoLeftIn a k ms ≡ []
   undo-stopped {ms = ms} (sits-part s g v y l) (stopped-quiet q) = undo-quiet (sits-part s g v y l) ms q
   undo-stopped {ms = ms} (sits-part {own = own} {within} {k} s g v y l) (stopped-part _ _ r) = undo-left-is own within k ms s ∙ undo-stopped-in l r
-  undo-stopped {ms = ms} (sits-part {own = scope} {within} {k} s g v y l) (stopped-scope _ _) = absurd (not-scope s)
+  undo-stopped {ms = ms} (sits-part {within = within} {k} s g v y l) (stopped-scope _ _) = absurd (not-scope s)
   undo-stopped {ms = ms} (sits-scope kn v i sb z sf su) (stopped-quiet q) = undo-quiet (sits-scope kn v i sb z sf su) ms q
   undo-stopped {ms = ms} (sits-scope {b = b} {f} {u} {k} kn v i sb z sf su) (stopped-part s _ _) = absurd (not-scope s)
-  undo-stopped {ms = ms} (sits-scope {b = b} {f} {u} {k} kn v i sb z sf su) (stopped-scope t q) = undo-left-scope b f u k ms ∙ left-quiet u (k + 1 + size b + size f) ms q
+  undo-stopped {ms = ms} (sits-scope {b = b} {f} {u} {k} kn v i sb z sf su) (stopped-scope t q) = rest-quiet su b f k refl ms q
 
   pub undo-stopped-in : {p : Plan} {x : Place} {l : Acts} {c : ℕ} {ms : List ℕ} → SitsIn p x l c → StoppedIn ms l c → undoLeftAmong l c ms ≡ []
   undo-stopped-in sits-none r = refl

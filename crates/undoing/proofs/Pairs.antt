@@ -91,7 +91,7 @@ second-is before (sends p o vs) = sym (some-never before)
 second-is before (takes p o vs) = refl
 second-is before moves = sym (some-never before)
 second-is before cuts = sym (some-never before)
-second-is before (closes s) = sym (some-never before)
+second-is before (closes undo s) = sym (some-never before)
 
 -- of those before and those to come
 abbrev higher : List Ready → List Ready → Ready → Bool

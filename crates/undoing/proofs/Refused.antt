@@ -3,8 +3,9 @@ use Prim.Native.Nat.{ℕ}
 use mathlib.Core.Path.{_≡_, refl}
 use mathlib.Core.List.{List, [], _∷_, map}
 use Rattle.plan.specs.Read.{readPlan}
+use Rattle.order.specs.declared.Closing.{Closing}
 use Rattle.order.specs.declared.Order.{Order}
-use Rattle.order.specs.State.{root, inner, active, faulty, undoing, marked, noOrder, withRoot, remembering}
+use Rattle.order.specs.State.{root, inner, active, faulty, undoing, marked, noOrder, withRoot, closingOf, remembering}
 use Rattle.order.specs.Event.{Event, started, began, closed, faulted, ended, raised, left}
 use Rattle.machine.specs.State.{noTally}
 use Rattle.machine.specs.Limits.{by}
@@ -54,15 +55,15 @@ whole = first ∷ next ∷ next ∷ next ∷ next ∷ next ∷ next ∷ []
 
 -- an order that hangs after its fault, with both closings still remembered
 abbrev hanging : Order
-hanging = withRoot faulty (remembering (2 ∷ 6 ∷ []) noOrder)
+hanging = withRoot faulty (remembering (closingOf 2 0 ∷ closingOf 6 0 ∷ []) noOrder)
 
 -- an order whose newest undo part runs, with the other closing still remembered
 abbrev again : Order
-again = withRoot undoing (marked 9 active (remembering (2 ∷ []) noOrder))
+again = withRoot undoing (marked 9 active (remembering (closingOf 2 0 ∷ []) noOrder))
 
 -- an order that awaits its raise, with a closing remembered; and one that undoes the other scope, which has not closed
 abbrev about : Order
-about = withRoot active (marked 0 active (marked 12 active (remembering (8 ∷ []) noOrder)))
+about = withRoot active (marked 0 active (marked 12 active (remembering (closingOf 8 0 ∷ []) noOrder)))
 
 abbrev besides : Order
 besides = withRoot undoing (marked 6 active noOrder)
@@ -219,12 +220,102 @@ inSequence =
           ∷ [];
     }
 
+-- Scopes with no undo part of their own, code 12.
+
+-- A receive 1; a scope 2 of code 12 whose body is a sequence 3 of two scopes, 4 (undo part 7) and 8 (undo part 11); its fault part 12; a raise 13; the root's
+-- fault part 14.
+abbrev eight : List Call
+eight = first ∷ next ∷ next ∷ next ∷ next ∷ next ∷ next ∷ next ∷ []
+
+abbrev handing : List Call
+handing = first ∷ next ∷ next ∷ next ∷ next ∷ []
+
+-- an order that awaits the raise 13 after scope 2 closed, with these closings remembered
+abbrev handed : List Closing → Order
+handed l = withRoot active (marked 0 active (marked 13 active (remembering l noOrder)))
+
+unfoldable handedOn : Example
+handedOn =
+    record {
+      bytes = 1 ∷ 1 ∷ 0 ∷ 8 ∷ 3 ∷ 2 ∷ 0 ∷ 0 ∷ 1 ∷ 0 ∷ 12 ∷ 8 ∷ 2 ∷ 11 ∷ 0 ∷ 0 ∷ 1 ∷ 9 ∷ 1 ∷ 1 ∷ 0 ∷ 11 ∷ 0 ∷ 0 ∷ 1 ∷ 9 ∷ 2 ∷ 1 ∷ 0 ∷ 0 ∷ 4 ∷ 0 ∷ [];
+      calls = eight;
+      happened = started ∷ began 0 ∷ began 1 ∷ began 2 ∷ began 3 ∷ began 4 ∷ began 5 ∷ closed 4 ∷ began 8 ∷ began 9 ∷ closed 8 ∷ closed 2 ∷ began 13 ∷ raised 13 ∷ faulted root ∷ began 11 ∷ began 7 ∷ began 14 ∷ ended root ∷ [];
+      wrongly =
+          -- what scope 2 would hand on is forgotten
+          over eight (started ∷ began 0 ∷ began 1 ∷ began 2 ∷ began 3 ∷ began 4 ∷ began 5 ∷ closed 4 ∷ began 8 ∷ began 9 ∷ closed 8 ∷ closed 2 ∷ began 13 ∷ raised 13 ∷ faulted root ∷ began 14 ∷ ended root ∷ []) (demand3 ∷ orderly ∷ [])
+          -- it is handed on in reverse
+          ∷ over eight (started ∷ began 0 ∷ began 1 ∷ began 2 ∷ began 3 ∷ began 4 ∷ began 5 ∷ closed 4 ∷ began 8 ∷ began 9 ∷ closed 8 ∷ closed 2 ∷ began 13 ∷ raised 13 ∷ faulted root ∷ began 7 ∷ began 11 ∷ began 14 ∷ ended root ∷ []) (demand3 ∷ orderly ∷ [])
+          -- it is undone twice by the root
+          ∷ over eight (started ∷ began 0 ∷ began 1 ∷ began 2 ∷ began 3 ∷ began 4 ∷ began 5 ∷ closed 4 ∷ began 8 ∷ began 9 ∷ closed 8 ∷ closed 2 ∷ began 13 ∷ raised 13 ∷ faulted root ∷ began 11 ∷ began 7 ∷ began 11 ∷ began 7 ∷ began 14 ∷ ended root ∷ []) (demand3 ∷ orderly ∷ [])
+          -- scope 2 itself is taken for one that is undone, by its fault part
+          ∷ over eight (started ∷ began 0 ∷ began 1 ∷ began 2 ∷ began 3 ∷ began 4 ∷ began 5 ∷ closed 4 ∷ began 8 ∷ began 9 ∷ closed 8 ∷ closed 2 ∷ began 13 ∷ raised 13 ∷ faulted root ∷ began 12 ∷ began 11 ∷ began 7 ∷ began 14 ∷ ended root ∷ []) (orderly ∷ [])
+          -- the order remembers nothing after the close of scope 2; the same in reverse; still for scope 2; for both
+          ∷ record { calls = handing; taken = []; order = handed []; happened = started ∷ began 0 ∷ began 1 ∷ began 2 ∷ began 3 ∷ began 4 ∷ began 5 ∷ closed 4 ∷ began 8 ∷ began 9 ∷ closed 8 ∷ closed 2 ∷ began 13 ∷ []; breaks = lists ∷ [] }
+          ∷ record { calls = handing; taken = []; order = handed (closingOf 8 0 ∷ closingOf 4 0 ∷ []); happened = started ∷ began 0 ∷ began 1 ∷ began 2 ∷ began 3 ∷ began 4 ∷ began 5 ∷ closed 4 ∷ began 8 ∷ began 9 ∷ closed 8 ∷ closed 2 ∷ began 13 ∷ []; breaks = lists ∷ [] }
+          ∷ record { calls = handing; taken = []; order = handed (closingOf 4 3 ∷ closingOf 8 3 ∷ []); happened = started ∷ began 0 ∷ began 1 ∷ began 2 ∷ began 3 ∷ began 4 ∷ began 5 ∷ closed 4 ∷ began 8 ∷ began 9 ∷ closed 8 ∷ closed 2 ∷ began 13 ∷ []; breaks = lists ∷ [] }
+          ∷ record { calls = handing; taken = []; order = handed (closingOf 4 3 ∷ closingOf 8 3 ∷ closingOf 4 0 ∷ closingOf 8 0 ∷ []); happened = started ∷ began 0 ∷ began 1 ∷ began 2 ∷ began 3 ∷ began 4 ∷ began 5 ∷ closed 4 ∷ began 8 ∷ began 9 ∷ closed 8 ∷ closed 2 ∷ began 13 ∷ []; breaks = lists ∷ [] }
+          ∷ [];
+    }
+
+-- A receive 1; a flow 2 of a scope 3 of code 12, whose body is a scope 4 (undo part 7), and a scope 9 (undo part 12); a raise 13; the root's fault part 14. Scope 4
+-- closes, then 9, then 3.
+abbrev dating : List Call
+dating = first ∷ next ∷ next ∷ stepping 1 ∷ next ∷ next ∷ next ∷ next ∷ []
+
+unfoldable datedOuter : Example
+datedOuter =
+    record {
+      bytes = 1 ∷ 1 ∷ 0 ∷ 8 ∷ 3 ∷ 2 ∷ 0 ∷ 0 ∷ 1 ∷ 0 ∷ 9 ∷ 2 ∷ 12 ∷ 11 ∷ 0 ∷ 0 ∷ 1 ∷ 2 ∷ 1 ∷ 1 ∷ 0 ∷ 0 ∷ 11 ∷ 0 ∷ 0 ∷ 1 ∷ 2 ∷ 2 ∷ 1 ∷ 0 ∷ 4 ∷ 0 ∷ [];
+      calls = dating;
+      happened = started ∷ began 0 ∷ began 1 ∷ began 2 ∷ began 3 ∷ began 4 ∷ began 5 ∷ began 9 ∷ began 10 ∷ closed 4 ∷ closed 9 ∷ closed 3 ∷ began 13 ∷ raised 13 ∷ faulted root ∷ began 7 ∷ began 12 ∷ began 14 ∷ ended root ∷ [];
+      wrongly =
+          -- what scope 3 hands on is dated by the inner closing
+          over dating (started ∷ began 0 ∷ began 1 ∷ began 2 ∷ began 3 ∷ began 4 ∷ began 5 ∷ began 9 ∷ began 10 ∷ closed 4 ∷ closed 9 ∷ closed 3 ∷ began 13 ∷ raised 13 ∷ faulted root ∷ began 12 ∷ began 7 ∷ began 14 ∷ ended root ∷ []) (demand3 ∷ orderly ∷ [])
+          -- the order remembers it so
+          ∷ record { calls = first ∷ next ∷ next ∷ stepping 1 ∷ next ∷ []; taken = []; order = handed (closingOf 4 0 ∷ closingOf 9 0 ∷ []); happened = started ∷ began 0 ∷ began 1 ∷ began 2 ∷ began 3 ∷ began 4 ∷ began 5 ∷ began 9 ∷ began 10 ∷ closed 4 ∷ closed 9 ∷ closed 3 ∷ began 13 ∷ []; breaks = lists ∷ [] }
+          ∷ [];
+    }
+
+-- A receive 1; a scope 2 of code 12 whose body is a sequence 3 of a scope 4 (undo part 7) and a raise 8; its fault part 9; a raise 10; the root's fault part 11.
+unfoldable faultedOpen : Example
+faultedOpen =
+    record {
+      bytes = 1 ∷ 1 ∷ 0 ∷ 8 ∷ 3 ∷ 2 ∷ 0 ∷ 0 ∷ 1 ∷ 0 ∷ 12 ∷ 8 ∷ 2 ∷ 11 ∷ 0 ∷ 0 ∷ 1 ∷ 2 ∷ 1 ∷ 1 ∷ 0 ∷ 4 ∷ 0 ∷ 4 ∷ 0 ∷ [];
+      calls = first ∷ next ∷ next ∷ next ∷ next ∷ next ∷ [];
+      happened = started ∷ began 0 ∷ began 1 ∷ began 2 ∷ began 3 ∷ began 4 ∷ began 5 ∷ closed 4 ∷ began 8 ∷ raised 8 ∷ faulted (inner 2) ∷ began 7 ∷ began 9 ∷ ended (inner 2) ∷ began 10 ∷ raised 10 ∷ faulted root ∷ began 11 ∷ ended root ∷ [];
+      wrongly =
+          -- scope 2 undoes scope 4 and hands it on as well, though it faulted
+          over (first ∷ next ∷ next ∷ next ∷ next ∷ next ∷ []) (started ∷ began 0 ∷ began 1 ∷ began 2 ∷ began 3 ∷ began 4 ∷ began 5 ∷ closed 4 ∷ began 8 ∷ raised 8 ∷ faulted (inner 2) ∷ began 7 ∷ began 9 ∷ ended (inner 2) ∷ began 10 ∷ raised 10 ∷ faulted root ∷ began 7 ∷ began 11 ∷ ended root ∷ []) (demand3 ∷ orderly ∷ [])
+          -- scope 2 hands on instead of undoing
+          ∷ over (first ∷ next ∷ next ∷ next ∷ next ∷ next ∷ []) (started ∷ began 0 ∷ began 1 ∷ began 2 ∷ began 3 ∷ began 4 ∷ began 5 ∷ closed 4 ∷ began 8 ∷ raised 8 ∷ faulted (inner 2) ∷ began 9 ∷ ended (inner 2) ∷ began 10 ∷ raised 10 ∷ faulted root ∷ began 7 ∷ began 11 ∷ ended root ∷ []) (demand3 ∷ orderly ∷ [])
+          -- the fault of scope 2 is passed over: the root is the one that faults and undoes
+          ∷ over (first ∷ next ∷ next ∷ next ∷ next ∷ next ∷ []) (started ∷ began 0 ∷ began 1 ∷ began 2 ∷ began 3 ∷ began 4 ∷ began 5 ∷ closed 4 ∷ began 8 ∷ raised 8 ∷ faulted root ∷ began 7 ∷ began 11 ∷ ended root ∷ []) (demand3 ∷ orderly ∷ faults ∷ steps ∷ [])
+          ∷ [];
+    }
+
+-- A receive 1; a set 2; a repeat 3 of a scope 4 of code 12, whose body is a choose 5 of a sequence 6, with an inner scope 7 (undo part 10) and a set 11, and a
+-- raise 12; its fault part is a set 13; a raise 14; the root's fault part 15. The first time the inner scope closes and then the outer one; the second time the
+-- outer scope faults before the inner one begins.
+unfoldable handedOnce : Example
+handedOnce =
+    record {
+      bytes = 1 ∷ 2 ∷ 0 ∷ 8 ∷ 4 ∷ 2 ∷ 0 ∷ 0 ∷ 1 ∷ 0 ∷ 3 ∷ 1 ∷ 0 ∷ 0 ∷ 7 ∷ 5 ∷ 1 ∷ 1 ∷ 0 ∷ 2 ∷ 12 ∷ 6 ∷ 4 ∷ 1 ∷ 1 ∷ 0 ∷ 0 ∷ 8 ∷ 2 ∷ 11 ∷ 0 ∷ 0 ∷ 1 ∷ 2 ∷ 1 ∷ 1 ∷ 0 ∷ 3 ∷ 1 ∷ 0 ∷ 1 ∷ 4 ∷ 3 ∷ 1 ∷ 0 ∷ 2 ∷ 4 ∷ 0 ∷ [];
+      calls = first ∷ next ∷ next ∷ next ∷ next ∷ next ∷ next ∷ next ∷ next ∷ next ∷ next ∷ next ∷ next ∷ next ∷ next ∷ [];
+      happened = started ∷ began 0 ∷ began 1 ∷ began 2 ∷ began 3 ∷ began 4 ∷ began 5 ∷ began 6 ∷ began 7 ∷ began 8 ∷ closed 7 ∷ began 11 ∷ closed 4 ∷ began 4 ∷ began 5 ∷ began 12 ∷ raised 12 ∷ faulted (inner 4) ∷ began 13 ∷ ended (inner 4) ∷ began 14 ∷ raised 14 ∷ faulted root ∷ began 10 ∷ began 15 ∷ ended root ∷ [];
+      wrongly =
+          -- it is undone twice, once by the inner scope, once by the outer
+          over (first ∷ next ∷ next ∷ next ∷ next ∷ next ∷ next ∷ next ∷ next ∷ next ∷ next ∷ next ∷ next ∷ next ∷ next ∷ []) (started ∷ began 0 ∷ began 1 ∷ began 2 ∷ began 3 ∷ began 4 ∷ began 5 ∷ began 6 ∷ began 7 ∷ began 8 ∷ closed 7 ∷ began 11 ∷ closed 4 ∷ began 4 ∷ began 5 ∷ began 12 ∷ raised 12 ∷ faulted (inner 4) ∷ began 10 ∷ began 13 ∷ ended (inner 4) ∷ began 14 ∷ raised 14 ∷ faulted root ∷ began 10 ∷ began 15 ∷ ended root ∷ []) (demand3 ∷ orderly ∷ [])
+          -- once, but by the inner scope, the second time that it runs
+          ∷ over (first ∷ next ∷ next ∷ next ∷ next ∷ next ∷ next ∷ next ∷ next ∷ next ∷ next ∷ next ∷ next ∷ next ∷ next ∷ []) (started ∷ began 0 ∷ began 1 ∷ began 2 ∷ began 3 ∷ began 4 ∷ began 5 ∷ began 6 ∷ began 7 ∷ began 8 ∷ closed 7 ∷ began 11 ∷ closed 4 ∷ began 4 ∷ began 5 ∷ began 12 ∷ raised 12 ∷ faulted (inner 4) ∷ began 10 ∷ began 13 ∷ ended (inner 4) ∷ began 14 ∷ raised 14 ∷ faulted root ∷ began 15 ∷ ended root ∷ []) (demand3 ∷ orderly ∷ [])
+          ∷ [];
+    }
+
 unfoldable examples : List Example
-examples = twoScopes ∷ threeClosings ∷ innerHandler ∷ handledScope ∷ closedOuter ∷ neverEntered ∷ inSequence ∷ []
+examples = twoScopes ∷ threeClosings ∷ innerHandler ∷ handledScope ∷ closedOuter ∷ neverEntered ∷ inSequence ∷ handedOn ∷ datedOuter ∷ faultedOpen ∷ handedOnce ∷ []
 
 -- the right histories are those of the definitions
 logged : map (λ x. history (x .calls) 0 (loaded (x .bytes)) noTally) examples ≡ map (λ x. x .happened) examples
-unfolding examples twoScopes threeClosings innerHandler handledScope closedOuter neverEntered inSequence planC computing judging
+unfolding examples twoScopes threeClosings innerHandler handledScope closedOuter neverEntered inSequence handedOn datedOuter faultedOpen handedOnce planC computing judging
 logged = refl
 
 -- what a wrong history breaks, on the plan that some bytes spell
@@ -233,11 +324,11 @@ brokenBy bytes w =
     by [] (λ p. broken p (deedsTaken p (w .calls) 0 (loaded bytes) noTally) (endsTaken (w .calls) 0 (loaded bytes) noTally) (w .taken) (w .order) (w .happened)) (readPlan bytes)
 
 refused : map (λ x. map (brokenBy (x .bytes)) (x .wrongly)) examples ≡ map (λ x. map (λ w. w .breaks) (x .wrongly)) examples
-unfolding examples twoScopes threeClosings innerHandler handledScope closedOuter neverEntered inSequence planC brokenBy computing judging
+unfolding examples twoScopes threeClosings innerHandler handledScope closedOuter neverEntered inSequence handedOn datedOuter faultedOpen handedOnce planC brokenBy computing judging
 refused = refl
 
 -- and the right ones break none
 unbroken : map (λ x. by (begunTruly ∷ []) (λ p. broken p (deedsTaken p (x .calls) 0 (loaded (x .bytes)) noTally) (endsTaken (x .calls) 0 (loaded (x .bytes)) noTally) (stepsTaken p (x .calls) 0 (loaded (x .bytes)) noTally) (orderAfter (x .calls) 0 (loaded (x .bytes)) noTally) (x .happened)) (readPlan (x .bytes))) examples
     ≡ map (λ x. []) examples
-unfolding examples twoScopes threeClosings innerHandler handledScope closedOuter neverEntered inSequence planC computing judging
+unfolding examples twoScopes threeClosings innerHandler handledScope closedOuter neverEntered inSequence handedOn datedOuter faultedOpen handedOnce planC computing judging
 unbroken = refl

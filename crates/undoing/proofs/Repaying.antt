@@ -6,8 +6,8 @@ use mathlib.Core.Bool.{Bool, true, false, cond, not, _&&_, _||_, false≢true, o
 use mathlib.Core.List.{List, [], _∷_, _++_, append-nil}
 use lib.ListN.{length, getD}
 use lib.Dec.{eqb, ltb}
-use borrow.Author.Tests.{eqb-true, eq-eqb, ne-eqb, lt-ltb, le-ltb}
-use Rattle.plan.specs.Tree.{Own, empty, send, receive, set as setting, raise, leave, choose, repeat, sequence, flow, pick, arm, kind, Act, act, Acts, none, more, Plan, size, sizes, scope}
+use borrow.Author.Tests.{eqb-true, eq-eqb, ne-eqb, lt-ltb, le-ltb, ltb-true, ltb-false}
+use Rattle.plan.specs.Tree.{Own, empty, send, receive, set as setting, raise, leave, choose, repeat, sequence, flow, pick, arm, kind, Act, act, Acts, none, more, Plan, size, sizes, scope, isScope}
 use Rattle.order.specs.declared.Order.{Order}
 use Rattle.order.specs.declared.End.the-variants.{None}
 use Rattle.order.specs.Lists.{some, only, withoutLast}
@@ -16,26 +16,25 @@ use Rattle.order.specs.Event.{Event, began}
 use Rattle.order.specs.Begin.{Begun, begin, beginPart, part, partAt, quiet}
 use Rattle.order.specs.declared.Way.{Way as Result}
 use Rattle.order.specs.declared.Way.the-variants.{Running as running, Over as over, Raising as raising, Leaving as leaving, Undone as undone, UndoRaising as undoRaising}
-use Rattle.order.specs.Scope.{Outcome, after, begunIn, whereOver, Scope, isScope, directly, directlyIn, beginUndo, beginUndoIn, startUndo, undo, fromUndo}
+use Rattle.order.specs.Scope.{Outcome, after, begunIn, whereOver, Scope, isFor, beginUndo, beginUndoIn, startUndo, undo, fromUndo}
 use Rattle.order.specs.Acting.{combines, itsOwn, stepIn, stepAmong}
 use Rattle.undoing.specs.Demand3.{Inner}
-use Rattle.undoing.specs.Ties.{Place, placeOf, bodyOf, undoOf, nameOf, aroundOf}
-use Rattle.undoing.specs.Answered.{surely, surelyAmong, backIn, backAmong, putting, without}
-use Rattle.undoing.proofs.Parts.{decide, some-append}
+use Rattle.undoing.specs.Ties.{Place, placeOf, bodyOf, undoOf, nameOf, beyondOf, lastOf}
+use Rattle.undoing.specs.Answered.{isSure, hasAll, surely, surelyAmong, backIn, backAmong, putting, without}
+use Rattle.undoing.proofs.Parts.{decide, neither, some-append}
 use Rattle.undoing.proofs.Accounts.{Phase, phase, Known}
-use Rattle.undoing.proofs.Moves.{Spot}
-use Rattle.undoing.proofs.Marks.{trio, spread, Quiet, Undoing, undoing-part, undoing-scope, UndoingIn, undoing-here, undoing-later, quiet-part, quiet-agree, agree-below, agree-above}
-use Rattle.undoing.proofs.Orders.{listOf, Does, Fit, Sits, sits-part, sits-scope, SitsIn, sits-none, sits-more, Remedy, remedy, remedy-bare}
-use Rattle.undoing.proofs.Seats.{Seat, mark-kept, directly-is, directly-range, directly-range-in, quiet-inner, removed-list, does-undo}
-use Rattle.undoing.proofs.Undo.{undo-is, undo-in-is, begins-undo, begins-undo-in, remembered-directly}
+use Rattle.undoing.proofs.Moves.{Spot, runnerAt}
+use Rattle.undoing.proofs.Marks.{trio, spread, Quiet, Run, Undoing, undoing-part, undoing-scope, undoing-through, UndoingIn, undoing-here, undoing-later, quiet-part, quiet-agree, agree-below, agree-above}
+use Rattle.undoing.proofs.Orders.{listOf, Does, Fit, Sits, sits-part, sits-scope, SitsIn, sits-none, sits-more, Remedy, remedy, remedy-bare, Rest, rest-undo, rest-none}
+use Rattle.undoing.proofs.Seats.{Seat, mark-kept, reaches, reachesIn, reaches-is, reaches-range, reaches-range-in, removed-list}
+use Rattle.undoing.proofs.Undo.{undo-is, undo-in-is, unreached, begins-undo, begins-undo-in, awake-kept, last-does, last-begins}
 use Rattle.undoing.proofs.Waiting.{opens, Waits, waits-itself, waits-within, WaitsIn, waits-first, waits-later, opens-idle, quiet-waits, quiet-waits-in, undoing-waits}
-use Rattle.undoing.proofs.Breaking.{Distinct}
-use Rattle.undoing.proofs.Scoping.{RunAs}
+use Rattle.undoing.proofs.Scoping.{Acted, RunAs, UndoAs}
 use Rattle.undoing.proofs.Combining.{arms-none, Idly, idly-same, idly-runs, combines-idly}
-use Rattle.undoing.proofs.Stepping.{Whole, among-is, undo-step, undoing-part-not, steps-undoing, steps-undoing-in, steps-part, UndoInAs}
+use Rattle.undoing.proofs.Stepping.{PartOf, through-is, Whole, among-is, undo-step, undoing-part-not, steps-undoing, steps-undoing-in, steps-part, UndoInAs}
 use Rattle.undoing.proofs.Sure.{ofKind, surely-is, leftIn, leftInTurn, leftOfAll, Off, off-below, off-above, off-part, surely-none, Comes, remedy-comes}
 use Rattle.undoing.proofs.Lessening.{own-is, LessAs, remedy-less, due-left}
-use Rattle.undoing.proofs.Owing.{not-scope, closings-step, undoLeftIn, undoLeftAmong, undo-left-is, undo-left-scope, undo-quiet, undo-quiet-in}
+use Rattle.undoing.proofs.Owing.{not-scope, closings-step, directly, directlyIn, directly-is, directly-range, directly-range-in, undo-left-none, undoLeftIn, undoLeftAmong, undo-left-is, undo-left-scope, undo-quiet, undo-quiet-in}
 
 -- the definition, by whether an activity is the scope
 back-is : (own : Own) (within : Acts) (k e : ℕ) (b : Bool) → (isScope own && eqb k e) ≡ b
@@ -51,9 +50,14 @@ back-in-is a l c e b t = subst (λ (z : Bool). backAmong (more a l) c e ≡ elim
 pub back-part : (own : Own) (within : Acts) (k e : ℕ) → isScope own ≡ false → backIn (act own within) k e ≡ backAmong within (k + 1) e
 back-part own within k e s = back-is own within k e false (rw s)
 
-pub back-scope : (b f u : Act) (k e : ℕ) → eqb k e ≡ true → backIn (act scope (trio b f u)) k e ≡ surely u (k + 1 + size b + size f)
-unfolding part partAt kind
-back-scope b f u k e t = back-is scope (trio b f u) k e true t
+pub back-scope : (b f u : Act) (k e : ℕ) → eqb k e ≡ true → backIn (act (scope true) (trio b f (more u none))) k e ≡ surely u (k + 1 + size b + size f)
+unfolding part partAt
+back-scope b f u k e t = back-is (scope true) (trio b f (more u none)) k e true t
+
+-- one with no undo part has none
+pub back-without : (b f : Act) (k e : ℕ) → eqb k e ≡ true → backIn (act (scope false) (trio b f none)) k e ≡ []
+unfolding part partAt surely isSure hasAll
+back-without b f k e t = back-is (scope false) (trio b f none) k e true t
 
 -- an account of what began by other words
 comes-so : {left left′ : List ℕ → List ℕ} {sure sure′ : List ℕ} {r : Begun} → Comes left sure r → sure′ ≡ sure → left′ (r .marks) ≡ left (r .marks) → Comes left′ sure′ r
@@ -76,53 +80,101 @@ pub later-directly : (a : Act) (l : Acts) (c e : ℕ) → directlyIn (more a l) 
 unfolding directly
 later-directly a l c e d t = rw t at d
 
-pub scope-is : isScope scope ≡ true
-unfolding kind
-scope-is = refl
+-- the undo part of a scope that has one
+third : (b f u : Act) (k e : ℕ) (ms : List ℕ) → eqb k e ≡ true → beginUndo (act (scope true) (trio b f (more u none))) k e ms ≡ begin u (k + 1 + size b + size f) ms
+unfolding beginUndo beginPart part partAt
+third b f u k e ms t = rw t
 
-both-so : {b : Bool} → b ≡ true → (isScope scope && b) ≡ true
-unfolding kind
-both-so e = e
+-- What is due for scope e where it stands directly in an activity or in a list; for one that was handed on nothing is in the book.
+abbrev pub dueIn : Act → (k e : ℕ) → List ℕ
+dueIn a k e = cond (directly a k e) (backIn a k e) []
 
-third : (b f u : Act) (k : ℕ) (ms : List ℕ) → beginPart 2 (trio b f u) (k + 1) ms ≡ begin u (k + 1 + size b + size f) ms
-unfolding beginPart part partAt
-third b f u k ms = refl
+abbrev dueAmong : Acts → (c e : ℕ) → List ℕ
+dueAmong l c e = cond (directlyIn l c e) (backAmong l c e) []
+
+due-part : (own : Own) (within : Acts) (k e : ℕ) → isScope own ≡ false → dueIn (act own within) k e ≡ dueAmong within (k + 1) e
+due-part own within k e s = rw (directly-is own within k e false s, back-part own within k e s)
+
+-- out of its numbers nothing stands directly
+pub out-directly : (a : Act) (k e : ℕ) → k + size a ≤ e → directly a k e ≡ false
+out-directly a k e h = decide (directly a k e) (λ t. let r = directly-range a k e t in absurd (omega arith)) (λ t. t)
+
+pub out-directly-in : (l : Acts) (c e : ℕ) → e < c → directlyIn l c e ≡ false
+out-directly-in l c e h = decide (directlyIn l c e) (λ t. let r = directly-range-in l c e t in absurd (omega arith)) (λ t. t)
+
+none-due : (c e : ℕ) → dueAmong none c e ≡ []
+unfolding directly
+none-due c e = refl
+
+due-first : (a : Act) (l : Acts) (c e : ℕ) → e < c + size a → dueAmong (more a l) c e ≡ dueIn a c e
+unfolding directly
+due-first a l c e h = rw (out-directly-in l (c + size a) e h, or-false, back-in-is a l c e true (lt-ltb e (c + size a) h))
+
+due-later : (a : Act) (l : Acts) (c e : ℕ) → c + size a ≤ e → dueAmong (more a l) c e ≡ dueAmong l (c + size a) e
+unfolding directly
+due-later a l c e h = rw (out-directly a c e h, back-in-is a l c e false (le-ltb e (c + size a) h))
 
 module _ (p : Plan) where
-  -- The undo part of a scope directly in an activity begins.
+  -- The undo part of a scope that is reached in an activity begins: what is due for it is to come, and nothing where it was handed on.
+  through-comes : {x : Place} {u : Acts} {c : ℕ} → Rest p false x u c → (b f : Act) (k e : ℕ) → k < e → (r : Begun) → Comes (undoLeftIn (act (scope false) (trio b f u)) k) (dueIn (act (scope false) (trio b f u)) k e) r
+  through-comes rest-none b f k e h r =
+      let z : dueIn (act (scope false) (trio b f none)) k e ≡ [] = rw (directly-is (scope false) (trio b f none) k e true refl, ne-eqb k e (omega arith)) in
+      record { over = λ y. z; runs = λ y. undo-left-none b f k (r .marks) ∙ sym z }
+
   mutual
-    unfolding size
+    unfolding size reaches
 
-    pub undo-comes : {x : Place} {a : Act} {k : ℕ} → Sits p x a k → (e : ℕ) → directly a k e ≡ true → (o₀ o : Order)
-        → ((y : Inner) → Known p y → Spot p (undoOf (nameOf x) (aroundOf x)) (y .undo) → y .number ≡ e → y .around ≡ nameOf x → Does p None o₀ (began (y .undo) ∷ []) o)
-        → Quiet (o .marks) k (size a) → k + size a ≤ length (o .marks) → Fit (undoOf (nameOf x) (aroundOf x)) o
-        → Comes (undoLeftIn a k) (backIn a k e) (beginUndo a k e (o .marks))
-    undo-comes (sits-part {q = x} {own} {within} {k} s g v y l) e d o₀ o f q h i =
-        subst (Comes (undoLeftIn (act own within) k) (backIn (act own within) k e)) (sym (undo-is own within k e (o .marks) false (rw s)))
-        (comes-so (undo-comes-in l e (sym (directly-is own within k e false s) ∙ d) o₀ o f (quiet-part q (omega arith) (omega arith)) (omega arith) i) (back-part own within k e s) (undo-left-is own within k _ s))
-    undo-comes (sits-scope {n} {c} {b} {f = f′} {u} {k} kn v w sb z sf su) e d o₀ o f q h i =
-        let t : eqb k e ≡ true = sym (directly-is scope (trio b f′ u) k e true scope-is) ∙ d in
-        subst (Comes (undoLeftIn (act scope (trio b f′ u)) k) (backIn (act scope (trio b f′ u)) k e)) (sym (undo-is scope (trio b f′ u) k e (o .marks) true (both-so t) ∙ third b f′ u k (o .marks)))
-        (comes-so (remedy-comes p su o (quiet-part q (omega arith) (omega arith)) (omega arith) i) (back-scope b f′ u k e t) (undo-left-scope b f′ u k _))
+    pub undo-comes : {x : Place} {a : Act} {k : ℕ} → Sits p x a k → (e : ℕ) → reaches a k e ≡ true → (m : Name) (o₀ o : Order)
+        → ((y : Inner) (c : Name) → y .undoes ≡ true → Known p y → Spot p (undoOf (y .around) (y .beyond) c) (y .undo) → y .number ≡ e
+        → runnerAt (λ n. markOf n o) (y .around) (y .beyond) ≡ m → Does p None o₀ (began (y .undo) ∷ []) o)
+        → Quiet (o .marks) k (size a) → k + size a ≤ length (o .marks) → runnerAt (λ n. markOf n o) (nameOf x) (beyondOf x) ≡ m → Fit (undoOf (nameOf x) (beyondOf x) (lastOf x)) o
+        → Comes (undoLeftIn a k) (dueIn a k e) (beginUndo a k e (o .marks))
+    undo-comes (sits-part {q = x} {own} {within} {k} s g v y l) e d m o₀ o f q h r i =
+        subst (Comes (undoLeftIn (act own within) k) (dueIn (act own within) k e)) (sym (undo-is own within k e (o .marks) s))
+        (comes-so (undo-comes-in l e (sym (reaches-is own within k e s) ∙ d) m o₀ o f (quiet-part q (omega arith) (omega arith)) (omega arith) r i) (due-part own within k e s) (undo-left-is own within k _ s))
+    undo-comes (sits-scope {v = true} {b = b} {f = f′} {k = k} kn v w sb z sf (rest-undo {u = u} su)) e d m o₀ o f q h r i =
+        let t : eqb k e ≡ true = d in
+        subst (Comes (undoLeftIn (act (scope true) (trio b f′ (more u none))) k) (dueIn (act (scope true) (trio b f′ (more u none))) k e)) (sym (third b f′ u k e (o .marks) t))
+        (comes-so (remedy-comes p su o (quiet-part q (omega arith) (omega arith)) (omega arith) i)
+        (rw (directly-is (scope true) (trio b f′ (more u none)) k e true refl, t, back-scope b f′ u k e t)) (undo-left-scope b f′ u k _))
+    undo-comes (sits-scope {v = false} {b = b} {f = f′} {u = u} {k = k} kn v w sb z sf su) e d m o₀ o f q h r i =
+        let y = reaches-range b (k + 1) e d in through-comes su b f′ k e (omega arith) _
 
-    pub undo-comes-in : {x : Place} {l : Acts} {c : ℕ} → SitsIn p x l c → (e : ℕ) → directlyIn l c e ≡ true → (o₀ o : Order)
-        → ((y : Inner) → Known p y → Spot p (undoOf (nameOf x) (aroundOf x)) (y .undo) → y .number ≡ e → y .around ≡ nameOf x → Does p None o₀ (began (y .undo) ∷ []) o)
-        → Quiet (o .marks) c (sizes l) → c + sizes l ≤ length (o .marks) → Fit (undoOf (nameOf x) (aroundOf x)) o
-        → Comes (undoLeftAmong l c) (backAmong l c e) (beginUndoIn l c e (o .marks))
-    undo-comes-in (sits-none {q = x} {c}) e d o₀ o f q h i = absurd (none-directly c e d)
-    undo-comes-in (sits-more {q = x} {a} {l} {c} s y) e d o₀ o f q h i =
-        decide (directly a c e)
-        (λ t. let r = directly-range a c e t in
-        let b = begins-undo p s e t o₀ o f (quiet-part q (omega arith) (omega arith)) (omega arith) i in
-        subst (Comes (undoLeftAmong (more a l) c) (backAmong (more a l) c e)) (sym (undo-in-is a l c e (o .marks) true (lt-ltb e (c + size a) (r .1))))
-        (comes-so (undo-comes s e t o₀ o f (quiet-part q (omega arith) (omega arith)) (omega arith) i) (back-in-is a l c e true (lt-ltb e (c + size a) (r .1)))
+    pub undo-comes-in : {x : Place} {l : Acts} {c : ℕ} → SitsIn p x l c → (e : ℕ) → reachesIn l c e ≡ true → (m : Name) (o₀ o : Order)
+        → ((y : Inner) (c : Name) → y .undoes ≡ true → Known p y → Spot p (undoOf (y .around) (y .beyond) c) (y .undo) → y .number ≡ e
+        → runnerAt (λ n. markOf n o) (y .around) (y .beyond) ≡ m → Does p None o₀ (began (y .undo) ∷ []) o)
+        → Quiet (o .marks) c (sizes l) → c + sizes l ≤ length (o .marks) → runnerAt (λ n. markOf n o) (nameOf x) (beyondOf x) ≡ m → Fit (undoOf (nameOf x) (beyondOf x) (lastOf x)) o
+        → Comes (undoLeftAmong l c) (dueAmong l c e) (beginUndoIn l c e (o .marks))
+    undo-comes-in (sits-none {q = x} {c}) e d m o₀ o f q h w i = absurd (false≢true d)
+    undo-comes-in (sits-more {q = x} {a} {l} {c} s y) e d m o₀ o f q h w i =
+        decide (reaches a c e)
+        (λ t. let r = reaches-range a c e t in
+        let b = begins-undo p s e t m o₀ o f (quiet-part q (omega arith) (omega arith)) (omega arith) w i in
+        subst (Comes (undoLeftAmong (more a l) c) (dueAmong (more a l) c e)) (sym (undo-in-is a l c e (o .marks) true (lt-ltb e (c + size a) (r .1))))
+        (comes-so (undo-comes s e t m o₀ o f (quiet-part q (omega arith) (omega arith)) (omega arith) w i) (due-first a l c e (r .1))
         (first-left a l c _ (undo-quiet-in y _ (quiet-agree (quiet-part q (omega arith) (omega arith)) (agree-above (b .kept) (omega arith)))))))
-        (λ t. let z : directlyIn l (c + size a) e ≡ true = later-directly a l c e d t in
-        let r = directly-range-in l (c + size a) e z in
-        let b = begins-undo-in p y e z o₀ o f (quiet-part q (omega arith) (omega arith)) (omega arith) i in
-        subst (Comes (undoLeftAmong (more a l) c) (backAmong (more a l) c e)) (sym (undo-in-is a l c e (o .marks) false (le-ltb e (c + size a) (r .0))))
-        (comes-so (undo-comes-in y e z o₀ o f (quiet-part q (omega arith) (omega arith)) (omega arith) i) (back-in-is a l c e false (le-ltb e (c + size a) (r .0)))
+        (λ t. let z : reachesIn l (c + size a) e ≡ true = rw t at d in
+        let r = reaches-range-in l (c + size a) e z in
+        let b = begins-undo-in p y e z m o₀ o f (quiet-part q (omega arith) (omega arith)) (omega arith) w i in
+        subst (Comes (undoLeftAmong (more a l) c) (dueAmong (more a l) c e)) (sym (undo-in-is a l c e (o .marks) false (le-ltb e (c + size a) (r .0))))
+        (comes-so (undo-comes-in y e z m o₀ o f (quiet-part q (omega arith) (omega arith)) (omega arith) w i) (due-later a l c e (r .0))
         (later-left a l c _ (undo-quiet s _ (quiet-agree (quiet-part q (omega arith) (omega arith)) (agree-below (b .kept) (omega arith)))))))
+
+-- what is not reached is not due
+mutual
+  unfolding reaches
+
+  unreached-due : {p : Plan} {x : Place} {a : Act} {k : ℕ} → Sits p x a k → (e : ℕ) → reaches a k e ≡ false → dueIn a k e ≡ []
+  unreached-due (sits-part {own = own} {within} {k} s g v y l) e d = due-part own within k e s ∙ unreached-dues l e (sym (reaches-is own within k e s) ∙ d)
+  unreached-due (sits-scope {v = true} {b = b} {f = f} {u = u} {k = k} kn v i sb z sf su) e d = rw (directly-is (scope true) (trio b f u) k e true refl, d)
+  unreached-due (sits-scope {v = false} {b = b} {f = f} {k = k} kn v i sb z sf rest-none) e d =
+      decide (eqb k e) (λ t. rw (directly-is (scope false) (trio b f none) k e true refl, t, back-without b f k e t)) (λ t. rw (directly-is (scope false) (trio b f none) k e true refl, t))
+
+  unreached-dues : {p : Plan} {x : Place} {l : Acts} {c : ℕ} → SitsIn p x l c → (e : ℕ) → reachesIn l c e ≡ false → dueAmong l c e ≡ []
+  unreached-dues (sits-none {c = c}) e d = none-due c e
+  unreached-dues (sits-more {a = a} {l} {c} s y) e d =
+      neither (reaches a c e) (reachesIn l (c + size a) e) d (λ i j. decide (ltb e (c + size a))
+      (λ t. due-first a l c e (ltb-true e (c + size a) t) ∙ unreached-due s e i) (λ t. due-later a l c e (ltb-false e (c + size a) t) ∙ unreached-dues y e j))
 
 -- What is to come after a step in an undo part that runs.
 abbrev pub RepaysAs : (left : List ℕ → List ℕ) (t : ℕ) (ms ns : List ℕ) → Result → Type 0
@@ -181,12 +233,12 @@ repays-up left t o r e n y = record { lists = e; less = go (r .result) n y }
     go undoRaising n y = tt
 
 -- what an idle activity other than a scope makes of it
-repays-idly : (p : Plan) (distinct : Distinct p) (n : Name) (left : List ℕ → List ℕ) (within : Acts) (k t : ℕ) (o : Order) (r r′ : Outcome) → Idly r r′ → UndoInAs p distinct itsOwn n within (k + 1) t o (r .log) (r .order) (r .result)
+repays-idly : (p : Plan) (n : Name) (left : List ℕ → List ℕ) (within : Acts) (k t : ℕ) (o : Order) (r r′ : Outcome) → Idly r r′ → UndoInAs p itsOwn n within (k + 1) t o (r .log) (r .order) (r .result)
     → Repays left t o r → Repays left t o r′
-repays-idly p distinct n left within k t o r r′ (idly-same i) c w = subst (Repays left t o) (sym i) w
-repays-idly p distinct n left within k t o r r′ (idly-runs j i) c w = absurd (never (r .result) j c)
+repays-idly p n left within k t o r r′ (idly-same i) c w = subst (Repays left t o) (sym i) w
+repays-idly p n left within k t o r r′ (idly-runs j i) c w = absurd (never (r .result) j c)
   where
-    never : (x : Result) → x ≡ over → UndoInAs p distinct itsOwn n within (k + 1) t o (r .log) (r .order) x → ⊥
+    never : (x : Result) → x ≡ over → UndoInAs p itsOwn n within (k + 1) t o (r .log) (r .order) x → ⊥
     never running i d = let z : _≡_ {A = ℕ} 0 1 = cc in omega arith
     never over i d = d
     never raising i d = d
@@ -197,52 +249,93 @@ repays-idly p distinct n left within k t o r r′ (idly-runs j i) c w = absurd (
 no-less : {k t : ℕ} → k < t → k ≡ t → ⊥
 no-less y z = omega arith
 
+-- nothing was to come, and nothing is
+nothing-repays : (left : List ℕ → List ℕ) (t : ℕ) (ms ns : List ℕ) (x : Result) → ((ms : List ℕ) → left ms ≡ []) → RepaysAs left t ms ns x
+unfolding only
+nothing-repays left t ms ns running f = rw (f ns, f ms)
+nothing-repays left t ms ns over f = tt
+nothing-repays left t ms ns raising f = tt
+nothing-repays left t ms ns leaving f = tt
+nothing-repays left t ms ns undone f = rw (f ms)
+nothing-repays left t ms ns undoRaising f = tt
+
 -- A step in a body of which an undo part runs.
-module _ (p : Plan) (distinct : Distinct p) where
-  scope-repays : {n a : Name} {c : Bool} (b f u : Act) (k t : ℕ) (o : Order) → Remedy p (undoOf n a) u (k + 1 + size b + size f)
-      → Waits (o .marks) (act scope (trio b f u)) k t c → c ≡ false → Undoing (o .marks) (act scope (trio b f u)) k → Fit (undoOf n a) o → k + spread b f u ≤ length (o .marks)
-      → Repays (undoLeftIn (act scope (trio b f u)) k) t o (stepIn itsOwn (act scope (trio b f u)) k t o)
-  unfolding Whole kind
-  scope-repays b f u k t o su w c (undoing-part s x q) v m = absurd (not-scope s)
-  scope-repays b f u k t o su (waits-itself e d) c (undoing-scope x q r) v m = absurd (no-less (undoing-waits (undoing-scope x q r) (waits-itself e d) c) e)
-  scope-repays b f u k t o su (waits-within e (waits-first d w)) c (undoing-scope x q r) v m = absurd (quiet-waits w refl (quiet-part q (omega arith) (omega arith)))
-  scope-repays b f u k t o su (waits-within e (waits-later d (waits-first y w))) c (undoing-scope x q r) v m = absurd (quiet-waits w refl (quiet-part q (omega arith) (omega arith)))
-  scope-repays b f u k t o su (waits-within e (waits-later d (waits-later y (waits-first z w)))) c (undoing-scope x q r) v m =
-      subst (Repays (undoLeftIn (act scope (trio b f u)) k) t o) (sym (undo-step p distinct itsOwn b f u k t o y z))
-      (repays-so (repays-up (leftIn u (k + 1 + size b + size f)) t o (stepIn itsOwn u (k + 1 + size b + size f) t o) (closings-step u (k + 1 + size b + size f) t o (remedy-bare su))
-      (not-undone p u (k + 1 + size b + size f) t o _ _ (stepIn itsOwn u (k + 1 + size b + size f) t o .result) (steps-part p distinct itsOwn su t o _ w refl r v (omega arith) .comes))
-      (remedy-less p distinct su t o _ w refl r v (omega arith)))
+module _ (p : Plan) where
+  scope-repays : {x : Place} {c : Bool} (b f u : Act) (q₀ k t : ℕ) (o : Order) → Remedy p x u (k + 1 + size b + size f) → PartOf x (k + 1 + size b + size f)
+      → Waits (o .marks) (act (scope true) (trio b f (more u none))) k t c → c ≡ false → getD (o .marks) k 0 ≡ idle → Quiet (o .marks) (k + 1) (size b + size f) → Run (o .marks) u (k + 1 + size b + size f)
+      → Fit x o → k + spread b f (more u none) ≤ length (o .marks)
+      → Repays (undoLeftIn (act (scope true) (trio b f (more u none))) k) t o (stepIn itsOwn (act (scope true) (trio b f (more u none))) q₀ k t o)
+  unfolding Whole size
+  scope-repays b f u q₀ k t o su y₁ (waits-itself e d) c x q r v m = absurd (no-less (undoing-waits (undoing-scope {b = b} {f = f} {u = u} x q r) (waits-itself e d) c) e)
+  scope-repays b f u q₀ k t o su y₁ (waits-within e (waits-first d w)) c x q r v m = absurd (quiet-waits w refl (quiet-part q (omega arith) (omega arith)))
+  scope-repays b f u q₀ k t o su y₁ (waits-within e (waits-later d (waits-first y w))) c x q r v m = absurd (quiet-waits w refl (quiet-part q (omega arith) (omega arith)))
+  scope-repays b f u q₀ k t o su y₁ (waits-within e (waits-later d (waits-later y (waits-first z w)))) c x q r v m =
+      let n = k + 1 + size b + size f in
+      subst (Repays (undoLeftIn (act (scope true) (trio b f (more u none))) k) t o) (sym (undo-step p itsOwn b f u q₀ k t o y z))
+      (repays-so (repays-up (leftIn u n) t o (stepIn itsOwn u n n t o) (closings-step u n n t o (remedy-bare su))
+      (not-undone p u n t o _ _ (stepIn itsOwn u n n t o .result) (steps-part p itsOwn su n t o _ y₁ w refl r v (omega arith) .comes))
+      (remedy-less p su n t o _ y₁ w refl r v (omega arith)))
       (undo-left-scope b f u k (o .marks)) (undo-left-scope b f u k _))
+
+  -- by what stands after the fault part
+  rest-repays : {z : Bool} {x : Place} {l : Acts} {n : ℕ} → Rest p z x l n → {c : Bool} (b f u : Act) (q₀ k t : ℕ) (o : Order) → n ≡ k + 1 + size b + size f → l ≡ more u none → ((i : ℕ) → PartOf x i)
+      → Waits (o .marks) (act (scope true) (trio b f (more u none))) k t c → c ≡ false → getD (o .marks) k 0 ≡ idle → Quiet (o .marks) (k + 1) (size b + size f) → Run (o .marks) u (k + 1 + size b + size f)
+      → Fit x o → k + spread b f (more u none) ≤ length (o .marks)
+      → Repays (undoLeftIn (act (scope true) (trio b f (more u none))) k) t o (stepIn itsOwn (act (scope true) (trio b f (more u none))) q₀ k t o)
+  rest-repays (rest-undo {q = x} {u = a} {k = n} su) b f u q₀ k t o g h y₁ w c y q r v m =
+      let z : a ≡ u = cc in
+      scope-repays b f u q₀ k t o (subst (λ (j : ℕ). Remedy p x u j) g (subst (λ (j : Act). Remedy p x j n) z su)) (y₁ (k + 1 + size b + size f)) w c y q r v m
+  rest-repays rest-none b f u q₀ k t o g h y₁ w c y q r v m = absurd (let z : _≡_ {A = ℕ} 0 1 = cc in omega arith)
+
+  through-repays : {x : Place} {u : Acts} {n : ℕ} → Rest p false x u n → {c : Bool} (b f : Act) (q₀ k t : ℕ) (m₀ : Name) (o : Order)
+      → Waits (o .marks) (act (scope false) (trio b f u)) k t c → c ≡ false → getD (o .marks) k 0 ≡ idle → Undoing (o .marks) b (k + 1) → Quiet (o .marks) (k + 1 + size b) (size f + sizes u)
+      → (Waits (o .marks) b (k + 1) t false → Acted (k + 1) (size b) o (UndoAs p m₀ b (k + 1) t o) (stepIn itsOwn b (k + 1) (k + 1) t o))
+      → (Waits (o .marks) b (k + 1) t false → closings (stepIn itsOwn b (k + 1) (k + 1) t o .order) ≡ closings o)
+      → Repays (undoLeftIn (act (scope false) (trio b f u)) k) t o (stepIn itsOwn (act (scope false) (trio b f u)) q₀ k t o)
+  unfolding size
+  through-repays rest-none b f q₀ k t m₀ o (waits-itself e d) c x r q a g = absurd (no-less (undoing-waits (undoing-through {f = f} {u = none} x r q) (waits-itself e d) c) e)
+  through-repays rest-none b f q₀ k t m₀ o (waits-within e (waits-first d w)) c x r q a g =
+      subst (Repays (undoLeftIn (act (scope false) (trio b f none)) k) t o) (sym (through-is p itsOwn b f none q₀ k t m₀ o x e d (a w)))
+      (record { lists = g w; less = nothing-repays (undoLeftIn (act (scope false) (trio b f none)) k) t (o .marks) _ (stepIn itsOwn b (k + 1) (k + 1) t o .result) (λ ms. undo-left-none b f k ms) })
+  through-repays rest-none b f q₀ k t m₀ o (waits-within e (waits-later d w)) c x r q a g = absurd (quiet-waits-in w refl q)
 
   mutual
     unfolding size
 
-    pub undo-repays : {x : Place} {a : Act} {k : ℕ} → Sits p x a k → (t : ℕ) (o : Order) (b : Bool) → Waits (o .marks) a k t b → b ≡ false → Undoing (o .marks) a k
-        → Fit (undoOf (nameOf x) (aroundOf x)) o → k + size a ≤ length (o .marks) → Repays (undoLeftIn a k) t o (stepIn itsOwn a k t o)
-    undo-repays (sits-part {q = x} {own} {within} {k} s g u y l) t o b (waits-itself z d) e r v m = absurd (no-less (undoing-waits r (waits-itself z d) e) z)
-    undo-repays (sits-part {q = x} {own} {within} {k} s g u y l) t o b (waits-within h w) e (undoing-part s₁ z r) v m =
+    pub undo-repays : {x : Place} {a : Act} {k : ℕ} → Sits p x a k → (q₀ t : ℕ) (o : Order) (b : Bool) → PartOf x q₀ → Waits (o .marks) a k t b → b ≡ false → Undoing (o .marks) a k
+        → (m₀ : Name) → runnerAt (λ n. markOf n o) (nameOf x) (beyondOf x) ≡ m₀ → Fit (undoOf (nameOf x) (beyondOf x) (lastOf x)) o → k + size a ≤ length (o .marks) → Repays (undoLeftIn a k) t o (stepIn itsOwn a q₀ k t o)
+    undo-repays (sits-part {q = x} {own} {within} {k} s g u y l) q₀ t o b q₁ (waits-itself z d) e r m₀ y₂ v m = absurd (no-less (undoing-waits r (waits-itself z d) e) z)
+    undo-repays (sits-part {q = x} {own} {within} {k} s g u y l) q₀ t o b q₁ (waits-within h w) e (undoing-part s₁ z r) m₀ y₂ v m =
         let i : opens own (getD (o .marks) k 0) ≡ false = opens-idle own (getD (o .marks) k 0) z in
-        let a = steps-undoing-in p distinct itsOwn l t o _ w i r v (omega arith) in
-        let j = stepAmong itsOwn within (k + 1) t o in
+        let a = steps-undoing-in p itsOwn l q₀ t o _ q₁ w i r m₀ y₂ v (omega arith) in
+        let j = stepAmong itsOwn within false q₀ (k + 1) t o in
         subst (Repays (undoLeftIn (act own within) k) t o)
-        (sym (own-is own within k t o false (ne-eqb k t (omega arith)) ∙ ap (λ (x : Order). combines own within k t (stepAmong itsOwn within (k + 1) t x)) (arms-none own within k t o (undoing-part-not p distinct itsOwn r w i))))
-        (repays-idly p distinct (nameOf x) (undoLeftIn (act own within) k) within k t o j (combines own within k t j) (combines-idly own within k t j s (a .kept .below k (omega arith) ∙ z)) (a .comes)
-        (repays-so (undo-repays-in l t o _ w i r v (omega arith)) (undo-left-is own within k (o .marks) s) (undo-left-is own within k (j .order .marks) s)))
-    undo-repays (sits-part {q = x} {own = scope} {within} {k} s g u y l) t o b (waits-within h w) e (undoing-scope _ _ _) v m = absurd (not-scope s)
-    undo-repays (sits-scope {n} {c = a} {b} {f} {u} {k} kn d i sb z sf su) t o c w e r v m = scope-repays b f u k t o su w e r v m
+        (sym (own-is own within q₀ k t o false s (ne-eqb k t (omega arith)) ∙ ap (λ (x : Order). combines own within k t (stepAmong itsOwn within false q₀ (k + 1) t x)) (arms-none own within k t o (undoing-part-not p itsOwn r w i))))
+        (repays-idly p m₀ (undoLeftIn (act own within) k) within k t o j (combines own within k t j) (combines-idly own within k t j s (a .kept .below k (omega arith) ∙ z)) (a .comes)
+        (repays-so (undo-repays-in l q₀ t o _ q₁ w i r m₀ y₂ v (omega arith)) (undo-left-is own within k (o .marks) s) (undo-left-is own within k (j .order .marks) s)))
+    undo-repays (sits-part s g u y l) q₀ t o b q₁ (waits-within h w) e (undoing-scope _ _ _) m₀ y₂ v m = absurd (not-scope s)
+    undo-repays (sits-part s g u y l) q₀ t o b q₁ (waits-within h w) e (undoing-through _ _ _) m₀ y₂ v m = absurd (not-scope s)
+    undo-repays (sits-scope {v = true} kn d i sb z sf su) q₀ t o c q₁ w e (undoing-part s _ _) m₀ y₂ v m = absurd (not-scope s)
+    undo-repays (sits-scope {v = true} {b = b} {f = f} {k = k} kn d i sb z sf su) q₀ t o c q₁ w e (undoing-scope {u = u} x q r) m₀ y₂ v m =
+        rest-repays su b f u q₀ k t o refl refl (λ _. tt) w e x q r v m
+    undo-repays (sits-scope {v = false} kn d i sb z sf su) q₀ t o c q₁ w e (undoing-part s _ _) m₀ y₂ v m = absurd (not-scope s)
+    undo-repays (sits-scope {v = false} {b = b} {f = f} {k = k} kn d i sb z sf su) q₀ t o c q₁ w e (undoing-through x r q) m₀ y₂ v m =
+        through-repays su b f q₀ k t m₀ o w e x r q (λ w₁. steps-undoing p itsOwn sb (k + 1) t o false refl w₁ refl r m₀ (rw x y₂) (rw x v) (omega arith))
+        (λ w₁. undo-repays sb (k + 1) t o false refl w₁ refl r m₀ (rw x y₂) (rw x v) (omega arith) .lists)
 
-    pub undo-repays-in : {x : Place} {l : Acts} {c : ℕ} → SitsIn p x l c → (t : ℕ) (o : Order) (b : Bool) → WaitsIn (o .marks) l c t b → b ≡ false → UndoingIn (o .marks) l c
-        → Fit (undoOf (nameOf x) (aroundOf x)) o → c + sizes l ≤ length (o .marks) → Repays (undoLeftAmong l c) t o (stepAmong itsOwn l c t o)
-    undo-repays-in (sits-more {q = x} {a} {l} {c} s y) t o b (waits-first h w) e (undoing-here r q) v m =
-        let i = steps-undoing p distinct itsOwn s t o b w e r v (omega arith) in
-        subst (Repays (undoLeftAmong (more a l) c) t o) (sym (among-is itsOwn a l c t o true (lt-ltb t (c + size a) h)))
-        (repays-so (undo-repays s t o b w e r v (omega arith)) (first-left a l c (o .marks) (undo-quiet-in y (o .marks) q)) (first-left a l c _ (undo-quiet-in y _ (quiet-agree q (agree-above (i .kept) (omega arith))))))
-    undo-repays-in (sits-more {q = x} {a} {l} {c} s y) t o b (waits-later h w) e (undoing-here r q) v m = absurd (quiet-waits-in w e q)
-    undo-repays-in (sits-more {q = x} {a} {l} {c} s y) t o b (waits-first h w) e (undoing-later q r) v m = absurd (quiet-waits w e q)
-    undo-repays-in (sits-more {q = x} {a} {l} {c} s y) t o b (waits-later h w) e (undoing-later q r) v m =
-        let i = steps-undoing-in p distinct itsOwn y t o b w e r v (omega arith) in
-        subst (Repays (undoLeftAmong (more a l) c) t o) (sym (among-is itsOwn a l c t o false (le-ltb t (c + size a) h)))
-        (repays-so (undo-repays-in y t o b w e r v (omega arith)) (later-left a l c (o .marks) (undo-quiet s (o .marks) q)) (later-left a l c _ (undo-quiet s _ (quiet-agree q (agree-below (i .kept) (omega arith))))))
+    pub undo-repays-in : {x : Place} {l : Acts} {c : ℕ} → SitsIn p x l c → (q₀ t : ℕ) (o : Order) (b : Bool) → PartOf x q₀ → WaitsIn (o .marks) l c t b → b ≡ false → UndoingIn (o .marks) l c
+        → (m₀ : Name) → runnerAt (λ n. markOf n o) (nameOf x) (beyondOf x) ≡ m₀ → Fit (undoOf (nameOf x) (beyondOf x) (lastOf x)) o → c + sizes l ≤ length (o .marks)
+        → Repays (undoLeftAmong l c) t o (stepAmong itsOwn l false q₀ c t o)
+    undo-repays-in (sits-more {q = x} {a} {l} {c} s y) q₀ t o b q₁ (waits-first h w) e (undoing-here r q) m₀ y₂ v m =
+        let i = steps-undoing p itsOwn s q₀ t o b q₁ w e r m₀ y₂ v (omega arith) in
+        subst (Repays (undoLeftAmong (more a l) c) t o) (sym (among-is itsOwn a l q₀ c t o true (lt-ltb t (c + size a) h)))
+        (repays-so (undo-repays s q₀ t o b q₁ w e r m₀ y₂ v (omega arith)) (first-left a l c (o .marks) (undo-quiet-in y (o .marks) q)) (first-left a l c _ (undo-quiet-in y _ (quiet-agree q (agree-above (i .kept) (omega arith))))))
+    undo-repays-in (sits-more {q = x} {a} {l} {c} s y) q₀ t o b q₁ (waits-later h w) e (undoing-here r q) m₀ y₂ v m = absurd (quiet-waits-in w e q)
+    undo-repays-in (sits-more {q = x} {a} {l} {c} s y) q₀ t o b q₁ (waits-first h w) e (undoing-later q r) m₀ y₂ v m = absurd (quiet-waits w e q)
+    undo-repays-in (sits-more {q = x} {a} {l} {c} s y) q₀ t o b q₁ (waits-later h w) e (undoing-later q r) m₀ y₂ v m =
+        let i = steps-undoing-in p itsOwn y q₀ t o b q₁ w e r m₀ y₂ v (omega arith) in
+        subst (Repays (undoLeftAmong (more a l) c) t o) (sym (among-is itsOwn a l q₀ c t o false (le-ltb t (c + size a) h)))
+        (repays-so (undo-repays-in y q₀ t o b q₁ w e r m₀ y₂ v (omega arith)) (later-left a l c (o .marks) (undo-quiet s (o .marks) q)) (later-left a l c _ (undo-quiet s _ (quiet-agree q (agree-below (i .kept) (omega arith))))))
 
 -- one of two tests holds
 or-case : {P : Type 0} (a b : Bool) → (a || b) ≡ true → (a ≡ true → P) → (b ≡ true → P) → P
@@ -256,18 +349,20 @@ back-first a l c e t = back-in-is a l c e true (lt-ltb e (c + size a) (directly-
 pub back-later : (a : Act) (l : Acts) (c e : ℕ) → directlyIn l (c + size a) e ≡ true → backAmong (more a l) c e ≡ backAmong l (c + size a) e
 back-later a l c e t = back-in-is a l c e false (le-ltb e (c + size a) (directly-range-in l (c + size a) e t .0))
 
-pub direct-scope : (b f u : Act) (k e : ℕ) → directly (act scope (trio b f u)) k e ≡ true → eqb k e ≡ true
-direct-scope b f u k e d = sym (directly-is scope (trio b f u) k e true scope-is) ∙ d
+pub direct-scope : (z : Bool) (within : Acts) (k e : ℕ) → directly (act (scope z) within) k e ≡ true → eqb k e ≡ true
+direct-scope z within k e d = sym (directly-is (scope z) within k e true refl) ∙ d
 
 -- What takes a scope back is a step of its undo part: a number that is none of a tree's takes none of its scopes back.
 mutual
-  unfolding size
+  unfolding size some
 
   pub back-none : (a : Act) (k e t : ℕ) {p : Plan} {x : Place} → Sits p x a k → directly a k e ≡ true → Off t k (size a) → some (eqb t) (backIn a k e) ≡ false
   back-none (act own within) k e t (sits-part s g v y l) d f =
       ap (some (eqb t)) (back-part own within k e s) ∙ back-none-in within (k + 1) e t l (sym (directly-is own within k e false s) ∙ d) (off-part f (omega arith) (omega arith))
-  back-none (act scope (more b (more f (more u none)))) k e t (sits-scope kn v i sb z sf su) d g =
-      ap (some (eqb t)) (back-scope b f u k e (direct-scope b f u k e d)) ∙ surely-none u (k + 1 + size b + size f) t (off-part g (omega arith) (omega arith))
+  back-none (act (scope true) (more b (more f (more u none)))) k e t (sits-scope kn v i sb z sf (rest-undo su)) d g =
+      ap (some (eqb t)) (back-scope b f u k e (direct-scope true (trio b f (more u none)) k e d)) ∙ surely-none u (k + 1 + size b + size f) t (off-part g (omega arith) (omega arith))
+  back-none (act (scope false) (more b (more f none))) k e t (sits-scope kn v i sb z sf rest-none) d g =
+      ap (some (eqb t)) (back-without b f k e (direct-scope false (trio b f none) k e d))
 
   pub back-none-in : (l : Acts) (c e t : ℕ) {p : Plan} {x : Place} → SitsIn p x l c → directlyIn l c e ≡ true → Off t c (sizes l) → some (eqb t) (backAmong l c e) ≡ false
   back-none-in none c e t sits-none d f = absurd (none-directly c e d)
@@ -277,8 +372,17 @@ mutual
       (λ b. let z = later-directly a l c e d b in ap (some (eqb t)) (back-later a l c e z) ∙ back-none-in l (c + size a) e t y z (off-part f (omega arith) (omega arith)))
 
 -- A step that takes back, in a body of which an undo part runs, is still to come.
+scope-due : {ms : List ℕ} (b f u : Act) (k e t : ℕ) (c : Bool) → Waits ms (act (scope true) (trio b f (more u none))) k t c → c ≡ false → eqb k e ≡ true → getD ms k 0 ≡ idle
+    → Quiet ms (k + 1) (size b + size f) → Run ms u (k + 1 + size b + size f) → some (eqb t) (backIn (act (scope true) (trio b f (more u none))) k e) ≡ true
+    → some (eqb t) (undoLeftIn (act (scope true) (trio b f (more u none))) k ms) ≡ true
+scope-due b f u k e t c (waits-itself z g) n d x q r h = absurd (no-less (undoing-waits (undoing-scope {b = b} {f = f} {u = u} x q r) (waits-itself z g) n) z)
+scope-due b f u k e t c (waits-within z (waits-first g w)) n d x q r h = absurd (quiet-waits w refl (quiet-part q (omega arith) (omega arith)))
+scope-due b f u k e t c (waits-within z (waits-later g (waits-first y w))) n d x q r h = absurd (quiet-waits w refl (quiet-part q (omega arith) (omega arith)))
+scope-due {ms} b f u k e t c (waits-within z (waits-later g (waits-later y (waits-first j w)))) n d x q r h =
+    ap (some (eqb t)) (undo-left-scope b f u k ms) ∙ due-left u (k + 1 + size b + size f) t _ w refl r (ap (some (eqb t)) (sym (back-scope b f u k e d)) ∙ h)
+
 mutual
-  unfolding size kind
+  unfolding size some
 
   pub undo-due : {p : Plan} {x : Place} {ms : List ℕ} (a : Act) (k e t : ℕ) (b : Bool) → Sits p x a k → directly a k e ≡ true → Waits ms a k t b → b ≡ false → Undoing ms a k
       → some (eqb t) (backIn a k e) ≡ true → some (eqb t) (undoLeftIn a k ms) ≡ true
@@ -286,15 +390,13 @@ mutual
   undo-due {ms = ms} (act own within) k e t b (sits-part s g v y l) d (waits-within z w) f (undoing-part _ i r) h =
       ap (some (eqb t)) (undo-left-is own within k ms s)
       ∙ undo-due-in within (k + 1) e t _ l (sym (directly-is own within k e false s) ∙ d) w (opens-idle own (getD ms k 0) i) r (ap (some (eqb t)) (sym (back-part own within k e s)) ∙ h)
-  undo-due (act scope within) k e t b (sits-part s g v y l) d (waits-within z w) f (undoing-scope _ _ _) h = absurd (not-scope s)
-  undo-due (act scope (more b′ (more f′ (more u none)))) k e t b (sits-scope kn v i sb z sf su) d w f (undoing-part s _ _) h = absurd (not-scope s)
-  undo-due (act scope (more b′ (more f′ (more u none)))) k e t b (sits-scope kn v i sb z sf su) d (waits-itself c g) f (undoing-scope x q r) h = absurd (no-less (undoing-waits (undoing-scope {b = b′} {f = f′} {u = u} x q r) (waits-itself c g) f) c)
-  undo-due (act scope (more b′ (more f′ (more u none)))) k e t b (sits-scope kn v i sb z sf su) d (waits-within c (waits-first g w)) f (undoing-scope x q r) h = absurd (quiet-waits w refl (quiet-part q (omega arith) (omega arith)))
-  undo-due (act scope (more b′ (more f′ (more u none)))) k e t b (sits-scope kn v i sb z sf su) d (waits-within c (waits-later g (waits-first y w))) f (undoing-scope x q r) h =
-      absurd (quiet-waits w refl (quiet-part q (omega arith) (omega arith)))
-  undo-due {ms = ms} (act scope (more b′ (more f′ (more u none)))) k e t b (sits-scope kn v i sb z sf su) d (waits-within c (waits-later g (waits-later y (waits-first j w)))) f (undoing-scope x q r) h =
-      ap (some (eqb t)) (undo-left-scope b′ f′ u k ms)
-      ∙ due-left u (k + 1 + size b′ + size f′) t _ w refl r (ap (some (eqb t)) (sym (back-scope b′ f′ u k e (direct-scope b′ f′ u k e d))) ∙ h)
+  undo-due (act own within) k e t b (sits-part s g v y l) d (waits-within z w) f (undoing-scope _ _ _) h = absurd (not-scope s)
+  undo-due (act own within) k e t b (sits-part s g v y l) d (waits-within z w) f (undoing-through _ _ _) h = absurd (not-scope s)
+  undo-due (act (scope true) (more b′ (more f′ u))) k e t b (sits-scope kn v i sb z sf su) d w f (undoing-part s _ _) h = absurd (not-scope s)
+  undo-due (act (scope true) (more b′ (more f′ u))) k e t b (sits-scope kn v i sb z sf su) d w f (undoing-scope {u = u′} x q r) h = scope-due b′ f′ u′ k e t b w f (direct-scope true (trio b′ f′ (more u′ none)) k e d) x q r h
+  undo-due (act (scope false) (more b′ (more f′ u))) k e t b (sits-scope kn v i sb z sf su) d w f (undoing-part s _ _) h = absurd (not-scope s)
+  undo-due (act (scope false) (more b′ (more f′ none))) k e t b (sits-scope kn v i sb z sf rest-none) d w f (undoing-through x r q) h =
+      absurd (false≢true (ap (some (eqb t)) (sym (back-without b′ f′ k e (direct-scope false (trio b′ f′ none) k e d))) ∙ h))
 
   undo-due-in : {p : Plan} {x : Place} {ms : List ℕ} (l : Acts) (c e t : ℕ) (b : Bool) → SitsIn p x l c → directlyIn l c e ≡ true → WaitsIn ms l c t b → b ≡ false → UndoingIn ms l c
       → some (eqb t) (backAmong l c e) ≡ true → some (eqb t) (undoLeftAmong l c ms) ≡ true
@@ -333,7 +435,7 @@ kind-place p q own within k t v f h = go own h
     go sequence h = f h
     go flow h = f h
     go pick h = absurd (false≢true h)
-    go scope h = absurd (false≢true h)
+    go (scope u) h = absurd (false≢true h)
     go (arm x y vs) h = absurd (false≢true h)
 
 mutual
@@ -342,7 +444,7 @@ mutual
   surely-place : {p : Plan} {q : Place} {a : Act} {k : ℕ} → Sits p q a k → (t : ℕ) → some (eqb t) (surely a k) ≡ true → placeOf p t ≡ q
   surely-place {p = p} {q = q} (sits-part {own = own} {within} {k} s g v y l) t h =
       kind-place p q own within k t (v .place) (λ z. surely-places l t z) (ap (some (eqb t)) (sym (surely-is own within k)) ∙ h)
-  surely-place (sits-scope {b = b} {f} {u} {k} kn v i sb z sf su) t h = absurd (false≢true (ap (some (eqb t)) (sym (surely-is scope (trio b f u) k)) ∙ h))
+  surely-place (sits-scope {v = z₀} {b = b} {f = f} {u = u} {k = k} kn v i sb z sf su) t h = absurd (false≢true (ap (some (eqb t)) (sym (surely-is (scope z₀) (trio b f u) k)) ∙ h))
 
   surely-places : {p : Plan} {q : Place} {l : Acts} {c : ℕ} → SitsIn p q l c → (t : ℕ) → some (eqb t) (surelyAmong l c) ≡ true → placeOf p t ≡ q
   surely-places sits-none t h = absurd (false≢true h)
@@ -354,12 +456,17 @@ remedy-place {p = p} {q = q} (remedy {own = own} {within} {k} s a g v z l b) t h
     kind-place p q own within k t (v .place) (λ z. surely-places l t z) (ap (some (eqb t)) (sym (surely-is own within k)) ∙ h)
 
 mutual
-  pub back-place : {p : Plan} {x : Place} (a : Act) (k e t : ℕ) → Sits p x a k → directly a k e ≡ true → some (eqb t) (backIn a k e) ≡ true → placeOf p t ≡ undoOf (nameOf x) (aroundOf x)
+  unfolding some
+
+  pub back-place : {p : Plan} {x : Place} (a : Act) (k e t : ℕ) → Sits p x a k → directly a k e ≡ true → some (eqb t) (backIn a k e) ≡ true → placeOf p t ≡ undoOf (nameOf x) (beyondOf x) (lastOf x)
   back-place (act own within) k e t (sits-part s g v y l) d h =
       back-places within (k + 1) e t l (sym (directly-is own within k e false s) ∙ d) (ap (some (eqb t)) (sym (back-part own within k e s)) ∙ h)
-  back-place (act scope (more b (more f (more u none)))) k e t (sits-scope kn v i sb z sf su) d h = remedy-place su t (ap (some (eqb t)) (sym (back-scope b f u k e (direct-scope b f u k e d))) ∙ h)
+  back-place (act (scope true) (more b (more f (more u none)))) k e t (sits-scope kn v i sb z sf (rest-undo su)) d h =
+      remedy-place su t (ap (some (eqb t)) (sym (back-scope b f u k e (direct-scope true (trio b f (more u none)) k e d))) ∙ h)
+  back-place (act (scope false) (more b (more f none))) k e t (sits-scope kn v i sb z sf rest-none) d h =
+      absurd (false≢true (ap (some (eqb t)) (sym (back-without b f k e (direct-scope false (trio b f none) k e d))) ∙ h))
 
-  back-places : {p : Plan} {x : Place} (l : Acts) (c e t : ℕ) → SitsIn p x l c → directlyIn l c e ≡ true → some (eqb t) (backAmong l c e) ≡ true → placeOf p t ≡ undoOf (nameOf x) (aroundOf x)
+  back-places : {p : Plan} {x : Place} (l : Acts) (c e t : ℕ) → SitsIn p x l c → directlyIn l c e ≡ true → some (eqb t) (backAmong l c e) ≡ true → placeOf p t ≡ undoOf (nameOf x) (beyondOf x) (lastOf x)
   back-places none c e t sits-none d h = absurd (none-directly c e d)
   back-places (more a l) c e t (sits-more s y) d h =
       decide (directly a c e)
@@ -381,7 +488,7 @@ kind-sub t (repeat a) x y z x′ y′ z′ e f g h = h
 kind-sub t sequence x y z x′ y′ z′ e f g h = f h
 kind-sub t flow x y z x′ y′ z′ e f g h = g h
 kind-sub t pick x y z x′ y′ z′ e f g h = h
-kind-sub t scope x y z x′ y′ z′ e f g h = h
+kind-sub t (scope u) x y z x′ y′ z′ e f g h = h
 kind-sub t (arm a b vs) x y z x′ y′ z′ e f g h = h
 
 -- of two lists
@@ -453,16 +560,19 @@ unfolding undoLeftIn
 more-left a l c ms = refl
 
 mutual
+  unfolding some
+
   pub left-back : {p : Plan} {x : Place} {a : Act} {k : ℕ} → Sits p x a k → (t : ℕ) (ms : List ℕ) → some (eqb t) (undoLeftIn a k ms) ≡ true → Back a k t
   left-back (sits-part {own = own} {within} {k} s g v y l) t ms h =
       let b = left-backs l t ms (ap (some (eqb t)) (sym (undo-left-is own within k ms s)) ∙ h) in
       record { scope = b .scope; direct = directly-is own within k (b .scope) false s ∙ b .direct; takes = ap (some (eqb t)) (back-part own within k (b .scope) s) ∙ b .takes }
-  left-back (sits-scope {b = b} {f} {u} {k} kn v i sb z sf su) t ms h =
+  left-back (sits-scope {v = true} {b = b} {f = f} {k = k} kn v i sb z sf (rest-undo {u = u} su)) t ms h =
       record {
         scope = k;
-        direct = directly-is scope (trio b f u) k k true scope-is ∙ eq-eqb k k refl;
+        direct = directly-is (scope true) (trio b f (more u none)) k k true refl ∙ eq-eqb k k refl;
         takes = ap (some (eqb t)) (back-scope b f u k k (eq-eqb k k refl)) ∙ left-sure u (k + 1 + size b + size f) t ms (ap (some (eqb t)) (sym (undo-left-scope b f u k ms)) ∙ h);
       }
+  left-back (sits-scope {v = false} {b = b} {f = f} {k = k} kn v i sb z sf rest-none) t ms h = absurd (false≢true (ap (some (eqb t)) (sym (undo-left-none b f k ms)) ∙ h))
 
   left-backs : {p : Plan} {x : Place} {l : Acts} {c : ℕ} → SitsIn p x l c → (t : ℕ) (ms : List ℕ) → some (eqb t) (undoLeftAmong l c ms) ≡ true → BackIn l c t
   left-backs (sits-none {c = c}) t ms h = absurd (none-left c t ms h)
@@ -478,12 +588,12 @@ none-without t (x ∷ l) h = decide (eqb t x) (λ e. absurd (false≢true (sym h
 
 -- The close of a scope directly inside stands in the body.
 mutual
-  pub close-place : {p : Plan} {x : Place} (a : Act) (k e : ℕ) → Sits p x a k → directly a k e ≡ true → placeOf p e ≡ bodyOf (nameOf x) (aroundOf x)
+  pub close-place : {p : Plan} {x : Place} (a : Act) (k e : ℕ) → Sits p x a k → directly a k e ≡ true → placeOf p e ≡ bodyOf (nameOf x) (beyondOf x) (lastOf x)
   close-place (act own within) k e (sits-part s g v y l) d = close-places within (k + 1) e l (sym (directly-is own within k e false s) ∙ d)
-  close-place {p = p} (act scope (more b (more f (more u none)))) k e (sits-scope {n} {c} kn v i sb z sf su) d =
-      subst (λ (j : ℕ). placeOf p j ≡ bodyOf n c) (eqb-true k e (direct-scope b f u k e d)) (v .place)
+  close-place {p = p} (act (scope z₀) (more b (more f u))) k e (sits-scope {n = n} {c} {ns} kn v i sb z sf su) d =
+      subst (λ (j : ℕ). placeOf p j ≡ bodyOf n ns c) (eqb-true k e (direct-scope z₀ (trio b f u) k e d)) (v .place)
 
-  close-places : {p : Plan} {x : Place} (l : Acts) (c e : ℕ) → SitsIn p x l c → directlyIn l c e ≡ true → placeOf p e ≡ bodyOf (nameOf x) (aroundOf x)
+  close-places : {p : Plan} {x : Place} (l : Acts) (c e : ℕ) → SitsIn p x l c → directlyIn l c e ≡ true → placeOf p e ≡ bodyOf (nameOf x) (beyondOf x) (lastOf x)
   close-places none c e sits-none d = absurd (none-directly c e d)
   close-places (more a l) c e (sits-more s y) d = decide (directly a c e) (λ i. close-place a c e s i) (λ i. close-places l (c + size a) e y (later-directly a l c e d i))
 
@@ -494,7 +604,7 @@ duesOf back (e ∷ l) = putting (back e) (duesOf back l)
 
 -- A scope undoes its list: where one of its undo parts runs then, that is to come, and what is remembered; else nothing was due.
 abbrev pub PaysAs : Plan → Scope → (due : List (List ℕ)) → Order → Result → Type 0
-PaysAs p s d o running = putting (undoLeftIn (s .body) (s .bodyAt) (o .marks)) (duesOf (backIn (s .body) (s .bodyAt)) (listOf p (s .name) o)) ≡ d
+PaysAs p s d o running = putting (undoLeftIn (s .body) (s .bodyAt) (o .marks)) (duesOf (dueIn (s .body) (s .bodyAt)) (listOf p (s .name) o)) ≡ d
 PaysAs p s d o over = d ≡ []
 PaysAs p s d o raising = Unit {0}
 PaysAs p s d o leaving = Unit {0}
@@ -503,32 +613,32 @@ PaysAs p s d o undoRaising = Unit {0}
 
 module _ (p : Plan) where
   undo-then : (s : Scope) (l : List ℕ) (e : ℕ) (o′ : Order) (ms : List ℕ) (v : Bool) (g : List Event)
-      → Comes (undoLeftIn (s .body) (s .bodyAt)) (backIn (s .body) (s .bodyAt) e) (record { marks = ms; over = v; log = g })
+      → Comes (undoLeftIn (s .body) (s .bodyAt)) (dueIn (s .body) (s .bodyAt) e) (record { marks = ms; over = v; log = g })
       → listOf p (s .name) (withMarks ms o′) ≡ l
-      → (v ≡ true → PaysAs p s (duesOf (backIn (s .body) (s .bodyAt)) l) (undo l s (withMarks ms o′) .order) (undo l s (withMarks ms o′) .result))
-      → PaysAs p s (duesOf (backIn (s .body) (s .bodyAt)) (e ∷ l)) (whereOver (undo l s) (begunIn o′ (record { marks = ms; over = v; log = g })) .order) (whereOver (undo l s) (begunIn o′ (record { marks = ms; over = v; log = g })) .result)
+      → (v ≡ true → PaysAs p s (duesOf (dueIn (s .body) (s .bodyAt)) l) (undo l s (withMarks ms o′) .order) (undo l s (withMarks ms o′) .result))
+      → PaysAs p s (duesOf (dueIn (s .body) (s .bodyAt)) (e ∷ l)) (whereOver (undo l s) (begunIn o′ (record { marks = ms; over = v; log = g })) .order) (whereOver (undo l s) (begunIn o′ (record { marks = ms; over = v; log = g })) .result)
   unfolding duesOf
   undo-then s l e o′ ms true g b i f =
-      subst (λ (d : List ℕ). PaysAs p s (putting d (duesOf (backIn (s .body) (s .bodyAt)) l)) (undo l s (withMarks ms o′) .order) (undo l s (withMarks ms o′) .result)) (sym (b .over refl)) (f refl)
+      subst (λ (d : List ℕ). PaysAs p s (putting d (duesOf (dueIn (s .body) (s .bodyAt)) l)) (undo l s (withMarks ms o′) .order) (undo l s (withMarks ms o′) .result)) (sym (b .over refl)) (f refl)
   undo-then s l e o′ ms false g b i f = rw (b .runs refl, i)
 
+  last-comes : (v : Bool) (s : Scope) (e : ℕ) (l : List ℕ) (o : Order) → Seat p s → phase (markOf (s .name) o) ≡ Phase.undoes v → Quiet (o .marks) (s .bodyAt) (size (s .body))
+      → s .bodyAt + size (s .body) ≤ length (o .marks) → listOf p (s .name) o ≡ e ∷ l → Comes (undoLeftIn (s .body) (s .bodyAt)) (dueIn (s .body) (s .bodyAt) e) (beginUndo (s .body) (s .bodyAt) e (o .marks))
+  last-comes v s e l o h q z m i =
+      let o′ = remembering (withoutLast (isFor s) (closings o)) o in
+      let w = awake-kept p v (withoutLast (isFor s) (closings o)) o (s .name) (h .beyond) q in
+      decide (reaches (s .body) (s .bodyAt) e)
+      (λ d. undo-comes p (h .body) e d (s .name) o o′ (last-does p v s e l o h q z i) z m (w .0) (v, ap (λ (n : Name). phase (markOf n o′)) (w .0) ∙ w .1))
+      (λ d. subst (Comes (undoLeftIn (s .body) (s .bodyAt)) (dueIn (s .body) (s .bodyAt) e)) (sym (unreached (s .body) (s .bodyAt) e (o .marks) d))
+      (record { over = λ x. unreached-due (h .body) e d; runs = λ x. absurd (false≢true (sym x)) }))
+
   pub undo-pays : (v : Bool) (s : Scope) (l : List ℕ) (o : Order) → Seat p s → phase (markOf (s .name) o) ≡ Phase.undoes v → Quiet (o .marks) (s .bodyAt) (size (s .body))
-      → s .bodyAt + size (s .body) ≤ length (o .marks) → listOf p (s .name) o ≡ l → PaysAs p s (duesOf (backIn (s .body) (s .bodyAt)) l) (undo l s o .order) (undo l s o .result)
+      → s .bodyAt + size (s .body) ≤ length (o .marks) → listOf p (s .name) o ≡ l → PaysAs p s (duesOf (dueIn (s .body) (s .bodyAt)) l) (undo l s o .order) (undo l s o .result)
   unfolding undo startUndo duesOf
   undo-pays v s [] o h q z m i = refl
   undo-pays v s (e ∷ l) o h q z m i =
-      let o′ = remembering (withoutLast e (closings o)) o in
-      let f : (x : Inner) → Known p x → Spot p (undoOf (s .name) (h .around)) (x .undo) → x .number ≡ e → x .around ≡ s .name → Does p None o (began (x .undo) ∷ []) o′
-      = λ x kn xs xe xa.
-      subst (λ (y : ℕ). Does p None o (began (x .undo) ∷ []) (remembering (withoutLast y (closings o)) o)) xe
-      (does-undo p v s o l x h kn (subst (λ (n : Name). Spot p (undoOf n (h .around)) (x .undo)) (sym xa) xs) xa q
-      (quiet-inner (s .body) (s .bodyAt) z) (i ∙ ap (λ (y : ℕ). y ∷ l) (sym xe))) in
-      let d = remembered-directly p s o e l h i in
-      let b = begins-undo p (h .body) e d o o′ f z m (v, remembering-phase v (s .name) q) in
-      undo-then s l e o′ _ _ _ (undo-comes p (h .body) e d o o′ f z m (v, remembering-phase v (s .name) q)) (removed-list p (s .name) e l o i)
+      let o′ = remembering (withoutLast (isFor s) (closings o)) o in
+      let b = last-begins p v s e l o h q z m i in
+      undo-then s l e o′ _ _ _ (last-comes v s e l o h q z m i) (removed-list p s e l o h i)
       (λ c. undo-pays v s l (withMarks (beginUndo (s .body) (s .bodyAt) e (o .marks) .marks) o′) h
-      (ap phase (mark-kept (s .name) (s .bodyAt) o _ (h .before) (omega arith) refl (b .kept)) ∙ q) (b .quiet c) (omega (arith, b .kept .many)) (removed-list p (s .name) e l o i))
-    where
-      remembering-phase : (v : Bool) (n : Name) → phase (markOf n o) ≡ Phase.undoes v → phase (markOf n (remembering (withoutLast e (closings o)) o)) ≡ Phase.undoes v
-      remembering-phase v root q = q
-      remembering-phase v (inner k) q = q
+      (ap phase (mark-kept (s .name) (s .bodyAt) o _ (h .before) (omega arith) refl (b .kept)) ∙ q) (b .quiet c) (omega (arith, b .kept .many)) (removed-list p s e l o h i))

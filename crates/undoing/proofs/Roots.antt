@@ -11,7 +11,7 @@ use Rattle.plan.specs.Tree.{Plan, size}
 use Rattle.order.specs.declared.Order.{Order}
 use Rattle.order.specs.declared.End.{End}
 use Rattle.order.specs.declared.End.the-variants.{None, Well, Handled, Failed, Left}
-use Rattle.order.specs.State.{root, inner, done, halted, withdrawing, noOrder}
+use Rattle.order.specs.State.{Name, root, inner, done, halted, withdrawing, markOf, noOrder}
 use Rattle.order.specs.Event.{Event, started, began, closed, faulted, stopped, ended, raised, left}
 use Rattle.order.specs.declared.Way.{Way as Result}
 use Rattle.order.specs.declared.Way.the-variants.{Running as running, Over as over, Raising as raising, Leaving as leaving, Undone as undone, UndoRaising as undoRaising}
@@ -25,9 +25,8 @@ use Rattle.undoing.proofs.Marks.{Quiet, turned-waits, turned-undoes, tu
 use Rattle.undoing.proofs.Orders.{endsTurned, older, momentOf, fairAfter, onto, Does, does-then}
 use Rattle.undoing.proofs.Seats.{Seat, inside-rest, quiet-inner}
 use Rattle.undoing.proofs.Waiting.{Waits, quiet-waits}
-use Rattle.undoing.proofs.Breaking.{Distinct}
 use Rattle.undoing.proofs.Scoping.{scope-live, scope-done, scope-turned, Turning, Running, StepsAs, Steps, Reach, waits-mark, undoes-mark, from-live, from-stopped, from-undoing, from-heals}
-use Rattle.undoing.proofs.Stepping.{steps, steps-stopped, steps-undoing, steps-part}
+use Rattle.undoing.proofs.Stepping.{awake-first, steps, steps-stopped, steps-undoing, steps-part}
 
 -- activity t of the root's body or fault part awaits its step
 pub data Awaited (p : Plan) (ms : List ℕ) (t : ℕ) : Type 0 where
@@ -42,10 +41,10 @@ pub record Standing (p : Plan) (o : Order) : Type 0 where
 
 -- the definition, by where the step is
 pub root-is : (actor : Actor) (p : Plan) (t : ℕ) (o : Order) (b : Bool) → ltb t (size (p .body)) ≡ b
-    → stepRoot actor p t o ≡ elim b [ true ↦ fromBody (rootOf p) (stepIn actor (p .body) 0 t o) | false ↦ fromFault (rootOf p) (stepIn actor (p .fault) (size (p .body)) t o) ]
+    → stepRoot actor p t o ≡ elim b [ true ↦ fromBody (rootOf p) (stepIn actor (p .body) 0 0 t o) | false ↦ fromFault (rootOf p) (stepIn actor (p .fault) (size (p .body)) (size (p .body)) t o) ]
 unfolding stepRoot
 root-is actor p t o b e =
-    subst (λ (z : Bool). stepRoot actor p t o ≡ elim z [ true ↦ fromBody (rootOf p) (stepIn actor (p .body) 0 t o) | false ↦ fromFault (rootOf p) (stepIn actor (p .fault) (size (p .body)) t o) ]) e refl
+    subst (λ (z : Bool). stepRoot actor p t o ≡ elim z [ true ↦ fromBody (rootOf p) (stepIn actor (p .body) 0 0 t o) | false ↦ fromFault (rootOf p) (stepIn actor (p .fault) (size (p .body)) (size (p .body)) t o) ]) e refl
 
 -- the numbers of the root
 root-reach : (p : Plan) → Reach (rootOf p)
@@ -63,7 +62,7 @@ weaker {p} {s} {o} {r} v = record { apart = v .apart; comes = go (r .result) (v 
     go undone c = c
     go undoRaising c = c
 
-module _ (p : Plan) (distinct : Distinct p) (actor : Actor) (h : Seat p (rootOf p)) where
+module _ (p : Plan) (actor : Actor) (h : Seat p (rootOf p)) where
   pub root-steps : (t : ℕ) (o : Order) → Awaited p (o .marks) t → Standing p o → (o .root ≡ halted → ⊥) → (o .root ≡ withdrawing → ⊥)
       → Steps p (rootOf p) (Running (rootOf p)) o (stepRoot actor p t o)
   root-steps t o (in-body e w) st x y =
@@ -78,15 +77,16 @@ module _ (p : Plan) (distinct : Distinct p) (actor : Actor) (h : Seat p (rootOf 
       no-withdrawal : (a : Bool) → a ≡ false → phase (o .root) ≡ Phase.undoes a → ⊥
       no-withdrawal a d q = y (eqb-true (o .root) withdrawing (undoes-mark (o .root) q .1 ∙ rw d))
 
-      go : Running (rootOf p) (o .marks) (o .root) → Steps p (rootOf p) (Running (rootOf p)) o (fromBody (rootOf p) (stepIn actor (p .body) 0 t o))
+      go : Running (rootOf p) (o .marks) (o .root) → Steps p (rootOf p) (Running (rootOf p)) o (fromBody (rootOf p) (stepIn actor (p .body) 0 0 t o))
       go (scope-live d r q) =
-          from-live p distinct (rootOf p) t o (stepIn actor (p .body) 0 t o) h d q m (steps p distinct actor (h .body) t o false w refl r (ap phase d) (omega arith))
+          from-live p (rootOf p) t o (stepIn actor (p .body) 0 0 t o) h d q m (steps p actor (h .body) 0 t o false (h .at) w refl r (ap phase d) (omega arith))
       go (scope-done d q z) = absurd (st .going d)
       go (scope-turned (turned-waits {w = a} q z _ v)) =
-          weaker (from-stopped p distinct a (rootOf p) o (stepIn actor (p .body) 0 t o) h (λ d. absurd (no-stop a d q)) q v m (steps-stopped p distinct actor (h .body) t o false w refl z (omega arith)))
+          weaker (from-stopped p a (rootOf p) o (stepIn actor (p .body) 0 0 t o) h (λ d. absurd (no-stop a d q)) q v m (steps-stopped p actor (h .body) 0 t o false (h .at) w refl z (omega arith)))
       go (scope-turned (turned-undoes {w = a} q z v)) =
-          weaker (from-undoing p distinct a (rootOf p) t o (stepIn actor (p .body) 0 t o) h (root-reach p) (λ d. absurd (no-withdrawal a d q)) q v m (λ i a b. absurd (omega arith))
-          (steps-undoing p distinct actor (h .body) t o false w refl z (a, q) (omega arith)))
+          weaker (from-undoing p a (rootOf p) t o (stepIn actor (p .body) 0 0 t o) h (root-reach p) (λ d. absurd (no-withdrawal a d q)) q v m (λ i a b. absurd (omega arith))
+          (steps-undoing p actor (h .body) 0 t o false (h .at) w refl z root (awake-first p actor (λ n. markOf n o) root (h .beyond) a q)
+          (a, ap (λ (n : Name). phase (markOf n o)) (awake-first p actor (λ n. markOf n o) root (h .beyond) a q) ∙ q) (omega arith)))
       go (scope-turned (turned-heals q z v)) = absurd (quiet-waits w refl z)
   root-steps t o (in-fault e w) st x y =
       subst (λ (r : Outcome). Steps p (rootOf p) (Running (rootOf p)) o r) (sym (root-is actor p t o false (le-ltb t (size (p .body)) e))) (go (st .runs))
@@ -94,14 +94,14 @@ module _ (p : Plan) (distinct : Distinct p) (actor : Actor) (h : Seat p (rootOf 
       m : size (p .body) + size (p .fault) ≤ length (o .marks)
       m = st .many
 
-      go : Running (rootOf p) (o .marks) (o .root) → Steps p (rootOf p) (Running (rootOf p)) o (fromFault (rootOf p) (stepIn actor (p .fault) (size (p .body)) t o))
+      go : Running (rootOf p) (o .marks) (o .root) → Steps p (rootOf p) (Running (rootOf p)) o (fromFault (rootOf p) (stepIn actor (p .fault) (size (p .body)) (size (p .body)) t o))
       go (scope-live d r q) = absurd (quiet-waits w refl q)
       go (scope-done d q z) = absurd (st .going d)
       go (scope-turned (turned-waits q z _ v)) = absurd (quiet-waits w refl v)
       go (scope-turned (turned-undoes q z v)) = absurd (quiet-waits w refl v)
       go (scope-turned (turned-heals q z v)) =
-          weaker (from-heals p distinct (rootOf p) t o (stepIn actor (p .fault) (size (p .body)) t o) h (root-reach p) q z m (λ i a b. absurd (omega arith))
-          (steps-part p distinct actor (h .fault) t o false w refl v q (omega arith)))
+          weaker (from-heals p (rootOf p) t o (stepIn actor (p .fault) (size (p .body)) (size (p .body)) t o) h (root-reach p) q z m (λ i a b. absurd (omega arith))
+          (steps-part p actor (h .fault) (size (p .body)) t o false tt w refl v q (omega arith)))
 
 -- an end
 abbrev isSome : End → Bool
@@ -159,7 +159,7 @@ pub data Passed (p : Plan) (past : List Event) (m : Moved) : Type 0 where
   passes-on : fairAfter p past (m .log) ≡ true → m .end ≡ None → Standing p (m .order) → HoldsAt p (momentOf p (m .order)) (onto (m .log) past) → Passed p past m
   passes-end : fairAfter p past (m .log) ≡ true → m .order ≡ noOrder → EndedAs p (m .end) (onto (m .log) past) → Passed p past m
 
-module _ (p : Plan) (distinct : Distinct p) (actor : Actor) (h : Seat p (rootOf p)) where
+module _ (p : Plan) (actor : Actor) (h : Seat p (rootOf p)) where
   -- the root's body is done
   does-well : (o : Order) → o .root ≡ done → Quiet (o .marks) 0 (size (p .body)) → Does p Well o (ended root ∷ []) noOrder
   unfolding fairAfter endTold
@@ -184,7 +184,7 @@ module _ (p : Plan) (distinct : Distinct p) (actor : Actor) (h : Seat p (rootOf 
       r = stepRoot actor p t o
 
       v : Steps p (rootOf p) (Running (rootOf p)) o r
-      v = root-steps p distinct actor h t o w st x y
+      v = root-steps p actor h t o w st x y
 
       by-done : Running (rootOf p) (r .order .marks) (r .order .root) → Does p None o (r .log) (r .order) → (b : Bool) → eqb (r .order .root) done ≡ b
           → Passed p past (movedTo (record { result = running; order = r .order; log = r .log }) (cond b Well None))

@@ -16,17 +16,17 @@ use Rattle.order.specs.Begin.{cleared}
 use Rattle.order.specs.declared.Way.{Way as Result}
 use Rattle.order.specs.declared.Way.the-variants.{Running as running, Over as over, Raising as raising, Leaving as leaving, Undone as undone, UndoRaising as undoRaising}
 use Rattle.order.specs.Scope.{Outcome, runs, after, Scope, isOpen, innerRuns, ends, undoes, turns, stop, faults, breaks, looksAgain, bodyOver, bodyRaised, undoOver, undoRaised, fromBody, partOver, partRaised, fromFault, forgetting}
-use Rattle.undoing.specs.Demand3.{isRoot, insideOf, isUndoRaise}
+use Rattle.undoing.specs.Demand3.{isRoot}
 use Rattle.undoing.specs.Ties.{isName}
 use Rattle.undoing.proofs.Parts.{decide}
 use Rattle.undoing.proofs.Accounts.{Phase, rest, live, waits, heals, odd, phase, tied-as}
-use Rattle.undoing.proofs.Moves.{tied-from, move-fault}
+use Rattle.undoing.proofs.Moves.{RunIn, tied-from, move-fault}
 use Rattle.undoing.proofs.Marks.{Quiet, Kept, Run, Turned, turned-undoes, turned-heals, Stopped, Undoing, Stoppable, agree-part, quiet-part, quiet-agree, agree-below, agree-above, stoppable-agree, not-open}
 use Rattle.undoing.proofs.Orders.{endAs, failAs, listOf, momentOf, Does, does-then, does-nothing, does-one, bare, remedy-names}
 use Rattle.undoing.proofs.Seats.{Seat, mark-kept, marking-mark, marking-elsewhere, marking-agree, marking-length, quiet-inner, inside-rest}
 use Rattle.undoing.proofs.Turning.{Apart, apart-then, apart-kept, apart-marking, TurnsAs, Turns, turns-after, does-phase, marking-list, does-healed, undoes-on, turns-on}
 use Rattle.undoing.proofs.Stopping.{stops}
-use Rattle.undoing.proofs.Breaking.{Distinct, Owns, broken, OthersRest, broken-mark, cleared-kept, cleared-quiet, breaks-healed, breaks-raised}
+use Rattle.undoing.proofs.Breaking.{Owns, broken, OthersRest, broken-mark, cleared-kept, cleared-quiet, breaks-healed, breaks-raised}
 
 -- What a step in a tree comes to: its marks, and how the tree stands after it.
 pub record Acted (k n : ℕ) (o : Order) (C : List Event → Order → Result → Type 0) (r : Outcome) : Type 0 where
@@ -64,7 +64,7 @@ UndoAs p n a k t o l o′ raising = ⊥
 UndoAs p n a k t o l o′ leaving = Does p Left o l o′
 UndoAs p n a k t o l o′ undone = Quiet (o′ .marks) k (size a) × Does p None o l o′
 UndoAs p n a k t o l o′ undoRaising =
-    (l ≡ raised t ∷ []) × (isUndoRaise (insideOf p n) (raised t) ≡ true) × (innerRuns a k (o′ .marks) ≡ false) × ScopesRest p o′ k (size a) × Does p None o l o′
+    (l ≡ raised t ∷ []) × RunIn p (λ z. markOf z o′) n t × (innerRuns a k (o′ .marks) ≡ false) × ScopesRest p o′ k (size a) × Does p None o l o′
 
 -- a scope that runs
 pub data ScopeRun (ms : List ℕ) (m : ℕ) (b : Act) (kb : ℕ) (f : Act) (kf : ℕ) : Type 0 where
@@ -192,7 +192,7 @@ pub record Reach (s : Scope) : Type 0 where
 abbrev pub Beyond : Scope → Order → Type 0
 Beyond s o = (i : ℕ) → s .faultAt + size (s .fault) ≤ i → i < s .first + s .count → getD (o .marks) i 0 ≡ idle
 
-module _ (p : Plan) (distinct : Distinct p) where
+module _ (p : Plan) where
   -- the scope faults: its body stops, and it undoes as soon as it may
   pub faults-on : (s : Scope) (o : Order) → Seat p s → phase (markOf (s .name) o) ≡ live → Stoppable (o .marks) (s .body) (s .bodyAt)
       → Quiet (o .marks) (s .faultAt) (size (s .fault)) → s .faultAt + size (s .fault) ≤ length (o .marks) → Turns p s o (faults s o)
@@ -214,7 +214,7 @@ module _ (p : Plan) (distinct : Distinct p) where
       (quiet-agree y₁ (agree-above (r .kept) (omega (arith, h .after)))) (omega (arith, r .kept .many, n)))
 
   -- the other scopes of s are at rest, where those of its body and what is left are
-  others-rest : (s : Scope) (o : Order) → Seat p s → Reach s → ScopesRest p o (s .bodyAt) (size (s .body)) → Beyond s o → OthersRest p distinct s o
+  others-rest : (s : Scope) (o : Order) → Seat p s → Reach s → ScopesRest p o (s .bodyAt) (size (s .body)) → Beyond s o → OthersRest p s o
   others-rest s o h c r b j i t x y =
       decide (ltb j (s .bodyAt))
       (λ u. absurd (lt-irrefl (c .lone j (ltb-true j (s .bodyAt) u) t) x))
@@ -258,7 +258,7 @@ module _ (p : Plan) (distinct : Distinct p) where
       m = apart-marking s idle o (h .before) (omega (arith, h .after))
 
       idles : (n : Name) → s .name ≡ n → markOf n (broken s o) ≡ idle
-      idles n e = broken-mark p distinct n s o e (subst (λ (x : Name). Owns x (s .first) (s .count)) e (c .owns))
+      idles n e = broken-mark p n s o e (subst (λ (x : Name). Owns x (s .first) (s .count)) e (c .owns))
 
   -- A step in the body of a scope that is live.
   pub from-live : (s : Scope) (t : ℕ) (o : Order) (r : Outcome) → Seat p s → markOf (s .name) o ≡ active → Quiet (o .marks) (s .faultAt) (size (s .fault))
@@ -422,7 +422,7 @@ module _ (p : Plan) (distinct : Distinct p) where
           subst (λ (z : Bool). Steps p s (Turning s) o (after (r .log) (elim z [ true ↦ breaks s o₁ | false ↦ runs o₁ ]))) (sym is-mark)
           (steps-broken (Turning s) s o o₁ (r .log ++ (ended (s .name) ∷ [])) h c a₁ b₁
           (subst (λ (l : List Event). Does p (failAs (s .name)) o (l ++ (ended (s .name) ∷ [])) (broken s o₁)) (sym (d .0))
-          (breaks-raised p distinct v s t o o₁ h (c .owns) q₁ (inside-rest p s o₁ h (d .2)) (others-rest s o₁ h c (d .3) b₁) (d .1)
+          (breaks-raised p v s t o o₁ h (c .owns) q₁ (inside-rest p s o₁ h (d .2)) (others-rest s o₁ h c (d .3) b₁) (d .1)
           (subst (λ (l : List Event). Does p None o l o₁) (d .0) (d .4)))))
         where
           b₁ : Beyond s o₁
@@ -473,7 +473,7 @@ module _ (p : Plan) (distinct : Distinct p) where
       go raising d =
           subst (λ (z : Bool). Steps p s (Turning s) o (after (r .log) (elim z [ true ↦ breaks s o₁ | false ↦ runs o₁ ]))) (sym is-handling)
           (steps-broken (Turning s) s o o₁ (r .log ++ (ended (s .name) ∷ [])) h c a₁ b₁
-          (does-then (d .1) (breaks-healed p distinct s o₁ h (c .owns) q₁ (inside-rest p s o₁ h (quiet-inner (s .body) (s .bodyAt) u₁))
+          (does-then (d .1) (breaks-healed p s o₁ h (c .owns) q₁ (inside-rest p s o₁ h (quiet-inner (s .body) (s .bodyAt) u₁))
           (others-rest s o₁ h c (λ j i x z. u₁ .at j x z) b₁))))
       go leaving d = record { apart = a₁; comes = d }
       go undone d = absurd d

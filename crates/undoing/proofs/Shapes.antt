@@ -2,13 +2,13 @@
 use Prim.Native.Nat.{ℕ, _+_, _≤_, _<_}
 use native.Mathlib.Omega.{arith}
 use mathlib.Core.Path.{_≡_, refl, sym, ap, subst, _∙_}
-use mathlib.Core.Bool.{Bool, true, false, cond, not, _&&_, _||_, false≢true}
+use mathlib.Core.Bool.{Bool, true, false, cond, not, _&&_, _||_, false≢true, and-false, and-true}
 use mathlib.Core.List.{List, [], _∷_, _++_}
 use lib.ListN.{getD, set}
 use lib.Seq.{getD-set-other}
 use lib.Dec.{eqb, ltb}
 use borrow.Author.Tests.{eqb-true}
-use Rattle.plan.specs.Tree.{Own, empty, send, receive, set as setting, raise, leave, choose, repeat, sequence, flow, pick, scope, arm, kind, Act, act, Acts, none, more, Plan, size, sizes}
+use Rattle.plan.specs.Tree.{Own, empty, send, receive, set as setting, raise, leave, choose, repeat, sequence, flow, pick, scope, arm, kind, isPick, isScope, Act, act, Acts, none, more, Plan, size, sizes}
 use Rattle.order.specs.declared.Order.{Order}
 use Rattle.order.specs.declared.End.{End}
 use Rattle.order.specs.declared.End.the-variants.{None, Well, Handled, Failed, Left}
@@ -19,16 +19,16 @@ use Rattle.order.specs.Event.{Event, started, began, closed, faulted, stopped, 
 use Rattle.order.specs.Begin.{Begun, begin, beginAfter, beginPart, part, partAt, quiet, cleared}
 use Rattle.order.specs.declared.Way.{Way as Result}
 use Rattle.order.specs.declared.Way.the-variants.{Running as running, Over as over, Raising as raising, Leaving as leaving, Undone as undone, UndoRaising as undoRaising}
-use Rattle.order.specs.Scope.{Outcome, runs, after, begunIn, whereOver, Scope, scopeAt, rootOf, isScope, isOpen, innerRuns, closing, beginUndo, startUndo, undo, ends, handle, undoes, turns, stop, faults, breaks, looksAgain, bodyOver, bodyRaised, undoOver, undoRaised, fromBody, partOver, partRaised, fromFault, fromUndo, rememberedFor, forgetting}
+use Rattle.order.specs.Scope.{Outcome, runs, after, begunIn, whereOver, Scope, scopeAt, rootOf, isOpen, innerRuns, closing, beginUndo, startUndo, undo, ends, handle, undoes, turns, stop, faults, breaks, looksAgain, bodyOver, bodyRaised, undoOver, undoRaised, fromBody, partOver, partRaised, fromFault, fromUndo, rememberedFor, forgetting, isFor, goesThrough}
 use Rattle.order.specs.Acting.{finishes, raises, orRaises, enters, again, repeats, allBound, itself, isPart, arms, goesOn, joins, inScope, combines, stepIn, stepAmong, stepRoot, endOf, movedTo, begunOrder, Actor, replaces, performs, acted}
-use Rattle.undoing.specs.Ties.{isName, fits, Place, bodyOf, faultOf, undoOf, nameOf, aroundOf, placeIn, placeAmong, placeOf}
+use Rattle.undoing.specs.Ties.{isName, fits, Place, bodyOf, faultOf, undoOf, nameOf, placeIn, placeAmong, placeOf, beyondOf, lastOf, firstOf, beyondIn, lastIn, runAt, seen, placeParts}
 use Rattle.undoing.proofs.Parts.{decide, both as both-true}
 use Rattle.undoing.proofs.Marks.{trio}
-use Rattle.undoing.proofs.Orders.{bare, bareIn, Sits, sits-part, sits-scope, SitsIn, sits-none, sits-more, Remedy, remedy, remedy-bare}
+use Rattle.undoing.proofs.Orders.{bare, bareIn, Sits, sits-part, sits-scope, SitsIn, sits-none, sits-more, Remedy, remedy, remedy-bare, Rest, rest-undo, rest-none}
 use Rattle.undoing.proofs.Seats.{Seat}
 use Rattle.undoing.proofs.Moves.{Before}
 use Rattle.undoing.proofs.Breaking.{cleared-kept}
-use Rattle.undoing.proofs.Stepping.{plain-performs}
+use Rattle.undoing.proofs.Stepping.{scope-performs}
 use Rattle.undoing.proofs.Places.{first-of, second-of, parts, place-here, place-within, place-scope, place-first, place-later, parts-first, parts-later}
 use Rattle.undoing.proofs.Aside.{Aside, silent-append, begin-silent, after-silent, part-silent, runs-silent, begin-undo-silent, ends-silent, stop-silent}
 
@@ -93,7 +93,7 @@ pub mild-undo : (l : List ℕ) (s : Scope) (o : Order) → Mild (undo l s o)
 unfolding undo startUndo only
 mild-undo [] s o = record { goes = refl; calm = refl }
 mild-undo (e ∷ l) s o =
-    let o₁ = remembering (withoutLast e (closings o)) o in
+    let o₁ = remembering (withoutLast (isFor s) (closings o)) o in
     mild-where (undo l s) (startUndo e s o)
     (mild-begun o₁ (beginUndo (s .body) (s .bodyAt) e (o₁ .marks)) (begin-undo-silent isGrave graves-aside (s .body) (s .bodyAt) e (o₁ .marks))) (λ o₂. mild-undo l s o₂)
 
@@ -159,22 +159,22 @@ pub mild-follows : (within : Acts) (k t : ℕ) (o : Order) → Mild (whereOver (
 mild-follows within k t o =
     mild-where (finishes k) (begunIn o (beginAfter within (k + 1) t (o .marks))) (mild-begun o (beginAfter within (k + 1) t (o .marks)) (after-silent isGrave graves-aside within (k + 1) t (o .marks))) (mild-finishes k)
 
--- activity t stands in a fault part or an undo part that scope n runs, and m is around n
-pub data Handler (p : Plan) (t : ℕ) (n m : Name) : Type 0 where
-  in-fault : placeOf p t ≡ faultOf n m → Handler p t n m
-  in-undo : placeOf p t ≡ undoOf n m → Handler p t n m
+-- activity t stands in a fault part or an undo part that scope n runs, by which scopes are left running, and m is around n
+pub data Handler (p : Plan) (t : ℕ) (φ : Name → Bool) (n m : Name) : Type 0 where
+  in-fault : {ns : List Name} {c : Name} → placeOf p t ≡ faultOf n ns c → firstOf ns c ≡ m → Handler p t φ n m
+  in-undo : {ns : List Name} {c : Name} → seen φ (placeOf p t) ≡ undoOf n ns c → firstOf ns c ≡ m → Handler p t φ n m
 
 -- The log of a step of t: neither a raise nor a fault; a raise and its fault; a raise, the end of the scope that ran the part, and the fault of
 -- the one around, or none where that one is not open; or a raise lost, where its scope is not as it should be.
-pub data Shape (p : Plan) (t : ℕ) (o : Order) : List Event → Type 0 where
-  shape-calm : {l : List Event} → Calm l → Shape p t o l
-  shape-fault : {n m : Name} {l : List Event} → placeOf p t ≡ bodyOf n m → Calm l → Shape p t o (raised t ∷ faulted n ∷ l)
-  shape-end-fault : {n m : Name} {l : List Event} → Handler p t n m → isName p m ≡ true → isOpen (markOf m o) ≡ true → Calm l → Shape p t o (raised t ∷ ended n ∷ faulted m ∷ l)
-  shape-end : {k : ℕ} {m : Name} {l : List Event} → Handler p t (inner k) m → isName p m ≡ true → isOpen (markOf m o) ≡ false → Calm l → Shape p t o (raised t ∷ ended (inner k) ∷ l)
-  shape-lost : {q : Place} {l : List Event} → placeOf p t ≡ q → isName p (nameOf q) ≡ true → fits q o ≡ false → Calm l → Shape p t o (raised t ∷ l)
+pub data Shape (p : Plan) (t : ℕ) (φ : Name → Bool) (o : Order) : List Event → Type 0 where
+  shape-calm : {l : List Event} → Calm l → Shape p t φ o l
+  shape-fault : {n m : Name} {ns : List Name} {l : List Event} → placeOf p t ≡ bodyOf n ns m → Calm l → Shape p t φ o (raised t ∷ faulted n ∷ l)
+  shape-end-fault : {n m : Name} {l : List Event} → Handler p t φ n m → isName p m ≡ true → isOpen (markOf m o) ≡ true → Calm l → Shape p t φ o (raised t ∷ ended n ∷ faulted m ∷ l)
+  shape-end : {k : ℕ} {m : Name} {l : List Event} → Handler p t φ (inner k) m → isName p m ≡ true → isOpen (markOf m o) ≡ false → Calm l → Shape p t φ o (raised t ∷ ended (inner k) ∷ l)
+  shape-lost : {q : Place} {l : List Event} → seen φ (placeOf p t) ≡ q → isName p (nameOf q) ≡ true → fits q o ≡ false → Calm l → Shape p t φ o (raised t ∷ l)
 
 -- what is calm may follow
-shape-append : {p : Plan} {t : ℕ} {o : Order} {l : List Event} (m : List Event) → Shape p t o l → Calm m → Shape p t o (l ++ m)
+shape-append : {p : Plan} {t : ℕ} {φ : Name → Bool} {o : Order} {l : List Event} (m : List Event) → Shape p t φ o l → Calm m → Shape p t φ o (l ++ m)
 shape-append {l = l} m (shape-calm c) h = shape-calm (silent-append isGrave graves-aside l m c h)
 shape-append m (shape-fault {l = l} x c) h = shape-fault x (silent-append isGrave graves-aside l m c h)
 shape-append m (shape-end-fault {l = l} x y z c) h = shape-end-fault x y z (silent-append isGrave graves-aside l m c h)
@@ -187,28 +187,28 @@ pub record Below (k : ℕ) (o o′ : Order) : Type 0 where
   pub rooted : o′ .root ≡ o .root
 
 -- a raise that comes out of an activity in a place
-pub data Raise (p : Plan) (t : ℕ) (q : Place) : List Event → Type 0 where
-  raise-here : placeOf p t ≡ q → Raise p t q (raised t ∷ [])
-  raise-out : {k : ℕ} → Handler p t (inner k) (nameOf q) → Raise p t q (raised t ∷ ended (inner k) ∷ [])
+pub data Raise (p : Plan) (t : ℕ) (φ : Name → Bool) (q : Place) : List Event → Type 0 where
+  raise-here : placeOf p t ≡ q → Raise p t φ q (raised t ∷ [])
+  raise-out : {k : ℕ} → Handler p t φ (inner k) (nameOf q) → Raise p t φ q (raised t ∷ ended (inner k) ∷ [])
 
 -- what a step in an activity in a place comes to
-abbrev pub OutAs : Plan → (t : ℕ) → (bare : Bool) → Place → (k : ℕ) → Order → List Event → Order → Result → Type 0
-OutAs p t b q k o l o′ running = Shape p t o l
-OutAs p t b q k o l o′ over = Shape p t o l
-OutAs p t b q k o l o′ raising = Raise p t q l × Below k o o′ × (b ≡ true → (l ≡ raised t ∷ []) × (placeOf p t ≡ q))
-OutAs p t b q k o l o′ leaving = Shape p t o l
-OutAs p t b q k o l o′ undone = Shape p t o l
-OutAs p t b q k o l o′ undoRaising = (l ≡ raised t ∷ []) × (placeOf p t ≡ undoOf (nameOf q) (aroundOf q)) × Below k o o′ × (b ≡ false)
+abbrev pub OutAs : Plan → (t : ℕ) → (φ : Name → Bool) → (bare : Bool) → Place → (k : ℕ) → Order → List Event → Order → Result → Type 0
+OutAs p t φ b q k o l o′ running = Shape p t φ o l
+OutAs p t φ b q k o l o′ over = Shape p t φ o l
+OutAs p t φ b q k o l o′ raising = Raise p t φ q l × Below k o o′ × (b ≡ true → (l ≡ raised t ∷ []) × (placeOf p t ≡ q))
+OutAs p t φ b q k o l o′ leaving = Shape p t φ o l
+OutAs p t φ b q k o l o′ undone = Shape p t φ o l
+OutAs p t φ b q k o l o′ undoRaising = (l ≡ raised t ∷ []) × (seen φ (placeOf p t) ≡ runAt φ (nameOf q) (beyondOf q) (lastOf q)) × Below k o o′ × (b ≡ false)
 
-pub record Out (p : Plan) (t : ℕ) (b : Bool) (q : Place) (k : ℕ) (o : Order) (r : Outcome) : Type 0 where
-  pub comes : OutAs p t b q k o (r .log) (r .order) (r .result)
+pub record Out (p : Plan) (t : ℕ) (φ : Name → Bool) (b : Bool) (q : Place) (k : ℕ) (o : Order) (r : Outcome) : Type 0 where
+  pub comes : OutAs p t φ b q k o (r .log) (r .order) (r .result)
 
-module _ (p : Plan) (t : ℕ) (b : Bool) (q : Place) (k : ℕ) (o : Order) where
+module _ (p : Plan) (t : ℕ) (φ : Name → Bool) (b : Bool) (q : Place) (k : ℕ) (o : Order) where
   -- what is mild, after a log of its shape
-  mild-as : (l : List Event) (r : Outcome) → Shape p t o l → Mild r → OutAs p t b q k o (l ++ r .log) (r .order) (r .result)
+  mild-as : (l : List Event) (r : Outcome) → Shape p t φ o l → Mild r → OutAs p t φ b q k o (l ++ r .log) (r .order) (r .result)
   mild-as l r s m = go (r .result) (m .goes)
     where
-      go : (x : Result) → isMild x ≡ true → OutAs p t b q k o (l ++ r .log) (r .order) x
+      go : (x : Result) → isMild x ≡ true → OutAs p t φ b q k o (l ++ r .log) (r .order) x
       go running e = shape-append (r .log) s (m .calm)
       go over e = shape-append (r .log) s (m .calm)
       go raising e = absurd (false≢true e)
@@ -217,15 +217,15 @@ module _ (p : Plan) (t : ℕ) (b : Bool) (q : Place) (k : ℕ) (o : Order) where
       go undoRaising e = absurd (false≢true e)
 
   -- what is mild
-  out-mild : (r : Outcome) → Mild r → Out p t b q k o r
+  out-mild : (r : Outcome) → Mild r → Out p t φ b q k o r
   unfolding only
   out-mild r m = record { comes = mild-as [] r (shape-calm refl) m }
 
   -- goes on where it is over
-  out-where : (g : Order → Outcome) (r : Outcome) → ((o : Order) → Mild (g o)) → Out p t b q k o r → Out p t b q k o (whereOver g r)
+  out-where : (g : Order → Outcome) (r : Outcome) → ((o : Order) → Mild (g o)) → Out p t φ b q k o r → Out p t φ b q k o (whereOver g r)
   out-where g r m h = go (r .result) (h .comes)
     where
-      go : (x : Result) → OutAs p t b q k o (r .log) (r .order) x → Out p t b q k o (whereOver g (record { result = x; order = r .order; log = r .log }))
+      go : (x : Result) → OutAs p t φ b q k o (r .log) (r .order) x → Out p t φ b q k o (whereOver g (record { result = x; order = r .order; log = r .log }))
       go running c = record { comes = c }
       go over c = record { comes = mild-as (r .log) (g (r .order)) c (m (r .order)) }
       go raising c = record { comes = c }
@@ -234,56 +234,56 @@ module _ (p : Plan) (t : ℕ) (b : Bool) (q : Place) (k : ℕ) (o : Order) where
       go undoRaising c = record { comes = c }
 
   -- and k still has its mark
-  out-goes : (m : ℕ) (g : Order → Outcome) (r : Outcome) → ((o : Order) → Mild (g o)) → Out p t b q k o r → Out p t b q k o (goesOn k m g r)
+  out-goes : (m : ℕ) (g : Order → Outcome) (r : Outcome) → ((o : Order) → Mild (g o)) → Out p t φ b q k o r → Out p t φ b q k o (goesOn k m g r)
   unfolding goesOn
   out-goes m g r f h =
       out-where (λ o. elim (eqb (markAt k o) m) [ true ↦ g o | false ↦ runs o ]) r
       (λ o. mild-either (eqb (markAt k o) m) (g o) (runs o) (f o) (mild-runs o) (elim (eqb (markAt k o) m) [ true ↦ g o | false ↦ runs o ]) refl) h
 
   -- activity k raises, and is t
-  out-raises : k ≡ t → placeOf p t ≡ q → Out p t b q k o (raises k o)
+  out-raises : k ≡ t → placeOf p t ≡ q → Out p t φ b q k o (raises k o)
   out-raises e l =
-      subst (λ (z : ℕ). Out p t b q k o (record { result = raising; order = marked k idle o; log = raised z ∷ [] })) (sym e)
+      subst (λ (z : ℕ). Out p t φ b q k o (record { result = raising; order = marked k idle o; log = raised z ∷ [] })) (sym e)
       (record { comes = (raise-here l, record { marks = λ i x. getD-set-other (o .marks) k i idle 0 (omega arith); rooted = refl }, λ x. (refl, l)) })
 
   -- an expression that faults, or the step itself
-  out-or : k ≡ t → placeOf p t ≡ q → (g : ℕ → Outcome) (v : Value) → ((n : ℕ) → Mild (g n)) → Out p t b q k o (orRaises k o g v)
+  out-or : k ≡ t → placeOf p t ≡ q → (g : ℕ → Outcome) (v : Value) → ((n : ℕ) → Mild (g n)) → Out p t φ b q k o (orRaises k o g v)
   out-or e l g fault m = out-raises e l
   out-or e l g (value n) m = out-mild (g n) (m n)
 
   -- the step of an activity other than a scope
-  out-itself : (own : Own) (within : Acts) → isScope own ≡ false → k ≡ t → placeOf p t ≡ q → Out p t b q k o (itself own within k o)
+  out-itself : (own : Own) (within : Acts) (q₀ : ℕ) → isScope own ≡ false → k ≡ t → placeOf p t ≡ q → Out p t φ b q k o (itself own within q₀ k o)
   unfolding itself kind only isGrave
-  out-itself empty within s e l = out-mild (runs o) (mild-runs o)
-  out-itself (send x op vs) within s e l = decide (allBound o vs) (λ d. rw d (out-mild (finishes k o) (mild-finishes k o))) (λ d. rw d (out-raises e l))
-  out-itself (receive x op vs) within s e l = out-mild (finishes k o) (mild-finishes k o)
-  out-itself (setting v x) within s e l = out-or e l (λ n. finishes k (binding v n o)) (evaluate x o) (λ n. mild-finishes k (binding v n o))
-  out-itself raise within s e l = out-raises e l
-  out-itself leave within s e l = record { comes = shape-calm refl }
-  out-itself (choose x) within s e l =
+  out-itself empty within q₀ s e l = out-mild (runs o) (mild-runs o)
+  out-itself (send x op vs) within q₀ s e l = decide (allBound o vs) (λ d. rw d (out-mild (finishes k o) (mild-finishes k o))) (λ d. rw d (out-raises e l))
+  out-itself (receive x op vs) within q₀ s e l = out-mild (finishes k o) (mild-finishes k o)
+  out-itself (setting v x) within q₀ s e l = out-or e l (λ n. finishes k (binding v n o)) (evaluate x o) (λ n. mild-finishes k (binding v n o))
+  out-itself raise within q₀ s e l = out-raises e l
+  out-itself leave within q₀ s e l = record { comes = shape-calm refl }
+  out-itself (choose x) within q₀ s e l =
       out-or e l (λ n. enters k o (beginPart (cond (isTrue n) 0 1) within (k + 1) (marked k inside o .marks))) (evaluate x o)
       (λ n. mild-enters k o (beginPart (cond (isTrue n) 0 1) within (k + 1) (marked k inside o .marks)) (part-silent isGrave graves-aside (cond (isTrue n) 0 1) within (k + 1) (marked k inside o .marks)))
-  out-itself (repeat x) within s e l =
+  out-itself (repeat x) within q₀ s e l =
       out-or e l (λ n. elim (isTrue n) [ true ↦ repeats k within o | false ↦ finishes k o ]) (evaluate x o)
       (λ n. mild-either (isTrue n) (repeats k within o) (finishes k o) (mild-repeats k within o) (mild-finishes k o) (elim (isTrue n) [ true ↦ repeats k within o | false ↦ finishes k o ]) refl)
-  out-itself sequence within s e l = out-mild (runs o) (mild-runs o)
-  out-itself flow within s e l = out-mild (runs o) (mild-runs o)
-  out-itself pick within s e l = out-mild (runs o) (mild-runs o)
-  out-itself scope within s e l = absurd (false≢true (sym s))
-  out-itself (arm x op vs) within s e l =
+  out-itself sequence within q₀ s e l = out-mild (runs o) (mild-runs o)
+  out-itself flow within q₀ s e l = out-mild (runs o) (mild-runs o)
+  out-itself pick within q₀ s e l = out-mild (runs o) (mild-runs o)
+  out-itself (scope v) within q₀ s e l = absurd (false≢true (sym s))
+  out-itself (arm x op vs) within q₀ s e l =
       out-mild (begunIn o (beginPart 0 within (k + 1) (o .marks))) (mild-begun o (beginPart 0 within (k + 1) (o .marks)) (part-silent isGrave graves-aside 0 within (k + 1) (o .marks)))
 
   -- a raise in its place
-  out-performs : (actor : Actor) (own : Own) (within : Acts) → isScope own ≡ false → k ≡ t → placeOf p t ≡ q → Out p t b q k o (performs actor own within k o)
+  out-performs : (actor : Actor) (own : Own) (within : Acts) (q₀ : ℕ) → isScope own ≡ false → k ≡ t → placeOf p t ≡ q → Out p t φ b q k o (performs actor own within q₀ k o)
   unfolding performs
-  out-performs actor own within s e l = go (replaces actor (kind own))
+  out-performs actor own within q₀ s e l = go (replaces actor (kind own))
     where
-      go : (v : Bool) → Out p t b q k o (elim v [ true ↦ raises k o | false ↦ itself own within k o ])
+      go : (v : Bool) → Out p t φ b q k o (elim v [ true ↦ raises k o | false ↦ itself own within q₀ k o ])
       go true = out-raises e l
-      go false = out-itself own within s e l
+      go false = out-itself own within q₀ s e l
 
   -- what it makes of a step within it
-  out-combines : (own : Own) (within : Acts) (r : Outcome) → isScope own ≡ false → Out p t b q k o r → Out p t b q k o (combines own within k t r)
+  out-combines : (own : Own) (within : Acts) (r : Outcome) → isScope own ≡ false → Out p t φ b q k o r → Out p t φ b q k o (combines own within k t r)
   unfolding combines kind
   out-combines empty within r s h = h
   out-combines (send x op vs) within r s h = h
@@ -296,7 +296,7 @@ module _ (p : Plan) (t : ℕ) (b : Bool) (q : Place) (k : ℕ) (o : Order) where
   out-combines sequence within r s h = out-goes active (λ o. whereOver (finishes k) (begunIn o (beginAfter within (k + 1) t (o .marks)))) r (mild-follows within k t) h
   out-combines flow within r s h = out-goes active (joins k within) r (mild-joins k within) h
   out-combines pick within r s h = out-goes inside (finishes k) r (mild-finishes k) h
-  out-combines scope within r s h = absurd (false≢true (sym s))
+  out-combines (scope v) within r s h = absurd (false≢true (sym s))
   out-combines (arm x op vs) within r s h = h
 
 -- What a scope makes of a step in it. Its name stands before the number of its body.
@@ -310,20 +310,42 @@ mark-below root c o o′ h g = g .rooted
 mark-below (inner k) c o o′ h g = g .marks k h
 
 -- a raise in its parts ends it
-data Ended (p : Plan) (t : ℕ) (s : Scope) (m : Name) (o : Order) : List Event → Order → Type 0 where
-  ended-so : {o₁ : Order} → Handler p t (s .name) m → isOpen (markOf (s .name) o) ≡ false → Below (s .bodyAt) o o₁
-      → Ended p t s m o (raised t ∷ ended (s .name) ∷ []) (breaks s o₁ .order)
+data Ended (p : Plan) (t : ℕ) (φ : Name → Bool) (s : Scope) (m : Name) (o : Order) : List Event → Order → Type 0 where
+  ended-so : {o₁ : Order} → Handler p t φ (s .name) m → isOpen (markOf (s .name) o) ≡ false → Below (s .bodyAt) o o₁
+      → Ended p t φ s m o (raised t ∷ ended (s .name) ∷ []) (breaks s o₁ .order)
 
-abbrev ScopeAs : Plan → (t : ℕ) → Scope → Name → Order → List Event → Order → Result → Type 0
-ScopeAs p t s m o l o′ running = Shape p t o l
-ScopeAs p t s m o l o′ over = Shape p t o l
-ScopeAs p t s m o l o′ raising = Ended p t s m o l o′
-ScopeAs p t s m o l o′ leaving = Shape p t o l
-ScopeAs p t s m o l o′ undone = ⊥
-ScopeAs p t s m o l o′ undoRaising = ⊥
+abbrev ScopeAs : Plan → (t : ℕ) → (φ : Name → Bool) → Scope → Name → Order → List Event → Order → Result → Type 0
+ScopeAs p t φ s m o l o′ running = Shape p t φ o l
+ScopeAs p t φ s m o l o′ over = Shape p t φ o l
+ScopeAs p t φ s m o l o′ raising = Ended p t φ s m o l o′
+ScopeAs p t φ s m o l o′ leaving = Shape p t φ o l
+ScopeAs p t φ s m o l o′ undone = ⊥
+ScopeAs p t φ s m o l o′ undoRaising = ⊥
 
-record ScopeOut (p : Plan) (t : ℕ) (s : Scope) (m : Name) (o : Order) (r : Outcome) : Type 0 where
-  comes : ScopeAs p t s m o (r .log) (r .order) (r .result)
+record ScopeOut (p : Plan) (t : ℕ) (φ : Name → Bool) (s : Scope) (m : Name) (o : Order) (r : Outcome) : Type 0 where
+  comes : ScopeAs p t φ s m o (r .log) (r .order) (r .result)
+
+-- a fault came out of an undo part
+abbrev isOut : Result → Bool
+isOut running = false
+isOut over = false
+isOut raising = false
+isOut leaving = false
+isOut undone = false
+isOut undoRaising = true
+
+-- where it is run: past a scope that is not left, where there is none beyond, and where the scope is left
+run-past : (φ : Name → Bool) (n x : Name) (xs : List Name) (c : Name) → φ n ≡ false → runAt φ n (x ∷ xs) c ≡ runAt φ x xs c
+unfolding runAt
+run-past φ n x xs c e = rw e
+
+run-none : (φ : Name → Bool) (n c : Name) → runAt φ n [] c ≡ undoOf n [] c
+unfolding runAt
+run-none φ n c = refl
+
+run-here : (φ : Name → Bool) (n x : Name) (xs : List Name) (c : Name) → φ n ≡ true → runAt φ n (x ∷ xs) c ≡ undoOf n (x ∷ xs) c
+unfolding runAt
+run-here φ n x xs c e = rw e
 
 -- a mark that is one of these is not that of an open scope
 undoes-not-open : (m : ℕ) → (eqb m undoing || eqb m withdrawing) ≡ true → isOpen m ≡ false
@@ -333,11 +355,11 @@ undoes-not-open m e =
 heals-not-open : (m : ℕ) → eqb m handling ≡ true → isOpen m ≡ false
 heals-not-open m e = rw (eqb-true m handling e)
 
-module _ (p : Plan) (t : ℕ) (s : Scope) (m : Name) (o : Order) (h : Scoped p s) where
-  scope-mild : (l : List Event) (r : Outcome) → Shape p t o l → Mild r → ScopeOut p t s m o (after l r)
+module _ (p : Plan) (t : ℕ) (φ : Name → Bool) (s : Scope) (m : Name) (o : Order) (h : Scoped p s) where
+  scope-mild : (l : List Event) (r : Outcome) → Shape p t φ o l → Mild r → ScopeOut p t φ s m o (after l r)
   scope-mild l r g e = record { comes = go (r .result) (e .goes) }
     where
-      go : (x : Result) → isMild x ≡ true → ScopeAs p t s m o (l ++ r .log) (r .order) x
+      go : (x : Result) → isMild x ≡ true → ScopeAs p t φ s m o (l ++ r .log) (r .order) x
       go running d = shape-append (r .log) g (e .calm)
       go over d = shape-append (r .log) g (e .calm)
       go raising d = absurd (false≢true d)
@@ -346,10 +368,10 @@ module _ (p : Plan) (t : ℕ) (s : Scope) (m : Name) (o : Order) (h : Scoped p s
       go undoRaising d = absurd (false≢true d)
 
   -- the result of what is mild
-  scope-result : (l : List Event) (r : Outcome) → isMild (r .result) ≡ true → Shape p t o l → ScopeOut p t s m o (record { result = r .result; order = r .order; log = l })
+  scope-result : (l : List Event) (r : Outcome) → isMild (r .result) ≡ true → Shape p t φ o l → ScopeOut p t φ s m o (record { result = r .result; order = r .order; log = l })
   scope-result l r d g = record { comes = go (r .result) d }
     where
-      go : (x : Result) → isMild x ≡ true → ScopeAs p t s m o l (r .order) x
+      go : (x : Result) → isMild x ≡ true → ScopeAs p t φ s m o l (r .order) x
       go running d = g
       go over d = g
       go raising d = absurd (false≢true d)
@@ -358,77 +380,78 @@ module _ (p : Plan) (t : ℕ) (s : Scope) (m : Name) (o : Order) (h : Scoped p s
       go undoRaising d = absurd (false≢true d)
 
   -- the scope faults
-  faults-out : (l : List Event) (o₁ : Order) → isOpen (markOf (s .name) o) ≡ true → Raise p t (bodyOf (s .name) m) l → ScopeOut p t s m o (after l (faults s o₁))
+  faults-out : {ns : List Name} {c : Name} (l : List Event) (o₁ : Order) → isOpen (markOf (s .name) o) ≡ true → Raise p t φ (bodyOf (s .name) ns c) l → ScopeOut p t φ s m o (after l (faults s o₁))
   unfolding faults
-  faults-out l o₁ n g =
+  faults-out {ns} {c} l o₁ n g =
       let r = stop (s .body) (s .bodyAt) (marking (s .name) faulty o₁) in
       let e = mild-turns true s (r .order) in
       scope-result (l ++ ((faulted (s .name) ∷ r .log) ++ turns true s (r .order) .log)) (turns true s (r .order)) (e .goes)
       (go l g (r .log ++ turns true s (r .order) .log)
       (silent-append isGrave graves-aside (r .log) (turns true s (r .order) .log) (stop-silent isGrave graves-aside (s .body) (s .bodyAt) (marking (s .name) faulty o₁)) (e .calm)))
     where
-      go : (l : List Event) → Raise p t (bodyOf (s .name) m) l → (k : List Event) → Calm k → Shape p t o (l ++ (faulted (s .name) ∷ k))
-      go _ (raise-here x) k c = shape-fault x c
-      go _ (raise-out x) k c = shape-end-fault x (h .name) n c
+      go : (l : List Event) → Raise p t φ (bodyOf (s .name) ns c) l → (k : List Event) → Calm k → Shape p t φ o (l ++ (faulted (s .name) ∷ k))
+      go _ (raise-here x) k e = shape-fault x e
+      go _ (raise-out x) k e = shape-end-fault x (h .name) n e
 
   -- it does not, as it is not open
-  looks-out : (l : List Event) (o₁ : Order) → isOpen (markOf (s .name) o) ≡ false → Raise p t (bodyOf (s .name) m) l → ScopeOut p t s m o (after l (looksAgain s o₁))
-  looks-out l o₁ n g =
+  looks-out : {ns : List Name} {c : Name} (l : List Event) (o₁ : Order) → isOpen (markOf (s .name) o) ≡ false → Raise p t φ (bodyOf (s .name) ns c) l → ScopeOut p t φ s m o (after l (looksAgain s o₁))
+  looks-out {ns} {c} l o₁ n g =
       let e = mild-looks s o₁ in
       scope-result (l ++ looksAgain s o₁ .log) (looksAgain s o₁) (e .goes) (go l g (looksAgain s o₁ .log) (e .calm))
     where
-      go : (l : List Event) → Raise p t (bodyOf (s .name) m) l → (k : List Event) → Calm k → Shape p t o (l ++ k)
-      go _ (raise-here x) k c = shape-lost x (h .name) n c
-      go _ (raise-out x) k c = shape-end x (h .name) n c
+      go : (l : List Event) → Raise p t φ (bodyOf (s .name) ns c) l → (k : List Event) → Calm k → Shape p t φ o (l ++ k)
+      go _ (raise-here x) k e = shape-lost (ap (seen φ) x) (h .name) n e
+      go _ (raise-out x) k e = shape-end x (h .name) n e
 
   -- a step in its body
-  body-out : (b : Bool) (r : Outcome) → Out p t b (bodyOf (s .name) m) (s .bodyAt) o r → ScopeOut p t s m o (fromBody s r)
+  body-out : {ns : List Name} {c₀ : Name} (b : Bool) (r : Outcome) → firstOf ns c₀ ≡ m → (isOut (r .result) ≡ true → Below (s .bodyAt) o (r .order) → runAt φ (s .name) ns c₀ ≡ undoOf (s .name) ns c₀)
+      → Out p t φ b (bodyOf (s .name) ns c₀) (s .bodyAt) o r → ScopeOut p t φ s m o (fromBody s r)
   unfolding fromBody bodyRaised undoRaised breaks only
-  body-out b r w = go (r .result) (w .comes)
+  body-out {ns} {c₀} b r y here w = go (r .result) refl (w .comes)
     where
       o₁ : Order
       o₁ = r .order
 
-      so : (b : Bool) → isOpen (markOf (s .name) o₁) ≡ b → Raise p t (bodyOf (s .name) m) (r .log) → Below (s .bodyAt) o o₁
-          → ScopeOut p t s m o (after (r .log) (elim b [ true ↦ faults s o₁ | false ↦ looksAgain s o₁ ]))
+      so : (b : Bool) → isOpen (markOf (s .name) o₁) ≡ b → Raise p t φ (bodyOf (s .name) ns c₀) (r .log) → Below (s .bodyAt) o o₁
+          → ScopeOut p t φ s m o (after (r .log) (elim b [ true ↦ faults s o₁ | false ↦ looksAgain s o₁ ]))
       so true e g k = faults-out (r .log) o₁ (ap isOpen (sym (mark-below (s .name) (s .bodyAt) o o₁ (h .before) k)) ∙ e) g
       so false e g k = looks-out (r .log) o₁ (ap isOpen (sym (mark-below (s .name) (s .bodyAt) o o₁ (h .before) k)) ∙ e) g
 
-      un : (b : Bool) (l : List Event) → (eqb (markOf (s .name) o₁) undoing || eqb (markOf (s .name) o₁) withdrawing) ≡ b → l ≡ raised t ∷ [] → placeOf p t ≡ undoOf (s .name) m
-          → Below (s .bodyAt) o o₁ → ScopeOut p t s m o (after l (elim b [ true ↦ breaks s o₁ | false ↦ runs o₁ ]))
+      un : (b : Bool) (l : List Event) → (eqb (markOf (s .name) o₁) undoing || eqb (markOf (s .name) o₁) withdrawing) ≡ b → l ≡ raised t ∷ [] → seen φ (placeOf p t) ≡ undoOf (s .name) ns c₀
+          → Below (s .bodyAt) o o₁ → ScopeOut p t φ s m o (after l (elim b [ true ↦ breaks s o₁ | false ↦ runs o₁ ]))
       un true l e d g k =
-          subst (λ (z : List Event). ScopeOut p t s m o (after z (breaks s o₁))) (sym d)
-          (record { comes = ended-so (in-undo g) (ap isOpen (sym (mark-below (s .name) (s .bodyAt) o o₁ (h .before) k)) ∙ undoes-not-open (markOf (s .name) o₁) e) k })
+          subst (λ (z : List Event). ScopeOut p t φ s m o (after z (breaks s o₁))) (sym d)
+          (record { comes = ended-so (in-undo g y) (ap isOpen (sym (mark-below (s .name) (s .bodyAt) o o₁ (h .before) k)) ∙ undoes-not-open (markOf (s .name) o₁) e) k })
       un false l e d g k =
-          subst (λ (z : List Event). ScopeOut p t s m o (after z (runs o₁))) (sym d)
+          subst (λ (z : List Event). ScopeOut p t φ s m o (after z (runs o₁))) (sym d)
           (record { comes = shape-lost g (h .name) (ap (λ (x : ℕ). eqb x undoing || eqb x withdrawing) (sym (mark-below (s .name) (s .bodyAt) o o₁ (h .before) k)) ∙ e) refl })
 
-      go : (x : Result) → OutAs p t b (bodyOf (s .name) m) (s .bodyAt) o (r .log) o₁ x → ScopeOut p t s m o (fromBody s (record { result = x; order = o₁; log = r .log }))
-      go running c = scope-mild (r .log) (looksAgain s o₁) c (mild-looks s o₁)
-      go over c = scope-mild (r .log) (bodyOver s o₁) c (mild-over s o₁)
-      go raising c = so (isOpen (markOf (s .name) o₁)) refl (c .0) (c .1)
-      go leaving c = record { comes = c }
-      go undone c = scope-mild (r .log) (undoOver s o₁) c (mild-undo-over s o₁)
-      go undoRaising c = un (eqb (markOf (s .name) o₁) undoing || eqb (markOf (s .name) o₁) withdrawing) (r .log) refl (c .0) (c .1) (c .2)
+      go : (x : Result) → r .result ≡ x → OutAs p t φ b (bodyOf (s .name) ns c₀) (s .bodyAt) o (r .log) o₁ x → ScopeOut p t φ s m o (fromBody s (record { result = x; order = o₁; log = r .log }))
+      go running z c = scope-mild (r .log) (looksAgain s o₁) c (mild-looks s o₁)
+      go over z c = scope-mild (r .log) (bodyOver s o₁) c (mild-over s o₁)
+      go raising z c = so (isOpen (markOf (s .name) o₁)) refl (c .0) (c .1)
+      go leaving z c = record { comes = c }
+      go undone z c = scope-mild (r .log) (undoOver s o₁) c (mild-undo-over s o₁)
+      go undoRaising z c = un (eqb (markOf (s .name) o₁) undoing || eqb (markOf (s .name) o₁) withdrawing) (r .log) refl (c .0) (c .1 ∙ here (ap isOut z) (c .2)) (c .2)
 
   -- a step in its fault part
-  fault-out : (r : Outcome) → s .bodyAt ≤ s .faultAt → Out p t true (faultOf (s .name) m) (s .faultAt) o r → ScopeOut p t s m o (fromFault s r)
+  fault-out : {ns : List Name} {c₀ : Name} (r : Outcome) → firstOf ns c₀ ≡ m → s .bodyAt ≤ s .faultAt → Out p t φ true (faultOf (s .name) ns c₀) (s .faultAt) o r → ScopeOut p t φ s m o (fromFault s r)
   unfolding fromFault partRaised breaks only
-  fault-out r f w = go (r .result) (w .comes)
+  fault-out {ns} {c₀} r y f w = go (r .result) (w .comes)
     where
       o₁ : Order
       o₁ = r .order
 
-      un : (b : Bool) (l : List Event) → eqb (markOf (s .name) o₁) handling ≡ b → l ≡ raised t ∷ [] → placeOf p t ≡ faultOf (s .name) m
-          → Below (s .bodyAt) o o₁ → ScopeOut p t s m o (after l (elim b [ true ↦ breaks s o₁ | false ↦ runs o₁ ]))
+      un : (b : Bool) (l : List Event) → eqb (markOf (s .name) o₁) handling ≡ b → l ≡ raised t ∷ [] → placeOf p t ≡ faultOf (s .name) ns c₀
+          → Below (s .bodyAt) o o₁ → ScopeOut p t φ s m o (after l (elim b [ true ↦ breaks s o₁ | false ↦ runs o₁ ]))
       un true l e d g k =
-          subst (λ (z : List Event). ScopeOut p t s m o (after z (breaks s o₁))) (sym d)
-          (record { comes = ended-so (in-fault g) (ap isOpen (sym (mark-below (s .name) (s .bodyAt) o o₁ (h .before) k)) ∙ heals-not-open (markOf (s .name) o₁) e) k })
+          subst (λ (z : List Event). ScopeOut p t φ s m o (after z (breaks s o₁))) (sym d)
+          (record { comes = ended-so (in-fault g y) (ap isOpen (sym (mark-below (s .name) (s .bodyAt) o o₁ (h .before) k)) ∙ heals-not-open (markOf (s .name) o₁) e) k })
       un false l e d g k =
-          subst (λ (z : List Event). ScopeOut p t s m o (after z (runs o₁))) (sym d)
-          (record { comes = shape-lost g (h .name) (ap (λ (x : ℕ). eqb x handling) (sym (mark-below (s .name) (s .bodyAt) o o₁ (h .before) k)) ∙ e) refl })
+          subst (λ (z : List Event). ScopeOut p t φ s m o (after z (runs o₁))) (sym d)
+          (record { comes = shape-lost (ap (seen φ) g) (h .name) (ap (λ (x : ℕ). eqb x handling) (sym (mark-below (s .name) (s .bodyAt) o o₁ (h .before) k)) ∙ e) refl })
 
-      go : (x : Result) → OutAs p t true (faultOf (s .name) m) (s .faultAt) o (r .log) o₁ x → ScopeOut p t s m o (fromFault s (record { result = x; order = o₁; log = r .log }))
+      go : (x : Result) → OutAs p t φ true (faultOf (s .name) ns c₀) (s .faultAt) o (r .log) o₁ x → ScopeOut p t φ s m o (fromFault s (record { result = x; order = o₁; log = r .log }))
       go running c = record { comes = c }
       go over c = scope-mild (r .log) (partOver s o₁) c (mild-part-over s o₁)
       go raising c =
@@ -441,13 +464,13 @@ module _ (p : Plan) (t : ℕ) (s : Scope) (m : Name) (o : Order) (h : Scoped p s
 -- Up the tree.
 
 -- the same in a wider stretch, and with no scope only where there was none
-out-wider : (p : Plan) (t : ℕ) (b b′ : Bool) (q : Place) (k k′ : ℕ) (o : Order) (r : Outcome) → k ≤ k′ → (b ≡ true → b′ ≡ true) → Out p t b′ q k′ o r → Out p t b q k o r
-out-wider p t b b′ q k k′ o r h f w = record { comes = go (r .result) (w .comes) }
+out-wider : (p : Plan) (t : ℕ) (φ : Name → Bool) (b b′ : Bool) (q : Place) (k k′ : ℕ) (o : Order) (r : Outcome) → k ≤ k′ → (b ≡ true → b′ ≡ true) → Out p t φ b′ q k′ o r → Out p t φ b q k o r
+out-wider p t φ b b′ q k k′ o r h f w = record { comes = go (r .result) (w .comes) }
   where
     below : Below k′ o (r .order) → Below k o (r .order)
     below g = record { marks = λ i x. g .marks i (omega arith); rooted = g .rooted }
 
-    go : (x : Result) → OutAs p t b′ q k′ o (r .log) (r .order) x → OutAs p t b q k o (r .log) (r .order) x
+    go : (x : Result) → OutAs p t φ b′ q k′ o (r .log) (r .order) x → OutAs p t φ b q k o (r .log) (r .order) x
     go running c = c
     go over c = c
     go raising c = (c .0, below (c .1), λ e. c .2 (f e))
@@ -461,100 +484,115 @@ mark-plain p root k v o e i = refl
 mark-plain p (inner j) k v o e i =
     getD-set-other (o .marks) k j v 0 (λ d. false≢true (sym e ∙ subst (λ (z : ℕ). isName p (inner z) ≡ true) d i))
 
-shape-marked : (p : Plan) (t k v : ℕ) (o : Order) {l : List Event} → isName p (inner k) ≡ false → Shape p t (marked k v o) l → Shape p t o l
-shape-marked p t k v o e (shape-calm c) = shape-calm c
-shape-marked p t k v o e (shape-fault x c) = shape-fault x c
-shape-marked p t k v o e (shape-end-fault {n} {m} x y z c) = shape-end-fault x y (ap isOpen (sym (mark-plain p m k v o e y)) ∙ z) c
-shape-marked p t k v o e (shape-end {m = m} x y z c) = shape-end x y (ap isOpen (sym (mark-plain p m k v o e y)) ∙ z) c
-shape-marked p t k v o e (shape-lost {q} x y z c) = shape-lost x y (fits-marked q y ∙ z) c
+shape-marked : (p : Plan) (t : ℕ) (φ : Name → Bool) (k v : ℕ) (o : Order) {l : List Event} → isName p (inner k) ≡ false → Shape p t φ (marked k v o) l → Shape p t φ o l
+shape-marked p t φ k v o e (shape-calm c) = shape-calm c
+shape-marked p t φ k v o e (shape-fault x c) = shape-fault x c
+shape-marked p t φ k v o e (shape-end-fault {n} {m} x y z c) = shape-end-fault x y (ap isOpen (sym (mark-plain p m k v o e y)) ∙ z) c
+shape-marked p t φ k v o e (shape-end {m = m} x y z c) = shape-end x y (ap isOpen (sym (mark-plain p m k v o e y)) ∙ z) c
+shape-marked p t φ k v o e (shape-lost {q} x y z c) = shape-lost x y (fits-marked q y ∙ z) c
   where
     fits-marked : (q : Place) → isName p (nameOf q) ≡ true → fits q o ≡ fits q (marked k v o)
-    fits-marked (bodyOf n m) i = ap isOpen (sym (mark-plain p n k v o e i))
-    fits-marked (faultOf n m) i = ap (λ (x : ℕ). eqb x handling) (sym (mark-plain p n k v o e i))
-    fits-marked (undoOf n m) i = ap (λ (x : ℕ). eqb x undoing || eqb x withdrawing) (sym (mark-plain p n k v o e i))
+    fits-marked (bodyOf n ns m) i = ap isOpen (sym (mark-plain p n k v o e i))
+    fits-marked (faultOf n ns m) i = ap (λ (x : ℕ). eqb x handling) (sym (mark-plain p n k v o e i))
+    fits-marked (undoOf n ns m) i = ap (λ (x : ℕ). eqb x undoing || eqb x withdrawing) (sym (mark-plain p n k v o e i))
 
-out-marked : (p : Plan) (t : ℕ) (b : Bool) (q : Place) (k v : ℕ) (o : Order) (r : Outcome) → isName p (inner k) ≡ false → Out p t b q k (marked k v o) r → Out p t b q k o r
-out-marked p t b q k v o r e w = record { comes = go (r .result) (w .comes) }
+out-marked : (p : Plan) (t : ℕ) (φ : Name → Bool) (b : Bool) (q : Place) (k v : ℕ) (o : Order) (r : Outcome) → isName p (inner k) ≡ false → Out p t φ b q k (marked k v o) r → Out p t φ b q k o r
+out-marked p t φ b q k v o r e w = record { comes = go (r .result) (w .comes) }
   where
     below : Below k (marked k v o) (r .order) → Below k o (r .order)
     below g = record { marks = λ i x. g .marks i x ∙ getD-set-other (o .marks) k i v 0 (omega arith); rooted = g .rooted }
 
-    go : (x : Result) → OutAs p t b q k (marked k v o) (r .log) (r .order) x → OutAs p t b q k o (r .log) (r .order) x
-    go running c = shape-marked p t k v o e c
-    go over c = shape-marked p t k v o e c
+    go : (x : Result) → OutAs p t φ b q k (marked k v o) (r .log) (r .order) x → OutAs p t φ b q k o (r .log) (r .order) x
+    go running c = shape-marked p t φ k v o e c
+    go over c = shape-marked p t φ k v o e c
     go raising c = (c .0, below (c .1), c .2)
-    go leaving c = shape-marked p t k v o e c
-    go undone c = shape-marked p t k v o e c
+    go leaving c = shape-marked p t φ k v o e c
+    go undone c = shape-marked p t φ k v o e c
     go undoRaising c = (c .0, c .1, below (c .2), c .3)
 
-out-arms : (p : Plan) (t : ℕ) (b : Bool) (q : Place) (own : Own) (within : Acts) (k : ℕ) (o : Order) (r : Outcome) → isName p (inner k) ≡ false
-    → Out p t b q k (arms own within k t o) r → Out p t b q k o r
+out-arms : (p : Plan) (t : ℕ) (φ : Name → Bool) (b : Bool) (q : Place) (own : Own) (within : Acts) (k : ℕ) (o : Order) (r : Outcome) → isName p (inner k) ≡ false
+    → Out p t φ b q k (arms own within k t o) r → Out p t φ b q k o r
 unfolding arms
-out-arms p t b q own within k o r e =
-    decide (eqb (kind own) 10 && isPart within (k + 1) t) (λ d. rw d (out-marked p t b q k inside o r e)) (λ d. rw d (λ w. w))
+out-arms p t φ b q own within k o r e =
+    decide (isPick own && isPart within (k + 1) t) (λ d. rw d (out-marked p t φ b q k inside o r e)) (λ d. rw d (λ w. w))
 
 -- the definitions, by where the step is
-step-here : (actor : Actor) (own : Own) (within : Acts) (k t : ℕ) (o : Order) → eqb k t ≡ true → stepIn actor (act own within) k t o ≡ performs actor own within k o
+step-here : (actor : Actor) (own : Own) (within : Acts) (q₀ k t : ℕ) (o : Order) → eqb k t ≡ true → stepIn actor (act own within) q₀ k t o ≡ performs actor own within q₀ k o
 unfolding stepIn
-step-here actor own within k t o e =
-    first-of (eqb k t) (performs actor own within k o) (combines own within k t (stepAmong actor within (k + 1) t (arms own within k t o))) (stepIn actor (act own within) k t o) refl e
+step-here actor own within q₀ k t o e =
+    first-of (eqb k t) (performs actor own within q₀ k o) (combines own within k t (stepAmong actor within (isScope own) q₀ (k + 1) t (arms own within k t o))) (stepIn actor (act own within) q₀ k t o) refl e
 
-step-within : (actor : Actor) (own : Own) (within : Acts) (k t : ℕ) (o : Order) → eqb k t ≡ false
-    → stepIn actor (act own within) k t o ≡ combines own within k t (stepAmong actor within (k + 1) t (arms own within k t o))
+step-within : (actor : Actor) (own : Own) (within : Acts) (q₀ k t : ℕ) (o : Order) → eqb k t ≡ false
+    → stepIn actor (act own within) q₀ k t o ≡ combines own within k t (stepAmong actor within (isScope own) q₀ (k + 1) t (arms own within k t o))
 unfolding stepIn
-step-within actor own within k t o e =
-    second-of (eqb k t) (performs actor own within k o) (combines own within k t (stepAmong actor within (k + 1) t (arms own within k t o))) (stepIn actor (act own within) k t o) refl e
+step-within actor own within q₀ k t o e =
+    second-of (eqb k t) (performs actor own within q₀ k o) (combines own within k t (stepAmong actor within (isScope own) q₀ (k + 1) t (arms own within k t o))) (stepIn actor (act own within) q₀ k t o) refl e
 
-among-first : (actor : Actor) (a : Act) (l : Acts) (c t : ℕ) (o : Order) → ltb t (c + size a) ≡ true → stepAmong actor (more a l) c t o ≡ stepIn actor a c t o
+among-first : (actor : Actor) (a : Act) (l : Acts) (v : Bool) (q₀ c t : ℕ) (o : Order) → ltb t (c + size a) ≡ true → stepAmong actor (more a l) v q₀ c t o ≡ stepIn actor a (cond v c q₀) c t o
 unfolding stepIn
-among-first actor a l c t o e = first-of (ltb t (c + size a)) (stepIn actor a c t o) (stepAmong actor l (c + size a) t o) (stepAmong actor (more a l) c t o) refl e
+among-first actor a l v q₀ c t o e = first-of (ltb t (c + size a)) (stepIn actor a (cond v c q₀) c t o) (stepAmong actor l v q₀ (c + size a) t o) (stepAmong actor (more a l) v q₀ c t o) refl e
 
-among-later : (actor : Actor) (a : Act) (l : Acts) (c t : ℕ) (o : Order) → ltb t (c + size a) ≡ false → stepAmong actor (more a l) c t o ≡ stepAmong actor l (c + size a) t o
+among-later : (actor : Actor) (a : Act) (l : Acts) (v : Bool) (q₀ c t : ℕ) (o : Order) → ltb t (c + size a) ≡ false → stepAmong actor (more a l) v q₀ c t o ≡ stepAmong actor l v q₀ (c + size a) t o
 unfolding stepIn
-among-later actor a l c t o e = second-of (ltb t (c + size a)) (stepIn actor a c t o) (stepAmong actor l (c + size a) t o) (stepAmong actor (more a l) c t o) refl e
+among-later actor a l v q₀ c t o e = second-of (ltb t (c + size a)) (stepIn actor a (cond v c q₀) c t o) (stepAmong actor l v q₀ (c + size a) t o) (stepAmong actor (more a l) v q₀ c t o) refl e
+
+-- the first of some has the first number
+at-first : (u : Acts) (c : ℕ) → partAt 0 u c ≡ c
+unfolding partAt
+at-first none c = refl
+at-first (more a l) c = refl
+
+-- which scopes are left running, as an order's marks say of the plan's scopes
+abbrev pub Agrees : Plan → (Name → Bool) → Order → Type 0
+Agrees p φ o = (n : Name) → isName p n ≡ true → φ n ≡ not (eqb (markOf n o) idle)
+
+agrees-arms : (p : Plan) (φ : Name → Bool) (own : Own) (within : Acts) (k t : ℕ) (o : Order) → isName p (inner k) ≡ false → Agrees p φ o → Agrees p φ (arms own within k t o)
+unfolding arms
+agrees-arms p φ own within k t o e g n i =
+    decide (isPick own && isPart within (k + 1) t) (λ d. rw d (g n i ∙ ap (λ (x : ℕ). not (eqb x idle)) (sym (mark-plain p n k inside o e i)))) (λ d. rw d (g n i))
 
 -- an activity other than a scope
-part-out : (actor : Actor) (p : Plan) (t : ℕ) (q : Place) (own : Own) (within : Acts) (k : ℕ) (o : Order) → isScope own ≡ false → isName p (inner k) ≡ false
+part-out : (actor : Actor) (p : Plan) (t : ℕ) (φ : Name → Bool) (q : Place) (own : Own) (within : Acts) (q₀ k : ℕ) (o : Order) → isScope own ≡ false → isName p (inner k) ≡ false
     → placeOf p t ≡ placeIn (act own within) k t q
-    → ((o : Order) → placeOf p t ≡ placeAmong within (k + 1) t q → Out p t (bareIn within) q (k + 1) o (stepAmong actor within (k + 1) t o))
-    → Out p t (bare (act own within)) q k o (stepIn actor (act own within) k t o)
+    → Agrees p φ o → ((o : Order) → Agrees p φ o → placeOf p t ≡ placeAmong within (k + 1) t q → Out p t φ (bareIn within) q (k + 1) o (stepAmong actor within (isScope own) q₀ (k + 1) t o))
+    → Out p t φ (bare (act own within)) q k o (stepIn actor (act own within) q₀ k t o)
 unfolding bare
-part-out actor p t q own within k o s n l f =
+part-out actor p t φ q own within q₀ k o s n l g f =
     decide (eqb k t)
-    (λ e. subst (λ (r : Outcome). Out p t (not (isScope own) && bareIn within) q k o r) (sym (step-here actor own within k t o e))
-    (out-performs p t _ q k o actor own within s (eqb-true k t e) (l ∙ place-here own within k t q e)))
-    (λ e. subst (λ (r : Outcome). Out p t (not (isScope own) && bareIn within) q k o r) (sym (step-within actor own within k t o e))
-    (out-combines p t _ q k o own within (stepAmong actor within (k + 1) t (arms own within k t o)) s
-    (out-arms p t _ q own within k o (stepAmong actor within (k + 1) t (arms own within k t o)) n
-    (out-wider p t _ (bareIn within) q k (k + 1) (arms own within k t o) _ (omega arith) (λ d. both-true (not (isScope own)) (bareIn within) d (λ x y. y))
-    (f (arms own within k t o) (l ∙ place-within own within k t q e s))))))
+    (λ e. subst (λ (r : Outcome). Out p t φ (not (isScope own) && bareIn within) q k o r) (sym (step-here actor own within q₀ k t o e))
+    (out-performs p t φ _ q k o actor own within q₀ s (eqb-true k t e) (l ∙ place-here own within k t q e)))
+    (λ e. subst (λ (r : Outcome). Out p t φ (not (isScope own) && bareIn within) q k o r) (sym (step-within actor own within q₀ k t o e))
+    (out-combines p t φ _ q k o own within (stepAmong actor within (isScope own) q₀ (k + 1) t (arms own within k t o)) s
+    (out-arms p t φ _ q own within k o (stepAmong actor within (isScope own) q₀ (k + 1) t (arms own within k t o)) n
+    (out-wider p t φ _ (bareIn within) q k (k + 1) (arms own within k t o) _ (omega arith) (λ d. both-true (not (isScope own)) (bareIn within) d (λ x y. y))
+    (f (arms own within k t o) (agrees-arms p φ own within k t o n g) (l ∙ place-within own within k t q e s))))))
 
 -- a list
-among-out : (actor : Actor) (p : Plan) (t : ℕ) (q : Place) (a : Act) (m : Acts) (c : ℕ) (o : Order) → placeOf p t ≡ placeAmong (more a m) c t q
-    → (placeOf p t ≡ placeIn a c t q → Out p t (bare a) q c o (stepIn actor a c t o))
-    → (placeOf p t ≡ placeAmong m (c + size a) t q → Out p t (bareIn m) q (c + size a) o (stepAmong actor m (c + size a) t o))
-    → Out p t (bareIn (more a m)) q c o (stepAmong actor (more a m) c t o)
+among-out : (actor : Actor) (p : Plan) (t : ℕ) (φ : Name → Bool) (q : Place) (a : Act) (m : Acts) (v : Bool) (q₀ c : ℕ) (o : Order) → placeOf p t ≡ placeAmong (more a m) c t q
+    → (placeOf p t ≡ placeIn a c t q → Out p t φ (bare a) q c o (stepIn actor a (cond v c q₀) c t o))
+    → (placeOf p t ≡ placeAmong m (c + size a) t q → Out p t φ (bareIn m) q (c + size a) o (stepAmong actor m v q₀ (c + size a) t o))
+    → Out p t φ (bareIn (more a m)) q c o (stepAmong actor (more a m) v q₀ c t o)
 unfolding bare
-among-out actor p t q a m c o l f g =
+among-out actor p t φ q a m v q₀ c o l f g =
     decide (ltb t (c + size a))
-    (λ e. subst (λ (r : Outcome). Out p t (bare a && bareIn m) q c o r) (sym (among-first actor a m c t o e))
-    (out-wider p t _ (bare a) q c c o (stepIn actor a c t o) (omega arith) (λ d. both-true (bare a) (bareIn m) d (λ x y. x)) (f (l ∙ place-first a m c t q e))))
-    (λ e. subst (λ (r : Outcome). Out p t (bare a && bareIn m) q c o r) (sym (among-later actor a m c t o e))
-    (out-wider p t _ (bareIn m) q c (c + size a) o (stepAmong actor m (c + size a) t o) (omega arith) (λ d. both-true (bare a) (bareIn m) d (λ x y. y)) (g (l ∙ place-later a m c t q e))))
+    (λ e. subst (λ (r : Outcome). Out p t φ (bare a && bareIn m) q c o r) (sym (among-first actor a m v q₀ c t o e))
+    (out-wider p t φ _ (bare a) q c c o (stepIn actor a (cond v c q₀) c t o) (omega arith) (λ d. both-true (bare a) (bareIn m) d (λ x y. x)) (f (l ∙ place-first a m c t q e))))
+    (λ e. subst (λ (r : Outcome). Out p t φ (bare a && bareIn m) q c o r) (sym (among-later actor a m v q₀ c t o e))
+    (out-wider p t φ _ (bareIn m) q c (c + size a) o (stepAmong actor m v q₀ (c + size a) t o) (omega arith) (λ d. both-true (bare a) (bareIn m) d (λ x y. y)) (g (l ∙ place-later a m c t q e))))
 
 -- A scope in a place.
-module _ (p : Plan) (t : ℕ) (q : Place) (b f u : Act) (k : ℕ) (o : Order) where
+module _ (p : Plan) (t : ℕ) (φ : Name → Bool) (q : Place) (z₀ : Bool) (b f : Act) (u : Acts) (q₀ k : ℕ) (o : Order) where
   -- what its name and its body are
   scoped : isName p (inner k) ≡ true → Scoped p (scopeAt k (trio b f u))
   unfolding part partAt
   scoped n = record { before = omega arith; name = n }
 
   -- it comes to this where it stands
-  scope-as : (r : Outcome) → ScopeOut p t (scopeAt k (trio b f u)) (nameOf q) o r → Out p t false q k o r
+  scope-as : (r : Outcome) → ScopeOut p t φ (scopeAt k (trio b f u)) (nameOf q) o r → Out p t φ false q k o r
   unfolding part partAt breaks forgetting
   scope-as r w = record { comes = go (r .log) (r .order) (r .result) (w .comes) }
     where
-      go : (l : List Event) (o′ : Order) (x : Result) → ScopeAs p t (scopeAt k (trio b f u)) (nameOf q) o l o′ x → OutAs p t false q k o l o′ x
+      go : (l : List Event) (o′ : Order) (x : Result) → ScopeAs p t φ (scopeAt k (trio b f u)) (nameOf q) o l o′ x → OutAs p t φ false q k o l o′ x
       go l o′ running c = c
       go l o′ over c = c
       go _ _ raising (ended-so {o₁} g n d) = (
@@ -569,108 +607,171 @@ module _ (p : Plan) (t : ℕ) (q : Place) (b f u : Act) (k : ℕ) (o : Order) wh
       go l o′ undone c = absurd c
       go l o′ undoRaising c = absurd c
 
-  -- its undo part, which the scope around it runs
-  undo-as : (c : ℕ) (r : Outcome) → k ≤ c → Out p t true (undoOf (nameOf q) (aroundOf q)) c o r → Out p t false q k o (fromUndo r)
+  -- its undo part, which a scope around it runs
+  undo-as : (c : ℕ) (r : Outcome) → k ≤ c → Out p t φ true (undoOf (nameOf q) (beyondOf q) (lastOf q)) c o r → Out p t φ false q k o (fromUndo r)
   unfolding fromUndo
   undo-as c r h w = record { comes = go (r .result) (w .comes) }
     where
-      go : (x : Result) → OutAs p t true (undoOf (nameOf q) (aroundOf q)) c o (r .log) (r .order) x
-          → OutAs p t false q k o (r .log) (r .order) (fromUndo (record { result = x; order = r .order; log = r .log }) .result)
+      go : (x : Result) → OutAs p t φ true (undoOf (nameOf q) (beyondOf q) (lastOf q)) c o (r .log) (r .order) x
+          → OutAs p t φ false q k o (r .log) (r .order) (fromUndo (record { result = x; order = r .order; log = r .log }) .result)
       go running d = d
       go over d = d
-      go raising d = (d .2 refl .0, d .2 refl .1, record { marks = λ i x. d .1 .marks i (omega arith); rooted = d .1 .rooted }, refl)
+      go raising d = (d .2 refl .0, ap (seen φ) (d .2 refl .1), record { marks = λ i x. d .1 .marks i (omega arith); rooted = d .1 .rooted }, refl)
       go leaving d = d
       go undone d = d
       go undoRaising d = absurd (false≢true (sym (d .3)))
 
+  -- what goes through it comes to the same where it stands
+  through-as : (r : Outcome) → goesThrough z₀ k r ≡ true → isName p (inner k) ≡ true → Agrees p φ o → Out p t φ (bare b) (bodyOf (inner k) (beyondIn z₀ q) (lastIn z₀ q)) (k + 1) o r → Out p t φ false q k o r
+  unfolding goesThrough
+  through-as r g n a w = record { comes = go z₀ (r .result) g (w .comes) }
+    where
+      go : (v : Bool) (x : Result) → goesThrough v k (record { result = x; order = r .order; log = r .log }) ≡ true
+          → OutAs p t φ (bare b) (bodyOf (inner k) (beyondIn v q) (lastIn v q)) (k + 1) o (r .log) (r .order) x → OutAs p t φ false q k o (r .log) (r .order) x
+      go true x e c = absurd (false≢true e)
+      go false running e c = absurd (false≢true (sym (and-false (eqb (markAt k (r .order)) idle)) ∙ e))
+      go false over e c = absurd (false≢true (sym (and-false (eqb (markAt k (r .order)) idle)) ∙ e))
+      go false raising e c = absurd (false≢true (sym (and-false (eqb (markAt k (r .order)) idle)) ∙ e))
+      go false leaving e c = absurd (false≢true (sym (and-false (eqb (markAt k (r .order)) idle)) ∙ e))
+      go false undone e c = c
+      go false undoRaising e c =
+          let i : getD (o .marks) k 0 ≡ idle = sym (c .2 .marks k (omega arith)) ∙ eqb-true (markAt k (r .order)) idle (both-true (eqb (markAt k (r .order)) idle) true e (λ x y. x)) in
+          let y : φ (inner k) ≡ false = a (inner k) n ∙ rw i in
+          (c .0, c .1 ∙ passed y, record { marks = λ j x. c .2 .marks j (omega arith); rooted = c .2 .rooted }, refl)
+        where
+          passed : φ (inner k) ≡ false → runAt φ (inner k) (nameOf q ∷ beyondOf q) (lastOf q) ≡ runAt φ (nameOf q) (beyondOf q) (lastOf q)
+          passed y = run-past φ (inner k) (nameOf q) (beyondOf q) (lastOf q) y
+
+  -- where it does not, its own scope is the one
+  stays-here : (r : Outcome) → goesThrough z₀ k r ≡ false → isName p (inner k) ≡ true → Agrees p φ o → Below (k + 1) o (r .order) → isOut (r .result) ≡ true
+      → runAt φ (inner k) (beyondIn z₀ q) (lastIn z₀ q) ≡ undoOf (inner k) (beyondIn z₀ q) (lastIn z₀ q)
+  unfolding goesThrough
+  stays-here r g n a d w = go z₀ (r .result) g w
+    where
+      awake : eqb (markAt k (r .order)) idle ≡ false → φ (inner k) ≡ true
+      awake e = a (inner k) n ∙ rw (sym (d .marks k (omega arith)), e)
+
+      go : (v : Bool) (x : Result) → goesThrough v k (record { result = x; order = r .order; log = r .log }) ≡ false → isOut x ≡ true
+          → runAt φ (inner k) (beyondIn v q) (lastIn v q) ≡ undoOf (inner k) (beyondIn v q) (lastIn v q)
+      go true x e i = run-none φ (inner k) (nameOf q)
+      go false running e i = absurd (false≢true i)
+      go false over e i = absurd (false≢true i)
+      go false raising e i = absurd (false≢true i)
+      go false leaving e i = absurd (false≢true i)
+      go false undone e i = absurd (false≢true i)
+      go false undoRaising e i = run-here φ (inner k) (nameOf q) (beyondOf q) (lastOf q) (awake (sym (and-true (eqb (markAt k (r .order)) idle)) ∙ e))
+
   -- in which part the step is
-  in-body : (r : Outcome) → ltb t (k + 1 + size b) ≡ true → inScope k t (trio b f u) r ≡ fromBody (scopeAt k (trio b f u)) r
+  in-body : (r : Outcome) (v : Bool) → ltb t (k + 1 + size b) ≡ true → goesThrough z₀ k r ≡ v → inScope z₀ k t (trio b f u) r ≡ elim v [ true ↦ r | false ↦ fromBody (scopeAt k (trio b f u)) r ]
   unfolding inScope part partAt
-  in-body r d =
-      first-of (ltb t (k + 1 + size b)) (fromBody (scopeAt k (trio b f u)) r)
-      (elim (ltb t (k + 1 + size b + size f)) [ true ↦ fromFault (scopeAt k (trio b f u)) r | false ↦ fromUndo r ]) (inScope k t (trio b f u) r) refl d
+  in-body r v d e =
+      first-of (ltb t (k + 1 + size b)) (elim (goesThrough z₀ k r) [ true ↦ r | false ↦ fromBody (scopeAt k (trio b f u)) r ])
+      (elim (ltb t (partAt 0 u (k + 1 + size b + size f))) [ true ↦ fromFault (scopeAt k (trio b f u)) r | false ↦ fromUndo r ]) (inScope z₀ k t (trio b f u) r) refl d
+      ∙ ap (λ (z : Bool). elim z as (λ _. Outcome) [ true ↦ r | false ↦ fromBody (scopeAt k (trio b f u)) r ]) e
 
   in-rest : (r : Outcome) (v : Bool) → ltb t (k + 1 + size b) ≡ false → ltb t (k + 1 + size b + size f) ≡ v
-      → inScope k t (trio b f u) r ≡ elim v [ true ↦ fromFault (scopeAt k (trio b f u)) r | false ↦ fromUndo r ]
+      → inScope z₀ k t (trio b f u) r ≡ elim v [ true ↦ fromFault (scopeAt k (trio b f u)) r | false ↦ fromUndo r ]
   unfolding inScope part partAt
   in-rest r v d e =
-      second-of (ltb t (k + 1 + size b)) (fromBody (scopeAt k (trio b f u)) r)
-      (elim (ltb t (k + 1 + size b + size f)) [ true ↦ fromFault (scopeAt k (trio b f u)) r | false ↦ fromUndo r ]) (inScope k t (trio b f u) r) refl d
-      ∙ ap (λ (z : Bool). elim z as (λ _. Outcome) [ true ↦ fromFault (scopeAt k (trio b f u)) r | false ↦ fromUndo r ]) e
+      second-of (ltb t (k + 1 + size b)) (elim (goesThrough z₀ k r) [ true ↦ r | false ↦ fromBody (scopeAt k (trio b f u)) r ])
+      (elim (ltb t (partAt 0 u (k + 1 + size b + size f))) [ true ↦ fromFault (scopeAt k (trio b f u)) r | false ↦ fromUndo r ]) (inScope z₀ k t (trio b f u) r) refl d
+      ∙ ap (λ (z : Bool). elim z as (λ _. Outcome) [ true ↦ fromFault (scopeAt k (trio b f u)) r | false ↦ fromUndo r ]) (ap (ltb t) (at-first u (k + 1 + size b + size f)) ∙ e)
 
-  scope-out : (actor : Actor) → isName p (inner k) ≡ true → bare f ≡ true → bare u ≡ true → placeOf p t ≡ placeIn (act scope (trio b f u)) k t q
-      → (placeOf p t ≡ placeIn b (k + 1) t (bodyOf (inner k) (nameOf q)) → Out p t (bare b) (bodyOf (inner k) (nameOf q)) (k + 1) o (stepIn actor b (k + 1) t o))
-      → (placeOf p t ≡ placeIn f (k + 1 + size b) t (faultOf (inner k) (nameOf q)) → Out p t (bare f) (faultOf (inner k) (nameOf q)) (k + 1 + size b) o (stepIn actor f (k + 1 + size b) t o))
-      → (placeOf p t ≡ placeIn u (k + 1 + size b + size f) t (undoOf (nameOf q) (aroundOf q))
-      → Out p t (bare u) (undoOf (nameOf q) (aroundOf q)) (k + 1 + size b + size f) o (stepIn actor u (k + 1 + size b + size f) t o))
-      → Out p t (bare (act scope (trio b f u))) q k o (stepIn actor (act scope (trio b f u)) k t o)
-  unfolding bare kind itself closing combines arms inScope part partAt only isGrave stepIn
-  scope-out actor n zf zu l ib jf ju =
+  scope-out : (actor : Actor) → isName p (inner k) ≡ true → Agrees p φ o → bare f ≡ true → placeOf p t ≡ placeIn (act (scope z₀) (trio b f u)) k t q
+      → (placeOf p t ≡ placeIn b (k + 1) t (bodyOf (inner k) (beyondIn z₀ q) (lastIn z₀ q)) → Out p t φ (bare b) (bodyOf (inner k) (beyondIn z₀ q) (lastIn z₀ q)) (k + 1) o (stepIn actor b (k + 1) (k + 1) t o))
+      → (placeOf p t ≡ placeIn f (k + 1 + size b) t (faultOf (inner k) (beyondIn z₀ q) (lastIn z₀ q)) → Out p t φ (bare f) (faultOf (inner k) (beyondIn z₀ q) (lastIn z₀ q)) (k + 1 + size b) o (stepIn actor f (k + 1 + size b) (k + 1 + size b) t o))
+      → (placeOf p t ≡ placeParts u (k + 1 + size b + size f) t (undoOf (nameOf q) (beyondOf q) (lastOf q)) (undoOf (nameOf q) (beyondOf q) (lastOf q)) (undoOf (nameOf q) (beyondOf q) (lastOf q))
+      → Out p t φ true (undoOf (nameOf q) (beyondOf q) (lastOf q)) (k + 1 + size b + size f) o (stepAmong actor u true q₀ (k + 1 + size b + size f) t o))
+      → Out p t φ (bare (act (scope z₀) (trio b f u))) q k o (stepIn actor (act (scope z₀) (trio b f u)) q₀ k t o)
+  unfolding bare itself closing combines arms part partAt only isGrave stepIn
+  scope-out actor n a zf l ib jf ju =
       decide (eqb k t)
-      (λ e. subst (λ (r : Outcome). Out p t false q k o r) (sym (step-here actor scope (trio b f u) k t o e ∙ plain-performs actor scope (trio b f u) k o refl)) (out-mild p t false q k o (closing k (scopeAt k (trio b f u)) o) (record { goes = refl; calm = refl })))
-      (λ e. subst (λ (r : Outcome). Out p t false q k o r) (sym (step-within actor scope (trio b f u) k t o e)) (inside-it (l ∙ place-scope (trio b f u) k t q e)))
+      (λ e. subst (λ (r : Outcome). Out p t φ false q k o r) (sym (step-here actor (scope z₀) (trio b f u) q₀ k t o e ∙ scope-performs actor z₀ (trio b f u) q₀ k o)) (out-mild p t φ false q k o (closing z₀ q₀ k (scopeAt k (trio b f u)) o) (record { goes = refl; calm = refl })))
+      (λ e. subst (λ (r : Outcome). Out p t φ false q k o r) (sym (step-within actor (scope z₀) (trio b f u) q₀ k t o e)) (inside-it (l ∙ place-scope z₀ (trio b f u) k t q e)))
     where
       S : Scope
       S = scopeAt k (trio b f u)
 
-      rest : Acts
-      rest = more f (more u none)
+      around-it : firstOf (beyondIn z₀ q) (lastIn z₀ q) ≡ nameOf q
+      around-it = go z₀
+        where
+          go : (v : Bool) → firstOf (beyondIn v q) (lastIn v q) ≡ nameOf q
+          go true = refl
+          go false = refl
 
-      inside-it : placeOf p t ≡ parts (trio b f u) k t q → Out p t false q k o (inScope k t (trio b f u) (stepAmong actor (trio b f u) (k + 1) t o))
+      via : {r r′ : Outcome} → r ≡ r′ → Out p t φ false q k o r′ → Out p t φ false q k o r
+      via e w = subst (λ (r : Outcome). Out p t φ false q k o r) (sym e) w
+
+      r₁ : Outcome
+      r₁ = stepIn actor b (k + 1) (k + 1) t o
+
+      of-body : (v : Bool) → goesThrough z₀ k r₁ ≡ v → Out p t φ (bare b) (bodyOf (inner k) (beyondIn z₀ q) (lastIn z₀ q)) (k + 1) o r₁ → Out p t φ false q k o (elim v [ true ↦ r₁ | false ↦ fromBody S r₁ ])
+      of-body true e w = through-as r₁ e n a w
+      of-body false e w = scope-as (fromBody S r₁) (body-out p t φ S (nameOf q) o (scoped n) (bare b) r₁ around-it (λ i d. stays-here r₁ e n a d i) w)
+
+      inside-it : placeOf p t ≡ parts z₀ (trio b f u) k t q → Out p t φ false q k o (inScope z₀ k t (trio b f u) (stepAmong actor (trio b f u) true q₀ (k + 1) t o))
       inside-it l₁ =
           decide (ltb t (k + 1 + size b))
-          (λ d. via (in-body _ d ∙ ap (fromBody S) (among-first actor b rest (k + 1) t o d))
-          (scope-as (fromBody S (stepIn actor b (k + 1) t o)) (body-out p t S (nameOf q) o (scoped n) (bare b) (stepIn actor b (k + 1) t o) (ib (l₁ ∙ parts-first b rest (k + 1) t _ _ _ d)))))
+          (λ d. via (ap (inScope z₀ k t (trio b f u)) (among-first actor b (more f u) true q₀ (k + 1) t o d) ∙ in-body r₁ (goesThrough z₀ k r₁) d refl)
+          (of-body (goesThrough z₀ k r₁) refl (ib (l₁ ∙ parts-first b (more f u) (k + 1) t _ _ _ d))))
           (λ d. decide (ltb t (k + 1 + size b + size f))
-          (λ v. via (in-rest _ true d v ∙ ap (fromFault S) (among-later actor b rest (k + 1) t o d ∙ among-first actor f (more u none) (k + 1 + size b) t o v))
-          (scope-as (fromFault S (stepIn actor f (k + 1 + size b) t o)) (fault-out p t S (nameOf q) o (scoped n) (stepIn actor f (k + 1 + size b) t o) (omega arith)
-          (subst (λ (z : Bool). Out p t z (faultOf (inner k) (nameOf q)) (k + 1 + size b) o (stepIn actor f (k + 1 + size b) t o)) zf
-          (jf (l₁ ∙ (parts-later b rest (k + 1) t _ _ _ d ∙ parts-first f (more u none) (k + 1 + size b) t _ _ _ v)))))))
-          (λ v. decide (ltb t (k + 1 + size b + size f + size u))
-          (λ w. via (in-rest _ false d v ∙ ap fromUndo (among-later actor b rest (k + 1) t o d ∙ (among-later actor f (more u none) (k + 1 + size b) t o v ∙ among-first actor u none (k + 1 + size b + size f) t o w)))
-          (undo-as (k + 1 + size b + size f) (stepIn actor u (k + 1 + size b + size f) t o) (omega arith)
-          (subst (λ (z : Bool). Out p t z (undoOf (nameOf q) (aroundOf q)) (k + 1 + size b + size f) o (stepIn actor u (k + 1 + size b + size f) t o)) zu
-          (ju (l₁ ∙ (parts-later b rest (k + 1) t _ _ _ d ∙ (parts-later f (more u none) (k + 1 + size b) t _ _ _ v ∙ parts-first u none (k + 1 + size b + size f) t _ _ _ w)))))))
-          (λ w. via (in-rest _ false d v ∙ ap fromUndo (among-later actor b rest (k + 1) t o d ∙ (among-later actor f (more u none) (k + 1 + size b) t o v ∙ among-later actor u none (k + 1 + size b + size f) t o w)))
-          (undo-as (k + 1 + size b + size f) (runs o) (omega arith) (out-mild p t true (undoOf (nameOf q) (aroundOf q)) (k + 1 + size b + size f) o (runs o) (mild-runs o))))))
-        where
-          via : {r r′ : Outcome} → r ≡ r′ → Out p t false q k o r′ → Out p t false q k o r
-          via e w = subst (λ (r : Outcome). Out p t false q k o r) (sym e) w
+          (λ v. via (in-rest _ true d v ∙ ap (fromFault S) (among-later actor b (more f u) true q₀ (k + 1) t o d ∙ among-first actor f u true q₀ (k + 1 + size b) t o v))
+          (scope-as (fromFault S (stepIn actor f (k + 1 + size b) (k + 1 + size b) t o)) (fault-out p t φ S (nameOf q) o (scoped n) (stepIn actor f (k + 1 + size b) (k + 1 + size b) t o) around-it (omega arith)
+          (subst (λ (z : Bool). Out p t φ z (faultOf (inner k) (beyondIn z₀ q) (lastIn z₀ q)) (k + 1 + size b) o (stepIn actor f (k + 1 + size b) (k + 1 + size b) t o)) zf
+          (jf (l₁ ∙ (parts-later b (more f u) (k + 1) t _ _ _ d ∙ parts-first f u (k + 1 + size b) t _ _ _ v)))))))
+          (λ v. via (in-rest _ false d v ∙ ap fromUndo (among-later actor b (more f u) true q₀ (k + 1) t o d ∙ among-later actor f u true q₀ (k + 1 + size b) t o v))
+          (undo-as (k + 1 + size b + size f) (stepAmong actor u true q₀ (k + 1 + size b + size f) t o) (omega arith)
+          (ju (l₁ ∙ (parts-later b (more f u) (k + 1) t _ _ _ d ∙ parts-later f u (k + 1 + size b) t _ _ _ v))))))
 
 -- in an empty list
-nothing-out : (actor : Actor) (p : Plan) (t : ℕ) (q : Place) (c : ℕ) (o : Order) → Out p t (bareIn none) q c o (stepAmong actor none c t o)
+nothing-out : (actor : Actor) (p : Plan) (t : ℕ) (φ : Name → Bool) (b : Bool) (q : Place) (v : Bool) (q₀ c : ℕ) (o : Order) → Out p t φ b q c o (stepAmong actor none v q₀ c t o)
 unfolding stepIn
-nothing-out actor p t q c o = out-mild p t _ q c o (runs o) (mild-runs o)
+nothing-out actor p t φ b q v q₀ c o = out-mild p t φ b q c o (runs o) (mild-runs o)
+
+-- the undo part of a scope
+rest-out : (actor : Actor) (p : Plan) (t : ℕ) (φ : Name → Bool) (q : Place) (a : Act) (q₀ c : ℕ) (o : Order) → bare a ≡ true → placeOf p t ≡ placeParts (more a none) c t q q q
+    → (placeOf p t ≡ placeIn a c t q → Out p t φ (bare a) q c o (stepIn actor a c c t o)) → Out p t φ true q c o (stepAmong actor (more a none) true q₀ c t o)
+rest-out actor p t φ q a q₀ c o z l f =
+    decide (ltb t (c + size a))
+    (λ e. subst (λ (r : Outcome). Out p t φ true q c o r) (sym (among-first actor a none true q₀ c t o e))
+    (subst (λ (y : Bool). Out p t φ y q c o (stepIn actor a c c t o)) z (f (l ∙ parts-first a none c t q q q e))))
+    (λ e. subst (λ (r : Outcome). Out p t φ true q c o r) (sym (among-later actor a none true q₀ c t o e)) (out-wider p t φ true true q c (c + size a) o (stepAmong actor none true q₀ (c + size a) t o) (omega arith) (λ d. d) (nothing-out actor p t φ true q true q₀ (c + size a) o)))
 
 -- Every step in a tree.
 mutual
   unfolding bare
 
-  outs : (actor : Actor) {p : Plan} {x : Place} {a : Act} {k : ℕ} → Sits p x a k → (t : ℕ) (q : Place) (o : Order) → placeOf p t ≡ placeIn a k t q
-      → Out p t (bare a) q k o (stepIn actor a k t o)
-  outs actor {p} (sits-part {own = own} {within = within} {k = k} s g v y l) t q o e = part-out actor p t q own within k o s (y .noScope) e (λ o₁ d. outs-in actor l t q o₁ d)
-  outs actor {p} (sits-scope {b = b} {f = f} {u = u} {k = k} kn v i sb z sf su) t q o e =
-      scope-out p t q b f u k o actor (kn .name) (remedy-bare sf) (remedy-bare su) e
-      (λ d. outs actor sb t (bodyOf (inner k) (nameOf q)) o d) (λ d. outs-remedy actor sf t (faultOf (inner k) (nameOf q)) o d) (λ d. outs-remedy actor su t (undoOf (nameOf q) (aroundOf q)) o d)
+  outs : (actor : Actor) {p : Plan} {x : Place} {a : Act} {k : ℕ} → Sits p x a k → (t : ℕ) (φ : Name → Bool) (q : Place) (q₀ : ℕ) (o : Order) → Agrees p φ o → placeOf p t ≡ placeIn a k t q
+      → Out p t φ (bare a) q k o (stepIn actor a q₀ k t o)
+  outs actor {p} (sits-part {own = own} {within = within} {k = k} s g v y l) t φ q q₀ o c e = part-out actor p t φ q own within q₀ k o s (y .noScope) e c (λ o₁ c₁ d. outs-in actor l t φ q (isScope own) q₀ o₁ c₁ d)
+  outs actor {p} (sits-scope {v = z₀} {b = b} {f = f} {u = u} {k = k} kn v i sb z sf su) t φ q q₀ o c e =
+      scope-out p t φ q z₀ b f u q₀ k o actor (kn .name) c (remedy-bare sf) e
+      (λ d. outs actor sb t φ (bodyOf (inner k) (beyondIn z₀ q) (lastIn z₀ q)) (k + 1) o c d) (λ d. outs-remedy actor sf t φ (faultOf (inner k) (beyondIn z₀ q) (lastIn z₀ q)) (k + 1 + size b) o c d)
+      (λ d. outs-rest actor su t φ (undoOf (nameOf q) (beyondOf q) (lastOf q)) q₀ o c d)
 
-  outs-in : (actor : Actor) {p : Plan} {x : Place} {l : Acts} {c : ℕ} → SitsIn p x l c → (t : ℕ) (q : Place) (o : Order) → placeOf p t ≡ placeAmong l c t q
-      → Out p t (bareIn l) q c o (stepAmong actor l c t o)
-  outs-in actor {p} (sits-none {c = c}) t q o e = nothing-out actor p t q c o
-  outs-in actor {p} (sits-more {a = a} {l = l} {c = c} s y) t q o e = among-out actor p t q a l c o e (λ d. outs actor s t q o d) (λ d. outs-in actor y t q o d)
+  outs-in : (actor : Actor) {p : Plan} {x : Place} {l : Acts} {c : ℕ} → SitsIn p x l c → (t : ℕ) (φ : Name → Bool) (q : Place) (v : Bool) (q₀ : ℕ) (o : Order) → Agrees p φ o → placeOf p t ≡ placeAmong l c t q
+      → Out p t φ (bareIn l) q c o (stepAmong actor l v q₀ c t o)
+  outs-in actor {p} (sits-none {c = c}) t φ q v q₀ o h e = nothing-out actor p t φ (bareIn none) q v q₀ c o
+  outs-in actor {p} (sits-more {a = a} {l = l} {c = c} s y) t φ q v q₀ o h e = among-out actor p t φ q a l v q₀ c o e (λ d. outs actor s t φ q (cond v c q₀) o h d) (λ d. outs-in actor y t φ q v q₀ o h d)
 
-  outs-remedy : (actor : Actor) {p : Plan} {x : Place} {a : Act} {k : ℕ} → Remedy p x a k → (t : ℕ) (q : Place) (o : Order) → placeOf p t ≡ placeIn a k t q
-      → Out p t (bare a) q k o (stepIn actor a k t o)
-  outs-remedy actor {p} (remedy {own = own} {within = within} {k = k} s a g v z l d) t q o e = part-out actor p t q own within k o s z e (λ o₁ v. outs-in actor l t q o₁ v)
+  outs-rest : (actor : Actor) {p : Plan} {z : Bool} {x : Place} {l : Acts} {c : ℕ} → Rest p z x l c → (t : ℕ) (φ : Name → Bool) (q : Place) (q₀ : ℕ) (o : Order) → Agrees p φ o → placeOf p t ≡ placeParts l c t q q q
+      → Out p t φ true q c o (stepAmong actor l true q₀ c t o)
+  outs-rest actor {p} (rest-undo {u = u} {k = c} su) t φ q q₀ o h e = rest-out actor p t φ q u q₀ c o (remedy-bare su) e (λ d. outs-remedy actor su t φ q c o h d)
+  outs-rest actor {p} (rest-none {k = c}) t φ q q₀ o h e = nothing-out actor p t φ true q true q₀ c o
+
+  outs-remedy : (actor : Actor) {p : Plan} {x : Place} {a : Act} {k : ℕ} → Remedy p x a k → (t : ℕ) (φ : Name → Bool) (q : Place) (q₀ : ℕ) (o : Order) → Agrees p φ o → placeOf p t ≡ placeIn a k t q
+      → Out p t φ (bare a) q k o (stepIn actor a q₀ k t o)
+  outs-remedy actor {p} (remedy {own = own} {within = within} {k = k} s a g v z l d) t φ q q₀ o h e = part-out actor p t φ q own within q₀ k o s z e h (λ o₁ h₁ v. outs-in actor l t φ q (isScope own) q₀ o₁ h₁ v)
 
 -- From the root.
-root-out : (actor : Actor) (p : Plan) → Seat p (rootOf p) → (t : ℕ) (o : Order) → ScopeOut p t (rootOf p) root o (stepRoot actor p t o)
+root-out : (actor : Actor) (p : Plan) → Seat p (rootOf p) → (t : ℕ) (φ : Name → Bool) (o : Order) → Agrees p φ o → ScopeOut p t φ (rootOf p) root o (stepRoot actor p t o)
 unfolding stepRoot placeOf
-root-out actor p h t o =
+root-out actor p h t φ o g =
     decide (ltb t (size (p .body)))
-    (λ e. rw (e, stepRoot) (body-out p t (rootOf p) root o w (bare (p .body)) (stepIn actor (p .body) 0 t o) (outs actor (h .body) t (bodyOf root root) o (rw (e, placeOf) refl))))
-    (λ e. rw (e, stepRoot) (fault-out p t (rootOf p) root o w (stepIn actor (p .fault) (size (p .body)) t o) (omega arith)
-    (subst (λ (z : Bool). Out p t z (faultOf root root) (size (p .body)) o (stepIn actor (p .fault) (size (p .body)) t o)) (remedy-bare (h .fault))
-    (outs-remedy actor (h .fault) t (faultOf root root) o (rw (e, placeOf) refl)))))
+    (λ e. rw (e, stepRoot) (body-out p t φ (rootOf p) root o w (bare (p .body)) (stepIn actor (p .body) 0 0 t o) refl (λ i d. run-none φ root root) (outs actor (h .body) t φ (bodyOf root [] root) 0 o g (rw (e, placeOf) refl))))
+    (λ e. rw (e, stepRoot) (fault-out p t φ (rootOf p) root o w (stepIn actor (p .fault) (size (p .body)) (size (p .body)) t o) refl (omega arith)
+    (subst (λ (z : Bool). Out p t φ z (faultOf root [] root) (size (p .body)) o (stepIn actor (p .fault) (size (p .body)) (size (p .body)) t o)) (remedy-bare (h .fault))
+    (outs-remedy actor (h .fault) t φ (faultOf root [] root) (size (p .body)) o g (rw (e, placeOf) refl)))))
   where
     w : Scoped p (rootOf p)
     w = record { before = tt; name = refl }
@@ -684,24 +785,24 @@ isFailed Failed = true
 isFailed Left = false
 
 -- The log of a step of an order, by how the order ends: a raise out of the root and nothing else where it fails, and of its shape where not.
-pub data OrderShape (p : Plan) (t : ℕ) (o : Order) : End → List Event → Type 0 where
-  shaped : {e : End} {l : List Event} → isFailed e ≡ false → Shape p t o l → OrderShape p t o e l
-  out : Handler p t root root → isOpen (markOf root o) ≡ false → OrderShape p t o Failed (raised t ∷ ended root ∷ [])
+pub data OrderShape (p : Plan) (t : ℕ) (φ : Name → Bool) (o : Order) : End → List Event → Type 0 where
+  shaped : {e : End} {l : List Event} → isFailed e ≡ false → Shape p t φ o l → OrderShape p t φ o e l
+  out : Handler p t φ root root → isOpen (markOf root o) ≡ false → OrderShape p t φ o Failed (raised t ∷ ended root ∷ [])
 
-pub order-shape : (actor : Actor) (p : Plan) → Seat p (rootOf p) → (t : ℕ) (o : Order) → OrderShape p t o (acted actor p t o .end) (acted actor p t o .log)
+pub order-shape : (actor : Actor) (p : Plan) → Seat p (rootOf p) → (t : ℕ) (φ : Name → Bool) (o : Order) → Agrees p φ o → OrderShape p t φ o (acted actor p t o .end) (acted actor p t o .log)
 unfolding acted endOf movedTo only isGrave
-order-shape actor p h t o = go (r .log) (r .order) (r .result) (root-out actor p h t o .comes)
+order-shape actor p h t φ o g = go (r .log) (r .order) (r .result) (root-out actor p h t φ o g .comes)
   where
     r : Outcome
     r = stepRoot actor p t o
 
-    well : (l : List Event) (o′ : Order) (b : Bool) → Shape p t o l
-        → OrderShape p t o (movedTo (record { result = running; order = o′; log = l }) (cond b Well None) .end) (movedTo (record { result = running; order = o′; log = l }) (cond b Well None) .log)
+    well : (l : List Event) (o′ : Order) (b : Bool) → Shape p t φ o l
+        → OrderShape p t φ o (movedTo (record { result = running; order = o′; log = l }) (cond b Well None) .end) (movedTo (record { result = running; order = o′; log = l }) (cond b Well None) .log)
     well l o′ true g = shaped refl (shape-append (ended root ∷ []) g refl)
     well l o′ false g = shaped refl g
 
-    go : (l : List Event) (o′ : Order) (x : Result) → ScopeAs p t (rootOf p) root o l o′ x
-        → OrderShape p t o (movedTo (record { result = x; order = o′; log = l }) (endOf (record { result = x; order = o′; log = l })) .end)
+    go : (l : List Event) (o′ : Order) (x : Result) → ScopeAs p t φ (rootOf p) root o l o′ x
+        → OrderShape p t φ o (movedTo (record { result = x; order = o′; log = l }) (endOf (record { result = x; order = o′; log = l })) .end)
         (movedTo (record { result = x; order = o′; log = l }) (endOf (record { result = x; order = o′; log = l })) .log)
     go l o′ running c = well l o′ (eqb (o′ .root) done) c
     go l o′ over c = shaped refl c

@@ -8,7 +8,7 @@ use lib.ListN.{length, getD, set, length-set}
 use lib.Seq.{getD-set-same}
 use lib.Dec.{eqb, ltb, leb}
 use borrow.Author.Tests.{eqb-true, eqb-false, eq-eqb, ltb-true, ltb-false, lt-ltb, le-ltb}
-use Rattle.plan.specs.Tree.{Own, empty, send, receive, set as setting, raise, leave, choose, repeat, sequence, flow, pick, scope, arm, kind, Act, act, Acts, none, more, Plan, size, sizes, count}
+use Rattle.plan.specs.Tree.{Own, empty, send, receive, set as setting, raise, leave, choose, repeat, sequence, flow, pick, scope, arm, kind, Act, act, Acts, none, more, Plan, size, sizes, count, isScope, hasUndo, isPick}
 use Rattle.order.specs.declared.Order.{Order}
 use Rattle.order.specs.State.{Name, root, inner, idle, active, inside, faulty, undoing, handling, halted, withdrawing, done, withMarks, closings, remembering, markAt, marked, markOf, marking}
 use Rattle.order.specs.Event.{Event, began, stopped, faulted, ended}
@@ -16,17 +16,16 @@ use Rattle.order.specs.Lists.{withoutLast}
 use Rattle.order.specs.Begin.{Begun, nothingBegun, throughout, around, itsBeginning, inTurn, sideBySide, begin, beginInTurn, beginAll, beginFirst, beginAfter, part, partAt, beginPart}
 use Rattle.order.specs.declared.Way.{Way as Result}
 use Rattle.order.specs.declared.Way.the-variants.{Running as running, Over as over, Raising as raising, Leaving as leaving, Undone as undone, UndoRaising as undoRaising}
-use Rattle.order.specs.Scope.{Outcome, runs, begunIn, whereOver, Scope, scopeAt, isScope, isOpen, innerRuns, innerRunsIn, beginUndo, beginUndoIn, startUndo, undo, ends, handle, undoes, turns, rememberedFor, untouched, withdraws, stop, stopAll, stopFirst, alsoStopped, faults, breaks, looksAgain, bodyOver, bodyRaised, undoOver, undoRaised, partOver, partRaised}
+use Rattle.order.specs.Scope.{Outcome, runs, begunIn, whereOver, Scope, scopeAt, isOpen, innerRuns, innerRunsIn, isFor, beginUndo, beginUndoFirst, beginUndoIn, startUndo, undo, ends, handle, undoes, turns, rememberedFor, untouched, withdraws, stop, stopAll, stopFirst, alsoStopped, faults, breaks, looksAgain, bodyOver, bodyRaised, undoOver, undoRaised, partOver, partRaised}
 use Rattle.order.specs.Scope as definitions
 use Rattle.undoing.specs.Orderly.{isBeganOf}
 use Rattle.undoing.specs.Begun.{lasts}
 use Rattle.undoing.specs.Entirely.{times}
 use Rattle.undoing.proofs.Parts.{both, neither, decide}
-use Rattle.undoing.proofs.Orders.{isArm}
 use Rattle.undoing.proofs.Truly.{Up, up-other, Arms, needs, Knows, knows, KnowsIn, knows-none, knows-more, Began}
 use Rattle.undoing.proofs.Lasting.{undo-began, Halts, stop-halts, stop-all-halts, stop-first-halts}
 use Rattle.undoing.proofs.Entire.{times-append, times-event, Starts, Ranks, Named, begin-starts, turn-starts, all-starts, first-starts}
-use Rattle.undoing.proofs.Entering.{scope-kind, scope-arms, scope-three, Strict, StrictIn, undo-strict, stop-strict, stop-all-strict}
+use Rattle.undoing.proofs.Entering.{scope-arms, scope-three, scope-two, scope-lasts, Strict, StrictIn, undo-strict, stop-strict, stop-all-strict}
 
 module _ (f : ℕ → ℕ) where
   -- what lasts begins at most once; not at all
@@ -112,9 +111,9 @@ module _ (f : ℕ → ℕ) where
 
   -- by its kind
   own-onto : (own : Own) (within : Acts) (k : ℕ) → f k ≡ kind own → (ms : List ℕ)
-      → (eqb (kind own) 10 ≡ false → (ns : List ℕ) → Onto (beginInTurn within (k + 1) ns) × ((j : ℕ) → j ≤ k → times j (beginInTurn within (k + 1) ns .log) ≡ 0))
-      → (eqb (kind own) 10 ≡ false → (ns : List ℕ) → Onto (beginAll within (k + 1) ns) × ((j : ℕ) → j ≤ k → times j (beginAll within (k + 1) ns .log) ≡ 0))
-      → (eqb (kind own) 10 ≡ false → (ns : List ℕ) → Onto (beginFirst within (k + 1) ns) × ((j : ℕ) → j ≤ k → times j (beginFirst within (k + 1) ns .log) ≡ 0))
+      → (isPick own ≡ false → (ns : List ℕ) → Onto (beginInTurn within (k + 1) ns) × ((j : ℕ) → j ≤ k → times j (beginInTurn within (k + 1) ns .log) ≡ 0))
+      → (isPick own ≡ false → (ns : List ℕ) → Onto (beginAll within (k + 1) ns) × ((j : ℕ) → j ≤ k → times j (beginAll within (k + 1) ns .log) ≡ 0))
+      → (isPick own ≡ false → (ns : List ℕ) → Onto (beginFirst within (k + 1) ns) × ((j : ℕ) → j ≤ k → times j (beginFirst within (k + 1) ns .log) ≡ 0))
       → Onto (begin (act own within) k ms)
   unfolding begin kind lasts times
   own-onto empty within k e ms t a b = onto-around k (nothingBegun ms) true ms (onto-nothing ms) (λ j h. refl) (λ d. (refl, ap lasts e))
@@ -128,7 +127,7 @@ module _ (f : ℕ → ℕ) where
   own-onto sequence within k e ms t a b = let z = t refl (set ms k active) in onto-through k (beginInTurn within (k + 1) (set ms k active)) (ap lasts e) (z .0) (z .1)
   own-onto flow within k e ms t a b = let z = a refl (set ms k active) in onto-through k (beginAll within (k + 1) (set ms k active)) (ap lasts e) (z .0) (z .1)
   own-onto pick within k e ms t a b = onto-waits k _
-  own-onto scope within k e ms t a b = let z = b refl (set ms k active) in onto-scope k (beginFirst within (k + 1) (set ms k active)) (z .0) (z .1)
+  own-onto (scope v) within k e ms t a b = let z = b refl (set ms k active) in onto-scope k (beginFirst within (k + 1) (set ms k active)) (z .0) (z .1)
   own-onto (arm p o vs) within k e ms t a b = onto-nothing ms
 
   mutual
@@ -181,13 +180,24 @@ module _ (f : ℕ → ℕ) where
   either-onto true x y z e g h = subst Onto (sym e) (g refl)
   either-onto false x y z e g h = subst Onto (sym e) h
 
+  cond-onto : (v : Bool) (x y : Begun) → (v ≡ true → Onto x) → Onto y → Onto (cond v x y)
+  cond-onto true x y g h = g refl
+  cond-onto false x y g h = h
+
   mutual
     unfolding beginUndo
 
     undo-onto : {a : Act} {k : ℕ} → Knows f a k → (e : ℕ) (ms : List ℕ) → Onto (beginUndo a k e ms)
     undo-onto (knows {own} {within} {k} x n r y) e ms =
-        either-onto (isScope own && eqb k e) (beginPart 2 within (k + 1) ms) (beginUndoIn within (k + 1) e ms) _ refl
-        (λ t. both (isScope own) (eqb k e) t (λ s v. part-onto y 2 (let z = scope-three own within s n in omega arith) ms)) (undo-in-onto y e ms)
+        either-onto (isScope own) (cond (hasUndo own) (cond (eqb k e) (beginPart 2 within (k + 1) ms) (nothingBegun ms)) (beginUndoFirst within (k + 1) e ms)) (beginUndoIn within (k + 1) e ms) _ refl
+        (λ s. cond-onto (hasUndo own) (cond (eqb k e) (beginPart 2 within (k + 1) ms) (nothingBegun ms)) (beginUndoFirst within (k + 1) e ms)
+        (λ u. cond-onto (eqb k e) (beginPart 2 within (k + 1) ms) (nothingBegun ms) (λ v. part-onto y 2 (let z = scope-three own within s u n in omega arith) ms) (onto-nothing ms))
+        (undo-first-onto y e ms)) (undo-in-onto y e ms)
+
+    -- in the body of a scope
+    undo-first-onto : {l : Acts} {c : ℕ} → KnowsIn f l c → (e : ℕ) (ms : List ℕ) → Onto (beginUndoFirst l c e ms)
+    undo-first-onto (knows-none {c}) e ms = onto-nothing ms
+    undo-first-onto (knows-more x y) e ms = undo-onto x e ms
 
     undo-in-onto : {l : Acts} {c : ℕ} → KnowsIn f l c → (e : ℕ) (ms : List ℕ) → Onto (beginUndoIn l c e ms)
     undo-in-onto (knows-none {c}) e ms = onto-nothing ms
@@ -246,7 +256,7 @@ module _ (f : ℕ → ℕ) where
     list-lone : (l : List ℕ) (o : Order) → Lone (undo l s o)
     unfolding undo startUndo times
     list-lone [] o = lone-zero (record { result = over; order = o; log = [] }) (λ j. refl)
-    list-lone (e ∷ l) o = lone-where (undo l s) (startUndo e s o) (lone-begun (remembering (withoutLast e (closings o)) o) (beginUndo (s .body) (s .bodyAt) e (o .marks)) (undo-onto kb e (o .marks))) (λ q. list-lone l q)
+    list-lone (e ∷ l) o = lone-where (undo l s) (startUndo e s o) (lone-begun (remembering (withoutLast (isFor s) (closings o)) o) (beginUndo (s .body) (s .bodyAt) e (o .marks)) (undo-onto kb e (o .marks))) (λ q. list-lone l q)
 
     handle-lone : (o : Order) → Lone (handle s o)
     unfolding handle
@@ -325,7 +335,7 @@ module _ (f : ℕ → ℕ) where
     runs-on : {a : Act} {k : ℕ} → Knows f a k → (ms ns : List ℕ) → ((j : ℕ) → lasts (f j) ≡ true → k ≤ j → j < k + size a → Up ms j → Up ns j) → innerRuns a k ns ≡ false → innerRuns a k ms ≡ false
     runs-on (knows {own} {within} {k} e n r y) ms ns g h =
         decide (isScope own)
-        (λ s. inner-as own within k ms true s ∙ not-up (eqb (getD ms k 0) idle) (λ u. up-not (eqb (getD ns k 0) idle) (g k (ap lasts (e ∙ eqb-true (kind own) 11 s)) (omega arith) (omega arith) u) (sym (inner-as own within k ns true s) ∙ h)))
+        (λ s. inner-as own within k ms true s ∙ not-up (eqb (getD ms k 0) idle) (λ u. up-not (eqb (getD ns k 0) idle) (g k (ap lasts e ∙ scope-lasts own s) (omega arith) (omega arith) u) (sym (inner-as own within k ns true s) ∙ h)))
         (λ s. inner-as own within k ms false s ∙ runs-on-in y ms ns (λ j a b c. g j a (omega arith) (omega arith)) (sym (inner-as own within k ns false s) ∙ h))
 
     runs-on-in : {l : Acts} {c : ℕ} → KnowsIn f l c → (ms ns : List ℕ) → ((j : ℕ) → lasts (f j) ≡ true → c ≤ j → j < c + sizes l → Up ms j → Up ns j) → innerRunsIn l c ns ≡ false → innerRunsIn l c ms ≡ false
@@ -347,7 +357,7 @@ module _ (f : ℕ → ℕ) where
   undo-up s kb k n [] o m u = u
   undo-up s kb k n (e ∷ l) o m u =
       let b = undo-began f kb e (o .marks) m in
-      let q = withMarks (beginUndo (s .body) (s .bodyAt) e (o .marks) .marks) (remembering (withoutLast e (closings o)) o) in
+      let q = withMarks (beginUndo (s .body) (s .bodyAt) e (o .marks) .marks) (remembering (withoutLast (isFor s) (closings o)) o) in
       go (beginUndo (s .body) (s .bodyAt) e (o .marks) .over) q (beginUndo (s .body) (s .bodyAt) e (o .marks) .log) (b .grows k n u) (undo-up s kb k n l q (omega (arith, b .long)) (b .grows k n u))
     where
       go : (v : Bool) (q : Order) (g : List Event) → Up (q .marks) k → Up (undo l s q .order .marks) k → Up (whereOver (undo l s) (record { result = cond v over running; order = q; log = g }) .order .marks) k
@@ -417,7 +427,7 @@ module _ (f : ℕ → ℕ) where
       sc = scopeAt k (more b (more g l))
 
       last : lasts (f k) ≡ true
-      last = ap lasts (e ∙ eqb-true (kind own) 11 s)
+      last = ap lasts e ∙ scope-lasts own s
 
       up : Up (r .order .marks) k
       up = v .below k last (omega arith) (ap (λ (m : ℕ). eqb m idle) (getD-set-same (o .marks) k halted 0 (omega arith)))
@@ -434,7 +444,7 @@ module _ (f : ℕ → ℕ) where
   FirstStops none c o = Unit {0}
   FirstStops (more a l) c o = Stops a c (stop a c o)
 
-  first-stops : {within : Acts} {k : ℕ} (own : Own) (o : Order) → isScope own ≡ true → f k ≡ kind own → KnowsIn f within (k + 1) → 3 ≤ count within → k + 1 + sizes within ≤ length (o .marks)
+  first-stops : {within : Acts} {k : ℕ} (own : Own) (o : Order) → isScope own ≡ true → f k ≡ kind own → KnowsIn f within (k + 1) → 2 ≤ count within → k + 1 + sizes within ≤ length (o .marks)
       → FirstStops within (k + 1) (marked k halted o) → Stops (act own within) k (withdraws k (scopeAt k within) (stopFirst within (k + 1) (marked k halted o)))
   unfolding stop size count
   first-stops own o s e knows-none n m w = absurd (omega arith)
@@ -449,7 +459,7 @@ module _ (f : ℕ → ℕ) where
     stop-stops (knows {own} {within} {k} e n r y) o m =
         stops-either (isScope own) (elim (isOpen (markAt k o)) [ true ↦ withdraws k (scopeAt k within) (stopFirst within (k + 1) (marked k halted o)) | false ↦ untouched o ]) (stopAll within (k + 1) (marked k idle o)) _ refl
         (λ s. stops-either (isOpen (markAt k o)) (withdraws k (scopeAt k within) (stopFirst within (k + 1) (marked k halted o))) (untouched o) _ refl
-        (λ v. first-stops own o s e y (scope-three own within s n) (omega arith) (stop-first-stops y (marked k halted o) (omega (arith, length-set (o .marks) k halted))))
+        (λ v. first-stops own o s e y (scope-two own within s n) (omega arith) (stop-first-stops y (marked k halted o) (omega (arith, length-set (o .marks) k halted))))
         (λ v. record { once = once-none [] (λ j. refl); light = λ c. light-none [] (λ j. refl) }))
         (λ s. let z = stop-all-stops y (marked k idle o) (omega (arith, length-set (o .marks) k idle)) in
         record { once = z .once; light = λ c. z .light (sym (inner-as own within k (stopAll within (k + 1) (marked k idle o) .order .marks) false s) ∙ c) })

@@ -89,7 +89,7 @@ taking-alike p (sends a b vs) m o = alike-itself p o
 taking-alike p (takes a b vs) m o = bound-alike p vs (m .values) o
 taking-alike p moves m o = alike-itself p o
 taking-alike p cuts m o = alike-itself p o
-taking-alike p (closes s) m o = alike-itself p o
+taking-alike p (closes undo s) m o = alike-itself p o
 
 -- So what awaits its step still does, the order stands, and is tied to its history.
 pub alike-awaited : {p : Plan} {o o′ : Order} → Alike p o o′ → (t : ℕ) → Awaited p (o .marks) t → Awaited p (o′ .marks) t
@@ -193,7 +193,7 @@ messages-same (sends a b vs) j o s = decide (allBound o vs) (λ t. rw t (record 
 messages-same (takes a b vs) j o s = record { plan = refl; long = refl; orders = refl }
 messages-same moves j o s = same-itself s
 messages-same cuts j o s = same-itself s
-messages-same (closes x) j o s = same-itself s
+messages-same (closes undo x) j o s = same-itself s
 
 -- posting
 pub post-same : (m : Message) (s : State) → Same s (post m s .state)

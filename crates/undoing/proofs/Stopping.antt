@@ -2,12 +2,12 @@
 use Prim.Native.Nat.{ℕ, _+_, _≤_}
 use native.Mathlib.Omega.{arith}
 use mathlib.Core.Path.{_≡_, refl, sym, ap, subst, _∙_}
-use mathlib.Core.Bool.{Bool, true, false}
+use mathlib.Core.Bool.{Bool, true, false, cond}
 use mathlib.Core.List.{List, [], _∷_, _++_}
 use lib.ListN.{length, length-set}
 use lib.Seq.{getD-set-same, getD-set-other}
 use borrow.Author.Tests.{ne-eqb}
-use Rattle.plan.specs.Tree.{Own, kind, Act, act, Acts, Plan, size, sizes, scope}
+use Rattle.plan.specs.Tree.{Own, kind, isScope, Act, act, Acts, Plan, size, sizes, scope}
 use Rattle.order.specs.declared.Order.{Order}
 use Rattle.order.specs.declared.End.the-variants.{None}
 use Rattle.order.specs.State.{Name, root, inner, idle, halted, markAt, marked, markOf}
@@ -15,7 +15,7 @@ use Rattle.order.specs.Event.{stopped}
 use Rattle.order.specs.Begin.{part, partAt}
 use Rattle.order.specs.declared.Way.{Way as Result}
 use Rattle.order.specs.declared.Way.the-variants.{Running as running, Over as over, Raising as raising, Leaving as leaving, Undone as undone, UndoRaising as undoRaising}
-use Rattle.order.specs.Scope.{Outcome, Scope, scopeAt, isScope, isOpen, turns, untouched, withdraws, stop, stopAll, stopFirst}
+use Rattle.order.specs.Scope.{Outcome, Scope, scopeAt, isOpen, turns, untouched, withdraws, stop, stopAll, stopFirst}
 use Rattle.order.specs.Scope as definitions
 use Rattle.undoing.specs.Demand3.{insideOf}
 use Rattle.undoing.specs.Ties.{Place, bodyOf, faultOf, nameOf}
@@ -34,10 +34,13 @@ pub record Stops (p : Plan) (S : List ℕ → Type 0) (k n : ℕ) (o : Order) (r
   pub does : Does p None o (r .log) (r .order)
 
 -- an inner scope in its plan
-pub seat-of : {p : Plan} {n : Name} {b f : Act} (u : Act) {k : ℕ} → Known p (innerAt k n (trio b f u)) → insideOf p (inner k) ≡ directs b (k + 1) (inner k)
-    → Sits p (bodyOf (inner k) n) b (k + 1) → Faulty p (inner k) (k + 1 + size b) → Remedy p (faultOf (inner k) n) f (k + 1 + size b) → Seat p (scopeAt k (trio b f u))
+pub seat-of : {p : Plan} {v : Bool} {n c : Name} {ns : List Name} {b f : Act} (u : Acts) {k : ℕ} → Known p (innerAt v k n ns (trio b f u)) → Spot p (bodyOf n ns c) k
+    → insideOf p (inner k) ≡ directs b (k + 1) (inner k) (cond v [] (n ∷ ns))
+    → Sits p (bodyOf (inner k) (cond v [] (n ∷ ns)) (cond v n c)) b (k + 1) → Faulty p (inner k) (k + 1 + size b)
+    → Remedy p (faultOf (inner k) (cond v [] (n ∷ ns)) (cond v n c)) f (k + 1 + size b) → Seat p (scopeAt k (trio b f u))
 unfolding part partAt
-seat-of {n = n} u kn i sb z sf = record { name = kn .name; inside = i; around = n; body = sb; faulty = z; fault = sf; after = refl; before = omega arith }
+seat-of {v = v} {n = n} {c = c} {ns = ns} u kn w i sb z sf =
+    record { name = kn .name; beyond = cond v [] (n ∷ ns); around = cond v n c; inside = i; body = sb; faulty = z; fault = sf; after = refl; before = omega arith; at = refl }
 
 -- a stop, by whether an activity is a scope, and whether that is open
 pub stop-is : (own : Own) (within : Acts) (k : ℕ) (o : Order) (x y : Bool) → isScope own ≡ x → isOpen (markAt k o) ≡ y
@@ -61,14 +64,14 @@ stop-is own within k o x y e d =
 
 module _ (p : Plan) where
   -- a scope that is open is stopped, its body having stopped so
-  withdrawn : {n c : Name} {v : Bool} (b f u : Act) (k : ℕ) (o : Order) → Known p (innerAt k n (trio b f u)) → Spot p (bodyOf n c) k → phase (markOf n o) ≡ waits v
+  withdrawn : {n c : Name} {ns : List Name} {v : Bool} (x : Bool) (b f : Act) (u : Acts) (k : ℕ) (o : Order) → Known p (innerAt x k n ns (trio b f u)) → Spot p (bodyOf n ns c) k → phase (markOf n o) ≡ waits v
       → Seat p (scopeAt k (trio b f u))
-      → isOpen (markAt k o) ≡ true → Quiet (o .marks) (k + 1 + size b) (size f + size u) → k + (spread b f u) ≤ length (o .marks)
+      → isOpen (markAt k o) ≡ true → Quiet (o .marks) (k + 1 + size b) (size f + sizes u) → k + (spread b f u) ≤ length (o .marks)
       → (r : definitions.Stopped) → Stops p (λ ms. Stopped ms b (k + 1)) (k + 1) (size b) (marked k halted o) r
-      → Stops p (λ ms. Stopped ms (act scope (trio b f u)) k) k (spread b f u) o
+      → Stops p (λ ms. Stopped ms (act (scope x) (trio b f u)) k) k (spread b f u) o
       (withdraws k (scopeAt k (trio b f u)) r)
   unfolding withdraws part partAt size
-  withdrawn {n} b f u k o kn y z h e q m r s = go (t .result) (v .comes)
+  withdrawn {n} x b f u k o kn y z h e q m r s = go (t .result) (v .comes)
     where
       s₁ : Scope
       s₁ = scopeAt k (trio b f u)
@@ -78,10 +81,10 @@ module _ (p : Plan) where
 
       first : Does p None o (stopped k ∷ []) (marked k halted o)
       first =
-          does-one (λ past x. move-stop p (momentOf p o) (momentOf p (marked k halted o)) past x k (kn .name) y z (rw e)
+          does-one (λ past g. move-stop p (momentOf p o) (momentOf p (marked k halted o)) past g k (kn .name) y z (rw e)
           (ap phase (getD-set-same (o .marks) k halted 0 (omega arith))) refl (marked-elsewhere p k halted o))
 
-      w : Quiet (r .order .marks) (k + 1 + size b) (size f + size u)
+      w : Quiet (r .order .marks) (k + 1 + size b) (size f + sizes u)
       w = quiet-agree (quiet-set halted q (omega arith)) (agree-above (s .kept) (omega arith))
 
       v : Turns p s₁ (r .order) t
@@ -99,14 +102,11 @@ module _ (p : Plan) where
             above = λ i x. v .apart .above i (omega arith);
           }))
 
-      w₁ : Quiet (t .order .marks) (k + 1 + size b + size f) (size u)
+      w₁ : Quiet (t .order .marks) (k + 1 + size b + size f) (sizes u)
       w₁ = record { at = λ i x y. v .apart .above i (omega arith) ∙ w .at i (omega arith) (omega arith) }
 
-      w₂ : Quiet (t .order .marks) (k + 1 + size b + size f) (size u + 0)
-      w₂ = quiet-part w₁ (omega arith) (omega arith)
-
-      go : (x : Result) → TurnsAs p s₁ (r .order) (t .log) (t .order) x
-          → Stops p (λ ms. Stopped ms (act scope (trio b f u)) k) k (spread b f u) o
+      go : (y : Result) → TurnsAs p s₁ (r .order) (t .log) (t .order) y
+          → Stops p (λ ms. Stopped ms (act (scope x) (trio b f u)) k) k (spread b f u) o
           (record { order = t .order; log = stopped k ∷ (r .log ++ t .log) })
       go running c =
           record { kept = kept₁; rooted = v .apart .rooted refl ∙ s .rooted; stands = stopped-scope (c .0) w₁; does = does-then first (does-then (s .does) (c .1)) }
@@ -114,7 +114,7 @@ module _ (p : Plan) where
           record {
             kept = kept₁;
             rooted = v .apart .rooted refl ∙ s .rooted;
-            stands = stopped-quiet (quiet-cons (c .0) (quiet-join (c .1) (quiet-join (c .2) w₂ refl) refl));
+            stands = stopped-quiet (quiet-cons (c .0) (quiet-join (c .1) (quiet-join (c .2) w₁ refl) refl));
             does = does-then first (does-then (s .does) (c .3));
           }
       go raising c = absurd c
@@ -123,25 +123,25 @@ module _ (p : Plan) where
       go undoRaising c = absurd c
 
   -- a scope is stopped, as it is found
-  stopped-as : {n c : Name} {v : Bool} (b f u : Act) (k : ℕ) (o : Order) → Known p (innerAt k n (trio b f u)) → Spot p (bodyOf n c) k → phase (markOf n o) ≡ waits v
+  stopped-as : {n c : Name} {ns : List Name} {v : Bool} (x : Bool) (b f : Act) (u : Acts) (k : ℕ) (o : Order) → Known p (innerAt x k n ns (trio b f u)) → Spot p (bodyOf n ns c) k → phase (markOf n o) ≡ waits v
       → Seat p (scopeAt k (trio b f u))
       → Found (o .marks) b f u k → k + (spread b f u) ≤ length (o .marks)
       → (Stoppable (marked k halted o .marks) b (k + 1) → Stops p (λ ms. Stopped ms b (k + 1)) (k + 1) (size b) (marked k halted o) (stop b (k + 1) (marked k halted o)))
-      → Stops p (λ ms. Stopped ms (act scope (trio b f u)) k) k (spread b f u) o
-      (stop (act scope (trio b f u)) k o)
+      → Stops p (λ ms. Stopped ms (act (scope x) (trio b f u)) k) k (spread b f u) o
+      (stop (act (scope x) (trio b f u)) k o)
   unfolding stop kind size
-  stopped-as b f u k o kn a d h (found-quiet q) m g =
-      subst (λ (r : definitions.Stopped). Stops p (λ ms. Stopped ms (act scope (trio b f u)) k) k (spread b f u) o r)
-      (sym (stop-is scope (trio b f u) k o true false refl (rw (q .at k (omega arith) (omega arith)))))
+  stopped-as x b f u k o kn a d h (found-quiet q) m g =
+      subst (λ (r : definitions.Stopped). Stops p (λ ms. Stopped ms (act (scope x) (trio b f u)) k) k (spread b f u) o r)
+      (sym (stop-is (scope x) (trio b f u) k o true false refl (rw (q .at k (omega arith) (omega arith)))))
       (record { kept = kept-itself k _ (o .marks); rooted = refl; stands = stopped-quiet q; does = does-nothing (λ n i. (refl, refl)) })
-  stopped-as b f u k o kn a d h (found-open e y q) m g =
-      subst (λ (r : definitions.Stopped). Stops p (λ ms. Stopped ms (act scope (trio b f u)) k) k (spread b f u) o r)
-      (sym (stop-is scope (trio b f u) k o true true refl e))
-      (withdrawn b f u k o kn a d h e q m (stop b (k + 1) (marked k halted o))
+  stopped-as x b f u k o kn a d h (found-open e y q) m g =
+      subst (λ (r : definitions.Stopped). Stops p (λ ms. Stopped ms (act (scope x) (trio b f u)) k) k (spread b f u) o r)
+      (sym (stop-is (scope x) (trio b f u) k o true true refl e))
+      (withdrawn x b f u k o kn a d h e q m (stop b (k + 1) (marked k halted o))
       (g (stoppable-agree y (record { at = λ i x z. getD-set-other (o .marks) k i halted 0 (omega arith) }))))
-  stopped-as b f u k o kn a d h (found-turned e t q) m g =
-      subst (λ (r : definitions.Stopped). Stops p (λ ms. Stopped ms (act scope (trio b f u)) k) k (spread b f u) o r)
-      (sym (stop-is scope (trio b f u) k o true false refl e))
+  stopped-as x b f u k o kn a d h (found-turned e t q) m g =
+      subst (λ (r : definitions.Stopped). Stops p (λ ms. Stopped ms (act (scope x) (trio b f u)) k) k (spread b f u) o r)
+      (sym (stop-is (scope x) (trio b f u) k o true false refl e))
       (record { kept = kept-itself k _ (o .marks); rooted = refl; stands = stopped-scope t q; does = does-nothing (λ n i. (refl, refl)) })
 
   -- What may be stopped stands stopped after it, at every depth.
@@ -153,7 +153,7 @@ module _ (p : Plan) where
         → Stops p (λ ms. Stopped ms a k) k (size a) o (stop a k o)
     stops (sits-part {q = x} {own} {within} {k} s g v y l) o z t m =
         let o₁ = marked k idle o in
-        let r = stops-all l o₁ (ap phase (mark-kept (nameOf x) k o o₁ (v .before) (omega arith) refl (kept-set k 1 k idle (o .marks) (omega arith) (omega arith))) ∙ z) (stoppable-in-agree (parts-stoppable s t) (record { at = λ i x z. getD-set-other (o .marks) k i idle 0 (omega arith) }))
+        let r = stops-all l o₁ (ap phase (mark-kept (nameOf x) k o o₁ (v .before .0) (omega arith) refl (kept-set k 1 k idle (o .marks) (omega arith) (omega arith))) ∙ z) (stoppable-in-agree (parts-stoppable s t) (record { at = λ i x z. getD-set-other (o .marks) k i idle 0 (omega arith) }))
         (omega (arith, length-set (o .marks) k idle)) in
         subst (λ (r : definitions.Stopped). Stops p (λ ms. Stopped ms (act own within) k) k (1 + sizes within) o r)
         (sym (stop-is own within k o false (isOpen (markAt k o)) s refl))
@@ -163,8 +163,8 @@ module _ (p : Plan) where
           stands = stopped-part s (r .kept .below k (omega arith) ∙ getD-set-same (o .marks) k idle 0 (omega arith)) (r .stands);
           does = does-then (does-nothing (plain-marked p k idle o (y .noScope))) (r .does);
         })
-    stops (sits-scope {n} {c} {b} {f} {u} {k} kn v i sb e sf su) o z t m =
-        stopped-as b f u k o kn v z (seat-of u kn i sb e sf) (scope-found t) m
+    stops (sits-scope {v = x} {n} {c} {ns} {b} {f} {u} {k} kn v i sb e sf su) o z t m =
+        stopped-as x b f u k o kn v z (seat-of u kn v i sb e sf) (scope-found t) m
         (λ y. stops sb (marked k halted o) (ap phase (getD-set-same (o .marks) k halted 0 (omega arith))) y (omega (arith, length-set (o .marks) k halted)))
 
     -- a list
@@ -174,7 +174,7 @@ module _ (p : Plan) where
         record { kept = kept-itself c 0 (o .marks); rooted = refl; stands = stopped-none; does = does-nothing (λ n i. (refl, refl)) }
     stops-all (sits-more {q = x} {a} {l} {c} s y) o z (able-more t w) m =
         let r = stops s o z t (omega arith) in
-        let v = stops-all y (stop a c o .order) (ap phase (mark-kept (nameOf x) c o (stop a c o .order) (before-of s) (omega arith) (r .rooted) (r .kept)) ∙ z) (stoppable-in-agree w (agree-above (r .kept) (omega arith))) (omega (arith, r .kept .many)) in
+        let v = stops-all y (stop a c o .order) (ap phase (mark-kept (nameOf x) c o (stop a c o .order) (before-of s .0) (omega arith) (r .rooted) (r .kept)) ∙ z) (stoppable-in-agree w (agree-above (r .kept) (omega arith))) (omega (arith, r .kept .many)) in
         record {
           kept = kept-then (kept-wider (r .kept) (omega arith) (omega arith)) (kept-wider (v .kept) (omega arith) (omega arith));
           rooted = v .rooted ∙ r .rooted;

@@ -128,7 +128,7 @@ module _ (p : Plan) (h : Promised p) where
   acted-right actor t o past a v w st g ag =
       let m = root-mild p o past g in
       let r = root-right p h actor t o past a v w st (m .0) (m .1) g ag in
-      let y = not-undone (stepRoot actor p t o .log) o (stepRoot actor p t o .order) (stepRoot actor p t o .result) (root-steps p (h .distinct) actor (h .seat) t o w st (m .0) (m .1) .comes) in
+      let y = not-undone (stepRoot actor p t o .log) o (stepRoot actor p t o .order) (stepRoot actor p t o .result) (root-steps p actor (h .seat) t o w st (m .0) (m .1) .comes) in
       (r .0, settled-end (written actor p t a) (stepRoot actor p t o) y (r .1))
 
   -- What is judged: nothing is written down of the raises.

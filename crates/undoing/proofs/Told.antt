@@ -21,7 +21,7 @@ use Rattle.machine.specs.Calls.{loadedAs, load, post, collect, dropAt, step, Ca
 use Rattle.undoing.specs.History.{logOf, history}
 use Rattle.undoing.specs.Demand3.{closingsOf, undoneOf, hasTurned, isLeft, mayTurn, noneNow}
 use Rattle.plan.specs.Tree.{Plan}
-use Rattle.undoing.specs.Ties.{isName, stateAfter, orderAfter, pastAfter, LiveTold, isTurned, MarksTold, remembered, ListsTold, fits, placeOf, PlacesTold}
+use Rattle.undoing.specs.Ties.{isName, stateAfter, orderAfter, pastAfter, LiveTold, isTurned, MarksTold, remembered, ListsTold, fits, placeNow, PlacesTold}
 use Rattle.undoing.proofs.Parts.{decide}
 use Rattle.undoing.proofs.Accounts.{Account, accountOf, left-unfinished, Phase, rest, live, waits, undoes, heals, odd, phase, Tied}
 use Rattle.undoing.proofs.Orders.{listOf, onto, onto-append}
@@ -122,7 +122,7 @@ unfolding ListsTold
 lists-told bytes p next e calls slot t v n i = go (slot-after bytes p next e calls slot t) v
   where
     go : {o : Order} {past : List Event} → Slot p o past → isLive o ≡ true
-        → (isLeft n past ≡ true → closingsOf p n past ≡ undoneOf p n past ++ remembered p n o) × (isLeft n past ≡ false → remembered p n o ≡ [])
+        → (isLeft n past ≡ true → closingsOf p n past ≡ undoneOf p n past ++ remembered n o) × (isLeft n past ≡ false → remembered n o ≡ [])
     go (slot-free x y) v = absurd (false≢true (sym x ∙ v))
     go {o} {past} (slot-live x y) v = listed (phase (markOf n o)) (listOf p n o) (accountOf p n past) (y .ties n i)
 
@@ -131,10 +131,10 @@ pub places-told : PlacesTold
 unfolding PlacesTold every
 places-told bytes p next e calls slot t v = go (slot-after bytes p next e calls slot t) v
   where
-    each : {o : Order} {l : List Ready} → Standing p o → Each {A = Ready} (λ r. Awaited p (o .marks) (r .activity)) l → every (λ r. fits (placeOf p (r .activity)) o) l ≡ true
+    each : {o : Order} {l : List Ready} → Standing p o → Each {A = Ready} (λ r. Awaited p (o .marks) (r .activity)) l → every (λ r. fits (placeNow p o (r .activity)) o) l ≡ true
     each st each-none = refl
     each {o} st (each-more {a} w l) = rw (standing-fits p o (a .activity) st w, each st l)
 
-    go : {o : Order} {past : List Event} → Slot p o past → isLive o ≡ true → every (λ r. fits (placeOf p (r .activity)) o) (readyOf p o) ≡ true
+    go : {o : Order} {past : List Event} → Slot p o past → isLive o ≡ true → every (λ r. fits (placeNow p o (r .activity)) o) (readyOf p o) ≡ true
     go (slot-free x y) v = absurd (false≢true (sym x ∙ v))
     go {o} (slot-live x y) v = each x (ready-awaited p o)

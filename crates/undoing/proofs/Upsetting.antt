@@ -1,29 +1,30 @@
 -- A raise in place of a receive comes out of the undo part that runs: no scope stands there that could take it. Assumes nothing.
-use Prim.Native.Nat.{ℕ, _+_, _<_}
+use Prim.Native.Nat.{ℕ, _+_, _≤_, _<_}
 use native.Mathlib.Omega.{arith}
-use mathlib.Core.Path.{_≡_, refl, sym, ap, _∙_}
-use mathlib.Core.Bool.{Bool, true, false, not, false≢true}
-use lib.ListN.{getD}
+use mathlib.Core.Path.{_≡_, refl, sym, ap, subst, _∙_}
+use mathlib.Core.Bool.{Bool, true, false, cond, not, false≢true}
+use lib.ListN.{length, getD}
 use lib.Dec.{eqb, ltb}
 use borrow.Author.Tests.{ne-eqb, lt-ltb, le-ltb, not-true}
-use Rattle.plan.specs.Tree.{Own, empty, send, receive, set as setting, raise, leave, choose, repeat, sequence, flow, pick, scope, arm, kind, Act, act, Acts, none, more, Plan, size}
+use Rattle.plan.specs.Tree.{Own, empty, send, receive, set as setting, raise, leave, choose, repeat, sequence, flow, pick, scope, arm, kind, Act, act, Acts, none, more, Plan, size, sizes, isScope}
 use Rattle.order.specs.declared.Order.{Order}
-use Rattle.order.specs.State.{active, inside, markAt}
+use Rattle.order.specs.State.{Name, idle, active, inside, markAt, markOf}
 use Rattle.order.specs.Begin.{beginAfter}
 use Rattle.order.specs.declared.Way.{Way as Result}
 use Rattle.order.specs.declared.Way.the-variants.{Running as running, Over as over, Raising as raising, Leaving as leaving, Undone as undone, UndoRaising as undoRaising}
-use Rattle.order.specs.Scope.{Outcome, runs, begunIn, whereOver, isScope, fromUndo}
+use Rattle.order.specs.Scope.{Outcome, runs, begunIn, whereOver, fromUndo}
 use Rattle.order.specs.Acting.{finishes, again, goesOn, joins, combines, arms, inPlace, performs, stepIn, stepAmong}
 use Rattle.order.specs.Awaited.{Doing, doingOf}
 use Rattle.machine.specs.Calls.{doingIn, doingAmong}
-use Rattle.undoing.specs.Ties.{Place}
+use Rattle.undoing.specs.Ties.{Place, undoOf, nameOf, beyondOf, lastOf}
 use Rattle.undoing.proofs.Parts.{both}
-use Rattle.undoing.proofs.Marks.{trio, Undoing, undoing-part, undoing-scope, UndoingIn, undoing-here, undoing-later, quiet-part}
-use Rattle.undoing.proofs.Orders.{bare, bareIn, Sits, sits-part, sits-scope, SitsIn, sits-more, remedy-bare}
+use Rattle.undoing.proofs.Marks.{trio, Quiet, Run, Undoing, undoing-part, undoing-scope, undoing-through, UndoingIn, undoing-here, undoing-later, quiet-part}
+use Rattle.undoing.proofs.Orders.{Fit, bare, bareIn, Sits, sits-part, sits-scope, SitsIn, sits-more, remedy-bare, Rest, rest-undo, rest-none}
+use Rattle.undoing.proofs.Moves.{runnerAt}
+use Rattle.undoing.proofs.Scoping.{Acted, UndoAs}
 use Rattle.undoing.proofs.Waiting.{opens, Waits, waits-itself, waits-within, WaitsIn, waits-first, waits-later, opens-idle, quiet-waits, quiet-waits-in, undoing-waits}
-use Rattle.undoing.proofs.Breaking.{Distinct}
 use Rattle.undoing.proofs.Combining.{arms-none}
-use Rattle.undoing.proofs.Stepping.{Whole, step-is, among-is, undo-step, undoing-part-not}
+use Rattle.undoing.proofs.Stepping.{PartOf, through-is, steps-undoing, Whole, step-is, among-is, undo-step, undoing-part-not}
 use Rattle.undoing.proofs.Judged.{isTake, doing-within, doing-among, doing-later}
 use Rattle.undoing.proofs.Falling.{raised-receive}
 use Rattle.undoing.proofs.Owing.{not-scope}
@@ -66,7 +67,7 @@ up-combines (repeat x) within k t r s n = up-goes k inside (again k) r n
 up-combines sequence within k t r s n = up-goes k active (λ o. whereOver (finishes k) (begunIn o (beginAfter within (k + 1) t (o .marks)))) r n
 up-combines flow within k t r s n = up-goes k active (joins k within) r n
 up-combines pick within k t r s n = up-goes k inside (finishes k) r n
-up-combines scope within k t r s n = absurd (false≢true (sym s))
+up-combines (scope v) within k t r s n = absurd (false≢true (sym s))
 up-combines (arm x y vs) within k t r s n = refl
 
 -- by the same choice of what is done and what comes of it
@@ -79,20 +80,20 @@ raise-either false d d′ x y f g h = g h
 mutual
   unfolding bare stepIn doingIn isTake
 
-  raise-out : (a : Act) (k t : ℕ) (o : Order) → bare a ≡ true → isTake (doingIn a k t) ≡ true → stepIn inPlace a k t o .result ≡ raising
-  raise-out (act own within) k t o b h =
+  raise-out : (a : Act) (q k t : ℕ) (o : Order) → bare a ≡ true → isTake (doingIn a k t) ≡ true → stepIn inPlace a q k t o .result ≡ raising
+  raise-out (act own within) q k t o b h =
       both (not (isScope own)) (bareIn within) b (λ x y.
-      raise-either (eqb k t) (doingOf own within k) (doingAmong within (k + 1) t) (performs inPlace own within k o) (combines own within k t (stepAmong inPlace within (k + 1) t (arms own within k t o)))
-      (λ g. ap (λ (r : Outcome). r .result) (raised-receive own within k o g))
-      (λ g. let z = raise-out-in within (k + 1) t (arms own within k t o) y g in
-      up-combines own within k t (stepAmong inPlace within (k + 1) t (arms own within k t o)) (not-true (isScope own) x) (ap isOver z) ∙ z) h)
+      raise-either (eqb k t) (doingOf own within k) (doingAmong within (k + 1) t) (performs inPlace own within q k o) (combines own within k t (stepAmong inPlace within (isScope own) q (k + 1) t (arms own within k t o)))
+      (λ g. ap (λ (r : Outcome). r .result) (raised-receive own within q k o g))
+      (λ g. let z = raise-out-in within (isScope own) q (k + 1) t (arms own within k t o) y g in
+      up-combines own within k t (stepAmong inPlace within (isScope own) q (k + 1) t (arms own within k t o)) (not-true (isScope own) x) (ap isOver z) ∙ z) h)
 
-  raise-out-in : (l : Acts) (c t : ℕ) (o : Order) → bareIn l ≡ true → isTake (doingAmong l c t) ≡ true → stepAmong inPlace l c t o .result ≡ raising
-  raise-out-in none c t o b h = absurd (false≢true h)
-  raise-out-in (more a l) c t o b h =
+  raise-out-in : (l : Acts) (v : Bool) (q c t : ℕ) (o : Order) → bareIn l ≡ true → isTake (doingAmong l c t) ≡ true → stepAmong inPlace l v q c t o .result ≡ raising
+  raise-out-in none v q c t o b h = absurd (false≢true h)
+  raise-out-in (more a l) v q c t o b h =
       both (bare a) (bareIn l) b (λ x y.
-      raise-either (ltb t (c + size a)) (doingIn a c t) (doingAmong l (c + size a) t) (stepIn inPlace a c t o) (stepAmong inPlace l (c + size a) t o)
-      (λ g. raise-out a c t o x g) (λ g. raise-out-in l (c + size a) t o y g) h)
+      raise-either (ltb t (c + size a)) (doingIn a c t) (doingAmong l (c + size a) t) (stepIn inPlace a (cond v c q) c t o) (stepAmong inPlace l v q (c + size a) t o)
+      (λ g. raise-out a (cond v c q) c t o x g) (λ g. raise-out-in l v q (c + size a) t o y g) h)
 
 up-raised : (r : Outcome) → r .result ≡ raising → fromUndo r .result ≡ undoRaising
 unfolding fromUndo
@@ -102,42 +103,68 @@ no-less : {k t : ℕ} → k < t → k ≡ t → ⊥
 no-less y z = omega arith
 
 -- In a body of which an undo part runs.
-module _ (p : Plan) (distinct : Distinct p) where
-  scope-raises : {c : Bool} (b f u : Act) (k t : ℕ) (o : Order) → bare u ≡ true → Waits (o .marks) (act scope (trio b f u)) k t c → c ≡ false → Undoing (o .marks) (act scope (trio b f u)) k
-      → isTake (doingIn (act scope (trio b f u)) k t) ≡ true → stepIn inPlace (act scope (trio b f u)) k t o .result ≡ undoRaising
+module _ (p : Plan) where
+  scope-raises : {c : Bool} (b f u : Act) (q₀ k t : ℕ) (o : Order) → bare u ≡ true → Waits (o .marks) (act (scope true) (trio b f (more u none))) k t c → c ≡ false
+      → getD (o .marks) k 0 ≡ idle → Quiet (o .marks) (k + 1) (size b + size f) → Run (o .marks) u (k + 1 + size b + size f)
+      → isTake (doingIn (act (scope true) (trio b f (more u none))) k t) ≡ true → stepIn inPlace (act (scope true) (trio b f (more u none))) q₀ k t o .result ≡ undoRaising
   unfolding Whole kind
-  scope-raises b f u k t o su w c (undoing-part s x q) h = absurd (not-scope s)
-  scope-raises b f u k t o su (waits-itself e d) c (undoing-scope x q r) h = absurd (no-less (undoing-waits (undoing-scope x q r) (waits-itself e d) c) e)
-  scope-raises b f u k t o su (waits-within e (waits-first d w)) c (undoing-scope x q r) h = absurd (quiet-waits w refl (quiet-part q (omega arith) (omega arith)))
-  scope-raises b f u k t o su (waits-within e (waits-later d (waits-first y w))) c (undoing-scope x q r) h = absurd (quiet-waits w refl (quiet-part q (omega arith) (omega arith)))
-  scope-raises b f u k t o su (waits-within e (waits-later d (waits-later y (waits-first z w)))) c (undoing-scope x q r) h =
-      let i : doingIn (act scope (trio b f u)) k t ≡ doingIn u (k + 1 + size b + size f) t
-      = doing-within scope (trio b f u) k t e
+  scope-raises b f u q₀ k t o su (waits-itself e d) c x q r h = absurd (no-less (undoing-waits (undoing-scope x q r) (waits-itself e d) c) e)
+  scope-raises b f u q₀ k t o su (waits-within e (waits-first d w)) c x q r h = absurd (quiet-waits w refl (quiet-part q (omega arith) (omega arith)))
+  scope-raises b f u q₀ k t o su (waits-within e (waits-later d (waits-first y w))) c x q r h = absurd (quiet-waits w refl (quiet-part q (omega arith) (omega arith)))
+  scope-raises b f u q₀ k t o su (waits-within e (waits-later d (waits-later y (waits-first z w)))) c x q r h =
+      let i : doingIn (act (scope true) (trio b f (more u none))) k t ≡ doingIn u (k + 1 + size b + size f) t
+      = doing-within (scope true) (trio b f (more u none)) k t e
       ∙ (doing-later b (more f (more u none)) (k + 1) t d ∙ (doing-later f (more u none) (k + 1 + size b) t y ∙ doing-among u none (k + 1 + size b + size f) t z)) in
-      ap (λ (r : Outcome). r .result) (undo-step p distinct inPlace b f u k t o y z)
-      ∙ up-raised (stepIn inPlace u (k + 1 + size b + size f) t o) (raise-out u (k + 1 + size b + size f) t o su (ap isTake (sym i) ∙ h))
+      ap (λ (r : Outcome). r .result) (undo-step p inPlace b f u q₀ k t o y z)
+      ∙ up-raised (stepIn inPlace u (k + 1 + size b + size f) (k + 1 + size b + size f) t o) (raise-out u (k + 1 + size b + size f) (k + 1 + size b + size f) t o su (ap isTake (sym i) ∙ h))
+
+  -- looked through
+  through-raises : {c : Bool} (b f : Act) (u : Acts) (q₀ k t : ℕ) (m₀ : Name) (o : Order) → Waits (o .marks) (act (scope false) (trio b f u)) k t c → c ≡ false
+      → getD (o .marks) k 0 ≡ idle → Undoing (o .marks) b (k + 1) → Quiet (o .marks) (k + 1 + size b) (size f + sizes u) → isTake (doingIn (act (scope false) (trio b f u)) k t) ≡ true
+      → (Waits (o .marks) b (k + 1) t false → Acted (k + 1) (size b) o (UndoAs p m₀ b (k + 1) t o) (stepIn inPlace b (k + 1) (k + 1) t o))
+      → (Waits (o .marks) b (k + 1) t false → isTake (doingIn b (k + 1) t) ≡ true → stepIn inPlace b (k + 1) (k + 1) t o .result ≡ undoRaising)
+      → stepIn inPlace (act (scope false) (trio b f u)) q₀ k t o .result ≡ undoRaising
+  unfolding size
+  through-raises b f u q₀ k t m₀ o (waits-itself e d) c x r q h a g = absurd (no-less (undoing-waits (undoing-through {f = f} {u = u} x r q) (waits-itself e d) c) e)
+  through-raises b f u q₀ k t m₀ o (waits-within e (waits-first d w)) c x r q h a g =
+      ap (λ (r : Outcome). r .result) (through-is p inPlace b f u q₀ k t m₀ o x e d (a w))
+      ∙ g w (ap isTake (sym (doing-within (scope false) (trio b f u) k t e ∙ doing-among b (more f u) (k + 1) t d)) ∙ h)
+  through-raises b f u q₀ k t m₀ o (waits-within e (waits-later d w)) c x r q h a g = absurd (quiet-waits-in w refl q)
+
+  rest-bare : {z : Bool} {x : Place} {l : Acts} {k : ℕ} → Rest p z x l k → (u : Act) → l ≡ more u none → bare u ≡ true
+  rest-bare (rest-undo {u = a} su) u e = let z : a ≡ u = cc in subst (λ (j : Act). bare j ≡ true) z (remedy-bare su)
+  rest-bare rest-none u e = absurd (let z : _≡_ {A = ℕ} 0 1 = cc in omega arith)
 
   mutual
     unfolding size
 
-    pub undo-raises : {x : Place} {a : Act} {k : ℕ} → Sits p x a k → (t : ℕ) (o : Order) (b : Bool) → Waits (o .marks) a k t b → b ≡ false → Undoing (o .marks) a k
-        → isTake (doingIn a k t) ≡ true → stepIn inPlace a k t o .result ≡ undoRaising
-    undo-raises (sits-part {own = own} {within} {k} s g u y l) t o b (waits-itself z d) e r h = absurd (no-less (undoing-waits r (waits-itself z d) e) z)
-    undo-raises (sits-part {own = own} {within} {k} s g u y l) t o b (waits-within v w) e (undoing-part s₁ z r) h =
+    pub undo-raises : {x : Place} {a : Act} {k : ℕ} → Sits p x a k → (q₀ t : ℕ) (o : Order) (b : Bool) → PartOf x q₀ → Waits (o .marks) a k t b → b ≡ false → Undoing (o .marks) a k
+        → (m₀ : Name) → runnerAt (λ n. markOf n o) (nameOf x) (beyondOf x) ≡ m₀ → Fit (undoOf (nameOf x) (beyondOf x) (lastOf x)) o → k + size a ≤ length (o .marks)
+        → isTake (doingIn a k t) ≡ true → stepIn inPlace a q₀ k t o .result ≡ undoRaising
+    undo-raises (sits-part {own = own} {within} {k} s g u y l) q₀ t o b q₁ (waits-itself z d) e r m₀ y₂ f m h = absurd (no-less (undoing-waits r (waits-itself z d) e) z)
+    undo-raises (sits-part {own = own} {within} {k} s g u y l) q₀ t o b q₁ (waits-within v w) e (undoing-part s₁ z r) m₀ y₂ f m h =
         let i : opens own (getD (o .marks) k 0) ≡ false = opens-idle own (getD (o .marks) k 0) z in
-        let j = stepAmong inPlace within (k + 1) t o in
-        let d : j .result ≡ undoRaising = undo-raises-in l t o _ w i r (ap isTake (sym (doing-within own within k t v)) ∙ h) in
+        let j = stepAmong inPlace within false q₀ (k + 1) t o in
+        let d : j .result ≡ undoRaising = undo-raises-in l q₀ t o _ q₁ w i r m₀ y₂ f (omega arith) (ap isTake (sym (doing-within own within k t v)) ∙ h) in
         ap (λ (r : Outcome). r .result)
-        (step-is inPlace own within k t o false (ne-eqb k t (omega arith)) ∙ ap (λ (x : Order). combines own within k t (stepAmong inPlace within (k + 1) t x)) (arms-none own within k t o (undoing-part-not p distinct inPlace r w i)))
+        (step-is inPlace own within q₀ k t o false s (ne-eqb k t (omega arith)) ∙ ap (λ (x : Order). combines own within k t (stepAmong inPlace within false q₀ (k + 1) t x)) (arms-none own within k t o (undoing-part-not p inPlace r w i)))
         ∙ (up-combines own within k t j s (ap isOver d) ∙ d)
-    undo-raises (sits-part {own = scope} {within} {k} s g u y l) t o b (waits-within v w) e (undoing-scope _ _ _) h = absurd (not-scope s)
-    undo-raises (sits-scope {b = b} {f} {u} {k} kn d i sb z sf su) t o c w e r h = scope-raises b f u k t o (remedy-bare su) w e r h
+    undo-raises (sits-part s g u y l) q₀ t o b q₁ (waits-within v w) e (undoing-scope _ _ _) m₀ y₂ f m h = absurd (not-scope s)
+    undo-raises (sits-part s g u y l) q₀ t o b q₁ (waits-within v w) e (undoing-through _ _ _) m₀ y₂ f m h = absurd (not-scope s)
+    undo-raises (sits-scope {v = true} kn d i sb z sf su) q₀ t o c q₁ w e (undoing-part s _ _) m₀ y₂ f m h = absurd (not-scope s)
+    undo-raises (sits-scope {v = true} {b = b} {f = g} {k = k} kn d i sb z sf su) q₀ t o c q₁ w e (undoing-scope {u = u} x q r) m₀ y₂ f m h =
+        scope-raises b g u q₀ k t o (rest-bare su u refl) w e x q r h
+    undo-raises (sits-scope {v = false} kn d i sb z sf su) q₀ t o c q₁ w e (undoing-part s _ _) m₀ y₂ f m h = absurd (not-scope s)
+    undo-raises (sits-scope {v = false} {b = b} {f = g} {u = u} {k = k} kn d i sb z sf su) q₀ t o c q₁ w e (undoing-through x r q) m₀ y₂ f m h =
+        through-raises b g u q₀ k t m₀ o w e x r q h (λ w₁. steps-undoing p inPlace sb (k + 1) t o false refl w₁ refl r m₀ (rw x y₂) (rw x f) (omega arith))
+        (λ w₁ h₁. undo-raises sb (k + 1) t o false refl w₁ refl r m₀ (rw x y₂) (rw x f) (omega arith) h₁)
 
-    pub undo-raises-in : {x : Place} {l : Acts} {c : ℕ} → SitsIn p x l c → (t : ℕ) (o : Order) (b : Bool) → WaitsIn (o .marks) l c t b → b ≡ false → UndoingIn (o .marks) l c
-        → isTake (doingAmong l c t) ≡ true → stepAmong inPlace l c t o .result ≡ undoRaising
-    undo-raises-in (sits-more {a = a} {l} {c} s y) t o b (waits-first v w) e (undoing-here r q) h =
-        ap (λ (r : Outcome). r .result) (among-is inPlace a l c t o true (lt-ltb t (c + size a) v)) ∙ undo-raises s t o b w e r (ap isTake (sym (doing-among a l c t v)) ∙ h)
-    undo-raises-in (sits-more {a = a} {l} {c} s y) t o b (waits-later v w) e (undoing-here r q) h = absurd (quiet-waits-in w e q)
-    undo-raises-in (sits-more {a = a} {l} {c} s y) t o b (waits-first v w) e (undoing-later q r) h = absurd (quiet-waits w e q)
-    undo-raises-in (sits-more {a = a} {l} {c} s y) t o b (waits-later v w) e (undoing-later q r) h =
-        ap (λ (r : Outcome). r .result) (among-is inPlace a l c t o false (le-ltb t (c + size a) v)) ∙ undo-raises-in y t o b w e r (ap isTake (sym (doing-later a l c t v)) ∙ h)
+    pub undo-raises-in : {x : Place} {l : Acts} {c : ℕ} → SitsIn p x l c → (q₀ t : ℕ) (o : Order) (b : Bool) → PartOf x q₀ → WaitsIn (o .marks) l c t b → b ≡ false → UndoingIn (o .marks) l c
+        → (m₀ : Name) → runnerAt (λ n. markOf n o) (nameOf x) (beyondOf x) ≡ m₀ → Fit (undoOf (nameOf x) (beyondOf x) (lastOf x)) o → c + sizes l ≤ length (o .marks)
+        → isTake (doingAmong l c t) ≡ true → stepAmong inPlace l false q₀ c t o .result ≡ undoRaising
+    undo-raises-in (sits-more {a = a} {l} {c} s y) q₀ t o b q₁ (waits-first v w) e (undoing-here r q) m₀ y₂ f m h =
+        ap (λ (r : Outcome). r .result) (among-is inPlace a l q₀ c t o true (lt-ltb t (c + size a) v)) ∙ undo-raises s q₀ t o b q₁ w e r m₀ y₂ f (omega arith) (ap isTake (sym (doing-among a l c t v)) ∙ h)
+    undo-raises-in (sits-more {a = a} {l} {c} s y) q₀ t o b q₁ (waits-later v w) e (undoing-here r q) m₀ y₂ f m h = absurd (quiet-waits-in w e q)
+    undo-raises-in (sits-more {a = a} {l} {c} s y) q₀ t o b q₁ (waits-first v w) e (undoing-later q r) m₀ y₂ f m h = absurd (quiet-waits w e q)
+    undo-raises-in (sits-more {a = a} {l} {c} s y) q₀ t o b q₁ (waits-later v w) e (undoing-later q r) m₀ y₂ f m h =
+        ap (λ (r : Outcome). r .result) (among-is inPlace a l q₀ c t o false (le-ltb t (c + size a) v)) ∙ undo-raises-in y q₀ t o b q₁ w e r m₀ y₂ f (omega arith) (ap isTake (sym (doing-later a l c t v)) ∙ h)

@@ -8,7 +8,7 @@ use Rattle.plan.specs.Tree.{Plan}
 use Rattle.order.specs.declared.Order.{Order}
 use Rattle.order.specs.declared.End.{End}
 use Rattle.order.specs.declared.End.the-variants.{None, Well, Handled}
-use Rattle.order.specs.State.{root, inner, idle, active, inside, done, faulty, undoing, handling, marked, noOrder, withRoot, withMarks, remembering}
+use Rattle.order.specs.State.{root, inner, idle, active, inside, done, faulty, undoing, handling, closingOf, marked, noOrder, withRoot, withMarks, remembering}
 use Rattle.order.specs.Event.{Event, started, began, closed, faulted, stopped, ended, raised}
 use Rattle.machine.specs.State.{noTally}
 use Rattle.machine.specs.Limits.{by}
@@ -187,7 +187,7 @@ e10 = record {
   calls = first ∷ next ∷ [];
   deeds =
       does 2 (λ o. marked 2 idle (marked 3 done o)) (began 3 ∷ []) None
-      ∷ does 3 (λ o. remembering (3 ∷ []) (marked 3 idle (marked 7 active o))) (closed 3 ∷ began 7 ∷ []) None ∷ [];
+      ∷ does 3 (λ o. remembering (closingOf 3 0 ∷ []) (marked 3 idle (marked 7 active o))) (closed 3 ∷ began 7 ∷ []) None ∷ [];
 }
 
 -- 11. The same plan: the scope is closed while its body runs, which is dropped
@@ -196,7 +196,7 @@ e11 = record {
   bytes = unbegun;
   calls = first ∷ next ∷ next ∷ [];
   deeds =
-      does 3 (λ o. remembering (3 ∷ []) (marked 3 idle (marked 4 idle (marked 7 active o)))) (closed 3 ∷ began 7 ∷ []) None ∷ [];
+      does 3 (λ o. remembering (closingOf 3 0 ∷ []) (marked 3 idle (marked 4 idle (marked 7 active o)))) (closed 3 ∷ began 7 ∷ []) None ∷ [];
 }
 
 -- 12. Plan C: an order ends well with the take that starts it: nothing of its body runs
@@ -245,7 +245,7 @@ e16 = record {
   bytes = planC;
   calls = first ∷ first ∷ next ∷ next ∷ next ∷ next ∷ next ∷ next ∷ next ∷ [];
   deeds =
-      silently (λ o. remembering (2 ∷ []) o) ∷ [];
+      silently (λ o. remembering (closingOf 2 0 ∷ []) o) ∷ [];
 }
 
 -- 17. A receive 1; a scope 2 (undo part 5, a send); a flow 6 of a scope 7 (body, a receive 8 that never comes) and a raise 11: the root faults, and waits for ever
@@ -286,3 +286,20 @@ ofHistories = refl
 refused : map (λ e. map (λ v. v .ofSteps) (verdict e)) engines ≡ ((trulyEver ∷ []) ∷ []) ∷ ((trulyEver ∷ []) ∷ []) ∷ ((entirely ∷ []) ∷ (entirely ∷ []) ∷ []) ∷ ((once ∷ []) ∷ (once ∷ []) ∷ []) ∷ ((leftToFinish ∷ afresh ∷ []) ∷ (leftToFinish ∷ afresh ∷ []) ∷ []) ∷ ((ownSteps ∷ []) ∷ (ownSteps ∷ []) ∷ (ownSteps ∷ []) ∷ []) ∷ ((toCome ∷ []) ∷ (toCome ∷ []) ∷ (toCome ∷ []) ∷ []) ∷ ((stoppedWithin ∷ []) ∷ (stoppedWithin ∷ []) ∷ [] ∷ []) ∷ ((leftToFinish ∷ afresh ∷ []) ∷ (leftToFinish ∷ afresh ∷ []) ∷ []) ∷ ((entirely ∷ []) ∷ (entirely ∷ []) ∷ []) ∷ ((itsStep ∷ []) ∷ []) ∷ ([] ∷ []) ∷ ((entirely ∷ []) ∷ (entirely ∷ []) ∷ []) ∷ ([] ∷ []) ∷ ((trulyEver ∷ []) ∷ []) ∷ ((ownSteps ∷ []) ∷ []) ∷ ((stoppedWithin ∷ []) ∷ []) ∷ ((entirely ∷ []) ∷ []) ∷ []
 unfolding engines planC e1 e2 inSequence e3 three e4 beside e5 e6 hung e7 unstopped e8 e9 unbegun e10 e11 e12 inFlow e13 e14 e15 e16 waits e17 nested e18 judge verdict computing judging weighing
 refused = refl
+
+-- The engine itself where it begins again what runs. A receive 1; a set 2; a repeat 3 of a sequence 4: a scope 5 with no undo part, whose body is a sequence 6 of a scope 7
+-- (undo part 10, a flow of a raise 11 and a receive 12) and a choose 13 (a raise 14 the second time); a set 17. The first closing of 7 is handed on to the root; the
+-- second is undone by 5, the raise 11 ends 5, and in the same step the root begins 10 for the first, with 12, which ran.
+unfoldable anew : List ℕ
+anew = 1 ∷ 2 ∷ 0 ∷ 8 ∷ 3 ∷ 2 ∷ 0 ∷ 0 ∷ 1 ∷ 0 ∷ 3 ∷ 1 ∷ 0 ∷ 0 ∷ 7 ∷ 5 ∷ 1 ∷ 1 ∷ 0 ∷ 3 ∷ 8 ∷ 2 ∷ 12 ∷ 8 ∷ 2 ∷ 11 ∷ 0 ∷ 0 ∷ 9 ∷ 2 ∷ 4 ∷ 2 ∷ 1 ∷ 1 ∷ 1 ∷ 0 ∷ 6 ∷ 5 ∷ 0 ∷ 0 ∷ 1 ∷ 1 ∷ 4 ∷ 0 ∷ 0 ∷ 3 ∷ 1 ∷ 2 ∷ 1 ∷ 1 ∷ 0 ∷ 1 ∷ 0 ∷ []
+
+unfoldable anewCalls : List Call
+anewCalls = first ∷ next ∷ next ∷ next ∷ next ∷ next ∷ next ∷ next ∷ next ∷ next ∷ next ∷ next ∷ next ∷ []
+
+begunAnew : by [] (λ p. map (λ x. x .activity) (stepsTaken p anewCalls 0 (loaded anew) noTally)) (readPlan anew) ≡ 1 ∷ 2 ∷ 3 ∷ 7 ∷ 13 ∷ 5 ∷ 17 ∷ 3 ∷ 7 ∷ 13 ∷ 14 ∷ 11 ∷ []
+unfolding anew anewCalls computing judging weighing
+begunAnew = refl
+
+begunRight : by (afresh ∷ []) (λ p. looser p (stepsTaken p anewCalls 0 (loaded anew) noTally) (orderAfter anewCalls 0 (loaded anew) noTally)) (readPlan anew) ≡ []
+unfolding anew anewCalls computing judging weighing
+begunRight = refl

@@ -8,7 +8,7 @@ use lib.ListN.{length}
 use lib.Dec.{ltb, eqb}
 use Rattle.plan.specs.Found.{found}
 use Rattle.plan.specs.Read.{readPlan}
-use Rattle.plan.specs.Tree.{Own, empty, send, receive, set as setting, raise, leave, choose, repeat, sequence, flow, pick, scope, arm, Act, act, Acts, none, more, Plan, size}
+use Rattle.plan.specs.Tree.{Own, empty, send, receive, set as setting, raise, leave, choose, repeat, sequence, flow, pick, scope, arm, isScope, Act, act, Acts, none, more, Plan, size}
 use Rattle.order.specs.declared.End.{End}
 use Rattle.order.specs.declared.End.the-variants.{None, Well, Handled, Failed, Left}
 use Rattle.machine.specs.declared.State.{State}
@@ -17,7 +17,6 @@ use Rattle.machine.specs.declared.Tally.{Tally}
 use Rattle.order.specs.Lists.{every, some, only, empties}
 use Rattle.order.specs.State.{Name, root}
 use Rattle.order.specs.Begin.{part, partAt}
-use Rattle.order.specs.Scope.{isScope}
 use Rattle.machine.specs.Calls.{loaded, post, collect, dropAt, Stepped, step, Call, posting, collecting, dropping, stepping}
 use Rattle.undoing.specs.Demand3.{insideOf}
 use Rattle.undoing.specs.Ties.{isTaken}
@@ -36,7 +35,7 @@ isSure (repeat e) = false
 isSure sequence = false
 isSure flow = false
 isSure pick = false
-isSure scope = false
+isSure (scope undo) = false
 isSure (arm p op vs) = false
 
 -- whether all that stands in an activity runs with it
@@ -52,7 +51,7 @@ hasAll (repeat e) = false
 hasAll sequence = true
 hasAll flow = true
 hasAll pick = false
-hasAll scope = false
+hasAll (scope undo) = false
 hasAll (arm p op vs) = false
 
 unfoldable mutual
@@ -85,6 +84,9 @@ isBack p n t = some (λ x. some (eqb t) (backOf p (x .number))) (insideOf p n)
 
 -- What a buyer writes down of an order: for each closing of a scope directly inside a scope, the latest first, the steps that are still due to take it back; and
 -- whether taking back has begun.
+-- Of a scope with no undo part nothing is due by its own closing, and what it hands on is not in this book: that is taken back by the scope around it, or by the scope
+-- itself where it faults, and which of the two, and whether it broke and forgot the rest, no answer tells. Looked through (closingsOf in Demand3) it is said over
+-- the history: HandledTakesAllBack and HandledTakesEachBack in Buyer.
 pub record Book : Type 0 where
   pub due : List (List ℕ)
   pub begun : Bool
@@ -153,8 +155,8 @@ answered (collecting ∷ l) i s t = answered l i (collect s .state) t
 answered (dropping j ∷ l) i s t = answered l i (dropAt j s .state) t
 answered (stepping c ∷ l) i s t = let r = step c s t in cond (isTaken i r) (r .answer ∷ []) [] ++ answered l i (r .state) (r .tally)
 
--- What closed directly inside the root is taken back once for each closing, the latest first: all of it where the order ended handled, nothing where it ended well, and
--- never what is not due. For every accepted plan, every run of posts, collects and choices from a fresh start, and every slot.
+-- What closed directly inside the root and has an undo part is taken back once for each closing, the latest first: all of it where the order ended handled, nothing
+-- where it ended well, and never what is not due. For every accepted plan, every run of posts, collects and choices from a fresh start, and every slot.
 unfoldable pub TakenBackOnce : Type 0
 TakenBackOnce =
     (bytes : List ℕ) (p : Plan) (next : ℕ) → readPlan bytes ≡ found p next → (calls : List Call) (slot : ℕ) (t : Tally) →

@@ -9,7 +9,7 @@ use lib.ListN.{getD}
 use lib.Dec.{ltb, eqb}
 use Rattle.plan.specs.Found.{found}
 use Rattle.plan.specs.Read.{readPlan}
-use Rattle.plan.specs.Tree.{Own, kind, Act, act, Acts, none, more, Plan, size}
+use Rattle.plan.specs.Tree.{Own, kind, isScope, isPick, Act, act, Acts, none, more, Plan, size}
 use Rattle.order.specs.declared.Order.{Order}
 use Rattle.machine.specs.declared.State.{State}
 use Rattle.machine.specs.declared.Tally.{Tally}
@@ -17,7 +17,6 @@ use Rattle.order.specs.declared.End.the-variants.{None, Well, Handled, Failed, 
 use Rattle.order.specs.Lists.{every, some, each}
 use Rattle.order.specs.State.{idle, inside, markAt, isLive, noOrder}
 use Rattle.order.specs.Event.{Event, started}
-use Rattle.order.specs.Scope.{isScope}
 use Rattle.order.specs.Acting.{isPart, inPlace, Moved, acted, begunOrder, startedOrder}
 use Rattle.order.specs.Judging.{Verdict, clear, clash, conflict, spare}
 unfoldable pub use Rattle.order.specs.Awaited.{kindIn, kindAmong, kindAt}
@@ -28,11 +27,11 @@ use Rattle.undoing.specs.Orderly.{isBeganOf}
 
 -- "Sequence, flow and empty move on inside the step that lets them", and arms have no mark: any other activity that begins lasts beyond its step
 unfoldable pub lasts : (kind : ℕ) → Bool
-lasts n = not (eqb n 0 || ((eqb n 8 || eqb n 9) || eqb n 12))
+lasts n = not (eqb n 0 || ((eqb n 8 || eqb n 9) || eqb n 255))
 
 -- whether an activity has steps of its own: a pick has those of its arms
 unfoldable pub acts : (kind : ℕ) → Bool
-acts n = not ((eqb n 0 || eqb n 10) || ((eqb n 8 || eqb n 9) || eqb n 12))
+acts n = not ((eqb n 0 || eqb n 10) || ((eqb n 8 || eqb n 9) || eqb n 255))
 
 -- whether step t is that of activity j: j is t, or a pick one of whose arms is t
 unfoldable mutual
@@ -40,7 +39,7 @@ unfoldable mutual
   ownsIn (act own within) k t j =
       elim (eqb k t) [
         | true ↦ eqb k j && acts (kind own)
-        | false ↦ elim (eqb (kind own) 10 && isPart within (k + 1) t) [ true ↦ eqb k j | false ↦ ownsAmong within (k + 1) t j ]
+        | false ↦ elim (isPick own && isPart within (k + 1) t) [ true ↦ eqb k j | false ↦ ownsAmong within (k + 1) t j ]
       ]
 
   pub ownsAmong : Acts → (c t j : ℕ) → Bool
@@ -77,10 +76,14 @@ isMarked p x k =
 unfoldable pub goesIn : (kind after : ℕ) → (bodyBegan : Bool) → Bool
 goesIn n y b = (eqb n 7 && b) || ((eqb n 6 || eqb n 10) && eqb y inside)
 
+-- the kinds of a scope: with an undo part and with none
+abbrev pub isScopeKind : (kind : ℕ) → Bool
+isScopeKind n = eqb n 11 || eqb n 12
+
 -- None is left out: the mark of an activity that did not begin is idle after the step, or it was not idle before and either has not changed, the step not
 -- being that activity's; or goes in with its own step; or is that of a repeat, which decides again. (The mark of a scope is what the history says of it.)
 unfoldable pub mayBe : (kind : ℕ) → (itsStep bodyBegan : Bool) → (before after : ℕ) → Bool
-mayBe n s b x y = eqb y idle || (not (eqb x idle) && (eqb n 11 || cond s (goesIn n y b) (eqb y x || eqb n 7)))
+mayBe n s b x y = eqb y idle || (not (eqb x idle) && (isScopeKind n || cond s (goesIn n y b) (eqb y x || eqb n 7)))
 
 unfoldable pub hasBegun : Plan → Taken → (activity : ℕ) → Bool
 hasBegun p x k = hasBegan k (x .log) || mayBe (kindAt p k) (ownsAt p (x .activity) k) (hasBegan (k + 1) (x .log)) (markBefore k x) (markAt k (x .after))

@@ -16,7 +16,7 @@ use Rattle.order.specs.State.{root}
 use Rattle.order.specs.Event.{Event, started, began, closed, faulted, stopped, ended, raised, left}
 use Rattle.machine.specs.Calls.{loaded, Call}
 use Rattle.undoing.specs.History.{history}
-use Rattle.undoing.specs.Demand3.{Inner, scopesOf, since, closingsOf, undoneOf}
+use Rattle.undoing.specs.Demand3.{Inner, scopesOf, since, closingsOf, runnerOf, isUndoPart, undoneOf}
 use Rattle.undoing.specs.Ties.{endTold}
 use Rattle.undoing.specs.Orderly.{isBeganOf}
 
@@ -43,15 +43,15 @@ isClosedOf k left = false
 
 -- For each closing of a scope its undo part starts at most once.
 unfoldable pub AtMostOnce : Type 0
-AtMostOnce = OfEvery (λ p l. every (λ x. leb (howMany (isBeganOf (eqb (x .undo))) l) (howMany (isClosedOf (x .number)) l)) (scopesOf p))
+AtMostOnce = OfEvery (λ p l. every (λ x. leb (howMany (isBeganOf (eqb (x .undo))) l) (howMany (isClosedOf (x .number)) l)) (only (λ x. x .undoes) (scopesOf p)))
 
--- What is taken back was closed before, since the scope around it last began.
+-- What is taken back was closed before, since the scope that takes it back last began.
 abbrev pub wasClosed : (past : List Event) → Inner → Bool
-wasClosed past x = some (isClosedOf (x .number)) (since (x .around) past)
+wasClosed past x = some (isClosedOf (x .number)) (since (runnerOf past x) past)
 
 unfoldable pub closedFirst : Plan → (past : List Event) → Event → Bool
 closedFirst p past started = true
-closedFirst p past (began k) = every (wasClosed past) (only (λ x. eqb (x .undo) k) (scopesOf p))
+closedFirst p past (began k) = every (wasClosed past) (only (isUndoPart k) (scopesOf p))
 closedFirst p past (closed k) = true
 closedFirst p past (faulted n) = true
 closedFirst p past (stopped k) = true
@@ -81,6 +81,19 @@ allBack p Left past = true
 
 unfoldable pub HandledTakesAllBack : Type 0
 HandledTakesAllBack = OfEvery (λ p l. atEnds (allBack p) [] l)
+
+-- So what closed in its root, looked through, was taken back by name: the undo part of every scope that has one, in however many scopes with none it stands, began in
+-- this order at least as often as that scope is among what closed in the root. What scopes with no undo part hand on is not lost with them.
+abbrev pub eachBack : Plan → End → (past : List Event) → Bool
+eachBack p None past = true
+eachBack p Well past = true
+eachBack p Handled past =
+    every (λ x. leb (length (only (eqb (x .number)) (closingsOf p root past))) (howMany (isBeganOf (eqb (x .undo))) (since root past))) (only (λ x. x .undoes) (scopesOf p))
+eachBack p Failed past = true
+eachBack p Left past = true
+
+unfoldable pub HandledTakesEachBack : Type 0
+HandledTakesEachBack = OfEvery (λ p l. atEnds (eachBack p) [] l)
 
 -- An order that ended well has taken back nothing at its root.
 abbrev pub noneBack : Plan → End → (past : List Event) → Bool

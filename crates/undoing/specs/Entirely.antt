@@ -4,12 +4,13 @@
 use Prim.Native.Nat.{ℕ, _+_, _≤_}
 use mathlib.Core.Path.{_≡_}
 use mathlib.Core.Bool.{Bool, true, false, cond, not, _&&_, _||_}
-use mathlib.Core.List.{List, [], _∷_, _++_, reverse}
+use mathlib.Core.List.{List, [], _∷_, _++_, reverse, map}
 use lib.ListN.{length, getD}
 use lib.Dec.{leb, ltb, eqb}
 use Rattle.plan.specs.Found.{found, among}
 use Rattle.plan.specs.Read.{readPlan}
-use Rattle.plan.specs.Tree.{Own, kind, Act, act, Acts, none, more, Plan, size}
+use Rattle.plan.specs.Tree.{Own, kind, isScope, Act, act, Acts, none, more, Plan, size}
+use Rattle.order.specs.declared.Closing.{Closing}
 use Rattle.order.specs.declared.Order.{Order}
 use Rattle.machine.specs.declared.Message.{Message}
 use Rattle.machine.specs.declared.State.{State}
@@ -17,15 +18,15 @@ use Rattle.machine.specs.declared.Tally.{Tally}
 use Rattle.order.specs.Lists.{every, some, alike}
 use Rattle.order.specs.State.{idle, markAt, markOf, isLive, noOrder}
 use Rattle.order.specs.Event.{Event, started, began, closed, faulted, stopped, ended, raised, left}
-use Rattle.order.specs.Scope.{isScope, isOpen}
+use Rattle.order.specs.Scope.{isOpen}
 use Rattle.order.specs.Acting.{startedOrder}
 use Rattle.order.specs.Taking.{actAt}
 use Rattle.machine.specs.Fit.{readyOf}
 use Rattle.machine.specs.State.{letters}
 use Rattle.machine.specs.Limits.{planIn}
 use Rattle.machine.specs.Calls.{loaded, trimmed, post, partnersOf, collect, dropAt, step, Call}
-use Rattle.undoing.specs.Demand3.{Inner, scopesOf}
-use Rattle.undoing.specs.Ties.{Always, orderAfter, isTurned, isTaken, isStep, Place, bodyOf, faultOf, undoOf, placeOf}
+use Rattle.undoing.specs.Demand3.{Inner, scopesOf, inUndoPart}
+use Rattle.undoing.specs.Ties.{Always, orderAfter, isRaised, isTurned, isTaken, isStep, Place, bodyOf, faultOf, undoOf, placeOf}
 use Rattle.undoing.specs.Orderly.{isBeganOf}
 use Rattle.undoing.specs.Begun.{kindAt, lasts, hasBegan, Taken, markBefore, isMarked, numbers, stepsTaken}
 
@@ -57,18 +58,25 @@ unfoldable pub BegunOnce : Type 0
 BegunOnce = OfEveryStep isOnce
 
 -- AFRESH. What begins was idle before the step; or it stands in an undo part, and the step in it: an undo part that is over begins again for the closing before.
--- Nothing else begins while it runs.
+-- Or the step raised in that undo part: the scope that ran it ends, and where that one has no undo part itself, a scope further out may have the same closing from
+-- an earlier time and begins the undo part anew. Nothing else begins while it runs.
 abbrev pub isUndo : Place → Bool
-isUndo (bodyOf n m) = false
-isUndo (faultOf n m) = false
-isUndo (undoOf n m) = true
+isUndo (bodyOf n ns m) = false
+isUndo (faultOf n ns m) = false
+isUndo (undoOf n ns m) = true
 
 -- the step stands in an activity
 abbrev pub standsIn : Plan → Taken → (activity : ℕ) → Bool
 standsIn p x k = leb k (x .activity) && ltb (x .activity) (k + size (actAt p k))
 
+-- the step raised, in the undo part in which an activity stands
+abbrev pub raisedBeside : Plan → Taken → (activity : ℕ) → Bool
+raisedBeside p x k = isRaised (x .log) && some (λ y. inUndoPart (x .activity) y && inUndoPart k y) (scopesOf p)
+
 unfoldable pub isAfresh : Plan → Taken → (activity : ℕ) → Bool
-isAfresh p x k = not (hasBegan k (x .log)) || (eqb (markBefore k x) idle || (isUndo (placeOf p k) && standsIn p x k))
+isAfresh p x k =
+    not (hasBegan k (x .log))
+    || (eqb (markBefore k x) idle || ((isUndo (placeOf p k) && standsIn p x k) || raisedBeside p x k))
 
 unfoldable pub BegunAfresh : Type 0
 BegunAfresh = OfEveryStep isAfresh
@@ -130,10 +138,13 @@ BegunEntirely = OfEveryStep isEntire
 
 -- ITS OWN STEPS. Nothing changes in a slot but by a step that is answered for it: each step finds the order as the last one left it, the first one finds none,
 -- and what stands there now is as the last one left it.
+abbrev pub sameClosings : List Closing → List Closing → Bool
+sameClosings l m = alike (map (λ c. c .scope) l) (map (λ c. c .scope) m) && alike (map (λ c. c .part) l) (map (λ c. c .part) m)
+
 unfoldable pub sameOrder : Order → Order → Bool
 sameOrder o q =
     (eqb (o .root) (q .root) && eqb (o .kept) (q .kept))
-    && (alike (o .marks) (q .marks) && (alike (o .values) (q .values) && (alike (o .bound) (q .bound) && alike (o .remembered) (q .remembered))))
+    && (alike (o .marks) (q .marks) && (alike (o .values) (q .values) && (alike (o .bound) (q .bound) && sameClosings (o .remembered) (q .remembered))))
 
 unfoldable pub chained : Order → List Taken → (now : Order) → Bool
 chained o [] q = sameOrder o q
@@ -203,7 +214,9 @@ AwaitedTold =
     every (isAwaited p) (stepsTaken p calls slot (loaded bytes) t) ≡ true
 
 -- LEFT TO FINISH. "an inner scope already faulted, undoing or handling is left to finish": in the body and in the fault part of a scope in which the step does not
--- stand nothing begins, unless that scope itself begins or is stopped with it.
+-- stand nothing begins, unless that scope itself begins or is stopped with it. Of a scope with no undo part this is said of its body as a whole and of its fault part:
+-- an undo part within its body may have been handed on, and then a scope further out begins it. (Whatever else stands within a body begins with it, or with a step in
+-- it: BegunInTurn.)
 unfoldable pub isStopOf : (scope : ℕ) → Event → Bool
 isStopOf k started = false
 isStopOf k (began j) = false
@@ -214,10 +227,17 @@ isStopOf k (ended n) = false
 isStopOf k (raised j) = false
 isStopOf k left = false
 
+-- the numbers of which this is said, and the first beyond those of a scope
+abbrev pub inParts : Inner → (activity : ℕ) → Bool
+inParts y j = (ltb (y .number) j && ltb j (y .undo)) && (y .undoes || (eqb j (y .number + 1) || leb (y .fault) j))
+
+abbrev pub beyondAll : Inner → ℕ
+beyondAll y = y .undo + cond (y .undoes) (y .count) 0
+
 unfoldable pub isLocal : Taken → Inner → Bool
 isLocal x y =
-    (leb (y .number) (x .activity) && ltb (x .activity) (y .undo + y .count))
-    || ((hasBegan (y .number) (x .log) || some (isStopOf (y .number)) (x .log)) || not (some (isBeganOf (λ j. ltb (y .number) j && ltb j (y .undo))) (x .log)))
+    (leb (y .number) (x .activity) && ltb (x .activity) (beyondAll y))
+    || ((hasBegan (y .number) (x .log) || some (isStopOf (y .number)) (x .log)) || not (some (isBeganOf (inParts y)) (x .log)))
 
 unfoldable pub LeftToFinish : Type 0
 LeftToFinish =

@@ -3,12 +3,12 @@
 use Prim.Native.Nat.{ℕ, zero, suc, _+_}
 use mathlib.Core.Path.{_≡_}
 use mathlib.Core.Bool.{Bool, true, false, cond, not, _&&_, _||_}
-use mathlib.Core.List.{List, [], _∷_, _++_, reverse}
+use mathlib.Core.List.{List, [], _∷_, _++_, reverse, map}
 use lib.ListN.{getD}
 use lib.Dec.{leb, ltb, eqb}
 use Rattle.plan.specs.Found.{found}
 use Rattle.plan.specs.Read.{readPlan}
-use Rattle.plan.specs.Tree.{Own, empty, send, receive, set as setting, raise, leave, choose, repeat, sequence, flow, pick, scope, arm, Act, act, Acts, none, more, Plan, size}
+use Rattle.plan.specs.Tree.{Own, empty, send, receive, set as setting, raise, leave, choose, repeat, sequence, flow, pick, scope, arm, isScope, hasUndo, Act, act, Acts, none, more, Plan, size}
 use Rattle.order.specs.declared.Order.{Order}
 use Rattle.order.specs.declared.End.{End}
 use Rattle.order.specs.declared.End.the-variants.{None, Well, Handled, Failed, Left}
@@ -19,7 +19,7 @@ use Rattle.order.specs.State.{idle, faulty, undoing, handling, halted, withdraw
 use Rattle.order.specs.Expression.{Value, fault as faulting, value, evaluate}
 use Rattle.order.specs.Event.{Event, started, began, closed, faulted, stopped, ended, raised, left}
 use Rattle.order.specs.Begin.{quiet}
-use Rattle.order.specs.Scope.{Scope, scopeAt, rootOf, isOpen, isScope, innerRuns}
+use Rattle.order.specs.Scope.{Scope, scopeAt, rootOf, isOpen, innerRuns}
 use Rattle.order.specs.Acting.{allBound, itsOwn, inPlace, Moved, acted, startedOrder}
 use Rattle.order.specs.Awaited.{Ready}
 use Rattle.order.specs.Judging.{isThing, Verdict, clear, clash, conflict, spare}
@@ -79,14 +79,18 @@ MarksTold =
     (not (eqb (markOf n o) idle) ≡ isLeft n past) × (isOpen (markOf n o) ≡ mayTurn n past) × (isTurned (markOf n o) ≡ hasTurned n past))
 
 -- LISTS. In a live order what is remembered for a scope, the last first, is what closed directly inside it since it last began less what it has
--- undone since; and for a scope that is not left running nothing is remembered.
-abbrev pub remembered : Plan → Name → Order → List ℕ
-remembered p n o = reverse (only (λ e. some (λ x. eqb (x .number) e) (insideOf p n)) (closings o))
+-- undone since; and for a scope that is not left running nothing is remembered. A scope's list is that of its body: 0 the root's, k + 1 that of scope k.
+abbrev pub bodyOfName : Name → ℕ
+bodyOfName root = 0
+bodyOfName (inner k) = k + 1
+
+abbrev pub remembered : Name → Order → List ℕ
+remembered n o = reverse (map (λ c. c .scope) (only (λ c. eqb (c .part) (bodyOfName n)) (closings o)))
 
 unfoldable pub ListsTold : Type 0
 ListsTold =
     Always (λ p o past. isLive o ≡ true → (n : Name) → isName p n ≡ true →
-    (isLeft n past ≡ true → closingsOf p n past ≡ undoneOf p n past ++ remembered p n o) × (isLeft n past ≡ false → remembered p n o ≡ []))
+    (isLeft n past ≡ true → closingsOf p n past ≡ undoneOf p n past ++ remembered n o) × (isLeft n past ≡ false → remembered n o ≡ []))
 
 -- STEPS. The starts, closings, raises and leaves of a history are those of the steps taken in the slot, no more, no fewer, and in their order. A step's
 -- own deed comes first, and then a raise for each conflict that stands when the receives open then are judged: so a receive or an arm raises exactly
@@ -124,7 +128,7 @@ deedOf (repeat e) k o = raisedIf k (isFault (evaluate e o))
 deedOf sequence k o = []
 deedOf flow k o = []
 deedOf pick k o = []
-deedOf scope k o = closed k ∷ []
+deedOf (scope undo) k o = closed k ∷ []
 deedOf (arm p op vs) k o = []
 
 -- activity t, where k is the number of the first; none where there is no such activity
@@ -192,32 +196,51 @@ StepsTold =
 -- FAULTS. "A raise in a body faults the nearest scope around it."; "A raise inside the undo parts or fault part that a scope is running ends that
 -- scope, forgets the rest of its list, and faults the scope around it."; "A fault that reaches a scope already stopped or faulted is absorbed."
 
--- Where an activity stands: in the body of a scope, in its fault part, or in an undo part that it runs; and the scope around that scope (the
--- root's is the root itself).
+-- Where an activity stands: in the body of a scope, in its fault part, or in an undo part that it may run. With the scope goes, where it has no undo part, the
+-- one around it, to which it hands on, and so on (`beyond`); and last the scope around the last of these (the root's is the root itself).
 pub data Place : Type 0 where
-  bodyOf : (scope around : Name) → Place
-  faultOf : (scope around : Name) → Place
-  undoOf : (scope around : Name) → Place
+  bodyOf : (scope : Name) → (beyond : List Name) → (around : Name) → Place
+  faultOf : (scope : Name) → (beyond : List Name) → (around : Name) → Place
+  undoOf : (scope : Name) → (beyond : List Name) → (around : Name) → Place
 
--- that scope, and the one around it
+-- that scope, those beyond it, and the scope around the last of these; then the scope around the first
 abbrev pub nameOf : Place → Name
-nameOf (bodyOf n m) = n
-nameOf (faultOf n m) = n
-nameOf (undoOf n m) = n
+nameOf (bodyOf n ns m) = n
+nameOf (faultOf n ns m) = n
+nameOf (undoOf n ns m) = n
+
+abbrev pub beyondOf : Place → List Name
+beyondOf (bodyOf n ns m) = ns
+beyondOf (faultOf n ns m) = ns
+beyondOf (undoOf n ns m) = ns
+
+abbrev pub lastOf : Place → Name
+lastOf (bodyOf n ns m) = m
+lastOf (faultOf n ns m) = m
+lastOf (undoOf n ns m) = m
+
+abbrev pub firstOf : List Name → Name → Name
+firstOf [] m = m
+firstOf (n ∷ ns) m = n
 
 abbrev pub aroundOf : Place → Name
-aroundOf (bodyOf n m) = m
-aroundOf (faultOf n m) = m
-aroundOf (undoOf n m) = m
+aroundOf q = firstOf (beyondOf q) (lastOf q)
 
--- where activity t stands, in activity k that stands in a place; the undo part of a scope is run by the scope around it
+-- beyond a scope that stands in this place, and around the last of that: where it has no undo part it hands on to the scope of the place
+abbrev pub beyondIn : (undo : Bool) → Place → List Name
+beyondIn undo q = cond undo [] (nameOf q ∷ beyondOf q)
+
+abbrev pub lastIn : (undo : Bool) → Place → Name
+lastIn undo q = cond undo (nameOf q) (lastOf q)
+
+-- where activity t stands, in activity k that stands in a place; the undo part of a scope is run by the scope around it, or by one beyond
 unfoldable mutual
   pub placeIn : Act → (k t : ℕ) → Place → Place
   placeIn (act own within) k t q =
       elim (eqb k t) [
         | true ↦ q
         | false ↦ elim (isScope own) [
-          | true ↦ placeParts within (k + 1) t (bodyOf (inner k) (nameOf q)) (faultOf (inner k) (nameOf q)) (undoOf (nameOf q) (aroundOf q))
+          | true ↦ placeParts within (k + 1) t (bodyOf (inner k) (beyondIn (hasUndo own) q) (lastIn (hasUndo own) q)) (faultOf (inner k) (beyondIn (hasUndo own) q) (lastIn (hasUndo own) q)) (undoOf (nameOf q) (beyondOf q) (lastOf q))
           | false ↦ placeAmong within (k + 1) t q
         ]
       ]
@@ -226,7 +249,7 @@ unfoldable mutual
   placeAmong none c t q = q
   placeAmong (more a l) c t q = elim (ltb t (c + size a)) [ true ↦ placeIn a c t q | false ↦ placeAmong l (c + size a) t q ]
 
-  -- the three parts of a scope, each in its place
+  -- the parts of a scope, each in its place
   pub placeParts : Acts → (c t : ℕ) → (body fault undo : Place) → Place
   placeParts none c t b f u = u
   placeParts (more a l) c t b f u = elim (ltb t (c + size a)) [ true ↦ placeIn a c t b | false ↦ placeParts l (c + size a) t f u u ]
@@ -234,9 +257,26 @@ unfoldable mutual
 unfoldable pub placeOf : Plan → (t : ℕ) → Place
 placeOf p t =
     elim (ltb t (size (p .body))) [
-      | true ↦ placeIn (p .body) 0 t (bodyOf root root)
-      | false ↦ placeIn (p .fault) (size (p .body)) t (faultOf root root)
+      | true ↦ placeIn (p .body) 0 t (bodyOf root [] root)
+      | false ↦ placeIn (p .fault) (size (p .body)) t (faultOf root [] root)
     ]
+
+-- An undo part is run by the nearest of these scopes that is left running: the place with that one for its scope.
+unfoldable pub runAt : (isLeft : Name → Bool) → (scope : Name) → (beyond : List Name) → (around : Name) → Place
+runAt f n [] m = undoOf n [] m
+runAt f n (x ∷ xs) m = cond (f n) (undoOf n (x ∷ xs) m) (runAt f x xs m)
+
+abbrev pub seen : (isLeft : Name → Bool) → Place → Place
+seen f (bodyOf n ns m) = bodyOf n ns m
+seen f (faultOf n ns m) = faultOf n ns m
+seen f (undoOf n ns m) = runAt f n ns m
+
+-- where an activity stands, by what happened before and by what stands in the slot
+abbrev pub placeAfter : Plan → (past : List Event) → (t : ℕ) → Place
+placeAfter p past t = seen (λ n. isLeft n past) (placeOf p t)
+
+abbrev pub placeNow : Plan → Order → (t : ℕ) → Place
+placeNow p o t = seen (λ n. not (eqb (markOf n o) idle)) (placeOf p t)
 
 -- what must happen next
 pub data Due : Type 0 where
@@ -246,15 +286,15 @@ pub data Due : Type 0 where
 
 -- after a raise: the fault of the scope in whose body it was, or the end of the scope that runs the part it was in
 abbrev pub dueFirst : Place → Due
-dueFirst (bodyOf n m) = fault n
-dueFirst (faultOf n m) = end n
-dueFirst (undoOf n m) = end n
+dueFirst (bodyOf n ns m) = fault n
+dueFirst (faultOf n ns m) = end n
+dueFirst (undoOf n ns m) = end n
 
 -- after that end: the fault of the scope around, where that one may still fault
 abbrev pub dueSecond : (past : List Event) → Place → Due
-dueSecond past (bodyOf n m) = nothing
-dueSecond past (faultOf n m) = cond (mayTurn m past) (fault m) nothing
-dueSecond past (undoOf n m) = cond (mayTurn m past) (fault m) nothing
+dueSecond past (bodyOf n ns m) = nothing
+dueSecond past (faultOf n ns m) = cond (mayTurn (firstOf ns m) past) (fault (firstOf ns m)) nothing
+dueSecond past (undoOf n ns m) = cond (mayTurn (firstOf ns m) past) (fault (firstOf ns m)) nothing
 
 unfoldable pub dueEnded : Plan → (past : List Event) → Due
 dueEnded p [] = nothing
@@ -264,7 +304,7 @@ dueEnded p (closed k ∷ past) = nothing
 dueEnded p (faulted n ∷ past) = nothing
 dueEnded p (stopped k ∷ past) = nothing
 dueEnded p (ended n ∷ past) = nothing
-dueEnded p (raised k ∷ past) = dueSecond past (placeOf p k)
+dueEnded p (raised k ∷ past) = dueSecond past (placeAfter p past k)
 dueEnded p (left ∷ past) = nothing
 
 unfoldable pub due : Plan → (past : List Event) → Due
@@ -275,7 +315,7 @@ due p (closed k ∷ past) = nothing
 due p (faulted n ∷ past) = nothing
 due p (stopped k ∷ past) = nothing
 due p (ended n ∷ past) = dueEnded p past
-due p (raised k ∷ past) = dueFirst (placeOf p k)
+due p (raised k ∷ past) = dueFirst (placeAfter p past k)
 due p (left ∷ past) = nothing
 
 -- which scope an event faults, and which it ends
@@ -378,14 +418,14 @@ EndsTold =
     endsIn [] (history calls slot (loaded bytes) t) ≡ endsTaken calls slot (loaded bytes) t
 
 -- PLACES. In a live order every activity that awaits its step stands where its scope is as it should be: in a body, that scope is open; in a
--- fault part, it is handling (so that by the lists it has undone all); in an undo part, the scope around is undoing.
+-- fault part, it is handling (so that by the lists it has undone all); in an undo part, the scope that runs it is undoing.
 abbrev pub fits : Place → Order → Bool
-fits (bodyOf n m) o = isOpen (markOf n o)
-fits (faultOf n m) o = eqb (markOf n o) handling
-fits (undoOf n m) o = eqb (markOf n o) undoing || eqb (markOf n o) withdrawing
+fits (bodyOf n ns m) o = isOpen (markOf n o)
+fits (faultOf n ns m) o = eqb (markOf n o) handling
+fits (undoOf n ns m) o = eqb (markOf n o) undoing || eqb (markOf n o) withdrawing
 
 unfoldable pub PlacesTold : Type 0
-PlacesTold = Always (λ p o past. isLive o ≡ true → every (λ r. fits (placeOf p (r .activity)) o) (readyOf p o) ≡ true)
+PlacesTold = Always (λ p o past. isLive o ≡ true → every (λ r. fits (placeNow p o (r .activity)) o) (readyOf p o) ≡ true)
 
 -- NEVER STUCK. A live order always has an activity or an arm that awaits its step.
 unfoldable pub isStep : Doing → Bool
@@ -394,13 +434,14 @@ isStep (sends partner operation vs) = true
 isStep (takes partner operation vs) = true
 isStep moves = true
 isStep cuts = true
-isStep (closes s) = true
+isStep (closes undo s) = true
 
 unfoldable pub NeverStuck : Type 0
 NeverStuck = Always (λ p o past. isLive o ≡ true → some (λ r. isStep (r .step)) (readyOf p o) ≡ true)
 
--- GOING ON. In a live order a scope that waits has one running directly inside it; one that undoes has the undo part of one directly inside it
--- running, and never more than one, and no scope but one that undoes has any; one that handles has something running in its fault part.
+-- GOING ON. In a live order a scope that waits has one running directly inside it; one that undoes has an undo part of its own to run running, that of one
+-- directly inside it or inside one there that has no undo part and is not left running; never more than one; and no scope but one that undoes has any; one that
+-- handles has something running in its fault part.
 
 -- 1 where the third of these, the undo part of a scope, runs, and 0 where not
 unfoldable pub undoRuns : Acts → (c : ℕ) → (marks : List ℕ) → ℕ
@@ -409,11 +450,19 @@ undoRuns (more b none) c ms = 0
 undoRuns (more b (more f none)) c ms = 0
 undoRuns (more b (more f (more u l))) c ms = cond (quiet (c + size b + size f) (size u) ms) 0 1
 
--- how many undo parts run, of the scopes of activity k with no other scope around them there
+-- how many undo parts run, of the scopes of activity k with no other scope around them there; looking through one that has no undo part and is idle
 unfoldable mutual
   pub undosIn : Act → (k : ℕ) → (marks : List ℕ) → ℕ
   undosIn (act own within) k ms =
-      elim (isScope own) [ true ↦ undoRuns within (k + 1) ms | false ↦ undosAmong within (k + 1) ms ]
+      elim (isScope own) [
+        | true ↦ cond (hasUndo own) (undoRuns within (k + 1) ms) (cond (eqb (getD ms k 0) idle) (undosFirst within (k + 1) ms) 0)
+        | false ↦ undosAmong within (k + 1) ms
+      ]
+
+  -- in the body of a scope
+  pub undosFirst : Acts → (c : ℕ) → (marks : List ℕ) → ℕ
+  undosFirst none c ms = 0
+  undosFirst (more a l) c ms = undosIn a c ms
 
   pub undosAmong : Acts → (c : ℕ) → (marks : List ℕ) → ℕ
   undosAmong none c ms = 0
@@ -427,7 +476,9 @@ movesOn s m ms =
 
 unfoldable mutual
   pub goIn : Act → (k : ℕ) → (marks : List ℕ) → Bool
-  goIn (act own within) k ms = cond (isScope own) (movesOn (scopeAt k within) (getD ms k 0) ms) true && goAmong within (k + 1) ms
+  goIn (act own within) k ms =
+      cond (isScope own) ((not (hasUndo own) && eqb (getD ms k 0) idle) || movesOn (scopeAt k within) (getD ms k 0) ms) true
+      && goAmong within (k + 1) ms
 
   pub goAmong : Acts → (c : ℕ) → (marks : List ℕ) → Bool
   goAmong none c ms = true
@@ -446,7 +497,7 @@ forOne d (sends partner operation vs) = false
 forOne d (takes partner operation vs) = isThing partner operation vs d
 forOne d moves = false
 forOne d cuts = false
-forOne d (closes s) = false
+forOne d (closes undo s) = false
 
 -- one of these with a lower number is for the same thing
 unfoldable pub isHigher : List Ready → Ready → Bool

@@ -20,7 +20,7 @@ use Rattle.machine.specs.Fit.{readyOf}
 use Rattle.machine.specs.Calls.{endNumber, loaded, Call}
 use Rattle.undoing.specs.History.{history}
 use Rattle.undoing.specs.Demand3.{scopesOf, closingsOf, undoneOf, hasTurned, isLeft, mayTurn, noneNow, right}
-use Rattle.undoing.specs.Ties.{orderAfter, isTurned, remembered, isDeed, deedsTaken, placeOf, heedsAfter, endsIn, endsTaken, fits, isStep, movesOn, goIn}
+use Rattle.undoing.specs.Ties.{orderAfter, isTurned, remembered, isDeed, deedsTaken, placeNow, heedsAfter, endsIn, endsTaken, fits, isStep, movesOn, goIn}
 use Rattle.undoing.specs.Orderly.{orderlyAfter}
 use Rattle.undoing.specs.Begun.{Taken, isMarked, hasBegun, isLed, ofEach, stepsTaken}
 
@@ -79,7 +79,7 @@ markTold o past n =
 -- what is remembered for it is what it has still to undo
 unfoldable pub listTold : Plan → Order → (past : List Event) → Name → Bool
 listTold p o past n =
-    cond (isLeft n past) (alike (closingsOf p n past) (undoneOf p n past ++ remembered p n o)) (alike (remembered p n o) [])
+    cond (isLeft n past) (alike (closingsOf p n past) (undoneOf p n past ++ remembered n o)) (alike (remembered n o) [])
 
 -- no two are for one thing
 abbrev pub isClear : Verdict → Bool
@@ -107,7 +107,7 @@ broken p ds es ts o l =
     ++ cond (isLive o)
     (unless (every (markTold o past) (namesOf p)) marks
     ++ (unless (every (listTold p o past) (namesOf p)) lists
-    ++ (unless (every (λ r. fits (placeOf p (r .activity)) o) (readyOf p o)) places
+    ++ (unless (every (λ r. fits (placeNow p o (r .activity)) o) (readyOf p o)) places
     ++ (unless (movesOn (rootOf p) (o .root) (o .marks) && (goIn (p .body) 0 (o .marks) && goIn (p .fault) (size (p .body)) (o .marks))) goingOn
     ++ (unless (some (λ r. isStep (r .step)) (readyOf p o)) neverStuck
     ++ unless (isClear (conflict p o)) noneTwice)))))

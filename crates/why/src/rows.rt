@@ -80,6 +80,14 @@ fn put_close(out: &mut [u8; 4096], used: usize, n: usize, kept: usize) -> usize 
     put_byte(out, at, 10)
 }
 
+// How many closings may hold the close of a scope of this kind: all that are kept, but none where it has no undo part, and hands on what closed in it.
+fn held_by(kind: u32, kept: usize) -> usize {
+    if kind == 11 {
+        return kept;
+    }
+    0
+}
+
 fn put_ready(
     out: &mut [u8; 4096],
     used: usize,
@@ -131,7 +139,7 @@ fn put_row(
         return put_active(out, used, names, table, flags, n, state, order);
     }
     if mark == 3 {
-        return put_close(out, used, n, order.kept);
+        return put_close(out, used, n, held_by(entry(table, n, 0), order.kept));
     }
     if fit::search::arm_open(table, picks, &marks, n) {
         return put_open(out, used, names, table, flags, n, state, order);

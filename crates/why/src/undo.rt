@@ -5,19 +5,17 @@ use drawing::entry;
 use drawing::put;
 use drawing::put_byte;
 use drawing::put_next;
-use drawing::scope_of;
 use drawing::wide;
 use order::Order;
 use telling::put_sent;
 
-// For what scope n is remembered.
-fn put_whose(out: &mut [u8; 4096], used: usize, table: &[u32; 11584], n: usize) -> usize {
-    let scope = scope_of(table, n);
-    if scope == n {
-        return put(out, used, b" for the root");
+// For what a closing is remembered: the body of the root is part 0, and that of scope k is part k + 1.
+fn put_whose(out: &mut [u8; 4096], used: usize, part: usize) -> usize {
+    if 0 < part {
+        let at = put(out, used, b" for scope");
+        return put_next(out, at, (part - 1) as u64);
     }
-    let at = put(out, used, b" for scope");
-    put_next(out, at, scope as u64)
+    put(out, used, b" for the root")
 }
 
 // The send in row n, where it is one.
@@ -60,7 +58,7 @@ fn put_sends(
     at
 }
 
-// A closing of scope n: its undo part stands after the body and the fault part.
+// A closing of scope n for a part: its undo part stands after the body and the fault part.
 fn put_closing(
     out: &mut [u8; 4096],
     used: usize,
@@ -68,11 +66,12 @@ fn put_closing(
     table: &[u32; 11584],
     flags: &[u8; 16],
     n: usize,
+    part: usize,
     order: Order,
 ) -> usize {
     let mut at = put(out, used, b"  would undo scope");
     at = put_next(out, at, n as u64);
-    at = put_whose(out, at, table, n);
+    at = put_whose(out, at, part);
     at = put_byte(out, at, 10);
     let from = end_of(table, end_of(table, after(n)));
     put_sends(out, at, names, table, flags, from, end_of(table, n), order)
@@ -90,7 +89,17 @@ fn put_place(
     if i < 32 {
         if i < order.kept {
             let remembered = order.remembered;
-            return put_closing(out, used, names, table, flags, wide(remembered[i]), order);
+            let c = remembered[i];
+            return put_closing(
+                out,
+                used,
+                names,
+                table,
+                flags,
+                wide(c.scope),
+                wide(c.part),
+                order,
+            );
         }
     }
     used

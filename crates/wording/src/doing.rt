@@ -35,7 +35,8 @@ fn put_active(out: &mut [u8; 4096], used: usize, kind: u32) -> usize {
         4 => put_column(out, used, b"ready to raise"),
         5 => put_column(out, used, b"ready to leave"),
         6 | 7 => put_column(out, used, b"ready to decide"),
-        _ => put_column(out, used, b"running"),
+        8 | 9 | 11 | 12 => put_column(out, used, b"running"),
+        _ => put_column(out, used, b"of an unknown kind"),
     }
 }
 
@@ -125,7 +126,7 @@ fn put_idle(
     match entry(table, parent, 0) {
         8 => put_in_sequence(out, used, table, marks, parent, n),
         9 => put_in_flow(out, used, mark_at(marks, parent)),
-        11 => put_part_idle(out, used, mark_at(marks, parent), after(parent) == n),
+        11 | 12 => put_part_idle(out, used, mark_at(marks, parent), after(parent) == n),
         _ => put_column(out, used, b""),
     }
 }
@@ -138,12 +139,32 @@ fn put_part_idle(out: &mut [u8; 4096], used: usize, mark: u8, body: bool) -> usi
     put_column(out, used, b"")
 }
 
+// Which scope closed, and for what part that is remembered, of the closing in place i.
+pub(crate) fn scope_in(order: Order, i: usize) -> usize {
+    if i < 32 {
+        let remembered = order.remembered;
+        let c = remembered[i];
+        return wide(c.scope);
+    }
+    0
+}
+
+pub(crate) fn part_in(order: Order, i: usize) -> usize {
+    if i < 32 {
+        let remembered = order.remembered;
+        let c = remembered[i];
+        return wide(c.part);
+    }
+    0
+}
+
 // Whether the scope n is remembered.
-fn is_remembered(remembered: &[u8; 32], kept: usize, n: usize) -> bool {
+fn is_remembered(order: Order, n: usize) -> bool {
+    let kept = order.kept;
     let mut i = 0;
     while i < 32 {
         if i < kept {
-            if wide(remembered[i]) == n {
+            if scope_in(order, i) == n {
                 return true;
             }
         }
@@ -169,14 +190,13 @@ fn put_resting(
     order: Order,
     n: usize,
 ) -> usize {
-    let remembered = order.remembered;
     if is_undone(table, marks, n) {
         return put_column(out, used, b"being undone");
     }
-    if is_remembered(&remembered, order.kept, n) {
+    if is_remembered(order, n) {
         return put_column(out, used, b"closed, remembered");
     }
-    if 11 < entry(table, n, 0) {
+    if entry(table, n, 0) == 255 {
         return put_arm(out, used, table, marks, n);
     }
     put_idle(out, used, table, marks, order.root, n)

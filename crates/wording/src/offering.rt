@@ -2,6 +2,7 @@
 use super::holding::put_full;
 use super::messages::put_taken;
 use drawing::entry;
+use drawing::is_scope;
 use drawing::put;
 use drawing::put_activity;
 use drawing::put_aligned;
@@ -107,7 +108,7 @@ fn put_what(
     let mut at = put(out, used, b", activity");
     at = put_next(out, at, n as u64);
     at = put(out, at, b": ");
-    if entry(table, n, 0) == 11 {
+    if is_scope(entry(table, n, 0)) {
         at = put(out, at, b"close ");
     }
     put_activity(out, at, names, table, flags, n)
@@ -122,7 +123,7 @@ fn put_which(
     place: usize,
 ) -> usize {
     match kind {
-        2 | 12 => put_taken(out, used, messages, place),
+        2 | 255 => put_taken(out, used, messages, place),
         _ => used,
     }
 }

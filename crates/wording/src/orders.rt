@@ -1,5 +1,7 @@
 // The live orders in words, and one order on the drawing of its plan.
+use super::doing::part_in;
 use super::doing::put_doing;
+use super::doing::scope_in;
 use drawing::put;
 use drawing::put_aligned;
 use drawing::put_byte;
@@ -8,8 +10,6 @@ use drawing::put_member;
 use drawing::put_next;
 use drawing::put_number;
 use drawing::put_refusal;
-use drawing::scope_of;
-use drawing::wide;
 use machine::State;
 use order::Order;
 use plan::Answer;
@@ -97,25 +97,20 @@ fn put_variables(
     put_values(out, used, names, correlation, variables, &bound, &values)
 }
 
-// A scope that closed, and for what it is remembered.
-fn put_closing(out: &mut [u8; 4096], used: usize, table: &[u32; 11584], n: usize) -> usize {
-    let scope = scope_of(table, n);
+// Scope n, which closed, and for what that is remembered: the body of the root is part 0, and that of scope k is part k + 1.
+fn put_closing(out: &mut [u8; 4096], used: usize, n: usize, part: usize) -> usize {
     let mut at = put(out, used, b"scope");
     at = put_next(out, at, n as u64);
-    if scope == n {
-        return put(out, at, b" for the root");
+    if 0 < part {
+        at = put(out, at, b" for scope");
+        return put_next(out, at, (part - 1) as u64);
     }
-    at = put(out, at, b" for scope");
-    put_next(out, at, scope as u64)
+    put(out, at, b" for the root")
 }
 
-fn put_remembered(
-    out: &mut [u8; 4096],
-    used: usize,
-    table: &[u32; 11584],
-    kept: usize,
-    remembered: &[u8; 32],
-) -> usize {
+// An order's closings, oldest first.
+fn put_closings(out: &mut [u8; 4096], used: usize, order: Order) -> usize {
+    let kept = order.kept;
     if kept == 0 {
         return put(out, used, b"none");
     }
@@ -124,17 +119,11 @@ fn put_remembered(
     while i < 32 {
         if i < kept {
             at = put_between(out, at, i);
-            at = put_closing(out, at, table, wide(remembered[i]));
+            at = put_closing(out, at, scope_in(order, i), part_in(order, i));
         }
         i += 1;
     }
     at
-}
-
-// An order's closings, oldest first.
-fn put_closings(out: &mut [u8; 4096], used: usize, table: &[u32; 11584], order: Order) -> usize {
-    let remembered = order.remembered;
-    put_remembered(out, used, table, order.kept, &remembered)
 }
 
 // The slot of an order, and how it stands.
@@ -163,7 +152,7 @@ fn put_order_line(
     at = put(out, at, b"; ");
     at = put_variables(out, at, names, correlation, variables, order);
     at = put(out, at, b"; remembered: ");
-    at = put_closings(out, at, table, order);
+    at = put_closings(out, at, order);
     put_byte(out, at, 10)
 }
 
@@ -276,7 +265,7 @@ fn put_foot(
     let mut at = put(out, used, b"variables: ");
     at = put_variables(out, at, names, correlation, variables, order);
     at = put(out, at, b"\nremembered, oldest first: ");
-    at = put_closings(out, at, table, order);
+    at = put_closings(out, at, order);
     put(out, at, b"\n\n")
 }
 

@@ -43,14 +43,14 @@ module _ (t : List ℕ) (r : ℕ) {k : ℕ} (s : Noted) where
   unfolding heardAll rowAsks
   hears-receive e h a b c = rw e (h ∙ rw (a, b, c))
 
-  pub hears-arm : k ≡ 12 → {p o m : ℕ} {u : Noted} → u ≡ heard (asking p o m r) s → p ≡ cell t r 1 → o ≡ cell t r 2 → m ≡ cell t r 3
+  pub hears-arm : k ≡ 255 → {p o m : ℕ} {u : Noted} → u ≡ heard (asking p o m r) s → p ≡ cell t r 1 → o ≡ cell t r 2 → m ≡ cell t r 3
       → u ≡ heardAll (rowAsks t r k) s
   unfolding heardAll rowAsks
   hears-arm e h a b c = rw e (h ∙ rw (a, b, c))
 
-  pub hears-none : (k ≡ 2 → ⊥) → (k ≡ 12 → ⊥) → s ≡ heardAll (rowAsks t r k) s
+  pub hears-none : (k ≡ 2 → ⊥) → (k ≡ 255 → ⊥) → s ≡ heardAll (rowAsks t r k) s
   unfolding heardAll rowAsks
-  hears-none n m = rw (ne-eqb k 2 n, ne-eqb k 12 m)
+  hears-none n m = rw (ne-eqb k 2 n, ne-eqb k 255 m)
 
 -- of what is refused nothing is to be heard
 act-silent : (n : ℕ) (g : Found Act) (r : ℕ) (s u : Noted) {number place : ℕ} → Out.Refused number place ≡ outFor n g → ActHears g r s u
@@ -125,7 +125,7 @@ module _ (arm : Bool) (depth vars : ℕ) (cs t : List ℕ) (handler : Bool) (n r
     pub own-there : r < length t / 20
     own-there = node-there arm vars cs t handler depth n r .holds (said arm depth vars cs t handler n r a o .is)
 
-    module _ {later : Bool} {below : ℕ} (x : later ≡ (eqb k 11 || handler)) (y : below ≡ levelsBelow arm depth) {all : Out}
+    module _ {later : Bool} {below : ℕ} (x : later ≡ ((eqb k 11 || eqb k 12) || handler)) (y : below ≡ levelsBelow arm depth) {all : Out}
         (b : all ≡ outAllFor (n + 1) (manyIn (nodeAt (eqb k 10) below vars cs t) handler later within (n + 1) next)) (s u : Noted) where
       pub one-no-within : {number place : ℕ} → all ≡ Out.Refused number place → ActHears (nodeAt arm depth vars cs t handler n r) r s u
       one-no-within p = act-silent n _ r s u (act-no-within arm depth vars cs t handler n r a o x y b p)

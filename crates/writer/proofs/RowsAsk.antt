@@ -13,7 +13,7 @@ use Rattle.plan.specs.Agree.{Asked, asking, askedOwn, spanOf, spanAll}
 use Rattle.plan.specs.Found.{Found, refused, found, andThen}
 use Rattle.plan.specs.Read.{Head, head, manyIn, wholeIn, laterOf, startForm}
 use Rattle.plan.specs.Spell.{exchangeNumbers}
-use Rattle.plan.specs.Tree.{Exp, Own, empty, send, receive, set, raise, leave, choose, repeat, sequence, flow, pick, scope, arm, kind, Act, act, Acts, none, more, Plan, size, count}
+use Rattle.plan.specs.Tree.{Exp, Own, empty, send, receive, set, raise, leave, choose, repeat, sequence, flow, pick, scope, arm, kind, isPick, Act, act, Acts, none, more, Plan, size, count}
 use Rattle.plan.specs.Within.{variablesWithin, from1}
 use Rattle.plan.proofs.Accepts.{both}
 use Rattle.plan.proofs.Finds.{Finds, finds-refused, finds-itself, finds-found, finds-cond, finds-code, finds-then, finds-so, finds-both}
@@ -56,7 +56,8 @@ parts-ask vars cs t r k next there h =
     finds-cond (eqb k 8) (λ e. finds-found tt) (λ e.
     finds-cond (eqb k 9) (λ e. finds-found tt) (λ e.
     finds-cond (eqb k 10) (λ e. finds-found tt) (λ e.
-    finds-found tt)))))))))))
+    finds-cond (eqb k 11) (λ e. finds-found tt) (λ e.
+    finds-found tt))))))))))))
 
 head-asks : (vars : ℕ) (cs t : List ℕ) (handler : Bool) (depth n r : ℕ) → Finds (λ h next. AsksOwn (h .own)) (headAt vars cs t handler depth n r)
 unfolding headAt
@@ -97,7 +98,7 @@ unfolding actAt AskReads
 act-asks zero vars cs t = λ handler n r. finds-then (finds-itself (headAt vars cs t handler 0 n r)) (λ h next e. finds-refused)
 act-asks (suc d) vars cs t =
     λ handler n r. finds-then (head-asks vars cs t handler (suc d) n r) (λ h next w.
-    whole-asks (readsAt (eqb (kind (h .own)) 10) (actAt d vars cs t) vars t) (reads-ask t (actAt d vars cs t) (act-asks d vars cs t) (eqb (kind (h .own)) 10) vars)
+    whole-asks (readsAt (isPick (h .own)) (actAt d vars cs t) vars t) (reads-ask t (actAt d vars cs t) (act-asks d vars cs t) (isPick (h .own)) vars)
     handler (laterOf (h .own) handler) n h next w)
 
 root-asks : (vars : ℕ) (cs t : List ℕ) (r : ℕ) → Finds (λ p next. AsksAll (more (p .body) (more (p .fault) none))) (rootAt vars cs t r)
@@ -127,7 +128,7 @@ receive-row : {t : List ℕ} {r : ℕ} (p o : ℕ) (vs : List ℕ) → Row t r (
 unfolding rowAsks
 receive-row {t} {r} p o vs w = rw (row-cell w 1 (omega arith), row-cell w 2 (omega arith), row-cell w 3 (omega arith), add-zero r)
 
-arm-row : {t : List ℕ} {r : ℕ} (p o : ℕ) (vs : List ℕ) → Row t r (p ∷ o ∷ length vs ∷ vs) → asking p o (length vs) (r + 0) ∷ [] ≡ rowAsks t r 12
+arm-row : {t : List ℕ} {r : ℕ} (p o : ℕ) (vs : List ℕ) → Row t r (p ∷ o ∷ length vs ∷ vs) → asking p o (length vs) (r + 0) ∷ [] ≡ rowAsks t r 255
 unfolding rowAsks
 arm-row {t} {r} p o vs w = rw (row-cell w 0 (omega arith), row-cell w 1 (omega arith), row-cell w 2 (omega arith), add-zero r)
 
@@ -147,7 +148,8 @@ own-asked t r (repeat e) within x = refl
 own-asked t r sequence within x = refl
 own-asked t r flow within x = refl
 own-asked t r pick within x = refl
-own-asked t r scope within x = refl
+own-asked t r (scope true) within x = refl
+own-asked t r (scope false) within x = refl
 own-asked t r (arm p o vs) within x = arm-row p o vs (first-row x)
 
 -- how many rows an activity takes

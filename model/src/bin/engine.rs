@@ -78,6 +78,10 @@ fn told(seen: &Seen, full: bool) {
         seen.conflicts, seen.many_conflicts
     );
     println!(
+        "handed on: {} closings, {} closes at 32; {} undo parts started by a scope further out",
+        seen.handed, seen.handed_full, seen.through
+    );
+    println!(
         "held at a step: sends {}, closes {}, starts {}",
         seen.held_sends, seen.held_closes, seen.held_starts
     );
@@ -105,6 +109,9 @@ fn told(seen: &Seen, full: bool) {
         seen.held_closes,
         seen.held_starts,
         seen.undone,
+        seen.through,
+        seen.handed,
+        seen.handed_full,
         seen.conflicts,
         seen.many_conflicts,
     ];

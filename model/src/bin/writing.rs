@@ -307,7 +307,7 @@ fn damage(random: &mut Random, table: &mut Vec<u32>) {
         4 => table[at * PLACES + 1] = random.below(14) as u32,
         // Another row altogether.
         5 => {
-            let rows: [&[u32]; 6] = [&[0], &[4], &[11], &[1, 0], &[8, 1], &[10, 1]];
+            let rows: [&[u32]; 7] = [&[0], &[4], &[11], &[12], &[1, 0], &[8, 1], &[10, 1]];
             let one = rows::row(rows[random.below(rows.len())]);
             table[at * PLACES..(at + 1) * PLACES].copy_from_slice(&one);
         }

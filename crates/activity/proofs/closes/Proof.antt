@@ -9,11 +9,11 @@ ruleset cases = (closes-is, closes-full)
 pub closes-spec : {M : Type 1} → statement M
 closes-spec =
     tie.close (tie.spec
-    -- spot-at-requires
-    (λ c κs. search needs)
+    -- add-forgetting
+    (λ c. search needs)
     -- forgetting-requires
     (λ c κs. search needs)
-    -- pushed-requires
+    -- remembered-requires
     (λ c κs. search needs)
     -- finishes-requires
     (λ c κs. search needs)

@@ -16,6 +16,7 @@ use Rattle.beginning.proofs.+begin+begin_all+begin_in_turn.Lts-begin_in
 use Rattle.beginning.proofs.around.Reads as around-reads
 use Rattle.beginning.proofs.both.Reads as both-reads
 use Rattle.beginning.proofs.throughout.Reads as throughout-reads
+use Rattle.order.proofs.kind.is_scope.Reads as is-scope-reads
 use Rattle.order.proofs.rows.end_of.Reads as end-of-reads
 use Rattle.order.proofs.rows.kind_of.Reads as kind-of-reads
 use Rattle.beginning.proofs.+begin+begin_all+begin_in_turn.{statement}
@@ -70,7 +71,7 @@ abbrev begin-in-turn-μ-loop : begin-in-turn-lts.MeasureT-loop
 begin-in-turn-μ-loop table c e m₀ j₀ m j = e - j
 
 abbrev begin-claims : ℕ → begin-lts.Claims
-begin-claims t = (kind-of-reads.Asked, kind-of-reads.Learnt, end-of-reads.Asked, end-of-reads.Learnt, begin-in-turn-below t, begin-in-turn.Post, throughout-reads.Asked, throughout-reads.Learnt, begin-all-below t, begin-all.Post, begin-below t, begin.Post, around-reads.Asked, around-reads.Learnt)
+begin-claims t = (kind-of-reads.Asked, kind-of-reads.Learnt, end-of-reads.Asked, end-of-reads.Learnt, begin-in-turn-below t, begin-in-turn.Post, throughout-reads.Asked, throughout-reads.Learnt, begin-all-below t, begin-all.Post, is-scope-reads.Asked, is-scope-reads.Learnt, begin-below t, begin.Post, around-reads.Asked, around-reads.Learnt)
 
 abbrev begin-all-claims : ℕ → begin-all-lts.Claims
 begin-all-claims t = (end-of-reads.Asked, end-of-reads.Learnt, begin-below t, begin.Post, both-reads.Asked, both-reads.Learnt)
@@ -109,6 +110,8 @@ pub +begin+begin-all+begin-in-turn-spec : {M : Type 1} → statement M
     (λ c κs. search needs)
     -- returns-5
     (λ c. search cases)
+    -- is-scope-requires
+    (λ c κs. search needs)
     -- add-if6
     (λ c. search needs)
     -- add-begin

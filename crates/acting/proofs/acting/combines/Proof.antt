@@ -11,6 +11,8 @@ combines-spec =
     tie.close (tie.spec
     -- kind-of-requires
     (λ c κs. search needs)
+    -- is-scope-requires
+    (λ c κs. search needs)
     -- in-scope-requires
     (λ c κs. search needs)
     -- returns

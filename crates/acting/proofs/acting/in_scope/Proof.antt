@@ -1,27 +1,31 @@
 -- `acting::acting::in_scope` meets its contract. Assumes nothing.
 use borrow.Author.Needs.{needs}
-use Rattle.acting.proofs.CombineReturns.{in-body, in-fault, in-undo}
+use Rattle.acting.proofs.CombineReturns.{in-through, in-body, in-fault, in-undo}
 use Rattle.acting.proofs.acting.in_scope.Statement.{statement}
 use Rattle.acting.proofs.acting.in_scope.Tie as tie
 
-ruleset cases = (in-body, in-fault, in-undo)
+ruleset cases = (in-through, in-body, in-fault, in-undo)
 
 pub in-scope-spec : {M : Type 1} → statement M
 in-scope-spec =
     tie.close (tie.spec
     -- spot-at-requires
     (λ c κs. search needs)
-    -- from-body-requires
+    -- goes-through-requires
     (λ c κs. search needs)
     -- returns
+    (λ c. search cases)
+    -- from-body-requires
+    (λ c κs. search needs)
+    -- returns-2
     (λ c. search cases)
     -- end-of-requires
     (λ c κs. search needs)
     -- from-fault-requires
     (λ c κs. search needs)
-    -- returns-2
+    -- returns-3
     (λ c. search cases)
     -- from-undo-requires
     (λ c κs. search needs)
-    -- returns-3
+    -- returns-4
     (λ c. search cases))

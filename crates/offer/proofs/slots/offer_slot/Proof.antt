@@ -12,6 +12,8 @@ offer-slot-spec =
     tie.close (tie.spec
     -- returns
     (λ c. search cases)
+    -- parts-of-requires
+    (λ c κs. search needs)
     -- known-of-requires
     (λ c κs. search needs)
     -- cut-rows-requires

@@ -11,6 +11,8 @@ next-row-spec =
     tie.close (tie.spec
     -- kind-of-requires
     (λ c κs. search needs)
+    -- is-scope-requires
+    (λ c κs. search needs)
     -- end-of-requires
     (λ c κs. search needs)
     -- returns

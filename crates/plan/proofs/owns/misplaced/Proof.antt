@@ -6,7 +6,9 @@ use Rattle.plan.proofs.owns.misplaced.Tie as tie
 pub misplaced-spec : {M : Type 1} → statement M
 misplaced-spec =
     tie.close (tie.spec
+    -- is-scope-requires
+    (λ c κs. search needs)
     -- returns
-    (λ c. rw (c .if1 .taken))
+    (λ c. rw (c .before .if1 .taken) (c .is-scope .ensures))
     -- returns-2
-    (λ c. search needs))
+    (λ c. rw (c .if1 .left)))

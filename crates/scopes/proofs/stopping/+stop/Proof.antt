@@ -7,6 +7,7 @@ use borrow.Fn.PlainCycle.{Measures, is, falls, and}
 use Rattle.scopes.proofs.stopping.stop.Reads as stop
 use Rattle.scopes.proofs.stopping.stop.Kinds as stop-kinds
 use Rattle.scopes.proofs.stopping.+stop.Lts-stop as stop-lts
+use Rattle.order.proofs.kind.is_scope.Reads as is-scope-reads
 use Rattle.order.proofs.marks.mark_at.Reads as mark-at-reads
 use Rattle.order.proofs.marks.marked.Reads as marked-reads
 use Rattle.order.proofs.rows.end_of.Reads as end-of-reads
@@ -34,7 +35,7 @@ abbrev stop-μ-loop : stop-lts.MeasureT-loop
 stop-μ-loop table k e kind o₀ c₀ o c = e - c
 
 abbrev stop-claims : ℕ → stop-lts.Claims
-stop-claims t = (end-of-reads.Asked, end-of-reads.Learnt, kind-of-reads.Asked, kind-of-reads.Learnt, mark-at-reads.Asked, mark-at-reads.Learnt, is-open-reads.Asked, is-open-reads.Learnt, marked-reads.Asked, marked-reads.Learnt, stop-below t, stop.Post, withdrawn-reads.Asked, withdrawn-reads.Learnt)
+stop-claims t = (end-of-reads.Asked, end-of-reads.Learnt, kind-of-reads.Asked, kind-of-reads.Learnt, is-scope-reads.Asked, is-scope-reads.Learnt, mark-at-reads.Asked, mark-at-reads.Learnt, is-open-reads.Asked, is-open-reads.Learnt, marked-reads.Asked, marked-reads.Learnt, stop-below t, stop.Post, withdrawn-reads.Asked, withdrawn-reads.Learnt)
 
 pub +stop-spec : {M : Type 1} → statement M
 +stop-spec = close μ-stop
@@ -44,6 +45,8 @@ pub +stop-spec : {M : Type 1} → statement M
     -- end-of-requires
     (λ c κs. search needs)
     -- kind-of-requires
+    (λ c κs. search needs)
+    -- is-scope-requires
     (λ c κs. search needs)
     -- mark-at-requires
     (λ c κs. search needs)

@@ -11,6 +11,8 @@ start-undo-spec =
     tie.close (tie.spec
     -- entry-requires
     (λ c κs. search needs)
+    -- wide-requires
+    (λ c κs. search needs)
     -- without-requires
     (λ c κs. search needs)
     -- begin-undo-requires

@@ -19,6 +19,8 @@ awaits-at-spec =
     (λ c κs. search needs)
     -- returns
     (λ c. search cases)
+    -- is-scope-requires
+    (λ c κs. search needs)
     -- element-copy-out-result
     (λ c. search needs)
     -- returns-2

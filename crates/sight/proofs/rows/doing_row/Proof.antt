@@ -37,6 +37,8 @@ doing-row-spec =
     (λ c κs. search needs)
     -- returns-5
     (λ c. search cases)
+    -- is-scope-requires
+    (λ c κs. search needs)
     -- close-held-requires
     (λ c κs. search needs)
     -- withheld-requires-2

@@ -25,17 +25,15 @@ order-at-spec =
     (λ c. search needs)
     -- take-bytes-requires-2
     (λ c κs. search needs)
-    -- add-take-bytes-3
-    (λ c. search needs)
-    -- slice-aggregate-take-bytes-3
-    (λ c. search needs)
-    -- take-bytes-requires-3
-    (λ c κs. search needs)
     -- shared-slice-read-root
     (λ c. search needs)
+    -- add-closings-at
+    (λ c. search needs)
+    -- closings-at-requires
+    (λ c κs. search needs)
     -- add-eight-at
     (λ c. search needs)
     -- eight-at-requires
     (λ c κs. search needs)
     -- returns
-    (λ c. let b = c .before .before .before in let d = b .before .before .before in let e = d .before .before .before in let f = e .before .before .before in let g = f .before .before .before in order-is (g .args .s .now) (g .args .at) (f .take-bytes .ensures) (e .take-fours .ensures) (d .take-bytes2 .ensures) (b .take-bytes3 .ensures) (c .eight-at .ensures)))
+    (λ c. let b = c .before in let d = b .before .before .before in let e = d .before .before .before in let f = e .before .before .before in let g = f .before .before .before in order-is (g .args .s .now) (g .args .at) (f .take-bytes .ensures) (e .take-fours .ensures) (d .take-bytes2 .ensures) (b .closings-at .ensures) (c .eight-at .ensures)))

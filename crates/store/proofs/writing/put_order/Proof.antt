@@ -1,7 +1,6 @@
 -- `store::writing::put_order` meets its contract. Assumes nothing.
 use borrow.Author.Needs.{needs}
 use Rattle.store.proofs.Parts.{room-bytes, room-fours, order-put}
-use mathlib.Core.Path.{sym}
 use native.Mathlib.Omega.{arith}
 use Rattle.order.proofs.Whole.{order-whole}
 use Rattle.store.proofs.writing.put_order.Statement.{statement}
@@ -30,17 +29,15 @@ put-order-spec =
     (λ c. search needs)
     -- put-bytes-requires-2
     (λ c κs. let a = c .before .before .before .before .before in let b = a .before .before .before .before .before .before in let d = b .before .before .before .before .before .before in let e = d .before .before .before in let w = order-whole (e .args .o) _ (e .good .1 .1 .0) in room-bytes 16 _ (e .args .o .bound) (w .bound-long) (omega (arith, e .pre, d .put-byte .kept, b .put-bytes .kept, a .put-fours .kept)))
-    -- add-put-bytes-3
+    -- add-put-closings
     (λ c. search needs)
-    -- slice-aggregate-put-bytes-3
-    (λ c. let a = c .before .before .before .before .before .before .before .before .before .before .before .before .before .before .before .before .before .before .before .before .before .before .before .before .before .before in sym (order-whole (a .args .o) _ (a .good .1 .1 .0) .remembered-long))
-    -- put-bytes-requires-3
-    (λ c κs. let a = c .before .before .before .before .before in let b = a .before .before .before .before .before .before in let d = b .before .before .before .before .before .before in let e = d .before .before .before .before .before .before in let f = e .before .before .before in let w = order-whole (f .args .o) _ (f .good .1 .1 .0) in room-bytes 32 _ (f .args .o .remembered) (w .remembered-long) (omega (arith, f .pre, e .put-byte .kept, d .put-bytes .kept, b .put-fours .kept, a .put-bytes2 .kept)))
+    -- put-closings-requires
+    (λ c κs. let a = c .before .before .before .before in let b = a .before .before .before .before .before .before in let d = b .before .before .before .before .before .before in let e = d .before .before .before .before .before .before in let f = e .before .before .before in omega (arith, f .pre, e .put-byte .kept, d .put-bytes .kept, b .put-fours .kept, a .put-bytes2 .kept))
     -- add-put-eight
     (λ c. search needs)
     -- put-eight-requires
-    (λ c κs. let a = c .before .before .before in let b = a .before .before .before .before .before .before in let d = b .before .before .before .before .before .before in let e = d .before .before .before .before .before .before in let f = e .before .before .before .before .before .before in let g = f .before .before .before in omega (arith, g .pre, f .put-byte .kept, e .put-bytes .kept, d .put-fours .kept, b .put-bytes2 .kept, a .put-bytes3 .kept))
+    (λ c κs. let a = c .before .before .before in let b = a .before .before .before .before .before in let d = b .before .before .before .before .before .before in let e = d .before .before .before .before .before .before in let f = e .before .before .before .before .before .before in let g = f .before .before .before in omega (arith, g .pre, f .put-byte .kept, e .put-bytes .kept, d .put-fours .kept, b .put-bytes2 .kept, a .put-closings .kept))
     -- same-length
-    (λ c. let a = c .before .before in let b = a .before .before .before .before in let d = b .before .before .before .before .before .before in let e = d .before .before .before .before .before .before in let f = e .before .before .before .before .before .before in let g = f .before .before .before .before .before .before in omega (arith, g .put-byte .kept, f .put-bytes .kept, e .put-fours .kept, d .put-bytes2 .kept, b .put-bytes3 .kept, a .put-eight .kept))
+    (λ c. let a = c .before .before in let b = a .before .before .before .before in let d = b .before .before .before .before .before in let e = d .before .before .before .before .before .before in let f = e .before .before .before .before .before .before in let g = f .before .before .before .before .before .before in omega (arith, g .put-byte .kept, f .put-bytes .kept, e .put-fours .kept, d .put-bytes2 .kept, b .put-closings .kept, a .put-eight .kept))
     -- returns
-    (λ c. let a = c .before .before in let b = a .before .before .before .before in let d = b .before .before .before .before .before .before in let e = d .before .before .before .before .before .before in let f = e .before .before .before .before .before .before in let g = f .before .before .before .before .before .before in let h = g .before .before .before in order-put (h .args .o) (order-whole (h .args .o) _ (h .good .1 .1 .0)) (g .put-byte .ensures) (f .put-bytes .ensures) (e .put-fours .ensures) (d .put-bytes2 .ensures) (b .put-bytes3 .ensures) (a .put-eight .ensures)))
+    (λ c. let a = c .before .before in let b = a .before .before .before .before in let d = b .before .before .before .before .before in let e = d .before .before .before .before .before .before in let f = e .before .before .before .before .before .before in let g = f .before .before .before .before .before .before in let h = g .before .before .before in order-put (h .args .o) (order-whole (h .args .o) _ (h .good .1 .1 .0)) (g .put-byte .ensures) (f .put-bytes .ensures) (e .put-fours .ensures) (d .put-bytes2 .ensures) (b .put-closings .ensures) (a .put-eight .ensures)))

@@ -6,10 +6,10 @@ use Rattle.wording.proofs.doing.is_remembered.Statement.{statement}
 use Rattle.wording.proofs.doing.is_remembered.Tie as tie
 
 abbrev Inv-loop : tie.InvT-loop
-Inv-loop remembered kept n i₀ i = Unit {0}
+Inv-loop order n kept i₀ i = Unit {0}
 
 abbrev μ-loop : tie.MeasureT-loop
-μ-loop remembered kept n i₀ i = 32 - i
+μ-loop order n kept i₀ i = 32 - i
 
 pub is-remembered-spec : {M : Type 1} → statement M
 is-remembered-spec =
@@ -18,7 +18,6 @@ is-remembered-spec =
     Inv-loop
     μ-loop
     (λ c. tt)
-    (λ c. omega arith)
     (λ c κs. search needs)
     (λ c. tt)
     (λ c. omega arith)

@@ -1,0 +1,34 @@
+-- `boundary_state::older::fill` meets its contract. Assumes nothing.
+use borrow.Author.Needs.{needs}
+use Rattle.boundary_state.proofs.Renewing.{Renewing, renewing-starts, renewing-again, renewing-done}
+use Prim.Native.Nat.{_-_}
+use Rattle.boundary_state.proofs.older.fill.Statement.{statement}
+use Rattle.boundary_state.proofs.older.fill.Tie as tie
+
+ruleset cases = (renewing-starts, renewing-again, renewing-done)
+
+abbrev Inv-loop : tie.InvT-loop
+Inv-loop old table state₀ i₀ state i = Renewing old table state i
+
+abbrev μ-loop : tie.MeasureT-loop
+μ-loop old table state₀ i₀ state i = 12476 - i
+
+pub fill-spec : {M : Type 1} → statement M
+fill-spec =
+    tie.close (tie.spec Inv-loop μ-loop
+    -- loop-holds
+    (λ c. search cases)
+    -- byte-of-requires
+    (λ c κs. search needs)
+    -- slice-write-state
+    (λ c. search needs)
+    -- add-i
+    (λ c. search needs)
+    -- loop-less
+    (λ c. search needs)
+    -- loop-again
+    (λ c. search cases)
+    -- same-length
+    (λ c. search needs)
+    -- returns
+    (λ c. search cases))

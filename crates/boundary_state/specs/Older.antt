@@ -1,0 +1,67 @@
+-- A state of the first version, MOONHAL1, as one of today. Assumes nothing: these are definitions.
+-- The first version has 11,964 bytes. All stands at the same place up to the orders, from 5,932 on; an order has 377 bytes there and 409 now, since a closing has one
+-- byte there, the number of the scope that closed, and two now, with the part that it is remembered for.
+use Prim.Native.Nat.{ℕ, zero, suc, _+_, _*_, _-_, _/_, _%_, _≤_}
+use mathlib.Core.Bool.{Bool, cond, _&&_}
+use mathlib.Core.List.{List, [], _∷_}
+use mathlib.Core.Path.{_≡_}
+use lib.Dec.{eqb, leb, ltb}
+use lib.ListN.{length, getD, take, drop}
+use Rattle.plan.specs.Answers.{tableFor}
+use Rattle.plan.specs.Read.{readPlan}
+use Rattle.store.specs.Bytes.{valued, eightAt}
+
+-- in front stood the mark, "MOONHAL1"
+abbrev pub oldMark : List ℕ
+oldMark = 77 ∷ 79 ∷ 79 ∷ 78 ∷ 72 ∷ 65 ∷ 76 ∷ 49 ∷ []
+
+unfoldable pub holdsOld : List ℕ → Bool
+holdsOld s = eqb (length s) 11964 && eqb (eightAt s 0) (valued oldMark)
+
+-- the plan: its length in the 8 bytes from 28 on, its bytes from 36 on, up to 4,096
+unfoldable pub planEnd : List ℕ → ℕ
+planEnd s = cond (leb (eightAt s 28) 4096) (eightAt s 28 + 36) 36
+
+pub record PlanEnds (s : List ℕ) (r : ℕ) : Type 0 where
+  pub is : r ≡ planEnd s
+  pub low : 36 ≤ r
+  pub high : r ≤ 4132
+
+abbrev pub oldPlan : List ℕ → List ℕ
+oldPlan s = take (planEnd s - 36) (drop 36 s)
+
+-- "Close remembers the scope for the nearest scope around it": whether row j is a scope that row k stands in, and by the rows below j the part that the closing of
+-- scope k is remembered for: the body of the nearest such scope, which is the row after it, or the root's. No plan of that time has a scope of code 12.
+abbrev pub isAround : (table : List ℕ) → (j k : ℕ) → Bool
+isAround t j k = eqb (getD t (j * 13) 0) 11 && ltb k (getD t (j * 13 + 11) 0)
+
+unfoldable pub partAround : (table : List ℕ) → (k j : ℕ) → ℕ
+partAround t k zero = 0
+partAround t k (suc j) = cond (isAround t j k) (j + 1) (partAround t k j)
+
+-- the two bytes of the closing of scope k
+abbrev pub closingByte : (table : List ℕ) → (k half : ℕ) → ℕ
+closingByte t k half = cond (eqb half 0) k (partAround t k k)
+
+-- a byte of an order, whose bytes start at `at` in the old state; 337 stand before its closings, and then 8 more
+unfoldable pub orderByte : List ℕ → (table : List ℕ) → (at within : ℕ) → ℕ
+orderByte s t at r =
+    cond (ltb r 337) (getD s (at + r) 0)
+    (cond (ltb r 401) (closingByte t (getD s (at + 337 + (r - 337) / 2) 0) ((r - 337) % 2)) (getD s (at + r - 32) 0))
+
+-- a byte of the state: the mark ends in 2, and all before the orders is as it was
+unfoldable pub byteOf : List ℕ → (table : List ℕ) → (place : ℕ) → ℕ
+byteOf s t i =
+    cond (eqb i 7) 50 (cond (ltb i 5932) (getD s i 0) (orderByte s t (5932 + (i - 5932) / 409 * 377) ((i - 5932) % 409)))
+
+-- n bytes from the place i on
+unfoldable pub placed : (byte : ℕ → ℕ) → (n i : ℕ) → List ℕ
+placed f zero i = []
+placed f (suc n) i = f i ∷ placed f n (i + 1)
+
+unfoldable pub renewedBy : List ℕ → (table : List ℕ) → List ℕ
+renewedBy s t = placed (byteOf s t) 12476 0
+
+-- by the table of the plan, which is empty where the plan is refused
+unfoldable pub renewed : List ℕ → List ℕ
+renewed s = renewedBy s (tableFor (readPlan (oldPlan s)))

@@ -1,0 +1,15 @@
+// Which kinds are those of scopes.
+ghost use lib.Dec.{eqb};
+ghost use mathlib.Core.Bool.{_||_};
+ghost use mathlib.Core.Path.{_≡_};
+
+// Whether an activity of this kind is a scope: one with an undo part, or one with none.
+pub(crate) fn is_scope(kind: u32) -> bool
+    ensures { λ r. ⌜ r ≡ (eqb kind 11 || eqb kind 12) ⌝ }
+{
+    match kind {
+        11 => true,
+        12 => true,
+        _ => false,
+    }
+}
