@@ -1,4 +1,4 @@
--- What begins in a step was idle before it, or stands with the step in an undo part: what begins with an activity, where a scope undoes and where a body stops. Assumes nothing.
+-- What begins was idle before, or is told of otherwise: what begins with an activity, where a scope undoes and where a body stops. Assumes nothing.
 use Prim.Native.Nat.{ℕ, zero, suc, _+_, _≤_, _<_}
 use native.Mathlib.Omega.{arith}
 use mathlib.Core.Path.{_≡_, refl, sym, ap, subst, _∙_}
@@ -18,11 +18,10 @@ use Rattle.order.specs.declared.Way.{Way as Result}
 use Rattle.order.specs.declared.Way.the-variants.{Running as running, Over as over, Raising as raising, Leaving as leaving, Undone as undone, UndoRaising as undoRaising}
 use Rattle.order.specs.Scope.{Outcome, runs, begunIn, whereOver, Scope, scopeAt, isScope, isOpen, isFor, directly, directlyIn, innerRuns, beginUndo, beginUndoIn, startUndo, undo, ends, handle, undoes, turns, rememberedFor, untouched, withdraws, stop, stopAll, stopFirst, faults, breaks, looksAgain, bodyOver, bodyRaised, undoOver, undoRaised, fromBody, partOver, partRaised, fromFault}
 use Rattle.order.specs.Scope as definitions
-use Rattle.order.specs.Taking.{actAt}
-use Rattle.undoing.specs.Ties.{Place, bodyOf, nameOf, placeOf}
+use Rattle.undoing.specs.Ties.{Place, bodyOf, nameOf}
 use Rattle.undoing.specs.Orderly.{isBeganOf}
 use Rattle.undoing.specs.Begun.{hasBegan}
-use Rattle.undoing.specs.Entirely.{isUndo, times}
+use Rattle.undoing.specs.Entirely.{times}
 use Rattle.undoing.proofs.Parts.{both, decide}
 use Rattle.undoing.proofs.Accounts.{waits, phase}
 use Rattle.undoing.proofs.Places.{first-of, second-of}
@@ -40,17 +39,11 @@ unfolding times some
 began-times j [] e = absurd (false≢true e)
 began-times j (x ∷ l) e = decide (isBeganOf (eqb j) x) (λ d. rw d (omega arith)) (λ d. rw d (let z = began-times j l (rw d at e) in omega arith))
 
-module _ (p : Plan) (f : ℕ → ℕ) (t : ℕ) (ms : List ℕ) where
-  -- an activity stands in an undo part, and the step in it
-  pub record Again (j : ℕ) : Type 0 where
-    pub place : isUndo (placeOf p j) ≡ true
-    pub from : j ≤ t
-    pub to : t < j + size (actAt p j)
-
-  -- it may begin: it is idle, or so
+module _ (p : Plan) (f : ℕ → ℕ) (A : ℕ → Type 0) (ms : List ℕ) where
+  -- it may begin: it is idle, or A says so
   pub data New (j : ℕ) : Type 0 where
     new-idle : getD ms j 0 ≡ idle → New j
-    new-again : Again j → New j
+    new-again : A j → New j
 
   -- n of them from k on
   pub record News (k n : ℕ) : Type 0 where
@@ -219,8 +212,8 @@ module _ (p : Plan) (f : ℕ → ℕ) (t : ℕ) (ms : List ℕ) where
 
     undoes-fresh : (w : Bool) → May w → (o : Order) → Fresh (undoes w s o .log)
     unfolding undoes
-    undoes-fresh true w o = let o₁ = marking (s .name) undoing o in fresh-where (handle s) (undo (rememberedFor s o₁) s o₁) (list-fresh (rememberedFor s o₁) o₁ (all-directly t f s o₁)) (λ q. handle-fresh q (w refl))
-    undoes-fresh false w o = let o₁ = marking (s .name) withdrawing o in fresh-where (ends s) (undo (rememberedFor s o₁) s o₁) (list-fresh (rememberedFor s o₁) o₁ (all-directly t f s o₁)) (λ q. ends-fresh q)
+    undoes-fresh true w o = let o₁ = marking (s .name) undoing o in fresh-where (handle s) (undo (rememberedFor s o₁) s o₁) (list-fresh (rememberedFor s o₁) o₁ (all-directly 0 f s o₁)) (λ q. handle-fresh q (w refl))
+    undoes-fresh false w o = let o₁ = marking (s .name) withdrawing o in fresh-where (ends s) (undo (rememberedFor s o₁) s o₁) (list-fresh (rememberedFor s o₁) o₁ (all-directly 0 f s o₁)) (λ q. ends-fresh q)
 
     pub turns-fresh : (w : Bool) → May w → (o : Order) → Fresh (turns w s o .log)
     unfolding turns

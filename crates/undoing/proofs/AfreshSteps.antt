@@ -45,7 +45,7 @@ use Rattle.undoing.proofs.Shapes.{isMild, Mild, mild-runs, mild-finishe
 use Rattle.undoing.proofs.Coming.{in-here, in-within, in-first, in-later}
 use Rattle.undoing.proofs.Single.{looks-still}
 use Rattle.undoing.proofs.Dropping.{Wane, step-drops}
-use Rattle.undoing.proofs.Afresh.{Again, New, new-idle, new-again, News, quiet-news, news-part, Fresh, fresh-none, fresh-append, fresh-event, fresh-range, Calm, calm-part, calm-scope, CalmIn, calm-more, quiet-calm, quiet-calm-in, run-calm, stopped-calm, fresh-where, fresh-either, fresh-runs, turns-fresh, looks-fresh, over-fresh, undone-fresh, undo-raised-fresh, fault-fresh, Opened, stop-fresh}
+use Rattle.undoing.proofs.Afresh.{New, new-idle, new-again, News, quiet-news, news-part, Fresh, fresh-none, fresh-append, fresh-event, fresh-range, Calm, calm-part, calm-scope, CalmIn, calm-more, quiet-calm, quiet-calm-in, run-calm, stopped-calm, fresh-where, fresh-either, fresh-runs, turns-fresh, looks-fresh, over-fresh, undone-fresh, undo-raised-fresh, fault-fresh, Opened, stop-fresh}
 
 abbrev log-of : Outcome → List Event
 log-of o = o .log
@@ -69,7 +69,7 @@ isUndone leaving = false
 isUndone undone = true
 isUndone undoRaising = false
 
-abbrev isOver : Result → Bool
+abbrev pub isOver : Result → Bool
 isOver running = false
 isOver over = true
 isOver raising = false
@@ -176,21 +176,21 @@ joins-marks k within r j h = go (r .result)
     go undoRaising = refl
 
 -- the step, where it is the activity's own, or in what stands within
-its-own : (actor : Actor) (own : Own) (within : Acts) (k t : ℕ) (o : Order) → k ≡ t → stepIn actor (act own within) k t o ≡ performs actor own within k o
+pub its-own : (actor : Actor) (own : Own) (within : Acts) (k t : ℕ) (o : Order) → k ≡ t → stepIn actor (act own within) k t o ≡ performs actor own within k o
 unfolding stepIn
 its-own actor own within k t o e = first-of (eqb k t) (performs actor own within k o) (combines own within k t (stepAmong actor within (k + 1) t (arms own within k t o))) (stepIn actor (act own within) k t o) refl (eq-eqb k t e)
 
-its-within : (actor : Actor) (own : Own) (within : Acts) (k t : ℕ) (o o₁ : Order) → (k ≡ t → ⊥) → arms own within k t o ≡ o₁ → stepIn actor (act own within) k t o ≡ combines own within k t (stepAmong actor within (k + 1) t o₁)
+pub its-within : (actor : Actor) (own : Own) (within : Acts) (k t : ℕ) (o o₁ : Order) → (k ≡ t → ⊥) → arms own within k t o ≡ o₁ → stepIn actor (act own within) k t o ≡ combines own within k t (stepAmong actor within (k + 1) t o₁)
 unfolding stepIn
 its-within actor own within k t o o₁ n e =
     second-of (eqb k t) (performs actor own within k o) (combines own within k t (stepAmong actor within (k + 1) t (arms own within k t o))) (stepIn actor (act own within) k t o) refl (ne-eqb k t n)
     ∙ ap (λ (q : Order). combines own within k t (stepAmong actor within (k + 1) t q)) e
 
-its-first : (actor : Actor) (a : Act) (l : Acts) (c t : ℕ) (o : Order) → t < c + size a → stepAmong actor (more a l) c t o ≡ stepIn actor a c t o
+pub its-first : (actor : Actor) (a : Act) (l : Acts) (c t : ℕ) (o : Order) → t < c + size a → stepAmong actor (more a l) c t o ≡ stepIn actor a c t o
 unfolding stepIn
 its-first actor a l c t o h = first-of (ltb t (c + size a)) (stepIn actor a c t o) (stepAmong actor l (c + size a) t o) (stepAmong actor (more a l) c t o) refl (lt-ltb t (c + size a) h)
 
-its-later : (actor : Actor) (a : Act) (l : Acts) (c t : ℕ) (o : Order) → c + size a ≤ t → stepAmong actor (more a l) c t o ≡ stepAmong actor l (c + size a) t o
+pub its-later : (actor : Actor) (a : Act) (l : Acts) (c t : ℕ) (o : Order) → c + size a ≤ t → stepAmong actor (more a l) c t o ≡ stepAmong actor l (c + size a) t o
 unfolding stepIn
 its-later actor a l c t o h = second-of (ltb t (c + size a)) (stepIn actor a c t o) (stepAmong actor l (c + size a) t o) (stepAmong actor (more a l) c t o) refl (le-ltb t (c + size a) h)
 
@@ -201,11 +201,11 @@ pub record Stood (p : Plan) (a : Act) (k : ℕ) : Type 0 where
 pub record StoodIn (p : Plan) (l : Acts) (c : ℕ) : Type 0 where
   pub at : (j : ℕ) → c ≤ j → j < c + sizes l → actAt p j ≡ actAmong l c j
 
-stood-here : {p : Plan} {own : Own} {within : Acts} {k : ℕ} → Stood p (act own within) k → actAt p k ≡ act own within
+pub stood-here : {p : Plan} {own : Own} {within : Acts} {k : ℕ} → Stood p (act own within) k → actAt p k ≡ act own within
 unfolding size
 stood-here {p} {own} {within} {k} w = w .at k (omega arith) (omega arith) ∙ in-here (act own within) k
 
-stood-within : {p : Plan} {own : Own} {within : Acts} {k : ℕ} → Stood p (act own within) k → StoodIn p within (k + 1)
+pub stood-within : {p : Plan} {own : Own} {within : Acts} {k : ℕ} → Stood p (act own within) k → StoodIn p within (k + 1)
 unfolding size
 stood-within {p} {own} {within} {k} w = record { at = λ j x y. w .at j (omega arith) (omega arith) ∙ in-within own within k j (omega arith) }
 
@@ -217,21 +217,183 @@ pub stood-later : {p : Plan} {a : Act} {l : Acts} {c : ℕ} → StoodIn p (more 
 unfolding size
 stood-later {p} {a} {l} {c} w = record { at = λ j x y. w .at j (omega arith) (omega arith) ∙ in-later a l c j x }
 
-module _ (p : Plan) (distinct : Distinct p) (actor : Actor) (f : ℕ → ℕ) (t : ℕ) (o : Order) where
-  ms : List ℕ
-  ms = o .marks
+-- an activity stands in an undo part, and the step in it
+pub record Again (p : Plan) (t j : ℕ) : Type 0 where
+  pub place : isUndo (placeOf p j) ≡ true
+  pub from : j ≤ t
+  pub to : t < j + size (actAt p j)
 
+module _ (p : Plan) (distinct : Distinct p) (actor : Actor) (f : ℕ → ℕ) (t : ℕ) (o : Order) (A : ℕ → Type 0) where
+  abbrev pub Newly : List Event → Type 0
+  Newly l = Fresh p f A (o .marks) l
+
+  -- Activities other than scopes.
+
+  -- all that a step logs as begun stands in the activity, and is not that
+  pub quiet-fresh : {own : Own} {within : Acts} {k : ℕ} → Knows f (act own within) k → k ≤ t → Quiet (o .marks) (k + 1) (sizes within) → Newly (stepIn actor (act own within) k t o .log)
+  unfolding size
+  quiet-fresh {own} {within} {k} x h q =
+      let s = step-at f t actor x o h .strict in
+      fresh-range p f A (o .marks) (stepIn actor (act own within) k t o .log) (k + 1) (sizes within) (λ j e. s .below j (omega arith)) (λ j e. s .above j (omega arith)) (quiet-news p f A (o .marks) q)
+
+  -- what follows in a sequence is quiet
+  pub after-fresh : {l : Acts} {c : ℕ} {b : Bool} → KnowsIn f l c → Arms false l → WaitsIn (o .marks) l c t b → b ≡ false → One (o .marks) l c → (ns : List ℕ) → Newly (beginAfter l c t ns .log)
+  unfolding beginAfter
+  after-fresh (knows-more {a = act own v} {l} {c} x y) r (waits-first h w) e (one-here n q) ns =
+      let s = turn-starts f y (r .1) ns in
+      subst (λ (z : Begun). Newly (z .log)) (sym (first-of (ltb t (c + size (act own v))) (beginInTurn l (c + size (act own v)) ns) (beginAfter l (c + size (act own v)) t ns) (beginAfter (more (act own v) l) c t ns) refl (lt-ltb t (c + size (act own v)) h)))
+      (fresh-range p f A (o .marks) (beginInTurn l (c + size (act own v)) ns .log) (c + size (act own v)) (sizes l) (s .below) (s .above) (quiet-news p f A (o .marks) q))
+  after-fresh (knows-more x y) r (waits-later h w) e (one-here n q) ns = absurd (quiet-waits-in w e q)
+  after-fresh (knows-more x y) r (waits-first h w) e (one-later q n) ns = absurd (quiet-waits w e q)
+  after-fresh (knows-more {a = act own v} {l} {c} x y) r (waits-later h w) e (one-later q n) ns =
+      subst (λ (z : Begun). Newly (z .log)) (sym (second-of (ltb t (c + size (act own v))) (beginInTurn l (c + size (act own v)) ns) (beginAfter l (c + size (act own v)) t ns) (beginAfter (more (act own v) l) c t ns) refl (le-ltb t (c + size (act own v)) h)))
+      (after-fresh y (r .1) w e n ns)
+
+  on-fresh : (k m : ℕ) (g : Order → Outcome) (r : Outcome) → Newly (r .log) → (eqb (markAt k (r .order)) m ≡ true → Newly (g (r .order) .log)) → Newly (goesOn k m g r .log)
+  unfolding goesOn
+  on-fresh k m g r w h = go (r .result)
+    where
+      on : Newly (r .log ++ log-of (elim (eqb (markAt k (r .order)) m) [ true ↦ g (r .order) | false ↦ runs (r .order) ]))
+      on = fresh-append p f A (o .marks) (r .log) _ w (fresh-either p f A (o .marks) (eqb (markAt k (r .order)) m) (g (r .order)) (runs (r .order)) _ refl h (λ e. fresh-runs p f A (o .marks) (r .order)))
+
+      go : (x : Result) → Newly (whereOver (λ q. elim (eqb (markAt k q) m) [ true ↦ g q | false ↦ runs q ]) (record { result = x; order = r .order; log = r .log }) .log)
+      go running = w
+      go over = on
+      go raising = w
+      go leaving = w
+      go undone = w
+      go undoRaising = w
+
+  pub none-fresh : Newly []
+  unfolding some
+  none-fresh = fresh-none p f A (o .marks) [] (λ j. refl)
+
+  joins-fresh : (k : ℕ) (within : Acts) (q : Order) → Newly (joins k within q .log)
+  unfolding joins
+  joins-fresh k within q = fresh-either p f A (o .marks) (quiet (k + 1) (sizes within) (q .marks)) (finishes k q) (runs q) (joins k within q) refl (λ e. none-fresh) (λ e. none-fresh)
+
+  pub combines-fresh : (own : Own) (within : Acts) (k : ℕ) (r : Outcome) → isScope own ≡ false → Newly (r .log)
+      → (eqb (kind own) 8 ≡ true → eqb (markAt k (r .order)) active ≡ true → (ns : List ℕ) → Newly (beginAfter within (k + 1) t ns .log)) → Newly (combines own within k t r .log)
+  unfolding combines kind
+  combines-fresh empty within k r s w h = w
+  combines-fresh (send a b vs) within k r s w h = w
+  combines-fresh (receive a b vs) within k r s w h = w
+  combines-fresh (setting v e) within k r s w h = w
+  combines-fresh raise within k r s w h = w
+  combines-fresh leave within k r s w h = w
+  combines-fresh (choose e) within k r s w h = on-fresh k inside (finishes k) r w (λ d. none-fresh)
+  combines-fresh (repeat e) within k r s w h = on-fresh k inside (again k) r w (λ d. none-fresh)
+  combines-fresh sequence within k r s w h =
+      on-fresh k active (λ q. whereOver (finishes k) (begunIn q (beginAfter within (k + 1) t (q .marks)))) r w
+      (λ d. fresh-where p f A (o .marks) (finishes k) (begunIn (r .order) (beginAfter within (k + 1) t (r .order .marks))) (h refl d (r .order .marks)) (λ q. none-fresh))
+  combines-fresh flow within k r s w h = on-fresh k active (joins k within) r w (λ d. joins-fresh k within (r .order))
+  combines-fresh pick within k r s w h = on-fresh k inside (finishes k) r w (λ d. none-fresh)
+  combines-fresh scope within k r s w h = absurd (false≢true (sym s))
+  combines-fresh (arm a b vs) within k r s w h = w
+
+  -- A scope, whose body has a step.
+  module _ (s : Scope) (h : Seat p s) (kb : Knows f (s .body) (s .bodyAt)) (kf : Knows f (s .fault) (s .faultAt)) (named : Named f (s .fault)) (q : Quiet (o .marks) (s .faultAt) (size (s .fault)))
+      (m : s .bodyAt + size (s .body) ≤ length (o .marks)) (w : Newly (stepIn actor (s .body) (s .bodyAt) t o .log)) where
+    abbrev its : Outcome
+    its = stepIn actor (s .body) (s .bodyAt) t o
+
+    its-mark : {C : List Event → Order → Result → Type 0} → Acted (s .bodyAt) (size (s .body)) o C its → markOf (s .name) (its .order) ≡ markOf (s .name) o
+    its-mark v = mark-kept (s .name) (s .bodyAt) o (its .order) (h .before) (omega arith) (v .rooted) (v .kept)
+
+    later : (x : Outcome) → Newly (x .log) → Newly (its .log ++ x .log)
+    later x v = fresh-append p f A (o .marks) (its .log) (x .log) w v
+
+    faults-fresh : (o₁ : Order) → Calm p f A (o .marks) (s .body) (s .bodyAt) → Stoppable (o₁ .marks) (s .body) (s .bodyAt) → length (o₁ .marks) ≡ length (o .marks)
+        → ((j : ℕ) → Wane (o .marks) (o₁ .marks) j) → Newly (faults s o₁ .log)
+    unfolding faults isBeganOf
+    faults-fresh o₁ c y n st =
+        let o₂ = marking (s .name) faulty o₁ in
+        let r = stop (s .body) (s .bodyAt) o₂ in
+        let g : Agree (s .bodyAt) (size (s .body)) (o₁ .marks) (o₂ .marks) = marking-agree (s .name) faulty o₁ (h .before) in
+        fresh-event p f A (o .marks) (faulted (s .name)) _ (λ j. refl)
+        (fresh-append p f A (o .marks) (r .log) (turns true s (r .order) .log)
+        (stop-fresh p f A (o .marks) (h .body) kb c o₂ (ap phase (marking-mark (s .name) (s .bodyAt) faulty o₁ (h .before) (omega arith))) (stoppable-agree y g) (omega (arith, marking-length (s .name) faulty o₁))
+        (record {
+          at = λ j x z e. let d : isOpen (getD (o₁ .marks) j 0) ≡ true = subst (λ (i : ℕ). isOpen i ≡ true) (g .at j x z) e in
+              st j .was d;
+        }))
+        (turns-fresh p f A (o .marks) s kb kf named c true (λ e. quiet-news p f A (o .marks) q) (r .order)))
+
+    pub live-fresh : Run (o .marks) (s .body) (s .bodyAt) → Acted (s .bodyAt) (size (s .body)) o (RunAs p (s .body) (s .bodyAt) t o) its → Newly (fromBody s its .log)
+    unfolding fromBody bodyRaised
+    live-fresh run v = go (its .result) refl (v .comes)
+      where
+        c : Calm p f A (o .marks) (s .body) (s .bodyAt)
+        c = run-calm p f A (o .marks) (h .body) run
+
+        nf : News p f A (o .marks) (s .faultAt) (size (s .fault))
+        nf = quiet-news p f A (o .marks) q
+
+        go : (x : Result) → its .result ≡ x → RunAs p (s .body) (s .bodyAt) t o (its .log) (its .order) x → Newly (fromBody s (record { result = x; order = its .order; log = its .log }) .log)
+        go running e d = later (looksAgain s (its .order)) (looks-fresh p f A (o .marks) s kb kf named c nf (its .order))
+        go over e d = later (bodyOver s (its .order)) (over-fresh p f A (o .marks) s kb kf named c nf (its .order))
+        go raising e d =
+            later (bodyRaised s (its .order))
+            (fresh-either p f A (o .marks) (isOpen (markOf (s .name) (its .order))) (faults s (its .order)) (looksAgain s (its .order)) (bodyRaised s (its .order)) refl
+            (λ z. faults-fresh (its .order) c (d .0) (v .kept .many) (step-drops f t actor kb o .stays (subst (λ (y : Result). isRaising y ≡ true) (sym e) refl)))
+            (λ z. looks-fresh p f A (o .marks) s kb kf named c nf (its .order)))
+        go leaving e d = w
+        go undone e d = absurd d
+        go undoRaising e d = absurd d
+
+    pub waits-fresh : (z : Bool) → phase (markOf (s .name) o) ≡ waits z → Stopped (o .marks) (s .body) (s .bodyAt) → Acted (s .bodyAt) (size (s .body)) o (StopAs p (s .body) (s .bodyAt) o) its → Newly (fromBody s its .log)
+    unfolding fromBody bodyRaised
+    waits-fresh z ph st v = go (its .result) (v .comes)
+      where
+        c : Calm p f A (o .marks) (s .body) (s .bodyAt)
+        c = stopped-calm p f A (o .marks) (h .body) st
+
+        nf : News p f A (o .marks) (s .faultAt) (size (s .fault))
+        nf = quiet-news p f A (o .marks) q
+
+        go : (x : Result) → StopAs p (s .body) (s .bodyAt) o (its .log) (its .order) x → Newly (fromBody s (record { result = x; order = its .order; log = its .log }) .log)
+        go running d = later (looksAgain s (its .order)) (looks-fresh p f A (o .marks) s kb kf named c nf (its .order))
+        go over d = later (bodyOver s (its .order)) (over-fresh p f A (o .marks) s kb kf named c nf (its .order))
+        go raising d =
+            later (bodyRaised s (its .order))
+            (fresh-either p f A (o .marks) (isOpen (markOf (s .name) (its .order))) (faults s (its .order)) (looksAgain s (its .order)) (bodyRaised s (its .order)) refl
+            (λ y. absurd (false≢true (sym (not-open (markOf (s .name) (its .order)) (waits z) (ap phase (its-mark v) ∙ ph) (λ d. let z : _≡_ {A = ℕ} 0 1 = cc in omega arith)) ∙ y)))
+            (λ y. looks-fresh p f A (o .marks) s kb kf named c nf (its .order)))
+        go leaving d = w
+        go undone d = absurd d
+        go undoRaising d = absurd d
+
+    pub undoes-fresh : (z : Bool) → phase (markOf (s .name) o) ≡ Phase.undoes z → (isUndone (its .result) ≡ true → Calm p f A (o .marks) (s .body) (s .bodyAt))
+        → Acted (s .bodyAt) (size (s .body)) o (UndoAs p (s .name) (s .body) (s .bodyAt) t o) its → Newly (fromBody s its .log)
+    unfolding fromBody
+    undoes-fresh z ph c v = go (its .result) refl (v .comes)
+      where
+        still : looksAgain s (its .order) ≡ runs (its .order)
+        still =
+            looks-still f s kb kf (its .order)
+            (other-mark (markOf (s .name) (its .order)) faulty (Phase.undoes z) (ap phase (its-mark v) ∙ ph) (λ d. let z : _≡_ {A = ℕ} 0 1 = cc in omega arith))
+            (other-mark (markOf (s .name) (its .order)) halted (Phase.undoes z) (ap phase (its-mark v) ∙ ph) (λ d. let z : _≡_ {A = ℕ} 0 1 = cc in omega arith))
+
+        go : (x : Result) → its .result ≡ x → UndoAs p (s .name) (s .body) (s .bodyAt) t o (its .log) (its .order) x → Newly (fromBody s (record { result = x; order = its .order; log = its .log }) .log)
+        go running e d = later (looksAgain s (its .order)) (subst (λ (r : Outcome). Newly (r .log)) (sym still) none-fresh)
+        go over e d = absurd d
+        go raising e d = absurd d
+        go leaving e d = w
+        go undone e d = later (undoOver s (its .order)) (undone-fresh p f A (o .marks) s kb kf named (c (subst (λ (y : Result). isUndone y ≡ true) (sym e) refl)) (quiet-news p f A (o .marks) q) (its .order))
+        go undoRaising e d = later (undoRaised s (its .order)) (undo-raised-fresh p f A (o .marks) s (its .order))
+
+module _ (p : Plan) (distinct : Distinct p) (actor : Actor) (f : ℕ → ℕ) (t : ℕ) (o : Order) where
   abbrev Its-fresh : List Event → Type 0
-  Its-fresh l = Fresh p f t (o .marks) l
+  Its-fresh l = Fresh p f (Again p t) (o .marks) l
 
   -- An undo part that is over after the step: all that ran in it had the step in it.
-  its-again : {x : Place} {own : Own} {within : Acts} {k : ℕ} → Spot p x k → isUndo x ≡ true → Stood p (act own within) k → k ≤ t → t < k + size (act own within) → Again p f t (o .marks) k
+  its-again : {x : Place} {own : Own} {within : Acts} {k : ℕ} → Spot p x k → isUndo x ≡ true → Stood p (act own within) k → k ≤ t → t < k + size (act own within) → Again p t k
   its-again {k = k} s u w h e = record { place = ap isUndo (s .place) ∙ u; from = h; to = subst (λ (a : Act). t < k + size a) (sym (stood-here w)) e }
 
-  news-node : {k n : ℕ} → New p f t (o .marks) k → News p f t (o .marks) (k + 1) n → News p f t (o .marks) k (1 + n)
-  news-node {k} w v = record { at = λ j x y. decide (eqb j k) (λ e. subst (λ (i : ℕ). New p f t (o .marks) i) (sym (eqb-true j k e)) w) (λ e. let d = eqb-false j k e in v .at j (omega arith) (omega arith)) }
+  news-node : {k n : ℕ} → New p f (Again p t) (o .marks) k → News p f (Again p t) (o .marks) (k + 1) n → News p f (Again p t) (o .marks) k (1 + n)
+  news-node {k} w v = record { at = λ j x y. decide (eqb j k) (λ e. subst (λ (i : ℕ). New p f (Again p t) (o .marks) i) (sym (eqb-true j k e)) w) (λ e. let d = eqb-false j k e in v .at j (omega arith) (omega arith)) }
 
-  news-join : {k n m : ℕ} → News p f t (o .marks) k n → News p f t (o .marks) (k + n) m → News p f t (o .marks) k (n + m)
+  news-join : {k n m : ℕ} → News p f (Again p t) (o .marks) k n → News p f (Again p t) (o .marks) (k + n) m → News p f (Again p t) (o .marks) k (n + m)
   news-join {k} {n} {m} w v = record { at = λ j x y. decide (ltb j (k + n)) (λ e. w .at j x (ltb-true j (k + n) e)) (λ e. v .at j (ltb-false j (k + n) e) (omega arith)) }
 
   quiet-back : {k n : ℕ} (ns : List ℕ) → Quiet ns k n → Agree k n (o .marks) ns → Quiet (o .marks) k n
@@ -240,19 +402,19 @@ module _ (p : Plan) (distinct : Distinct p) (actor : Actor) (f : ℕ → ℕ) (t
   ran-part : {x : Place} (own : Own) (within : Acts) (k : ℕ) (b : Bool) → isScope own ≡ false → Spot p x k → isUndo x ≡ true → Stood p (act own within) k
       → Waits (o .marks) (act own within) k t b → b ≡ false → Run (o .marks) (act own within) k → t < k + size (act own within) → isOver (stepIn actor (act own within) k t o .result) ≡ true
       → Quiet (stepIn actor (act own within) k t o .order .marks) k (size (act own within))
-      → ((c : Bool) → WaitsIn (o .marks) within (k + 1) t c → c ≡ false → One (o .marks) within (k + 1) → isOver (stepAmong actor within (k + 1) t o .result) ≡ true → News p f t (o .marks) (k + 1) (sizes within))
+      → ((c : Bool) → WaitsIn (o .marks) within (k + 1) t c → c ≡ false → One (o .marks) within (k + 1) → isOver (stepAmong actor within (k + 1) t o .result) ≡ true → News p f (Again p t) (o .marks) (k + 1) (sizes within))
       → ((c : Bool) → WaitsIn (o .marks) within (k + 1) t c → c ≡ false → All (o .marks) within (k + 1) → isOver (stepAmong actor within (k + 1) t o .result) ≡ true
-      → Quiet (stepAmong actor within (k + 1) t o .order .marks) (k + 1) (sizes within) → News p f t (o .marks) (k + 1) (sizes within))
-      → News p f t (o .marks) k (size (act own within))
+      → Quiet (stepAmong actor within (k + 1) t o .order .marks) (k + 1) (sizes within) → News p f (Again p t) (o .marks) (k + 1) (sizes within))
+      → News p f (Again p t) (o .marks) k (size (act own within))
   unfolding size kind itself awaits combines
-  ran-part own within k b s u i st (waits-itself e₁ d₁) e (run-awaits s₁ y x q) h d z one all = news-node (new-again (its-again u i st (omega arith) h)) (quiet-news p f t (o .marks) q)
+  ran-part own within k b s u i st (waits-itself e₁ d₁) e (run-awaits s₁ y x q) h d z one all = news-node (new-again (its-again u i st (omega arith) h)) (quiet-news p f (Again p t) (o .marks) q)
   ran-part own within k b s u i st (waits-itself e₁ d₁) e (run-one s₁ x r) h d z one all =
       absurd (false≢true (subst (λ (q : Outcome). isOver (q .result) ≡ true) (its-own actor own within k t o e₁ ∙ held-itself p distinct actor own within k o s (rw (x, e) at d₁)) d))
   ran-part flow within k b s u i st (waits-itself e₁ d₁) e (run-all x r a) h d z one all = absurd (false≢true (subst (λ (q : Outcome). isOver (q .result) ≡ true) (its-own actor flow within k t o e₁ ∙ plain-performs actor flow within k o refl) d))
   ran-part own within k b s u i st (waits-itself e₁ d₁) e (run-body x r q) h d z one all = absurd (false≢true (sym s))
   ran-part own within k b s u i st (waits-itself e₁ d₁) e (run-done x q) h d z one all = absurd (false≢true (sym s))
   ran-part own within k b s u i st (waits-itself e₁ d₁) e (run-turned x q) h d z one all = absurd (false≢true (sym s))
-  ran-part own within k b s u i st (waits-within g w) e (run-awaits s₁ y x q) h d z one all = news-node (new-again (its-again u i st (omega arith) h)) (quiet-news p f t (o .marks) q)
+  ran-part own within k b s u i st (waits-within g w) e (run-awaits s₁ y x q) h d z one all = news-node (new-again (its-again u i st (omega arith) h)) (quiet-news p f (Again p t) (o .marks) q)
   ran-part own within k b s u i st (waits-within g w) e (run-one s₁ x r) h d z one all =
       news-node (new-again (its-again u i st (omega arith) h))
       (one (opens own (getD (o .marks) k 0)) w (opens-held p distinct actor own (getD (o .marks) k 0) x) r
@@ -274,7 +436,7 @@ module _ (p : Plan) (distinct : Distinct p) (actor : Actor) (f : ℕ → ℕ) (t
     unfolding size kind itself awaits
 
     ran-run : {x : Place} {a : Act} {k : ℕ} → Sits p x a k → isUndo x ≡ true → Stood p a k → (b : Bool) → Waits (o .marks) a k t b → b ≡ false → Run (o .marks) a k → Fit x o → k + size a ≤ length (o .marks)
-        → t < k + size a → isOver (stepIn actor a k t o .result) ≡ true → News p f t (o .marks) k (size a)
+        → t < k + size a → isOver (stepIn actor a k t o .result) ≡ true → News p f (Again p t) (o .marks) k (size a)
     ran-run (sits-part {q = x} {own} {within} {k} s g u y l) i st b w e run v m h d =
         ran-part own within k b s u i st w e run h d (over-quiet (act own within) k d (steps p distinct actor (sits-part s g u y l) t o b w e run v m))
         (λ c w₁ e₁ r₁ d₁. ran-one l i (stood-within st) c w₁ e₁ r₁ v (omega arith) d₁)
@@ -282,34 +444,34 @@ module _ (p : Plan) (distinct : Distinct p) (actor : Actor) (f : ℕ → ℕ) (t
     ran-run (sits-scope kn s j sb y sf su) i st b w e run v m h d = absurd (false≢true i)
 
     ran-one : {x : Place} {l : Acts} {c : ℕ} → SitsIn p x l c → isUndo x ≡ true → StoodIn p l c → (b : Bool) → WaitsIn (o .marks) l c t b → b ≡ false → One (o .marks) l c → Fit x o → c + sizes l ≤ length (o .marks)
-        → isOver (stepAmong actor l c t o .result) ≡ true → News p f t (o .marks) c (sizes l)
+        → isOver (stepAmong actor l c t o .result) ≡ true → News p f (Again p t) (o .marks) c (sizes l)
     ran-one (sits-more {q = x} {a} {l} {c} s y) i st b (waits-first h w) e (one-here r q) v m d =
-        news-join (ran-run s i (stood-first st) b w e r v (omega arith) h (subst (λ (z : Outcome). isOver (z .result) ≡ true) (its-first actor a l c t o h) d)) (quiet-news p f t (o .marks) q)
+        news-join (ran-run s i (stood-first st) b w e r v (omega arith) h (subst (λ (z : Outcome). isOver (z .result) ≡ true) (its-first actor a l c t o h) d)) (quiet-news p f (Again p t) (o .marks) q)
     ran-one (sits-more {q = x} {a} {l} {c} s y) i st b (waits-later h w) e (one-here r q) v m d = absurd (quiet-waits-in w e q)
     ran-one (sits-more {q = x} {a} {l} {c} s y) i st b (waits-first h w) e (one-later q r) v m d = absurd (quiet-waits w e q)
     ran-one (sits-more {q = x} {a} {l} {c} s y) i st b (waits-later h w) e (one-later q r) v m d =
-        news-join (quiet-news p f t (o .marks) q) (ran-one y i (stood-later st) b w e r v (omega arith) (subst (λ (z : Outcome). isOver (z .result) ≡ true) (its-later actor a l c t o h) d))
+        news-join (quiet-news p f (Again p t) (o .marks) q) (ran-one y i (stood-later st) b w e r v (omega arith) (subst (λ (z : Outcome). isOver (z .result) ≡ true) (its-later actor a l c t o h) d))
 
     ran-all : {x : Place} {l : Acts} {c : ℕ} → SitsIn p x l c → isUndo x ≡ true → StoodIn p l c → (b : Bool) → WaitsIn (o .marks) l c t b → b ≡ false → All (o .marks) l c → Fit x o → c + sizes l ≤ length (o .marks)
-        → isOver (stepAmong actor l c t o .result) ≡ true → Quiet (stepAmong actor l c t o .order .marks) c (sizes l) → News p f t (o .marks) c (sizes l)
+        → isOver (stepAmong actor l c t o .result) ≡ true → Quiet (stepAmong actor l c t o .order .marks) c (sizes l) → News p f (Again p t) (o .marks) c (sizes l)
     ran-all (sits-more {q = x} {a} {l} {c} s y) i st b (waits-first h w) e (all-run r q) v m d z =
         let j = its-first actor a l c t o h in
         news-join (ran-run s i (stood-first st) b w e r v (omega arith) h (subst (λ (z : Outcome). isOver (z .result) ≡ true) j d))
-        (quiet-news p f t (o .marks) (quiet-back (stepIn actor a c t o .order .marks) (subst (λ (q : Outcome). Quiet (q .order .marks) (c + size a) (sizes l)) j (quiet-part z (omega arith) (omega arith)))
+        (quiet-news p f (Again p t) (o .marks) (quiet-back (stepIn actor a c t o .order .marks) (subst (λ (q : Outcome). Quiet (q .order .marks) (c + size a) (sizes l)) j (quiet-part z (omega arith) (omega arith)))
         (record { at = λ n x y. steps p distinct actor s t o b w e r v (omega arith) .kept .above n (omega arith) })))
     ran-all (sits-more {q = x} {a} {l} {c} s y) i st b (waits-first h w) e (all-quiet q r) v m d z = absurd (quiet-waits w e q)
     ran-all (sits-more {q = x} {a} {l} {c} s y) i st b (waits-later h w) e (all-run r q) v m d z =
         let j = its-later actor a l c t o h in
-        news-join (quiet-news p f t (o .marks) (quiet-back (stepAmong actor l (c + size a) t o .order .marks) (subst (λ (q : Outcome). Quiet (q .order .marks) c (size a)) j (quiet-part z (omega arith) (omega arith)))
+        news-join (quiet-news p f (Again p t) (o .marks) (quiet-back (stepAmong actor l (c + size a) t o .order .marks) (subst (λ (q : Outcome). Quiet (q .order .marks) c (size a)) j (quiet-part z (omega arith) (omega arith)))
         (record { at = λ n x g. steps-all p distinct actor y t o b w e q v (omega arith) .kept .below n (omega arith) })))
         (ran-all y i (stood-later st) b w e q v (omega arith) (subst (λ (z : Outcome). isOver (z .result) ≡ true) j d) (subst (λ (q : Outcome). Quiet (q .order .marks) (c + size a) (sizes l)) j (quiet-part z (omega arith) (omega arith))))
     ran-all (sits-more {q = x} {a} {l} {c} s y) i st b (waits-later h w) e (all-quiet q r) v m d z =
         let j = its-later actor a l c t o h in
-        news-join (quiet-news p f t (o .marks) q)
+        news-join (quiet-news p f (Again p t) (o .marks) q)
         (ran-all y i (stood-later st) b w e r v (omega arith) (subst (λ (z : Outcome). isOver (z .result) ≡ true) j d) (subst (λ (q : Outcome). Quiet (q .order .marks) (c + size a) (sizes l)) j (quiet-part z (omega arith) (omega arith))))
 
   ran-undo : {n c : Name} {a : Act} {k : ℕ} → Remedy p (undoOf n c) a k → Stood p a k → (b : Bool) → Waits (o .marks) a k t b → b ≡ false → Run (o .marks) a k → Fit (undoOf n c) o → k + size a ≤ length (o .marks)
-      → t < k + size a → isOver (stepIn actor a k t o .result) ≡ true → News p f t (o .marks) k (size a)
+      → t < k + size a → isOver (stepIn actor a k t o .result) ≡ true → News p f (Again p t) (o .marks) k (size a)
   unfolding size
   ran-undo (remedy {own = own} {within} {k} s a g u z l j) st b w e run v m h d =
       ran-part own within k b s u refl st w e run h d (over-quiet (act own within) k d (steps-part p distinct actor (remedy s a g u z l j) t o b w e run v m))
@@ -336,7 +498,7 @@ module _ (p : Plan) (distinct : Distinct p) (actor : Actor) (f : ℕ → ℕ) (t
     unfolding size kind Its Whole
 
     pub undoing-calm : {x : Place} {a : Act} {k : ℕ} → Sits p x a k → Stood p a k → (b : Bool) → Waits (o .marks) a k t b → b ≡ false → Undoing (o .marks) a k → Fit (undoOf (nameOf x) (aroundOf x)) o → k + size a ≤ length (o .marks)
-        → isUndone (stepIn actor a k t o .result) ≡ true → Calm p f t (o .marks) a k
+        → isUndone (stepIn actor a k t o .result) ≡ true → Calm p f (Again p t) (o .marks) a k
     undoing-calm (sits-part {q = x} {own} {within} {k} s g u y l) st b (waits-itself e₁ d₁) e (undoing-part s₁ i r) v m d =
         absurd (no-less (undoing-waits (undoing-part s₁ i r) (waits-itself e₁ d₁) e) e₁)
     undoing-calm (sits-part {q = x} {own} {within} {k} s g u y l) st b (waits-within h w) e (undoing-part s₁ i r) v m d =
@@ -356,170 +518,15 @@ module _ (p : Plan) (distinct : Distinct p) (actor : Actor) (f : ℕ → ℕ) (t
         (λ z. absurd (false≢true (subst (λ (n : ℕ). isOpen n ≡ true) i z)))
 
     undoing-calm-in : {x : Place} {l : Acts} {c : ℕ} → SitsIn p x l c → StoodIn p l c → (b : Bool) → WaitsIn (o .marks) l c t b → b ≡ false → UndoingIn (o .marks) l c → Fit (undoOf (nameOf x) (aroundOf x)) o
-        → c + sizes l ≤ length (o .marks) → isUndone (stepAmong actor l c t o .result) ≡ true → CalmIn p f t (o .marks) l c
+        → c + sizes l ≤ length (o .marks) → isUndone (stepAmong actor l c t o .result) ≡ true → CalmIn p f (Again p t) (o .marks) l c
     undoing-calm-in (sits-more {q = x} {a} {l} {c} s y) st b (waits-first h w) e (undoing-here r q) v m d =
-        calm-more (undoing-calm s (stood-first st) b w e r v (omega arith) (subst (λ (z : Outcome). isUndone (z .result) ≡ true) (its-first actor a l c t o h) d)) (quiet-calm-in p f t (o .marks) y q)
+        calm-more (undoing-calm s (stood-first st) b w e r v (omega arith) (subst (λ (z : Outcome). isUndone (z .result) ≡ true) (its-first actor a l c t o h) d)) (quiet-calm-in p f (Again p t) (o .marks) y q)
     undoing-calm-in (sits-more {q = x} {a} {l} {c} s y) st b (waits-later h w) e (undoing-here r q) v m d = absurd (quiet-waits-in w e q)
     undoing-calm-in (sits-more {q = x} {a} {l} {c} s y) st b (waits-first h w) e (undoing-later q r) v m d = absurd (quiet-waits w e q)
     undoing-calm-in (sits-more {q = x} {a} {l} {c} s y) st b (waits-later h w) e (undoing-later q r) v m d =
-        calm-more (quiet-calm p f t (o .marks) s q) (undoing-calm-in y (stood-later st) b w e r v (omega arith) (subst (λ (z : Outcome). isUndone (z .result) ≡ true) (its-later actor a l c t o h) d))
+        calm-more (quiet-calm p f (Again p t) (o .marks) s q) (undoing-calm-in y (stood-later st) b w e r v (omega arith) (subst (λ (z : Outcome). isUndone (z .result) ≡ true) (its-later actor a l c t o h) d))
 
-  -- Activities other than scopes.
-
-  -- all that a step logs as begun stands in the activity, and is not that
-  quiet-fresh : {own : Own} {within : Acts} {k : ℕ} → Knows f (act own within) k → k ≤ t → Quiet (o .marks) (k + 1) (sizes within) → Its-fresh (stepIn actor (act own within) k t o .log)
-  unfolding size
-  quiet-fresh {own} {within} {k} x h q =
-      let s = step-at f t actor x o h .strict in
-      fresh-range p f t (o .marks) (stepIn actor (act own within) k t o .log) (k + 1) (sizes within) (λ j e. s .below j (omega arith)) (λ j e. s .above j (omega arith)) (quiet-news p f t (o .marks) q)
-
-  -- what follows in a sequence is quiet
-  after-fresh : {l : Acts} {c : ℕ} {b : Bool} → KnowsIn f l c → Arms false l → WaitsIn (o .marks) l c t b → b ≡ false → One (o .marks) l c → (ns : List ℕ) → Its-fresh (beginAfter l c t ns .log)
-  unfolding beginAfter
-  after-fresh (knows-more {a = act own v} {l} {c} x y) r (waits-first h w) e (one-here n q) ns =
-      let s = turn-starts f y (r .1) ns in
-      subst (λ (z : Begun). Its-fresh (z .log)) (sym (first-of (ltb t (c + size (act own v))) (beginInTurn l (c + size (act own v)) ns) (beginAfter l (c + size (act own v)) t ns) (beginAfter (more (act own v) l) c t ns) refl (lt-ltb t (c + size (act own v)) h)))
-      (fresh-range p f t (o .marks) (beginInTurn l (c + size (act own v)) ns .log) (c + size (act own v)) (sizes l) (s .below) (s .above) (quiet-news p f t (o .marks) q))
-  after-fresh (knows-more x y) r (waits-later h w) e (one-here n q) ns = absurd (quiet-waits-in w e q)
-  after-fresh (knows-more x y) r (waits-first h w) e (one-later q n) ns = absurd (quiet-waits w e q)
-  after-fresh (knows-more {a = act own v} {l} {c} x y) r (waits-later h w) e (one-later q n) ns =
-      subst (λ (z : Begun). Its-fresh (z .log)) (sym (second-of (ltb t (c + size (act own v))) (beginInTurn l (c + size (act own v)) ns) (beginAfter l (c + size (act own v)) t ns) (beginAfter (more (act own v) l) c t ns) refl (le-ltb t (c + size (act own v)) h)))
-      (after-fresh y (r .1) w e n ns)
-
-  on-fresh : (k m : ℕ) (g : Order → Outcome) (r : Outcome) → Its-fresh (r .log) → (eqb (markAt k (r .order)) m ≡ true → Its-fresh (g (r .order) .log)) → Its-fresh (goesOn k m g r .log)
-  unfolding goesOn
-  on-fresh k m g r w h = go (r .result)
-    where
-      on : Its-fresh (r .log ++ log-of (elim (eqb (markAt k (r .order)) m) [ true ↦ g (r .order) | false ↦ runs (r .order) ]))
-      on = fresh-append p f t (o .marks) (r .log) _ w (fresh-either p f t (o .marks) (eqb (markAt k (r .order)) m) (g (r .order)) (runs (r .order)) _ refl h (λ e. fresh-runs p f t (o .marks) (r .order)))
-
-      go : (x : Result) → Its-fresh (whereOver (λ q. elim (eqb (markAt k q) m) [ true ↦ g q | false ↦ runs q ]) (record { result = x; order = r .order; log = r .log }) .log)
-      go running = w
-      go over = on
-      go raising = w
-      go leaving = w
-      go undone = w
-      go undoRaising = w
-
-  none-fresh : Its-fresh []
-  unfolding some
-  none-fresh = fresh-none p f t (o .marks) [] (λ j. refl)
-
-  joins-fresh : (k : ℕ) (within : Acts) (q : Order) → Its-fresh (joins k within q .log)
-  unfolding joins
-  joins-fresh k within q = fresh-either p f t (o .marks) (quiet (k + 1) (sizes within) (q .marks)) (finishes k q) (runs q) (joins k within q) refl (λ e. none-fresh) (λ e. none-fresh)
-
-  combines-fresh : (own : Own) (within : Acts) (k : ℕ) (r : Outcome) → isScope own ≡ false → Its-fresh (r .log)
-      → (eqb (kind own) 8 ≡ true → eqb (markAt k (r .order)) active ≡ true → (ns : List ℕ) → Its-fresh (beginAfter within (k + 1) t ns .log)) → Its-fresh (combines own within k t r .log)
-  unfolding combines kind
-  combines-fresh empty within k r s w h = w
-  combines-fresh (send a b vs) within k r s w h = w
-  combines-fresh (receive a b vs) within k r s w h = w
-  combines-fresh (setting v e) within k r s w h = w
-  combines-fresh raise within k r s w h = w
-  combines-fresh leave within k r s w h = w
-  combines-fresh (choose e) within k r s w h = on-fresh k inside (finishes k) r w (λ d. none-fresh)
-  combines-fresh (repeat e) within k r s w h = on-fresh k inside (again k) r w (λ d. none-fresh)
-  combines-fresh sequence within k r s w h =
-      on-fresh k active (λ q. whereOver (finishes k) (begunIn q (beginAfter within (k + 1) t (q .marks)))) r w
-      (λ d. fresh-where p f t (o .marks) (finishes k) (begunIn (r .order) (beginAfter within (k + 1) t (r .order .marks))) (h refl d (r .order .marks)) (λ q. none-fresh))
-  combines-fresh flow within k r s w h = on-fresh k active (joins k within) r w (λ d. joins-fresh k within (r .order))
-  combines-fresh pick within k r s w h = on-fresh k inside (finishes k) r w (λ d. none-fresh)
-  combines-fresh scope within k r s w h = absurd (false≢true (sym s))
-  combines-fresh (arm a b vs) within k r s w h = w
-
-  -- A scope, whose body has a step.
-  module _ (s : Scope) (h : Seat p s) (kb : Knows f (s .body) (s .bodyAt)) (kf : Knows f (s .fault) (s .faultAt)) (named : Named f (s .fault)) (q : Quiet (o .marks) (s .faultAt) (size (s .fault)))
-      (m : s .bodyAt + size (s .body) ≤ length (o .marks)) (w : Its-fresh (stepIn actor (s .body) (s .bodyAt) t o .log)) where
-    abbrev its : Outcome
-    its = stepIn actor (s .body) (s .bodyAt) t o
-
-    its-mark : {C : List Event → Order → Result → Type 0} → Acted (s .bodyAt) (size (s .body)) o C its → markOf (s .name) (its .order) ≡ markOf (s .name) o
-    its-mark v = mark-kept (s .name) (s .bodyAt) o (its .order) (h .before) (omega arith) (v .rooted) (v .kept)
-
-    later : (x : Outcome) → Its-fresh (x .log) → Its-fresh (its .log ++ x .log)
-    later x v = fresh-append p f t (o .marks) (its .log) (x .log) w v
-
-    faults-fresh : (o₁ : Order) → Calm p f t (o .marks) (s .body) (s .bodyAt) → Stoppable (o₁ .marks) (s .body) (s .bodyAt) → length (o₁ .marks) ≡ length (o .marks)
-        → ((j : ℕ) → Wane (o .marks) (o₁ .marks) j) → Its-fresh (faults s o₁ .log)
-    unfolding faults isBeganOf
-    faults-fresh o₁ c y n st =
-        let o₂ = marking (s .name) faulty o₁ in
-        let r = stop (s .body) (s .bodyAt) o₂ in
-        let g : Agree (s .bodyAt) (size (s .body)) (o₁ .marks) (o₂ .marks) = marking-agree (s .name) faulty o₁ (h .before) in
-        fresh-event p f t (o .marks) (faulted (s .name)) _ (λ j. refl)
-        (fresh-append p f t (o .marks) (r .log) (turns true s (r .order) .log)
-        (stop-fresh p f t (o .marks) (h .body) kb c o₂ (ap phase (marking-mark (s .name) (s .bodyAt) faulty o₁ (h .before) (omega arith))) (stoppable-agree y g) (omega (arith, marking-length (s .name) faulty o₁))
-        (record {
-          at = λ j x z e. let d : isOpen (getD (o₁ .marks) j 0) ≡ true = subst (λ (i : ℕ). isOpen i ≡ true) (g .at j x z) e in
-              st j .was d;
-        }))
-        (turns-fresh p f t (o .marks) s kb kf named c true (λ e. quiet-news p f t (o .marks) q) (r .order)))
-
-    pub live-fresh : Run (o .marks) (s .body) (s .bodyAt) → Acted (s .bodyAt) (size (s .body)) o (RunAs p (s .body) (s .bodyAt) t o) its → Its-fresh (fromBody s its .log)
-    unfolding fromBody bodyRaised
-    live-fresh run v = go (its .result) refl (v .comes)
-      where
-        c : Calm p f t (o .marks) (s .body) (s .bodyAt)
-        c = run-calm p f t (o .marks) (h .body) run
-
-        nf : News p f t (o .marks) (s .faultAt) (size (s .fault))
-        nf = quiet-news p f t (o .marks) q
-
-        go : (x : Result) → its .result ≡ x → RunAs p (s .body) (s .bodyAt) t o (its .log) (its .order) x → Its-fresh (fromBody s (record { result = x; order = its .order; log = its .log }) .log)
-        go running e d = later (looksAgain s (its .order)) (looks-fresh p f t (o .marks) s kb kf named c nf (its .order))
-        go over e d = later (bodyOver s (its .order)) (over-fresh p f t (o .marks) s kb kf named c nf (its .order))
-        go raising e d =
-            later (bodyRaised s (its .order))
-            (fresh-either p f t (o .marks) (isOpen (markOf (s .name) (its .order))) (faults s (its .order)) (looksAgain s (its .order)) (bodyRaised s (its .order)) refl
-            (λ z. faults-fresh (its .order) c (d .0) (v .kept .many) (step-drops f t actor kb o .stays (subst (λ (y : Result). isRaising y ≡ true) (sym e) refl)))
-            (λ z. looks-fresh p f t (o .marks) s kb kf named c nf (its .order)))
-        go leaving e d = w
-        go undone e d = absurd d
-        go undoRaising e d = absurd d
-
-    pub waits-fresh : (z : Bool) → phase (markOf (s .name) o) ≡ waits z → Stopped (o .marks) (s .body) (s .bodyAt) → Acted (s .bodyAt) (size (s .body)) o (StopAs p (s .body) (s .bodyAt) o) its → Its-fresh (fromBody s its .log)
-    unfolding fromBody bodyRaised
-    waits-fresh z ph st v = go (its .result) (v .comes)
-      where
-        c : Calm p f t (o .marks) (s .body) (s .bodyAt)
-        c = stopped-calm p f t (o .marks) (h .body) st
-
-        nf : News p f t (o .marks) (s .faultAt) (size (s .fault))
-        nf = quiet-news p f t (o .marks) q
-
-        go : (x : Result) → StopAs p (s .body) (s .bodyAt) o (its .log) (its .order) x → Its-fresh (fromBody s (record { result = x; order = its .order; log = its .log }) .log)
-        go running d = later (looksAgain s (its .order)) (looks-fresh p f t (o .marks) s kb kf named c nf (its .order))
-        go over d = later (bodyOver s (its .order)) (over-fresh p f t (o .marks) s kb kf named c nf (its .order))
-        go raising d =
-            later (bodyRaised s (its .order))
-            (fresh-either p f t (o .marks) (isOpen (markOf (s .name) (its .order))) (faults s (its .order)) (looksAgain s (its .order)) (bodyRaised s (its .order)) refl
-            (λ y. absurd (false≢true (sym (not-open (markOf (s .name) (its .order)) (waits z) (ap phase (its-mark v) ∙ ph) (λ d. let z : _≡_ {A = ℕ} 0 1 = cc in omega arith)) ∙ y)))
-            (λ y. looks-fresh p f t (o .marks) s kb kf named c nf (its .order)))
-        go leaving d = w
-        go undone d = absurd d
-        go undoRaising d = absurd d
-
-    pub undoes-fresh : (z : Bool) → phase (markOf (s .name) o) ≡ Phase.undoes z → (isUndone (its .result) ≡ true → Calm p f t (o .marks) (s .body) (s .bodyAt))
-        → Acted (s .bodyAt) (size (s .body)) o (UndoAs p (s .name) (s .body) (s .bodyAt) t o) its → Its-fresh (fromBody s its .log)
-    unfolding fromBody
-    undoes-fresh z ph c v = go (its .result) refl (v .comes)
-      where
-        still : looksAgain s (its .order) ≡ runs (its .order)
-        still =
-            looks-still f s kb kf (its .order)
-            (other-mark (markOf (s .name) (its .order)) faulty (Phase.undoes z) (ap phase (its-mark v) ∙ ph) (λ d. let z : _≡_ {A = ℕ} 0 1 = cc in omega arith))
-            (other-mark (markOf (s .name) (its .order)) halted (Phase.undoes z) (ap phase (its-mark v) ∙ ph) (λ d. let z : _≡_ {A = ℕ} 0 1 = cc in omega arith))
-
-        go : (x : Result) → its .result ≡ x → UndoAs p (s .name) (s .body) (s .bodyAt) t o (its .log) (its .order) x → Its-fresh (fromBody s (record { result = x; order = its .order; log = its .log }) .log)
-        go running e d = later (looksAgain s (its .order)) (subst (λ (r : Outcome). Its-fresh (r .log)) (sym still) none-fresh)
-        go over e d = absurd d
-        go raising e d = absurd d
-        go leaving e d = w
-        go undone e d = later (undoOver s (its .order)) (undone-fresh p f t (o .marks) s kb kf named (c (subst (λ (y : Result). isUndone y ≡ true) (sym e) refl)) (quiet-news p f t (o .marks) q) (its .order))
-        go undoRaising e d = later (undoRaised s (its .order)) (undo-raised-fresh p f t (o .marks) s (its .order))
-
-  arms-of : (own : Own) (within : Acts) → eqb (kind own) 8 ≡ true → Arms (eqb (kind own) 10) within → Arms false within
+  pub arms-of : (own : Own) (within : Acts) → eqb (kind own) 8 ≡ true → Arms (eqb (kind own) 10) within → Arms false within
   arms-of own within e r = subst (λ (b : Bool). Arms b within) (ap (λ (n : ℕ). eqb n 10) (eqb-true (kind own) 8 e)) r
 
   part-fresh : (own : Own) (within : Acts) (k : ℕ) (b : Bool) → isScope own ≡ false → Knows f (act own within) k → Waits (o .marks) (act own within) k t b → b ≡ false → Run (o .marks) (act own within) k
@@ -527,21 +534,21 @@ module _ (p : Plan) (distinct : Distinct p) (actor : Actor) (f : ℕ → ℕ) (t
       → ((c : Bool) → WaitsIn (o .marks) within (k + 1) t c → c ≡ false → All (o .marks) within (k + 1) → Its-fresh (stepAmong actor within (k + 1) t o .log))
       → Its-fresh (stepIn actor (act own within) k t o .log)
   unfolding kind itself awaits
-  part-fresh own within k b s x (waits-itself e₁ d₁) e (run-awaits s₁ y z q) one all = quiet-fresh x (omega arith) q
+  part-fresh own within k b s x (waits-itself e₁ d₁) e (run-awaits s₁ y z q) one all = quiet-fresh p distinct actor f t o (Again p t) x (omega arith) q
   part-fresh own within k b s x (waits-itself e₁ d₁) e (run-one s₁ y r) one all =
-      subst (λ (q : Outcome). Its-fresh (q .log)) (sym (its-own actor own within k t o e₁ ∙ held-itself p distinct actor own within k o s (rw (y, e) at d₁))) none-fresh
-  part-fresh flow within k b s x (waits-itself e₁ d₁) e (run-all y r a) one all = subst (λ (q : Outcome). Its-fresh (q .log)) (sym (its-own actor flow within k t o e₁ ∙ plain-performs actor flow within k o refl)) none-fresh
+      subst (λ (q : Outcome). Its-fresh (q .log)) (sym (its-own actor own within k t o e₁ ∙ held-itself p distinct actor own within k o s (rw (y, e) at d₁))) (none-fresh p distinct actor f t o (Again p t))
+  part-fresh flow within k b s x (waits-itself e₁ d₁) e (run-all y r a) one all = subst (λ (q : Outcome). Its-fresh (q .log)) (sym (its-own actor flow within k t o e₁ ∙ plain-performs actor flow within k o refl)) (none-fresh p distinct actor f t o (Again p t))
   part-fresh own within k b s x (waits-itself e₁ d₁) e (run-body y r q) one all = absurd (false≢true (sym s))
   part-fresh own within k b s x (waits-itself e₁ d₁) e (run-done y q) one all = absurd (false≢true (sym s))
   part-fresh own within k b s x (waits-itself e₁ d₁) e (run-turned y q) one all = absurd (false≢true (sym s))
-  part-fresh own within k b s x (waits-within h w) e (run-awaits s₁ y z q) one all = quiet-fresh x (omega arith) q
+  part-fresh own within k b s x (waits-within h w) e (run-awaits s₁ y z q) one all = quiet-fresh p distinct actor f t o (Again p t) x (omega arith) q
   part-fresh own within k b s (knows x n r z) (waits-within h w) e (run-one s₁ y l) one all =
       let c = opens-held p distinct actor own (getD (o .marks) k 0) y in
       subst (λ (q : Outcome). Its-fresh (q .log)) (sym (its-within actor own within k t o o (λ e. omega arith) (arms-held own within k t o y)))
-      (combines-fresh own within k (stepAmong actor within (k + 1) t o) s (one (opens own (getD (o .marks) k 0)) w c l) (λ i d ns. after-fresh z (arms-of own within i r) w c l ns))
+      (combines-fresh p distinct actor f t o (Again p t) own within k (stepAmong actor within (k + 1) t o) s (one (opens own (getD (o .marks) k 0)) w c l) (λ i d ns. after-fresh p distinct actor f t o (Again p t) z (arms-of own within i r) w c l ns))
   part-fresh flow within k b s (knows x n r z) (waits-within h w) e (run-all y l a) one all =
       subst (λ (q : Outcome). Its-fresh (q .log)) (sym (its-within actor flow within k t o o (λ e. omega arith) (arms-held flow within k t o y)))
-      (combines-fresh flow within k (stepAmong actor within (k + 1) t o) s (all (opens flow (getD (o .marks) k 0)) w refl l) (λ i. absurd (false≢true i)))
+      (combines-fresh p distinct actor f t o (Again p t) flow within k (stepAmong actor within (k + 1) t o) s (all (opens flow (getD (o .marks) k 0)) w refl l) (λ i. absurd (false≢true i)))
   part-fresh own within k b s x (waits-within h w) e (run-body y r q) one all = absurd (false≢true (sym s))
   part-fresh own within k b s x (waits-within h w) e (run-done y q) one all = absurd (false≢true (sym s))
   part-fresh own within k b s x (waits-within h w) e (run-turned y q) one all = absurd (false≢true (sym s))
@@ -557,12 +564,12 @@ module _ (p : Plan) (distinct : Distinct p) (actor : Actor) (f : ℕ → ℕ) (t
       → Acted (k + 1) (sizes within) o C (stepAmong actor within (k + 1) t o) → Its-fresh (stepAmong actor within (k + 1) t o .log) → Its-fresh (stepIn actor (act own within) k t o .log)
   idle-fresh own within k s i n h v w =
       subst (λ (q : Outcome). Its-fresh (q .log)) (sym (its-within actor own within k t o o (λ e. omega arith) (arms-none own within k t o n)))
-      (combines-fresh own within k (stepAmong actor within (k + 1) t o) s w
+      (combines-fresh p distinct actor f t o (Again p t) own within k (stepAmong actor within (k + 1) t o) s w
       (λ e d. absurd (false≢true (subst (λ (z : ℕ). eqb z active ≡ true) (v .kept .below k (omega arith) ∙ i) d))))
 
   closing-fresh : (within : Acts) (k : ℕ) → k ≡ t → Its-fresh (stepIn actor (act scope within) k t o .log)
   unfolding itself closing some isBeganOf kind
-  closing-fresh within k e = subst (λ (q : Outcome). Its-fresh (q .log)) (sym (its-own actor scope within k t o e ∙ plain-performs actor scope within k o refl)) (fresh-none p f t (o .marks) _ (λ j. refl))
+  closing-fresh within k e = subst (λ (q : Outcome). Its-fresh (q .log)) (sym (its-own actor scope within k t o e ∙ plain-performs actor scope within k o refl)) (fresh-none p f (Again p t) (o .marks) _ (λ j. refl))
 
   -- A scope that has turned.
   turned-fresh : {n : Name} (b g u : Act) (k : ℕ) → Seat p (scopeAt k (trio b g u)) → Sits p (bodyOf (inner k) n) b (k + 1) → Stood p b (k + 1) → (kb : Knows f b (k + 1)) (kf : Knows f g (k + 1 + size b)) → Named f g
@@ -575,15 +582,15 @@ module _ (p : Plan) (distinct : Distinct p) (actor : Actor) (f : ℕ → ℕ) (t
   unfolding size part partAt Its Whole
   turned-fresh b g u k h sb st kb kf i m lt (waits-first e w) (turned-waits {w = a} q z _ y) x j l v =
       subst (λ (d : Outcome). Its-fresh (d .log)) (sym (body-step p distinct actor b g u k t o lt e))
-      (waits-fresh (scopeAt k (trio b g u)) h kb kf i y (omega arith) (j false w refl z) a q z (steps-stopped p distinct actor sb t o false w refl z (omega arith)))
+      (waits-fresh p distinct actor f t o (Again p t) (scopeAt k (trio b g u)) h kb kf i y (omega arith) (j false w refl z) a q z (steps-stopped p distinct actor sb t o false w refl z (omega arith)))
   turned-fresh b g u k h sb st kb kf i m lt (waits-first e w) (turned-undoes {w = a} q z y) x j l v =
       subst (λ (d : Outcome). Its-fresh (d .log)) (sym (body-step p distinct actor b g u k t o lt e))
-      (undoes-fresh (scopeAt k (trio b g u)) h kb kf i y (omega arith) (l false w refl z a q) a q (λ d. undoing-calm sb st false w refl z (a, q) (omega arith) d) (steps-undoing p distinct actor sb t o false w refl z (a, q) (omega arith)))
+      (undoes-fresh p distinct actor f t o (Again p t) (scopeAt k (trio b g u)) h kb kf i y (omega arith) (l false w refl z a q) a q (λ d. undoing-calm sb st false w refl z (a, q) (omega arith) d) (steps-undoing p distinct actor sb t o false w refl z (a, q) (omega arith)))
   turned-fresh b g u k h sb st kb kf i m lt (waits-first e w) (turned-heals q z y) x j l v = absurd (quiet-waits w refl z)
   turned-fresh b g u k h sb st kb kf i m lt (waits-later d (waits-first e w)) (turned-waits q z _ y) x j l v = absurd (quiet-waits w refl y)
   turned-fresh b g u k h sb st kb kf i m lt (waits-later d (waits-first e w)) (turned-undoes q z y) x j l v = absurd (quiet-waits w refl y)
   turned-fresh b g u k h sb st kb kf i m lt (waits-later d (waits-first e w)) (turned-heals q z y) x j l v =
-      subst (λ (d : Outcome). Its-fresh (d .log)) (sym (fault-step p distinct actor b g u k t o d e)) (fault-fresh p f t (o .marks) (scopeAt k (trio b g u)) (stepIn actor g (k + 1 + size b) t o) (v false w refl y q))
+      subst (λ (d : Outcome). Its-fresh (d .log)) (sym (fault-step p distinct actor b g u k t o d e)) (fault-fresh p f (Again p t) (o .marks) (scopeAt k (trio b g u)) (stepIn actor g (k + 1 + size b) t o) (v false w refl y q))
   turned-fresh b g u k h sb st kb kf i m lt (waits-later d (waits-later e (waits-first c w))) z x j l v = absurd (quiet-waits w refl x)
 
   -- A scope whose body runs.
@@ -594,7 +601,7 @@ module _ (p : Plan) (distinct : Distinct p) (actor : Actor) (f : ℕ → ℕ) (t
   unfolding size part partAt Its Whole
   body-fresh b g u k h sb kb kf i m lt (waits-first e w) x r q j =
       subst (λ (d : Outcome). Its-fresh (d .log)) (sym (body-step p distinct actor b g u k t o lt e))
-      (live-fresh (scopeAt k (trio b g u)) h kb kf i (quiet-part q (omega arith) (omega arith)) (omega arith) (j w) r (steps p distinct actor sb t o false w refl r (ap phase x) (omega arith)))
+      (live-fresh p distinct actor f t o (Again p t) (scopeAt k (trio b g u)) h kb kf i (quiet-part q (omega arith) (omega arith)) (omega arith) (j w) r (steps p distinct actor sb t o false w refl r (ap phase x) (omega arith)))
   body-fresh b g u k h sb kb kf i m lt (waits-later d (waits-first e w)) x r q j = absurd (quiet-waits w refl (quiet-part q (omega arith) (omega arith)))
   body-fresh b g u k h sb kb kf i m lt (waits-later d (waits-later e (waits-first c w))) x r q j = absurd (quiet-waits w refl (quiet-part q (omega arith) (omega arith)))
 

@@ -25,7 +25,7 @@ use Rattle.order.specs.Scope.{Outcome, rootOf, fromBody, fromFault}
 use Rattle.order.specs.Acting.{stepIn, stepRoot, endOf, movedTo, begunOrder, startedOrder, Actor, itsOwn, acted}
 use Rattle.undoing.proofs.EachTime.{time, OfTimes, OfStarts, each-time}
 use Rattle.order.specs.Taking.{actIn, actAmong, actAt}
-use Rattle.machine.specs.Calls.{loadedAs, load, post, collect, dropAt, Stepped, doingAt, step, Call, posting, collecting, dropping, stepping}
+use Rattle.machine.specs.Calls.{loadedAs, load, post, collect, Stepped, doingAt, step, Call, posting, collecting, stepping}
 use Rattle.undoing.specs.History.{logOf}
 use Rattle.undoing.specs.Ties.{isTaken, placeOf}
 use Rattle.undoing.specs.Orderly.{isBeganOf}
@@ -49,8 +49,8 @@ use Rattle.undoing.proofs.Entire.{Named}
 use Rattle.undoing.proofs.BegunTold.{body-knows, fault-knows}
 use Rattle.undoing.proofs.EntirelyTold.{each-below, formed-named}
 use Rattle.undoing.proofs.Coming.{in-first, in-later}
-use Rattle.undoing.proofs.Afresh.{Again, New, new-idle, new-again, Fresh, fresh-append, fresh-none, fault-fresh}
-use Rattle.undoing.proofs.AfreshSteps.{Stood, undoing-calm, live-fresh, waits-fresh, undoes-fresh, fresh-run, fresh-stopped, fresh-undoing, fresh-part}
+use Rattle.undoing.proofs.Afresh.{New, new-idle, new-again, Fresh, fresh-append, fresh-none, fault-fresh}
+use Rattle.undoing.proofs.AfreshSteps.{Again, Stood, undoing-calm, live-fresh, waits-fresh, undoes-fresh, fresh-run, fresh-stopped, fresh-undoing, fresh-part}
 
 module _ (p : Plan) (h : Promised p) where
   kb : Knows (kindAt p) (p .body) 0
@@ -75,63 +75,63 @@ module _ (p : Plan) (h : Promised p) where
       zero-plus : (n : ℕ) → 0 + n ≡ n
       zero-plus n = omega arith
 
-  root-fresh : (actor : Actor) (t : ℕ) (o : Order) → Awaited p (o .marks) t → Standing p o → Fresh p (kindAt p) t (o .marks) (stepRoot actor p t o .log)
+  root-fresh : (actor : Actor) (t : ℕ) (o : Order) → Awaited p (o .marks) t → Standing p o → Fresh p (kindAt p) (Again p t) (o .marks) (stepRoot actor p t o .log)
   unfolding stepRoot
   root-fresh actor t o (in-body e w) st =
-      subst (λ (r : Outcome). Fresh p (kindAt p) t (o .marks) (r .log))
+      subst (λ (r : Outcome). Fresh p (kindAt p) (Again p t) (o .marks) (r .log))
       (sym (first-of (ltb t (size (p .body))) (fromBody (rootOf p) (stepIn actor (p .body) 0 t o)) (fromFault (rootOf p) (stepIn actor (p .fault) (size (p .body)) t o)) (stepRoot actor p t o) refl (lt-ltb t (size (p .body)) e))) (go (st .runs))
     where
       m : size (p .body) + size (p .fault) ≤ length (o .marks)
       m = st .many
 
-      go : Running (rootOf p) (o .marks) (o .root) → Fresh p (kindAt p) t (o .marks) (fromBody (rootOf p) (stepIn actor (p .body) 0 t o) .log)
+      go : Running (rootOf p) (o .marks) (o .root) → Fresh p (kindAt p) (Again p t) (o .marks) (fromBody (rootOf p) (stepIn actor (p .body) 0 t o) .log)
       go (scope-live d r q) =
-          live-fresh p (h .distinct) actor (kindAt p) t o (rootOf p) (h .seat) kb kf nf q (omega arith) (fresh-run p (h .distinct) actor (kindAt p) t o (h .seat .body) kb body-stood false w refl r (ap phase d) (omega arith)) r
+          live-fresh p (h .distinct) actor (kindAt p) t o (Again p t) (rootOf p) (h .seat) kb kf nf q (omega arith) (fresh-run p (h .distinct) actor (kindAt p) t o (h .seat .body) kb body-stood false w refl r (ap phase d) (omega arith)) r
           (steps p (h .distinct) actor (h .seat .body) t o false w refl r (ap phase d) (omega arith))
       go (scope-done d q z) = absurd (st .going d)
       go (scope-turned (turned-waits {w = a} q z _ v)) =
-          waits-fresh p (h .distinct) actor (kindAt p) t o (rootOf p) (h .seat) kb kf nf v (omega arith) (fresh-stopped p (h .distinct) actor (kindAt p) t o (h .seat .body) kb body-stood false w refl z (omega arith)) a q z
+          waits-fresh p (h .distinct) actor (kindAt p) t o (Again p t) (rootOf p) (h .seat) kb kf nf v (omega arith) (fresh-stopped p (h .distinct) actor (kindAt p) t o (h .seat .body) kb body-stood false w refl z (omega arith)) a q z
           (steps-stopped p (h .distinct) actor (h .seat .body) t o false w refl z (omega arith))
       go (scope-turned (turned-undoes {w = a} q z v)) =
-          undoes-fresh p (h .distinct) actor (kindAt p) t o (rootOf p) (h .seat) kb kf nf v (omega arith) (fresh-undoing p (h .distinct) actor (kindAt p) t o (h .seat .body) kb body-stood false w refl z (a, q) (omega arith)) a q
+          undoes-fresh p (h .distinct) actor (kindAt p) t o (Again p t) (rootOf p) (h .seat) kb kf nf v (omega arith) (fresh-undoing p (h .distinct) actor (kindAt p) t o (h .seat .body) kb body-stood false w refl z (a, q) (omega arith)) a q
           (λ d. undoing-calm p (h .distinct) actor (kindAt p) t o (h .seat .body) body-stood false w refl z (a, q) (omega arith) d)
           (steps-undoing p (h .distinct) actor (h .seat .body) t o false w refl z (a, q) (omega arith))
       go (scope-turned (turned-heals q z v)) = absurd (quiet-waits w refl z)
   root-fresh actor t o (in-fault e w) st =
-      subst (λ (r : Outcome). Fresh p (kindAt p) t (o .marks) (r .log))
+      subst (λ (r : Outcome). Fresh p (kindAt p) (Again p t) (o .marks) (r .log))
       (sym (second-of (ltb t (size (p .body))) (fromBody (rootOf p) (stepIn actor (p .body) 0 t o)) (fromFault (rootOf p) (stepIn actor (p .fault) (size (p .body)) t o)) (stepRoot actor p t o) refl (le-ltb t (size (p .body)) e))) (go (st .runs))
     where
       m : size (p .body) + size (p .fault) ≤ length (o .marks)
       m = st .many
 
-      go : Running (rootOf p) (o .marks) (o .root) → Fresh p (kindAt p) t (o .marks) (fromFault (rootOf p) (stepIn actor (p .fault) (size (p .body)) t o) .log)
+      go : Running (rootOf p) (o .marks) (o .root) → Fresh p (kindAt p) (Again p t) (o .marks) (fromFault (rootOf p) (stepIn actor (p .fault) (size (p .body)) t o) .log)
       go (scope-live d r q) = absurd (quiet-waits w refl q)
       go (scope-done d q z) = absurd (st .going d)
       go (scope-turned (turned-waits q z _ v)) = absurd (quiet-waits w refl v)
       go (scope-turned (turned-undoes q z v)) = absurd (quiet-waits w refl v)
       go (scope-turned (turned-heals q z v)) =
-          fault-fresh p (kindAt p) t (o .marks) (rootOf p) (stepIn actor (p .fault) (size (p .body)) t o) (fresh-part p (h .distinct) actor (kindAt p) t o (h .seat .fault) kf fault-stood false w refl v q (omega arith))
+          fault-fresh p (kindAt p) (Again p t) (o .marks) (rootOf p) (stepIn actor (p .fault) (size (p .body)) t o) (fresh-part p (h .distinct) actor (kindAt p) t o (h .seat .fault) kf fault-stood false w refl v q (omega arith))
 
-  order-fresh : (actor : Actor) (t : ℕ) (o : Order) → Awaited p (o .marks) t → Standing p o → Fresh p (kindAt p) t (o .marks) (acted actor p t o .log)
+  pub order-fresh : (actor : Actor) (t : ℕ) (o : Order) → Awaited p (o .marks) t → Standing p o → Fresh p (kindAt p) (Again p t) (o .marks) (acted actor p t o .log)
   unfolding acted movedTo some isBeganOf
   order-fresh actor t o a st = go (endOf (stepRoot actor p t o))
     where
-      w : Fresh p (kindAt p) t (o .marks) (stepRoot actor p t o .log)
+      w : Fresh p (kindAt p) (Again p t) (o .marks) (stepRoot actor p t o .log)
       w = root-fresh actor t o a st
 
-      go : (e : End) → Fresh p (kindAt p) t (o .marks) (movedTo (stepRoot actor p t o) e .log)
+      go : (e : End) → Fresh p (kindAt p) (Again p t) (o .marks) (movedTo (stepRoot actor p t o) e .log)
       go None = w
-      go Well = fresh-append p (kindAt p) t (o .marks) (stepRoot actor p t o .log) (ended root ∷ []) w (fresh-none p (kindAt p) t (o .marks) (ended root ∷ []) (λ j. refl))
+      go Well = fresh-append p (kindAt p) (Again p t) (o .marks) (stepRoot actor p t o .log) (ended root ∷ []) w (fresh-none p (kindAt p) (Again p t) (o .marks) (ended root ∷ []) (λ j. refl))
       go Handled = w
       go Failed = w
       go Left = w
 
   -- as the test has it
-  is-afresh : (x : Taken) (k : ℕ) → isLive (x .before) ≡ true → Fresh p (kindAt p) (x .activity) (x .before .marks) (x .log) → isAfresh p x k ≡ true
+  is-afresh : (x : Taken) (k : ℕ) → isLive (x .before) ≡ true → Fresh p (kindAt p) (Again p (x .activity)) (x .before .marks) (x .log) → isAfresh p x k ≡ true
   unfolding isAfresh
   is-afresh x k l w = decide (hasBegan k (x .log)) (λ b. rw (b, l) (so (w .at k b))) (λ b. rw b)
     where
-      so : New p (kindAt p) (x .activity) (x .before .marks) k → (eqb (getD (x .before .marks) k 0) idle || (isUndo (placeOf p k) && (leb k (x .activity) && ltb (x .activity) (k + size (actAt p k))))) ≡ true
+      so : New p (kindAt p) (Again p (x .activity)) (x .before .marks) k → (eqb (getD (x .before .marks) k 0) idle || (isUndo (placeOf p k) && (leb k (x .activity) && ltb (x .activity) (k + size (actAt p k))))) ≡ true
       so (new-idle e) = rw e
       so (new-again e) = rw (e .place, le-leb k (x .activity) (e .from), lt-ltb (x .activity) (k + size (actAt p k)) (e .to), or-true)
 
@@ -143,7 +143,7 @@ module _ (p : Plan) (h : Promised p) where
   afresh-time actor t o o′ past like a st g =
       let x = time t o [] (acted actor p t o′) in
       each-below (isAfresh p x) (size (p .body) + size (p .fault)) (λ k n. is-afresh x k (standing-live p o st)
-      (subst (λ (ms : List ℕ). Fresh p (kindAt p) t ms (acted actor p t o′ .log)) (like .marks) (order-fresh actor t o′ (alike-awaited like t a) (alike-stands p o o′ like st))))
+      (subst (λ (ms : List ℕ). Fresh p (kindAt p) (Again p t) ms (acted actor p t o′ .log)) (like .marks) (order-fresh actor t o′ (alike-awaited like t a) (alike-stands p o o′ like st))))
 
   afresh-start : OfStarts p (ofAll isAfresh p)
   afresh-start t m o past z n a =

@@ -1,28 +1,40 @@
--- A fault that comes out of a step, or of a raise in a receive's place, has opened no scope: each that is open then was open before. Assumes nothing.
+-- A fault that comes out of a step has set no mark: each that is set then is what it was; and a fault or a leave that comes out of one is told. Assumes nothing.
 use Prim.Native.Nat.{ℕ, zero, suc, _+_, _≤_, _<_}
 use native.Mathlib.Omega.{arith}
 use mathlib.Core.Path.{_≡_, refl, sym, subst, _∙_}
 use mathlib.Core.Bool.{Bool, true, false, cond, _&&_, _||_, false≢true}
-use mathlib.Core.List.{List, [], _∷_}
+use mathlib.Core.List.{List, [], _∷_, _++_}
 use lib.ListN.{getD, set}
 use lib.Dec.{eqb, ltb}
 use borrow.Author.Tests.{eqb-true, eqb-false}
-use Rattle.plan.specs.Tree.{Own, empty, send, receive, set as setting, raise, leave, choose, repeat, sequence, flow, pick, scope, arm, kind, Act, act, Acts, none, more, size, sizes}
+use Rattle.plan.specs.Tree.{Own, empty, send, receive, set as setting, raise, leave, choose, repeat, sequence, flow, pick, scope, arm, kind, Act, act, Acts, none, more, Plan, size, sizes}
 use Rattle.order.specs.declared.Order.{Order}
 use Rattle.order.specs.State.{Name, root, inner, idle, active, inside, faulty, undoing, handling, withdrawing, marked, markAt, markOf, marking, binding}
+use Rattle.order.specs.Event.{Event}
+use Rattle.order.specs.Lists.{some}
 use Rattle.order.specs.Expression.{Value, fault, value, evaluate, isTrue}
 use Rattle.order.specs.Begin.{part, partAt, beginPart, beginAfter}
 use Rattle.order.specs.declared.Way.{Way as Result}
 use Rattle.order.specs.declared.Way.the-variants.{Running as running, Over as over, Raising as raising, Leaving as leaving, Undone as undone, UndoRaising as undoRaising}
-use Rattle.order.specs.Scope.{Outcome, runs, begunIn, whereOver, Scope, scopeAt, isOpen, forgetting, closing, turns, stop, faults, breaks, looksAgain, bodyOver, bodyRaised, undoOver, undoRaised, fromBody, partOver, partRaised, fromFault, fromUndo}
-use Rattle.order.specs.Acting.{finishes, raises, leaves, orRaises, enters, again, repeats, allBound, itself, isPart, arms, goesOn, joins, inScope, combines, stepIn, stepAmong, Actor, replaces, performs}
-use Rattle.undoing.proofs.Parts.{both, decide}
+use Rattle.order.specs.Scope.{Outcome, runs, begunIn, whereOver, Scope, scopeAt, rootOf, isOpen, forgetting, closing, turns, stop, faults, breaks, looksAgain, bodyOver, bodyRaised, undoOver, undoRaised, fromBody, partOver, partRaised, fromFault, fromUndo}
+use Rattle.order.specs.Acting.{finishes, raises, leaves, orRaises, enters, again, repeats, allBound, itself, isPart, arms, goesOn, joins, inScope, combines, stepIn, stepAmong, stepRoot, Actor, replaces, performs}
+use Rattle.undoing.specs.Onward.{isRash}
+use Rattle.undoing.proofs.Parts.{both, decide, some-append}
 use Rattle.undoing.proofs.Places.{first-of, second-of}
 use Rattle.undoing.proofs.Orders.{isArm}
 use Rattle.undoing.proofs.Aside.{part-silent}
 use Rattle.undoing.proofs.Shapes.{graves-aside, isGrave, isMild, Mild, mild-either, mild-where, mild-begun, mild-runs, mild-turns, mild-looks, mild-over, mild-undo-over, mild-part-over, mild-finishes, mild-again, mild-joins, mild-enters, mild-repeats, mild-follows}
-use Rattle.undoing.proofs.Truly.{or-case, Stay, stay-still, stay-then, stay-other, stay-idle, stay-cleared, Knows, knows, KnowsIn, knows-none, knows-more}
+use Rattle.undoing.proofs.Truly.{or-case, Stay, stay-still, stay-then, stay-other, stay-idle, stay-cleared, Arms, Knows, knows, KnowsIn, knows-none, knows-more}
 use Rattle.undoing.proofs.Lasting.{isRaising}
+
+-- a fault came out, or the order leaves
+abbrev pub isBad : Result → Bool
+isBad running = false
+isBad over = false
+isBad raising = true
+isBad leaving = true
+isBad undone = false
+isBad undoRaising = true
 
 -- a scope that is open was open
 pub record Wane (ms ns : List ℕ) (j : ℕ) : Type 0 where
@@ -50,6 +62,15 @@ wane-inside ms k j =
 
 pub record Drops (o : Order) (r : Outcome) : Type 0 where
   pub stays : isRaising (r .result) ≡ true → (j : ℕ) → Wane (o .marks) (r .order .marks) j
+  pub rash : isBad (r .result) ≡ true → some isRash (r .log) ≡ true
+
+mild-good : (x : Result) → isMild x ≡ true → isBad x ≡ true → ⊥
+mild-good running m e = false≢true e
+mild-good over m e = false≢true e
+mild-good raising m e = false≢true m
+mild-good leaving m e = false≢true m
+mild-good undone m e = false≢true m
+mild-good undoRaising m e = false≢true m
 
 mild-calm : (x : Result) → isMild x ≡ true → isRaising x ≡ true → ⊥
 mild-calm running m e = false≢true e
@@ -60,23 +81,24 @@ mild-calm undone m e = false≢true m
 mild-calm undoRaising m e = false≢true m
 
 mild-drops : (o : Order) (r : Outcome) → isMild (r .result) ≡ true → Drops o r
-mild-drops o r m = record { stays = λ e. absurd (mild-calm (r .result) m e) }
+mild-drops o r m = record { stays = λ e. absurd (mild-calm (r .result) m e); rash = λ e. absurd (mild-good (r .result) m e) }
 
 raises-drops : (k : ℕ) (o : Order) → Drops o (raises k o)
-raises-drops k o = record { stays = λ e j. wane-so (stay-idle (o .marks) k j) }
+unfolding some isRash
+raises-drops k o = record { stays = λ e j. wane-so (stay-idle (o .marks) k j); rash = λ e. refl }
 
 or-drops : (k : ℕ) (o : Order) (g : ℕ → Outcome) (v : Value) → ((n : ℕ) → Mild (g n)) → Drops o (orRaises k o g v)
 or-drops k o g fault h = raises-drops k o
 or-drops k o g (value n) h = mild-drops o (g n) (h n .goes)
 
 itself-drops : (own : Own) (within : Acts) (k : ℕ) (o : Order) → Drops o (itself own within k o)
-unfolding itself closing
+unfolding itself closing some isRash
 itself-drops empty within k o = mild-drops o (runs o) refl
 itself-drops (send a b vs) within k o = decide (allBound o vs) (λ e. rw e (mild-drops o (finishes k o) refl)) (λ e. rw e (raises-drops k o))
 itself-drops (receive a b vs) within k o = mild-drops o (finishes k o) refl
 itself-drops (setting v e) within k o = or-drops k o _ (evaluate e o) (λ n. mild-finishes k (binding v n o))
 itself-drops raise within k o = raises-drops k o
-itself-drops leave within k o = record { stays = λ e. absurd (false≢true e) }
+itself-drops leave within k o = record { stays = λ e. absurd (false≢true e); rash = λ e. refl }
 itself-drops (choose e) within k o =
     or-drops k o _ (evaluate e o) (λ n. mild-enters k o (beginPart (cond (isTrue n) 0 1) within (k + 1) (marked k inside o .marks)) (part-silent isGrave graves-aside (cond (isTrue n) 0 1) within (k + 1) (marked k inside o .marks)))
 itself-drops (repeat e) within k o = or-drops k o _ (evaluate e o) (λ n. mild-either (isTrue n) (repeats k within o) (finishes k o) (mild-repeats k within o) (mild-finishes k o) _ refl)
@@ -91,11 +113,11 @@ where-drops : (o : Order) (g : Order → Outcome) (r : Outcome) → Drops o r �
 where-drops o g r w h = go (r .result) refl
   where
     same : (x : Result) → r .result ≡ x → Drops o (record { result = x; order = r .order; log = r .log })
-    same x e = record { stays = λ d. w .stays (subst (λ (y : Result). isRaising y ≡ true) (sym e) d) }
+    same x e = record { stays = λ d. w .stays (subst (λ (y : Result). isRaising y ≡ true) (sym e) d); rash = λ d. w .rash (subst (λ (y : Result). isBad y ≡ true) (sym e) d) }
 
     go : (x : Result) → r .result ≡ x → Drops o (whereOver g (record { result = x; order = r .order; log = r .log }))
     go running e = same running e
-    go over e = record { stays = λ d. absurd (mild-calm (g (r .order) .result) (h (r .order) .goes) d) }
+    go over e = record { stays = λ d. absurd (mild-calm (g (r .order) .result) (h (r .order) .goes) d); rash = λ d. absurd (mild-good (g (r .order) .result) (h (r .order) .goes) d) }
     go raising e = same raising e
     go leaving e = same leaving e
     go undone e = same undone e
@@ -107,6 +129,9 @@ on-mild k m g h q = mild-either (eqb (markAt k q) m) (g q) (runs q) (h q) (mild-
 on-drops : (o : Order) (k m : ℕ) (g : Order → Outcome) (r : Outcome) → Drops o r → ((q : Order) → Mild (g q)) → Drops o (goesOn k m g r)
 unfolding goesOn
 on-drops o k m g r w h = where-drops o (λ q. elim (eqb (markAt k q) m) [ true ↦ g q | false ↦ runs q ]) r w (on-mild k m g h)
+
+more-rash : (l m : List Event) → some isRash l ≡ true → some isRash (l ++ m) ≡ true
+more-rash l m e = some-append isRash l m ∙ rw e
 
 stay-marking-idle : (n : Name) (o : Order) (j : ℕ) → Stay (o .marks) (marking n idle o .marks) j
 stay-marking-idle root o j = stay-still (o .marks) j
@@ -125,17 +150,24 @@ unfolding fromBody bodyRaised faults undoRaised
 body-drops s o r w = go (r .result) refl
   where
     go : (x : Result) → r .result ≡ x → Drops o (fromBody s (record { result = x; order = r .order; log = r .log }))
-    go running e = record { stays = λ d. absurd (mild-calm (looksAgain s (r .order) .result) (mild-looks s (r .order) .goes) d) }
-    go over e = record { stays = λ d. absurd (mild-calm (bodyOver s (r .order) .result) (mild-over s (r .order) .goes) d) }
-    go raising e = record { stays = λ d. absurd (mild-calm (bodyRaised s (r .order) .result) (raised (isOpen (markOf (s .name) (r .order))) (bodyRaised s (r .order)) refl) d) }
+    go running e = record { stays = λ d. absurd (mild-calm (looksAgain s (r .order) .result) (mild-looks s (r .order) .goes) d); rash = λ d. absurd (mild-good (looksAgain s (r .order) .result) (mild-looks s (r .order) .goes) d) }
+    go over e = record { stays = λ d. absurd (mild-calm (bodyOver s (r .order) .result) (mild-over s (r .order) .goes) d); rash = λ d. absurd (mild-good (bodyOver s (r .order) .result) (mild-over s (r .order) .goes) d) }
+    go raising e =
+        record {
+          stays = λ d. absurd (mild-calm (bodyRaised s (r .order) .result) (raised (isOpen (markOf (s .name) (r .order))) (bodyRaised s (r .order)) refl) d);
+          rash = λ d. absurd (mild-good (bodyRaised s (r .order) .result) (raised (isOpen (markOf (s .name) (r .order))) (bodyRaised s (r .order)) refl) d);
+        }
       where
         raised : (v : Bool) (z : Outcome) → z ≡ elim v [ true ↦ faults s (r .order) | false ↦ looksAgain s (r .order) ] → isMild (z .result) ≡ true
         raised true z e = subst (λ (q : Outcome). isMild (q .result) ≡ true) (sym e) (mild-turns true s (stop (s .body) (s .bodyAt) (marking (s .name) faulty (r .order)) .order) .goes)
         raised false z e = subst (λ (q : Outcome). isMild (q .result) ≡ true) (sym e) (mild-looks s (r .order) .goes)
-    go leaving e = record { stays = λ d. absurd (false≢true d) }
-    go undone e = record { stays = λ d. absurd (mild-calm (undoOver s (r .order) .result) (mild-undo-over s (r .order) .goes) d) }
+    go leaving e = record { stays = λ d. absurd (false≢true d); rash = λ d. w .rash (subst (λ (y : Result). isBad y ≡ true) (sym e) refl) }
+    go undone e = record { stays = λ d. absurd (mild-calm (undoOver s (r .order) .result) (mild-undo-over s (r .order) .goes) d); rash = λ d. absurd (mild-good (undoOver s (r .order) .result) (mild-undo-over s (r .order) .goes) d) }
     go undoRaising e =
-        record { stays = λ d. broke (eqb (markOf (s .name) (r .order)) undoing || eqb (markOf (s .name) (r .order)) withdrawing) (undoRaised s (r .order)) refl }
+        record {
+          stays = λ d. broke (eqb (markOf (s .name) (r .order)) undoing || eqb (markOf (s .name) (r .order)) withdrawing) (undoRaised s (r .order)) refl;
+          rash = λ d. more-rash (r .log) (undoRaised s (r .order) .log) (w .rash (subst (λ (y : Result). isBad y ≡ true) (sym e) refl));
+        }
       where
         broke : (v : Bool) (z : Outcome) → z ≡ elim v [ true ↦ breaks s (r .order) | false ↦ runs (r .order) ] → (j : ℕ) → Wane (o .marks) (z .order .marks) j
         broke true z d j = subst (λ (q : Outcome). Wane (o .marks) (q .order .marks) j) (sym d) (wane-then (w .stays (subst (λ (y : Result). isRaising y ≡ true) (sym e) refl) j) (wane-so (breaks-stay s (r .order) j)))
@@ -146,28 +178,32 @@ unfolding fromFault partRaised
 fault-drops s o r w = go (r .result) refl
   where
     go : (x : Result) → r .result ≡ x → Drops o (fromFault s (record { result = x; order = r .order; log = r .log }))
-    go running e = record { stays = λ d. absurd (false≢true d) }
-    go over e = record { stays = λ d. absurd (mild-calm (partOver s (r .order) .result) (mild-part-over s (r .order) .goes) d) }
-    go raising e = record { stays = λ d. broke (eqb (markOf (s .name) (r .order)) handling) (partRaised s (r .order)) refl }
+    go running e = record { stays = λ d. absurd (false≢true d); rash = λ d. absurd (false≢true d) }
+    go over e = record { stays = λ d. absurd (mild-calm (partOver s (r .order) .result) (mild-part-over s (r .order) .goes) d); rash = λ d. absurd (mild-good (partOver s (r .order) .result) (mild-part-over s (r .order) .goes) d) }
+    go raising e =
+        record {
+          stays = λ d. broke (eqb (markOf (s .name) (r .order)) handling) (partRaised s (r .order)) refl;
+          rash = λ d. more-rash (r .log) (partRaised s (r .order) .log) (w .rash (subst (λ (y : Result). isBad y ≡ true) (sym e) refl));
+        }
       where
         broke : (v : Bool) (z : Outcome) → z ≡ elim v [ true ↦ breaks s (r .order) | false ↦ runs (r .order) ] → (j : ℕ) → Wane (o .marks) (z .order .marks) j
         broke true z d j = subst (λ (q : Outcome). Wane (o .marks) (q .order .marks) j) (sym d) (wane-then (w .stays (subst (λ (y : Result). isRaising y ≡ true) (sym e) refl) j) (wane-so (breaks-stay s (r .order) j)))
         broke false z d j = subst (λ (q : Outcome). Wane (o .marks) (q .order .marks) j) (sym d) (w .stays (subst (λ (y : Result). isRaising y ≡ true) (sym e) refl) j)
-    go leaving e = record { stays = λ d. absurd (false≢true d) }
-    go undone e = record { stays = λ d. absurd (false≢true d) }
-    go undoRaising e = record { stays = λ d. absurd (false≢true d) }
+    go leaving e = record { stays = λ d. absurd (false≢true d); rash = λ d. w .rash (subst (λ (y : Result). isBad y ≡ true) (sym e) refl) }
+    go undone e = record { stays = λ d. absurd (false≢true d); rash = λ d. absurd (false≢true d) }
+    go undoRaising e = record { stays = λ d. absurd (false≢true d); rash = λ d. absurd (false≢true d) }
 
 undo-drops : (o : Order) (r : Outcome) → Drops o r → Drops o (fromUndo r)
 unfolding fromUndo
 undo-drops o r w = go (r .result) refl
   where
     go : (x : Result) → r .result ≡ x → Drops o (fromUndo (record { result = x; order = r .order; log = r .log }))
-    go running e = record { stays = λ d. absurd (false≢true d) }
-    go over e = record { stays = λ d. absurd (false≢true d) }
-    go raising e = record { stays = λ d. w .stays (subst (λ (y : Result). isRaising y ≡ true) (sym e) refl) }
-    go leaving e = record { stays = λ d. absurd (false≢true d) }
-    go undone e = record { stays = λ d. absurd (false≢true d) }
-    go undoRaising e = record { stays = λ d. w .stays (subst (λ (y : Result). isRaising y ≡ true) (sym e) refl) }
+    go running e = record { stays = λ d. absurd (false≢true d); rash = λ d. absurd (false≢true d) }
+    go over e = record { stays = λ d. absurd (false≢true d); rash = λ d. absurd (false≢true d) }
+    go raising e = record { stays = λ d. w .stays (subst (λ (y : Result). isRaising y ≡ true) (sym e) refl); rash = λ d. w .rash (subst (λ (y : Result). isBad y ≡ true) (sym e) refl) }
+    go leaving e = record { stays = λ d. absurd (false≢true d); rash = λ d. w .rash (subst (λ (y : Result). isBad y ≡ true) (sym e) refl) }
+    go undone e = record { stays = λ d. absurd (false≢true d); rash = λ d. absurd (false≢true d) }
+    go undoRaising e = record { stays = λ d. w .stays (subst (λ (y : Result). isRaising y ≡ true) (sym e) refl); rash = λ d. w .rash (subst (λ (y : Result). isBad y ≡ true) (sym e) refl) }
 
 combines-drops : (own : Own) (within : Acts) (k t : ℕ) (o : Order) (r : Outcome) → Drops o r → Drops o (combines own within k t r)
 unfolding combines inScope
@@ -199,7 +235,7 @@ arms-wane own within k t o j =
     decide (eqb (kind own) 10 && isPart within (k + 1) t) (λ e. rw e (wane-inside (o .marks) k j)) (λ e. rw e (wane-so (stay-still (o .marks) j)))
 
 drops-from : {o q : Order} {r : Outcome} → ((j : ℕ) → Wane (o .marks) (q .marks) j) → Drops q r → Drops o r
-drops-from f w = record { stays = λ e j. wane-then (f j) (w .stays e j) }
+drops-from f w = record { stays = λ e j. wane-then (f j) (w .stays e j); rash = w .rash }
 
 module _ (f : ℕ → ℕ) (t : ℕ) where
   mutual
@@ -210,7 +246,14 @@ module _ (f : ℕ → ℕ) (t : ℕ) where
         drops-either o (eqb k t) (performs actor own within k o) (combines own within k t (stepAmong actor within (k + 1) t (arms own within k t o))) _ refl (performs-drops actor own within k o)
         (combines-drops own within k t o (stepAmong actor within (k + 1) t (arms own within k t o)) (drops-from (arms-wane own within k t o) (among-drops actor y (arms own within k t o))))
 
-    among-drops : (actor : Actor) {l : Acts} {c : ℕ} → KnowsIn f l c → (o : Order) → Drops o (stepAmong actor l c t o)
+    pub among-drops : (actor : Actor) {l : Acts} {c : ℕ} → KnowsIn f l c → (o : Order) → Drops o (stepAmong actor l c t o)
     among-drops actor knows-none o = mild-drops o (runs o) refl
     among-drops actor (knows-more {a} {l} {c} x y) o =
         drops-either o (ltb t (c + size a)) (stepIn actor a c t o) (stepAmong actor l (c + size a) t o) _ refl (step-drops actor x o) (among-drops actor y o)
+
+  -- from the root
+  pub root-drops : (actor : Actor) (p : Plan) → Knows f (p .body) 0 → Knows f (p .fault) (size (p .body)) → (o : Order) → Drops o (stepRoot actor p t o)
+  unfolding stepRoot
+  root-drops actor p kb kf o =
+      drops-either o (ltb t (size (p .body))) (fromBody (rootOf p) (stepIn actor (p .body) 0 t o)) (fromFault (rootOf p) (stepIn actor (p .fault) (size (p .body)) t o)) (stepRoot actor p t o) refl
+      (body-drops (rootOf p) o (stepIn actor (p .body) 0 t o) (step-drops actor kb o)) (fault-drops (rootOf p) o (stepIn actor (p .fault) (size (p .body)) t o) (step-drops actor kf o))

@@ -62,11 +62,15 @@ pub mod OnceOver
 pub mod Nearing
 pub mod NearTold
 pub mod Dropping
+pub mod Bodies
 pub mod Afresh
 pub mod AfreshSteps
 pub mod AfreshTold
-pub mod Firmly
-pub mod Weighed
+pub mod Upright
+pub mod Growing
+pub mod Passing
+pub mod Moving
+pub mod Deciding
 pub mod AnsweredExamples
 pub mod Sure
 pub mod Lessening
@@ -77,3 +81,4 @@ pub mod Pushing
 pub mod Booked
 pub mod TakenBack
 pub mod AsOften
+pub mod Firmly
