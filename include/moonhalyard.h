@@ -128,8 +128,8 @@ static inline const uint8_t *moonhalyard_order(const uint8_t *state, uint32_t sl
 /* Answers are one number. post, collect, run and upgrade answer their refusal, 0 where there is none. Of the others, what a refusal leaves unsaid is 0.
    These read them, each named for the calls whose answers it reads:
 
-     answer   accept, load, text, write, rows, mend    the refusal; where it is 0, what the call says of itself; else the place in trouble
-     step     step, offer                              the refusal, the slot, the activity, the message place, the order's end
+     answer   accept, load, list, text, draw, write, rows, mend   the refusal; where it is 0, what the call says of itself; else the place in trouble
+     step     step, offer; each number of list, tell   the refusal, the slot, the activity, the message place, the order's end
      offers   offers                                   the refusal, how many steps are offered, whether something is held
      show     show                                     the refusal, where the activity starts, how many bytes spell it */
 static inline uint32_t moonhalyard_answer_refusal(uint64_t answer) { return (uint32_t)(answer >> 32); }
@@ -209,6 +209,12 @@ uint64_t moonhalyard_offer(const uint8_t *state, size_t size, uint64_t choice);
 /* How many steps are offered, and 2^32 more where something is held for want of room; or 17 times 2^40. */
 uint64_t moonhalyard_offers(const uint8_t *state, size_t size);
 
+/* The steps that are offered from the choice `first` on, not taken, as many as there is room for: what moonhalyard_offer answers for the choice `first` is put
+   into out[0], for the next into out[1], and so on, up to out[room - 1] or to the end of the offer. The answer is how many these are, or 17 times 2^32. Numbers
+   behind these never change, and with 17 none does. The offer is gone through once, so this is the way to see many of them: asking moonhalyard_offer for
+   each goes through it each time. */
+uint64_t moonhalyard_list(const uint8_t *state, size_t size, uint32_t first, uint64_t *out, size_t room);
+
 /* Takes the step with a choice. The answer is as for moonhalyard_offer, with the order's end added:
      0 none, 1 well, 2 handled, 3 failed, 4 left
    Where the step leaves two receives or arms of its order open with the same partner, operation and variables, the one with the higher number faults with
@@ -220,10 +226,21 @@ uint64_t moonhalyard_step(uint8_t *state, size_t size, uint64_t choice);
    refusal (17, 10, 11, 12). *budget is less by the steps taken, and the state is as the last of these left it: as it was, where none was taken. */
 uint32_t moonhalyard_run(uint8_t *state, size_t size, const uint64_t *choices, size_t many, uint64_t *budget);
 
+/* Takes steps as moonhalyard_run does, with the same answer, the same state and the same budget afterwards, and tells each: the answer that moonhalyard_step
+   would have given for the first step taken is put into told[0], that for the second into told[1], and so on, as far as there are `room` numbers. So the first
+   of them, as many as the budget is less by, and `room` at most, are told: which order, which activity, and how the order ended, if it did. Numbers behind
+   these never change. */
+uint32_t moonhalyard_tell(uint8_t *state, size_t size, const uint64_t *choices, size_t many, uint64_t *budget, uint64_t *told, size_t room);
+
 /* Writes the plan that a text says (docs/DESK.md, "A plan as text") into the front of `plan`. The answer is how many bytes it has; or the refusal times
    2^32, and the line in trouble, counted from 1: 33 to 58 where the text is wrong there, or what moonhalyard_write refuses, whose row is told by its line
    (for 1 and 18 that of the first row). A refused text changes nothing in `plan`, and bytes behind the plan never change. Takes up to 512 KiB of stack. */
 uint64_t moonhalyard_text(const uint8_t *text, size_t n, uint8_t *plan, size_t room);
+
+/* Writes a plan as text into the front of `text`: what the desk's `draw` prints of a plan without names, which moonhalyard_text reads back as the same bytes.
+   The answer is how long the text is, without any 0 behind it; or the refusal (1 to 9 and 21 with its place; 18 with how long the text is) times 2^32.
+   Refused, nothing in `text` changes, and bytes behind the text never change. */
+uint64_t moonhalyard_draw(const uint8_t *plan, size_t n, uint8_t *text, size_t room);
 
 /* A plan as a table: a row of 20 numbers for the head and for each activity, arm and expression, in the order of the plan's bytes. The first number
    of a row is how many numbers it has; these follow as the plan has them, and 0 in the places behind them:
@@ -280,9 +297,24 @@ static inline uint32_t moonhalyard_run_apart(uint8_t *state, size_t size, const 
                ? moonhalyard_run(state, size, choices, many, budget)
                : (uint32_t)MOONHALYARD_ROOM;
 }
+static inline uint32_t moonhalyard_tell_apart(uint8_t *state, size_t size, const uint64_t *choices, size_t many, uint64_t *budget, uint64_t *told, size_t room)
+{
+    return moonhalyard_apart(state, size, choices, 8 * many) && moonhalyard_apart(state, size, budget, 8) && moonhalyard_apart(choices, 8 * many, budget, 8)
+                   && moonhalyard_apart(state, size, told, 8 * room) && moonhalyard_apart(choices, 8 * many, told, 8 * room) && moonhalyard_apart(budget, 8, told, 8 * room)
+               ? moonhalyard_tell(state, size, choices, many, budget, told, room)
+               : (uint32_t)MOONHALYARD_ROOM;
+}
+static inline uint64_t moonhalyard_list_apart(const uint8_t *state, size_t size, uint32_t first, uint64_t *out, size_t room)
+{
+    return moonhalyard_apart(state, size, out, 8 * room) ? moonhalyard_list(state, size, first, out, room) : (uint64_t)MOONHALYARD_ROOM << 32;
+}
 static inline uint64_t moonhalyard_text_apart(const uint8_t *text, size_t n, uint8_t *plan, size_t room)
 {
     return moonhalyard_apart(text, n, plan, room) ? moonhalyard_text(text, n, plan, room) : (uint64_t)MOONHALYARD_ROOM << 32;
+}
+static inline uint64_t moonhalyard_draw_apart(const uint8_t *plan, size_t n, uint8_t *text, size_t room)
+{
+    return moonhalyard_apart(plan, n, text, room) ? moonhalyard_draw(plan, n, text, room) : (uint64_t)MOONHALYARD_ROOM << 32;
 }
 static inline uint64_t moonhalyard_write_apart(const uint32_t *table, size_t numbers, uint8_t *plan, size_t room)
 {
@@ -301,7 +333,10 @@ static inline uint64_t moonhalyard_mend_apart(const uint8_t *plan, size_t n, uin
 #define moonhalyard_collect(state, size, message, room) moonhalyard_collect_apart(state, size, message, room)
 #define moonhalyard_drop(state, size, place, message, room) moonhalyard_drop_apart(state, size, place, message, room)
 #define moonhalyard_run(state, size, choices, many, budget) moonhalyard_run_apart(state, size, choices, many, budget)
+#define moonhalyard_list(state, size, first, out, room) moonhalyard_list_apart(state, size, first, out, room)
+#define moonhalyard_tell(state, size, choices, many, budget, told, room) moonhalyard_tell_apart(state, size, choices, many, budget, told, room)
 #define moonhalyard_text(text, n, plan, room) moonhalyard_text_apart(text, n, plan, room)
+#define moonhalyard_draw(plan, n, text, room) moonhalyard_draw_apart(plan, n, text, room)
 #define moonhalyard_write(table, numbers, plan, room) moonhalyard_write_apart(table, numbers, plan, room)
 #define moonhalyard_rows(plan, n, table, room) moonhalyard_rows_apart(plan, n, table, room)
 #define moonhalyard_mend(plan, n, out, room) moonhalyard_mend_apart(plan, n, out, room)

@@ -86,6 +86,25 @@ static void texts(void)
     same(moonhalyard_answer_refusal(moonhalyard_accept(plan, plan_length)), 0);
 }
 
+/* A plan's text is read back as the plan; with less room it tells how much it wants, and writes nothing. */
+static void draws(void)
+{
+    static uint8_t said[1 << 14], back[4096];
+    uint64_t answer = moonhalyard_draw(plan, plan_length, said, 0);
+    uint32_t length = (uint32_t)answer;
+    same(answer >> 32, MOONHALYARD_ROOM);
+    memset(said, 0xEE, sizeof said);
+    same(moonhalyard_draw(plan, plan_length, said, length - 1), answer);
+    same(said[0], 0xEE);
+    same(moonhalyard_draw(plan, plan_length, said, sizeof said), length);
+    same(said[length - 1], '\n');
+    same(said[length], 0xEE);
+    same(moonhalyard_text(said, length, back, sizeof back), plan_length);
+    same(memcmp(back, plan, plan_length), 0);
+    same(moonhalyard_draw(plan, plan_length - 1, said, sizeof said) >> 32 != 0, 1);
+    same(said[0], 'v');
+}
+
 /* What the calls do is found at the offsets that the header tells. */
 static void offsets(void)
 {
@@ -135,6 +154,67 @@ static void drops(void)
     same(moonhalyard_long(other + MOONHALYARD_WAITING), 0);
 }
 
+/* A state with orders that have begun and messages that wait. */
+static void busy(uint8_t *of)
+{
+    memcpy(of, state, MOONHALYARD_STATE);
+    for (uint32_t i = 0; i < 12; i++) {
+        same(moonhalyard_post(of, MOONHALYARD_STATE, 0, 0, 2, 100 + i / 2, 40, 0, 0), 0);
+        if (i % 3 == 0)
+            same(moonhalyard_step_refusal(moonhalyard_step(of, MOONHALYARD_STATE, 0)), 0);
+    }
+}
+
+/* A window of the offer is what asking for each choice gives, as far as there is room, and not a number further. */
+static void lists(void)
+{
+    static uint8_t other[MOONHALYARD_STATE], none[MOONHALYARD_STATE];
+    uint64_t out[40];
+    busy(other);
+    uint32_t many = moonhalyard_offers_many(moonhalyard_offers(other, sizeof other));
+    same(many > 4 && many < 39, 1);
+    memcpy(before, other, sizeof other);
+    for (uint32_t first = 0; first <= many + 1; first++)
+        for (uint32_t room = 0; room <= 40; room++) {
+            uint32_t there = first < many ? many - first : 0, want = there < room ? there : room;
+            memset(out, 0xEE, sizeof out);
+            same(moonhalyard_list(other, sizeof other, first, out, room), want);
+            for (uint32_t i = 0; i < 40; i++)
+                same(out[i], i < want ? moonhalyard_offer(other, sizeof other, first + i) : 0xEEEEEEEEEEEEEEEEu);
+        }
+    same(moonhalyard_list(other, sizeof other, UINT32_MAX, out, 40), 0);
+    same(memcmp(other, before, sizeof other), 0);
+    memset(out, 0xEE, sizeof out);
+    same(moonhalyard_list(none, sizeof none, 0, out, 40), (uint64_t)17 << 32);
+    same(out[0], 0xEEEEEEEEEEEEEEEEu);
+}
+
+/* A run that is told is the run, step by step; as far as there is room, and not a number further. */
+static void tells(void)
+{
+    static uint8_t first[MOONHALYARD_STATE], by_step[MOONHALYARD_STATE], by_run[MOONHALYARD_STATE], by_tell[MOONHALYARD_STATE];
+    busy(first);
+    for (size_t room = 0; room <= 40; room += 4) {
+        uint64_t choices[64] = {0}, told[40], budget = 60, other = 60, answer, refusal = 0;
+        size_t taken = 0;
+        memcpy(by_step, first, sizeof first);
+        memcpy(by_run, first, sizeof first);
+        memcpy(by_tell, first, sizeof first);
+        memset(told, 0xEE, sizeof told);
+        refusal = moonhalyard_tell(by_tell, sizeof by_tell, choices, 64, &budget, told, room);
+        same(moonhalyard_run(by_run, sizeof by_run, choices, 64, &other), refusal);
+        same(other, budget);
+        same(memcmp(by_run, by_tell, sizeof by_run), 0);
+        for (; moonhalyard_step_refusal(answer = moonhalyard_step(by_step, sizeof by_step, 0)) == 0 && taken < 60; taken++)
+            if (taken < room)
+                same(told[taken], answer);
+        same(taken, 60 - budget);
+        same(taken > 2, 1);
+        for (size_t i = taken < room ? taken : room; i < 40; i++)
+            same(told[i], 0xEEEEEEEEEEEEEEEEu);
+    }
+}
+
 /* Overlapping buffers are refused, and nothing changes. */
 static void overlaps(void)
 {
@@ -146,10 +226,15 @@ static void overlaps(void)
     same(moonhalyard_upgrade(state, sizeof state, state, sizeof state), 18);
     same(moonhalyard_run(state, sizeof state, (const uint64_t *)(const void *)(state + 4), 1, (uint64_t *)(void *)plan), 18);
     same(moonhalyard_run(state, sizeof state, (const uint64_t *)(const void *)plan, 1, (uint64_t *)(void *)(state + 4)), 18);
+    same(moonhalyard_list(state, sizeof state, 0, (uint64_t *)(void *)(state + 4), 1), (uint64_t)18 << 32);
+    same(moonhalyard_tell(state, sizeof state, (const uint64_t *)(const void *)plan, 1, (uint64_t *)(void *)text, (uint64_t *)(void *)plan, 1), 18);
+    same(moonhalyard_tell(state, sizeof state, (const uint64_t *)(const void *)plan, 1, (uint64_t *)(void *)text, (uint64_t *)(void *)(state + 4), 1), 18);
+    same(moonhalyard_tell(state, sizeof state, (const uint64_t *)(const void *)plan, 1, (uint64_t *)(void *)text, (uint64_t *)(void *)text, 1), 18);
     same(moonhalyard_mend(plan, plan_length, plan + plan_length - 1, 16), (uint64_t)18 << 32);
     same(moonhalyard_rows((const uint8_t *)table, 4096, table, 4096), (uint64_t)18 << 32);
     same(moonhalyard_write(table, 4096, (uint8_t *)table, 4096), (uint64_t)18 << 32);
     same(moonhalyard_text(text, text_length, text, 4096), (uint64_t)18 << 32);
+    same(moonhalyard_draw(plan, plan_length, plan + 1, 4095), (uint64_t)18 << 32);
     same(memcmp(state, before, sizeof state), 0);
     /* Side by side is apart. */
     same(moonhalyard_apart(state, 8, state + 8, 8), 1);
@@ -176,6 +261,7 @@ static int ended(uint8_t *of)
 static void *texts_in(void *none)
 {
     texts();
+    draws();
     return none;
 }
 
@@ -183,6 +269,8 @@ static void *calls_in(void *none)
 {
     offsets();
     drops();
+    lists();
+    tells();
     overlaps();
     same(ended(state) > 0, 1);
     return none;

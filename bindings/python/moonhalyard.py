@@ -21,7 +21,7 @@ from typing import Dict, Iterator, List, NamedTuple, Optional, Sequence, Tuple, 
 
 __all__ = [
     "Refused", "NoState", "Step", "Offers", "Message", "Tally", "Order", "Ran", "State",
-    "version", "says", "text", "accept", "show", "write", "rows", "mend", "kept",
+    "version", "says", "text", "draw", "accept", "show", "write", "rows", "mend", "kept",
 ]
 
 # layout: written by tools/layout from data/layout.txt
@@ -84,9 +84,12 @@ def _library() -> ctypes.CDLL:
         ("drop", u32, u8, size, size, u8, size),
         ("offer", u64, u8, size, u64),
         ("offers", u64, u8, size),
+        ("list", u64, u8, size, u32, u8, size),
         ("step", u64, u8, size, u64),
         ("run", u32, u8, size, u8, size, u8),
+        ("tell", u32, u8, size, u8, size, u8, u8, size),
         ("text", u64, u8, size, u8, size),
+        ("draw", u64, u8, size, u8, size),
         ("write", u64, u8, size, u8, size),
         ("rows", u64, u8, size, u8, size),
         ("mend", u64, u8, size, u8, size),
@@ -201,6 +204,13 @@ def text(said: Union[str, bytes]) -> bytes:
     return plan.raw[:length]
 
 
+def draw(plan: bytes) -> str:
+    """A plan as text, which `text` reads back as the same bytes."""
+    said = ctypes.create_string_buffer(65536)
+    length = _told(_c.moonhalyard_draw(plan, len(plan), said, len(said)))
+    return said.raw[:length].decode()
+
+
 def accept(plan: bytes) -> int:
     """How many activities and arms a plan has."""
     return _told(_c.moonhalyard_accept(plan, len(plan)))
@@ -302,6 +312,12 @@ class State:
         """The step that a choice would take, not taken."""
         return _step(_c.moonhalyard_offer(self._bytes, STATE, _within(choice, 2**64 - 1)))
 
+    def list(self, first: int = 0, most: int = 32768) -> List[Step]:
+        """The steps that are offered from the choice `first` on, not taken, `most` of them at most."""
+        out = (ctypes.c_uint64 * most)()
+        many = _told(_c.moonhalyard_list(self._bytes, STATE, _within(first, 0xFFFFFFFF), out, most))
+        return [_step(answer) for answer in out[:many]]
+
     def step(self, choice: int) -> Step:
         """Takes the step with a choice."""
         return _step(_c.moonhalyard_step(self._bytes, STATE, _within(choice, 2**64 - 1)))
@@ -313,6 +329,16 @@ class State:
         many = (ctypes.c_uint64 * len(choices))(*(_within(c, 2**64 - 1) for c in choices))
         refusal = _c.moonhalyard_run(self._bytes, STATE, many, len(choices), ctypes.byref(left))
         return Ran(whole - left.value, refusal)
+
+    def tell(self, choices: Sequence[int], budget: Optional[int] = None) -> Tuple[Ran, List[Step]]:
+        """The same, and the steps that were taken, one after the other: which order, which activity, and how the order ended, if it did."""
+        whole = len(choices) if budget is None else _within(budget, 2**64 - 1)
+        left = ctypes.c_uint64(whole)
+        many = (ctypes.c_uint64 * len(choices))(*(_within(c, 2**64 - 1) for c in choices))
+        told = (ctypes.c_uint64 * len(choices))()
+        refusal = _c.moonhalyard_tell(self._bytes, STATE, many, len(choices), ctypes.byref(left), told, len(choices))
+        taken = whole - left.value
+        return Ran(taken, refusal), [_step(answer) for answer in told[:taken]]
 
     @property
     def plan(self) -> bytes:

@@ -33,6 +33,9 @@ class Calls(unittest.TestCase):
         self.assertEqual(self.state.plan, self.plan)
         self.assertEqual(moonhalyard.write(moonhalyard.rows(self.plan)), self.plan)
         self.assertEqual(moonhalyard.mend(self.plan), (self.plan, 0))
+        self.assertEqual(moonhalyard.text(moonhalyard.draw(self.plan)), self.plan)
+        self.assertTrue(moonhalyard.draw(self.plan).startswith("variable v0"))
+        self.assertEqual(self.refused(9, moonhalyard.draw, self.plan + b"\0").place, len(self.plan))
         start, length = moonhalyard.show(self.plan, 1)
         self.assertEqual(self.plan[start], 2)
         self.assertGreater(length, 1)
@@ -61,6 +64,34 @@ class Calls(unittest.TestCase):
         self.assertEqual(state.step(0).end, "well")
         self.assertEqual(state.tally, Tally(1, 1, 0, 0, 0))
         self.assertEqual(state.orders, [])
+
+    def test_list(self):
+        state = self.state
+        self.assertEqual(state.list(), [])
+        for i in range(9):
+            state.post(0, 0, i, 9)
+            if i % 2 == 0:
+                state.step(0)
+        many = state.offers().many
+        self.assertGreater(many, 4)
+        steps = [state.offer(choice) for choice in range(many)]
+        self.assertEqual(state.list(), steps)
+        self.assertEqual(state.list(2, 2), steps[2:4])
+        self.assertEqual(state.list(many), [])
+        self.assertEqual(state.list(2**32 - 1), [])
+        self.assertEqual(state.list(0, 0), [])
+
+    def test_told(self):
+        state = self.state
+        state.post(0, 0, 7, 9)
+        state.post(1, 2, 7)
+        other = State.from_bytes(state.to_bytes())
+        self.assertEqual(state.tell([0, 0], 1), (Ran(1, 0), [other.step(0)]))
+        steps = [other.step(0), other.step(0)]
+        self.assertEqual(steps[1].end, "well")
+        self.assertEqual(state.tell([0] * 9), (Ran(2, 10), steps))
+        self.assertEqual(state.to_bytes(), other.to_bytes())
+        self.assertEqual(state.tell([], 9), (Ran(0, 0), []))
 
     def test_kept(self):
         with tempfile.TemporaryDirectory() as folder:

@@ -139,6 +139,18 @@ pub fn text(said: &[u8]) -> Result<Vec<u8>, Refused> {
     Ok(plan)
 }
 
+/// A plan as text, which [`text`] reads back as the same bytes.
+pub fn draw(plan: &[u8]) -> Result<String, Refused> {
+    let mut said = Vec::new();
+    loop {
+        // SAFETY: as above.
+        match told(unsafe { sys::moonhalyard_draw(plan.as_ptr(), plan.len(), said.as_mut_ptr(), said.len()) }) {
+            Err(Refused { number: 18, place }) => said.resize(place as usize, 0),
+            answer => return answer.map(|length| String::from_utf8_lossy(&said[..length]).into_owned()),
+        }
+    }
+}
+
 /// How many activities and arms a plan has.
 pub fn accept(plan: &[u8]) -> Result<usize, Refused> {
     // SAFETY: as above.
@@ -198,9 +210,8 @@ fn message(bytes: &[u8]) -> Message {
     }
 }
 
-fn step(answer: u64) -> Result<Step, Refused> {
-    told(answer)?;
-    Ok(Step {
+fn step_of(answer: u64) -> Step {
+    Step {
         slot: (answer >> 24) as u8,
         activity: (answer >> 16) as u8,
         place: (answer >> 8) as u8,
@@ -211,7 +222,12 @@ fn step(answer: u64) -> Result<Step, Refused> {
             3 => End::Failed,
             _ => End::Left,
         },
-    })
+    }
+}
+
+fn step(answer: u64) -> Result<Step, Refused> {
+    told(answer)?;
+    Ok(step_of(answer))
 }
 
 /// A plan with its orders, the messages that wait and the tally.
@@ -278,6 +294,14 @@ impl State {
         step(unsafe { sys::moonhalyard_offer(self.0.as_ptr(), self.0.len(), choice) })
     }
 
+    /// The steps that are offered from the choice `first` on, not taken, `most` of them at most.
+    pub fn list(&self, first: u32, most: usize) -> Result<Vec<Step>, Refused> {
+        let mut out = vec![0; most];
+        // SAFETY: as above.
+        let many = told(unsafe { sys::moonhalyard_list(self.0.as_ptr(), self.0.len(), first, out.as_mut_ptr(), out.len()) })?;
+        Ok(out[..many].iter().map(|&answer| step_of(answer)).collect())
+    }
+
     /// Takes the step with a choice.
     pub fn step(&mut self, choice: u64) -> Result<Step, Refused> {
         // SAFETY: as above.
@@ -290,6 +314,19 @@ impl State {
         // SAFETY: as above.
         let refusal = unsafe { sys::moonhalyard_run(self.0.as_mut_ptr(), self.0.len(), choices.as_ptr(), choices.len(), &mut left) };
         Ran { taken: budget - left, refusal }
+    }
+
+    /// The same, and the steps that were taken, one after the other: which order, which activity, and how the order ended, if it did.
+    pub fn tell(&mut self, choices: &[u64], budget: u64) -> (Ran, Vec<Step>) {
+        let mut left = budget;
+        let mut told = vec![0; choices.len()];
+        // SAFETY: as above.
+        let refusal = unsafe {
+            sys::moonhalyard_tell(self.0.as_mut_ptr(), self.0.len(), choices.as_ptr(), choices.len(), &mut left, told.as_mut_ptr(), told.len())
+        };
+        let taken = budget - left;
+        let steps = told.iter().take(taken as usize).map(|&answer| step_of(answer)).collect();
+        (Ran { taken, refusal }, steps)
     }
 
     /// The plan's bytes.

@@ -15,9 +15,12 @@ extern "C" {
     pub fn moonhalyard_drop(state: *mut u8, size: usize, place: usize, message: *mut u8, room: usize) -> u32;
     pub fn moonhalyard_offer(state: *const u8, size: usize, choice: u64) -> u64;
     pub fn moonhalyard_offers(state: *const u8, size: usize) -> u64;
+    pub fn moonhalyard_list(state: *const u8, size: usize, first: u32, out: *mut u64, room: usize) -> u64;
     pub fn moonhalyard_step(state: *mut u8, size: usize, choice: u64) -> u64;
     pub fn moonhalyard_run(state: *mut u8, size: usize, choices: *const u64, many: usize, budget: *mut u64) -> u32;
+    pub fn moonhalyard_tell(state: *mut u8, size: usize, choices: *const u64, many: usize, budget: *mut u64, told: *mut u64, room: usize) -> u32;
     pub fn moonhalyard_text(text: *const u8, n: usize, plan: *mut u8, room: usize) -> u64;
+    pub fn moonhalyard_draw(plan: *const u8, n: usize, text: *mut u8, room: usize) -> u64;
     pub fn moonhalyard_write(table: *const u32, numbers: usize, plan: *mut u8, room: usize) -> u64;
     pub fn moonhalyard_rows(plan: *const u8, n: usize, table: *mut u32, room: usize) -> u64;
     pub fn moonhalyard_mend(plan: *const u8, n: usize, out: *mut u8, room: usize) -> u64;

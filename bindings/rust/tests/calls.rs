@@ -17,6 +17,8 @@ fn plans() {
     assert_eq!(version(), 10_000);
     assert_eq!(accept(&plan), Ok(5));
     assert_eq!(write(&rows(&plan).unwrap()).unwrap(), plan);
+    assert_eq!(text(draw(&plan).unwrap().as_bytes()).unwrap(), plan);
+    assert!(draw(&plan).unwrap().starts_with("variable v0"));
     assert_eq!(mend(&plan).unwrap(), (plan.clone(), 0));
     assert_eq!(show(&plan, 1).unwrap()[0], 2);
     assert_eq!(number(show(&plan, 99)), 16);
@@ -24,6 +26,7 @@ fn plans() {
     more.push(0);
     assert_eq!(accept(&more), Err(Refused { number: 9, place: plan.len() as u32 }));
     assert_eq!(number(State::load(&more)), 9);
+    assert_eq!(draw(&more), Err(Refused { number: 9, place: plan.len() as u32 }));
     assert_eq!(text(b"variable n\n\tempty"), Err(Refused { number: 53, place: 2 }));
     assert_eq!(says(14), "64 messages wait already");
     assert_eq!(accept(&[]), Err(Refused { number: 2, place: 0 }));
@@ -51,6 +54,40 @@ fn an_order() {
     assert_eq!(state.orders(), []);
     assert!(State::from_bytes(state.bytes()).unwrap() == state);
     assert_eq!(number(State::from_bytes(&state.bytes()[1..])), 17);
+}
+
+#[test]
+fn a_list() {
+    let mut state = State::load(&plan()).unwrap();
+    assert_eq!(state.list(0, 9), Ok(vec![]));
+    for i in 0..9 {
+        state.post(0, 0, &[i, 9]).unwrap();
+        if i % 2 == 0 {
+            state.step(0).unwrap();
+        }
+    }
+    let many = state.offers().unwrap().many;
+    assert!(many > 4);
+    let all: Vec<Step> = (0..many).map(|choice| state.offer(choice.into()).unwrap()).collect();
+    assert_eq!(state.list(0, 100), Ok(all.clone()));
+    assert_eq!(state.list(2, 2), Ok(all[2..4].to_vec()));
+    assert_eq!(state.list(many, 2), Ok(vec![]));
+    assert_eq!(state.list(u32::MAX, 2), Ok(vec![]));
+    assert_eq!(state.list(0, 0), Ok(vec![]));
+}
+
+#[test]
+fn a_run_told() {
+    let mut state = State::load(&plan()).unwrap();
+    state.post(0, 0, &[7, 9]).unwrap();
+    state.post(1, 2, &[7]).unwrap();
+    let mut other = state.clone();
+    assert_eq!(state.tell(&[0, 0], 1), (Ran { taken: 1, refusal: 0 }, vec![other.step(0).unwrap()]));
+    let steps: Vec<Step> = (0..2).map(|_| other.step(0).unwrap()).collect();
+    assert_eq!(steps[1].end, End::Well);
+    assert_eq!(state.tell(&[0; 9], 9), (Ran { taken: 2, refusal: 10 }, steps));
+    assert!(state == other);
+    assert_eq!(state.tell(&[], 9), (Ran { taken: 0, refusal: 0 }, vec![]));
 }
 
 #[test]

@@ -9,10 +9,12 @@ use order::Next;
 use order::Order;
 use order::kind;
 use order::rows::kind_of;
+pub use root::acted;
 ghost use Rattle.order.specs.Answering.{StepsOrder, TakesOrder};
 
 // The calls below answer what the definitions say of the plan that the table spells. On a table that spells no plan they are safe and end, and
-// nothing more is said of their answers (docs/DECISIONS.md).
+// nothing more is said of their answers (docs/DECISIONS.md). So does `acted`: the step of an activity by itself, or a raise in its place, with nothing
+// judged, for whoever tells the two apart.
 
 // Step t of an order, and what is open then judged: how the order ended with it, if it did, and the order after it. `activities` is how many activities and
 // arms the plan has. Nothing is said of a close that has no room: it is held, and so not taken.

@@ -84,13 +84,7 @@ pub(crate) fn root_spot(table: &[u32; 11584], activities: usize) -> Spot
 }
 
 // Activity t acts in an order, or a raise in its place: how the order ended with it, if it did, and the order after it.
-pub(crate) fn acted(
-    table: &[u32; 11584],
-    activities: usize,
-    order: Order,
-    t: usize,
-    raise: bool,
-) -> Next
+pub fn acted(table: &[u32; 11584], activities: usize, order: Order, t: usize, raise: bool) -> Next
     ensures { λ r. ⌜ ActsOrder (now (table .entry)) activities (actorOf raise) t order r ⌝ }
 {
     let s = root_spot(table, activities);

@@ -1,14 +1,12 @@
 -- What each exported function answers and leaves, at each of its returns. Assumes nothing.
 use mathlib.Core.Path.{_≡_, refl, sym, ap, _∙_}
 use mathlib.Core.Bool.{Bool, true, false}
-use mathlib.Core.List.{List}
+use mathlib.Core.List.{List, map}
 use Prim.Native.Nat.{ℕ, _+_, _*_, _%_, _<_, _≤_}
 use native.Mathlib.Nat.{add-zero}
 use borrow.Author.Tests.{ne-eqb, lt-ltb, le-ltb}
 use lib.Dec.{eqb}
 use lib.ListN.{length}
-use Rattle.order.specs.declared.End.{End}
-use Rattle.order.specs.declared.End.the-variants.{None, Well, Handled, Failed, Left}
 use Rattle.machine.specs.declared.Collected.{Collected}
 use Rattle.machine.specs.declared.Loaded.{Loaded}
 use Rattle.machine.specs.declared.Message.{Message}
@@ -17,7 +15,7 @@ use Rattle.machine.specs.declared.State.{State}
 use Rattle.machine.specs.declared.Step.{Step}
 use Rattle.machine.specs.declared.Tally.{Tally}
 use Rattle.machine.specs.Calls as calls
-use Rattle.machine.specs.Calls.{endNumber, preview}
+use Rattle.machine.specs.Calls.{preview}
 use Rattle.machine.specs.State.{noTally}
 use Rattle.offer.specs.declared.Offered.{Offered}
 use Rattle.offer.specs.Having.{offeredIn}
@@ -25,39 +23,16 @@ use Rattle.step.specs.declared.Stepped.{Stepped}
 use Rattle.step.specs.Stepping.{bare}
 use Rattle.run.specs.declared.Ran.{Ran}
 use Rattle.run.specs.Running.{ranOf}
+use Rattle.answers.specs.Numbering.{stepNumber, filled}
+use Rattle.listing.specs.declared.Listed.{Listed}
+use Rattle.listing.specs.Listing.{listedIn, listedOut}
+use Rattle.run.specs.Telling.{toldIn}
 use Rattle.store.specs.declared.Kept.{Kept}
 use Rattle.store.specs.Packed.{packedInto, messageInto, unpacked}
 use Rattle.boundary.specs.Packed.{pairOf}
-use Rattle.boundary.specs.Engine.{updated, loadNumber, loadBytes, postNumber, postBytes, handedNumber, handedBytes, handedMessage, stepNumber, offersNumber, offerNumber, offersOf, stepOf, stepBytes, ranIn, runBytes}
+use Rattle.boundary.specs.Engine.{updated, loadNumber, loadBytes, postNumber, postBytes, handedNumber, handedBytes, handedMessage, offersNumber, offerNumber, offersOf, listNumber, listOut, stepOf, stepBytes, ranIn, runBytes, runTold}
 
--- `end_of`
-module _ {e : End} where
-  pub end-none : e ≡ None → 0 ≡ endNumber e
-  unfolding endNumber
-  end-none q = rw q
-
-  pub end-well : e ≡ Well → 1 ≡ endNumber e
-  unfolding endNumber
-  end-well q = rw q
-
-  pub end-handled : e ≡ Handled → 2 ≡ endNumber e
-  unfolding endNumber
-  end-handled q = rw q
-
-  pub end-failed : e ≡ Failed → 3 ≡ endNumber e
-  unfolding endNumber
-  end-failed q = rw q
-
-  pub end-left : e ≡ Left → 4 ≡ endNumber e
-  unfolding endNumber
-  end-left q = rw q
-
--- `step_number`, `offers_number`
-pub step-is : (x : Step) {e : ℕ} → e ≡ endNumber (x .end)
-    → x .refusal * 4294967296 + x .slot % 256 * 16777216 + x .activity % 256 * 65536 + x .place % 256 * 256 + e % 256 ≡ stepNumber x
-unfolding stepNumber
-step-is x q = rw q
-
+-- `offers_number`
 pub offers-held : (x : Offered) → x .held ≡ true
     → x .refusal % 16777216 * 1099511627776 + x .many % 4294967296 + 4294967296 ≡ offersNumber x
 unfolding offersNumber
@@ -151,6 +126,16 @@ pub offers-is : (l : List ℕ) {k : Kept} {x : Offered} {n : ℕ} → k ≡ unpa
 unfolding offersOf
 offers-is l e f g = g ∙ ap offersNumber (f ∙ ap (λ (x : Kept). offeredIn (x .state)) e)
 
+-- `moonhalyard_list`
+module _ (first : ℕ) (l w : List ℕ) {k : Kept} (e : k ≡ unpacked l) where
+  pub list-number : {r : Listed} {n : ℕ} → r ≡ listedIn first (k .state) (length w) → n ≡ pairOf (r .refusal) (r .many) → n ≡ listNumber first l w
+  unfolding listNumber
+  list-number f g = g ∙ ap (λ (x : Listed). pairOf (x .refusal) (x .many)) (f ∙ ap (λ (x : Kept). listedIn first (x .state) (length w)) e)
+
+  pub list-put : {v : List ℕ} → v ≡ listedOut first (k .state) w → v ≡ listOut first l w
+  unfolding listOut
+  list-put f = f ∙ ap (λ (x : Kept). listedOut first (x .state) w) e
+
 -- `moonhalyard_step`
 module _ (c : ℕ) (l : List ℕ) {k : Kept} {r : Stepped} {n : ℕ} (e : k ≡ unpacked l) (f : r ≡ bare (calls.step c (k .state) (k .tally)))
     (g : n ≡ stepNumber (r .answer)) where
@@ -193,3 +178,9 @@ module _ (cs : List ℕ) (b : ℕ) (l : List ℕ) {k : Kept} {r : Ran} (e : k �
       let y = ne-eqb (ranIn cs b l .taken) 0 (λ q. z (taken ∙ q)) in
       let s = ap (λ (x : Ran). packedInto (x .state) (x .tally) l) ran in
       (ap (λ (x : Ran). x .refusal) ran, (rw y (h ∙ s), rw (sym taken) g))
+
+-- `moonhalyard_tell`: what is told besides
+pub run-told : (cs : List ℕ) (b : ℕ) (l w : List ℕ) {k : Kept} {v : List ℕ} → k ≡ unpacked l → v ≡ filled 0 (map stepNumber (toldIn cs b (k .state) (k .tally))) w
+    → v ≡ runTold cs b l w
+unfolding runTold
+run-told cs b l w e f = f ∙ ap (λ (x : Kept). filled 0 (map stepNumber (toldIn cs b (x .state) (x .tally))) w) e

@@ -2,20 +2,22 @@
 -- Bytes that hold no state stand for the state with no plan, which earns 17 in every call.
 use Prim.Native.Nat.{ℕ, _+_, _*_, _%_}
 use mathlib.Core.Bool.{cond}
-use mathlib.Core.List.{List}
+use mathlib.Core.List.{List, map}
 use lib.Dec.{eqb, ltb}
 use lib.ListN.{length}
 use Rattle.machine.specs.declared.Collected.{Collected}
 use Rattle.machine.specs.declared.Message.{Message}
 use Rattle.machine.specs.declared.Posted.{Posted}
 use Rattle.machine.specs.declared.State.{State}
-use Rattle.machine.specs.declared.Step.{Step}
 use Rattle.machine.specs.declared.Tally.{Tally}
 use Rattle.machine.specs.Calls as calls
-use Rattle.machine.specs.Calls.{endNumber, preview}
+use Rattle.machine.specs.Calls.{preview}
 use Rattle.machine.specs.State.{noTally}
 use Rattle.offer.specs.declared.Offered.{Offered}
 use Rattle.offer.specs.Having.{offeredIn}
+use Rattle.answers.specs.Numbering.{stepNumber, filled}
+use Rattle.listing.specs.Listing.{listedIn, listedOut}
+use Rattle.run.specs.Telling.{toldIn}
 use Rattle.store.specs.Packed.{packedInto, messageInto, unpacked}
 use Rattle.boundary.specs.Packed.{pairOf}
 
@@ -77,11 +79,6 @@ dropBytes i = handedBytes (calls.dropAt i)
 abbrev pub dropMessage : (place : ℕ) → List ℕ → (message : List ℕ) → List ℕ
 dropMessage i = handedMessage (calls.dropAt i)
 
--- a step as one number; each part but the refusal within a byte
-unfoldable pub stepNumber : Step → ℕ
-stepNumber x =
-    x .refusal * 4294967296 + x .slot % 256 * 16777216 + x .activity % 256 * 65536 + x .place % 256 * 256 + endNumber (x .end) % 256
-
 -- how much is offered as one number: the refusal from bit 40 on, whether something is held at bit 32, how many
 unfoldable pub offersNumber : Offered → ℕ
 offersNumber x = x .refusal % 16777216 * 1099511627776 + x .many % 4294967296 + cond (x .held) 4294967296 0
@@ -91,6 +88,13 @@ offerNumber c l = stepNumber (preview c (stateOf l))
 
 unfoldable pub offersOf : List ℕ → ℕ
 offersOf l = offersNumber (offeredIn (stateOf l))
+
+-- list: the refusal and how many were written; what stands in the buffer
+unfoldable pub listNumber : (first : ℕ) → List ℕ → (out : List ℕ) → ℕ
+listNumber first l w = pairOf (listedIn first (stateOf l) (length w) .refusal) (listedIn first (stateOf l) (length w) .many)
+
+unfoldable pub listOut : (first : ℕ) → List ℕ → (out : List ℕ) → List ℕ
+listOut first l w = listedOut first (stateOf l) w
 
 -- step
 abbrev pub steppedIn : (choice : ℕ) → List ℕ → calls.Stepped
@@ -108,3 +112,7 @@ ranIn cs n l = calls.run cs n (stateOf l) (tallyOf l)
 
 unfoldable pub runBytes : (choices : List ℕ) → (budget : ℕ) → List ℕ → List ℕ
 runBytes cs n l = cond (eqb (ranIn cs n l .taken) 0) l (packedInto (ranIn cs n l .state) (ranIn cs n l .tally) l)
+
+-- what a run tells: a number for each step taken, one after the other, as far as there is room
+unfoldable pub runTold : (choices : List ℕ) → (budget : ℕ) → List ℕ → (told : List ℕ) → List ℕ
+runTold cs n l w = filled 0 (map stepNumber (toldIn cs n (stateOf l) (tallyOf l))) w

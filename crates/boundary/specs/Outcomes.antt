@@ -3,7 +3,8 @@
 -- in each thing lent to it.
 use Prim.Native.Nat.{ℕ, _+_}
 use mathlib.Core.Path.{_≡_}
-use mathlib.Core.List.{List}
+use mathlib.Core.List.{List, map}
+use lib.ListN.{length}
 use Rattle.plan.specs.declared.Answer.{Answer}
 use Rattle.plan.specs.Answers.{answerOf, tableFor, flagsFor}
 use Rattle.plan.specs.Read.{readPlan}
@@ -23,6 +24,10 @@ use Rattle.step.specs.declared.Stepped.{Stepped}
 use Rattle.step.specs.Stepping.{bare}
 use Rattle.run.specs.declared.Ran.{Ran}
 use Rattle.run.specs.Running.{ranOf}
+use Rattle.run.specs.Telling.{toldIn}
+use Rattle.answers.specs.Numbering.{stepNumber, filled}
+use Rattle.listing.specs.declared.Listed.{Listed}
+use Rattle.listing.specs.Listing.{listedIn, listedOut}
 
 -- "Any two outcomes allowed by a contract are shown equal": whatever is given, what is allowed is one thing
 abbrev pub Fixed : {Given Outcome : Type 0} → (Given → Outcome → Type 0) → Type 0
@@ -62,6 +67,11 @@ pub record Offer (x : State × ℕ) (r : Step) : Type 0 where
 pub record Offers (s : State) (r : Offered) : Type 0 where
   pub is : r ≡ offeredIn s
 
+-- `listing::list` of a state, a choice and a buffer: what it gives, and the buffer
+pub record ListFrom (x : State × ℕ × List ℕ) (o : Listed × List ℕ) : Type 0 where
+  pub is : o .0 ≡ listedIn (x .1) (x .0) (length (x .2))
+  pub out : o .1 ≡ listedOut (x .1) (x .0) (x .2)
+
 -- `step::take_step` of a state, a choice and a tally; `step::step`, which leaves the tally in what was lent
 pub record TakeStep (x : State × ℕ × Tally) (r : Stepped) : Type 0 where
   pub is : r ≡ bare (calls.step (x .1) (x .0) (x .2))
@@ -74,7 +84,13 @@ pub record Run (x : State × List ℕ × ℕ × Tally) (o : Ran × ℕ) : Type 0
   pub is : o .0 ≡ ranOf (calls.run (x .1) (x .2) (x .0) (x .3))
   pub left : o .1 + o .0 .taken ≡ x .2
 
--- EVERY OUTCOME IS FIXED, of every public call of document 01, and of drop.
+-- `run::run_told` of the same and a buffer: what it gives, what is left of the budget, and the buffer
+pub record RunTold (x : State × List ℕ × ℕ × Tally × List ℕ) (o : Ran × ℕ × List ℕ) : Type 0 where
+  pub is : o .0 ≡ ranOf (calls.run (x .1) (x .2) (x .0) (x .3))
+  pub left : o .1 + o .0 .taken ≡ x .2
+  pub told : o .2 ≡ filled 0 (map stepNumber (toldIn (x .1) (x .2) (x .0) (x .3))) (x .4)
+
+-- EVERY OUTCOME IS FIXED, of every public call of document 01, of drop, of a window of offers and of a run that is told.
 pub record AllFixed : Type 0 where
   pub accept : Fixed Accept
   pub show : Fixed Show
@@ -84,6 +100,8 @@ pub record AllFixed : Type 0 where
   pub drop : Fixed Drop
   pub offer : Fixed Offer
   pub offers : Fixed Offers
+  pub list : Fixed ListFrom
   pub takeStep : Fixed TakeStep
   pub step : Fixed TakenStep
   pub run : Fixed Run
+  pub runTold : Fixed RunTold

@@ -6,13 +6,11 @@ ghost use lib.ListN.{length};
 ghost use mathlib.Core.Path.{_≡_};
 ghost use Rattle.boundary.specs.Packed.{pairOf, tripleOf, acceptNumber, showNumber};
 ghost use Rattle.boundary.specs.Engine as engine;
-ghost use Rattle.machine.specs.Calls.{endNumber};
 ghost use Rattle.plan.specs.Answers.{answerOf};
 ghost use Rattle.plan.specs.Read.{readPlan};
+use answers::step_number;
 use machine::Message;
-use machine::Step;
 use offer::Offered;
-use order::End;
 use plan::Answer;
 
 fn pair_of(number: u32, place: usize) -> u64
@@ -63,32 +61,6 @@ pub extern "C" fn moonhalyard_show(s: &[u8], k: u32) -> u64
     let part = show::show(s, k as usize, &mut start, &mut refusal);
     let length = part.len();
     triple_of(refusal, start, length)
-}
-
-// The number of an end.
-fn end_of(end: End) -> u64
-    ensures { λ r. ⌜ r ≡ endNumber end ⌝ }
-{
-    match end {
-        End::None => 0,
-        End::Well => 1,
-        End::Handled => 2,
-        End::Failed => 3,
-        End::Left => 4,
-    }
-}
-
-// A step as one number.
-fn step_number(x: Step) -> u64
-    ensures { λ r. ⌜ r ≡ engine.stepNumber x ⌝ }
-{
-    let end = x.end;
-    let e = end_of(end);
-    (x.refusal as u64) * 4294967296
-        + (x.slot as u64) % 256 * 16777216
-        + (x.activity as u64) % 256 * 65536
-        + (x.place as u64) % 256 * 256
-        + e % 256
 }
 
 // How much is offered, as one number.
@@ -207,6 +179,18 @@ pub extern "C" fn moonhalyard_offers(state: &[u8]) -> u64
     offers_number(offer::offers(k.state))
 }
 
+// Writes the steps that are offered from the choice `first` on into the front of `out`, as `moonhalyard_offer` answers them, as many as there is room for.
+// How many these are, or the refusal's number times 2^32.
+#[no_mangle]
+pub extern "C" fn moonhalyard_list(state: &[u8], first: u32, out: &mut [u64]) -> u64
+    ensures is { λ r. ⌜ r ≡ engine.listNumber first (now (state .entry)) (now (out .entry)) ⌝ }
+    ensures out { λ _. ⌜ now (out .exit) ≡ engine.listOut first (now (state .entry)) (now (out .entry)) ⌝ }
+{
+    let k = store::unpack(state);
+    let r = listing::list(k.state, first, out);
+    pair_of(r.refusal, r.many)
+}
+
 // Takes the step with a choice: as `moonhalyard_offer` answers, with the number of the order's end, if any.
 #[no_mangle]
 pub extern "C" fn moonhalyard_step(state: &mut [u8], choice: usize) -> u64
@@ -237,4 +221,26 @@ pub extern "C" fn moonhalyard_run(state: &mut [u8], choices: &[usize], budget: &
     }
     store::pack(r.state, r.tally, state);
     r.refusal
+}
+
+// The same, and the answer of each step taken is put into `told`, as `moonhalyard_step` answers it, as far as there is room.
+#[no_mangle]
+pub extern "C" fn moonhalyard_tell(
+    state: &mut [u8],
+    choices: &[usize],
+    budget: &mut usize,
+    told: &mut [u64],
+) -> u32
+    ensures is { λ r. ⌜ r ≡ engine.ranIn (now (choices .entry)) (now (budget .entry)) (now (state .entry)) .refusal ⌝ }
+    ensures bytes { λ _. ⌜ now (state .exit) ≡ engine.runBytes (now (choices .entry)) (now (budget .entry)) (now (state .entry)) ⌝ }
+    ensures left { λ _. ⌜ now (budget .exit) + engine.ranIn (now (choices .entry)) (now (budget .entry)) (now (state .entry)) .taken ≡ now (budget .entry) ⌝ }
+    ensures told { λ _. ⌜ now (told .exit) ≡ engine.runTold (now (choices .entry)) (now (budget .entry)) (now (state .entry)) (now (told .entry)) ⌝ }
+{
+    let k = store::unpack(&state[..]);
+    let t = run::run_told(k.state, choices, budget, k.tally, told);
+    if t.taken == 0 {
+        return t.refusal;
+    }
+    store::pack(t.state, t.tally, state);
+    t.refusal
 }

@@ -1,4 +1,5 @@
-// A plan as text for callers in other languages: the crate sheet makes rows of it, the crate writer bytes. Built as a static library.
+// A plan as text for callers in other languages: the crate sheet makes rows of it, the crate writer bytes; and back, by the crate lettering. Built as a
+// static library.
 use sheet::Sheet;
 use writer::Answer;
 
@@ -54,5 +55,49 @@ pub extern "C" fn moonhalyard_text(text: &[u8], plan: &mut [u8]) -> u64 {
     match r {
         Sheet::Rows { length } => written(&rows, length, &lines, plan),
         Sheet::Wrong { line, reason } => pair_of((reason as u64) % 4096 + 32, line as u64),
+    }
+}
+
+// The first `length` bytes of a text, into the front of `text`; where there is no room for them, 18 and how many they are, and nothing is written.
+fn handed(said: &[u8; 65536], length: usize, text: &mut [u8]) -> u64 {
+    if text.len() < length {
+        return pair_of(18, length as u64);
+    }
+    if 65536 < length {
+        return pair_of(18, length as u64);
+    }
+    let mut i = 0;
+    while i < length {
+        text[i] = said[i];
+        i += 1;
+    }
+    (length as u64) % 4294967296
+}
+
+fn drawn(
+    table: &[u32; 11584],
+    correlation: &[u8; 16],
+    variables: u32,
+    activities: usize,
+    text: &mut [u8],
+) -> u64 {
+    let mut said = [0u8; 65536];
+    let length = lettering::put_plan(&mut said, table, correlation, variables, activities);
+    handed(&said, length, text)
+}
+
+// Writes the text of a plan into `text`: how long it is; or the refusal's number times 2^32, and its place, or, for 18, how long the text is.
+#[no_mangle]
+pub extern "C" fn moonhalyard_draw(s: &[u8], text: &mut [u8]) -> u64 {
+    let mut table = [0u32; 11584];
+    let mut correlation = [0u8; 16];
+    let a = plan::accept_over(s, &mut table, &mut correlation);
+    match a {
+        plan::Answer::Refused { number, place } => pair_of(wide(number), place as u64),
+        plan::Answer::Accepted {
+            variables,
+            activities,
+            nodes: _,
+        } => drawn(&table, &correlation, variables, activities, text),
     }
 }

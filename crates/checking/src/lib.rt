@@ -2,6 +2,7 @@
 // warnings is a plan: what is warned of is what it does, and seldom what was meant.
 mod binding;
 mod reaching;
+mod rivals;
 mod sending;
 mod swallowing;
 mod undoing;
@@ -9,6 +10,9 @@ mod uses;
 mod warnings;
 mod ways;
 
+pub use rivals::contested_in;
+pub use rivals::is_same_thing;
+pub use rivals::rival_of;
 pub use sending::is_ever_taken;
 pub use warnings::put_check;
 pub use warnings::put_warnings;

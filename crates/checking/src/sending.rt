@@ -9,7 +9,7 @@ fn is_heard(table: &[u32; 11584], partner: u32) -> bool {
     false
 }
 
-fn is_receive(kind: u32) -> bool {
+pub(crate) fn is_receive(kind: u32) -> bool {
     if kind == 2 {
         return true;
     }

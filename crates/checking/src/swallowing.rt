@@ -1,5 +1,6 @@
 // Scopes that swallow a fault: their fault part is empty, and the order goes on behind them as if nothing had been.
 use super::binding::may_lack_one;
+use super::rivals::is_contested;
 use super::uses::computes;
 use super::ways::fault_of;
 use super::ways::part_in;
@@ -8,12 +9,15 @@ use drawing::entry;
 use drawing::is_scope;
 use drawing::scope_of;
 
-// Whether the step of activity n may fault: a raise, a sum or difference, or a variable that may be unbound.
+// Whether activity n may fault: a raise, a sum or difference, a variable that may be unbound, or a receive beside another for the same thing.
 fn may_fault(table: &[u32; 11584], n: usize) -> bool {
     if entry(table, n, 0) == 4 {
         return true;
     }
     if computes(table, n) {
+        return true;
+    }
+    if is_contested(table, n) {
         return true;
     }
     may_lack_one(table, n)

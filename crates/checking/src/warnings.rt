@@ -2,6 +2,8 @@
 use super::binding::is_unbound;
 use super::reaching::is_cut_off;
 use super::reaching::is_passed_by;
+use super::rivals::is_contested;
+use super::rivals::rival_of;
 use super::sending::is_never_taken;
 use super::sending::never_leaves;
 use super::swallowing::swallows;
@@ -14,7 +16,7 @@ use drawing::put_next;
 use drawing::put_pair;
 use drawing::put_variable;
 
-// What is warned of has a number: 0 to 5, and for each of 16 variables 16 and 32 more.
+// What is warned of has a number: 0 to 6, and for each of 16 variables 16 and 32 more.
 fn is_of_variable(table: &[u32; 11584], correlation: &[u8; 16], n: usize, what: u32) -> bool {
     if what < 16 {
         return false;
@@ -34,6 +36,7 @@ fn is_earned(table: &[u32; 11584], correlation: &[u8; 16], n: usize, what: u32) 
         3 => swallows(table, n),
         4 => is_cut_off(table, n),
         5 => is_passed_by(table, n),
+        6 => is_contested(table, n),
         _ => is_of_variable(table, correlation, n, what),
     }
 }
@@ -58,7 +61,25 @@ fn put_variable_words(out: &mut [u8; 4096], used: usize, names: &[u8; 4752], wha
     )
 }
 
-fn put_words(out: &mut [u8; 4096], used: usize, names: &[u8; 4752], what: u32) -> usize {
+// Row n may be open together with row j.
+fn put_rival(out: &mut [u8; 4096], used: usize, j: usize) -> usize {
+    let mut at = put(out, used, b"it may be open together with activity");
+    at = put_next(out, at, j as u64);
+    put(
+        out,
+        at,
+        b", for the same partner, operation and variables: then this one raises a fault",
+    )
+}
+
+fn put_words(
+    out: &mut [u8; 4096],
+    used: usize,
+    names: &[u8; 4752],
+    table: &[u32; 11584],
+    n: usize,
+    what: u32,
+) -> usize {
     match what {
         0 => put(
             out,
@@ -90,6 +111,7 @@ fn put_words(out: &mut [u8; 4096], used: usize, names: &[u8; 4752], what: u32) -
             used,
             b"it never runs: what it stands in goes by a constant",
         ),
+        6 => put_rival(out, used, rival_of(table, n)),
         _ => put_variable_words(out, used, names, what),
     }
 }
@@ -108,7 +130,7 @@ fn put_warning(
     at = put(out, at, b" - ");
     at = put_activity(out, at, names, table, correlation, n);
     at = put(out, at, b" - ");
-    at = put_words(out, at, names, what);
+    at = put_words(out, at, names, table, n, what);
     put_byte(out, at, 10)
 }
 

@@ -144,12 +144,14 @@ pub(crate) fn run(desk: Desk, line: &[u8], from: usize, number: u64, out: &mut [
     }
 }
 
-pub fn put_collected(out: &mut [u8; 4096], used: usize, c: Collected) -> usize {
+// A message that is handed out, behind its command word.
+pub fn put_collected(out: &mut [u8; 4096], used: usize, word: &[u8], c: Collected) -> usize {
     if c.refusal != 0 {
-        return put_refusal(out, used, b"collect", c.refusal);
+        return put_refusal(out, used, word, c.refusal);
     }
     let m = c.message;
-    let mut at = put(out, used, b"collect 0");
+    let mut at = put(out, used, word);
+    at = put(out, at, b" 0");
     at = put_message(out, at, m);
     put_byte(out, at, 10)
 }
@@ -157,7 +159,7 @@ pub fn put_collected(out: &mut [u8; 4096], used: usize, c: Collected) -> usize {
 pub(crate) fn collect(desk: Desk, out: &mut [u8; 4096]) -> Desk {
     let before = desk.state;
     let c = mail::collect(before);
-    let used = put_collected(out, desk.used, c);
+    let used = put_collected(out, desk.used, b"collect", c);
     let state = c.state;
     let tally = desk.tally;
     changed(desk, state, tally, desk.plan, used)

@@ -5,23 +5,13 @@ use super::output::put;
 use super::output::put_byte;
 use super::output::put_next;
 use super::output::put_number;
-use super::table::after;
-use super::table::wide;
+use names::length_at;
 
 fn byte_in(names: &[u8; 4752], place: usize, i: usize) -> u8 {
     if place < 144 {
         if i < 33 {
             return names[place * 33 + i];
         }
-    }
-    0
-}
-
-// How long the name at a place is.
-fn length_at(names: &[u8; 4752], place: usize) -> usize {
-    let n = wide(byte_in(names, place, 0));
-    if n < 33 {
-        return n;
     }
     0
 }
@@ -36,57 +26,6 @@ fn put_name(out: &mut [u8; 4096], used: usize, names: &[u8; 4752], place: usize)
         at = put_byte(out, at, byte_in(names, place, i));
     }
     at
-}
-
-// Whether the name at a place is this word.
-fn is_named(names: &[u8; 4752], place: usize, word: &[u8]) -> bool {
-    if length_at(names, place) != word.len() {
-        return false;
-    }
-    let mut i = 0;
-    while i < word.len() {
-        if byte_in(names, place, after(i)) != word[i] {
-            return false;
-        }
-        i += 1;
-    }
-    true
-}
-
-// How far from `first` the name is that a word is, of `many` places; `many` where none is.
-fn place_named(names: &[u8; 4752], first: usize, many: usize, word: &[u8]) -> usize {
-    let mut k = 0;
-    while k < many {
-        if is_named(names, place_after(first, k), word) {
-            return k;
-        }
-        k += 1;
-    }
-    many
-}
-
-fn place_after(first: usize, k: usize) -> usize {
-    if first < 144 {
-        if k < 144 {
-            return first + k;
-        }
-    }
-    144
-}
-
-// The number of a variable by its name, 16 where none is called so.
-pub fn variable_named(names: &[u8; 4752], word: &[u8]) -> usize {
-    place_named(names, 0, 16, word)
-}
-
-// The number of a partner by its name, 64 where none is called so.
-pub fn partner_named(names: &[u8; 4752], word: &[u8]) -> usize {
-    place_named(names, 16, 64, word)
-}
-
-// The same of an operation.
-pub fn operation_named(names: &[u8; 4752], word: &[u8]) -> usize {
-    place_named(names, 80, 64, word)
 }
 
 // The place of a variable, and of what is numbered up to 63 from `first` on; 144, where no name is, for any other.

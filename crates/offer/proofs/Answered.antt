@@ -30,10 +30,11 @@ use Rattle.fit.specs.Folds.{folded, lesser}
 use Rattle.fit.specs.Lines.{Tabled}
 use Rattle.sight.specs.Sights.{pointed, seen, unseen, Unseen, chosenBy, answered, Tells, noLetter, Told}
 use Rattle.fit.specs.Receiving.{Across, Leasts}
+use Rattle.offer.specs.Acts.{Acts, actLive}
 use Rattle.offer.specs.Seeing.{Informed, offerLive, Mailed, StartsOrder, SeesBy, SeesAll, Previews, amounted, amountOf, Amounts}
 use Rattle.offer.proofs.Amounted.{offers-short}
 use Rattle.fit.proofs.Lines.{fold-same}
-use Rattle.offer.proofs.OrderSeen.{seen-together, seen-all}
+use Rattle.offer.proofs.OrderSeen.{seen-acts, acts-all}
 use Rattle.sight.proofs.Sighting.{pointed-found}
 use Rattle.offer.proofs.Starting.{letters-long, letters-at}
 
@@ -90,6 +91,27 @@ found-says (x ∷ l) (suc c) i k j e =
     let q = found-says l c i k j (sym (ap (λ c. c .found) z) ∙ e) in
     (ap (λ c. c .left) z ∙ q .0, omega (arith, q .1))
 
+-- what was found is the one with that count
+found-is : (d : Offer) (l : List Offer) (c i k j : ℕ) → folded pointed l (pointing c i k j) .found ≡ true → folded pointed l (pointing c i k j) ≡ at (getD l c d)
+unfolding folded pointing
+found-is d [] c i k j e = absurd (false≢true e)
+found-is d (x ∷ l) zero i k j e = here-stays x l i k j
+found-is d (x ∷ l) (suc c) i k j e =
+    let z : folded pointed l (pointed x (pointing (suc c) i k j)) ≡ folded pointed l (pointing c i k j) = ap (folded pointed l) (point-next x c i k j) in
+    z ∙ found-is d l c i k j (sym (ap (λ c. c .found) z) ∙ e)
+
+-- what asking an offer for one choice tells of it
+pub record Tells-of (a : Offers) (c : ℕ) (p : Pointer) : Type 0 where
+  pub there : (d : Offer) → p .found ≡ true → (c < length (a .offered)) × (offering (p .slot) (p .activity) (p .place) ≡ getD (a .offered) c d)
+  pub beyond : p .found ≡ false → p .left + length (a .offered) ≡ c
+
+pub tells-of : (a : Offers) (c : ℕ) → Tells-of a c (seen a (unseen c) .pointer)
+unfolding seen unseen pointing at
+tells-of a c = record {
+  there = λ d e. (found-says (a .offered) c 0 0 0 e .1, ap (λ (q : Pointer). offering (q .slot) (q .activity) (q .place)) (found-is d (a .offered) c 0 0 0 e));
+  beyond = left-says (a .offered) c 0 0 0;
+}
+
 left-empties : (l : List Offer) (x c : ℕ) → x + length l ≡ c → eqb x c ≡ empties l
 left-empties [] x c e = eq-eqb x c (omega arith)
 left-empties (y ∷ l) x c e = ne-eqb x c (λ q. omega arith)
@@ -139,7 +161,7 @@ least-leb u [] c = by-test (leb u c)
 least-leb u (x ∷ l) c = least-leb u l (lesser x c) ∙ (ap (λ b. b && every (leb u) l) (lesser-leb u x c) ∙ and-swap (leb u x) (leb u c) (every (leb u) l))
 
 -- the messages that wait are those of their numbers
-mailed : {messages : List Message} {letters : List ℕ} {waiting : ℕ} → Letters messages waiting letters → waiting ≤ 64 → Mailed letters waiting (take waiting messages)
+pub mailed : {messages : List Message} {letters : List ℕ} {waiting : ℕ} → Letters messages waiting letters → waiting ≤ 64 → Mailed letters waiting (take waiting messages)
 mailed {messages} {waiting = waiting} m few = record {
   long = length-take-le waiting messages (omega (arith, m .held));
   is = λ j h. getD-take waiting messages j noMessage h ∙ m .is few j h;
@@ -170,28 +192,39 @@ module _ {t flags picks : List ℕ} {orders : List Order} {n : ℕ} {letters : L
 pub spelled-tabled : {p : Plan} {n : ℕ} {t : List ℕ} → Spelled p n t → Tabled p t n
 spelled-tabled sp = record { spells = sp .spells; many = sp .many; limited = sp .within }
 
+-- what the whole offer of some orders and letters does
+pub acts-by : {S : Type 0} {act : Offers → S → S} → Acts act → {t flags picks letters : List ℕ} {orders : List Order} {n waiting : ℕ} {least : List ℕ} {none part r : S}
+    → Leasts t flags picks orders n letters waiting least
+    → Across t n (Informed t picks flags letters waiting least) (actLive act waiting) orders none part
+    → (p : Plan) (ms : List Message) → Correlated p flags → Picks t picks → Spelled p n t → Mailed letters waiting ms
+    → StartsOrder act t flags picks orders (startedOrder p) n letters waiting part r
+    → r ≡ act (together (allOf (orderOffers p waiting (lettersFrom p (liveFrom p 0 orders) 0 ms)) (liveFrom p 0 orders))
+    (allOf (startOffers p (freeFrom 0 orders) (startedOrder p) (readyOf p (startedOrder p))) (lettersFrom p (liveFrom p 0 orders) 0 ms))) none
+unfolding actLive
+acts-by {act = act} g {orders = orders} {waiting = waiting} {none = none} {part} w slots p ms cor u sp m starts =
+    let q = spelled-tabled sp in
+    let o = startedOrder p in
+    let live = liveFrom p 0 orders in
+    let l = lettersFrom p live 0 ms in
+    let a = allOf (orderOffers p waiting l) live in
+    let b = allOf (startOffers p (freeFrom 0 orders) o (readyOf p o)) l in
+    let e : part ≡ act a none =
+    slots .is p l (record { correlated = cor; picked = u; told = told w p ms cor u q m }) q ∙ sym (acts-all g (orderOffers p waiting l) live none) in
+    starts .is p ms cor u q m
+    ∙ (sym (acts-all g (startOffers p (freeFrom 0 orders) o (readyOf p o)) l part) ∙ (ap (act b) e ∙ sym (g .both a b none)))
+
 -- `sight_in`
 sees-by : {t flags picks letters : List ℕ} {orders : List Order} {n waiting c : ℕ} {least : List ℕ} {none part r : Sight}
     → Leasts t flags picks orders n letters waiting least
     → Unseen c none
     → Across t n (Informed t picks flags letters waiting least) (offerLive waiting) orders none part
-    → ((p : Plan) → Spelled p n t → StartsOrder t flags picks orders (startedOrder p) n letters waiting part r)
+    → ((p : Plan) → Spelled p n t → StartsOrder seen t flags picks orders (startedOrder p) n letters waiting part r)
     → SeesBy t flags picks orders n letters waiting c r
-unfolding offerLive
-sees-by {orders = orders} {n} {waiting} {c} {none = none} {part} {r} w none-is slots starts = record {
+unfolding offerLive actLive
+sees-by w none-is slots starts = record {
   sixteen = slots .long;
   is = λ p ms cor u sp m.
-      let q = spelled-tabled sp in
-      let o = startedOrder p in
-      let live = liveFrom p 0 orders in
-      let l = lettersFrom p live 0 ms in
-      let a = allOf (orderOffers p waiting l) live in
-      let b = allOf (startOffers p (freeFrom 0 orders) o (readyOf p o)) l in
-      let e : part ≡ seen a (unseen c) =
-      slots .is p l (record { correlated = cor; picked = u; told = told w p ms cor u q m }) q
-      ∙ (ap (folded (λ x. seen (orderOffers p waiting l x)) live) (none-is .is) ∙ sym (seen-all (orderOffers p waiting l) live (unseen c))) in
-      starts p sp .is p ms cor u q m
-      ∙ (sym (seen-all (startOffers p (freeFrom 0 orders) o (readyOf p o)) l part) ∙ (ap (seen b) e ∙ sym (seen-together a b (unseen c))));
+      acts-by seen-acts w (record { long = slots .long; is = λ p l g y. slots .is p l g y }) p ms cor u sp m (starts p sp) ∙ rw (none-is .is);
 }
 
 module _ {t flags picks letters : List ℕ} {orders : List Order} {n waiting c : ℕ} {least : List ℕ} {none part : Sight}
@@ -206,8 +239,8 @@ module _ {t flags picks letters : List ℕ} {orders : List Order} {n waiting c :
       go f p [] h = refl
       go f p (m ∷ ms) h = absurd (omega arith)
 
-  pub sees-started : {o : Order} {r : Sight} → Begun t o → StartsOrder t flags picks orders o n letters waiting part r → SeesBy t flags picks orders n letters waiting c r
-  sees-started {r = r} a y = sees-by w v x (λ p sp. subst (λ (o : Order). StartsOrder t flags picks orders o n letters waiting part r) (a .is p n sp) y)
+  pub sees-started : {o : Order} {r : Sight} → Begun t o → StartsOrder seen t flags picks orders o n letters waiting part r → SeesBy t flags picks orders n letters waiting c r
+  sees-started {r = r} a y = sees-by w v x (λ p sp. subst (λ (o : Order). StartsOrder seen t flags picks orders o n letters waiting part r) (a .is p n sp) y)
 
 -- `sight_of`
 pub sees-all : {t flags picks letters : List ℕ} {st : State} {n c : ℕ} {r : Sight} → st .waiting ≤ 64 → Letters (st .messages) (st .waiting) letters → Picks t picks

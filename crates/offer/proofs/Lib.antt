@@ -1,5 +1,5 @@
-mod OrderSeen
-mod Starting
+pub mod OrderSeen
+pub mod Starting
 mod Amounted
-mod Answered
+pub mod Answered
 pub mod Having

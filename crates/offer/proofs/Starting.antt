@@ -25,11 +25,11 @@ use Rattle.fit.proofs.FirstFits.{first-exactly}
 use Rattle.sight.specs.declared.Sight.{Sight}
 use Rattle.fit.specs.Folds.{folded}
 use Rattle.fit.specs.Lines.{Line, linesOf, isReady, readyAt, Stands, Tabled, Rows, Wholes}
-use Rattle.offer.specs.Seeing.{Frees, startLine, Could, StartsLetter, Mailed, Starts, StartsOrder}
+use Rattle.offer.specs.Seeing.{Frees, startLine, Could, StartsLetter, StartsAt, Mailed, Starts, StartsOrder}
 use Rattle.sight.specs.Sights.{pointed, seen, showing, withholding, noLetter}
 use Rattle.fit.specs.Receiving.{Lent, TakesRow, Receives}
 use Rattle.fit.proofs.Fewest.{cond-and}
-use Rattle.fit.proofs.Lines.{fold-each, fold-same, fold-ready, Rowing, rowing-starts, rowing-again, rowing-done}
+use Rattle.fit.proofs.Lines.{fold-each, fold-same, fold-ready, size-short, Rowing, rowing-starts, rowing-again, rowing-done}
 use Rattle.sight.proofs.RowSeen.{or-false, seen-none, seen-hold}
 
 -- `free_slot`
@@ -172,7 +172,7 @@ fits-none {orders = orders} {letters = letters} {j} few w p cor v y =
     ap isNothing (w .is few p cor v y) ∙ first-exactly p (liveFrom p 0 orders) (messageAt letters j)
 
 pub start-unlike : {t picks marks known : List ℕ} (flags : List ℕ) (orders : List Order) {n : ℕ} (free : ℕ) {letters : List ℕ} {j : ℕ} (s : Sight) {b : Bool}
-    → Could t picks marks known n letters j b → b ≡ false → StartsLetter t flags picks orders marks known free n letters j s s
+    → Could t picks marks known n letters j b → b ≡ false → StartsLetter seen t flags picks orders marks known free n letters j s s
 unfolding folded
 start-unlike flags orders free s w e = record {
   is = λ o p y cor lent q place message fitted.
@@ -187,7 +187,7 @@ start-unlike flags orders free s w e = record {
 
 module _ {t flags picks : List ℕ} {orders : List Order} {n : ℕ} {letters : List ℕ} {j : ℕ} {r : Receiver} (few : j < 64) (w : Receives t flags picks orders n letters j r) where
   pub start-not : (marks known : List ℕ) (free : ℕ) (s : Sight) (i k : ℕ) → r ≡ Receiver.At i k
-      → StartsLetter t flags picks orders marks known free n letters j s s
+      → StartsLetter seen t flags picks orders marks known free n letters j s s
   unfolding isNothing folded
   start-not marks known free s i k e = record {
     is = λ o p y cor lent q place message fitted.
@@ -197,7 +197,7 @@ module _ {t flags picks : List ℕ} {orders : List Order} {n : ℕ} {letters : L
 
   pub start-may : {marks known : List ℕ} (free : ℕ) {s v : Sight} → r ≡ Receiver.Nothing
       → Wholes t n (Lent t picks marks known) (startLine free j (messageAt letters j)) s v
-      → StartsLetter t flags picks orders marks known free n letters j s v
+      → StartsLetter seen t flags picks orders marks known free n letters j s v
   unfolding isNothing
   start-may free {s} e g = record {
     is = λ o p y cor lent q place message fitted.
@@ -221,21 +221,21 @@ letters-at p live i (m ∷ ms) (suc j) d e h =
     letters-at p live (i + 1) ms j d e (omega arith) ∙ rw q
 
 -- `start_letters`
-pub record Starting (t flags picks : List ℕ) (orders : List Order) (marks known : List ℕ) (free n : ℕ) (letters : List ℕ) (waiting : ℕ) (start : Sight) (j : ℕ) (c : Sight) : Type 0 where
+pub record Starting {S : Type 0} (act : Offers → S → S) (t flags picks : List ℕ) (orders : List Order) (marks known : List ℕ) (free n : ℕ) (letters : List ℕ) (waiting : ℕ) (start : S) (j : ℕ) (c : S) : Type 0 where
   pub within : j ≤ waiting
   pub same : (o : Order) (p : Plan) (ms : List Message) → Correlated p flags → Lent t picks marks known o p [] → Tabled p t n → Mailed letters waiting ms
-      → folded (λ y. seen (startOffers p free o (readyOf p o) y)) (lettersFrom p (liveFrom p 0 orders) 0 ms) start
-      ≡ folded (λ y. seen (startOffers p free o (readyOf p o) y)) (drop j (lettersFrom p (liveFrom p 0 orders) 0 ms)) c
+      → folded (λ y. act (startOffers p free o (readyOf p o) y)) (lettersFrom p (liveFrom p 0 orders) 0 ms) start
+      ≡ folded (λ y. act (startOffers p free o (readyOf p o) y)) (drop j (lettersFrom p (liveFrom p 0 orders) 0 ms)) c
 
-pub starting-starts : (t flags picks : List ℕ) (orders : List Order) (marks known : List ℕ) (free n : ℕ) (letters : List ℕ) (waiting : ℕ) (start : Sight)
-    → Starting t flags picks orders marks known free n letters waiting start 0 start
-starting-starts t flags picks orders marks known free n letters waiting start = record { within = omega arith; same = λ o p ms cor v q m. refl }
+pub starting-starts : {S : Type 0} (act : Offers → S → S) (t flags picks : List ℕ) (orders : List Order) (marks known : List ℕ) (free n : ℕ) (letters : List ℕ) (waiting : ℕ) (start : S)
+    → Starting act t flags picks orders marks known free n letters waiting start 0 start
+starting-starts f t flags picks orders marks known free n letters waiting start = record { within = omega arith; same = λ o p ms cor v q m. refl }
 
-module _ {t flags picks : List ℕ} {orders : List Order} {marks known : List ℕ} {free n : ℕ} {letters : List ℕ} {waiting : ℕ} {start : Sight} {j : ℕ} {c : Sight}
-    (w : Starting t flags picks orders marks known free n letters waiting start j c) where
-  pub starting-again : j < waiting → {r : Sight}
-      → StartsLetter t flags picks orders marks known free n letters j c r
-      → Starting t flags picks orders marks known free n letters waiting start (j + 1) r
+module _ {S : Type 0} {act : Offers → S → S} {t flags picks : List ℕ} {orders : List Order} {marks known : List ℕ} {free n : ℕ} {letters : List ℕ} {waiting : ℕ} {start : S} {j : ℕ} {c : S}
+    (w : Starting act t flags picks orders marks known free n letters waiting start j c) where
+  pub starting-again : j < waiting → {r : S}
+      → StartsLetter act t flags picks orders marks known free n letters j c r
+      → Starting act t flags picks orders marks known free n letters waiting start (j + 1) r
   unfolding folded
   starting-again h {r} y = record {
     within = omega arith;
@@ -246,13 +246,13 @@ module _ {t flags picks : List ℕ} {orders : List Order} {marks known : List �
         let z : 0 + j ≡ j = omega arith in
         let v : getD l j noLetter ≡ record { place = j; message = messageAt letters j; fitted = fittings p (liveFrom p 0 orders) (messageAt letters j) } =
         letters-at p (liveFrom p 0 orders) 0 ms j noLetter noMessage g ∙ rw (z, m .is j h) in
-        let f : Letter → Sight → Sight = λ x. seen (startOffers p free o (readyOf p o) x) in
+        let f : Letter → S → S = λ x. act (startOffers p free o (readyOf p o) x) in
         let e : r ≡ f (getD l j noLetter) c =
         y .is o p (getD l j noLetter) cor u q (ap (λ x. x .place) v) (ap (λ x. x .message) v) (ap (λ x. x .fitted) v) in
         w .same o p ms cor u q m ∙ (ap (λ x. folded f x c) (drop-cons l j noLetter long) ∙ (ap (folded f (drop (suc j) l)) (sym e) ∙ rw (add-one j)));
   }
 
-  pub starting-done : waiting ≤ j → Starts t flags picks orders marks known free n letters waiting start c
+  pub starting-done : waiting ≤ j → Starts act t flags picks orders marks known free n letters waiting start c
   unfolding folded
   starting-done h = record {
     is = λ o p ms cor u q m.
@@ -262,10 +262,23 @@ module _ {t flags picks : List ℕ} {orders : List Order} {marks known : List �
   }
 
 -- `starts`
-pub starts-all : {t flags picks : List ℕ} {orders : List Order} {o : Order} {free n : ℕ} {letters : List ℕ} {waiting : ℕ} {known : List ℕ} {s r : Sight}
-    → Frees orders free → KnowsOrder flags o known → Starts t flags picks orders (o .marks) known free n letters waiting s r
-    → StartsOrder t flags picks orders o n letters waiting s r
+pub starts-all : {S : Type 0} {act : Offers → S → S} {t flags picks : List ℕ} {orders : List Order} {o : Order} {free n : ℕ} {letters : List ℕ} {waiting : ℕ} {known : List ℕ} {s r : S}
+    → Frees orders free → KnowsOrder flags o known → Starts act t flags picks orders (o .marks) known free n letters waiting s r
+    → StartsOrder act t flags picks orders o n letters waiting s r
 starts-all {o = o} f k w = record {
   is = λ p ms cor u q m.
       w .is o p ms cor (record { picked = u; marked = refl; knows = k .is p cor }) q m ∙ rw (f .is);
 }
+
+-- `letter_sight`
+module _ (t flags picks : List ℕ) (orders : List Order) (marks known : List ℕ) (free : ℕ) {n : ℕ} (letters : List ℕ) {j : ℕ} (s : Sight) where
+  pub start-beyond : 256 < n → StartsAt t flags picks orders marks known free n letters j s s
+  start-beyond h = record {
+    is = λ few. record { is = λ o p y cor lent q place message fitted. absurd (omega (arith, h, q .many, size-short p (q .limited))) };
+  }
+
+  pub start-none-there : 64 ≤ j → StartsAt t flags picks orders marks known free n letters j s s
+  start-none-there h = record { is = λ few. absurd (omega (arith, h, few)) }
+
+  pub start-there : {r : Sight} → StartsLetter seen t flags picks orders marks known free n letters j s r → StartsAt t flags picks orders marks known free n letters j s r
+  start-there x = record { is = λ few. x }

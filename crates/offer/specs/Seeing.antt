@@ -46,10 +46,14 @@ pub record Could (t picks marks known : List ℕ) (activities : ℕ) (letters : 
   pub not : r ≡ false → (free : ℕ) (s : Sight) → Wholes t activities (Lent t picks marks known) (startLine free j (messageAt letters j)) s s
 
 -- r is what the message at place j adds, where it may start the order o in the slot `free`
-pub record StartsLetter (t flags picks : List ℕ) (orders : List Order) (marks known : List ℕ) (free activities : ℕ) (letters : List ℕ) (j : ℕ) (s r : Sight) : Type 0 where
+pub record StartsLetter {S : Type 0} (act : Offers → S → S) (t flags picks : List ℕ) (orders : List Order) (marks known : List ℕ) (free activities : ℕ) (letters : List ℕ) (j : ℕ) (s r : S) : Type 0 where
   pub is : (o : Order) (p : Plan) (y : Letter) → Correlated p flags → Lent t picks marks known o p [] → Tabled p t activities
       → y .place ≡ j → y .message ≡ messageAt letters j → y .fitted ≡ fittings p (liveFrom p 0 orders) (messageAt letters j)
-      → r ≡ seen (startOffers p free o (readyOf p o) y) s
+      → r ≡ act (startOffers p free o (readyOf p o) y) s
+
+-- r is what is seen of it, where it is one of the 64
+pub record StartsAt (t flags picks : List ℕ) (orders : List Order) (marks known : List ℕ) (free activities : ℕ) (letters : List ℕ) (j : ℕ) (s r : Sight) : Type 0 where
+  pub is : j < 64 → StartsLetter seen t flags picks orders marks known free activities letters j s r
 
 -- the messages are those of the numbers
 pub record Mailed (letters : List ℕ) (waiting : ℕ) (ms : List Message) : Type 0 where
@@ -57,14 +61,14 @@ pub record Mailed (letters : List ℕ) (waiting : ℕ) (ms : List Message) : Typ
   pub is : (j : ℕ) → j < waiting → getD ms j noMessage ≡ messageAt letters j
 
 -- what all messages that wait add
-pub record Starts (t flags picks : List ℕ) (orders : List Order) (marks known : List ℕ) (free activities : ℕ) (letters : List ℕ) (waiting : ℕ) (s r : Sight) : Type 0 where
+pub record Starts {S : Type 0} (act : Offers → S → S) (t flags picks : List ℕ) (orders : List Order) (marks known : List ℕ) (free activities : ℕ) (letters : List ℕ) (waiting : ℕ) (s r : S) : Type 0 where
   pub is : (o : Order) (p : Plan) (ms : List Message) → Correlated p flags → Lent t picks marks known o p [] → Tabled p t activities → Mailed letters waiting ms
-      → r ≡ folded (λ y. seen (startOffers p free o (readyOf p o) y)) (lettersFrom p (liveFrom p 0 orders) 0 ms) s
+      → r ≡ folded (λ y. act (startOffers p free o (readyOf p o) y)) (lettersFrom p (liveFrom p 0 orders) 0 ms) s
 
 -- what they add in the lowest free slot, where o is an order as it starts
-pub record StartsOrder (t flags picks : List ℕ) (orders : List Order) (o : Order) (activities : ℕ) (letters : List ℕ) (waiting : ℕ) (s r : Sight) : Type 0 where
+pub record StartsOrder {S : Type 0} (act : Offers → S → S) (t flags picks : List ℕ) (orders : List Order) (o : Order) (activities : ℕ) (letters : List ℕ) (waiting : ℕ) (s r : S) : Type 0 where
   pub is : (p : Plan) (ms : List Message) → Correlated p flags → Picks t picks → Tabled p t activities → Mailed letters waiting ms
-      → r ≡ folded (λ y. seen (startOffers p (freeFrom 0 orders) o (readyOf p o) y)) (lettersFrom p (liveFrom p 0 orders) 0 ms) s
+      → r ≡ folded (λ y. act (startOffers p (freeFrom 0 orders) o (readyOf p o) y)) (lettersFrom p (liveFrom p 0 orders) 0 ms) s
 
 -- r is what is seen of the whole offer of some orders and letters
 pub record SeesBy (t flags picks : List ℕ) (orders : List Order) (activities : ℕ) (letters : List ℕ) (waiting choice : ℕ) (r : Sight) : Type 0 where

@@ -1,4 +1,5 @@
 // What is offered in a state: the step that a choice would take, and how many steps there are. No list is built: a choice is counted down.
+pub mod letters;
 mod previews;
 mod slots;
 

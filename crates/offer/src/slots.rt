@@ -15,6 +15,7 @@ ghost use Rattle.fit.specs.Answering.{messageAt};
 ghost use Rattle.fit.specs.Lines.{Rows, Wholes};
 ghost use Rattle.offer.specs.Seeing.{Frees, Informed, offerLive, startLine, Could, StartsLetter, Starts, StartsOrder};
 ghost use Rattle.fit.specs.Receiving.{Slots, Lent};
+ghost use Rattle.sight.specs.Sights.{seen};
 
 // What the order in a slot has on offer.
 pub(crate) fn offer_slot(
@@ -59,7 +60,7 @@ pub(crate) fn offer_slot(
 }
 
 // The lowest free slot, 16 where there is none.
-fn free_slot(orders: [Order; 16]) -> usize
+pub(crate) fn free_slot(orders: [Order; 16]) -> usize
     ensures { λ r. ⌜ Frees orders r ⌝ }
 {
     let mut i: usize = 0;
@@ -144,7 +145,7 @@ fn could_start(
 }
 
 // What the message at place j may start: whether it fits an open receive is asked only where an order as it starts would take it.
-fn start_letter(
+pub(crate) fn start_letter(
     table: &[u32; 11584],
     flags: &[u8; 16],
     picks: &[usize; 256],
@@ -158,7 +159,7 @@ fn start_letter(
     s: Sight,
 ) -> Sight
     requires { ⌜ (activities ≤ 256) × (j < 64) ⌝ }
-    ensures { λ r. ⌜ StartsLetter (now (table .entry)) (now (flags .entry)) (now (picks .entry)) orders (now (marks .entry)) (now (known .entry)) free activities (now (letters .entry)) j s r ⌝ }
+    ensures { λ r. ⌜ StartsLetter seen (now (table .entry)) (now (flags .entry)) (now (picks .entry)) orders (now (marks .entry)) (now (known .entry)) free activities (now (letters .entry)) j s r ⌝ }
 {
     if could_start(table, picks, marks, known, activities, letters, j) {
         let found = first_receiver(table, flags, picks, orders, activities, letters, j);
@@ -199,7 +200,7 @@ fn start_letters(
     s: Sight,
 ) -> Sight
     requires { ⌜ (activities ≤ 256) × (waiting ≤ 64) ⌝ }
-    ensures { λ r. ⌜ Starts (now (table .entry)) (now (flags .entry)) (now (picks .entry)) orders (now (marks .entry)) (now (known .entry)) free activities (now (letters .entry)) waiting s r ⌝ }
+    ensures { λ r. ⌜ Starts seen (now (table .entry)) (now (flags .entry)) (now (picks .entry)) orders (now (marks .entry)) (now (known .entry)) free activities (now (letters .entry)) waiting s r ⌝ }
 {
     let mut c = s;
     let mut j: usize = 0;
@@ -235,7 +236,7 @@ pub(crate) fn starts(
     s: Sight,
 ) -> Sight
     requires { ⌜ (activities ≤ 256) × (waiting ≤ 64) ⌝ }
-    ensures { λ r. ⌜ StartsOrder (now (table .entry)) (now (flags .entry)) (now (picks .entry)) orders order activities (now (letters .entry)) waiting s r ⌝ }
+    ensures { λ r. ⌜ StartsOrder seen (now (table .entry)) (now (flags .entry)) (now (picks .entry)) orders order activities (now (letters .entry)) waiting s r ⌝ }
 {
     let free = free_slot(orders);
     let marks = order.marks;

@@ -21,6 +21,7 @@ pub enum What {
     WhyOne,
     Go,
     CollectAll,
+    Drop,
     OrderBy,
     Plan,
     Mend,
@@ -126,6 +127,18 @@ fn with_number(line: &[u8], at: usize, what: What, other: What, number: u32) -> 
     numbered(other, part(line, w.from, w.to))
 }
 
+// One that takes a number.
+fn with_one(line: &[u8], at: usize, what: What) -> Phrase {
+    let w = word_at(line, at);
+    if w.to <= w.from {
+        return wrong(Trouble::Missing);
+    }
+    if has_more(line, w.to) {
+        return wrong(Trouble::Extra);
+    }
+    numbered(what, part(line, w.from, w.to))
+}
+
 // `collect all`; a `collect` alone is the console's.
 fn collecting(line: &[u8], at: usize) -> Phrase {
     let w = word_at(line, at);
@@ -163,6 +176,7 @@ fn begun(line: &[u8], at: usize, verb: u32) -> Phrase {
         7 => with_number(line, at, What::Go, What::Go, 1000),
         8 => collecting(line, at),
         9 => ordering(line, at),
+        20 => with_one(line, at, What::Drop),
         _ => kept(line, at, verb),
     }
 }

@@ -17,6 +17,7 @@ fn new_of(w: &[u8]) -> u32 {
     let v = either(w, b"quit!", 4, v);
     let v = either(w, b"help", 5, v);
     let v = either(w, b"why", 6, v);
+    let v = either(w, b"drop", 20, v);
     either(w, b"go", 7, v)
 }
 

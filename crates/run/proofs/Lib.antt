@@ -1,1 +1,2 @@
 mod RunReturns
+pub mod Told

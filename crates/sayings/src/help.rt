@@ -34,34 +34,39 @@ fn put_first(out: &mut [u8; 4096], used: usize, k: usize) -> usize {
         5 => put(
             out,
             used,
-            b"why [SLOT]                      what each order waits for, and what hinders it",
+            b"drop PLACE                      hand out any message that waits, and remove it",
         ),
         6 => put(
             out,
             used,
-            b"orders                          the live orders",
+            b"why [SLOT]                      what each order waits for, and what hinders it",
         ),
         7 => put(
             out,
             used,
-            b"order SLOT                      one order on the drawing of its plan",
+            b"orders                          the live orders",
         ),
         8 => put(
             out,
             used,
-            b"offers                          all that is offered, in words",
+            b"order SLOT                      one order on the drawing of its plan",
         ),
         9 => put(
             out,
             used,
-            b"offer                           all that is offered, in numbers",
+            b"offers                          all that is offered, in words",
         ),
         10 => put(
             out,
             used,
-            b"waiting                         the messages that wait",
+            b"offer                           all that is offered, in numbers",
         ),
         11 => put(
+            out,
+            used,
+            b"waiting                         the messages that wait",
+        ),
+        12 => put(
             out,
             used,
             b"tally                           how many orders started, and how they ended",
@@ -73,58 +78,63 @@ fn put_first(out: &mut [u8; 4096], used: usize, k: usize) -> usize {
 // The others.
 fn put_second(out: &mut [u8; 4096], used: usize, k: usize) -> usize {
     match k {
-        12 => put(
+        13 => put(
             out,
             used,
             b"write                           the lines that follow, up to a blank one, are a plan as text",
         ),
-        13 => put(
+        14 => put(
             out,
             used,
             b"draw                            the plan as text",
         ),
-        14 => put(
-            out,
-            used,
-            b"names                           the names of the plan",
-        ),
         15 => put(
             out,
             used,
-            b"plan HEX                        a plan in bytes",
+            b"check                           what the plan does and was seldom meant: warnings",
         ),
         16 => put(
             out,
             used,
-            b"mend HEX                        a plan in bytes whose numbers may be padded",
+            b"names                           the names of the plan",
         ),
         17 => put(
             out,
             used,
-            b"show K                          the bytes of activity K",
+            b"plan HEX                        a plan in bytes",
         ),
         18 => put(
             out,
             used,
-            b"save FILE                       keep the state in a file",
+            b"mend HEX                        a plan in bytes whose numbers may be padded",
         ),
         19 => put(
             out,
             used,
-            b"open FILE                       go on with the state in a file",
+            b"show K                          the bytes of activity K",
         ),
         20 => put(
             out,
             used,
-            b"plain                           answer by numbers alone, with no brakes: for programs",
+            b"save FILE                       keep the state in a file",
         ),
         21 => put(
             out,
             used,
+            b"open FILE                       go on with the state in a file",
+        ),
+        22 => put(
+            out,
+            used,
+            b"plain                           answer by numbers alone, with no brakes: for programs",
+        ),
+        23 => put(
+            out,
+            used,
             b"spoken                          answer with words behind the numbers",
         ),
-        22 => put(out, used, b"quit                            end"),
-        23 => put(
+        24 => put(out, used, b"quit                            end"),
+        25 => put(
             out,
             used,
             b"help [WORD]                     this list, or more on one command; \"help refusals\" for what the refusals mean",
@@ -164,34 +174,39 @@ fn put_more_first(out: &mut [u8; 4096], used: usize, k: usize) -> usize {
         5 => put(
             out,
             used,
-            b"  Says which message nearly fits, what is held and by what, what would be undone, and which messages nobody can take.",
+            b"  PLACE is the number in front of the message in \"waiting\". For one that nobody takes any more: it makes room.",
         ),
         6 => put(
             out,
             used,
-            b"  A line for each: its slot, how it stands, its variables, what it remembers.",
+            b"  Says which message nearly fits, what is held and by what, what would be undone, and which messages nobody can take.",
         ),
         7 => put(
             out,
             used,
-            b"  \"order VARIABLE VALUE\" asks by the value of a variable, as order stepping 7.",
+            b"  A line for each: its slot, how it stands, its variables, what it remembers.",
         ),
         8 => put(
             out,
             used,
-            b"  The number in front of each is the choice that \"step\" takes.",
+            b"  \"order VARIABLE VALUE\" asks by the value of a variable, as order stepping 7.",
         ),
         9 => put(
             out,
             used,
-            b"  SLOT:ACTIVITY:PLACE for each choice. \"offers\" tells the same in words.",
+            b"  The number in front of each is the choice that \"step\" takes.",
         ),
         10 => put(
             out,
             used,
+            b"  SLOT:ACTIVITY:PLACE for each choice. \"offers\" tells the same in words.",
+        ),
+        11 => put(
+            out,
+            used,
             b"  A line for each, with its place, oldest first.",
         ),
-        11 => put(out, used, b"  STARTED WELL HANDLED FAILED LEFT."),
+        12 => put(out, used, b"  STARTED WELL HANDLED FAILED LEFT."),
         _ => used,
     }
 }
@@ -199,54 +214,59 @@ fn put_more_first(out: &mut [u8; 4096], used: usize, k: usize) -> usize {
 // More on the others.
 fn put_more_second(out: &mut [u8; 4096], used: usize, k: usize) -> usize {
     match k {
-        12 => put(
+        13 => put(
             out,
             used,
             b"  The plan then runs, with a fresh state; where orders are live or messages wait it is \"write!\" that drops them.\n  A text of the very plan that runs only takes its names.",
         ),
-        13 => put(out, used, b"  What it prints can be given to \"write\"."),
-        14 => put(
-            out,
-            used,
-            b"  Those of a text that was written; a plan by its bytes has none.",
-        ),
+        14 => put(out, used, b"  What it prints can be given to \"write\"."),
         15 => put(
             out,
             used,
-            b"  Where orders are live or messages wait it is \"plan!\" that drops them. A refused plan changes nothing.",
+            b"  The answer is \"check 0 COUNT\", then a line for each warning. The same lines follow write, plan, mend and open.",
         ),
         16 => put(
             out,
             used,
-            b"  Where orders are live or messages wait it is \"mend!\" that drops them.",
+            b"  Those of a text that was written; a plan by its bytes has none.",
         ),
         17 => put(
             out,
             used,
-            b"  K is the number that stands in front of it in the drawing.",
+            b"  Where orders are live or messages wait it is \"plan!\" that drops them. A refused plan changes nothing.",
         ),
         18 => put(
             out,
             used,
-            b"  What the file held stays as FILE.old. A name with blanks stands in quotes: save \"my orders\".\n  \"save!\" replaces what \"save\" would not.",
+            b"  Where orders are live or messages wait it is \"mend!\" that drops them.",
         ),
         19 => put(
             out,
             used,
+            b"  K is the number that stands in front of it in the drawing.",
+        ),
+        20 => put(
+            out,
+            used,
+            b"  What the file held stays as FILE.old. A name with blanks stands in quotes: save \"my orders\".\n  \"save!\" replaces what \"save\" would not.",
+        ),
+        21 => put(
+            out,
+            used,
             b"  Where orders are live or messages wait it is \"open!\" that drops them.",
         ),
-        20 => put(out, used, b"  \"spoken\" answers with words again."),
-        21 => put(
+        22 => put(out, used, b"  \"spoken\" answers with words again."),
+        23 => put(
             out,
             used,
             b"  So the desk begins, but for the word plain behind its name.",
         ),
-        22 => put(
+        24 => put(
             out,
             used,
             b"  What is not saved is told; \"quit!\" ends all the same.",
         ),
-        23 => put(
+        25 => put(
             out,
             used,
             b"  Refusals are the numbers behind a command that is not done: post 14.",
@@ -263,13 +283,14 @@ fn is_first(word: &[u8], k: usize) -> bool {
         2 => same(word, b"step"),
         3 => same(word, b"run"),
         4 => same(word, b"collect"),
-        5 => same(word, b"why"),
-        6 => same(word, b"orders"),
-        7 => same(word, b"order"),
-        8 => same(word, b"offers"),
-        9 => same(word, b"offer"),
-        10 => same(word, b"waiting"),
-        11 => same(word, b"tally"),
+        5 => same(word, b"drop"),
+        6 => same(word, b"why"),
+        7 => same(word, b"orders"),
+        8 => same(word, b"order"),
+        9 => same(word, b"offers"),
+        10 => same(word, b"offer"),
+        11 => same(word, b"waiting"),
+        12 => same(word, b"tally"),
         _ => false,
     }
 }
@@ -277,24 +298,25 @@ fn is_first(word: &[u8], k: usize) -> bool {
 // Of one of the others.
 fn is_second(word: &[u8], k: usize) -> bool {
     match k {
-        12 => same(word, b"write"),
-        13 => same(word, b"draw"),
-        14 => same(word, b"names"),
-        15 => same(word, b"plan"),
-        16 => same(word, b"mend"),
-        17 => same(word, b"show"),
-        18 => same(word, b"save"),
-        19 => same(word, b"open"),
-        20 => same(word, b"plain"),
-        21 => same(word, b"spoken"),
-        22 => same(word, b"quit"),
-        23 => same(word, b"help"),
+        13 => same(word, b"write"),
+        14 => same(word, b"draw"),
+        15 => same(word, b"check"),
+        16 => same(word, b"names"),
+        17 => same(word, b"plan"),
+        18 => same(word, b"mend"),
+        19 => same(word, b"show"),
+        20 => same(word, b"save"),
+        21 => same(word, b"open"),
+        22 => same(word, b"plain"),
+        23 => same(word, b"spoken"),
+        24 => same(word, b"quit"),
+        25 => same(word, b"help"),
         _ => false,
     }
 }
 
 // How many commands there are.
-const TOPICS: usize = 24;
+const TOPICS: usize = 26;
 
 fn put_line(out: &mut [u8; 4096], used: usize, k: usize) -> usize {
     let mut at = put_first(out, used, k);

@@ -8,3 +8,4 @@ pub use help::put_help_on;
 pub use refusals::put_refusals;
 pub use refusals::put_refused;
 pub use refusals::put_sentence;
+pub use refusals::put_undropped;

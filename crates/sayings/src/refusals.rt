@@ -84,10 +84,27 @@ pub fn put_refused(out: &mut [u8; 4096], used: usize, refusal: u32) -> usize {
     put_byte(out, at, 10)
 }
 
+// A drop that is refused: its 15 is of the place.
+pub fn put_undropped(out: &mut [u8; 4096], used: usize, refusal: u32) -> usize {
+    if refusal == 15 {
+        return put(out, used, b" - refused: no message waits at this place\n");
+    }
+    put_refused(out, used, refusal)
+}
+
+// What a refusal means where another command has it.
+fn put_besides(out: &mut [u8; 4096], used: usize, refusal: u32) -> usize {
+    if refusal == 15 {
+        return put(out, used, b"; of a drop: none waits at this place");
+    }
+    used
+}
+
 fn put_row(out: &mut [u8; 4096], used: usize, refusal: u32) -> usize {
     let mut at = put_aligned(out, used, refusal as u64);
     at = put(out, at, b"  ");
     at = put_sentence(out, at, refusal);
+    at = put_besides(out, at, refusal);
     put_byte(out, at, 10)
 }
 

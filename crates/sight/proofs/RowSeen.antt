@@ -245,3 +245,11 @@ module _ {t picks marks : List ℕ} (known bound parts : List ℕ) (kept i : ℕ
 pub offer-full : (t picks marks known bound parts : List ℕ) (kept i n : ℕ) (cutting : Bool) (letters : List ℕ) {wait : ℕ} (least : List ℕ) (s : Sight) → 64 < wait
     → Wholes t n (Opening t picks marks known bound parts kept letters wait least) (offerLine cutting wait i) s s
 offer-full t picks marks known bound parts kept i n cutting letters least s h = record { is = λ o p l g q. absurd (omega (arith, g .serving .heeding .told .few)) }
+
+-- `row_sight`: of a row beyond the table, and of more than 64 messages, nothing is known
+module _ (t picks marks known bound parts : List ℕ) (kept i : ℕ) {k : ℕ} (cutting : Bool) (letters : List ℕ) {wait : ℕ} (least : List ℕ) (s : Sight) where
+  pub row-beyond : 256 ≤ k → Rows t k (Opening t picks marks known bound parts kept letters wait least) (offerLine cutting wait i) s s
+  row-beyond h = record { is = λ o p l x g y. absurd (omega (arith, y .inside)) }
+
+  pub row-full : 64 < wait → Rows t k (Opening t picks marks known bound parts kept letters wait least) (offerLine cutting wait i) s s
+  row-full h = record { is = λ o p l x g y. absurd (omega (arith, g .serving .heeding .told .few)) }

@@ -1,6 +1,7 @@
 // What the rows of an order have on offer. No list is built: a choice is counted down.
 pub mod counting;
 pub mod memory;
+pub mod one;
 pub mod rows;
 
 // A choice that is counted down over the offer: how much of it is left, and, once it is found, the slot, the activity and the message place.

@@ -240,7 +240,7 @@ fn doing_row(
 }
 
 // What row k has on offer.
-fn offer_row(
+pub(crate) fn offer_row(
     table: &[u32; 11584],
     picks: &[usize; 256],
     marks: &[u8; 256],

@@ -32,7 +32,7 @@ fn least(v: usize) -> usize {
 }
 
 fn variable_of(names: &[u8; 4752], word: &[u8]) -> usize {
-    let v = drawing::variable_named(names, word);
+    let v = names::variable_named(names, word);
     if v < 16 {
         return v;
     }

@@ -41,8 +41,8 @@ fn put_accepted(out: &mut [u8; 4096], used: usize, activities: usize) -> usize {
     put(out, at, b" activities and arms\n")
 }
 
-// What the last answer came to, in words behind it: an error says it all.
-fn told(desk: Desk, out: &mut [u8; 4096]) -> Desk {
+// What the last answer came to, in words behind it, and what the plan is warned of: an error says it all.
+fn told(desk: Desk, bytes: &[u8; 8000], names: &[u8; 4752], out: &mut [u8; 4096]) -> Desk {
     if 999 < desk.said {
         return desk;
     }
@@ -50,7 +50,7 @@ fn told(desk: Desk, out: &mut [u8; 4096]) -> Desk {
     if desk.said == 0 {
         let state = desk.state;
         let used = put_accepted(out, at, activities_of(state));
-        return shown(desk, used);
+        return papers::warn(shown(desk, used), bytes, names, out);
     }
     let used = put_refused(out, at, desk.said);
     shown(desk, used)
@@ -119,7 +119,7 @@ pub(crate) fn plan(
             nodes: _,
         } => {
             let d = papers::load(desk, word, number, bytes, names, out);
-            told(d, out)
+            told(d, bytes, names, out)
         }
     }
 }
@@ -137,7 +137,7 @@ pub(crate) fn mend(
         return braked(desk, number, b"mend", out);
     }
     let d = papers::mend(desk, word, number, bytes, names, out);
-    told(d, out)
+    told(d, bytes, names, out)
 }
 
 fn put_what(desk: Desk, out: &mut [u8; 4096], used: usize) -> usize {
@@ -185,7 +185,11 @@ pub(crate) fn open(
         return braked(desk, number, b"open", out);
     }
     let d = papers::open(desk, file, number, bytes, names, out);
-    filed(d, b" - opened ", file, out)
+    let e = filed(d, b" - opened ", file, out);
+    if e.said != 0 {
+        return e;
+    }
+    papers::warn(e, bytes, names, out)
 }
 
 // A plan as text.
@@ -208,9 +212,9 @@ pub fn written(
             at,
             b" - the plan that runs: its names are taken, nothing else changes\n",
         );
-        return shown(d, at);
+        return papers::warn(shown(d, at), bytes, names, out);
     }
-    told(d, out)
+    told(d, bytes, names, out)
 }
 
 // Whether something would be lost if the desk ended now: it changed since the last save, and there are orders or messages, or a file that it is to go to.

@@ -164,6 +164,7 @@ fn said(
         What::WhyOne => asking::why_one(desk, p.number, number, names, out),
         What::Go => moving::go(desk, p.number, names, out),
         What::CollectAll => moving::collect_all(desk, names, out),
+        What::Drop => moving::drop_at(desk, p.number, names, out),
         What::OrderBy => finding::order_by(
             desk,
             part(line, p.from, p.to),

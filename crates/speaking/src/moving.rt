@@ -1,4 +1,4 @@
-// Steps and messages that go out, each told in words behind its numbers: step, run, go and collect.
+// Steps and messages that go out, each told in words behind its numbers: step, run, go, collect and drop.
 use commands::Trouble;
 use console::Numbers;
 use console::numbers_of;
@@ -8,6 +8,7 @@ use drawing::put_byte;
 use drawing::put_number;
 use drawing::put_pair;
 use drawing::unended;
+use machine::Collected;
 use machine::Message;
 use machine::State;
 use machine::Step;
@@ -235,6 +236,14 @@ fn put_out(
     }
 }
 
+// Why none is handed out; a drop has its own sentence.
+fn put_kept(out: &mut [u8; 4096], used: usize, refusal: u32, dropped: bool) -> usize {
+    if dropped {
+        return sayings::put_undropped(out, used, refusal);
+    }
+    put_refused(out, used, refusal)
+}
+
 fn put_handed(
     out: &mut [u8; 4096],
     used: usize,
@@ -242,24 +251,31 @@ fn put_handed(
     state: State,
     refusal: u32,
     m: Message,
+    dropped: bool,
 ) -> usize {
     let mut at = unended(out, used);
     if refusal != 0 {
-        return put_refused(out, at, refusal);
+        return put_kept(out, at, refusal, dropped);
     }
     at = put(out, at, b" - ");
     at = put_out(out, at, names, state, m);
     put_byte(out, at, 10)
 }
 
-// Hands out a message.
-pub(crate) fn collect(desk: Desk, names: &[u8; 4752], out: &mut [u8; 4096]) -> Desk {
+// A message that a command with this word handed out, or why it did not.
+fn handed(
+    desk: Desk,
+    word: &[u8],
+    c: Collected,
+    dropped: bool,
+    names: &[u8; 4752],
+    out: &mut [u8; 4096],
+) -> Desk {
     let before = desk.state;
-    let c = mail::collect(before);
     let m = c.message;
-    let mut used = console::put_collected(out, desk.used, c);
+    let mut used = console::put_collected(out, desk.used, word, c);
     if desk.spoken {
-        used = put_handed(out, used, names, before, c.refusal, m);
+        used = put_handed(out, used, names, before, c.refusal, m, dropped);
     }
     if c.refusal != 0 {
         return refused(desk, used, c.refusal);
@@ -267,6 +283,20 @@ pub(crate) fn collect(desk: Desk, names: &[u8; 4752], out: &mut [u8; 4096]) -> D
     let state = c.state;
     let tally = desk.tally;
     changed(desk, state, tally, desk.plan, used)
+}
+
+// Hands out the oldest message that leaves.
+pub(crate) fn collect(desk: Desk, names: &[u8; 4752], out: &mut [u8; 4096]) -> Desk {
+    let before = desk.state;
+    let c = mail::collect(before);
+    handed(desk, b"collect", c, false, names, out)
+}
+
+// Hands out the message at a place, whoever it is for.
+pub(crate) fn drop_at(desk: Desk, place: u32, names: &[u8; 4752], out: &mut [u8; 4096]) -> Desk {
+    let before = desk.state;
+    let c = mail::drop_at(before, place as usize);
+    handed(desk, b"drop", c, true, names, out)
 }
 
 // Hands out all that go out, up to the refusal that says that there are no more.

@@ -7,13 +7,13 @@ use drawing::put_refusal;
 use drawing::unended;
 use machine::Message;
 use machine::State;
+use names::Stands;
 use papers::Desk;
 use papers::changed;
 use papers::failed;
 use papers::refused;
 use phrases::part;
 use plan::Answer;
-use text::Decimal;
 
 // What stands at a place of a post: a number, the end of the line, a name that nobody has, or trouble.
 enum Next {
@@ -30,50 +30,25 @@ enum Reading {
     Wrong { why: Trouble },
 }
 
-// The number that a word names as partner, the first of a post, or as operation, the second; 64 where it names none.
-fn named(names: &[u8; 4752], word: &[u8], n: usize) -> usize {
-    if n == 0 {
-        return drawing::partner_named(names, word);
-    }
-    if n == 1 {
-        return drawing::operation_named(names, word);
-    }
-    64
-}
-
-fn of_name(names: &[u8; 4752], word: &[u8], n: usize, from: usize, to: usize) -> Next {
-    let k = named(names, word, n);
-    if k < 64 {
-        return Next::Number {
-            value: k as u32,
-            to,
-        };
-    }
-    if 1 < n {
-        return Next::Wrong {
-            why: Trouble::Unnumbered,
-        };
-    }
-    Next::Unnamed { from, to }
-}
-
-fn of_word(names: &[u8; 4752], word: &[u8], n: usize, from: usize, to: usize) -> Next {
-    let d = text::decimal_of(word);
-    match d {
-        Decimal::Value { value } => Next::Number { value, to },
-        Decimal::Large => Next::Wrong {
-            why: Trouble::Large,
-        },
-        Decimal::Bad => of_name(names, word, n, from, to),
-    }
-}
-
+// What stands at a place of a post: what its word n stands for.
 fn next_of(names: &[u8; 4752], line: &[u8], at: usize, n: usize) -> Next {
     let w = text::word_at(line, at);
-    if w.to <= w.from {
+    let from = w.from;
+    let to = w.to;
+    if to <= from {
         return Next::End;
     }
-    of_word(names, part(line, w.from, w.to), n, w.from, w.to)
+    let s = names::stands_for(names, part(line, from, to), n);
+    match s {
+        Stands::Number { value } => Next::Number { value, to },
+        Stands::Large => Next::Wrong {
+            why: Trouble::Large,
+        },
+        Stands::Unnamed => Next::Unnamed { from, to },
+        Stands::Unnumbered => Next::Wrong {
+            why: Trouble::Unnumbered,
+        },
+    }
 }
 
 fn store(numbers: &mut [u32; 1001], n: usize, value: u32) {

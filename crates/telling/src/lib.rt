@@ -1,6 +1,7 @@
 // What messages and steps are, in words and by the names of the plan. Each function writes at the place `used` of `out`, and answers the place after.
 mod letters;
 mod ready;
+mod settled;
 mod steps;
 
 pub use letters::is_received;

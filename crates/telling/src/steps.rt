@@ -1,6 +1,8 @@
 // A step in words, as it was taken.
 use super::letters::put_letter;
 use super::ready::put_sent;
+use super::settled::deed_of;
+use super::settled::put_raises;
 use drawing::entry;
 use drawing::put;
 use drawing::put_next;
@@ -170,6 +172,21 @@ fn put_did(
     }
 }
 
+// The raises behind a step, where it left two open for one thing.
+fn put_behind(
+    out: &mut [u8; 4096],
+    used: usize,
+    table: &[u32; 11584],
+    activities: usize,
+    order: Order,
+    m: Message,
+    n: usize,
+) -> usize {
+    let values = m.values;
+    let next = deed_of(table, activities, order, n, values);
+    put_raises(out, used, table, activities, next)
+}
+
 // A step that was taken, where `order` stood in its slot before it and `m` is the message at its place.
 pub fn put_step(
     out: &mut [u8; 4096],
@@ -195,5 +212,6 @@ pub fn put_step(
         order,
         m,
     );
+    at = put_behind(out, at, table, activities, order, m, x.activity);
     put_end(out, at, end)
 }

@@ -15,7 +15,10 @@ use Rattle.undoing.specs.Demand3.{Inner, scopesOf, closingsOf, undoneOf,
 use Rattle.undoing.specs.Ties.{orderAfter, pastAfter, isName, LiveTold, isTurned, MarksTold, remembered, ListsTold, StepsTold, FaultsTold, EndsTold, PlacesTold, NeverStuck, GoingOn, NoneTwice}
 use Rattle.undoing.proofs.Settling.{none-twice}
 use Rattle.undoing.specs.Orderly.{Orderly}
-use Rattle.undoing.specs.Begun.{BegunTruly, BegunAll, BegunInTurn}
+use Rattle.undoing.specs.Begun.{BegunAll, BegunInTurn}
+use Rattle.undoing.specs.Entirely.{BegunTrulyEver, BegunOnce, BegunAfresh, BegunEntirely, LeftToFinish, AwaitedTold, Chained, StoppedTold, AllGoOn}
+use Rattle.undoing.specs.Onward.{KeptRunning, PassedOn, Decided}
+use Rattle.undoing.specs.Standing.{Stands}
 use Rattle.undoing.specs.UndoneRight.{sameBool, eventCode, sameEvents, sameEnds, namesOf, markTold, listTold, broken, UndoneRight}
 use Rattle.undoing.proofs.Parts.{decide, every-so, alike-itself}
 use Rattle.undoing.proofs.Accounts.{numbers-are-names}
@@ -24,9 +27,20 @@ use Rattle.undoing.proofs.Told.{live-told, marks-told, lists-told, plac
 use Rattle.undoing.proofs.Stepped.{steps-told}
 use Rattle.undoing.proofs.Heeding.{faults-told}
 use Rattle.undoing.proofs.Ending.{ends-told}
-use Rattle.undoing.proofs.BegunTold.{begun-truly, begun-all, begun-in-turn}
+use Rattle.undoing.proofs.BegunTold.{begun-all, begun-in-turn}
 use Rattle.undoing.proofs.Awaiting.{never-stuck}
 use Rattle.undoing.proofs.Going.{going-on}
+use Rattle.undoing.proofs.Alone.{chained-told}
+use Rattle.undoing.proofs.EntirelyTold.{begun-truly-ever, begun-entirely}
+use Rattle.undoing.proofs.OnceOver.{begun-once}
+use Rattle.undoing.proofs.AfreshTold.{begun-afresh}
+use Rattle.undoing.proofs.NearTold.{left-to-finish}
+use Rattle.undoing.proofs.Moving.{kept-running, passed-on}
+use Rattle.undoing.proofs.Deciding.{decided-told}
+use Rattle.undoing.proofs.Firmly.{awaited-told}
+use Rattle.undoing.proofs.Calming.{stopped-told}
+use Rattle.undoing.proofs.Coming.{all-go-on}
+use Rattle.undoing.proofs.Upright.{stands-told}
 
 -- what is the same is found so
 bools-same : (a b : Bool) → a ≡ b → sameBool a b ≡ true
@@ -62,7 +76,7 @@ module _ (p : Plan) (o : Order) (past : List Event) where
 
 -- The one statement.
 pub undone-right : UndoneRight
-unfolding UndoneRight broken Demand3 Orderly FaultsTold StepsTold EndsTold BegunTruly BegunAll BegunInTurn LiveTold MarksTold ListsTold PlacesTold GoingOn NeverStuck NoneTwice
+unfolding UndoneRight broken Demand3 Orderly FaultsTold StepsTold EndsTold BegunTrulyEver BegunAll BegunInTurn BegunOnce BegunAfresh BegunEntirely LeftToFinish KeptRunning PassedOn Decided AwaitedTold Chained LiveTold MarksTold ListsTold PlacesTold GoingOn NeverStuck NoneTwice StoppedTold AllGoOn Stands
 undone-right bytes p next e calls slot t =
     rw (
       demanded.demand3 bytes p next e calls slot t,
@@ -70,9 +84,18 @@ undone-right bytes p next e calls slot t =
       faults-told bytes p next e calls slot t,
       events-same _ _ (steps-told bytes p next e calls slot t),
       ends-same _ _ (ends-told bytes p next e calls slot t),
-      begun-truly bytes p next e calls slot t,
+      begun-truly-ever bytes p next e calls slot t,
       begun-all bytes p next e calls slot t,
       begun-in-turn bytes p next e calls slot t,
+      begun-once bytes p next e calls slot t,
+      begun-afresh bytes p next e calls slot t,
+      begun-entirely bytes p next e calls slot t,
+      left-to-finish bytes p next e calls slot t,
+      kept-running bytes p next e calls slot t,
+      passed-on bytes p next e calls slot t,
+      decided-told bytes p next e calls slot t,
+      awaited-told bytes p next e calls slot t,
+      chained-told bytes p next e calls slot t,
       bools-same _ _ (live-told bytes p next e calls slot t),
     )
     (decide (isLive o)
@@ -84,6 +107,9 @@ undone-right bytes p next e calls slot t =
       going-on bytes p next e calls slot t v,
       never-stuck bytes p next e calls slot t v,
       none-twice bytes p next e calls slot t,
+      stopped-told bytes p next e calls slot t v,
+      all-go-on bytes p next e calls slot t v,
+      stands-told bytes p next e calls slot t v,
     ))
     (λ v. rw v))
   where

@@ -426,8 +426,8 @@ deed-taking (scope v) within k m o = refl
 deed-taking (arm p op vs) within k m o = refl
 
 -- by the same choice of what is done and what is logged
-taking-either : (b : Bool) (d d′ : Doing) (g g′ : Order → List Event) (m : Message) (o : Order) → g (orderTaking d m o) ≡ g o → g′ (orderTaking d′ m o) ≡ g′ o
-    → (z : Doing) (h : Order → List Event) → z ≡ elim b [ true ↦ d | false ↦ d′ ] → ((o : Order) → h o ≡ elim b [ true ↦ g o | false ↦ g′ o ]) → h (orderTaking z m o) ≡ h o
+pub taking-either : {A : Type 0} (b : Bool) (d d′ : Doing) (g g′ : Order → A) (m : Message) (o : Order) → g (orderTaking d m o) ≡ g o → g′ (orderTaking d′ m o) ≡ g′ o
+    → (z : Doing) (h : Order → A) → z ≡ elim b [ true ↦ d | false ↦ d′ ] → ((o : Order) → h o ≡ elim b [ true ↦ g o | false ↦ g′ o ]) → h (orderTaking z m o) ≡ h o
 taking-either true d d′ g g′ m o x y z h e f = ap (λ (v : Doing). h (orderTaking v m o)) e ∙ (f (orderTaking d m o) ∙ (x ∙ sym (f o)))
 taking-either false d d′ g g′ m o x y z h e f = ap (λ (v : Doing). h (orderTaking v m o)) e ∙ (f (orderTaking d′ m o) ∙ (y ∙ sym (f o)))
 

@@ -44,12 +44,22 @@ OfTimes p f =
     (actor : Actor) (t : ℕ) (o o′ : Order) (past : List Event) → Alike p o o′ → Awaited p (o .marks) t → Standing p o → HoldsAt p (momentOf p o) past
     → f (time t o [] (acted actor p t o′)) ≡ true
 
+-- the order as it was, or having taken its message
+pub data Took (p : Plan) (t : ℕ) (o : Order) : Order → Type 0 where
+  took : (m : Message) → Took p t o (withMessage p t m o)
+  took-none : Took p t o o
+
+abbrev pub OfTaking : (p : Plan) → (Taken → Bool) → Type 0
+OfTaking p f =
+    (actor : Actor) (t : ℕ) (o o′ : Order) (past : List Event) → Took p t o o′ → Alike p o o′ → Awaited p (o .marks) t → Standing p o → HoldsAt p (momentOf p o) past
+    → f (time t o [] (acted actor p t o′)) ≡ true
+
 abbrev pub OfStarts : (p : Plan) → (Taken → Bool) → Type 0
 OfStarts p f =
     (t : ℕ) (m : Message) (o : Order) (past : List Event) → isLive o ≡ false → noneNow past ≡ true → Awaited p (startedOrder p .marks) t
     → f (time t o (started ∷ begunOrder p .log) (acted itsOwn p t (withMessage p t m (startedOrder p)))) ≡ true
 
-module _ (p : Plan) (h : Promised p) (f : Taken → Bool) (one : OfTimes p f) (first : OfStarts p f) where
+module _ (p : Plan) (h : Promised p) (f : Taken → Bool) (one : OfTaking p f) (first : OfStarts p f) where
   -- the raises of an order that is judged
   raises-each : (n : ℕ) (past : List Event) (m : Moved) → Passed p past m → every f (raisesOf n p m) ≡ true
   unfolding raisesOf every
@@ -62,7 +72,7 @@ module _ (p : Plan) (h : Promised p) (f : Taken → Bool) (one : OfTimes p f) (f
       on g e (clash k) c =
           let s = passed-stands p past m e w in
           rw (
-            one inPlace k (m .order) (m .order) (onto (m .log) past) (alike-itself p (m .order)) (c .0) (s .0) (s .1),
+            one inPlace k (m .order) (m .order) (onto (m .log) past) took-none (alike-itself p (m .order)) (c .0) (s .0) (s .1),
             g (onto (m .log) past) (acted inPlace p k (m .order)) (passed-once p h inPlace k (m .order) (onto (m .log) past) (c .0) (s .0) (s .1)),
           )
 
@@ -91,7 +101,7 @@ module _ (p : Plan) (h : Promised p) (f : Taken → Bool) (one : OfTimes p f) (f
         let like = taking-alike p (doingAt p t) m o in
         subst (λ (l : List Taken). every f l ≡ true) (sym (taken-goes p h i s t m r q (standing-live p o st)))
         (rw (
-          one itsOwn t o o′ past like x st y,
+          one itsOwn t o o′ past (took m) like x st y,
           raises-each (spare p (acted itsOwn p t o′ .order)) past (acted itsOwn p t o′) (passed-once p h itsOwn t o′ past (alike-awaited like t x) (alike-stands p o o′ like st) (alike-holds like past y)),
         ))
     happens-each s past r (starts-here t m q x z n l e d) =
@@ -120,9 +130,14 @@ module _ (p : Plan) (h : Promised p) (f : Taken → Bool) (one : OfTimes p f) (f
           (all-each l (r .state) (r .tally) (onto (logOf i r) past) (step-after p bytes next i accepted h c s t past g .1))
 
 -- from a fresh start
-pub each-time : (f : Plan → Taken → Bool) → ((p : Plan) → Promised p → OfTimes p (f p)) → ((p : Plan) → Promised p → OfStarts p (f p))
+pub each-taking : (f : Plan → Taken → Bool) → ((p : Plan) → Promised p → OfTaking p (f p)) → ((p : Plan) → Promised p → OfStarts p (f p))
     → (bytes : List ℕ) (p : Plan) (next : ℕ) → readPlan bytes ≡ found p next → (calls : List Call) (slot : ℕ) (t : Tally) → every (f p) (stepsTaken p calls slot (load bytes .state) t) ≡ true
 unfolding load
-each-time f one first bytes p next e calls slot t =
+each-taking f one first bytes p next e calls slot t =
     subst (λ (g : Found Plan). every (f p) (stepsTaken p calls slot (loadedAs bytes g .state) t) ≡ true) (sym e)
     (let h = promised p (accepted-is-within bytes e) in all-each p h (f p) (one p h) (first p h) slot bytes next e calls (fresh bytes) t [] (fresh-sane p bytes next slot e h))
+
+-- where it makes no difference what was taken
+pub each-time : (f : Plan → Taken → Bool) → ((p : Plan) → Promised p → OfTimes p (f p)) → ((p : Plan) → Promised p → OfStarts p (f p))
+    → (bytes : List ℕ) (p : Plan) (next : ℕ) → readPlan bytes ≡ found p next → (calls : List Call) (slot : ℕ) (t : Tally) → every (f p) (stepsTaken p calls slot (load bytes .state) t) ≡ true
+each-time f one first = each-taking f (λ p h actor t o o′ past w. one p h actor t o o′ past) first

@@ -1,4 +1,4 @@
--- The steps of every slot over any run break none of the statements of Entirely. Assumes nothing.
+-- A step taken is that of an activity or an arm that awaits it, over any run. Assumes nothing.
 use Prim.Native.Nat.{ℕ, _+_}
 use mathlib.Core.Path.{_≡_, refl, sym, ap, subst, _∙_}
 use mathlib.Core.Bool.{Bool, true, false, cond, _&&_, _||_, or-true}
@@ -23,7 +23,7 @@ use Rattle.machine.specs.Calls.{loaded, loadedAs, load, post, collect, Stepped,
 use Rattle.undoing.specs.History.{logOf}
 use Rattle.undoing.specs.Ties.{orderAfter, isTaken}
 use Rattle.undoing.specs.Begun.{Taken, takenBy, stepsTaken}
-use Rattle.undoing.specs.Entirely.{BegunTrulyEver, BegunOnce, BegunEntirely, LeftToFinish, isAwaited, AwaitedTold, Chained, StoppedTold, AllGoOn, loose, UndoneFirmly}
+use Rattle.undoing.specs.Entirely.{isAwaited, AwaitedTold}
 use Rattle.undoing.proofs.Parts.{decide, every-append, some-append}
 use Rattle.undoing.proofs.Orders.{onto}
 use Rattle.undoing.proofs.Planning.{Promised, promised}
@@ -34,12 +34,6 @@ use Rattle.undoing.proofs.Happening.{orderIn, Happens, nothing-here, go
 use Rattle.undoing.proofs.Demanded.{step-after}
 use Rattle.undoing.proofs.Awaiting.{ready-is}
 use Rattle.undoing.proofs.EachTime.{OfTimes, OfStarts, each-time}
-use Rattle.undoing.proofs.Alone.{chained-told}
-use Rattle.undoing.proofs.EntirelyTold.{begun-truly-ever, begun-entirely}
-use Rattle.undoing.proofs.OnceOver.{begun-once}
-use Rattle.undoing.proofs.NearTold.{left-to-finish}
-use Rattle.undoing.proofs.Calming.{stopped-told}
-use Rattle.undoing.proofs.Coming.{all-go-on}
 
 -- what awaits its step is among those that are ready
 abbrev Its : (t : ℕ) → Ready → Bool
@@ -77,20 +71,3 @@ module _ (p : Plan) (h : Promised p) where
 pub awaited-told : AwaitedTold
 unfolding AwaitedTold
 awaited-told = each-time isAwaited awaited-time awaited-start
-
--- The one statement.
-pub undone-firmly : UndoneFirmly
-unfolding UndoneFirmly loose BegunTrulyEver BegunOnce BegunEntirely LeftToFinish AwaitedTold Chained StoppedTold AllGoOn
-undone-firmly bytes p next e calls slot t =
-    rw (
-      begun-truly-ever bytes p next e calls slot t,
-      begun-once bytes p next e calls slot t,
-      begun-entirely bytes p next e calls slot t,
-      left-to-finish bytes p next e calls slot t,
-      awaited-told bytes p next e calls slot t,
-      chained-told bytes p next e calls slot t,
-    )
-    (decide (isLive o) (λ v. rw (v, stopped-told bytes p next e calls slot t v, all-go-on bytes p next e calls slot t v)) (λ v. rw v))
-  where
-    o : Order
-    o = orderAfter calls slot (loaded bytes) t

@@ -55,7 +55,7 @@ mutual
   waits-in-to (waits-first h w) = omega arith
   waits-in-to (waits-later h w) = let z = waits-in-to w in omega arith
 
-awaited-to : {p : Plan} {ms : List ℕ} {t : ℕ} → Awaited p ms t → t < size (p .body) + size (p .fault)
+pub awaited-to : {p : Plan} {ms : List ℕ} {t : ℕ} → Awaited p ms t → t < size (p .body) + size (p .fault)
 awaited-to (in-body e w) = omega arith
 awaited-to (in-fault e w) = waits-to w
 

@@ -1,6 +1,6 @@
 -- What a history leaves open that is true step by step and by the marks alone: that a step begins a thing once, afresh, and with all that belongs to it;
--- that nothing changes in a slot but by its steps; that what is stopped is stopped throughout; and that all that runs has a step to come. With the
--- statements of UndoneRight these leave no room for a history that flatters. Assumes nothing: these are definitions.
+-- that nothing changes in a slot but by its steps; that what is stopped is stopped throughout; and that all that runs has a step to come. Assumes nothing:
+-- these are definitions.
 use Prim.Native.Nat.{ℕ, _+_, _≤_}
 use mathlib.Core.Path.{_≡_}
 use mathlib.Core.Bool.{Bool, true, false, cond, not, _&&_, _||_}
@@ -44,7 +44,7 @@ OfEveryStep f =
 unfoldable pub BegunTrulyEver : Type 0
 BegunTrulyEver = OfEveryStep isMarked
 
--- ONCE. What lasts begins at most once in a step: "when that ends, the next". (An order that starts has its first step at once, and both are logged together.)
+-- ONCE. What lasts begins at most once in a step: "when that ends, the next".
 
 -- how often an activity begins with these events
 unfoldable pub times : (activity : ℕ) → List Event → ℕ
@@ -52,7 +52,7 @@ times k [] = 0
 times k (e ∷ l) = cond (isBeganOf (eqb k) e) 1 0 + times k l
 
 unfoldable pub isOnce : Plan → Taken → (activity : ℕ) → Bool
-isOnce p x k = not (lasts (kindAt p k)) || leb (times k (x .log)) (cond (isLive (x .before)) 1 2)
+isOnce p x k = not (lasts (kindAt p k)) || leb (times k (x .log)) 1
 
 unfoldable pub BegunOnce : Type 0
 BegunOnce = OfEveryStep isOnce
@@ -243,40 +243,3 @@ unfoldable pub LeftToFinish : Type 0
 LeftToFinish =
     (bytes : List ℕ) (p : Plan) (next : ℕ) → readPlan bytes ≡ found p next → (calls : List Call) (slot : ℕ) (t : Tally) →
     every (λ x. every (isLocal x) (scopesOf p)) (stepsTaken p calls slot (loaded bytes) t) ≡ true
-
--- The statements, by name.
-pub data Firm : Type 0 where
-  trulyEver : Firm
-  once : Firm
-  entirely : Firm
-  leftToFinish : Firm
-  itsStep : Firm
-  ownSteps : Firm
-  stoppedWithin : Firm
-  toCome : Firm
-  afresh : Firm
-
-abbrev pub unlessFirm : Bool → Firm → List Firm
-unlessFirm true n = []
-unlessFirm false n = n ∷ []
-
--- which of them an engine breaks: for these steps with what stood in the slot before and after each, and where this order stands there now
-unfoldable pub loose : Plan → List Taken → Order → List Firm
-loose p ts o =
-    unlessFirm (every (ofAll isMarked p) ts) trulyEver
-    ++ (unlessFirm (every (ofAll isOnce p) ts) once
-    ++ (unlessFirm (every (ofAll isEntire p) ts) entirely
-    ++ (unlessFirm (every (λ x. every (isLocal x) (scopesOf p)) ts) leftToFinish
-    ++ (unlessFirm (every (isAwaited p) ts) itsStep
-    ++ (unlessFirm (chained noOrder ts o) ownSteps
-    ++ cond (isLive o) (unlessFirm (every (isStopped o) (scopesOf p)) stoppedWithin ++ unlessFirm (allGoOn p o) toCome) [])))))
-
--- For every accepted plan, every run of posts, collects and choices from a fresh start, and every slot, its steps break none.
-unfoldable pub UndoneFirmly : Type 0
-UndoneFirmly =
-    (bytes : List ℕ) (p : Plan) (next : ℕ) → readPlan bytes ≡ found p next → (calls : List Call) (slot : ℕ) (t : Tally) →
-    loose p (stepsTaken p calls slot (loaded bytes) t) (orderAfter calls slot (loaded bytes) t) ≡ []
-
--- with BegunAfresh, which is computed and not proved
-unfoldable pub looser : Plan → List Taken → Order → List Firm
-looser p ts o = loose p ts o ++ unlessFirm (every (ofAll isAfresh p) ts) afresh

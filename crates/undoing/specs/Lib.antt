@@ -10,3 +10,5 @@ pub mod Computing
 pub mod Entirely
 pub mod Weighing
 pub mod Answered
+pub mod Standing
+pub mod Onward

@@ -12,7 +12,7 @@ use Rattle.order.specs.declared.Order.{Order}
 use Rattle.order.specs.declared.End.{End}
 use Rattle.machine.specs.declared.Tally.{Tally}
 use Rattle.order.specs.Lists.{every, some, only, each, alike}
-use Rattle.order.specs.State.{idle, Name, root, inner, markOf, isLive}
+use Rattle.order.specs.State.{idle, Name, root, inner, markOf, isLive, noOrder}
 use Rattle.order.specs.Event.{Event, started, began, closed, faulted, stopped, ended, raised, left}
 use Rattle.order.specs.Scope.{isOpen, rootOf}
 use Rattle.order.specs.Judging.{Verdict, clear, clash, conflict}
@@ -23,24 +23,66 @@ use Rattle.undoing.specs.Demand3.{scopesOf, closingsOf, undoneOf, hasTur
 use Rattle.undoing.specs.Ties.{orderAfter, isTurned, remembered, isDeed, deedsTaken, placeNow, heedsAfter, endsIn, endsTaken, fits, isStep, movesOn, goIn}
 use Rattle.undoing.specs.Orderly.{orderlyAfter}
 use Rattle.undoing.specs.Begun.{Taken, isMarked, hasBegun, isLed, ofEach, stepsTaken}
+use Rattle.undoing.specs.Entirely.{ofAll, isOnce, isAfresh, isEntire, isLocal, isAwaited, chained, isStopped, allGoOn}
+use Rattle.undoing.specs.Standing.{stands}
+use Rattle.undoing.specs.Onward.{isKept, isPassed, isDecided}
 
--- The statements, by name. Each is a file's or a part's: see Demand3, Orderly, Ties and Begun.
+-- The statements, by name. Each is a file's or a part's: see Demand3, Orderly, Ties, Begun, Entirely, Onward and Standing.
 pub data Named : Type 0 where
+  -- demand 3 itself: which undo parts start, in which order, and that none is left out
   demand3 : Named
+  -- what begins, closes, raises or is stopped does so where its scope lets it; a fault part after all is undone
   orderly : Named
+  -- "A raise in a body faults the nearest scope around it.", and no scope faults otherwise
   faults : Named
+  -- the starts, closings, raises and leaves are those of the steps taken
   steps : Named
+  -- the ends answered are those of the history
   ends : Named
+  -- what a step logs as begun, and lasts, is marked after it
   begunTruly : Named
+  -- what is marked after a step and did not begin was marked before it
   begunAll : Named
+  -- what begins begins with, or after, what it should
   begunInTurn : Named
+  -- what lasts begins once in a step
+  once : Named
+  -- what begins was idle before the step
+  afresh : Named
+  -- what begins begins with all that belongs to it
+  entirely : Named
+  -- nothing begins in a scope in which the step does not stand, unless it begins or is stopped
+  leftToFinish : Named
+  -- what runs and has not the step in it runs on
+  keptRunning : Named
+  -- a sequence that has the step in it runs on, or has begun all that follows in it
+  passedOn : Named
+  -- a choose begins the part that its expression picks, and a repeat whose expression is true its body
+  decided : Named
+  -- a step is that of an activity or an arm that awaits it
+  itsStep : Named
+  -- nothing changes in a slot but by its steps
+  ownSteps : Named
+  -- a slot is live where its history has an order that is not over
   live : Named
+  -- the mark of a scope is what the history says of it
   marks : Named
+  -- closings since a scope began are those undone, then those remembered
   lists : Named
+  -- what awaits its step stands in a scope that lets it
   places : Named
+  -- a scope that waits, undoes or handles has what it waits for, undoes or handles
   goingOn : Named
+  -- a live order awaits a step
   neverStuck : Named
+  -- no two receives or arms that are open are for one thing
   noneTwice : Named
+  -- no scope is open inside one that has turned
+  stoppedWithin : Named
+  -- whatever is marked has a step to come in it
+  toCome : Named
+  -- the marks stand as the shape of the plan asks
+  standing : Named
 
 abbrev pub sameBool : Bool → Bool → Bool
 sameBool a b = cond a b (not b)
@@ -100,9 +142,18 @@ broken p ds es ts o l =
     ++ (unless (heedsAfter p [] l) faults
     ++ (unless (sameEvents (only isDeed l) ds) steps
     ++ (unless (sameEnds (endsIn [] l) es) ends
-    ++ (unless (every (ofEach isMarked p) ts) begunTruly
+    ++ (unless (every (ofAll isMarked p) ts) begunTruly
     ++ (unless (every (ofEach hasBegun p) ts) begunAll
     ++ (unless (every (ofEach isLed p) ts) begunInTurn
+    ++ (unless (every (ofAll isOnce p) ts) once
+    ++ (unless (every (ofAll isAfresh p) ts) afresh
+    ++ (unless (every (ofAll isEntire p) ts) entirely
+    ++ (unless (every (λ x. every (isLocal x) (scopesOf p)) ts) leftToFinish
+    ++ (unless (every (ofAll isKept p) ts) keptRunning
+    ++ (unless (every (isPassed p) ts) passedOn
+    ++ (unless (every (isDecided p) ts) decided
+    ++ (unless (every (isAwaited p) ts) itsStep
+    ++ (unless (chained noOrder ts o) ownSteps
     ++ (unless (sameBool (isLive o) (not (noneNow past))) live
     ++ cond (isLive o)
     (unless (every (markTold o past) (namesOf p)) marks
@@ -110,8 +161,11 @@ broken p ds es ts o l =
     ++ (unless (every (λ r. fits (placeNow p o (r .activity)) o) (readyOf p o)) places
     ++ (unless (movesOn (rootOf p) (o .root) (o .marks) && (goIn (p .body) 0 (o .marks) && goIn (p .fault) (size (p .body)) (o .marks))) goingOn
     ++ (unless (some (λ r. isStep (r .step)) (readyOf p o)) neverStuck
-    ++ unless (isClear (conflict p o)) noneTwice)))))
-    []))))))))
+    ++ (unless (isClear (conflict p o)) noneTwice
+    ++ (unless (every (isStopped o) (scopesOf p)) stoppedWithin
+    ++ (unless (allGoOn p o) toCome
+    ++ unless (stands p o) standing))))))))
+    [])))))))))))))))))
 
 -- For every accepted plan, every run of posts, collects and choices from a fresh start, and every slot, the history of the slot breaks none.
 unfoldable pub UndoneRight : Type 0

@@ -71,6 +71,55 @@ fn put_send(
     put(out, at, b": it will fault\n")
 }
 
+// Whether a scope with this mark has faulted: it waits for its inner scopes, undoes, or runs its fault part.
+fn has_faulted(mark: u8) -> bool {
+    if 3 < mark {
+        return mark < 7;
+    }
+    false
+}
+
+// A row by its number, and what its rival is.
+fn put_contested(out: &mut [u8; 4096], used: usize, k: usize, rival: usize) -> usize {
+    let mut at = put(out, used, b" faulted; activities");
+    at = put_next(out, at, rival as u64);
+    at = put(out, at, b" and");
+    at = put_next(out, at, k as u64);
+    put(
+        out,
+        at,
+        b" are for the same thing, and where both were open that alone faults it\n",
+    )
+}
+
+fn put_scope(out: &mut [u8; 4096], used: usize, n: usize) -> usize {
+    if n < 256 {
+        let at = put(out, used, b"  scope");
+        return put_next(out, at, n as u64);
+    }
+    put(out, used, b"  the root")
+}
+
+// Scope n, or the root where that is 256, which has this mark: where it has faulted, which receives for one thing it may have faulted by. The state does not
+// keep what a scope faulted by.
+pub(crate) fn put_faulted(
+    out: &mut [u8; 4096],
+    used: usize,
+    table: &[u32; 11584],
+    n: usize,
+    mark: u8,
+) -> usize {
+    if !has_faulted(mark) {
+        return used;
+    }
+    let k = checking::contested_in(table, n);
+    if 255 < k {
+        return used;
+    }
+    let at = put_scope(out, used, n);
+    put_contested(out, at, k, checking::rival_of(table, k))
+}
+
 fn put_close(out: &mut [u8; 4096], used: usize, n: usize, kept: usize) -> usize {
     let mut at = put(out, used, b"  is to close scope");
     at = put_next(out, at, n as u64);
@@ -143,6 +192,9 @@ fn put_row(
     }
     if fit::search::arm_open(table, picks, &marks, n) {
         return put_open(out, used, names, table, flags, n, state, order);
+    }
+    if entry(table, n, 0) == 11 {
+        return put_faulted(out, used, table, n, mark);
     }
     used
 }

@@ -1,0 +1,29 @@
+-- `checking::rivals::are_ever_left` is safe and ends. Assumes nothing.
+use borrow.Author.Needs.{needs}
+use Prim.Native.Nat.{_-_}
+use Rattle.checking.proofs.rivals.are_ever_left.Statement.{statement}
+use Rattle.checking.proofs.rivals.are_ever_left.Tie as tie
+
+abbrev Inv-loop : tie.InvT-loop
+Inv-loop table j k i₀ i = Unit {0}
+
+abbrev μ-loop : tie.MeasureT-loop
+μ-loop table j k i₀ i = 256 - i
+
+pub are-ever-left-spec : {M : Type 1} → statement M
+are-ever-left-spec =
+    tie.close (tie.spec Inv-loop μ-loop
+    -- loop-holds
+    (λ c. tt)
+    -- leaves-both-requires
+    (λ c κs. search needs)
+    -- returns
+    (λ c. search needs)
+    -- add-i
+    (λ c. search needs)
+    -- loop-less
+    (λ c. search needs)
+    -- loop-again
+    (λ c. tt)
+    -- returns-2
+    (λ c. search needs))

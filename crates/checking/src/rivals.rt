@@ -1,0 +1,248 @@
+// Receives and arms that may be open together for one thing: the step that leaves them so raises a fault in place of the higher-numbered.
+use super::sending::is_receive;
+use super::ways::around;
+use super::ways::is_within;
+use super::ways::part_in;
+use drawing::after;
+use drawing::end_of;
+use drawing::entry;
+use drawing::parent_of;
+use drawing::scope_of;
+
+// Whether rows j and k name the same partner, operation and variables, the variables in the same order.
+pub fn is_same_thing(table: &[u32; 11584], j: usize, k: usize) -> bool {
+    let mut i: usize = 1;
+    while i < 8 {
+        if entry(table, j, i) != entry(table, k, i) {
+            return false;
+        }
+        i += 1;
+    }
+    true
+}
+
+// Whether row n stands in the undo part of a scope in flow a, which runs for a scope around the flow: by then what stands in the flow has stopped.
+fn is_undone_late(table: &[u32; 11584], a: usize, n: usize) -> bool {
+    let s = scope_of(table, n);
+    if s == n {
+        return false;
+    }
+    if !is_within(table, a, s) {
+        return false;
+    }
+    if part_in(table, s, n) != 2 {
+        return false;
+    }
+    let outer = scope_of(table, s);
+    if outer == s {
+        return true;
+    }
+    !is_within(table, a, outer)
+}
+
+fn is_arm_of(table: &[u32; 11584], a: usize, n: usize) -> bool {
+    if entry(table, n, 0) == 12 {
+        return parent_of(table, n) == a;
+    }
+    false
+}
+
+// Whether one branch of flow a may wait at j while another waits at k.
+fn wait_both(table: &[u32; 11584], a: usize, j: usize, k: usize) -> bool {
+    if is_undone_late(table, a, j) {
+        return false;
+    }
+    !is_undone_late(table, a, k)
+}
+
+fn are_arms(table: &[u32; 11584], a: usize, j: usize, k: usize) -> bool {
+    if is_arm_of(table, a, j) {
+        return is_arm_of(table, a, k);
+    }
+    false
+}
+
+// Whether j and k, around which a is the innermost, may be open at one time: in branches of a flow, or as arms of one pick. Of a sequence, a choose, the parts
+// of a scope and the activities of two arms only one runs at a time.
+fn are_beside(table: &[u32; 11584], a: usize, j: usize, k: usize) -> bool {
+    match entry(table, a, 0) {
+        9 => wait_both(table, a, j, k),
+        10 => are_arms(table, a, j, k),
+        _ => false,
+    }
+}
+
+// Whether what stands at n begins as soon as activity m around it does.
+fn begins(table: &[u32; 11584], m: usize, n: usize) -> bool {
+    match entry(table, m, 0) {
+        8 | 11 => n < end_of(table, after(m)),
+        9 | 10 => true,
+        _ => false,
+    }
+}
+
+fn delays(table: &[u32; 11584], m: usize, n: usize) -> bool {
+    if n < end_of(table, m) {
+        return !begins(table, m, n);
+    }
+    false
+}
+
+// Whether nothing before n has to be over before it begins.
+fn is_undelayed(table: &[u32; 11584], n: usize) -> bool {
+    let mut m = 0;
+    while m < n {
+        if delays(table, m, n) {
+            return false;
+        }
+        m += 1;
+    }
+    true
+}
+
+// Whether row n is a receive or an arm that is open as an order starts, and may start it.
+fn is_starting(table: &[u32; 11584], n: usize) -> bool {
+    if is_receive(entry(table, n, 0)) {
+        if n < end_of(table, 0) {
+            return is_undelayed(table, n);
+        }
+    }
+    false
+}
+
+fn is_flow_around(table: &[u32; 11584], i: usize, j: usize) -> bool {
+    entry(table, around(table, i, j), 0) == 9
+}
+
+// Whether an order that is started at row i is left with both j and k.
+fn leaves_both(table: &[u32; 11584], i: usize, j: usize, k: usize) -> bool {
+    if is_starting(table, i) {
+        if is_flow_around(table, i, j) {
+            return is_flow_around(table, i, k);
+        }
+    }
+    false
+}
+
+fn are_ever_left(table: &[u32; 11584], j: usize, k: usize) -> bool {
+    let mut i = 0;
+    while i < 256 {
+        if leaves_both(table, i, j, k) {
+            return true;
+        }
+        i += 1;
+    }
+    false
+}
+
+fn are_starting(table: &[u32; 11584], j: usize, k: usize) -> bool {
+    if is_starting(table, j) {
+        return is_starting(table, k);
+    }
+    false
+}
+
+// Of two that are open as an order starts one takes the message that starts it, unless a third does: only what is open after a step is judged.
+fn are_open_later(table: &[u32; 11584], j: usize, k: usize) -> bool {
+    if are_starting(table, j, k) {
+        return are_ever_left(table, j, k);
+    }
+    true
+}
+
+fn may_meet(table: &[u32; 11584], j: usize, k: usize) -> bool {
+    if are_beside(table, around(table, j, k), j, k) {
+        return are_open_later(table, j, k);
+    }
+    false
+}
+
+// Whether row j is a receive or an arm that may be open together with k, another one, for the same thing.
+fn is_rival(table: &[u32; 11584], j: usize, k: usize) -> bool {
+    if is_receive(entry(table, j, 0)) {
+        if is_same_thing(table, j, k) {
+            return may_meet(table, j, k);
+        }
+    }
+    false
+}
+
+fn first_rival(table: &[u32; 11584], k: usize) -> usize {
+    let mut j = 0;
+    while j < k {
+        if is_rival(table, j, k) {
+            return j;
+        }
+        j += 1;
+    }
+    k
+}
+
+// The lowest-numbered receive or arm before k that may be open together with it for the same thing; k itself where there is none.
+pub fn rival_of(table: &[u32; 11584], k: usize) -> usize {
+    if is_receive(entry(table, k, 0)) {
+        return first_rival(table, k);
+    }
+    k
+}
+
+// Whether there is one.
+pub(crate) fn is_contested(table: &[u32; 11584], k: usize) -> bool {
+    rival_of(table, k) < k
+}
+
+// The nearest scope around scope s; 256 where that is the root.
+fn scope_around(table: &[u32; 11584], s: usize) -> usize {
+    let outer = scope_of(table, s);
+    if outer == s {
+        return 256;
+    }
+    outer
+}
+
+// A raise in the body of scope s faults it, one in its fault part the scope around it, and one in its undo part the scope around the one that undoes.
+fn faulted_from(table: &[u32; 11584], s: usize, n: usize) -> usize {
+    match part_in(table, s, n) {
+        0 => s,
+        1 => scope_around(table, s),
+        _ => faulted_around(table, scope_around(table, s)),
+    }
+}
+
+fn faulted_around(table: &[u32; 11584], s: usize) -> usize {
+    if s < 256 {
+        return scope_around(table, s);
+    }
+    257
+}
+
+// The scope that a raise in place of row n would fault: 256 is the root, and 257 that no scope is left, so that the order fails.
+fn faulted_by(table: &[u32; 11584], n: usize) -> usize {
+    let s = scope_of(table, n);
+    if s == n {
+        if n < end_of(table, 0) {
+            return 256;
+        }
+        return 257;
+    }
+    faulted_from(table, s, n)
+}
+
+fn faults(table: &[u32; 11584], s: usize, k: usize) -> bool {
+    if is_contested(table, k) {
+        return faulted_by(table, k) == s;
+    }
+    false
+}
+
+// The first receive or arm whose rival may make it fault scope s, or the root where that is 256; 256 where there is none.
+pub fn contested_in(table: &[u32; 11584], s: usize) -> usize {
+    let mut k = 0;
+    while k < 256 {
+        if faults(table, s, k) {
+            return k;
+        }
+        k += 1;
+    }
+    256
+}

@@ -1,0 +1,59 @@
+-- `lettering::put_expression`, which calls itself, is safe and ends. The measure is the levels that are left. Assumes nothing.
+use borrow.Author.Needs.{needs}
+use native.Mathlib.Omega.{arith}
+use Prim.Native.Nat.{ℕ, _<_}
+use borrow.Fn.Kinds.{In}
+use borrow.Fn.PlainCycle.{Measures, is, falls, and}
+use Rattle.lettering.proofs.put_expression.Reads as put-expression
+use Rattle.lettering.proofs.put_expression.Kinds as put-expression-kinds
+use Rattle.lettering.proofs.+put_expression.Lts-put_expression as put-expression-lts
+use Rattle.lettering.proofs.table.after.Reads as after-reads
+use Rattle.lettering.proofs.table.code_of.Reads as code-of-reads
+use Rattle.lettering.proofs.put_if.Reads as put-if-reads
+use Rattle.lettering.proofs.put_leaf.Reads as put-leaf-reads
+use Rattle.lettering.proofs.put_operator.Reads as put-operator-reads
+use Rattle.lettering.proofs.table.value_of.Reads as value-of-reads
+use Rattle.lettering.proofs.+put_expression.{statement}
+use Rattle.lettering.proofs.+put_expression.Tie.{close}
+
+abbrev μ-put-expression : Measures 2 put-expression-kinds.ps ℕ
+μ-put-expression κs a = a .1 .1 .1 .1 .0
+
+abbrev put-expression-at : ℕ → In 2 put-expression-kinds.ps
+put-expression-at t =
+    and
+    2
+    put-expression-kinds.ps
+    (is 2 put-expression-kinds.ps μ-put-expression t)
+    put-expression.Pre
+
+abbrev put-expression-below : ℕ → In 2 put-expression-kinds.ps
+put-expression-below t =
+    and
+    2
+    put-expression-kinds.ps
+    (falls 2 put-expression-kinds.ps _<_ μ-put-expression t)
+    put-expression.Pre
+
+pub +put-expression-spec : {M : Type 1} → statement M
++put-expression-spec =
+    close μ-put-expression λ t. put-expression-lts.spec
+    (code-of-reads.Asked, code-of-reads.Learnt, put-leaf-reads.Asked, put-leaf-reads.Learnt, put-if-reads.Asked, put-if-reads.Learnt, after-reads.Asked, after-reads.Learnt, put-expression-below t, put-expression.Post, put-operator-reads.Asked, put-operator-reads.Learnt, value-of-reads.Asked, value-of-reads.Learnt)
+    (put-expression-at t)
+    put-expression.Post
+    (λ c κs. search needs)
+    (λ c κs. search needs)
+    (λ c. tt)
+    (λ c κs. search needs)
+    (λ c. tt)
+    (λ c κs. search needs)
+    (λ c κs. search needs)
+    (λ c. search needs)
+    (λ c κs. (omega arith, tt))
+    (λ c κs. search needs)
+    (λ c κs. search needs)
+    (λ c. search needs)
+    (λ c. search needs)
+    (λ c κs. (omega arith, tt))
+    (λ c κs. search needs)
+    (λ c. tt)

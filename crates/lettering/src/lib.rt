@@ -1,0 +1,309 @@
+// A plan as text, in a lent buffer: what the desk's `draw` prints of a plan without names. Each function that puts something writes at the place `used` of
+// `out`, and answers the place after.
+mod output;
+mod table;
+
+use output::put;
+use output::put_byte;
+use output::put_number;
+use table::Place;
+use table::after;
+use table::code_of;
+use table::entry;
+use table::narrow;
+use table::order_of;
+use table::place_of;
+use table::value_of;
+
+// Whether an activity of this kind is a scope: with an undo part, or without.
+fn is_scope(kind: u32) -> bool {
+    if kind == 11 {
+        return true;
+    }
+    kind == 12
+}
+
+// What part of a scope or of a choose an activity is, by its order there.
+fn put_part(out: &mut [u8; 65536], used: usize, kind: u32, order: usize) -> usize {
+    if is_scope(kind) {
+        if order == 0 {
+            return put(out, used, b"body: ");
+        }
+        if order == 1 {
+            return put(out, used, b"fault part: ");
+        }
+        return put(out, used, b"undo part: ");
+    }
+    if kind == 6 {
+        if order == 0 {
+            return put(out, used, b"then: ");
+        }
+        return put(out, used, b"else: ");
+    }
+    used
+}
+
+fn put_role(out: &mut [u8; 65536], used: usize, table: &[u32; 11584], p: Place, n: usize) -> usize {
+    let parent = p.parent;
+    if parent < n {
+        let kind = entry(table, parent, 0);
+        let order = order_of(table, parent, n);
+        return put_part(out, used, kind, order);
+    }
+    if n == 0 {
+        return put(out, used, b"root body: ");
+    }
+    put(out, used, b"root fault part: ")
+}
+
+fn put_variable(out: &mut [u8; 65536], used: usize, number: u32) -> usize {
+    let at = put_byte(out, used, 118);
+    put_number(out, at, number)
+}
+
+fn is_correlation(correlation: &[u8; 16], number: u32) -> bool {
+    let i = number as usize;
+    if i < 16 {
+        return correlation[i] == 1;
+    }
+    false
+}
+
+// A variable, marked where it is for correlation.
+fn put_member(out: &mut [u8; 65536], used: usize, correlation: &[u8; 16], number: u32) -> usize {
+    let at = put_variable(out, used, number);
+    if is_correlation(correlation, number) {
+        return put(out, at, b" (correlation)");
+    }
+    at
+}
+
+// Variable i of the tuple of row n, after the one before it.
+fn put_another(
+    out: &mut [u8; 65536],
+    used: usize,
+    table: &[u32; 11584],
+    correlation: &[u8; 16],
+    n: usize,
+    i: usize,
+) -> usize {
+    if i < 4 {
+        if i < entry(table, n, 3) as usize {
+            let at = put(out, used, b", ");
+            return put_member(out, at, correlation, entry(table, n, 4 + i));
+        }
+    }
+    used
+}
+
+// Partner, operation and variables of row n, after the words that say what is done.
+fn put_exchange(
+    out: &mut [u8; 65536],
+    used: usize,
+    words: &[u8],
+    table: &[u32; 11584],
+    correlation: &[u8; 16],
+    n: usize,
+) -> usize {
+    let said = put(out, used, words);
+    let partner = put_number(out, said, entry(table, n, 1));
+    let between = put(out, partner, b", operation ");
+    let operation = put_number(out, between, entry(table, n, 2));
+    let colon = put(out, operation, b": ");
+    let first = put_member(out, colon, correlation, entry(table, n, 4));
+    let second = put_another(out, first, table, correlation, n, 1);
+    let third = put_another(out, second, table, correlation, n, 2);
+    put_another(out, third, table, correlation, n, 3)
+}
+
+fn put_operator(out: &mut [u8; 65536], used: usize, code: u32) -> usize {
+    match code {
+        2 => put(out, used, b" + "),
+        3 => put(out, used, b" - "),
+        4 => put(out, used, b" = "),
+        _ => put(out, used, b" < "),
+    }
+}
+
+// A constant or a variable. (No node of an accepted plan is anything else where no level is left.)
+fn put_leaf(out: &mut [u8; 65536], used: usize, table: &[u32; 11584], m: usize) -> usize {
+    let value = value_of(table, m);
+    if code_of(table, m) == 0 {
+        return put_number(out, used, value);
+    }
+    put_variable(out, used, value)
+}
+
+// A byte, where it is wanted.
+fn put_if(out: &mut [u8; 65536], used: usize, wanted: bool, b: u8) -> usize {
+    if wanted {
+        return put_byte(out, used, b);
+    }
+    used
+}
+
+// The expression whose first node is m, where `depth` levels are left below it; an operation that is an operand stands in parentheses.
+fn put_expression(
+    out: &mut [u8; 65536],
+    used: usize,
+    table: &[u32; 11584],
+    m: usize,
+    depth: usize,
+    operand: bool,
+) -> usize {
+    let code = code_of(table, m);
+    if code < 2 {
+        return put_leaf(out, used, table, m);
+    }
+    if depth == 0 {
+        return put_leaf(out, used, table, m);
+    }
+    let opened = put_if(out, used, operand, 40);
+    let left = put_expression(out, opened, table, after(m), depth - 1, true);
+    let between = put_operator(out, left, code);
+    let right = put_expression(
+        out,
+        between,
+        table,
+        value_of(table, m) as usize,
+        depth - 1,
+        true,
+    );
+    put_if(out, right, operand, 41)
+}
+
+// Words, and then the expression of row n.
+fn put_with_expression(
+    out: &mut [u8; 65536],
+    used: usize,
+    words: &[u8],
+    table: &[u32; 11584],
+    n: usize,
+) -> usize {
+    let at = put(out, used, words);
+    put_expression(out, at, table, entry(table, n, 9) as usize, 8, false)
+}
+
+fn put_set(out: &mut [u8; 65536], used: usize, table: &[u32; 11584], n: usize) -> usize {
+    let said = put(out, used, b"set ");
+    let named = put_variable(out, said, entry(table, n, 8));
+    put_with_expression(out, named, b" to ", table, n)
+}
+
+// Activity or arm n in words.
+fn put_activity(
+    out: &mut [u8; 65536],
+    used: usize,
+    table: &[u32; 11584],
+    correlation: &[u8; 16],
+    n: usize,
+) -> usize {
+    let kind = entry(table, n, 0);
+    match kind {
+        0 => put(out, used, b"empty"),
+        1 => put_exchange(out, used, b"send to partner ", table, correlation, n),
+        2 => put_exchange(out, used, b"receive from partner ", table, correlation, n),
+        3 => put_set(out, used, table, n),
+        4 => put(out, used, b"raise"),
+        5 => put(out, used, b"leave"),
+        6 => put_with_expression(out, used, b"choose by ", table, n),
+        7 => put_with_expression(out, used, b"repeat while ", table, n),
+        8 => put(out, used, b"sequence"),
+        9 => put(out, used, b"flow"),
+        10 => put(out, used, b"pick"),
+        11 | 12 => put(out, used, b"scope"),
+        _ => put_exchange(
+            out,
+            used,
+            b"arm: receive from partner ",
+            table,
+            correlation,
+            n,
+        ),
+    }
+}
+
+fn put_indent(out: &mut [u8; 65536], used: usize, depth: usize) -> usize {
+    let mut at = used;
+    let mut i = 0;
+    while i < depth {
+        at = put_byte(out, at, 32);
+        at = put_byte(out, at, 32);
+        i += 1;
+    }
+    at
+}
+
+// A number below 1,000, with blanks in front up to three places.
+fn put_aligned(out: &mut [u8; 65536], used: usize, number: u32) -> usize {
+    let hundreds = put_if(out, used, number < 100, 32);
+    let tens = put_if(out, hundreds, number < 10, 32);
+    put_number(out, tens, number)
+}
+
+// Activity n: its number, where it stands, what part it is, and what it is.
+fn put_line(
+    out: &mut [u8; 65536],
+    used: usize,
+    table: &[u32; 11584],
+    correlation: &[u8; 16],
+    n: usize,
+) -> usize {
+    let p = place_of(table, n);
+    let numbered = put_aligned(out, used, narrow(n));
+    let apart = put(out, numbered, b"  ");
+    let indented = put_indent(out, apart, p.depth);
+    let role = put_role(out, indented, table, p, n);
+    let said = put_activity(out, role, table, correlation, n);
+    put_byte(out, said, 10)
+}
+
+// The line that declares a variable.
+fn put_declared(out: &mut [u8; 65536], used: usize, correlation: &[u8; 16], number: u32) -> usize {
+    let said = put(out, used, b"variable ");
+    let named = put_member(out, said, correlation, number);
+    put_byte(out, named, 10)
+}
+
+fn put_variables(
+    out: &mut [u8; 65536],
+    used: usize,
+    correlation: &[u8; 16],
+    variables: u32,
+) -> usize {
+    let mut at = used;
+    let mut k = 0;
+    while k < variables {
+        at = put_declared(out, at, correlation, k);
+        k += 1;
+    }
+    at
+}
+
+fn put_lines(
+    out: &mut [u8; 65536],
+    used: usize,
+    table: &[u32; 11584],
+    correlation: &[u8; 16],
+    activities: usize,
+) -> usize {
+    let mut at = used;
+    let mut n = 0;
+    while n < activities {
+        at = put_line(out, at, table, correlation, n);
+        n += 1;
+    }
+    at
+}
+
+// The plan with this table and these flags, from the front of `out` on: how long its text is.
+pub fn put_plan(
+    out: &mut [u8; 65536],
+    table: &[u32; 11584],
+    correlation: &[u8; 16],
+    variables: u32,
+    activities: usize,
+) -> usize {
+    let at = put_variables(out, 0, correlation, variables);
+    put_lines(out, at, table, correlation, activities)
+}

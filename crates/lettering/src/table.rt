@@ -1,0 +1,97 @@
+// What the table of an accepted plan says of its activities and arms. (The rows and the nodes are those of the crate plan, specs/Table.antt.)
+ghost use Prim.Native.Nat.{_<_};
+
+// Where an activity stands: how many activities and arms stand around it, and the nearest of these, or itself where there is none.
+pub struct Place {
+    pub depth: usize,
+    pub parent: usize,
+}
+
+// Number `field` of row n.
+pub(crate) fn entry(table: &[u32; 11584], n: usize, field: usize) -> u32 {
+    if n < 256 {
+        if field < 13 {
+            return table[n * 13 + field];
+        }
+    }
+    0
+}
+
+// The code of expression node m.
+pub(crate) fn code_of(table: &[u32; 11584], m: usize) -> u32 {
+    if m < 4096 {
+        return table[3392 + m * 2];
+    }
+    0
+}
+
+// The value of expression node m: a constant, the number of a variable, or the number of the right operand's first node.
+pub(crate) fn value_of(table: &[u32; 11584], m: usize) -> u32 {
+    if m < 4096 {
+        return table[3393 + m * 2];
+    }
+    0
+}
+
+// The number after m, of an activity, a level or a node.
+pub(crate) fn after(m: usize) -> usize {
+    if m < 4096 {
+        return m + 1;
+    }
+    m
+}
+
+// The number of an activity or arm, of which there are at most 256.
+pub(crate) fn narrow(n: usize) -> u32 {
+    if n < 256 {
+        return n as u32;
+    }
+    256
+}
+
+// The place of activity n, after activity m was looked at.
+fn seen_at(table: &[u32; 11584], p: Place, m: usize, n: usize) -> Place {
+    if n < entry(table, m, 11) as usize {
+        return Place {
+            depth: after(p.depth),
+            parent: m,
+        };
+    }
+    p
+}
+
+pub(crate) fn place_of(table: &[u32; 11584], n: usize) -> Place {
+    let mut p = Place {
+        depth: 0,
+        parent: n,
+    };
+    let mut m = 0;
+    while m < n {
+        p = seen_at(table, p, m, n);
+        m += 1;
+    }
+    p
+}
+
+// The number after the last activity within activity m, or the next one where that says less.
+fn beyond(table: &[u32; 11584], m: usize) -> usize
+    requires { ⌜ m < 18446744073709551615 ⌝ }
+    ensures { λ r. ⌜ m < r ⌝ }
+{
+    let end = entry(table, m, 11) as usize;
+    if m < end {
+        return end;
+    }
+    m + 1
+}
+
+// Of those directly within activity `parent`, how many stand before activity n.
+pub(crate) fn order_of(table: &[u32; 11584], parent: usize, n: usize) -> usize {
+    let mut order = 0;
+    let mut m = after(parent);
+    while m < n {
+        m = beyond(table, m);
+        order = after(order);
+    }
+    order
+}

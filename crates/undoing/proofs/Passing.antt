@@ -1,0 +1,676 @@
+-- A sequence that has the step in it runs on, or all that follows in it begins: of a step that is neither a raise nor a leave. Assumes nothing.
+use Prim.Native.Nat.{ℕ, _+_, _≤_, _<_}
+use native.Mathlib.Omega.{arith}
+use mathlib.Core.Path.{_≡_, refl, sym, ap, subst, _∙_}
+use mathlib.Core.Bool.{Bool, true, false, cond, not, _&&_, _||_, false≢true, or-true}
+use mathlib.Core.List.{List, [], _∷_, _++_}
+use lib.ListN.{length, getD}
+use lib.Dec.{eqb, ltb}
+use borrow.Author.Tests.{eqb-true, eqb-false, lt-ltb, le-ltb, ltb-true, ltb-false}
+use Rattle.plan.specs.Tree.{Own, empty, send, receive, set as setting, raise, leave, choose, repeat, sequence, flow, pick, scope, arm, kind, Act, act, Acts, none, more, Plan, size, sizes, count}
+use Rattle.order.specs.declared.Order.{Order}
+use Rattle.order.specs.Lists.{some}
+use Rattle.order.specs.State.{Name, root, inner, idle, active, inside, markAt, markOf}
+use Rattle.order.specs.Event.{Event}
+use Rattle.order.specs.Begin.{Begun, inTurn, begin, beginInTurn, beginAfter, part, partAt}
+use Rattle.order.specs.declared.Way.{Way as Result}
+use Rattle.order.specs.declared.Way.the-variants.{Running as running, Over as over, Raising as raising, Leaving as leaving, Undone as undone, UndoRaising as undoRaising}
+use Rattle.order.specs.Scope.{Outcome, runs, begunIn, whereOver, Scope, scopeAt, isScope, fromBody, fromFault, fromUndo}
+use Rattle.order.specs.Acting.{finishes, goesOn, combines, stepIn, stepAmong, isPart, Actor, performs}
+use Rattle.undoing.specs.Ties.{Place, bodyOf, faultOf, undoOf, nameOf, aroundOf}
+use Rattle.undoing.specs.Orderly.{isBeganOf}
+use Rattle.undoing.specs.Begun.{lasts, hasBegan}
+use Rattle.undoing.specs.Entirely.{times}
+use Rattle.undoing.specs.Onward.{isRash, eachBegan, laterBegan}
+use Rattle.undoing.proofs.Parts.{both, decide, some-append}
+use Rattle.undoing.proofs.Accounts.{Phase, live, heals, phase}
+use Rattle.undoing.proofs.Places.{first-of, second-of}
+use Rattle.undoing.proofs.Marks.{trio, Quiet, isDoer, Run, run-awaits, run-one, run-all, run-body, run-done, run-turned, One, one-here, one-later, All, all-none, all-run, all-quiet, Turned, turned-waits, turned-undoes, turned-heals, Stopped, stopped-part, stopped-quiet, stopped-scope, StoppedIn, stopped-more, Undoing, undoing-part, undoing-scope, UndoingIn, undoing-here, undoing-later, quiet-part, quiet-join, turned-not-rest}
+use Rattle.undoing.proofs.Orders.{Fit, Sits, sits-part, sits-scope, SitsIn, sits-more, Remedy, remedy}
+use Rattle.undoing.proofs.Seats.{Seat}
+use Rattle.undoing.proofs.Stopping.{seat-of}
+use Rattle.undoing.proofs.Waiting.{opens, Waits, waits-itself, waits-within, WaitsIn, waits-first, waits-later, waits-from, opens-idle, quiet-waits, quiet-waits-in, stopped-waits, undoing-waits}
+use Rattle.undoing.proofs.Breaking.{Distinct}
+use Rattle.undoing.proofs.Scoping.{Acted, RunAs, StopAs, UndoAs}
+use Rattle.undoing.proofs.Combining.{arms-held, arms-none}
+use Rattle.undoing.proofs.Stepping.{steps, steps-one, steps-all, steps-stopped, steps-stopped-in, steps-undoing, steps-undoing-in, steps-part, opens-held, stopped-part-not, undoing-part-not, body-step, fault-step, undo-step, Whole, Its}
+use Rattle.undoing.proofs.Truly.{Up, Arms, Knows, knows, KnowsIn, knows-none, knows-more}
+use Rattle.undoing.proofs.Lasting.{Within, scope-within}
+use Rattle.undoing.proofs.Keeping.{begins-said}
+use Rattle.undoing.proofs.Keeping as keeping
+use Rattle.undoing.proofs.Entire.{Named}
+use Rattle.undoing.proofs.Entering.{step-at}
+use Rattle.undoing.proofs.Dropping.{isBad, step-drops, among-drops}
+use Rattle.undoing.proofs.Afresh.{began-times, Fresh, New, new-idle, new-again, fault-fresh, fresh-append}
+use Rattle.undoing.proofs.AfreshSteps.{isOver, isUndone, its-own, its-within, its-first, its-later, after-fresh, combines-fresh, live-fresh, waits-fresh, undoes-fresh, arms-of}
+use Rattle.undoing.proofs.Growing.{body-has, fault-has, combines-has, calmer, not-bad, body-grows, fault-grows, combines-grows}
+
+-- More events: what had begun has.
+each-more : (l : Acts) (c : ℕ) (m n : List Event) → ((i : ℕ) → hasBegan i m ≡ true → hasBegan i n ≡ true) → eachBegan l c m ≡ true → eachBegan l c n ≡ true
+unfolding eachBegan
+each-more none c m n f e = refl
+each-more (more a l) c m n f e = both (hasBegan c m) (eachBegan l (c + size a) m) e (λ x y. rw (f c x, each-more l (c + size a) m n f y))
+
+pub later-more : (l : Acts) (c t : ℕ) (m n : List Event) → ((i : ℕ) → hasBegan i m ≡ true → hasBegan i n ≡ true) → laterBegan l c t m ≡ true → laterBegan l c t n ≡ true
+unfolding laterBegan
+later-more none c t m n f e = refl
+later-more (more a l) c t m n f e =
+    decide (ltb t (c + size a))
+    (λ d. rw (laterBegan, d) (each-more l (c + size a) m n f (rw (laterBegan, d) at e)))
+    (λ d. rw (laterBegan, d) (later-more l (c + size a) t m n f (rw (laterBegan, d) at e)))
+
+began-before : (i : ℕ) (l m : List Event) → hasBegan i l ≡ true → hasBegan i (l ++ m) ≡ true
+began-before i l m e = some-append (isBeganOf (eqb i)) l m ∙ rw e
+
+began-behind : (i : ℕ) (l m : List Event) → hasBegan i m ≡ true → hasBegan i (l ++ m) ≡ true
+began-behind i l m e = some-append (isBeganOf (eqb i)) l m ∙ rw (e, or-true)
+
+-- none of it began
+pub times-none : (k : ℕ) (l : List Event) → times k l ≡ 0 → hasBegan k l ≡ false
+times-none k l e = decide (hasBegan k l) (λ d. absurd (let z = began-times k l d in omega arith)) (λ d. d)
+
+module _ (f : ℕ → ℕ) where
+  -- what begins in turn, and is over at once, has all begun
+  turn-each : {l : Acts} {c : ℕ} → KnowsIn f l c → Arms false l → (ns : List ℕ) → beginInTurn l c ns .over ≡ true → eachBegan l c (beginInTurn l c ns .log) ≡ true
+  unfolding begin eachBegan
+  turn-each knows-none r ns e = refl
+  turn-each (knows-more {a = act own w} {l} {c} x y) r ns e =
+      go (begin (act own w) c ns) (begins-said (act own w) l c ns r) (begin (act own w) c ns .over) refl e (turn-each y (r .1) (begin (act own w) c ns .marks))
+    where
+      go : (b : Begun) → hasBegan c (b .log) ≡ true → (v : Bool) → b .over ≡ v → inTurn (beginInTurn l (c + size (act own w))) (record { marks = b .marks; over = v; log = b .log }) .over ≡ true
+          → (beginInTurn l (c + size (act own w)) (b .marks) .over ≡ true → eachBegan l (c + size (act own w)) (beginInTurn l (c + size (act own w)) (b .marks) .log) ≡ true)
+          → eachBegan (more (act own w) l) c (inTurn (beginInTurn l (c + size (act own w))) (record { marks = b .marks; over = v; log = b .log }) .log) ≡ true
+      go b s true d e g =
+          let m = beginInTurn l (c + size (act own w)) (b .marks) .log in
+          rw (began-before c (b .log) m s, each-more l (c + size (act own w)) m (b .log ++ m) (λ i z. began-behind i (b .log) m z) (g e))
+      go b s false d e g = absurd (false≢true e)
+
+  after-each : {l : Acts} {c : ℕ} → KnowsIn f l c → Arms false l → (t : ℕ) (ns : List ℕ) → beginAfter l c t ns .over ≡ true → laterBegan l c t (beginAfter l c t ns .log) ≡ true
+  unfolding beginAfter laterBegan
+  after-each knows-none r t ns e = refl
+  after-each (knows-more {a = act own w} {l} {c} x y) r t ns e =
+      decide (ltb t (c + size (act own w)))
+      (λ d. let q = first-of (ltb t (c + size (act own w))) (beginInTurn l (c + size (act own w)) ns) (beginAfter l (c + size (act own w)) t ns) (beginAfter (more (act own w) l) c t ns) refl d in
+      subst (λ (b : Begun). laterBegan (more (act own w) l) c t (b .log) ≡ true) (sym q) (rw (laterBegan, d) (turn-each y (r .1) ns (subst (λ (b : Begun). b .over ≡ true) q e))))
+      (λ d. let q = second-of (ltb t (c + size (act own w))) (beginInTurn l (c + size (act own w)) ns) (beginAfter l (c + size (act own w)) t ns) (beginAfter (more (act own w) l) c t ns) refl d in
+      subst (λ (b : Begun). laterBegan (more (act own w) l) c t (b .log) ≡ true) (sym q) (rw (laterBegan, d) (after-each y (r .1) t ns (subst (λ (b : Begun). b .over ≡ true) q e))))
+
+  -- a sequence that is over with a step in it
+  seq-over : {within : Acts} (k t : ℕ) (r : Outcome) → KnowsIn f within (k + 1) → Arms false within → isOver (combines sequence within k t r .result) ≡ true
+      → laterBegan within (k + 1) t (combines sequence within k t r .log) ≡ true
+  unfolding combines goesOn
+  seq-over {within} k t r y a = go (r .result)
+    where
+      b : Begun
+      b = beginAfter within (k + 1) t (r .order .marks)
+
+      next : (v : Bool) → b .over ≡ v → isOver (whereOver (finishes k) (record { result = cond v over running; order = begunIn (r .order) b .order; log = b .log }) .result) ≡ true
+          → laterBegan within (k + 1) t (r .log ++ whereOver (finishes k) (record { result = cond v over running; order = begunIn (r .order) b .order; log = b .log }) .log) ≡ true
+      next true d e = later-more within (k + 1) t (b .log) (r .log ++ (b .log ++ [])) (λ i z. began-behind i (r .log) (b .log ++ []) (began-before i (b .log) [] z)) (after-each y a t (r .order .marks) d)
+      next false d e = absurd (false≢true e)
+
+      on : (v : Bool) (z : Outcome) → z ≡ elim v [ true ↦ whereOver (finishes k) (begunIn (r .order) b) | false ↦ runs (r .order) ] → isOver (z .result) ≡ true → laterBegan within (k + 1) t (r .log ++ z .log) ≡ true
+      on true z d e =
+          subst (λ (q : Outcome). laterBegan within (k + 1) t (r .log ++ q .log) ≡ true) (sym d) (next (b .over) refl (subst (λ (q : Outcome). isOver (q .result) ≡ true) d e))
+      on false z d e = absurd (false≢true (subst (λ (q : Outcome). isOver (q .result) ≡ true) d e))
+
+      go : (x : Result)
+          → isOver (whereOver (λ q. elim (eqb (markAt k q) active) [ true ↦ whereOver (finishes k) (begunIn q (beginAfter within (k + 1) t (q .marks))) | false ↦ runs q ]) (record { result = x; order = r .order; log = r .log }) .result) ≡ true
+          → laterBegan within (k + 1) t (whereOver (λ q. elim (eqb (markAt k q) active) [ true ↦ whereOver (finishes k) (begunIn q (beginAfter within (k + 1) t (q .marks))) | false ↦ runs q ]) (record { result = x; order = r .order; log = r .log }) .log) ≡ true
+      go running e = absurd (false≢true e)
+      go over e = on (eqb (markAt k (r .order)) active) _ refl e
+      go raising e = absurd (false≢true e)
+      go leaving e = absurd (false≢true e)
+      go undone e = absurd (false≢true e)
+      go undoRaising e = absurd (false≢true e)
+
+  -- What runs has something in it that lasts and is marked.
+  pub data Loud (ms : List ℕ) (c n : ℕ) : Type 0 where
+    loud : (j : ℕ) → c ≤ j → j < c + n → lasts (f j) ≡ true → Up ms j → Loud ms c n
+
+  loud-wider : {ms : List ℕ} {c n d m : ℕ} → Loud ms d m → c ≤ d → d + m ≤ c + n → Loud ms c n
+  loud-wider (loud j a b l u) h e = loud j (omega arith) (omega arith) l u
+
+  doer-lasts : (own : Own) → isDoer own ≡ true → lasts (kind own) ≡ true
+  unfolding isDoer lasts kind
+  doer-lasts empty e = absurd (false≢true e)
+  doer-lasts (send p o vs) e = refl
+  doer-lasts (receive p o vs) e = refl
+  doer-lasts (setting v x) e = refl
+  doer-lasts raise e = refl
+  doer-lasts leave e = refl
+  doer-lasts (choose x) e = refl
+  doer-lasts (repeat x) e = refl
+  doer-lasts sequence e = absurd (false≢true e)
+  doer-lasts flow e = absurd (false≢true e)
+  doer-lasts pick e = refl
+  doer-lasts scope e = absurd (false≢true e)
+  doer-lasts (arm p o vs) e = absurd (false≢true e)
+
+  mutual
+    unfolding size lasts kind
+
+    run-loud-so : {ms : List ℕ} {a : Act} {k : ℕ} → Knows f a k → Run ms a k → Loud ms k (size a)
+    run-loud-so {ms} (knows e n r y) (run-awaits {own} {within} {k} s d z q) = loud k (omega arith) (omega arith) (ap lasts e ∙ doer-lasts own d) (rw z)
+    run-loud-so (knows e n r y) (run-one s d z) = loud-wider (one-loud-so y z) (omega arith) (omega arith)
+    run-loud-so (knows e n r y) (run-all d z q) = loud-wider (all-loud-so y z q) (omega arith) (omega arith)
+    run-loud-so (knows e n r y) (run-body {k = k} d z q) = loud k (omega arith) (omega arith) (ap lasts e) (rw d)
+    run-loud-so (knows e n r y) (run-done {k = k} d q) = loud k (omega arith) (omega arith) (ap lasts e) (rw d)
+    run-loud-so {ms} (knows e n r y) (run-turned {k = k} d q) = loud k (omega arith) (omega arith) (ap lasts e) (decide (eqb (getD ms k 0) idle) (λ z. absurd (turned-not-rest d (eqb-true (getD ms k 0) idle z))) (λ z. z))
+
+    one-loud-so : {ms : List ℕ} {l : Acts} {c : ℕ} → KnowsIn f l c → One ms l c → Loud ms c (sizes l)
+    one-loud-so (knows-more x y) (one-here r q) = loud-wider (run-loud-so x r) (omega arith) (omega arith)
+    one-loud-so (knows-more x y) (one-later q r) = loud-wider (one-loud-so y r) (omega arith) (omega arith)
+
+    all-loud-so : {ms : List ℕ} {l : Acts} {c : ℕ} → KnowsIn f l c → All ms l c → (Quiet ms c (sizes l) → ⊥) → Loud ms c (sizes l)
+    all-loud-so knows-none all-none z = absurd (z (record { at = λ i x y. absurd (omega arith) }))
+    all-loud-so (knows-more x y) (all-run r q) z = loud-wider (run-loud-so x r) (omega arith) (omega arith)
+    all-loud-so (knows-more x y) (all-quiet q r) z = loud-wider (all-loud-so y r (λ w. z (quiet-join q w refl))) (omega arith) (omega arith)
+
+module _ (p : Plan) (distinct : Distinct p) (actor : Actor) (f : ℕ → ℕ) (t : ℕ) (o : Order) where
+  -- A sequence that has the step in it, after the outcome r.
+  pub data Onward (within : Acts) (k : ℕ) (r : Outcome) : Type 0 where
+    on-later : laterBegan within (k + 1) t (r .log) ≡ true → Onward within k r
+    on-lives : (j : ℕ) → k < j → j < k + 1 + sizes within → lasts (f j) ≡ true → Up (r .order .marks) j → hasBegan k (r .log) ≡ false → Onward within k r
+
+  mutual
+    pub data Thru (r : Outcome) : Act → ℕ → Type 0 where
+      thru-here : {own : Own} {within : Acts} {k : ℕ} → k ≡ t → Thru r (act own within) k
+      thru-in : {own : Own} {within : Acts} {k : ℕ} → k < t → (eqb (kind own) 8 ≡ true → Up (o .marks) k → Onward within k r) → ThruIn r within (k + 1) → Thru r (act own within) k
+
+    pub data ThruIn (r : Outcome) : Acts → ℕ → Type 0 where
+      thru-first : {a : Act} {l : Acts} {c : ℕ} → t < c + size a → Thru r a c → ThruIn r (more a l) c
+      thru-later : {a : Act} {l : Acts} {c : ℕ} → c + size a ≤ t → ThruIn r l (c + size a) → ThruIn r (more a l) c
+
+  -- from one outcome to what is made of it
+  pub record Passes (r q : Outcome) (c n : ℕ) : Type 0 where
+    pub has : (i : ℕ) → hasBegan i (r .log) ≡ true → hasBegan i (q .log) ≡ true
+    pub grows : (j : ℕ) → c ≤ j → j < c + n → lasts (f j) ≡ true → Up (r .order .marks) j → Up (q .order .marks) j
+    pub none : (i j : ℕ) → c ≤ j → j < c + n → Up (r .order .marks) j → Up (o .marks) i → hasBegan i (r .log) ≡ false → hasBegan i (q .log) ≡ false
+
+  onward-map : {r q : Outcome} {c n : ℕ} (within : Acts) (k : ℕ) → Passes r q c n → c ≤ k → k + 1 + sizes within ≤ c + n → Up (o .marks) k → Onward within k r → Onward within k q
+  onward-map {r} {q} within k w h e u (on-later z) = on-later (later-more within (k + 1) t (r .log) (q .log) (w .has) z)
+  onward-map within k w h e u (on-lives j a b l v z) = on-lives j a b l (w .grows j (omega arith) (omega arith) l v) (w .none k j (omega arith) (omega arith) v u z)
+
+  mutual
+    unfolding size
+
+    pub thru-map : {r q : Outcome} {c n : ℕ} → Passes r q c n → {a : Act} {k : ℕ} → Thru r a k → c ≤ k → k + size a ≤ c + n → Thru q a k
+    thru-map w (thru-here d) h e = thru-here d
+    thru-map w (thru-in {own} {within} {k} lt g l) h e = thru-in lt (λ i u. onward-map within k w h (omega arith) u (g i u)) (thru-in-map w l (omega arith) (omega arith))
+
+    pub thru-in-map : {r q : Outcome} {c n : ℕ} → Passes r q c n → {l : Acts} {d : ℕ} → ThruIn r l d → c ≤ d → d + sizes l ≤ c + n → ThruIn q l d
+    thru-in-map w (thru-first lt x) h e = thru-first lt (thru-map w x h (omega arith))
+    thru-in-map w (thru-later lt x) h e = thru-later lt (thru-in-map w x (omega arith) (omega arith))
+
+  -- what began with more and not before was idle
+  abbrev Begun-in : Outcome → ℕ → Type 0
+  Begun-in r i = hasBegan i (r .log) ≡ true
+
+  none-from : (r q : Outcome) → Fresh p f (Begun-in r) (o .marks) (q .log) → (i : ℕ) → Up (o .marks) i → hasBegan i (r .log) ≡ false → hasBegan i (q .log) ≡ false
+  none-from r q w i u z = decide (hasBegan i (q .log)) (λ d. absurd (so (w .at i d))) (λ d. d)
+    where
+      so : New p f (Begun-in r) (o .marks) i → ⊥
+      so (new-idle e) = false≢true (sym u ∙ ap (λ (m : ℕ). eqb m idle) e)
+      so (new-again e) = false≢true (sym z ∙ e)
+
+  its-fresh : (r : Outcome) → Fresh p f (Begun-in r) (o .marks) (r .log)
+  its-fresh r = record { at = λ j h. new-again h }
+
+  -- Activities other than scopes.
+  combines-passes : (own : Own) (within : Acts) (k : ℕ) → Knows f (act own within) k → isScope own ≡ false → k + 1 + sizes within ≤ length (o .marks)
+      → some isRash (combines own within k t (stepAmong actor within (k + 1) t o) .log) ≡ false
+      → (eqb (kind own) 8 ≡ true → eqb (markAt k (stepAmong actor within (k + 1) t o .order)) active ≡ true → (ns : List ℕ) → Fresh p f (Begun-in (stepAmong actor within (k + 1) t o)) (o .marks) (beginAfter within (k + 1) t ns .log))
+      → Passes (stepAmong actor within (k + 1) t o) (combines own within k t (stepAmong actor within (k + 1) t o)) (k + 1) (sizes within)
+  combines-passes own within k (knows e n a y) s m c g =
+      let r = stepAmong actor within (k + 1) t o in
+      record {
+        has = λ i d. combines-has (isBeganOf (eqb i)) own within k t r d;
+        grows = λ j x z l u. combines-grows f own within k t r e n y (omega (arith, keeping.among-steps f actor y t o m .long))
+            (not-bad o r (among-drops f t actor y o) (calmer (r .log) (combines own within k t r .log) (combines-has isRash own within k t r) c)) j l (λ d. omega arith) u;
+        none = λ i j x z v u d. none-from r (combines own within k t r) (combines-fresh p distinct actor f t o (Begun-in r) own within k r s (its-fresh r) g) i u d;
+      }
+
+  -- what has the step where all is quiet is an arm
+  arm-thru : {r : Outcome} {l : Acts} {c : ℕ} {b : Bool} → WaitsIn (o .marks) l c t b → Quiet (o .marks) c (sizes l) → ThruIn r l c
+  unfolding size
+  arm-thru (waits-first h (waits-itself e d)) q = thru-first h (thru-here e)
+  arm-thru (waits-first {a = act own within} {c = c} h (waits-within g w)) q =
+      absurd (quiet-waits-in w (opens-idle own (getD (o .marks) c 0) (q .at c (omega arith) (omega arith))) (quiet-part q (omega arith) (omega arith)))
+  arm-thru (waits-later h w) q = thru-later h (arm-thru w (quiet-part q (omega arith) (omega arith)))
+
+  -- a sequence
+  seq-claim : (own : Own) (within : Acts) (k : ℕ) → Knows f (act own within) k → k < t → Acted k (size (act own within)) o (RunAs p (act own within) k t o) (stepIn actor (act own within) k t o)
+      → some isRash (stepIn actor (act own within) k t o .log) ≡ false → stepIn actor (act own within) k t o ≡ combines own within k t (stepAmong actor within (k + 1) t o) → eqb (kind own) 8 ≡ true
+      → Onward within k (stepIn actor (act own within) k t o)
+  unfolding kind size isDoer
+  seq-claim empty within k x h w c q e = absurd (false≢true e)
+  seq-claim (send a b vs) within k x h w c q e = absurd (false≢true e)
+  seq-claim (receive a b vs) within k x h w c q e = absurd (false≢true e)
+  seq-claim (setting v z) within k x h w c q e = absurd (false≢true e)
+  seq-claim raise within k x h w c q e = absurd (false≢true e)
+  seq-claim leave within k x h w c q e = absurd (false≢true e)
+  seq-claim (choose z) within k x h w c q e = absurd (false≢true e)
+  seq-claim (repeat z) within k x h w c q e = absurd (false≢true e)
+  seq-claim sequence within k (knows x n a y) h w c q e = go (R .result) refl (w .comes)
+    where
+      R : Outcome
+      R = stepIn actor (act sequence within) k t o
+
+      good : isBad (R .result) ≡ false
+      good = not-bad o R (step-drops f t actor (knows x n a y) o) c
+
+      lives : Run (R .order .marks) (act sequence within) k → Onward within k R
+      lives (run-awaits s d z q) = absurd (false≢true d)
+      lives (run-one s d z) = go (one-loud-so f y z)
+        where
+          go : Loud f (R .order .marks) (k + 1) (sizes within) → Onward within k R
+          go (loud j i b l u) = on-lives j (omega arith) b l u (times-none k (R .log) (step-at f t actor (knows x n a y) o (omega arith) .strict .below k (omega arith)))
+
+      go : (z : Result) → R .result ≡ z → RunAs p (act sequence within) k t o (R .log) (R .order) z → Onward within k R
+      go running d v = lives (v .0)
+      go over d v =
+          on-later (subst (λ (u : Outcome). laterBegan within (k + 1) t (u .log) ≡ true) (sym q)
+          (seq-over f k t (stepAmong actor within (k + 1) t o) y a (subst (λ (u : Outcome). isOver (u .result) ≡ true) q (subst (λ (z : Result). isOver z ≡ true) (sym d) refl))))
+      go raising d v = absurd (false≢true (sym good ∙ ap isBad d))
+      go leaving d v = absurd (false≢true (sym good ∙ ap isBad d))
+      go undone d v = absurd v
+      go undoRaising d v = absurd v
+  seq-claim flow within k x h w c q e = absurd (false≢true e)
+  seq-claim pick within k x h w c q e = absurd (false≢true e)
+  seq-claim scope within k x h w c q e = absurd (false≢true e)
+  seq-claim (arm a b vs) within k x h w c q e = absurd (false≢true e)
+
+  part-thru : (own : Own) (within : Acts) (k : ℕ) (b : Bool) → isScope own ≡ false → Knows f (act own within) k → Waits (o .marks) (act own within) k t b → b ≡ false → Run (o .marks) (act own within) k
+      → k + 1 + sizes within ≤ length (o .marks) → Acted k (size (act own within)) o (RunAs p (act own within) k t o) (stepIn actor (act own within) k t o) → some isRash (stepIn actor (act own within) k t o .log) ≡ false
+      → ((c : Bool) → WaitsIn (o .marks) within (k + 1) t c → c ≡ false → One (o .marks) within (k + 1) → some isRash (stepAmong actor within (k + 1) t o .log) ≡ false → ThruIn (stepAmong actor within (k + 1) t o) within (k + 1))
+      → ((c : Bool) → WaitsIn (o .marks) within (k + 1) t c → c ≡ false → All (o .marks) within (k + 1) → some isRash (stepAmong actor within (k + 1) t o .log) ≡ false → ThruIn (stepAmong actor within (k + 1) t o) within (k + 1))
+      → Thru (stepIn actor (act own within) k t o) (act own within) k
+  unfolding kind
+  part-thru own within k b s x (waits-itself e d) q run m w c one all = thru-here e
+  part-thru own within k b s x (waits-within h v) q (run-awaits s₁ y z u) m w c one all =
+      thru-in h (λ e up. absurd (quiet-waits-in v (ap (λ (n : ℕ). eqb n 10 && eqb (getD (o .marks) k 0) active) (eqb-true (kind own) 8 e)) u)) (arm-thru v u)
+  part-thru own within k b s (knows x n r y) (waits-within h v) q (run-one s₁ z l) m w c one all =
+      let i = its-within actor own within k t o o (λ e. omega arith) (arms-held own within k t o z) in
+      let a = opens-held p distinct actor own (getD (o .marks) k 0) z in
+      let c₁ : some isRash (combines own within k t (stepAmong actor within (k + 1) t o) .log) ≡ false = subst (λ (u : Outcome). some isRash (u .log) ≡ false) i c in
+      thru-in h (λ e up. seq-claim own within k (knows x n r y) h w c i e)
+      (subst (λ (u : Outcome). ThruIn u within (k + 1)) (sym i)
+      (thru-in-map (combines-passes own within k (knows x n r y) s m c₁ (λ e d ns. after-fresh p distinct actor f t o (Begun-in (stepAmong actor within (k + 1) t o)) y (arms-of p distinct actor f t o own within e r) v a l ns))
+      (one (opens own (getD (o .marks) k 0)) v a l (calmer _ _ (combines-has isRash own within k t (stepAmong actor within (k + 1) t o)) c₁)) (omega arith) (omega arith)))
+  part-thru flow within k b s (knows x n r y) (waits-within h v) q (run-all z l g) m w c one all =
+      let i = its-within actor flow within k t o o (λ e. omega arith) (arms-held flow within k t o z) in
+      let c₁ : some isRash (combines flow within k t (stepAmong actor within (k + 1) t o) .log) ≡ false = subst (λ (u : Outcome). some isRash (u .log) ≡ false) i c in
+      thru-in h (λ e up. absurd (false≢true e))
+      (subst (λ (u : Outcome). ThruIn u within (k + 1)) (sym i)
+      (thru-in-map (combines-passes flow within k (knows x n r y) s m c₁ (λ e. absurd (false≢true e)))
+      (all (opens flow (getD (o .marks) k 0)) v refl l (calmer _ _ (combines-has isRash flow within k t (stepAmong actor within (k + 1) t o)) c₁)) (omega arith) (omega arith)))
+  part-thru own within k b s x (waits-within h v) q (run-body y r z) m w c one all = absurd (false≢true (sym s))
+  part-thru own within k b s x (waits-within h v) q (run-done y z) m w c one all = absurd (false≢true (sym s))
+  part-thru own within k b s x (waits-within h v) q (run-turned y z) m w c one all = absurd (false≢true (sym s))
+
+  -- an activity of a stopped body, or of one of which an undo part runs: its own mark is idle
+  idle-thru : {C : List Event → Order → Result → Type 0} (own : Own) (within : Acts) (k : ℕ) → Knows f (act own within) k → isScope own ≡ false → getD (o .marks) k 0 ≡ idle → isPart within (k + 1) t ≡ false → k < t
+      → k + 1 + sizes within ≤ length (o .marks) → Acted (k + 1) (sizes within) o C (stepAmong actor within (k + 1) t o) → some isRash (stepIn actor (act own within) k t o .log) ≡ false
+      → (some isRash (stepAmong actor within (k + 1) t o .log) ≡ false → ThruIn (stepAmong actor within (k + 1) t o) within (k + 1)) → Thru (stepIn actor (act own within) k t o) (act own within) k
+  idle-thru own within k x s i n h m v c g =
+      let q = its-within actor own within k t o o (λ e. omega arith) (arms-none own within k t o n) in
+      let c₁ : some isRash (combines own within k t (stepAmong actor within (k + 1) t o) .log) ≡ false = subst (λ (u : Outcome). some isRash (u .log) ≡ false) q c in
+      thru-in h (λ e up. absurd (false≢true (sym up ∙ ap (λ (m : ℕ). eqb m idle) i)))
+      (subst (λ (u : Outcome). ThruIn u within (k + 1)) (sym q)
+      (thru-in-map (combines-passes own within k x s m c₁ (λ e d. absurd (false≢true (subst (λ (z : ℕ). eqb z active ≡ true) (v .kept .below k (omega arith) ∙ i) d))))
+      (g (calmer _ _ (combines-has isRash own within k t (stepAmong actor within (k + 1) t o)) c₁)) (omega arith) (omega arith)))
+
+  -- A scope.
+  module _ (s : Scope) (h : Seat p s) (b e : ℕ) (w : Within f s b e) (named : Named f (s .fault)) (from : b ≤ s .bodyAt) (m : e ≤ length (o .marks)) (below : (j : ℕ) → s .bodyAt ≤ j → j + 1 ≡ b → ⊥) (belowFault : (j : ℕ) → s .faultAt ≤ j → j + 1 ≡ b → ⊥) where
+    abbrev its : Outcome
+    its = stepIn actor (s .body) (s .bodyAt) t o
+
+    long : length (its .order .marks) ≡ length (o .marks)
+    long = keeping.step-steps f actor (w .body) t o (omega (arith, w .bodyTo)) .long
+
+    module _ (c : some isRash (fromBody s its .log) ≡ false) where
+      good : isBad (its .result) ≡ false
+      good = not-bad o its (step-drops f t actor (w .body) o) (calmer (its .log) (fromBody s its .log) (body-has isRash s its) c)
+
+      body-passes : ((j : ℕ) → s .bodyAt ≤ j → j < s .bodyAt + size (s .body) → Up (its .order .marks) j → Fresh p f (Begun-in its) (o .marks) (fromBody s its .log)) → Passes its (fromBody s its) (s .bodyAt) (size (s .body))
+      body-passes g =
+          record {
+            has = λ i d. body-has (isBeganOf (eqb i)) s its d;
+            grows = λ j x z l u. body-grows f s b e w its (omega (arith, long)) good j l (below j x) u;
+            none = λ i j x z v u d. none-from its (fromBody s its) (g j x z v) i u d;
+          }
+
+      pub live-passes : Quiet (o .marks) (s .faultAt) (size (s .fault)) → Run (o .marks) (s .body) (s .bodyAt) → Acted (s .bodyAt) (size (s .body)) o (RunAs p (s .body) (s .bodyAt) t o) its → Passes its (fromBody s its) (s .bodyAt) (size (s .body))
+      live-passes q run v = body-passes (λ j x z u. live-fresh p distinct actor f t o (Begun-in its) s h (w .body) (w .fault) named q (omega (arith, w .bodyTo)) (its-fresh its) run v)
+
+      pub waits-passes : (z : Bool) → phase (markOf (s .name) o) ≡ Phase.waits z → Quiet (o .marks) (s .faultAt) (size (s .fault)) → Stopped (o .marks) (s .body) (s .bodyAt)
+          → Acted (s .bodyAt) (size (s .body)) o (StopAs p (s .body) (s .bodyAt) o) its → Passes its (fromBody s its) (s .bodyAt) (size (s .body))
+      waits-passes z ph q st v = body-passes (λ j x y u. waits-fresh p distinct actor f t o (Begun-in its) s h (w .body) (w .fault) named q (omega (arith, w .bodyTo)) (its-fresh its) z ph st v)
+
+      pub undoes-passes : (z : Bool) → phase (markOf (s .name) o) ≡ Phase.undoes z → Quiet (o .marks) (s .faultAt) (size (s .fault))
+          → Acted (s .bodyAt) (size (s .body)) o (UndoAs p (s .name) (s .body) (s .bodyAt) t o) its → Passes its (fromBody s its) (s .bodyAt) (size (s .body))
+      undoes-passes z ph q v =
+          body-passes (λ j x y u. undoes-fresh p distinct actor f t o (Begun-in its) s h (w .body) (w .fault) named q (omega (arith, w .bodyTo)) (its-fresh its) z ph (λ d. absurd (undone-quiet (its .result) d (v .comes) j x y u)) v)
+        where
+          undone-quiet : (y : Result) → isUndone y ≡ true → UndoAs p (s .name) (s .body) (s .bodyAt) t o (its .log) (its .order) y → (j : ℕ) → s .bodyAt ≤ j → j < s .bodyAt + size (s .body) → Up (its .order .marks) j → ⊥
+          undone-quiet running d c j x z u = false≢true d
+          undone-quiet over d c j x z u = false≢true d
+          undone-quiet raising d c j x z u = false≢true d
+          undone-quiet leaving d c j x z u = false≢true d
+          undone-quiet undone d c j x z u = false≢true (sym u ∙ ap (λ (m : ℕ). eqb m idle) (c .0 .at j x z))
+          undone-quiet undoRaising d c j x z u = false≢true d
+
+    -- its fault part
+    pub fault-passes : some isRash (fromFault s (stepIn actor (s .fault) (s .faultAt) t o) .log) ≡ false → Passes (stepIn actor (s .fault) (s .faultAt) t o) (fromFault s (stepIn actor (s .fault) (s .faultAt) t o)) (s .faultAt) (size (s .fault))
+    fault-passes c =
+        let r = stepIn actor (s .fault) (s .faultAt) t o in
+        let good = not-bad o r (step-drops f t actor (w .fault) o) (calmer (r .log) (fromFault s r .log) (fault-has isRash s r) c) in
+        record {
+          has = λ i d. fault-has (isBeganOf (eqb i)) s r d;
+          grows = λ j x z l u. fault-grows f s b e w r (omega (arith, keeping.step-steps f actor (w .fault) t o (omega (arith, w .faultTo)) .long)) good j l (belowFault j x) u;
+          none = λ i j x z v u d. none-from r (fromFault s r) (fault-fresh p f (Begun-in r) (o .marks) s r (its-fresh r)) i u d;
+        }
+
+  undo-passes : (a : Act) (k n : ℕ) → Passes (stepIn actor a k t o) (fromUndo (stepIn actor a k t o)) k n
+  unfolding fromUndo
+  undo-passes a k n = record { has = λ i d. d; grows = λ j x z l u. u; none = λ i j x z v u d. d }
+
+  undo-calm : (r : Outcome) → some isRash (fromUndo r .log) ≡ false → some isRash (r .log) ≡ false
+  unfolding fromUndo
+  undo-calm r e = e
+
+  first-thru : (a : Act) (l : Acts) (c : ℕ) → t < c + size a → Thru (stepIn actor a c t o) a c → ThruIn (stepAmong actor (more a l) c t o) (more a l) c
+  first-thru a l c h w = thru-first h (subst (λ (q : Outcome). Thru q a c) (sym (its-first actor a l c t o h)) w)
+
+  later-thru : (a : Act) (l : Acts) (c : ℕ) → c + size a ≤ t → ThruIn (stepAmong actor l (c + size a) t o) l (c + size a) → ThruIn (stepAmong actor (more a l) c t o) (more a l) c
+  later-thru a l c h w = thru-later h (subst (λ (q : Outcome). ThruIn q l (c + size a)) (sym (its-later actor a l c t o h)) w)
+
+  calm-first : (a : Act) (l : Acts) (c : ℕ) → t < c + size a → some isRash (stepAmong actor (more a l) c t o .log) ≡ false → some isRash (stepIn actor a c t o .log) ≡ false
+  calm-first a l c h e = subst (λ (q : Outcome). some isRash (q .log) ≡ false) (its-first actor a l c t o h) e
+
+  calm-later : (a : Act) (l : Acts) (c : ℕ) → c + size a ≤ t → some isRash (stepAmong actor (more a l) c t o .log) ≡ false → some isRash (stepAmong actor l (c + size a) t o .log) ≡ false
+  calm-later a l c h e = subst (λ (q : Outcome). some isRash (q .log) ≡ false) (its-later actor a l c t o h) e
+
+  second : (b g u : Act) → Arms false (trio b g u) → Named f g
+  second (act ob wb) (act og wg) (act ou wu) r = r .1 .0
+
+  -- the numbers of a scope
+  its-within-scope : (b g u : Act) (k : ℕ) → Knows f (act scope (trio b g u)) k → Within f (scopeAt k (trio b g u)) (k + 1) (k + 1 + sizes (trio b g u))
+  unfolding kind count
+  its-within-scope b g u k (knows e n r y) = scope-within f (ap (λ (i : ℕ). eqb i 11) e) (omega arith) y
+
+  module _ {n : Name} (b g u : Act) (k : ℕ) (h : Seat p (scopeAt k (trio b g u))) (sb : Sits p (bodyOf (inner k) n) b (k + 1)) (x : Knows f (act scope (trio b g u)) k) (named : Named f g) (m : k + size (act scope (trio b g u)) ≤ length (o .marks))
+      (lt : k < t) (w : WaitsIn (o .marks) (trio b g u) (k + 1) t false) (c : some isRash (stepIn actor (act scope (trio b g u)) k t o .log) ≡ false) where
+    in-body : (t < k + 1 + size b) → Thru (stepIn actor (act scope (trio b g u)) k t o) b (k + 1) → Thru (stepIn actor (act scope (trio b g u)) k t o) (act scope (trio b g u)) k
+    unfolding kind
+    in-body e v = thru-in lt (λ d. absurd (false≢true d)) (thru-first e v)
+
+    in-fault : k + 1 + size b ≤ t → t < k + 1 + size b + size g → Thru (stepIn actor (act scope (trio b g u)) k t o) g (k + 1 + size b) → Thru (stepIn actor (act scope (trio b g u)) k t o) (act scope (trio b g u)) k
+    unfolding kind
+    in-fault d e v = thru-in lt (λ d. absurd (false≢true d)) (thru-later d (thru-first e v))
+
+    calm-body : t < k + 1 + size b → some isRash (fromBody (scopeAt k (trio b g u)) (stepIn actor b (k + 1) t o) .log) ≡ false
+    unfolding Its Whole
+    calm-body e = subst (λ (q : Outcome). some isRash (q .log) ≡ false) (body-step p distinct actor b g u k t o lt e) c
+
+    calm-its : t < k + 1 + size b → some isRash (stepIn actor b (k + 1) t o .log) ≡ false
+    calm-its e = calmer _ _ (body-has isRash (scopeAt k (trio b g u)) (stepIn actor b (k + 1) t o)) (calm-body e)
+
+    turned-thru : Turned (o .marks) (getD (o .marks) k 0) b (k + 1) g (k + 1 + size b) → Quiet (o .marks) (k + 1 + size b + size g) (size u)
+        → ((y : Bool) → Waits (o .marks) b (k + 1) t y → y ≡ false → Stopped (o .marks) b (k + 1) → some isRash (stepIn actor b (k + 1) t o .log) ≡ false → Thru (stepIn actor b (k + 1) t o) b (k + 1))
+        → ((y : Bool) → Waits (o .marks) b (k + 1) t y → y ≡ false → Undoing (o .marks) b (k + 1) → (v : Bool) → phase (getD (o .marks) k 0) ≡ Phase.undoes v → some isRash (stepIn actor b (k + 1) t o .log) ≡ false → Thru (stepIn actor b (k + 1) t o) b (k + 1))
+        → ((y : Bool) → Waits (o .marks) g (k + 1 + size b) t y → y ≡ false → Run (o .marks) g (k + 1 + size b) → phase (getD (o .marks) k 0) ≡ heals → some isRash (stepIn actor g (k + 1 + size b) t o .log) ≡ false → Thru (stepIn actor g (k + 1 + size b) t o) g (k + 1 + size b))
+        → Thru (stepIn actor (act scope (trio b g u)) k t o) (act scope (trio b g u)) k
+    unfolding size part partAt Its Whole
+    turned-thru r q i j l = go r w
+      where
+        W : Within f (scopeAt k (trio b g u)) (k + 1) (k + 1 + sizes (trio b g u))
+        W = its-within-scope b g u k x
+
+        go : Turned (o .marks) (getD (o .marks) k 0) b (k + 1) g (k + 1 + size b) → WaitsIn (o .marks) (trio b g u) (k + 1) t false → Thru (stepIn actor (act scope (trio b g u)) k t o) (act scope (trio b g u)) k
+        go (turned-waits {w = a} d z _ y) (waits-first e v) =
+            in-body e (subst (λ (q : Outcome). Thru q b (k + 1)) (sym (body-step p distinct actor b g u k t o lt e))
+            (thru-map (waits-passes (scopeAt k (trio b g u)) h (k + 1) (k + 1 + sizes (trio b g u)) W named (omega arith) (omega arith) (λ j a d. omega arith) (λ j a d. omega arith) (calm-body e) a d y z (steps-stopped p distinct actor sb t o false v refl z (omega arith)))
+            (i false v refl z (calm-its e)) (omega arith) (omega arith)))
+        go (turned-undoes {w = a} d z y) (waits-first e v) =
+            in-body e (subst (λ (q : Outcome). Thru q b (k + 1)) (sym (body-step p distinct actor b g u k t o lt e))
+            (thru-map (undoes-passes (scopeAt k (trio b g u)) h (k + 1) (k + 1 + sizes (trio b g u)) W named (omega arith) (omega arith) (λ j a d. omega arith) (λ j a d. omega arith) (calm-body e) a d y (steps-undoing p distinct actor sb t o false v refl z (a, d) (omega arith)))
+            (j false v refl z a d (calm-its e)) (omega arith) (omega arith)))
+        go (turned-heals d z y) (waits-first e v) = absurd (quiet-waits v refl z)
+        go (turned-waits d z _ y) (waits-later a (waits-first e v)) = absurd (quiet-waits v refl y)
+        go (turned-undoes d z y) (waits-later a (waits-first e v)) = absurd (quiet-waits v refl y)
+        go (turned-heals d z y) (waits-later a (waits-first e v)) =
+            let q = fault-step p distinct actor b g u k t o a e in
+            let c₁ : some isRash (fromFault (scopeAt k (trio b g u)) (stepIn actor g (k + 1 + size b) t o) .log) ≡ false = subst (λ (z : Outcome). some isRash (z .log) ≡ false) q c in
+            in-fault a e (subst (λ (q : Outcome). Thru q g (k + 1 + size b)) (sym q)
+            (thru-map (fault-passes (scopeAt k (trio b g u)) h (k + 1) (k + 1 + sizes (trio b g u)) W named (omega arith) (omega arith) (λ j a d. omega arith) (λ j a d. omega arith) c₁)
+            (l false v refl y d (calmer _ _ (fault-has isRash (scopeAt k (trio b g u)) (stepIn actor g (k + 1 + size b) t o)) c₁)) (omega arith) (omega arith)))
+        go z (waits-later a (waits-later e (waits-first d v))) = absurd (quiet-waits v refl q)
+
+    live-thru : getD (o .marks) k 0 ≡ active → Run (o .marks) b (k + 1) → Quiet (o .marks) (k + 1 + size b) (size g + size u)
+        → (Waits (o .marks) b (k + 1) t false → some isRash (stepIn actor b (k + 1) t o .log) ≡ false → Thru (stepIn actor b (k + 1) t o) b (k + 1)) → Thru (stepIn actor (act scope (trio b g u)) k t o) (act scope (trio b g u)) k
+    unfolding size part partAt Its Whole
+    live-thru d r q j = go w
+      where
+        W : Within f (scopeAt k (trio b g u)) (k + 1) (k + 1 + sizes (trio b g u))
+        W = its-within-scope b g u k x
+
+        go : WaitsIn (o .marks) (trio b g u) (k + 1) t false → Thru (stepIn actor (act scope (trio b g u)) k t o) (act scope (trio b g u)) k
+        go (waits-first e v) =
+            in-body e (subst (λ (q : Outcome). Thru q b (k + 1)) (sym (body-step p distinct actor b g u k t o lt e))
+            (thru-map (live-passes (scopeAt k (trio b g u)) h (k + 1) (k + 1 + sizes (trio b g u)) W named (omega arith) (omega arith) (λ j a d. omega arith) (λ j a d. omega arith) (calm-body e) (quiet-part q (omega arith) (omega arith)) r
+            (steps p distinct actor sb t o false v refl r (ap phase d) (omega arith)))
+            (j v (calm-its e)) (omega arith) (omega arith)))
+        go (waits-later a (waits-first e v)) = absurd (quiet-waits v refl (quiet-part q (omega arith) (omega arith)))
+        go (waits-later a (waits-later e (waits-first z v))) = absurd (quiet-waits v refl (quiet-part q (omega arith) (omega arith)))
+
+  -- a scope that has turned, with the lengths that its parts ask for
+  turned-by : {n : Name} (b g u : Act) (k : ℕ) → Seat p (scopeAt k (trio b g u)) → Sits p (bodyOf (inner k) n) b (k + 1) → Knows f (act scope (trio b g u)) k → Named f g
+      → k + size (act scope (trio b g u)) ≤ length (o .marks) → k < t → WaitsIn (o .marks) (trio b g u) (k + 1) t false → some isRash (stepIn actor (act scope (trio b g u)) k t o .log) ≡ false
+      → Turned (o .marks) (getD (o .marks) k 0) b (k + 1) g (k + 1 + size b) → Quiet (o .marks) (k + 1 + size b + size g) (size u)
+      → ((y : Bool) → Waits (o .marks) b (k + 1) t y → y ≡ false → Stopped (o .marks) b (k + 1) → k + 1 + size b ≤ length (o .marks) → some isRash (stepIn actor b (k + 1) t o .log) ≡ false → Thru (stepIn actor b (k + 1) t o) b (k + 1))
+      → ((y : Bool) → Waits (o .marks) b (k + 1) t y → y ≡ false → Undoing (o .marks) b (k + 1) → (v : Bool) → phase (getD (o .marks) k 0) ≡ Phase.undoes v → k + 1 + size b ≤ length (o .marks) → some isRash (stepIn actor b (k + 1) t o .log) ≡ false
+      → Thru (stepIn actor b (k + 1) t o) b (k + 1))
+      → ((y : Bool) → Waits (o .marks) g (k + 1 + size b) t y → y ≡ false → Run (o .marks) g (k + 1 + size b) → phase (getD (o .marks) k 0) ≡ heals → k + 1 + size b + size g ≤ length (o .marks)
+      → some isRash (stepIn actor g (k + 1 + size b) t o .log) ≡ false → Thru (stepIn actor g (k + 1 + size b) t o) g (k + 1 + size b))
+      → Thru (stepIn actor (act scope (trio b g u)) k t o) (act scope (trio b g u)) k
+  unfolding size
+  turned-by b g u k h sb x named m lt w c r q i j l =
+      turned-thru b g u k h sb x named m lt w c r q (λ y w₁ e₁ r₁ c₁. i y w₁ e₁ r₁ (omega arith) c₁) (λ y w₁ e₁ r₁ v z c₁. j y w₁ e₁ r₁ v z (omega arith) c₁) (λ y w₁ e₁ r₁ z c₁. l y w₁ e₁ r₁ z (omega arith) c₁)
+
+  -- what f knows of the parts
+  within-known : {own : Own} {within : Acts} {k : ℕ} → Knows f (act own within) k → KnowsIn f within (k + 1)
+  within-known (knows e n r y) = y
+
+  first-known : {a : Act} {l : Acts} {c : ℕ} → KnowsIn f (more a l) c → Knows f a c
+  first-known (knows-more x y) = x
+
+  later-known : {a : Act} {l : Acts} {c : ℕ} → KnowsIn f (more a l) c → KnowsIn f l (c + size a)
+  later-known (knows-more x y) = y
+
+  named-of : (b g u : Act) (k : ℕ) → Knows f (act scope (trio b g u)) k → Named f g
+  unfolding kind
+  named-of b g u k (knows e n r y) = second b g u r
+
+  -- What the mutual block below asks of each kind of activity, with what it finds of the parts as premises: so that each is checked by itself.
+  part-by : (own : Own) (within : Acts) (k : ℕ) (b : Bool) → isScope own ≡ false → Knows f (act own within) k → Waits (o .marks) (act own within) k t b → b ≡ false → Run (o .marks) (act own within) k
+      → k + size (act own within) ≤ length (o .marks) → Acted k (size (act own within)) o (RunAs p (act own within) k t o) (stepIn actor (act own within) k t o) → some isRash (stepIn actor (act own within) k t o .log) ≡ false
+      → ((c : Bool) → WaitsIn (o .marks) within (k + 1) t c → c ≡ false → One (o .marks) within (k + 1) → k + 1 + sizes within ≤ length (o .marks) → some isRash (stepAmong actor within (k + 1) t o .log) ≡ false
+      → ThruIn (stepAmong actor within (k + 1) t o) within (k + 1))
+      → ((c : Bool) → WaitsIn (o .marks) within (k + 1) t c → c ≡ false → All (o .marks) within (k + 1) → k + 1 + sizes within ≤ length (o .marks) → some isRash (stepAmong actor within (k + 1) t o .log) ≡ false
+      → ThruIn (stepAmong actor within (k + 1) t o) within (k + 1))
+      → Thru (stepIn actor (act own within) k t o) (act own within) k
+  unfolding size
+  part-by own within k b s x w q run m a c one all =
+      let m₁ : k + 1 + sizes within ≤ length (o .marks) = omega arith in
+      part-thru own within k b s x w q run m₁ a c (λ d w₁ e₁ r₁ c₁. one d w₁ e₁ r₁ m₁ c₁) (λ d w₁ e₁ r₁ c₁. all d w₁ e₁ r₁ m₁ c₁)
+
+  module _ {n : Name} (b g u : Act) (k : ℕ) (h : Seat p (scopeAt k (trio b g u))) (sb : Sits p (bodyOf (inner k) n) b (k + 1)) (x : Knows f (act scope (trio b g u)) k) (m : k + size (act scope (trio b g u)) ≤ length (o .marks))
+      (i : (y : Bool) → Waits (o .marks) b (k + 1) t y → y ≡ false → Stopped (o .marks) b (k + 1) → k + 1 + size b ≤ length (o .marks) → some isRash (stepIn actor b (k + 1) t o .log) ≡ false → Thru (stepIn actor b (k + 1) t o) b (k + 1))
+      (j : (y : Bool) → Waits (o .marks) b (k + 1) t y → y ≡ false → Undoing (o .marks) b (k + 1) → (v : Bool) → phase (getD (o .marks) k 0) ≡ Phase.undoes v → k + 1 + size b ≤ length (o .marks) → some isRash (stepIn actor b (k + 1) t o .log) ≡ false
+      → Thru (stepIn actor b (k + 1) t o) b (k + 1))
+      (l : (y : Bool) → Waits (o .marks) g (k + 1 + size b) t y → y ≡ false → Run (o .marks) g (k + 1 + size b) → phase (getD (o .marks) k 0) ≡ heals → k + 1 + size b + size g ≤ length (o .marks)
+      → some isRash (stepIn actor g (k + 1 + size b) t o .log) ≡ false → Thru (stepIn actor g (k + 1 + size b) t o) g (k + 1 + size b)) where
+    scope-run-by : (c : Bool) → Waits (o .marks) (act scope (trio b g u)) k t c → Run (o .marks) (act scope (trio b g u)) k → some isRash (stepIn actor (act scope (trio b g u)) k t o .log) ≡ false
+        → ((y : Bool) → Waits (o .marks) b (k + 1) t y → y ≡ false → Run (o .marks) b (k + 1) → phase (getD (o .marks) k 0) ≡ live → k + 1 + size b ≤ length (o .marks) → some isRash (stepIn actor b (k + 1) t o .log) ≡ false
+        → Thru (stepIn actor b (k + 1) t o) b (k + 1))
+        → Thru (stepIn actor (act scope (trio b g u)) k t o) (act scope (trio b g u)) k
+    unfolding size kind
+    scope-run-by c (waits-itself e d) r z q = thru-here e
+    scope-run-by c (waits-within lt w) (run-awaits s d y v) z q = absurd (false≢true (sym s))
+    scope-run-by c (waits-within lt w) (run-one s d y) z q = absurd (false≢true (sym s))
+    scope-run-by c (waits-within lt w) (run-body d r v) z q = live-thru {n = n} b g u k h sb x (named-of b g u k x) m lt w z d r v (λ w₁ c₁. q false w₁ refl r (ap phase d) (omega arith) c₁)
+    scope-run-by c (waits-within lt w) (run-done d v) z q = absurd (quiet-waits-in w refl (quiet-part v (omega arith) (omega arith)))
+    scope-run-by c (waits-within lt w) (run-turned d v) z q = turned-by {n = n} b g u k h sb x (named-of b g u k x) m lt w z d v i j l
+
+    scope-stopped-by : (c : Bool) → Waits (o .marks) (act scope (trio b g u)) k t c → c ≡ false → Stopped (o .marks) (act scope (trio b g u)) k → some isRash (stepIn actor (act scope (trio b g u)) k t o .log) ≡ false
+        → Thru (stepIn actor (act scope (trio b g u)) k t o) (act scope (trio b g u)) k
+    unfolding kind
+    scope-stopped-by c w q (stopped-part s e d) z = absurd (false≢true (sym s))
+    scope-stopped-by c w q (stopped-quiet e) z = absurd (quiet-waits w q e)
+    scope-stopped-by c (waits-itself e d) q (stopped-scope y v) z = thru-here e
+    scope-stopped-by c (waits-within lt w) q (stopped-scope y v) z = turned-by {n = n} b g u k h sb x (named-of b g u k x) m lt w z y v i j l
+
+  scope-undoing-by : (b g u : Act) (k : ℕ) (c : Bool) → k + size (act scope (trio b g u)) ≤ length (o .marks) → Waits (o .marks) (act scope (trio b g u)) k t c → Undoing (o .marks) (act scope (trio b g u)) k
+      → some isRash (stepIn actor (act scope (trio b g u)) k t o .log) ≡ false
+      → ((y : Bool) → Waits (o .marks) u (k + 1 + size b + size g) t y → y ≡ false → Run (o .marks) u (k + 1 + size b + size g) → k + 1 + size b + size g + size u ≤ length (o .marks)
+      → some isRash (stepIn actor u (k + 1 + size b + size g) t o .log) ≡ false → Thru (stepIn actor u (k + 1 + size b + size g) t o) u (k + 1 + size b + size g))
+      → Thru (stepIn actor (act scope (trio b g u)) k t o) (act scope (trio b g u)) k
+  unfolding size kind Its Whole
+  scope-undoing-by b g u k c m w (undoing-part s e d) z i = absurd (false≢true (sym s))
+  scope-undoing-by b g u k c m (waits-itself e d) (undoing-scope x q r) z i = thru-here e
+  scope-undoing-by b g u k c m (waits-within h (waits-first h₁ w)) (undoing-scope x q r) z i = absurd (quiet-waits w refl (quiet-part q (omega arith) (omega arith)))
+  scope-undoing-by b g u k c m (waits-within h (waits-later h₁ (waits-first h₂ w))) (undoing-scope x q r) z i = absurd (quiet-waits w refl (quiet-part q (omega arith) (omega arith)))
+  scope-undoing-by b g u k c m (waits-within h (waits-later h₁ (waits-later h₂ (waits-first h₃ w)))) (undoing-scope x q r) z i =
+      let e = undo-step p distinct actor b g u k t o h₂ h₃ in
+      thru-in h (λ d. absurd (false≢true d)) (thru-later h₁ (thru-later h₂ (thru-first h₃
+      (subst (λ (v : Outcome). Thru v u (k + 1 + size b + size g)) (sym e)
+      (thru-map (undo-passes u (k + 1 + size b + size g) (size u)) (i _ w refl r (omega arith) (undo-calm (stepIn actor u (k + 1 + size b + size g) t o) (subst (λ (v : Outcome). some isRash (v .log) ≡ false) e z))) (omega arith) (omega arith))))))
+
+  part-stopped-by : (own : Own) (within : Acts) (k : ℕ) (b : Bool) {x : Place} → isScope own ≡ false → SitsIn p x within (k + 1) → Knows f (act own within) k → Waits (o .marks) (act own within) k t b → Stopped (o .marks) (act own within) k
+      → k + size (act own within) ≤ length (o .marks) → some isRash (stepIn actor (act own within) k t o .log) ≡ false
+      → ((c : Bool) → WaitsIn (o .marks) within (k + 1) t c → c ≡ false → StoppedIn (o .marks) within (k + 1) → k + 1 + sizes within ≤ length (o .marks) → some isRash (stepAmong actor within (k + 1) t o .log) ≡ false
+      → ThruIn (stepAmong actor within (k + 1) t o) within (k + 1))
+      → Thru (stepIn actor (act own within) k t o) (act own within) k
+  unfolding size kind
+  part-stopped-by own within k b s y x (waits-itself e d) r m z i = thru-here e
+  part-stopped-by own within k b s y x (waits-within h w) (stopped-part s₁ e j) m z i =
+      let c = opens-idle own (getD (o .marks) k 0) e in
+      idle-thru own within k x s e (stopped-part-not p distinct actor j w c) h (omega arith) (steps-stopped-in p distinct actor y t o _ w c j (omega arith)) z (λ c₁. i _ w c j (omega arith) c₁)
+  part-stopped-by own within k b s y x (waits-within h w) (stopped-quiet j) m z i =
+      absurd (quiet-waits-in w (opens-idle own (getD (o .marks) k 0) (j .at k (omega arith) (omega arith))) (quiet-part j (omega arith) (omega arith)))
+  part-stopped-by own within k b s y x (waits-within h w) (stopped-scope e j) m z i = absurd (false≢true (sym s))
+
+  part-undoing-by : (own : Own) (within : Acts) (k : ℕ) (b : Bool) {x : Place} → isScope own ≡ false → SitsIn p x within (k + 1) → Fit (undoOf (nameOf x) (aroundOf x)) o → Knows f (act own within) k → Waits (o .marks) (act own within) k t b
+      → Undoing (o .marks) (act own within) k → k + size (act own within) ≤ length (o .marks) → some isRash (stepIn actor (act own within) k t o .log) ≡ false
+      → ((c : Bool) → WaitsIn (o .marks) within (k + 1) t c → c ≡ false → UndoingIn (o .marks) within (k + 1) → k + 1 + sizes within ≤ length (o .marks) → some isRash (stepAmong actor within (k + 1) t o .log) ≡ false
+      → ThruIn (stepAmong actor within (k + 1) t o) within (k + 1))
+      → Thru (stepIn actor (act own within) k t o) (act own within) k
+  unfolding size kind
+  part-undoing-by own within k b s y v x (waits-itself e d) r m z i = thru-here e
+  part-undoing-by own within k b s y v x (waits-within h w) (undoing-part s₁ e j) m z i =
+      let c = opens-idle own (getD (o .marks) k 0) e in
+      idle-thru own within k x s e (undoing-part-not p distinct actor j w c) h (omega arith) (steps-undoing-in p distinct actor y t o _ w c j v (omega arith)) z (λ c₁. i _ w c j (omega arith) c₁)
+  part-undoing-by own within k b s y v x (waits-within h w) (undoing-scope e j q) m z i = absurd (false≢true (sym s))
+
+  -- lists: the one with the step, or a later one
+  one-by : (a : Act) (l : Acts) (c : ℕ) (b : Bool) → WaitsIn (o .marks) (more a l) c t b → b ≡ false → One (o .marks) (more a l) c → c + sizes (more a l) ≤ length (o .marks) → some isRash (stepAmong actor (more a l) c t o .log) ≡ false
+      → (Waits (o .marks) a c t b → Run (o .marks) a c → c + size a ≤ length (o .marks) → some isRash (stepIn actor a c t o .log) ≡ false → Thru (stepIn actor a c t o) a c)
+      → (WaitsIn (o .marks) l (c + size a) t b → One (o .marks) l (c + size a) → c + size a + sizes l ≤ length (o .marks) → some isRash (stepAmong actor l (c + size a) t o .log) ≡ false
+      → ThruIn (stepAmong actor l (c + size a) t o) l (c + size a))
+      → ThruIn (stepAmong actor (more a l) c t o) (more a l) c
+  unfolding size
+  one-by a l c b (waits-first h w) e (one-here r q) m i f g = first-thru a l c h (f w r (omega arith) (calm-first a l c h i))
+  one-by a l c b (waits-later h w) e (one-here r q) m i f g = absurd (quiet-waits-in w e q)
+  one-by a l c b (waits-first h w) e (one-later q r) m i f g = absurd (quiet-waits w e q)
+  one-by a l c b (waits-later h w) e (one-later q r) m i f g = later-thru a l c h (g w r (omega arith) (calm-later a l c h i))
+
+  all-by : (a : Act) (l : Acts) (c : ℕ) (b : Bool) → WaitsIn (o .marks) (more a l) c t b → b ≡ false → All (o .marks) (more a l) c → c + sizes (more a l) ≤ length (o .marks) → some isRash (stepAmong actor (more a l) c t o .log) ≡ false
+      → (Waits (o .marks) a c t b → Run (o .marks) a c → c + size a ≤ length (o .marks) → some isRash (stepIn actor a c t o .log) ≡ false → Thru (stepIn actor a c t o) a c)
+      → (WaitsIn (o .marks) l (c + size a) t b → All (o .marks) l (c + size a) → c + size a + sizes l ≤ length (o .marks) → some isRash (stepAmong actor l (c + size a) t o .log) ≡ false
+      → ThruIn (stepAmong actor l (c + size a) t o) l (c + size a))
+      → ThruIn (stepAmong actor (more a l) c t o) (more a l) c
+  unfolding size
+  all-by a l c b (waits-first h w) e (all-run r q) m i f g = first-thru a l c h (f w r (omega arith) (calm-first a l c h i))
+  all-by a l c b (waits-first h w) e (all-quiet q r) m i f g = absurd (quiet-waits w e q)
+  all-by a l c b (waits-later h w) e (all-run r q) m i f g = later-thru a l c h (g w q (omega arith) (calm-later a l c h i))
+  all-by a l c b (waits-later h w) e (all-quiet q r) m i f g = later-thru a l c h (g w r (omega arith) (calm-later a l c h i))
+
+  stopped-by : (a : Act) (l : Acts) (c : ℕ) (b : Bool) → WaitsIn (o .marks) (more a l) c t b → StoppedIn (o .marks) (more a l) c → c + sizes (more a l) ≤ length (o .marks) → some isRash (stepAmong actor (more a l) c t o .log) ≡ false
+      → (Waits (o .marks) a c t b → Stopped (o .marks) a c → c + size a ≤ length (o .marks) → some isRash (stepIn actor a c t o .log) ≡ false → Thru (stepIn actor a c t o) a c)
+      → (WaitsIn (o .marks) l (c + size a) t b → StoppedIn (o .marks) l (c + size a) → c + size a + sizes l ≤ length (o .marks) → some isRash (stepAmong actor l (c + size a) t o .log) ≡ false
+      → ThruIn (stepAmong actor l (c + size a) t o) l (c + size a))
+      → ThruIn (stepAmong actor (more a l) c t o) (more a l) c
+  unfolding size
+  stopped-by a l c b (waits-first h w) (stopped-more r q) m i f g = first-thru a l c h (f w r (omega arith) (calm-first a l c h i))
+  stopped-by a l c b (waits-later h w) (stopped-more r q) m i f g = later-thru a l c h (g w q (omega arith) (calm-later a l c h i))
+
+  undoing-by : (a : Act) (l : Acts) (c : ℕ) (b : Bool) → WaitsIn (o .marks) (more a l) c t b → b ≡ false → UndoingIn (o .marks) (more a l) c → c + sizes (more a l) ≤ length (o .marks) → some isRash (stepAmong actor (more a l) c t o .log) ≡ false
+      → (Waits (o .marks) a c t b → Undoing (o .marks) a c → c + size a ≤ length (o .marks) → some isRash (stepIn actor a c t o .log) ≡ false → Thru (stepIn actor a c t o) a c)
+      → (WaitsIn (o .marks) l (c + size a) t b → UndoingIn (o .marks) l (c + size a) → c + size a + sizes l ≤ length (o .marks) → some isRash (stepAmong actor l (c + size a) t o .log) ≡ false
+      → ThruIn (stepAmong actor l (c + size a) t o) l (c + size a))
+      → ThruIn (stepAmong actor (more a l) c t o) (more a l) c
+  unfolding size
+  undoing-by a l c b (waits-first h w) e (undoing-here r q) m i f g = first-thru a l c h (f w r (omega arith) (calm-first a l c h i))
+  undoing-by a l c b (waits-later h w) e (undoing-here r q) m i f g = absurd (quiet-waits-in w e q)
+  undoing-by a l c b (waits-first h w) e (undoing-later q r) m i f g = absurd (quiet-waits w e q)
+  undoing-by a l c b (waits-later h w) e (undoing-later q r) m i f g = later-thru a l c h (g w r (omega arith) (calm-later a l c h i))
+
+  mutual
+    pub thru-run : {x : Place} {a : Act} {k : ℕ} → Sits p x a k → Knows f a k → (b : Bool) → Waits (o .marks) a k t b → b ≡ false → Run (o .marks) a k → Fit x o → k + size a ≤ length (o .marks)
+        → some isRash (stepIn actor a k t o .log) ≡ false → Thru (stepIn actor a k t o) a k
+    thru-run (sits-part {q = x} {own} {within} {k} s g u y l) z b w q run v m c =
+        part-by own within k b s z w q run m (steps p distinct actor (sits-part s g u y l) t o b w q run v m) c
+        (λ d w₁ e₁ r₁ m₁ c₁. thru-one l (within-known z) d w₁ e₁ r₁ v m₁ c₁) (λ d w₁ e₁ r₁ m₁ c₁. thru-all l (within-known z) d w₁ e₁ r₁ v m₁ c₁)
+    thru-run (sits-scope {n} {c = a} {b} {f = g} {u} {k} kn d i sb y sf su) z c w q run v m r =
+        scope-run-by {n = n} b g u k (seat-of u kn i sb y sf) sb z m
+        (λ x w₁ e₁ r₁ m₁ c₁. thru-stopped sb (first-known (within-known z)) x w₁ e₁ r₁ m₁ c₁)
+        (λ x w₁ e₁ r₁ a z₁ m₁ c₁. thru-undoing sb (first-known (within-known z)) x w₁ e₁ r₁ (a, z₁) m₁ c₁)
+        (λ x w₁ e₁ r₁ z₁ m₁ c₁. thru-part sf (first-known (later-known (within-known z))) x w₁ e₁ r₁ z₁ m₁ c₁)
+        c w run r
+        (λ x w₁ e₁ r₁ z₁ m₁ c₁. thru-run sb (first-known (within-known z)) x w₁ e₁ r₁ z₁ m₁ c₁)
+
+    thru-one : {x : Place} {l : Acts} {c : ℕ} → SitsIn p x l c → KnowsIn f l c → (b : Bool) → WaitsIn (o .marks) l c t b → b ≡ false → One (o .marks) l c → Fit x o → c + sizes l ≤ length (o .marks)
+        → some isRash (stepAmong actor l c t o .log) ≡ false → ThruIn (stepAmong actor l c t o) l c
+    thru-one (sits-more {q = x} {a} {l} {c} s y) z b w e r v m i =
+        one-by a l c b w e r m i (λ w₁ r₁ m₁ c₁. thru-run s (first-known z) b w₁ e r₁ v m₁ c₁) (λ w₁ r₁ m₁ c₁. thru-one y (later-known z) b w₁ e r₁ v m₁ c₁)
+
+    thru-all : {x : Place} {l : Acts} {c : ℕ} → SitsIn p x l c → KnowsIn f l c → (b : Bool) → WaitsIn (o .marks) l c t b → b ≡ false → All (o .marks) l c → Fit x o → c + sizes l ≤ length (o .marks)
+        → some isRash (stepAmong actor l c t o .log) ≡ false → ThruIn (stepAmong actor l c t o) l c
+    thru-all (sits-more {q = x} {a} {l} {c} s y) z b w e r v m i =
+        all-by a l c b w e r m i (λ w₁ r₁ m₁ c₁. thru-run s (first-known z) b w₁ e r₁ v m₁ c₁) (λ w₁ r₁ m₁ c₁. thru-all y (later-known z) b w₁ e r₁ v m₁ c₁)
+
+    pub thru-stopped : {x : Place} {a : Act} {k : ℕ} → Sits p x a k → Knows f a k → (b : Bool) → Waits (o .marks) a k t b → b ≡ false → Stopped (o .marks) a k → k + size a ≤ length (o .marks)
+        → some isRash (stepIn actor a k t o .log) ≡ false → Thru (stepIn actor a k t o) a k
+    thru-stopped (sits-part {q = x} {own} {within} {k} s g u y l) z b w q r m c =
+        part-stopped-by own within k b s l z w r m c (λ d w₁ e₁ r₁ m₁ c₁. thru-stopped-in l (within-known z) d w₁ e₁ r₁ m₁ c₁)
+    thru-stopped (sits-scope {n} {c = a} {b} {f = g} {u} {k} kn d i sb y sf su) z c w q r m e =
+        scope-stopped-by {n = n} b g u k (seat-of u kn i sb y sf) sb z m
+        (λ x w₁ e₁ r₁ m₁ c₁. thru-stopped sb (first-known (within-known z)) x w₁ e₁ r₁ m₁ c₁)
+        (λ x w₁ e₁ r₁ a z₁ m₁ c₁. thru-undoing sb (first-known (within-known z)) x w₁ e₁ r₁ (a, z₁) m₁ c₁)
+        (λ x w₁ e₁ r₁ z₁ m₁ c₁. thru-part sf (first-known (later-known (within-known z))) x w₁ e₁ r₁ z₁ m₁ c₁)
+        c w q r e
+
+    thru-stopped-in : {x : Place} {l : Acts} {c : ℕ} → SitsIn p x l c → KnowsIn f l c → (b : Bool) → WaitsIn (o .marks) l c t b → b ≡ false → StoppedIn (o .marks) l c → c + sizes l ≤ length (o .marks)
+        → some isRash (stepAmong actor l c t o .log) ≡ false → ThruIn (stepAmong actor l c t o) l c
+    thru-stopped-in (sits-more {q = x} {a} {l} {c} s y) z b w e r m i =
+        stopped-by a l c b w r m i (λ w₁ r₁ m₁ c₁. thru-stopped s (first-known z) b w₁ e r₁ m₁ c₁) (λ w₁ r₁ m₁ c₁. thru-stopped-in y (later-known z) b w₁ e r₁ m₁ c₁)
+
+    pub thru-undoing : {x : Place} {a : Act} {k : ℕ} → Sits p x a k → Knows f a k → (b : Bool) → Waits (o .marks) a k t b → b ≡ false → Undoing (o .marks) a k → Fit (undoOf (nameOf x) (aroundOf x)) o
+        → k + size a ≤ length (o .marks) → some isRash (stepIn actor a k t o .log) ≡ false → Thru (stepIn actor a k t o) a k
+    thru-undoing (sits-part {q = x} {own} {within} {k} s g u y l) z b w q r v m c =
+        part-undoing-by own within k b s l v z w r m c (λ d w₁ e₁ r₁ m₁ c₁. thru-undoing-in l (within-known z) d w₁ e₁ r₁ v m₁ c₁)
+    thru-undoing (sits-scope {n} {c = a} {b} {f = g} {u} {k} kn d i sb y sf su) z c w q r v m e =
+        scope-undoing-by b g u k c m w r e (λ x w₁ e₁ r₁ m₁ c₁. thru-part su (first-known (later-known (later-known (within-known z)))) x w₁ e₁ r₁ v m₁ c₁)
+
+    thru-undoing-in : {x : Place} {l : Acts} {c : ℕ} → SitsIn p x l c → KnowsIn f l c → (b : Bool) → WaitsIn (o .marks) l c t b → b ≡ false → UndoingIn (o .marks) l c → Fit (undoOf (nameOf x) (aroundOf x)) o
+        → c + sizes l ≤ length (o .marks) → some isRash (stepAmong actor l c t o .log) ≡ false → ThruIn (stepAmong actor l c t o) l c
+    thru-undoing-in (sits-more {q = x} {a} {l} {c} s y) z b w e r v m i =
+        undoing-by a l c b w e r m i (λ w₁ r₁ m₁ c₁. thru-undoing s (first-known z) b w₁ e r₁ v m₁ c₁) (λ w₁ r₁ m₁ c₁. thru-undoing-in y (later-known z) b w₁ e r₁ v m₁ c₁)
+
+    pub thru-part : {x : Place} {a : Act} {k : ℕ} → Remedy p x a k → Knows f a k → (b : Bool) → Waits (o .marks) a k t b → b ≡ false → Run (o .marks) a k → Fit x o → k + size a ≤ length (o .marks)
+        → some isRash (stepIn actor a k t o .log) ≡ false → Thru (stepIn actor a k t o) a k
+    thru-part (remedy {q = x} {own} {within} {k} s a g u z₁ l d) z b w q run v m c =
+        part-by own within k b s z w q run m (steps-part p distinct actor (remedy s a g u z₁ l d) t o b w q run v m) c
+        (λ d w₁ e₁ r₁ m₁ c₁. thru-one l (within-known z) d w₁ e₁ r₁ v m₁ c₁) (λ d w₁ e₁ r₁ m₁ c₁. thru-all l (within-known z) d w₁ e₁ r₁ v m₁ c₁)
