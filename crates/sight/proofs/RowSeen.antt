@@ -170,7 +170,7 @@ module _ (t known bound parts : List ℕ) (kept i k : ℕ) (letters : List ℕ) 
         doing-says (getD t (k * 13) 0) refl o p l x y
         ∙ (ap (λ d. seen (stepOffers p wait l i o k d) s) (doing-closes (getD t (k * 13) 0) _ _ (variablesOf (x .own)) (scopeAt k (x .within)) (sym z ∙ d))
         ∙ ap (λ h. seen (unlessHeld h (offering i k 0 ∷ [])) s)
-          (sym (v .is o (eqb (getD t (k * 13) 0) 11) (x .within) (g .memory) (g .many) (scope-kind (getD t (k * 13) 0) (sym z ∙ d)))))
+        (sym (v .is o (eqb (getD t (k * 13) 0) 11) (x .within) (g .memory) (g .many) (scope-kind (getD t (k * 13) 0) (sym z ∙ d)))))
 
     pub close-held : {r : Sight} → b ≡ true → r ≡ withholding s → Rows t k (Serving known bound parts kept letters wait least) (doingLine wait i) s r
     close-held e q = record { is = λ o p l x g y. q ∙ sym (closes-says o p l x g y ∙ rw e (seen-hold (offering i k 0 ∷ []) s)) }
