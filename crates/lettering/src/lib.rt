@@ -212,7 +212,7 @@ fn put_activity(
         9 => put(out, used, b"flow"),
         10 => put(out, used, b"pick"),
         11 | 12 => put(out, used, b"scope"),
-        _ => put_exchange(
+        255 => put_exchange(
             out,
             used,
             b"arm: receive from partner ",
@@ -220,7 +220,14 @@ fn put_activity(
             correlation,
             n,
         ),
+        _ => put_unknown(out, used, kind),
     }
+}
+
+// What the table of no accepted plan has.
+fn put_unknown(out: &mut [u8; 65536], used: usize, kind: u32) -> usize {
+    let at = put(out, used, b"unknown kind ");
+    put_number(out, at, kind)
 }
 
 fn put_indent(out: &mut [u8; 65536], used: usize, depth: usize) -> usize {
