@@ -228,7 +228,7 @@ fn put_activity(
         kind::FLOW => put(out, used, b"flow"),
         kind::PICK => put(out, used, b"pick"),
         kind::SCOPE | kind::OPEN_SCOPE => put(out, used, b"scope"),
-        _ => put_exchange(
+        kind::ARM => put_exchange(
             out,
             used,
             b"arm: receive from partner ",
@@ -236,7 +236,14 @@ fn put_activity(
             correlation,
             n,
         ),
+        _ => put_unknown(out, used, kind),
     }
+}
+
+// What the table of no accepted plan has.
+fn put_unknown(out: &mut [u8; 65536], used: usize, kind: u32) -> usize {
+    let at = put(out, used, b"unknown kind ");
+    put_number(out, at, kind)
 }
 
 fn put_indent(out: &mut [u8; 65536], used: usize, depth: usize) -> usize {
