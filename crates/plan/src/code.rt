@@ -1,32 +1,31 @@
 // The kinds of activities (kind.rt) as numbers as wide as places, for those who read them among such.
-use super::kind;
 
-pub const EMPTY: usize = kind::EMPTY as usize;
+pub const EMPTY: usize = super::kind::EMPTY as usize;
 
-pub const SEND: usize = kind::SEND as usize;
+pub const SEND: usize = super::kind::SEND as usize;
 
-pub const RECEIVE: usize = kind::RECEIVE as usize;
+pub const RECEIVE: usize = super::kind::RECEIVE as usize;
 
-pub const SET: usize = kind::SET as usize;
+pub const SET: usize = super::kind::SET as usize;
 
-pub const RAISE: usize = kind::RAISE as usize;
+pub const RAISE: usize = super::kind::RAISE as usize;
 
-pub const LEAVE: usize = kind::LEAVE as usize;
+pub const LEAVE: usize = super::kind::LEAVE as usize;
 
-pub const CHOOSE: usize = kind::CHOOSE as usize;
+pub const CHOOSE: usize = super::kind::CHOOSE as usize;
 
-pub const REPEAT: usize = kind::REPEAT as usize;
+pub const REPEAT: usize = super::kind::REPEAT as usize;
 
-pub const SEQUENCE: usize = kind::SEQUENCE as usize;
+pub const SEQUENCE: usize = super::kind::SEQUENCE as usize;
 
-pub const FLOW: usize = kind::FLOW as usize;
+pub const FLOW: usize = super::kind::FLOW as usize;
 
-pub const PICK: usize = kind::PICK as usize;
+pub const PICK: usize = super::kind::PICK as usize;
 
-pub const SCOPE: usize = kind::SCOPE as usize;
+pub const SCOPE: usize = super::kind::SCOPE as usize;
 
-pub const OPEN_SCOPE: usize = kind::OPEN_SCOPE as usize;
+pub const OPEN_SCOPE: usize = super::kind::OPEN_SCOPE as usize;
 
-pub const LAST: usize = kind::LAST as usize;
+pub const LAST: usize = super::kind::LAST as usize;
 
-pub const ARM: usize = kind::ARM as usize;
+pub const ARM: usize = super::kind::ARM as usize;
