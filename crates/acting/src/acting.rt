@@ -11,7 +11,6 @@ use order::Entered;
 use order::Order;
 use order::Way;
 use order::Went;
-use order::kind;
 use order::kind::is_scope;
 use order::mark;
 use order::marks::begun_in;
@@ -23,13 +22,15 @@ use order::marks::runs;
 use order::rows::end_of;
 use order::rows::kind_of;
 use order::rows::spot_at;
+use plan::kind;
+use plan::layout::Table;
 ghost use Prim.Native.Nat.{_≤_, _<_};
 ghost use mathlib.Core.Path.{_≡_};
 ghost use Rattle.order.specs.Acting.{inPlace};
 ghost use Rattle.order.specs.Answering.{ChildWith, Arms, BeginsAfter, Follows, JoinsAt, ofUndo, Through, InScope, GoesOn, hasParts, Combines, actorOf, Performs, PartOf, StepsIn};
 
 // The row of those from c to e, side by side, in which row t stands; e where there is none.
-fn child_with(table: &[u32; 11584], c: usize, e: usize, t: usize) -> usize
+fn child_with(table: &Table, c: usize, e: usize, t: usize) -> usize
     requires { ⌜ e ≤ 256 ⌝ }
     ensures { λ p. ⌜ ChildWith (now (table .entry)) c e t p ⌝ }
 {
@@ -45,7 +46,7 @@ fn child_with(table: &[u32; 11584], c: usize, e: usize, t: usize) -> usize
 }
 
 // A pick one of whose arms takes its message is no longer active.
-fn arms(table: &[u32; 11584], k: usize, e: usize, child: usize, t: usize, order: Order) -> Order
+fn arms(table: &Table, k: usize, e: usize, child: usize, t: usize, order: Order) -> Order
     ensures { λ p. ⌜ Arms (now (table .entry)) k e child t order p ⌝ }
 {
     if kind_of(table, k) == kind::PICK {
@@ -59,7 +60,7 @@ fn arms(table: &[u32; 11584], k: usize, e: usize, child: usize, t: usize, order:
 }
 
 // What follows the part in row `child` begins, in turn, as far as row e.
-fn begin_after(table: &[u32; 11584], e: usize, child: usize, marks: [u8; 256]) -> Entered
+fn begin_after(table: &Table, e: usize, child: usize, marks: [u8; 256]) -> Entered
     ensures { λ p. ⌜ BeginsAfter (now (table .entry)) e child marks p ⌝ }
 {
     if child < e {
@@ -69,7 +70,7 @@ fn begin_after(table: &[u32; 11584], e: usize, child: usize, marks: [u8; 256]) -
 }
 
 // Sequence k goes on after its part in row `child`.
-fn follows(table: &[u32; 11584], k: usize, e: usize, child: usize, order: Order) -> Went
+fn follows(table: &Table, k: usize, e: usize, child: usize, order: Order) -> Went
     ensures { λ p. ⌜ Follows (now (table .entry)) k e child order p ⌝ }
 {
     let m = order.marks;
@@ -109,7 +110,7 @@ fn of_undo(way: Way) -> bool
 }
 
 // Whether what became of an order in the body of scope k goes through it: of an undo part that it handed on, to the scope further around that runs it.
-fn goes_through(table: &[u32; 11584], k: usize, r: Went) -> bool
+fn goes_through(table: &Table, k: usize, r: Went) -> bool
     ensures { λ b. ⌜ Through (now (table .entry)) k r b ⌝ }
 {
     if kind_of(table, k) == kind::OPEN_SCOPE {
@@ -123,7 +124,7 @@ fn goes_through(table: &[u32; 11584], k: usize, r: Went) -> bool
 }
 
 // What scope k makes of a step t within it.
-fn in_scope(table: &[u32; 11584], k: usize, t: usize, r: Went) -> Went
+fn in_scope(table: &Table, k: usize, t: usize, r: Went) -> Went
     ensures { λ p. ⌜ InScope (now (table .entry)) k t r p ⌝ }
 {
     let s = spot_at(table, k);
@@ -141,7 +142,7 @@ fn in_scope(table: &[u32; 11584], k: usize, t: usize, r: Went) -> Went
 }
 
 // What activity k makes of its part that is over.
-fn goes_on(table: &[u32; 11584], k: usize, e: usize, child: usize, order: Order) -> Went
+fn goes_on(table: &Table, k: usize, e: usize, child: usize, order: Order) -> Went
     requires { ⌜ (k < 256) × (e ≤ 256) ⌝ }
     ensures { λ p. ⌜ GoesOn (now (table .entry)) k e child order p ⌝ }
 {
@@ -182,7 +183,7 @@ fn has_parts(kind: u32) -> bool
 }
 
 // What activity k makes of a step t within it.
-fn combines(table: &[u32; 11584], k: usize, e: usize, child: usize, t: usize, r: Went) -> Went
+fn combines(table: &Table, k: usize, e: usize, child: usize, t: usize, r: Went) -> Went
     requires { ⌜ (k < 256) × (e ≤ 256) ⌝ }
     ensures { λ p. ⌜ Combines (now (table .entry)) k e child t r p ⌝ }
 {
@@ -201,7 +202,7 @@ fn combines(table: &[u32; 11584], k: usize, e: usize, child: usize, t: usize, r:
 }
 
 // A raise in place of activity k, where that is a receive or an arm.
-fn replaced(table: &[u32; 11584], q: usize, k: usize, order: Order) -> Went
+fn replaced(table: &Table, q: usize, k: usize, order: Order) -> Went
     ensures { λ p. ⌜ Performs (now (table .entry)) inPlace q k order p ⌝ }
 {
     let kind = kind_of(table, k);
@@ -215,7 +216,7 @@ fn replaced(table: &[u32; 11584], q: usize, k: usize, order: Order) -> Went
 }
 
 // Activity k acts, or a raise in its place.
-fn performs(table: &[u32; 11584], q: usize, k: usize, raise: bool, order: Order) -> Went
+fn performs(table: &Table, q: usize, k: usize, raise: bool, order: Order) -> Went
     ensures { λ p. ⌜ Performs (now (table .entry)) (actorOf raise) q k order p ⌝ }
 {
     if raise {
@@ -226,7 +227,7 @@ fn performs(table: &[u32; 11584], q: usize, k: usize, raise: bool, order: Order)
 
 // The part that what stands in row `child` within activity k stands in, where k stands in the part q: of what stands directly in a scope each is a part by
 // itself.
-fn part_of(table: &[u32; 11584], q: usize, k: usize, child: usize) -> usize
+fn part_of(table: &Table, q: usize, k: usize, child: usize) -> usize
     ensures { λ p. ⌜ PartOf (now (table .entry)) q k child p ⌝ }
 {
     if is_scope(kind_of(table, k)) {
@@ -237,7 +238,7 @@ fn part_of(table: &[u32; 11584], q: usize, k: usize, child: usize) -> usize
 
 // Step t in activity k, which stands in the part whose first activity has the number q, or a raise in its place.
 pub(crate) fn step_in(
-    table: &[u32; 11584],
+    table: &Table,
     q: usize,
     k: usize,
     t: usize,

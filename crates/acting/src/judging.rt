@@ -2,6 +2,7 @@
 use super::root::acted;
 use order::End;
 use order::Next;
+use plan::layout::Table;
 use settling::conflict::first_conflict;
 use settling::ranks::is_lower;
 ghost use mathlib.Core.Path.{_≡_};
@@ -22,7 +23,7 @@ fn goes_on(end: End) -> bool
 
 // A raise in place of the higher-numbered of two that are open for one thing, again and again. Each leaves an order lower than before, of any plan's
 // table (settling/proofs/Settling.antt); of a table that spells no plan, one that does not is the last.
-pub(crate) fn settled(table: &[u32; 11584], activities: usize, next: Next) -> Next
+pub(crate) fn settled(table: &Table, activities: usize, next: Next) -> Next
     ensures { λ r. ⌜ Settles (now (table .entry)) activities next r ⌝ }
 {
     let mut m = next;

@@ -7,8 +7,9 @@ mod taking;
 
 use order::Next;
 use order::Order;
-use order::kind;
 use order::rows::kind_of;
+use plan::kind;
+use plan::layout::Table;
 pub use root::acted;
 ghost use Rattle.order.specs.Answering.{StepsOrder, TakesOrder};
 
@@ -18,7 +19,7 @@ ghost use Rattle.order.specs.Answering.{StepsOrder, TakesOrder};
 
 // Step t of an order, and what is open then judged: how the order ended with it, if it did, and the order after it. `activities` is how many activities and
 // arms the plan has. Nothing is said of a close that has no room: it is held, and so not taken.
-pub fn step_order(table: &[u32; 11584], activities: usize, order: Order, t: usize) -> Next
+pub fn step_order(table: &Table, activities: usize, order: Order, t: usize) -> Next
     ensures { λ r. ⌜ StepsOrder (now (table .entry)) activities t order r ⌝ }
 {
     judging::settled(
@@ -30,7 +31,7 @@ pub fn step_order(table: &[u32; 11584], activities: usize, order: Order, t: usiz
 
 // The order that takes a message with these values by activity t: the variables of a receive or an arm are bound. Its step comes after.
 pub fn taken_order(
-    table: &[u32; 11584],
+    table: &Table,
     activities: usize,
     order: Order,
     t: usize,

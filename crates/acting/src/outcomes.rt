@@ -10,6 +10,7 @@ use order::marks::marking;
 use order::marks::runs;
 use order::marks::with_marks;
 use order::memory::forgetting;
+use plan::layout::Table;
 use scopes::scopes::ends;
 use scopes::scopes::turns;
 use scopes::scopes::undoes;
@@ -20,7 +21,7 @@ ghost use Rattle.order.specs.Answering.{Leads, Makes, PartOver, went, outcome};
 ghost use Rattle.order.specs.Scope.{faults as faultsOf, breaks as breaksOf, looksAgain, bodyOver, bodyRaised, undoOver, undoRaised, fromBody, partOver, partRaised, fromFault, fromUndo};
 
 // The scope faults.
-fn faults(table: &[u32; 11584], spot: Spot, order: Order) -> Went
+fn faults(table: &Table, spot: Spot, order: Order) -> Went
     ensures { λ p. ⌜ Leads (now (table .entry)) spot faultsOf order p ⌝ }
 {
     let o = marking(spot, mark::FAULTY, order);
@@ -29,7 +30,7 @@ fn faults(table: &[u32; 11584], spot: Spot, order: Order) -> Went
 }
 
 // The scope ends with a fault that goes on to the scope around it.
-fn breaks(table: &[u32; 11584], spot: Spot, order: Order) -> Went
+fn breaks(table: &Table, spot: Spot, order: Order) -> Went
     ensures { λ p. ⌜ Leads (now (table .entry)) spot breaksOf order p ⌝ }
 {
     let o = forgetting(spot.body, marking(spot, mark::IDLE, order));
@@ -43,7 +44,7 @@ fn breaks(table: &[u32; 11584], spot: Spot, order: Order) -> Went
 }
 
 // The scope looks again where it waits for its inner scopes.
-fn looks_again(table: &[u32; 11584], spot: Spot, order: Order) -> Went
+fn looks_again(table: &Table, spot: Spot, order: Order) -> Went
     ensures { λ p. ⌜ Leads (now (table .entry)) spot looksAgain order p ⌝ }
 {
     let m = mark_of(spot, order);
@@ -57,7 +58,7 @@ fn looks_again(table: &[u32; 11584], spot: Spot, order: Order) -> Went
 }
 
 // The body is over.
-fn body_over(table: &[u32; 11584], spot: Spot, order: Order) -> Went
+fn body_over(table: &Table, spot: Spot, order: Order) -> Went
     ensures { λ p. ⌜ Leads (now (table .entry)) spot bodyOver order p ⌝ }
 {
     if mark_of(spot, order) == mark::ACTIVE {
@@ -68,7 +69,7 @@ fn body_over(table: &[u32; 11584], spot: Spot, order: Order) -> Went
 }
 
 // A fault came out of the body.
-fn body_raised(table: &[u32; 11584], spot: Spot, order: Order) -> Went
+fn body_raised(table: &Table, spot: Spot, order: Order) -> Went
     ensures { λ p. ⌜ Leads (now (table .entry)) spot bodyRaised order p ⌝ }
 {
     if is_open(mark_of(spot, order)) {
@@ -78,7 +79,7 @@ fn body_raised(table: &[u32; 11584], spot: Spot, order: Order) -> Went
 }
 
 // An undo part that the scope is running is over.
-fn undo_over(table: &[u32; 11584], spot: Spot, order: Order) -> Went
+fn undo_over(table: &Table, spot: Spot, order: Order) -> Went
     ensures { λ p. ⌜ Leads (now (table .entry)) spot undoOver order p ⌝ }
 {
     let m = mark_of(spot, order);
@@ -92,7 +93,7 @@ fn undo_over(table: &[u32; 11584], spot: Spot, order: Order) -> Went
 }
 
 // A fault came out of an undo part that the scope is running.
-fn undo_raised(table: &[u32; 11584], spot: Spot, order: Order) -> Went
+fn undo_raised(table: &Table, spot: Spot, order: Order) -> Went
     ensures { λ p. ⌜ Leads (now (table .entry)) spot undoRaised order p ⌝ }
 {
     let m = mark_of(spot, order);
@@ -106,7 +107,7 @@ fn undo_raised(table: &[u32; 11584], spot: Spot, order: Order) -> Went
 }
 
 // What a scope makes of a step in its body.
-pub(crate) fn from_body(table: &[u32; 11584], spot: Spot, r: Went) -> Went
+pub(crate) fn from_body(table: &Table, spot: Spot, r: Went) -> Went
     ensures { λ p. ⌜ Makes (now (table .entry)) spot fromBody r p ⌝ }
 {
     let w = r.way;
@@ -135,7 +136,7 @@ fn part_over(spot: Spot, order: Order) -> Went
 }
 
 // A fault came out of the fault part that the scope is running.
-fn part_raised(table: &[u32; 11584], spot: Spot, order: Order) -> Went
+fn part_raised(table: &Table, spot: Spot, order: Order) -> Went
     ensures { λ p. ⌜ Leads (now (table .entry)) spot partRaised order p ⌝ }
 {
     if mark_of(spot, order) == mark::HANDLING {
@@ -145,7 +146,7 @@ fn part_raised(table: &[u32; 11584], spot: Spot, order: Order) -> Went
 }
 
 // What a scope makes of a step in its fault part.
-pub(crate) fn from_fault(table: &[u32; 11584], spot: Spot, r: Went) -> Went
+pub(crate) fn from_fault(table: &Table, spot: Spot, r: Went) -> Went
     ensures { λ p. ⌜ Makes (now (table .entry)) spot fromFault r p ⌝ }
 {
     let w = r.way;

@@ -11,6 +11,7 @@ use order::Way;
 use order::Went;
 use order::mark;
 use order::rows::end_of;
+use plan::layout::Table;
 ghost use Prim.Native.Nat.{_≤_, _<_};
 ghost use mathlib.Core.Path.{_≡_};
 ghost use Rattle.order.specs.Acting.{endOf, movedTo};
@@ -69,7 +70,7 @@ fn some_row(x: usize) -> usize
 }
 
 // The root as a scope.
-pub(crate) fn root_spot(table: &[u32; 11584], activities: usize) -> Spot
+pub(crate) fn root_spot(table: &Table, activities: usize) -> Spot
     ensures { λ r. ⌜ RootSpot (now (table .entry)) activities r ⌝ }
 {
     let end = capped(activities);
@@ -84,7 +85,7 @@ pub(crate) fn root_spot(table: &[u32; 11584], activities: usize) -> Spot
 }
 
 // Activity t acts in an order, or a raise in its place: how the order ended with it, if it did, and the order after it.
-pub fn acted(table: &[u32; 11584], activities: usize, order: Order, t: usize, raise: bool) -> Next
+pub fn acted(table: &Table, activities: usize, order: Order, t: usize, raise: bool) -> Next
     ensures { λ r. ⌜ ActsOrder (now (table .entry)) activities (actorOf raise) t order r ⌝ }
 {
     let s = root_spot(table, activities);

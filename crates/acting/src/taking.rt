@@ -3,11 +3,12 @@ use activity::binding;
 use order::Order;
 use order::rows::count_of;
 use order::rows::variable_of;
+use plan::layout::Table;
 ghost use Prim.Native.Nat.{_<_};
 ghost use Rattle.order.specs.Answering.{BindsRow};
 
 // The order with the values bound to the variables that row k names.
-pub(crate) fn bind_row(table: &[u32; 11584], k: usize, values: [u32; 4], order: Order) -> Order
+pub(crate) fn bind_row(table: &Table, k: usize, values: [u32; 4], order: Order) -> Order
     requires { ⌜ k < 256 ⌝ }
     ensures { λ r. ⌜ BindsRow (now (table .entry)) k values order r ⌝ }
 {

@@ -5,7 +5,6 @@ use order::Way;
 use order::Went;
 use order::Worth;
 use order::evaluation::evaluate_at;
-use order::kind;
 use order::mark;
 use order::marks::begun_in;
 use order::marks::cleared;
@@ -20,6 +19,11 @@ use order::rows::count_of;
 use order::rows::end_of;
 use order::rows::kind_of;
 use order::rows::variable_of;
+use plan::kind;
+use plan::layout::EXPRESSION;
+use plan::layout::Table;
+use plan::layout::VARIABLE;
+use plan::layout::WIDTH;
 ghost use Prim.Native.Nat.{_<_};
 ghost use mathlib.Core.Path.{_≡_};
 ghost use Rattle.order.specs.State.{marked as markedOf};
@@ -70,7 +74,7 @@ fn is_bound(order: Order, v: u32) -> bool
 }
 
 // Whether all variables that row k names are bound; false where there is no row k.
-pub fn all_bound(table: &[u32; 11584], k: usize, order: Order) -> bool
+pub fn all_bound(table: &Table, k: usize, order: Order) -> bool
     ensures { λ r. ⌜ AllBound (now (table .entry)) k order r ⌝ }
 {
     if 256 <= k {
@@ -103,7 +107,7 @@ pub fn binding(v: u32, x: u32, order: Order) -> Order
 }
 
 // What stands within activity k from row c on begins.
-fn enters(table: &[u32; 11584], k: usize, c: usize, order: Order) -> Went
+fn enters(table: &Table, k: usize, c: usize, order: Order) -> Went
     ensures { λ r. ⌜ Enters (now (table .entry)) k c order r ⌝ }
 {
     let o = marked(k, mark::INSIDE, order);
@@ -126,7 +130,7 @@ pub fn again(k: usize, order: Order) -> Went
 }
 
 // Repeat k begins its body afresh.
-fn repeats(table: &[u32; 11584], k: usize, order: Order) -> Went
+fn repeats(table: &Table, k: usize, order: Order) -> Went
     requires { ⌜ k < 256 ⌝ }
     ensures { λ r. ⌜ Repeats (now (table .entry)) k order r ⌝ }
 {
@@ -168,7 +172,7 @@ fn hands_on(q: usize, k: usize, order: Order) -> Went
 }
 
 // A send.
-fn sends(table: &[u32; 11584], k: usize, order: Order) -> Went
+fn sends(table: &Table, k: usize, order: Order) -> Went
     ensures { λ r. ⌜ StepOf 1 (now (table .entry)) k order r ⌝ }
 {
     if all_bound(table, k, order) {
@@ -185,20 +189,20 @@ fn node_of(m: u32) -> usize
 }
 
 // What the expression of row k comes to.
-fn worth_at(table: &[u32; 11584], k: usize, order: Order) -> Worth
+fn worth_at(table: &Table, k: usize, order: Order) -> Worth
     requires { ⌜ k < 256 ⌝ }
     ensures { λ r. ⌜ WorthAt (now (table .entry)) k order r ⌝ }
 {
-    let m = node_of(table[k * 13 + 9]);
+    let m = node_of(table[k * WIDTH + EXPRESSION]);
     evaluate_at(table, order, m, 8)
 }
 
 // A set.
-fn sets(table: &[u32; 11584], k: usize, order: Order) -> Went
+fn sets(table: &Table, k: usize, order: Order) -> Went
     requires { ⌜ k < 256 ⌝ }
     ensures { λ r. ⌜ StepOf 3 (now (table .entry)) k order r ⌝ }
 {
-    let v = table[k * 13 + 8];
+    let v = table[k * WIDTH + VARIABLE];
     let w = worth_at(table, k, order);
     match w {
         Worth::Fault => raises(k, order),
@@ -210,7 +214,7 @@ fn sets(table: &[u32; 11584], k: usize, order: Order) -> Went
 }
 
 // A choose decides.
-fn chooses(table: &[u32; 11584], k: usize, order: Order) -> Went
+fn chooses(table: &Table, k: usize, order: Order) -> Went
     requires { ⌜ k < 256 ⌝ }
     ensures { λ r. ⌜ StepOf 6 (now (table .entry)) k order r ⌝ }
 {
@@ -228,7 +232,7 @@ fn chooses(table: &[u32; 11584], k: usize, order: Order) -> Went
 }
 
 // A repeat decides.
-fn decides(table: &[u32; 11584], k: usize, order: Order) -> Went
+fn decides(table: &Table, k: usize, order: Order) -> Went
     requires { ⌜ k < 256 ⌝ }
     ensures { λ r. ⌜ StepOf 7 (now (table .entry)) k order r ⌝ }
 {
@@ -245,7 +249,7 @@ fn decides(table: &[u32; 11584], k: usize, order: Order) -> Went
 }
 
 // An arm of a pick takes its message.
-fn takes(table: &[u32; 11584], k: usize, order: Order) -> Went
+fn takes(table: &Table, k: usize, order: Order) -> Went
     requires { ⌜ k < 256 ⌝ }
     ensures { λ r. ⌜ StepOf 255 (now (table .entry)) k order r ⌝ }
 {
@@ -254,7 +258,7 @@ fn takes(table: &[u32; 11584], k: usize, order: Order) -> Went
 }
 
 // Activity k has its step, where there is one. It stands in the part whose first activity has the number q.
-pub fn itself(table: &[u32; 11584], q: usize, k: usize, order: Order) -> Went
+pub fn itself(table: &Table, q: usize, k: usize, order: Order) -> Went
     ensures { λ r. ⌜ StepsAt (now (table .entry)) q k order r ⌝ }
 {
     if 256 <= k {

@@ -1,4 +1,4 @@
--- A step as one number, and numbers written into a lent buffer. Assumes nothing: these are definitions.
+-- Meaning: a step as one number, and numbers written into a lent buffer. Assumes nothing: these are definitions.
 use Prim.Native.Nat.{ℕ, _+_, _*_, _%_}
 use mathlib.Core.List.{List, [], _∷_}
 use lib.ListN.{set}

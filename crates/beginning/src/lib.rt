@@ -2,12 +2,13 @@
 use order::Closing;
 use order::Entered;
 use order::Order;
-use order::kind;
 use order::kind::is_scope;
 use order::mark;
 use order::marks::with_marks;
 use order::rows::end_of;
 use order::rows::kind_of;
+use plan::kind;
+use plan::layout::Table;
 ghost use Prim.Native.Nat.{_≤_, _<_};
 ghost use mathlib.Core.Bool.{_&&_};
 ghost use mathlib.Core.Path.{_≡_};
@@ -51,7 +52,7 @@ fn around(k: usize, r: Entered) -> Entered
 }
 
 // Activity k begins, where there is one.
-pub fn begin(table: &[u32; 11584], k: usize, marks: [u8; 256]) -> Entered
+pub fn begin(table: &Table, k: usize, marks: [u8; 256]) -> Entered
     ensures { λ r. ⌜ Begins (now (table .entry)) k marks r ⌝ }
 {
     let mut m = marks;
@@ -94,7 +95,7 @@ pub fn begin(table: &[u32; 11584], k: usize, marks: [u8; 256]) -> Entered
 }
 
 // The activities from row c to row e begin, one after the other.
-pub fn begin_in_turn(table: &[u32; 11584], c: usize, e: usize, marks: [u8; 256]) -> Entered
+pub fn begin_in_turn(table: &Table, c: usize, e: usize, marks: [u8; 256]) -> Entered
     ensures { λ r. ⌜ BeginsInTurn (now (table .entry)) c e marks r ⌝ }
 {
     let mut m = marks;
@@ -129,7 +130,7 @@ fn both(a: bool, b: bool) -> bool
 }
 
 // The activities from row c to row e begin, side by side.
-fn begin_all(table: &[u32; 11584], c: usize, e: usize, marks: [u8; 256]) -> Entered
+fn begin_all(table: &Table, c: usize, e: usize, marks: [u8; 256]) -> Entered
     requires { ⌜ e ≤ 256 ⌝ }
     ensures { λ r. ⌜ BeginsAll (now (table .entry)) c e marks r ⌝ }
 {
@@ -162,7 +163,7 @@ pub fn no_order() -> Order
 }
 
 // An order as it starts: its body begun.
-pub fn started_order(table: &[u32; 11584]) -> Order
+pub fn started_order(table: &Table) -> Order
     ensures { λ r. ⌜ StartsOrder (now (table .entry)) r ⌝ }
 {
     let o = no_order();

@@ -1,4 +1,4 @@
--- The engine over the caller's bytes: what each call answers, and what it leaves in them. Assumes nothing: these are definitions.
+-- Meaning: the engine over the caller's bytes: what each call answers, and what it leaves in them. Assumes nothing: these are definitions.
 -- Bytes that hold no state stand for the state with no plan, which earns 17 in every call.
 use Prim.Native.Nat.{ℕ, _+_, _*_, _%_}
 use mathlib.Core.Bool.{cond}

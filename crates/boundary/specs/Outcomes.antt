@@ -1,4 +1,4 @@
--- Every outcome that the contract of a public call allows, and that any two of them are equal. Assumes nothing: these are definitions.
+-- Meaning: every outcome that the contract of a public call allows, and that any two of them are equal. Assumes nothing: these are definitions.
 -- A record has the clauses of a call's `ensures`, over what it is given and over all that it gives and leaves: what it answers, and what stands afterwards
 -- in each thing lent to it.
 use Prim.Native.Nat.{ℕ, _+_}

@@ -1,4 +1,4 @@
--- What the exported functions answer, as one number. Assumes nothing: these are definitions.
+-- Meaning: what the exported functions answer, as one number. Assumes nothing: these are definitions.
 -- Each part of such a number is taken within its own room, so that no part can reach into another. Places and lengths in a plan are at most
 -- 4,096 and refusals at most 17, far within it.
 use Prim.Native.Nat.{ℕ, _+_, _*_, _%_}

@@ -12,6 +12,7 @@ use answers::step_number;
 use machine::Message;
 use offer::Offered;
 use plan::Answer;
+use plan::layout::LENGTH;
 
 fn pair_of(number: u32, place: usize) -> u64
     ensures { λ r. ⌜ r ≡ pairOf number place ⌝ }
@@ -45,7 +46,7 @@ fn number_of(a: Answer) -> u64
 pub extern "C" fn moonhalyard_accept(s: &[u8]) -> u64
     ensures { λ r. ⌜ r ≡ acceptNumber (answerOf (readPlan (now (s .entry)))) ⌝ }
 {
-    let mut table = [0u32; 11584];
+    let mut table = [0u32; LENGTH];
     let mut correlation = [0u8; 16];
     let a = plan::accept_over(s, &mut table, &mut correlation);
     number_of(a)

@@ -1,4 +1,4 @@
--- What the exported function answers, as one number. Assumes nothing: these are definitions.
+-- Meaning: what the exported function answers, as one number. Assumes nothing: these are definitions.
 use Prim.Native.Nat.{ℕ, _+_, _*_, _%_}
 use Rattle.mend.specs.declared.Answer.{Answer}
 use Rattle.mend.specs.declared.Answer.the-variants.{Mended}

@@ -1,4 +1,4 @@
--- A state of the first version, MOONHAL1, as one of today. Assumes nothing: these are definitions.
+-- Meaning: a state of the first version, MOONHAL1, as one of today. Assumes nothing: these are definitions.
 -- The first version has 11,964 bytes. All stands at the same place up to the orders, from 5,932 on; an order has 377 bytes there and 409 now, since a closing has one
 -- byte there, the number of the scope that closed, and two now, with the part that it is remembered for.
 use Prim.Native.Nat.{ℕ, zero, suc, _+_, _*_, _-_, _/_, _%_, _≤_}

@@ -1,4 +1,4 @@
--- A state of any version brought up to date: what is answered, and what the caller's bytes hold afterwards. Assumes nothing: these are definitions.
+-- Meaning: a state of any version brought up to date: what is answered, and what the caller's bytes hold afterwards. Assumes nothing: these are definitions.
 -- There are two versions: that of today, which is what `unpacked` reads, and the first.
 use Prim.Native.Nat.{ℕ}
 use mathlib.Core.Bool.{Bool, cond}

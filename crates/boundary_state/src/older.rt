@@ -1,5 +1,10 @@
 // A state of the first version, MOONHAL1, as one of today: a closing was one byte there, the number of its scope, and takes two now, the second the part that
 // it is remembered for, which the plan tells.
+use plan::kind;
+use plan::layout::END;
+use plan::layout::LENGTH;
+use plan::layout::Table;
+use plan::layout::WIDTH;
 ghost use Prim.Native.Nat.{_≤_, _<_};
 ghost use lib.Dec.{eqb, leb, ltb};
 ghost use lib.ListN.{length};
@@ -29,18 +34,18 @@ fn plan_end(old: &[u8]) -> usize
 }
 
 // Whether row j is a scope that row k stands in, where k comes after j.
-fn is_around(table: &[u32; 11584], j: usize, k: u32) -> bool
+fn is_around(table: &Table, j: usize, k: u32) -> bool
     requires { ⌜ j < 256 ⌝ }
     ensures { λ r. ⌜ r ≡ isAround (now (table .entry)) j k ⌝ }
 {
-    if table[j * 13] == 11 {
-        return k < table[j * 13 + 11];
+    if table[j * WIDTH] == kind::SCOPE {
+        return k < table[j * WIDTH + END];
     }
     false
 }
 
 // The part that the closing of a scope is remembered for.
-fn part_around(table: &[u32; 11584], scope: u8) -> u8
+fn part_around(table: &Table, scope: u8) -> u8
     ensures { λ r. ⌜ r ≡ partAround (now (table .entry)) scope scope ⌝ }
 {
     let k = scope as u32;
@@ -56,7 +61,7 @@ fn part_around(table: &[u32; 11584], scope: u8) -> u8
 }
 
 // One of the two bytes of a closing.
-fn closing_byte(table: &[u32; 11584], scope: u8, half: usize) -> u8
+fn closing_byte(table: &Table, scope: u8, half: usize) -> u8
     ensures { λ r. ⌜ r ≡ closingByte (now (table .entry)) scope half ⌝ }
 {
     if half == 0 {
@@ -66,7 +71,7 @@ fn closing_byte(table: &[u32; 11584], scope: u8, half: usize) -> u8
 }
 
 // A byte of an order, whose bytes start at `at` in the old state.
-fn order_byte(old: &[u8], table: &[u32; 11584], at: usize, within: usize) -> u8
+fn order_byte(old: &[u8], table: &Table, at: usize, within: usize) -> u8
     requires { ⌜ (length (now old) ≡ 11964) × (at ≤ 11587) × (within < 409) ⌝ }
     ensures { λ r. ⌜ r ≡ orderByte (now (old .entry)) (now (table .entry)) at within ⌝ }
 {
@@ -81,7 +86,7 @@ fn order_byte(old: &[u8], table: &[u32; 11584], at: usize, within: usize) -> u8
 }
 
 // A byte of the state.
-fn byte_of(old: &[u8], table: &[u32; 11584], i: usize) -> u8
+fn byte_of(old: &[u8], table: &Table, i: usize) -> u8
     requires { ⌜ (length (now old) ≡ 11964) × (i < 12476) ⌝ }
     ensures { λ r. ⌜ r ≡ byteOf (now (old .entry)) (now (table .entry)) i ⌝ }
 {
@@ -96,7 +101,7 @@ fn byte_of(old: &[u8], table: &[u32; 11584], i: usize) -> u8
 }
 
 // All of them.
-fn fill(old: &[u8], table: &[u32; 11584], state: &mut [u8])
+fn fill(old: &[u8], table: &Table, state: &mut [u8])
     requires { ⌜ (length (now old) ≡ 11964) × (length (now state) ≡ 12476) ⌝ }
     ensures { λ _. ⌜ now (state .exit) ≡ renewedBy (now (old .entry)) (now (table .entry)) ⌝ }
 {
@@ -112,7 +117,7 @@ pub(crate) fn renew(old: &[u8], state: &mut [u8])
     requires { ⌜ (length (now old) ≡ 11964) × (length (now state) ≡ 12476) ⌝ }
     ensures { λ _. ⌜ now (state .exit) ≡ renewed (now (old .entry)) ⌝ }
 {
-    let mut table = [0u32; 11584];
+    let mut table = [0u32; LENGTH];
     let mut flags = [0u8; 16];
     let end = plan_end(old);
     plan::accept(&old[36..end], &mut table, &mut flags);

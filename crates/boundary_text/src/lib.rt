@@ -1,5 +1,7 @@
 // A plan as text for callers in other languages: the crate sheet makes rows of it, the crate writer bytes; and back, by the crate lettering. Built as a
 // static library.
+use plan::layout::LENGTH;
+use plan::layout::Table;
 use sheet::Sheet;
 use writer::Answer;
 
@@ -75,7 +77,7 @@ fn handed(said: &[u8; 65536], length: usize, text: &mut [u8]) -> u64 {
 }
 
 fn drawn(
-    table: &[u32; 11584],
+    table: &Table,
     correlation: &[u8; 16],
     variables: u32,
     activities: usize,
@@ -89,7 +91,7 @@ fn drawn(
 // Writes the text of a plan into `text`: how long it is; or the refusal's number times 2^32, and its place, or, for 18, how long the text is.
 #[no_mangle]
 pub extern "C" fn moonhalyard_draw(s: &[u8], text: &mut [u8]) -> u64 {
-    let mut table = [0u32; 11584];
+    let mut table = [0u32; LENGTH];
     let mut correlation = [0u8; 16];
     let a = plan::accept_over(s, &mut table, &mut correlation);
     match a {

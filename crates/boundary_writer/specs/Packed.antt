@@ -1,4 +1,4 @@
--- What the exported functions answer, as one number. Assumes nothing: these are definitions.
+-- Meaning: what the exported functions answer, as one number. Assumes nothing: these are definitions.
 use Prim.Native.Nat.{ℕ, _+_, _*_, _%_}
 use Rattle.writer.specs.declared.Answer.{Answer}
 use Rattle.writer.specs.declared.Answer.the-variants.{Wrote}

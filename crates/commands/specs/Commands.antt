@@ -1,4 +1,4 @@
--- The commands of the desk, by the words of a line. Assumes nothing: these are definitions.
+-- Meaning: the commands of the desk, by the words of a line. Assumes nothing: these are definitions.
 use Prim.Native.Nat.{ℕ, _≤_}
 use mathlib.Core.Bool.{cond}
 use mathlib.Core.List.{List, [], _∷_}

@@ -1,5 +1,5 @@
--- Small examples, computed: a pair of steps that request 10 speaks of, and of each thing that it does not claim one: sends, takes, steps of one
--- order, and the numbers of the choices. Assumes nothing.
+-- Glue: small examples, computed: a pair of steps that request 10 speaks of, and of each thing that it does not claim one: sends, takes, steps of one order,
+-- and the numbers of the choices. Assumes nothing, and nothing here has to be believed.
 use Prim.Native.Nat.{ℕ}
 use mathlib.Core.Path.{_≡_, refl}
 use mathlib.Core.Bool.{Bool, true, false, cond, not, _&&_, _||_}

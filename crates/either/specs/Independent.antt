@@ -1,5 +1,5 @@
--- Request 10 of document 02, independent steps in either order: the law behind it, the theorem, and the same for the public calls. Assumes
--- nothing: these are definitions.
+-- Meaning: request 10 of document 02, independent steps in either order: the law behind it, the theorem, and the same for the public calls. Assumes nothing:
+-- these are definitions.
 use Prim.Native.Nat.{ℕ}
 use mathlib.Core.Path.{_≡_}
 use mathlib.Core.Bool.{Bool, true, false, not, _&&_}

@@ -1,4 +1,5 @@
--- The code's answers, by what the definitions say: of the 256 rows of a table, and of the 64 messages that may wait. Assumes nothing: these are definitions.
+-- Glue: the code's answers, by what the definitions say: of the 256 rows of a table, and of the 64 messages that may wait. Assumes nothing: these are
+-- definitions, and nothing here has to be believed.
 use Prim.Native.Nat.{ℕ, zero, suc, _+_, _*_, _-_, _≤_, _<_}
 use mathlib.Core.Bool.{Bool, true, false, cond, not, _&&_, _||_}
 use mathlib.Core.List.{List, [], _∷_}

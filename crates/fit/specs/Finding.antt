@@ -1,4 +1,4 @@
--- The first open receive that a message fits. Assumes nothing: these are definitions.
+-- Glue: the first open receive that a message fits. Assumes nothing: these are definitions, and nothing here has to be believed.
 use Prim.Native.Nat.{ℕ}
 use mathlib.Core.Bool.{Bool, true, false, cond}
 use mathlib.Core.List.{List, [], _∷_}

@@ -1,4 +1,4 @@
--- Going through a list with a state. Assumes nothing: these are definitions.
+-- Glue: going through a list with a state. Assumes nothing: these are definitions, and nothing here has to be believed.
 use Prim.Native.Nat.{ℕ}
 use mathlib.Core.Bool.{cond}
 use mathlib.Core.List.{List, [], _∷_}

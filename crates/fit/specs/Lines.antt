@@ -1,5 +1,5 @@
--- The activities and arms of a plan as lines, one for each row of the plan's table, and what going through the rows comes to. Assumes nothing:
--- these are definitions.
+-- Glue: the activities and arms of a plan as lines, one for each row of the plan's table, and what going through the rows comes to. Assumes nothing: these are
+-- definitions, and nothing here has to be believed.
 use Prim.Native.Nat.{ℕ, _+_, _≤_, _<_}
 use mathlib.Core.Bool.{Bool, true, false, cond, _&&_}
 use mathlib.Core.List.{List, [], _∷_, _++_}

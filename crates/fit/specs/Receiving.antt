@@ -1,4 +1,5 @@
--- The search for the open receives that a message fits, and for the fewest unchecked places among them. Assumes nothing: these are definitions.
+-- Glue: the search for the open receives that a message fits, and for the fewest unchecked places among them. Assumes nothing: these are definitions, and
+-- nothing here has to be believed.
 use Prim.Native.Nat.{ℕ, _<_, _≤_}
 use mathlib.Core.Bool.{Bool, cond, _&&_, _||_}
 use mathlib.Core.List.{List}

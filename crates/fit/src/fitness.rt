@@ -1,6 +1,12 @@
 // Whether a message fits a receive or an arm of the plan, and how many of its places are unchecked. A table has 256 rows, and 64 messages may wait: beyond them
 // nothing is read, and the answer says nothing.
 use order::Order;
+use plan::layout::COUNT;
+use plan::layout::OPERATION;
+use plan::layout::PARTNER;
+use plan::layout::Table;
+use plan::layout::VARIABLES;
+use plan::layout::WIDTH;
 ghost use Prim.Native.Nat.{_+_, _≤_, _<_};
 ghost use lib.Dec.{eqb};
 ghost use mathlib.Core.Bool.{_||_};
@@ -44,7 +50,7 @@ fn known_at(known: &[u64; 16], v: u32) -> u64
 }
 
 // What is asked at the places of row k.
-pub fn asked_at(table: &[u32; 11584], known: &[u64; 16], k: usize) -> [u64; 4]
+pub fn asked_at(table: &Table, known: &[u64; 16], k: usize) -> [u64; 4]
     ensures { λ r. ⌜ AsksRow (now (table .entry)) (now (known .entry)) k r ⌝ }
 {
     let mut out = [0u64; 4];
@@ -53,7 +59,7 @@ pub fn asked_at(table: &[u32; 11584], known: &[u64; 16], k: usize) -> [u64; 4]
     }
     let mut i: usize = 0;
     while i < 4 {
-        out[i] = known_at(known, table[k * 13 + 4 + i]);
+        out[i] = known_at(known, table[k * WIDTH + VARIABLES + i]);
         i += 1;
     }
     out
@@ -86,13 +92,7 @@ fn agrees_at(asked: &[u64; 4], letters: &[u32; 448], j: usize, count: usize) -> 
 }
 
 // Whether the message at place j fits the receive or arm in row k, of which this is asked: all 32 bits of each checked place count.
-pub fn fits_at(
-    table: &[u32; 11584],
-    k: usize,
-    asked: &[u64; 4],
-    letters: &[u32; 448],
-    j: usize,
-) -> bool
+pub fn fits_at(table: &Table, k: usize, asked: &[u64; 4], letters: &[u32; 448], j: usize) -> bool
     ensures { λ r. ⌜ FitsRow (now (table .entry)) k (now (asked .entry)) (now (letters .entry)) j r ⌝ }
 {
     if 256 <= k {
@@ -101,14 +101,14 @@ pub fn fits_at(
     if 64 <= j {
         return false;
     }
-    if letters[j * 7] != table[k * 13 + 1] {
+    if letters[j * 7] != table[k * WIDTH + PARTNER] {
         return false;
     }
-    if letters[j * 7 + 1] != table[k * 13 + 2] {
+    if letters[j * 7 + 1] != table[k * WIDTH + OPERATION] {
         return false;
     }
     let count = letters[j * 7 + 2];
-    if count != table[k * 13 + 3] {
+    if count != table[k * WIDTH + COUNT] {
         return false;
     }
     if 4 < count {
@@ -125,13 +125,13 @@ fn unchecked_place(asked: u64) -> usize
 }
 
 // How many places of the receive or arm in row k are unchecked.
-pub fn unchecked_at(table: &[u32; 11584], k: usize, asked: &[u64; 4]) -> usize
+pub fn unchecked_at(table: &Table, k: usize, asked: &[u64; 4]) -> usize
     ensures { λ r. ⌜ UncheckedRow (now (table .entry)) k (now (asked .entry)) r ⌝ }
 {
     if 256 <= k {
         return 0;
     }
-    let count = table[k * 13 + 3];
+    let count = table[k * WIDTH + COUNT];
     if 4 < count {
         return 0;
     }

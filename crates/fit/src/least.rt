@@ -5,12 +5,13 @@ use super::fitness::known_of;
 use super::fitness::unchecked_at;
 use super::search::open_at;
 use order::Order;
+use plan::layout::Table;
 ghost use Prim.Native.Nat.{_≤_, _<_};
 ghost use Rattle.fit.specs.Receiving.{LeastLetter, LeastLetters, LeastRow, LeastRows, LeastSlot};
 
 // The fewest for the message at place j, after the receive or arm in row k.
 fn least_letter(
-    table: &[u32; 11584],
+    table: &Table,
     k: usize,
     asked: &[u64; 4],
     unchecked: usize,
@@ -32,7 +33,7 @@ fn least_letter(
 
 // For each message that waits, after the receive or arm in row k.
 fn least_letters(
-    table: &[u32; 11584],
+    table: &Table,
     known: &[u64; 16],
     k: usize,
     letters: &[u32; 448],
@@ -53,7 +54,7 @@ fn least_letters(
 
 // After row k: whether it is open is asked before any message is looked at.
 fn least_row(
-    table: &[u32; 11584],
+    table: &Table,
     picks: &[usize; 256],
     marks: &[u8; 256],
     known: &[u64; 16],
@@ -73,7 +74,7 @@ fn least_row(
 
 // After all rows of an order.
 fn least_rows(
-    table: &[u32; 11584],
+    table: &Table,
     picks: &[usize; 256],
     marks: &[u8; 256],
     known: &[u64; 16],
@@ -94,7 +95,7 @@ fn least_rows(
 
 // After the order in a slot.
 pub fn least_slot(
-    table: &[u32; 11584],
+    table: &Table,
     flags: &[u8; 16],
     picks: &[usize; 256],
     order: Order,

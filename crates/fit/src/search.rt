@@ -4,6 +4,10 @@ use super::fitness::asked_at;
 use super::fitness::fits_at;
 use super::fitness::known_of;
 use order::Order;
+use plan::kind;
+use plan::layout::END;
+use plan::layout::Table;
+use plan::layout::WIDTH;
 ghost use Prim.Native.Nat.{_<_};
 ghost use mathlib.Core.Bool.{cond};
 ghost use mathlib.Core.Path.{_≡_};
@@ -12,18 +16,18 @@ ghost use Rattle.fit.specs.Answering.{openPick, aroundFrom, Picks, ArmAt
 ghost use Rattle.fit.specs.Receiving.{OpensRow, TakesRow, Receives};
 
 // Whether row j is an active pick.
-fn open_pick(table: &[u32; 11584], marks: &[u8; 256], j: usize) -> bool
+fn open_pick(table: &Table, marks: &[u8; 256], j: usize) -> bool
     requires { ⌜ j < 256 ⌝ }
     ensures { λ r. ⌜ r ≡ openPick (now (table .entry)) (now (marks .entry)) j ⌝ }
 {
-    if table[j * 13] == 10 {
+    if table[j * WIDTH] == kind::PICK {
         return marks[j] == 1;
     }
     false
 }
 
 // The nearest row before row k that it stands within, 256 where there is none.
-fn row_around(table: &[u32; 11584], k: usize) -> usize
+fn row_around(table: &Table, k: usize) -> usize
     requires { ⌜ k < 256 ⌝ }
     ensures { λ r. ⌜ r ≡ aroundFrom (now (table .entry)) k k ⌝ }
 {
@@ -31,7 +35,7 @@ fn row_around(table: &[u32; 11584], k: usize) -> usize
     let mut j = k;
     while 0 < j {
         j -= 1;
-        if n < table[j * 13 + 11] {
+        if n < table[j * WIDTH + END] {
             return j;
         }
     }
@@ -39,7 +43,7 @@ fn row_around(table: &[u32; 11584], k: usize) -> usize
 }
 
 // Whether the arm in row k is open, where the rows that the arms stand within are not at hand.
-pub fn arm_at(table: &[u32; 11584], marks: &[u8; 256], k: usize) -> bool
+pub fn arm_at(table: &Table, marks: &[u8; 256], k: usize) -> bool
     ensures { λ r. ⌜ ArmAt (now (table .entry)) (now (marks .entry)) k r ⌝ }
 {
     if 256 <= k {
@@ -53,13 +57,13 @@ pub fn arm_at(table: &[u32; 11584], marks: &[u8; 256], k: usize) -> bool
 }
 
 // The rows that the arms stand within.
-pub fn picks_of(table: &[u32; 11584]) -> [usize; 256]
+pub fn picks_of(table: &Table) -> [usize; 256]
     ensures { λ r. ⌜ Picks (now (table .entry)) r ⌝ }
 {
     let mut out = [256usize; 256];
     let mut k: usize = 0;
     while k < 256 {
-        if table[k * 13] == 255 {
+        if table[k * WIDTH] == kind::ARM {
             out[k] = row_around(table, k);
             k += 1;
             continue;
@@ -70,7 +74,7 @@ pub fn picks_of(table: &[u32; 11584]) -> [usize; 256]
 }
 
 // Whether the arm in row k is open: the row that it stands within is an active pick.
-pub fn arm_open(table: &[u32; 11584], picks: &[usize; 256], marks: &[u8; 256], k: usize) -> bool
+pub fn arm_open(table: &Table, picks: &[usize; 256], marks: &[u8; 256], k: usize) -> bool
     ensures { λ r. ⌜ ArmsRow (now (table .entry)) (now (picks .entry)) (now (marks .entry)) k r ⌝ }
 {
     if 256 <= k {
@@ -84,20 +88,15 @@ pub fn arm_open(table: &[u32; 11584], picks: &[usize; 256], marks: &[u8; 256], k
 }
 
 // Whether row k is an open receive or arm.
-pub(crate) fn open_at(
-    table: &[u32; 11584],
-    picks: &[usize; 256],
-    marks: &[u8; 256],
-    k: usize,
-) -> bool
+pub(crate) fn open_at(table: &Table, picks: &[usize; 256], marks: &[u8; 256], k: usize) -> bool
     requires { ⌜ k < 256 ⌝ }
     ensures { λ r. ⌜ OpensRow (now (table .entry)) (now (picks .entry)) (now (marks .entry)) k r ⌝ }
 {
-    let kind = table[k * 13];
-    if kind == 2 {
+    let kind = table[k * WIDTH];
+    if kind == kind::RECEIVE {
         return marks[k] == 1;
     }
-    if kind == 255 {
+    if kind == kind::ARM {
         return arm_open(table, picks, marks, k);
     }
     false
@@ -105,7 +104,7 @@ pub(crate) fn open_at(
 
 // Whether it is one that the message at place j fits.
 pub fn takes_at(
-    table: &[u32; 11584],
+    table: &Table,
     picks: &[usize; 256],
     marks: &[u8; 256],
     known: &[u64; 16],
@@ -134,7 +133,7 @@ fn rows_of(order: Order, activities: usize) -> usize
 
 // The first open receive of a live order that the message at place j fits: live slots ascending, in each activities ascending.
 pub fn first_receiver(
-    table: &[u32; 11584],
+    table: &Table,
     flags: &[u8; 16],
     picks: &[usize; 256],
     orders: [Order; 16],

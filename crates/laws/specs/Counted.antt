@@ -1,4 +1,4 @@
--- What the tally counts: the starts and the ends that were answered. Assumes nothing: these are definitions.
+-- Meaning: what the tally counts: the starts and the ends that were answered. Assumes nothing: these are definitions.
 use Prim.Native.Nat.{ℕ, _+_, _≤_}
 use mathlib.Core.Path.{_≡_}
 use mathlib.Core.Bool.{cond, not, _&&_}

@@ -1,4 +1,5 @@
--- What is known of a step that is on offer: which order has it, and that it may be taken. Assumes nothing: these are definitions.
+-- Meaning: what is known of a step that is on offer: which order has it, and that it may be taken. Only `actor`, which the promises name, has to be believed:
+-- the rest is glue. Assumes nothing: these are definitions.
 use Prim.Native.Nat.{ℕ, _+_, _<_}
 use mathlib.Core.Bool.{Bool, true, false, cond}
 use mathlib.Core.List.{List}

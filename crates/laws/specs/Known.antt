@@ -1,4 +1,4 @@
--- What an order knows, told by the calls and their answers alone: what its last take or set of each variable gave, and nothing before it started. Then
+-- Meaning: what an order knows, told by the calls and their answers alone: what its last take or set of each variable gave, and nothing before it started. Then
 -- the promises on variables. Assumes nothing: these are definitions.
 use Prim.Native.Nat.{ℕ, _<_}
 use mathlib.Core.Path.{_≡_}

@@ -1,5 +1,5 @@
--- What the machine promises, as named statements about its definitions: each with the sentence of demand 1 or 2 that it renders. The contracts of
--- the code are equations with these definitions, so each holds of the compiled calls. Assumes nothing: these are definitions.
+-- Meaning: what the machine promises, as named statements about its definitions: each with the sentence of demand 1 or 2 that it renders. The contracts of the
+-- code are equations with these definitions, so each holds of the compiled calls. Assumes nothing: these are definitions.
 use Prim.Native.Nat.{ℕ, _+_, _<_}
 use mathlib.Core.Path.{_≡_}
 use mathlib.Core.Bool.{Bool, true, false, cond}

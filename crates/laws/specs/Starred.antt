@@ -1,5 +1,5 @@
--- The starred examples of document 01, of numbers, of plans and of calls on a state, as rows of one table, and the statement that every row
--- holds. Assumes nothing.
+-- Meaning: the starred examples of document 01, of numbers, of plans and of calls on a state, as rows of one table, and the statement that every row holds.
+-- Assumes nothing.
 use Prim.Native.Nat.{ℕ, _+_}
 use mathlib.Core.Path.{_≡_, refl}
 use mathlib.Core.Bool.{Bool, true, cond, _&&_}

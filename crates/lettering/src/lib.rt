@@ -6,6 +6,15 @@ mod table;
 use output::put;
 use output::put_byte;
 use output::put_number;
+use plan::kind;
+use plan::layout::COUNT;
+use plan::layout::EXPRESSION;
+use plan::layout::KIND;
+use plan::layout::OPERATION;
+use plan::layout::PARTNER;
+use plan::layout::Table;
+use plan::layout::VARIABLE;
+use plan::layout::VARIABLES;
 use table::Place;
 use table::after;
 use table::code_of;
@@ -17,10 +26,10 @@ use table::value_of;
 
 // Whether an activity of this kind is a scope: with an undo part, or without.
 fn is_scope(kind: u32) -> bool {
-    if kind == 11 {
+    if kind == kind::SCOPE {
         return true;
     }
-    kind == 12
+    kind == kind::OPEN_SCOPE
 }
 
 // What part of a scope or of a choose an activity is, by its order there.
@@ -34,7 +43,7 @@ fn put_part(out: &mut [u8; 65536], used: usize, kind: u32, order: usize) -> usiz
         }
         return put(out, used, b"undo part: ");
     }
-    if kind == 6 {
+    if kind == kind::CHOOSE {
         if order == 0 {
             return put(out, used, b"then: ");
         }
@@ -43,10 +52,10 @@ fn put_part(out: &mut [u8; 65536], used: usize, kind: u32, order: usize) -> usiz
     used
 }
 
-fn put_role(out: &mut [u8; 65536], used: usize, table: &[u32; 11584], p: Place, n: usize) -> usize {
+fn put_role(out: &mut [u8; 65536], used: usize, table: &Table, p: Place, n: usize) -> usize {
     let parent = p.parent;
     if parent < n {
-        let kind = entry(table, parent, 0);
+        let kind = entry(table, parent, KIND);
         let order = order_of(table, parent, n);
         return put_part(out, used, kind, order);
     }
@@ -82,15 +91,15 @@ fn put_member(out: &mut [u8; 65536], used: usize, correlation: &[u8; 16], number
 fn put_another(
     out: &mut [u8; 65536],
     used: usize,
-    table: &[u32; 11584],
+    table: &Table,
     correlation: &[u8; 16],
     n: usize,
     i: usize,
 ) -> usize {
     if i < 4 {
-        if i < entry(table, n, 3) as usize {
+        if i < entry(table, n, COUNT) as usize {
             let at = put(out, used, b", ");
-            return put_member(out, at, correlation, entry(table, n, 4 + i));
+            return put_member(out, at, correlation, entry(table, n, VARIABLES + i));
         }
     }
     used
@@ -101,16 +110,16 @@ fn put_exchange(
     out: &mut [u8; 65536],
     used: usize,
     words: &[u8],
-    table: &[u32; 11584],
+    table: &Table,
     correlation: &[u8; 16],
     n: usize,
 ) -> usize {
     let said = put(out, used, words);
-    let partner = put_number(out, said, entry(table, n, 1));
+    let partner = put_number(out, said, entry(table, n, PARTNER));
     let between = put(out, partner, b", operation ");
-    let operation = put_number(out, between, entry(table, n, 2));
+    let operation = put_number(out, between, entry(table, n, OPERATION));
     let colon = put(out, operation, b": ");
-    let first = put_member(out, colon, correlation, entry(table, n, 4));
+    let first = put_member(out, colon, correlation, entry(table, n, VARIABLES));
     let second = put_another(out, first, table, correlation, n, 1);
     let third = put_another(out, second, table, correlation, n, 2);
     put_another(out, third, table, correlation, n, 3)
@@ -126,7 +135,7 @@ fn put_operator(out: &mut [u8; 65536], used: usize, code: u32) -> usize {
 }
 
 // A constant or a variable. (No node of an accepted plan is anything else where no level is left.)
-fn put_leaf(out: &mut [u8; 65536], used: usize, table: &[u32; 11584], m: usize) -> usize {
+fn put_leaf(out: &mut [u8; 65536], used: usize, table: &Table, m: usize) -> usize {
     let value = value_of(table, m);
     if code_of(table, m) == 0 {
         return put_number(out, used, value);
@@ -146,7 +155,7 @@ fn put_if(out: &mut [u8; 65536], used: usize, wanted: bool, b: u8) -> usize {
 fn put_expression(
     out: &mut [u8; 65536],
     used: usize,
-    table: &[u32; 11584],
+    table: &Table,
     m: usize,
     depth: usize,
     operand: bool,
@@ -177,16 +186,23 @@ fn put_with_expression(
     out: &mut [u8; 65536],
     used: usize,
     words: &[u8],
-    table: &[u32; 11584],
+    table: &Table,
     n: usize,
 ) -> usize {
     let at = put(out, used, words);
-    put_expression(out, at, table, entry(table, n, 9) as usize, 8, false)
+    put_expression(
+        out,
+        at,
+        table,
+        entry(table, n, EXPRESSION) as usize,
+        8,
+        false,
+    )
 }
 
-fn put_set(out: &mut [u8; 65536], used: usize, table: &[u32; 11584], n: usize) -> usize {
+fn put_set(out: &mut [u8; 65536], used: usize, table: &Table, n: usize) -> usize {
     let said = put(out, used, b"set ");
-    let named = put_variable(out, said, entry(table, n, 8));
+    let named = put_variable(out, said, entry(table, n, VARIABLE));
     put_with_expression(out, named, b" to ", table, n)
 }
 
@@ -194,25 +210,25 @@ fn put_set(out: &mut [u8; 65536], used: usize, table: &[u32; 11584], n: usize) -
 fn put_activity(
     out: &mut [u8; 65536],
     used: usize,
-    table: &[u32; 11584],
+    table: &Table,
     correlation: &[u8; 16],
     n: usize,
 ) -> usize {
-    let kind = entry(table, n, 0);
+    let kind = entry(table, n, KIND);
     match kind {
-        0 => put(out, used, b"empty"),
-        1 => put_exchange(out, used, b"send to partner ", table, correlation, n),
-        2 => put_exchange(out, used, b"receive from partner ", table, correlation, n),
-        3 => put_set(out, used, table, n),
-        4 => put(out, used, b"raise"),
-        5 => put(out, used, b"leave"),
-        6 => put_with_expression(out, used, b"choose by ", table, n),
-        7 => put_with_expression(out, used, b"repeat while ", table, n),
-        8 => put(out, used, b"sequence"),
-        9 => put(out, used, b"flow"),
-        10 => put(out, used, b"pick"),
-        11 | 12 => put(out, used, b"scope"),
-        255 => put_exchange(
+        kind::EMPTY => put(out, used, b"empty"),
+        kind::SEND => put_exchange(out, used, b"send to partner ", table, correlation, n),
+        kind::RECEIVE => put_exchange(out, used, b"receive from partner ", table, correlation, n),
+        kind::SET => put_set(out, used, table, n),
+        kind::RAISE => put(out, used, b"raise"),
+        kind::LEAVE => put(out, used, b"leave"),
+        kind::CHOOSE => put_with_expression(out, used, b"choose by ", table, n),
+        kind::REPEAT => put_with_expression(out, used, b"repeat while ", table, n),
+        kind::SEQUENCE => put(out, used, b"sequence"),
+        kind::FLOW => put(out, used, b"flow"),
+        kind::PICK => put(out, used, b"pick"),
+        kind::SCOPE | kind::OPEN_SCOPE => put(out, used, b"scope"),
+        kind::ARM => put_exchange(
             out,
             used,
             b"arm: receive from partner ",
@@ -252,7 +268,7 @@ fn put_aligned(out: &mut [u8; 65536], used: usize, number: u32) -> usize {
 fn put_line(
     out: &mut [u8; 65536],
     used: usize,
-    table: &[u32; 11584],
+    table: &Table,
     correlation: &[u8; 16],
     n: usize,
 ) -> usize {
@@ -290,7 +306,7 @@ fn put_variables(
 fn put_lines(
     out: &mut [u8; 65536],
     used: usize,
-    table: &[u32; 11584],
+    table: &Table,
     correlation: &[u8; 16],
     activities: usize,
 ) -> usize {
@@ -306,7 +322,7 @@ fn put_lines(
 // The plan with this table and these flags, from the front of `out` on: how long its text is.
 pub fn put_plan(
     out: &mut [u8; 65536],
-    table: &[u32; 11584],
+    table: &Table,
     correlation: &[u8; 16],
     variables: u32,
     activities: usize,

@@ -1,4 +1,9 @@
 // What the table of an accepted plan says of its activities and arms. (The rows and the nodes are those of the crate plan, specs/Table.antt.)
+use plan::layout::END;
+use plan::layout::NODES;
+use plan::layout::Table;
+use plan::layout::VALUES;
+use plan::layout::WIDTH;
 ghost use Prim.Native.Nat.{_<_};
 
 // Where an activity stands: how many activities and arms stand around it, and the nearest of these, or itself where there is none.
@@ -8,27 +13,27 @@ pub struct Place {
 }
 
 // Number `field` of row n.
-pub(crate) fn entry(table: &[u32; 11584], n: usize, field: usize) -> u32 {
+pub(crate) fn entry(table: &Table, n: usize, field: usize) -> u32 {
     if n < 256 {
-        if field < 13 {
-            return table[n * 13 + field];
+        if field < WIDTH {
+            return table[n * WIDTH + field];
         }
     }
     0
 }
 
 // The code of expression node m.
-pub(crate) fn code_of(table: &[u32; 11584], m: usize) -> u32 {
+pub(crate) fn code_of(table: &Table, m: usize) -> u32 {
     if m < 4096 {
-        return table[3392 + m * 2];
+        return table[NODES + m * 2];
     }
     0
 }
 
 // The value of expression node m: a constant, the number of a variable, or the number of the right operand's first node.
-pub(crate) fn value_of(table: &[u32; 11584], m: usize) -> u32 {
+pub(crate) fn value_of(table: &Table, m: usize) -> u32 {
     if m < 4096 {
-        return table[3393 + m * 2];
+        return table[VALUES + m * 2];
     }
     0
 }
@@ -50,8 +55,8 @@ pub(crate) fn narrow(n: usize) -> u32 {
 }
 
 // The place of activity n, after activity m was looked at.
-fn seen_at(table: &[u32; 11584], p: Place, m: usize, n: usize) -> Place {
-    if n < entry(table, m, 11) as usize {
+fn seen_at(table: &Table, p: Place, m: usize, n: usize) -> Place {
+    if n < entry(table, m, END) as usize {
         return Place {
             depth: after(p.depth),
             parent: m,
@@ -60,7 +65,7 @@ fn seen_at(table: &[u32; 11584], p: Place, m: usize, n: usize) -> Place {
     p
 }
 
-pub(crate) fn place_of(table: &[u32; 11584], n: usize) -> Place {
+pub(crate) fn place_of(table: &Table, n: usize) -> Place {
     let mut p = Place {
         depth: 0,
         parent: n,
@@ -74,11 +79,11 @@ pub(crate) fn place_of(table: &[u32; 11584], n: usize) -> Place {
 }
 
 // The number after the last activity within activity m, or the next one where that says less.
-fn beyond(table: &[u32; 11584], m: usize) -> usize
+fn beyond(table: &Table, m: usize) -> usize
     requires { ⌜ m < 18446744073709551615 ⌝ }
     ensures { λ r. ⌜ m < r ⌝ }
 {
-    let end = entry(table, m, 11) as usize;
+    let end = entry(table, m, END) as usize;
     if m < end {
         return end;
     }
@@ -86,7 +91,7 @@ fn beyond(table: &[u32; 11584], m: usize) -> usize
 }
 
 // Of those directly within activity `parent`, how many stand before activity n.
-pub(crate) fn order_of(table: &[u32; 11584], parent: usize, n: usize) -> usize {
+pub(crate) fn order_of(table: &Table, parent: usize, n: usize) -> usize {
     let mut order = 0;
     let mut m = after(parent);
     while m < n {

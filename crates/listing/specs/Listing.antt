@@ -1,4 +1,5 @@
--- A window of the offer, in a lent buffer. Assumes nothing: these are definitions.
+-- Meaning: a window of the offer, in a lent buffer. Only `listedOut` and `listedIn`, which the contract of `list` names, have to be believed: the rest is glue.
+-- Assumes nothing: these are definitions.
 use Prim.Native.Nat.{ℕ, _+_, _-_, _<_}
 use mathlib.Core.Bool.{Bool, cond}
 use mathlib.Core.List.{List, [], map}

@@ -7,6 +7,7 @@ use fit::fitness::known_of;
 use offer::letters::letter_sight;
 use offer::letters::lowest_free;
 use order::Order;
+use plan::layout::Table;
 use sight::counting::nothing_seen;
 ghost use Prim.Native.Nat.{_≤_, _<_};
 ghost use Rattle.offer.specs.Seeing.{Starts, StartsOrder};
@@ -14,7 +15,7 @@ ghost use Rattle.listing.specs.Listing.{holding, listing, Lists, LetterO
 
 // What the message at place j adds: it is asked for one choice after the other, from the first that is wanted on.
 fn list_letter(
-    table: &[u32; 11584],
+    table: &Table,
     flags: &[u8; 16],
     picks: &[usize; 256],
     orders: [Order; 16],
@@ -66,7 +67,7 @@ fn list_letter(
 
 // What the messages that wait add.
 fn list_letters(
-    table: &[u32; 11584],
+    table: &Table,
     flags: &[u8; 16],
     picks: &[usize; 256],
     orders: [Order; 16],
@@ -107,7 +108,7 @@ fn list_letters(
 
 // What they add in the lowest free slot, where `order` is an order as it starts.
 pub(crate) fn list_starts(
-    table: &[u32; 11584],
+    table: &Table,
     flags: &[u8; 16],
     picks: &[usize; 256],
     orders: [Order; 16],

@@ -7,6 +7,8 @@ mod whole;
 use machine::State;
 use machine::limits;
 use plan::Answer;
+use plan::layout::LENGTH;
+use plan::layout::Table;
 ghost use lib.ListN.{length};
 ghost use mathlib.Core.Path.{_≡_};
 ghost use Rattle.offer.specs.Having.{Has};
@@ -26,7 +28,7 @@ pub struct Listed {
 
 // The window in a state that has the plan with this table and these flags.
 fn list_by(
-    table: &[u32; 11584],
+    table: &Table,
     flags: &[u8; 16],
     activities: usize,
     state: State,
@@ -49,7 +51,7 @@ pub fn list(state: State, first: u32, out: &mut [u64]) -> Listed
     ensures is { λ r. ⌜ r ≡ listedIn first state (length (now (out .entry))) ⌝ }
     ensures out { λ _. ⌜ now (out .exit) ≡ listedOut first state (now (out .entry)) ⌝ }
 {
-    let mut table = [0u32; 11584];
+    let mut table = [0u32; LENGTH];
     let mut flags = [0u8; 16];
     let a = limits::planned(state, &mut table, &mut flags);
     let Answer::Accepted {

@@ -6,6 +6,7 @@ use fit::fitness::known_of;
 use machine::Step;
 use order::End;
 use order::Order;
+use plan::layout::Table;
 use sight::Pointer;
 use sight::counting::nothing_seen;
 use sight::memory::parts_of;
@@ -46,7 +47,7 @@ pub(crate) fn lesser_of(left: usize, skip: u32) -> u32
 
 // What row k adds: it is asked for one choice after the other, from the first that is wanted on.
 fn list_row(
-    table: &[u32; 11584],
+    table: &Table,
     picks: &[usize; 256],
     marks: &[u8; 256],
     known: &[u64; 16],
@@ -103,7 +104,7 @@ fn list_row(
 
 // What all rows of an order add.
 fn list_rows(
-    table: &[u32; 11584],
+    table: &Table,
     picks: &[usize; 256],
     marks: &[u8; 256],
     known: &[u64; 16],
@@ -149,7 +150,7 @@ fn list_rows(
 
 // What the order in a slot adds.
 pub(crate) fn list_slot(
-    table: &[u32; 11584],
+    table: &Table,
     flags: &[u8; 16],
     picks: &[usize; 256],
     order: Order,

@@ -8,13 +8,14 @@ use fit::letters::letters_of;
 use fit::search::picks_of;
 use machine::State;
 use order::Order;
+use plan::layout::Table;
 ghost use Prim.Native.Nat.{_≤_};
 ghost use Rattle.listing.specs.Listing.{ListsBy, ListsAll, holding};
 
 // First, for each message that waits, the fewest unchecked places of the open receives that it fits; then what each live order adds; then what may start.
 // The loops stand here and a free slot is passed by, since orders go by value: a call with all of them, or with one, copies them.
 fn list_in(
-    table: &[u32; 11584],
+    table: &Table,
     flags: &[u8; 16],
     picks: &[usize; 256],
     orders: [Order; 16],
@@ -87,7 +88,7 @@ fn list_in(
 
 // The window of a state's offer.
 pub(crate) fn list_of(
-    table: &[u32; 11584],
+    table: &Table,
     flags: &[u8; 16],
     state: State,
     activities: usize,

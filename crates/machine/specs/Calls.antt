@@ -1,4 +1,4 @@
--- The calls on a state: post, collect, drop, the offer shown, step and run, each with its refusals in order. Assumes nothing: these are definitions.
+-- Meaning: the calls on a state: post, collect, drop, the offer shown, step and run, each with its refusals in order. Assumes nothing: these are definitions.
 use Prim.Native.Nat.{ℕ, zero, suc, _+_, _-_}
 use mathlib.Core.Bool.{Bool, true, false, cond, not, _&&_, _||_}
 use mathlib.Core.List.{List, [], _∷_, _++_}

@@ -1,4 +1,5 @@
--- All definitions that compute, under one name: a statement that says `unfolding computing` is computed with them. Assumes nothing.
+-- Glue: all definitions that compute, under one name: a statement that says `unfolding computing` is computed with them. Assumes nothing, and nothing here has
+-- to be believed.
 use Rattle.numbers.specs.Number.{lastGroup, groups, numberAt}
 use Rattle.numbers.specs.Shortest.{spelled, shortest}
 use Rattle.plan.specs.Agree.{inBytes, askedOwn, spanOf, spanAll, askedIn, askedAll, asked, agreesWith, judged as agreed}

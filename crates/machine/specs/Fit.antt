@@ -1,4 +1,4 @@
--- Which messages fit an open receive, and which may start an order. Assumes nothing: these are definitions.
+-- Meaning: which messages fit an open receive, and which may start an order. Assumes nothing: these are definitions.
 use Prim.Native.Nat.{ℕ, suc, _+_}
 use mathlib.Core.Bool.{Bool, true, false, cond, not, _&&_, _||_}
 use mathlib.Core.List.{List, [], _∷_, _++_}

@@ -5,6 +5,7 @@ pub mod made;
 use order::End;
 use order::Order;
 use plan::Answer;
+use plan::layout::LENGTH;
 ghost use mathlib.Core.Path.{_≡_};
 ghost use Rattle.machine.specs.Calls as calls;
 ghost use Rattle.machine.specs.State.{noTally};
@@ -87,7 +88,7 @@ pub fn no_tally() -> Tally
 pub fn load(s: &[u8]) -> Loaded
     ensures { λ r. ⌜ r ≡ calls.load (now (s .entry)) ⌝ }
 {
-    let mut table = [0u32; 11584];
+    let mut table = [0u32; LENGTH];
     let mut flags = [0u8; 16];
     let a = plan::accept_over(s, &mut table, &mut flags);
     match a {

@@ -3,6 +3,8 @@ use super::Message;
 use super::State;
 use order::Order;
 use plan::Answer;
+use plan::layout::LENGTH;
+use plan::layout::Table;
 ghost use Prim.Native.Nat.{ℕ, _≤_};
 ghost use lib.Dec.{eqb, leb};
 ghost use lib.ListN.{length, drop, take};
@@ -156,7 +158,7 @@ pub fn state_ruled(state: State) -> bool
 }
 
 // Whether the first n of some bytes are a plan, with its table, written over what that held, and its flags.
-fn accepted(bytes: &[u8], n: usize, table: &mut [u32; 11584], flags: &mut [u8; 16]) -> Answer
+fn accepted(bytes: &[u8], n: usize, table: &mut Table, flags: &mut [u8; 16]) -> Answer
     requires { ⌜ n ≤ length (now bytes) ⌝ }
     ensures is { λ r. ⌜ r ≡ answerOf (readPlan (take n (now (bytes .entry)))) ⌝ }
     ensures rows { λ _. ⌜ now (table .exit) ≡ tableInto (now (table .entry)) (readPlan (take n (now (bytes .entry)))) ⌝ }
@@ -167,13 +169,13 @@ fn accepted(bytes: &[u8], n: usize, table: &mut [u32; 11584], flags: &mut [u8; 1
 
 // The plan that a state runs by: what accepting its bytes answers, with its table, written over what that held, and its flags; 17 where a number is
 // outside its limit. Those who call it have made the table, blank, and it is not blanked again.
-pub fn planned(state: State, table: &mut [u32; 11584], flags: &mut [u8; 16]) -> Answer
+pub fn planned(state: State, table: &mut Table, flags: &mut [u8; 16]) -> Answer
     ensures is { λ r. ⌜ r ≡ answerOf (planIn state) ⌝ }
     ensures rows { λ _. ⌜ now (table .exit) ≡ tableInto (now (table .entry)) (planIn state) ⌝ }
     ensures flags { λ _. ⌜ now (flags .exit) ≡ flagsFor (planIn state) ⌝ }
 {
     if !state_ruled(state) {
-        *table = [0u32; 11584];
+        *table = [0u32; LENGTH];
         *flags = [0u8; 16];
         return Answer::Refused {
             number: 17,

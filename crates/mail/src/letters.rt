@@ -6,6 +6,8 @@ use machine::Posted;
 use machine::State;
 use machine::limits;
 use machine::made;
+use plan::layout::PARTNERS;
+use plan::layout::Table;
 ghost use Prim.Native.Nat.{ℕ, _+_, _<_, _≤_};
 ghost use lib.Dec.{eqb};
 ghost use lib.ListN.{length, take, drop, getD};
@@ -154,16 +156,16 @@ pub fn without_message(messages: [Message; 64], waiting: usize, place: usize) ->
 }
 
 // Whether the plan with this table receives on a partner.
-fn heard(table: &[u32; 11584], partner: u32) -> bool
+fn heard(table: &Table, partner: u32) -> bool
     requires { ⌜ partner < 64 ⌝ }
     ensures { λ r. ⌜ r ≡ eqb (getD (now (table .entry)) (3328 + partner) 0) 1 ⌝ }
 {
-    let i = 3328 + partner as usize;
+    let i = PARTNERS + partner as usize;
     table[i] == 1
 }
 
 // The place of the oldest message for a partner that the plan with this table never receives on; where there is none, the place after the last.
-fn foreign_place(messages: [Message; 64], waiting: usize, table: &[u32; 11584]) -> usize
+fn foreign_place(messages: [Message; 64], waiting: usize, table: &Table) -> usize
     requires { ⌜ (waiting ≤ 64) × (every messageInLimits (take waiting messages) ≡ true) ⌝ }
     ensures { λ r. ⌜ ((ps : List ℕ) → Heard (now (table .entry)) ps → r ≡ foreign ps 0 (take waiting messages)) ⌝ }
 {
@@ -210,7 +212,7 @@ pub(crate) fn handed(state: State, place: usize) -> Collected
 }
 
 // The oldest message for such a partner is handed out, from a state that has the plan with this table.
-pub(crate) fn collect_by(state: State, table: &[u32; 11584]) -> Collected
+pub(crate) fn collect_by(state: State, table: &Table) -> Collected
     requires { ⌜ inLimits state ≡ true ⌝ }
     ensures { λ r. ⌜ ((p : Plan) → Heard (now (table .entry)) (partnersOf p) → r ≡ collectBy p state) ⌝ }
 {

@@ -8,6 +8,7 @@ use machine::State;
 use machine::limits::planned;
 use machine::made::no_message;
 use plan::Answer;
+use plan::layout::LENGTH;
 ghost use mathlib.Core.Path.{_≡_};
 ghost use Rattle.machine.specs.Calls as calls;
 
@@ -15,7 +16,7 @@ ghost use Rattle.machine.specs.Calls as calls;
 pub fn post(state: State, m: Message) -> Posted
     ensures { λ r. ⌜ r ≡ calls.post m state ⌝ }
 {
-    let mut table = [0u32; 11584];
+    let mut table = [0u32; LENGTH];
     let mut flags = [0u8; 16];
     let a = planned(state, &mut table, &mut flags);
     match a {
@@ -35,7 +36,7 @@ pub fn post(state: State, m: Message) -> Posted
 pub fn collect(state: State) -> Collected
     ensures { λ r. ⌜ r ≡ calls.collect state ⌝ }
 {
-    let mut table = [0u32; 11584];
+    let mut table = [0u32; LENGTH];
     let mut flags = [0u8; 16];
     let a = planned(state, &mut table, &mut flags);
     match a {
@@ -62,7 +63,7 @@ pub fn collect(state: State) -> Collected
 pub fn drop_at(state: State, place: usize) -> Collected
     ensures { λ r. ⌜ r ≡ calls.dropAt place state ⌝ }
 {
-    let mut table = [0u32; 11584];
+    let mut table = [0u32; LENGTH];
     let mut flags = [0u8; 16];
     let a = planned(state, &mut table, &mut flags);
     match a {

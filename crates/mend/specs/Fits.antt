@@ -1,4 +1,4 @@
--- What the scale of a padded number grows to. Assumes nothing: these are definitions.
+-- Glue: what the scale of a padded number grows to. Assumes nothing: these are definitions, and nothing here has to be believed.
 use Prim.Native.Nat.{ℕ, _*_}
 use mathlib.Core.Bool.{cond}
 use lib.Dec.{ltb}

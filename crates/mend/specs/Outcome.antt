@@ -1,4 +1,4 @@
--- What mending comes to. Assumes nothing: these are definitions.
+-- Meaning: what mending comes to. Assumes nothing: these are definitions.
 use Prim.Native.Nat.{ℕ}
 use mathlib.Core.Bool.{cond}
 use mathlib.Core.List.{List}

@@ -1,4 +1,4 @@
--- What a padded plan is: document 02, request 11, "Some partners pad numbers with zero groups". Assumes nothing: these are definitions.
+-- Meaning: what a padded plan is: document 02, request 11, "Some partners pad numbers with zero groups". Assumes nothing: these are definitions.
 -- s are the bytes and `at` is a place in them.
 use Prim.Native.Nat.{ℕ, zero, suc, _+_, _-_, _*_, _%_}
 use mathlib.Core.Bool.{cond, _||_}

@@ -13,6 +13,7 @@ ghost use Rattle.plan.specs.Answers as planAnswers;
 ghost use Rattle.plan.specs.Found.{refused};
 ghost use Rattle.plan.specs.Read.{readPlan};
 use numbers::Number;
+use plan::layout::LENGTH;
 
 // Whether bytes are a padded plan.
 pub enum Reading {
@@ -31,7 +32,7 @@ fn accepted(bytes: &[u8], n: usize) -> plan::Answer
     requires { ⌜ n ≤ length (now bytes) ⌝ }
     ensures { λ r. ⌜ r ≡ planAnswers.answerOf (readPlan (take n (now (bytes .entry)))) ⌝ }
 {
-    let mut table = [0u32; 11584];
+    let mut table = [0u32; LENGTH];
     let mut correlation = [0u8; 16];
     plan::accept_over(&bytes[..n], &mut table, &mut correlation)
 }

@@ -1,5 +1,5 @@
--- Which number a name stands for, by a table of names: 144 places of 33 bytes, each the length of a name and its characters. Assumes nothing: these are
--- definitions.
+-- Meaning: which number a name stands for, by a table of names: 144 places of 33 bytes, each the length of a name and its characters. Assumes nothing: these
+-- are definitions.
 use Prim.Native.Nat.{ℕ, zero, suc, _+_, _*_}
 use mathlib.Core.Bool.{Bool, true, false, cond, not, _&&_}
 use mathlib.Core.List.{List, [], _∷_}

@@ -1,5 +1,5 @@
--- What offers do to something that is carried along from one to the next: a choice that is counted down, a list that is written. Assumes nothing: these
--- are definitions.
+-- Glue: what offers do to something that is carried along from one to the next: a choice that is counted down, a list that is written. Assumes nothing: these
+-- are definitions, and nothing here has to be believed.
 use Prim.Native.Nat.{ℕ}
 use mathlib.Core.Bool.{Bool, cond, not, _&&_, _||_}
 use mathlib.Core.List.{List}

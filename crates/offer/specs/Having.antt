@@ -1,4 +1,5 @@
--- A state with the plan that a table and flags are of, and the code's answers for an offer in it. Assumes nothing: these are definitions.
+-- Meaning: a state with the plan that a table and flags are of, and the code's answers for an offer in it. Only `offeredIn`, which the contract of `offers`
+-- names, has to be believed: the rest is glue. Assumes nothing: these are definitions.
 use Prim.Native.Nat.{ℕ}
 use mathlib.Core.Bool.{false}
 use mathlib.Core.List.{List}

@@ -1,4 +1,5 @@
--- What the orders have on offer, what may start, and what is seen of the whole offer. Assumes nothing: these are definitions.
+-- Glue: what the orders have on offer, what may start, and what is seen of the whole offer. Assumes nothing: these are definitions, and nothing here has to be
+-- believed.
 use Prim.Native.Nat.{ℕ, _-_, _<_, _≤_}
 use mathlib.Core.Bool.{Bool, false, cond, not}
 use mathlib.Core.List.{List, []}

@@ -2,6 +2,7 @@
 use super::slots::free_slot;
 use super::slots::start_letter;
 use order::Order;
+use plan::layout::Table;
 use sight::Sight;
 ghost use Rattle.offer.specs.Seeing.{Frees, StartsAt};
 
@@ -14,7 +15,7 @@ pub fn lowest_free(orders: [Order; 16]) -> usize
 
 // What the message at place j may start, whatever j is, in the slot `free`: `marks` and `known` are those of an order as it starts.
 pub fn letter_sight(
-    table: &[u32; 11584],
+    table: &Table,
     flags: &[u8; 16],
     picks: &[usize; 256],
     orders: [Order; 16],

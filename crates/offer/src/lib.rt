@@ -7,6 +7,8 @@ use machine::State;
 use machine::Step;
 use machine::limits;
 use plan::Answer;
+use plan::layout::LENGTH;
+use plan::layout::Table;
 use sight::counting;
 ghost use mathlib.Core.Path.{_≡_};
 ghost use Rattle.machine.specs.Calls.{preview};
@@ -27,7 +29,7 @@ pub struct Offered {
 
 // What a choice comes to in a state that has the plan with this table and these flags.
 pub fn offer_by(
-    table: &[u32; 11584],
+    table: &Table,
     flags: &[u8; 16],
     activities: usize,
     state: State,
@@ -48,7 +50,7 @@ pub fn offer_by(
 pub fn offer(state: State, choice: usize) -> Step
     ensures { λ r. ⌜ r ≡ preview choice state ⌝ }
 {
-    let mut table = [0u32; 11584];
+    let mut table = [0u32; LENGTH];
     let mut flags = [0u8; 16];
     let a = limits::planned(state, &mut table, &mut flags);
     match a {
@@ -65,7 +67,7 @@ pub fn offer(state: State, choice: usize) -> Step
 }
 
 // How many steps are offered in a state that has the plan with this table and these flags.
-fn count_by(table: &[u32; 11584], flags: &[u8; 16], activities: usize, state: State) -> Offered
+fn count_by(table: &Table, flags: &[u8; 16], activities: usize, state: State) -> Offered
     requires { ⌜ Has (now table) (now flags) activities state ⌝ }
     ensures { λ r. ⌜ r ≡ offeredIn state ⌝ }
 {
@@ -81,7 +83,7 @@ fn count_by(table: &[u32; 11584], flags: &[u8; 16], activities: usize, state: St
 pub fn offers(state: State) -> Offered
     ensures { λ r. ⌜ r ≡ offeredIn state ⌝ }
 {
-    let mut table = [0u32; 11584];
+    let mut table = [0u32; LENGTH];
     let mut flags = [0u8; 16];
     let a = limits::planned(state, &mut table, &mut flags);
     match a {

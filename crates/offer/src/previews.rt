@@ -9,6 +9,7 @@ use fit::search::picks_of;
 use machine::State;
 use machine::Step;
 use order::Order;
+use plan::layout::Table;
 use sight::Sight;
 use sight::counting::answer;
 use sight::counting::nothing_seen;
@@ -20,7 +21,7 @@ ghost use Rattle.offer.specs.Seeing.{SeesBy, SeesAll, Previews, amounted
 // fewest unchecked places of the open receives that it fits, 5 where it fits none; then what each live order has on offer; then what may start.
 // The loops stand here and a free slot is passed by, since orders go by value: a call with all of them, or with one, copies them.
 fn sight_in(
-    table: &[u32; 11584],
+    table: &Table,
     flags: &[u8; 16],
     picks: &[usize; 256],
     orders: [Order; 16],
@@ -93,7 +94,7 @@ fn sight_in(
 
 // What is seen of the whole offer.
 fn sight_of(
-    table: &[u32; 11584],
+    table: &Table,
     flags: &[u8; 16],
     state: State,
     activities: usize,
@@ -120,7 +121,7 @@ fn sight_of(
 
 // What a choice comes to.
 pub(crate) fn preview_by(
-    table: &[u32; 11584],
+    table: &Table,
     flags: &[u8; 16],
     state: State,
     activities: usize,
@@ -151,12 +152,7 @@ fn amount_of(s: Sight) -> Amount
 }
 
 // How much is on offer.
-pub(crate) fn offered_by(
-    table: &[u32; 11584],
-    flags: &[u8; 16],
-    state: State,
-    activities: usize,
-) -> Amount
+pub(crate) fn offered_by(table: &Table, flags: &[u8; 16], state: State, activities: usize) -> Amount
     requires { ⌜ (activities ≤ 256) × (state .waiting ≤ 64) ⌝ }
     ensures { λ r. ⌜ Amounts (now (table .entry)) (now (flags .entry)) state activities r ⌝ }
 {

@@ -4,6 +4,7 @@ use fit::fitness::known_of;
 use fit::search::first_receiver;
 use fit::search::takes_at;
 use order::Order;
+use plan::layout::Table;
 use sight::Sight;
 use sight::counting::shown;
 use sight::counting::withheld;
@@ -19,7 +20,7 @@ ghost use Rattle.sight.specs.Sights.{seen};
 
 // What the order in a slot has on offer.
 pub(crate) fn offer_slot(
-    table: &[u32; 11584],
+    table: &Table,
     flags: &[u8; 16],
     picks: &[usize; 256],
     order: Order,
@@ -75,7 +76,7 @@ pub(crate) fn free_slot(orders: [Order; 16]) -> usize
 
 // What a message adds at row k of an order as it starts.
 fn start_row(
-    table: &[u32; 11584],
+    table: &Table,
     picks: &[usize; 256],
     marks: &[u8; 256],
     known: &[u64; 16],
@@ -99,7 +100,7 @@ fn start_row(
 
 // What a message adds at all rows of an order as it starts.
 fn start_rows(
-    table: &[u32; 11584],
+    table: &Table,
     picks: &[usize; 256],
     marks: &[u8; 256],
     known: &[u64; 16],
@@ -123,7 +124,7 @@ fn start_rows(
 
 // Whether a message would be taken by an order as it starts.
 fn could_start(
-    table: &[u32; 11584],
+    table: &Table,
     picks: &[usize; 256],
     marks: &[u8; 256],
     known: &[u64; 16],
@@ -146,7 +147,7 @@ fn could_start(
 
 // What the message at place j may start: whether it fits an open receive is asked only where an order as it starts would take it.
 pub(crate) fn start_letter(
-    table: &[u32; 11584],
+    table: &Table,
     flags: &[u8; 16],
     picks: &[usize; 256],
     orders: [Order; 16],
@@ -187,7 +188,7 @@ pub(crate) fn start_letter(
 
 // What the messages that wait may start.
 fn start_letters(
-    table: &[u32; 11584],
+    table: &Table,
     flags: &[u8; 16],
     picks: &[usize; 256],
     orders: [Order; 16],
@@ -225,7 +226,7 @@ fn start_letters(
 
 // What may start in the lowest free slot, where `order` is an order as it starts.
 pub(crate) fn starts(
-    table: &[u32; 11584],
+    table: &Table,
     flags: &[u8; 16],
     picks: &[usize; 256],
     orders: [Order; 16],

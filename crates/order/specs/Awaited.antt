@@ -1,4 +1,4 @@
--- Which steps an order awaits. Assumes nothing: these are definitions.
+-- Meaning: which steps an order awaits. Assumes nothing: these are definitions.
 use Prim.Native.Nat.{ℕ, _+_}
 use mathlib.Core.Bool.{Bool, true, false, cond, _&&_}
 use mathlib.Core.List.{List, [], _∷_, _++_}

@@ -1,4 +1,4 @@
--- Two receives open for one thing, and the faults that a step makes of them. Assumes nothing: these are definitions.
+-- Meaning: two receives open for one thing, and the faults that a step makes of them. Assumes nothing: these are definitions.
 use Prim.Native.Nat.{ℕ, zero, suc, _+_, _*_}
 use mathlib.Core.Bool.{Bool, true, false, cond, _&&_}
 use mathlib.Core.List.{List, [], _∷_, _++_}

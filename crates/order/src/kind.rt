@@ -1,42 +1,14 @@
-// The kinds of activities, by document 01's codes; an arm of a pick has a kind of its own.
+// Which of the kinds that plan names are those of scopes.
+use plan::kind;
 ghost use mathlib.Core.Path.{_≡_};
 ghost use Rattle.order.specs.Answering.{scopeKind};
-
-pub const EMPTY: u32 = 0;
-
-pub const SEND: u32 = 1;
-
-pub const RECEIVE: u32 = 2;
-
-pub const SET: u32 = 3;
-
-pub const RAISE: u32 = 4;
-
-pub const LEAVE: u32 = 5;
-
-pub const CHOOSE: u32 = 6;
-
-pub const REPEAT: u32 = 7;
-
-pub const SEQUENCE: u32 = 8;
-
-pub const FLOW: u32 = 9;
-
-pub const PICK: u32 = 10;
-
-pub const SCOPE: u32 = 11;
-
-// A scope with no undo part of its own.
-pub const OPEN_SCOPE: u32 = 12;
-
-pub const ARM: u32 = 255;
 
 // Whether this is the kind of a scope, with an undo part or with none.
 pub fn is_scope(kind: u32) -> bool
     ensures { λ r. ⌜ r ≡ scopeKind kind ⌝ }
 {
-    if kind == SCOPE {
+    if kind == kind::SCOPE {
         return true;
     }
-    kind == OPEN_SCOPE
+    kind == kind::OPEN_SCOPE
 }

@@ -1,4 +1,4 @@
--- Whether the receives of a plan agree: document 02, request 8, and refusal 21. Assumes nothing: these are definitions.
+-- Meaning: whether the receives of a plan agree: document 02, request 8, and refusal 21. Assumes nothing: these are definitions.
 use Prim.Native.Nat.{ℕ, _+_}
 use mathlib.Core.Bool.{Bool, true, false, cond, not, _&&_, _||_}
 use mathlib.Core.List.{List, [], _∷_, _++_}

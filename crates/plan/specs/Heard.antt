@@ -1,4 +1,4 @@
--- How receives that disagree are found in one pass: what was heard so far. Assumes nothing: these are definitions.
+-- Glue: how receives that disagree are found in one pass: what was heard so far. Assumes nothing: these are definitions, and nothing here has to be believed.
 use Prim.Native.Nat.{ℕ, zero, suc, _+_, _*_, _%_}
 use mathlib.Core.Bool.{cond}
 use mathlib.Core.List.{List, [], _∷_, _++_}

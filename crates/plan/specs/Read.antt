@@ -1,5 +1,5 @@
--- What a list of bytes says, read as a plan: document 01, "The plan on file" and refusals 1 to 9, and refusal 21 of document 02. Assumes nothing: these
--- are definitions.
+-- Meaning: what a list of bytes says, read as a plan: document 01, "The plan on file" and refusals 1 to 9, and refusal 21 of document 02. Assumes nothing:
+-- these are definitions.
 -- `vars` is the count V of variables, cs the correlation variables, s the bytes, `at` the place read at and n the number of the activity or arm there.
 -- `handler` holds inside a fault part or an undo part.
 use Prim.Native.Nat.{ℕ, zero, suc, _+_}

@@ -1,4 +1,11 @@
 // Finds receives that disagree: document 02, request 8.
+use super::code;
+use super::layout::COUNT;
+use super::layout::KIND;
+use super::layout::OPERATION;
+use super::layout::PARTNER;
+use super::layout::PLACE;
+use super::layout::WIDTH;
 ghost use Prim.Native.Nat.{_+_, _*_, _%_, _≤_, _<_};
 ghost use lib.ListN.{length, getD};
 ghost use mathlib.Core.Path.{_≡_};
@@ -55,7 +62,7 @@ fn column(table: &[u32], k: usize, c: usize) -> usize
     ensures is { λ r. ⌜ r ≡ getD (now (table .entry)) (k * 13 + c) 0 ⌝ }
     ensures small { λ r. ⌜ r ≤ 4294967295 ⌝ }
 {
-    wide(table[k * 13 + c])
+    wide(table[k * WIDTH + c])
 }
 
 // How many bytes stand before the count of a receive, or of an arm; 0 for all else.
@@ -64,8 +71,8 @@ fn ahead(kind: usize) -> usize
     ensures small { λ r. ⌜ r ≤ 3 ⌝ }
 {
     match kind {
-        2 => 3,
-        255 => 2,
+        code::RECEIVE => 3,
+        code::ARM => 2,
         _ => 0,
     }
 }
@@ -75,15 +82,15 @@ fn hear_row(table: &[u32], k: usize, counts: &mut [u8; 4096], differs: &mut usiz
     requires { ⌜ (k < 256) × (length (now table) ≡ 11584) ⌝ }
     ensures { λ _. ⌜ noted (now (counts .exit)) (now (differs .exit)) ≡ heardAll (rowAsked (now (table .entry)) k) (noted (now (counts .entry)) (now (differs .entry))) ⌝ }
 {
-    let skip = ahead(column(table, k, 0));
+    let skip = ahead(column(table, k, KIND));
     if skip > 0 {
         hear(
             counts,
             differs,
-            column(table, k, 1),
-            column(table, k, 2),
-            column(table, k, 3),
-            column(table, k, 10) + skip,
+            column(table, k, PARTNER),
+            column(table, k, OPERATION),
+            column(table, k, COUNT),
+            column(table, k, PLACE) + skip,
         );
     }
 }

@@ -3,6 +3,7 @@ use super::Field;
 use super::Nodes;
 use super::fields::field_at;
 use super::fields::number_at;
+use super::layout::Table;
 use super::table::write_node;
 ghost use Prim.Native.Nat.{_≤_, _<_};
 ghost use lib.Dec.{eqb};
@@ -56,7 +57,7 @@ pub(crate) fn expression_at(
     depth: usize,
     vars: u32,
     m: usize,
-    table: &mut [u32; 11584],
+    table: &mut Table,
 ) -> Nodes
     requires { ⌜ (length (now s) ≤ 4096) × (m ≤ at) ⌝ }
     ensures { λ r. ⌜ NodesRead (expressionIn depth vars (now (s .entry)) at) m r (now (table .entry)) (now (table .exit)) ⌝ }

@@ -1,4 +1,5 @@
 // Which kinds are those of scopes.
+use super::kind;
 ghost use lib.Dec.{eqb};
 ghost use mathlib.Core.Bool.{_||_};
 ghost use mathlib.Core.Path.{_≡_};
@@ -8,8 +9,8 @@ pub(crate) fn is_scope(kind: u32) -> bool
     ensures { λ r. ⌜ r ≡ (eqb kind 11 || eqb kind 12) ⌝ }
 {
     match kind {
-        11 => true,
-        12 => true,
+        kind::SCOPE => true,
+        kind::OPEN_SCOPE => true,
         _ => false,
     }
 }

@@ -1,14 +1,19 @@
 // Reads plans: document 01, "The plan on file". The public calls are `accept` and `accept_over`.
 pub mod agree;
+pub mod code;
 mod expressions;
 mod fields;
+pub mod kind;
 mod kinds;
+pub mod layout;
 mod owns;
 mod reading;
 mod root;
 mod table;
 mod tree;
 
+use layout::LENGTH;
+use layout::Table;
 ghost use mathlib.Core.Path.{_≡_};
 ghost use Rattle.plan.specs.Answers.{answerOf, tableInto, tableFor, flagsFor};
 ghost use Rattle.plan.specs.Read.{readPlan};
@@ -82,7 +87,7 @@ pub enum Answer {
 
 // The whole plan, written over what the table held: for a caller with a blank table, which need not be blanked again. Its answer, and in the lent
 // arrays its rows and which variables are for correlation; all zero where it is refused.
-pub fn accept_over(s: &[u8], table: &mut [u32; 11584], correlation: &mut [u8; 16]) -> Answer
+pub fn accept_over(s: &[u8], table: &mut Table, correlation: &mut [u8; 16]) -> Answer
     ensures is { λ r. ⌜ r ≡ answerOf (readPlan (now (s .entry))) ⌝ }
     ensures rows { λ _. ⌜ now (table .exit) ≡ tableInto (now (table .entry)) (readPlan (now (s .entry))) ⌝ }
     ensures flags { λ _. ⌜ now (correlation .exit) ≡ flagsFor (readPlan (now (s .entry))) ⌝ }
@@ -99,7 +104,7 @@ pub fn accept_over(s: &[u8], table: &mut [u32; 11584], correlation: &mut [u8; 16
             number: _,
             place: _,
         } => {
-            *table = [0u32; 11584];
+            *table = [0u32; LENGTH];
             *correlation = [0u8; 16];
             a
         }
@@ -107,11 +112,11 @@ pub fn accept_over(s: &[u8], table: &mut [u32; 11584], correlation: &mut [u8; 16
 }
 
 // The whole plan: its answer, and in the lent arrays its table and which variables are for correlation. All zero where it is refused.
-pub fn accept(s: &[u8], table: &mut [u32; 11584], correlation: &mut [u8; 16]) -> Answer
+pub fn accept(s: &[u8], table: &mut Table, correlation: &mut [u8; 16]) -> Answer
     ensures is { λ r. ⌜ r ≡ answerOf (readPlan (now (s .entry))) ⌝ }
     ensures rows { λ _. ⌜ now (table .exit) ≡ tableFor (readPlan (now (s .entry))) ⌝ }
     ensures flags { λ _. ⌜ now (correlation .exit) ≡ flagsFor (readPlan (now (s .entry))) ⌝ }
 {
-    *table = [0u32; 11584];
+    *table = [0u32; LENGTH];
     accept_over(s, table, correlation)
 }

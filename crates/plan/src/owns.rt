@@ -6,7 +6,9 @@ use super::expressions::expression_at;
 use super::fields::field_at;
 use super::fields::number_at;
 use super::fields::tuple_at;
+use super::kind;
 use super::kinds::is_scope;
+use super::layout::Table;
 use super::table::write_row;
 ghost use Prim.Native.Nat.{_≤_, _<_};
 ghost use lib.Dec.{eqb, leb};
@@ -28,7 +30,7 @@ fn plain_own(
     n: usize,
     m: usize,
     place: usize,
-    table: &mut [u32; 11584],
+    table: &mut Table,
 ) -> Own
     requires { ⌜ (n < 256) × (place ≤ 4096) ⌝ }
     ensures is { λ r. ⌜ r ≡ Own.Read kind within at m ⌝ }
@@ -55,7 +57,7 @@ fn exchange_own(
     n: usize,
     m: usize,
     place: usize,
-    table: &mut [u32; 11584],
+    table: &mut Table,
 ) -> Own
     requires { ⌜ Room (now s) vars n m place at × (IsMessage kind × (partner < 64)) ⌝ }
     ensures { λ r. ⌜ OwnRead (exchangeIn vars once (now (s .entry)) (messageOwn kind partner) within at) place n m r (now (table .entry)) (now (table .exit)) ⌝ }
@@ -110,7 +112,7 @@ fn partner_own(
     n: usize,
     m: usize,
     place: usize,
-    table: &mut [u32; 11584],
+    table: &mut Table,
 ) -> Own
     requires { ⌜ Room (now s) vars n m place at × IsMessage kind ⌝ }
     ensures { λ r. ⌜ OwnRead (partnerIn vars once (now (s .entry)) (messageOwn kind) at) place n m r (now (table .entry)) (now (table .exit)) ⌝ }
@@ -126,7 +128,7 @@ fn partner_own(
 }
 
 // An arm, from its partner number on.
-fn arm_own(s: &[u8], at: usize, vars: u32, n: usize, m: usize, table: &mut [u32; 11584]) -> Own
+fn arm_own(s: &[u8], at: usize, vars: u32, n: usize, m: usize, table: &mut Table) -> Own
     requires { ⌜ Base (now s) vars m at ⌝ }
     ensures { λ r. ⌜ OwnRead (armIn vars (now (s .entry)) n at) at n m r (now (table .entry)) (now (table .exit)) ⌝ }
 {
@@ -143,7 +145,7 @@ fn arm_own(s: &[u8], at: usize, vars: u32, n: usize, m: usize, table: &mut [u32;
                     place: at,
                 };
             }
-            exchange_own(s, next, 255, partner, true, 1, vars, n, m, at, table)
+            exchange_own(s, next, kind::ARM, partner, true, 1, vars, n, m, at, table)
         }
     }
 }
@@ -159,7 +161,7 @@ fn expression_own(
     n: usize,
     m: usize,
     place: usize,
-    table: &mut [u32; 11584],
+    table: &mut Table,
 ) -> Own
     requires { ⌜ Room (now s) vars n m place at × IsExpression kind variable ⌝ }
     ensures { λ r. ⌜ OwnRead (withExpressionIn vars (now (s .entry)) (expressionOwn kind variable) within at) place n m r (now (table .entry)) (now (table .exit)) ⌝ }
@@ -188,7 +190,7 @@ fn set_own(
     n: usize,
     m: usize,
     place: usize,
-    table: &mut [u32; 11584],
+    table: &mut Table,
 ) -> Own
     requires { ⌜ Room (now s) vars n m place at ⌝ }
     ensures { λ r. ⌜ OwnRead (setIn vars (chosen 0 (now (correlation .entry))) (now (s .entry)) at) place n m r (now (table .entry)) (now (table .exit)) ⌝ }
@@ -205,7 +207,7 @@ fn set_own(
                     place: at,
                 };
             }
-            expression_own(s, next, 3, value, 0, vars, n, m, place, table)
+            expression_own(s, next, kind::SET, value, 0, vars, n, m, place, table)
         }
     }
 }
@@ -219,7 +221,7 @@ fn list_own(
     n: usize,
     m: usize,
     place: usize,
-    table: &mut [u32; 11584],
+    table: &mut Table,
 ) -> Own
     requires { ⌜ IsList kind × ((n < 256) × (place ≤ 4096)) ⌝ }
     ensures { λ r. ⌜ OwnRead (listIn (now (s .entry)) (listOwn kind) limit at) place n m r (now (table .entry)) (now (table .exit)) ⌝ }
@@ -257,7 +259,7 @@ fn code_at(s: &[u8], at: usize, handler: bool, depth: usize, n: usize) -> Field
             place: _,
         } => read,
         Field::Got { value, next: _ } => {
-            if 12 < value {
+            if kind::LAST < value {
                 return Field::Refused {
                     number: 4,
                     place: at,
@@ -290,24 +292,34 @@ fn parts_own(
     n: usize,
     m: usize,
     place: usize,
-    table: &mut [u32; 11584],
+    table: &mut Table,
 ) -> Own
     requires { ⌜ Room (now s) vars n m place at ⌝ }
     ensures { λ r. ⌜ OwnRead (partsIn vars (chosen 0 (now (correlation .entry))) (now (s .entry)) code at) place n m r (now (table .entry)) (now (table .exit)) ⌝ }
 {
     match code {
-        0 => plain_own(at, 0, 0, n, m, place, table),
-        1 | 2 => partner_own(s, at, code, code == 2, vars, n, m, place, table),
-        3 => set_own(s, at, vars, correlation, n, m, place, table),
-        4 => plain_own(at, 4, 0, n, m, place, table),
-        5 => plain_own(at, 5, 0, n, m, place, table),
-        6 => expression_own(s, at, 6, 0, 2, vars, n, m, place, table),
-        7 => expression_own(s, at, 7, 0, 1, vars, n, m, place, table),
-        8 => list_own(s, at, 8, 33, n, m, place, table),
-        9 => list_own(s, at, 9, 33, n, m, place, table),
-        10 => list_own(s, at, 10, 9, n, m, place, table),
-        11 => plain_own(at, 11, 3, n, m, place, table),
-        _ => plain_own(at, 12, 2, n, m, place, table),
+        kind::EMPTY => plain_own(at, kind::EMPTY, 0, n, m, place, table),
+        kind::SEND | kind::RECEIVE => partner_own(
+            s,
+            at,
+            code,
+            code == kind::RECEIVE,
+            vars,
+            n,
+            m,
+            place,
+            table,
+        ),
+        kind::SET => set_own(s, at, vars, correlation, n, m, place, table),
+        kind::RAISE => plain_own(at, kind::RAISE, 0, n, m, place, table),
+        kind::LEAVE => plain_own(at, kind::LEAVE, 0, n, m, place, table),
+        kind::CHOOSE => expression_own(s, at, kind::CHOOSE, 0, 2, vars, n, m, place, table),
+        kind::REPEAT => expression_own(s, at, kind::REPEAT, 0, 1, vars, n, m, place, table),
+        kind::SEQUENCE => list_own(s, at, kind::SEQUENCE, 33, n, m, place, table),
+        kind::FLOW => list_own(s, at, kind::FLOW, 33, n, m, place, table),
+        kind::PICK => list_own(s, at, kind::PICK, 9, n, m, place, table),
+        kind::SCOPE => plain_own(at, kind::SCOPE, 3, n, m, place, table),
+        _ => plain_own(at, kind::OPEN_SCOPE, 2, n, m, place, table),
     }
 }
 
@@ -321,7 +333,7 @@ fn activity_own(
     correlation: &[u8; 16],
     n: usize,
     m: usize,
-    table: &mut [u32; 11584],
+    table: &mut Table,
 ) -> Own
     requires { ⌜ Base (now s) vars m at ⌝ }
     ensures { λ r. ⌜ OwnRead (headIn vars (chosen 0 (now (correlation .entry))) (now (s .entry)) handler depth n at) at n m r (now (table .entry)) (now (table .exit)) ⌝ }
@@ -354,7 +366,7 @@ pub(crate) fn own_at(
     correlation: &[u8; 16],
     n: usize,
     m: usize,
-    table: &mut [u32; 11584],
+    table: &mut Table,
 ) -> Own
     requires { ⌜ Base (now s) vars m at ⌝ }
     ensures { λ r. ⌜ OwnRead (nodeHeadIn arm vars (chosen 0 (now (correlation .entry))) (now (s .entry)) handler depth n at) at n m r (now (table .entry)) (now (table .exit)) ⌝ }

@@ -5,6 +5,7 @@ use super::Out;
 use super::agree::first_differing;
 use super::fields::field_at;
 use super::fields::number_at;
+use super::layout::Table;
 use super::tree::activities_at;
 ghost use Prim.Native.Nat.{_≤_};
 ghost use mathlib.Core.List.{[]};
@@ -72,7 +73,7 @@ fn correlation_at(s: &[u8], at: usize, count: u32, vars: u32, flags: &mut [u8; 1
 }
 
 // The root's body and the root's fault part.
-fn root_at(s: &[u8], at: usize, vars: u32, flags: &[u8; 16], table: &mut [u32; 11584]) -> Answer
+fn root_at(s: &[u8], at: usize, vars: u32, flags: &[u8; 16], table: &mut Table) -> Answer
     requires { ⌜ Base (now s) vars 0 at ⌝ }
     ensures { λ r. ⌜ RootRead (rootIn vars (chosen 0 (now (flags .entry))) (now (s .entry)) at) at r (now (table .entry)) (now (table .exit)) ⌝ }
 {
@@ -108,13 +109,7 @@ fn root_at(s: &[u8], at: usize, vars: u32, flags: &[u8; 16], table: &mut [u32; 1
 }
 
 // The correlation variables and what follows them.
-fn flagged_at(
-    s: &[u8],
-    at: usize,
-    vars: u32,
-    table: &mut [u32; 11584],
-    flags: &mut [u8; 16],
-) -> Answer
+fn flagged_at(s: &[u8], at: usize, vars: u32, table: &mut Table, flags: &mut [u8; 16]) -> Answer
     requires { ⌜ Base (now s) vars 0 at × (now flags ≡ blankFlags) ⌝ }
     ensures { λ r. ⌜ FlaggedRead (flaggedIn vars (now (s .entry)) at) at r (now (table .entry)) (now (table .exit)) (now (flags .exit)) ⌝ }
 {
@@ -135,7 +130,7 @@ fn flagged_at(
 }
 
 // The whole plan, whether or not its receives agree, over what the table held and into flags that are blank.
-fn plan_at(s: &[u8], table: &mut [u32; 11584], flags: &mut [u8; 16]) -> Answer
+fn plan_at(s: &[u8], table: &mut Table, flags: &mut [u8; 16]) -> Answer
     requires { ⌜ now flags ≡ blankFlags ⌝ }
     ensures { λ r. ⌜ PlanRead (readAny (now (s .entry))) r (now (table .entry)) (now (table .exit)) (now (flags .exit)) ⌝ }
 {
@@ -162,7 +157,7 @@ fn plan_at(s: &[u8], table: &mut [u32; 11584], flags: &mut [u8; 16]) -> Answer
 }
 
 // The whole plan, whose receives agree.
-pub(crate) fn agreed_at(s: &[u8], table: &mut [u32; 11584], flags: &mut [u8; 16]) -> Answer
+pub(crate) fn agreed_at(s: &[u8], table: &mut Table, flags: &mut [u8; 16]) -> Answer
     requires { ⌜ now flags ≡ blankFlags ⌝ }
     ensures { λ r. ⌜ PlanRead (readPlan (now (s .entry))) r (now (table .entry)) (now (table .exit)) (now (flags .exit)) ⌝ }
 {

@@ -1,7 +1,9 @@
 // Reads an activity and a list of activities, which call each other.
 use super::Out;
 use super::Own;
+use super::kind;
 use super::kinds::is_scope;
+use super::layout::Table;
 use super::owns::own_at;
 use super::table::close_row;
 ghost use Prim.Native.Nat.{_≤_, _<_};
@@ -36,12 +38,12 @@ fn starts_of(kind: u32, first: bool, every: bool) -> bool
     ensures { λ r. ⌜ r ≡ starts kind first every ⌝ }
 {
     match kind {
-        2 => true,
-        8 => first,
-        9 => every,
-        10 => true,
-        11 => first,
-        12 => first,
+        kind::RECEIVE => true,
+        kind::SEQUENCE => first,
+        kind::FLOW => every,
+        kind::PICK => true,
+        kind::SCOPE => first,
+        kind::OPEN_SCOPE => first,
         _ => false,
     }
 }
@@ -63,7 +65,7 @@ fn activity_at(
     correlation: &[u8; 16],
     n: usize,
     m: usize,
-    table: &mut [u32; 11584],
+    table: &mut Table,
 ) -> Out
     requires { ⌜ Base (now s) vars m at ⌝ }
     ensures { λ r. ⌜ ActRead (nodeIn arm depth vars (chosen 0 (now (correlation .entry))) (now (s .entry)) handler n at) at n m r (now (table .entry)) (now (table .exit)) ⌝ }
@@ -82,7 +84,7 @@ fn activity_at(
             let all = activities_at(
                 s,
                 next,
-                kind == 10,
+                kind == kind::PICK,
                 handler,
                 later,
                 within,
@@ -133,7 +135,7 @@ pub(crate) fn activities_at(
     correlation: &[u8; 16],
     n: usize,
     m: usize,
-    table: &mut [u32; 11584],
+    table: &mut Table,
 ) -> Out
     requires { ⌜ Base (now s) vars m at × ((n ≤ 256) × (left ≤ 32)) ⌝ }
     ensures { λ r. ⌜ ActsRead (manyIn (nodeIn arms depth vars (chosen 0 (now (correlation .entry))) (now (s .entry))) handler later left n at) at n m r (now (table .entry)) (now (table .exit)) ⌝ }

@@ -1,4 +1,4 @@
--- Tables in which each row has as many numbers as its code asks for: those whose refusals are their bytes'. Assumes nothing: these are definitions.
+-- Meaning: tables in which each row has as many numbers as its code asks for: those whose refusals are their bytes'. Assumes nothing: these are definitions.
 use Prim.Native.Nat.{ℕ, zero, suc, _+_, _*_, _/_}
 use mathlib.Core.Bool.{Bool, true, cond, _&&_, _||_}
 use mathlib.Core.List.{List, [], _∷_, _++_}

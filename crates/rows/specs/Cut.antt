@@ -1,5 +1,6 @@
--- The rows of an accepted plan as they are cut from its bytes s, one after another: what the functions behind `rows` answer. Assumes nothing: these
--- are definitions. t is the plan's table, which tells the kind of each activity and arm, and so how many of the numbers are its row's.
+-- Glue: the rows of an accepted plan as they are cut from its bytes s, one after another: what the functions behind `rows` answer. Assumes nothing: these are
+-- definitions, and nothing here has to be believed. t is the plan's table, which tells the kind of each activity and arm, and so how many of the numbers are
+-- its row's.
 use Prim.Native.Nat.{ℕ, zero, suc, _+_, _*_, _-_}
 use mathlib.Core.Bool.{cond}
 use mathlib.Core.List.{List, [], _∷_}

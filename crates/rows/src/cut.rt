@@ -1,5 +1,9 @@
 // Cuts the bytes of an accepted plan into rows.
 use numbers::Number;
+use plan::code;
+use plan::layout::COUNT;
+use plan::layout::Table;
+use plan::layout::WIDTH;
 use writer::cells::at_most_19;
 use writer::cells::wide;
 ghost use Prim.Native.Nat.{_+_, _*_, _≤_, _<_};
@@ -70,18 +74,22 @@ fn put_row(s: &[u8], at: usize, width: usize, out: &mut [u32], base: usize) -> u
 }
 
 // The kind of activity or arm k.
-fn kind_of(table: &[u32; 11584], k: usize) -> usize
+fn kind_of(table: &Table, k: usize) -> usize
     ensures { λ r. ⌜ r ≡ kindIn (now (table .entry)) k ⌝ }
 {
-    if k < 256 { wide(table[k * 13]) } else { 0 }
+    if k < 256 { wide(table[k * WIDTH]) } else { 0 }
 }
 
 // How many variables activity or arm k names.
-fn count_of(table: &[u32; 11584], k: usize) -> usize
+fn count_of(table: &Table, k: usize) -> usize
     ensures is { λ r. ⌜ r ≡ countIn (now (table .entry)) k ⌝ }
     ensures few { λ r. ⌜ r ≤ 4294967295 ⌝ }
 {
-    if k < 256 { wide(table[k * 13 + 3]) } else { 0 }
+    if k < 256 {
+        wide(table[k * WIDTH + COUNT])
+    } else {
+        0
+    }
 }
 
 // How many numbers the row of an activity or arm of this kind has, which names `count` variables.
@@ -91,13 +99,13 @@ fn width_of(kind: usize, count: usize) -> usize
     ensures few { λ r. ⌜ r ≤ 19 ⌝ }
 {
     match kind {
-        1 => at_most_19(4 + count),
-        2 => at_most_19(4 + count),
-        3 => 2,
-        8 => 2,
-        9 => 2,
-        10 => 2,
-        255 => at_most_19(3 + count),
+        code::SEND => at_most_19(4 + count),
+        code::RECEIVE => at_most_19(4 + count),
+        code::SET => 2,
+        code::SEQUENCE => 2,
+        code::FLOW => 2,
+        code::PICK => 2,
+        code::ARM => at_most_19(3 + count),
         _ => 1,
     }
 }
@@ -108,15 +116,15 @@ fn opens_of(kind: usize) -> usize
     ensures few { λ r. ⌜ r ≤ 1 ⌝ }
 {
     match kind {
-        3 => 1,
-        6 => 1,
-        7 => 1,
+        code::SET => 1,
+        code::CHOOSE => 1,
+        code::REPEAT => 1,
         _ => 0,
     }
 }
 
 // How many numbers the next row has, where `due` expressions come before activity k.
-fn width_at(s: &[u8], table: &[u32; 11584], k: usize, due: usize, at: usize) -> usize
+fn width_at(s: &[u8], table: &Table, k: usize, due: usize, at: usize) -> usize
     ensures is { λ r. ⌜ r ≡ rowWidth (now (s .entry)) (now (table .entry)) k due at ⌝ }
     ensures few { λ r. ⌜ r ≤ 19 ⌝ }
 {
@@ -128,7 +136,7 @@ fn width_at(s: &[u8], table: &[u32; 11584], k: usize, due: usize, at: usize) -> 
 }
 
 // How many expressions come before the next activity then.
-fn due_after(s: &[u8], table: &[u32; 11584], k: usize, due: usize, at: usize) -> usize
+fn due_after(s: &[u8], table: &Table, k: usize, due: usize, at: usize) -> usize
     requires { ⌜ due ≤ 4294967295 ⌝ }
     ensures is { λ r. ⌜ r ≡ dueAfter (now (s .entry)) (now (table .entry)) k due at ⌝ }
     ensures few { λ r. ⌜ r ≤ due + 1 ⌝ }
@@ -160,7 +168,7 @@ fn head_width(s: &[u8]) -> usize
 }
 
 // `left` rows from `from` on are put into the buffer from row 1 on.
-fn put_parts(s: &[u8], table: &[u32; 11584], left: usize, from: usize, out: &mut [u32])
+fn put_parts(s: &[u8], table: &Table, left: usize, from: usize, out: &mut [u32])
     requires { ⌜ ((left + 1) * 20 ≤ length (now out)) × (left ≤ 8192) ⌝ }
     ensures { λ _. ⌜ now (out .exit) ≡ sets (now (out .entry)) 20 (lines (cutRows left (now (s .entry)) (now (table .entry)) 0 0 from)) ⌝ }
 {
@@ -179,7 +187,7 @@ fn put_parts(s: &[u8], table: &[u32; 11584], left: usize, from: usize, out: &mut
 }
 
 // The head's row and `left` more are put into the buffer from its start on.
-pub(crate) fn put_rows(s: &[u8], table: &[u32; 11584], left: usize, out: &mut [u32])
+pub(crate) fn put_rows(s: &[u8], table: &Table, left: usize, out: &mut [u32])
     requires { ⌜ ((left + 1) * 20 ≤ length (now out)) × (left ≤ 8192) ⌝ }
     ensures { λ _. ⌜ now (out .exit) ≡ sets (now (out .entry)) 0 (lines (cutPlan left (now (s .entry)) (now (table .entry)))) ⌝ }
 {

@@ -1,6 +1,7 @@
 // The rows of a plan: from its bytes to the table that the crate writer writes it from. The public call is `rows`.
 mod cut;
 
+use plan::layout::LENGTH;
 use writer::Answer;
 ghost use lib.ListN.{length};
 ghost use mathlib.Core.Path.{_≡_};
@@ -12,7 +13,7 @@ pub fn rows(s: &[u8], out: &mut [u32]) -> Answer
     ensures is { λ r. ⌜ r ≡ rowsAnswer (readPlan (now (s .entry))) (length (now (out .entry))) ⌝ }
     ensures table { λ _. ⌜ now (out .exit) ≡ rowsFor (readPlan (now (s .entry))) (now (out .entry)) ⌝ }
 {
-    let mut table = [0u32; 11584];
+    let mut table = [0u32; LENGTH];
     let mut correlation = [0u8; 16];
     let a = plan::accept_over(s, &mut table, &mut correlation);
     match a {

@@ -1,4 +1,5 @@
--- A run as the code gives it, by what the definitions say. Assumes nothing: these are definitions.
+-- Meaning: a run as the code gives it, by what the definitions say. Only `ranOf`, which the contract of `run` names, has to be believed. Assumes nothing: these
+-- are definitions.
 use Prim.Native.Nat.{ℕ, _+_}
 use Rattle.machine.specs.Calls as calls
 use Rattle.run.specs.declared.Ran.{Ran}

@@ -1,4 +1,4 @@
--- A run told: the answers of the steps that it takes. Assumes nothing: these are definitions.
+-- Meaning: a run told: the answers of the steps that it takes. Assumes nothing: these are definitions.
 use Prim.Native.Nat.{ℕ, zero, suc}
 use mathlib.Core.Bool.{Bool, true, false}
 use mathlib.Core.List.{List, [], _∷_}

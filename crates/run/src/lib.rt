@@ -3,6 +3,8 @@ use machine::State;
 use machine::Tally;
 use machine::limits;
 use plan::Answer;
+use plan::layout::LENGTH;
+use plan::layout::Table;
 ghost use Prim.Native.Nat.{_+_};
 ghost use mathlib.Core.List.{map};
 ghost use mathlib.Core.Path.{_≡_};
@@ -23,7 +25,7 @@ pub struct Ran {
 
 // Takes the steps with these choices, as far as the budget goes, and tells each.
 fn run_by(
-    table: &[u32; 11584],
+    table: &Table,
     flags: &[u8; 16],
     activities: usize,
     mut state: State,
@@ -93,7 +95,7 @@ pub fn run_told(
     ensures left { λ r. ⌜ now (budget .exit) + r .taken ≡ now (budget .entry) ⌝ }
     ensures told { λ _. ⌜ now (told .exit) ≡ filled 0 (map stepNumber (toldIn (now (choices .entry)) (now (budget .entry)) state tally)) (now (told .entry)) ⌝ }
 {
-    let mut table = [0u32; 11584];
+    let mut table = [0u32; LENGTH];
     let mut flags = [0u8; 16];
     let a = limits::planned(state, &mut table, &mut flags);
     let Answer::Accepted {

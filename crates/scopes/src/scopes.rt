@@ -11,6 +11,7 @@ use order::marks::begun_in;
 use order::marks::is_over;
 use order::marks::marking;
 use order::marks::runs;
+use plan::layout::Table;
 ghost use mathlib.Core.Bool.{true, false};
 ghost use mathlib.Core.Path.{_≡_};
 ghost use Rattle.order.specs.Answering.{endsOf, Handles, Undoes, Turns};
@@ -27,7 +28,7 @@ pub fn ends(spot: Spot, order: Order) -> Went
 }
 
 // The scope runs its fault part.
-fn handle(table: &[u32; 11584], spot: Spot, order: Order) -> Went
+fn handle(table: &Table, spot: Spot, order: Order) -> Went
     ensures { λ r. ⌜ Handles (now (table .entry)) spot order r ⌝ }
 {
     let o = marking(spot, mark::HANDLING, order);
@@ -42,7 +43,7 @@ fn handle(table: &[u32; 11584], spot: Spot, order: Order) -> Went
 }
 
 // The scope undoes, and then runs its fault part.
-fn undoes_handling(table: &[u32; 11584], spot: Spot, order: Order) -> Went
+fn undoes_handling(table: &Table, spot: Spot, order: Order) -> Went
     ensures { λ r. ⌜ Undoes (now (table .entry)) true spot order r ⌝ }
 {
     let o = marking(spot, mark::UNDOING, order);
@@ -56,7 +57,7 @@ fn undoes_handling(table: &[u32; 11584], spot: Spot, order: Order) -> Went
 }
 
 // The scope undoes, and then ends.
-fn undoes_ending(table: &[u32; 11584], spot: Spot, order: Order) -> Went
+fn undoes_ending(table: &Table, spot: Spot, order: Order) -> Went
     ensures { λ r. ⌜ Undoes (now (table .entry)) false spot order r ⌝ }
 {
     let o = marking(spot, mark::WITHDRAWING, order);
@@ -70,7 +71,7 @@ fn undoes_ending(table: &[u32; 11584], spot: Spot, order: Order) -> Went
 }
 
 // The scope undoes: after its list it runs its fault part, or where it was stopped it ends.
-pub fn undoes(table: &[u32; 11584], handling: bool, spot: Spot, order: Order) -> Went
+pub fn undoes(table: &Table, handling: bool, spot: Spot, order: Order) -> Went
     ensures { λ r. ⌜ Undoes (now (table .entry)) handling spot order r ⌝ }
 {
     if handling {
@@ -80,7 +81,7 @@ pub fn undoes(table: &[u32; 11584], handling: bool, spot: Spot, order: Order) ->
 }
 
 // The scope undoes where none of its inner scopes is left running.
-pub fn turns(table: &[u32; 11584], handling: bool, spot: Spot, order: Order) -> Went
+pub fn turns(table: &Table, handling: bool, spot: Spot, order: Order) -> Went
     ensures { λ r. ⌜ Turns (now (table .entry)) handling spot order r ⌝ }
 {
     let m = order.marks;

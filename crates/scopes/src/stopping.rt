@@ -8,6 +8,7 @@ use order::marks::marked;
 use order::rows::end_of;
 use order::rows::kind_of;
 use order::rows::spot_at;
+use plan::layout::Table;
 ghost use mathlib.Core.Path.{_≡_};
 ghost use Rattle.order.specs.Answering.{Withdraws, Stops};
 ghost use Rattle.order.specs.Scope.{isOpen};
@@ -23,7 +24,7 @@ pub fn is_open(mark: u8) -> bool
 }
 
 // Scope k, whose body has stopped, turns to undoing.
-fn withdrawn(table: &[u32; 11584], k: usize, order: Order) -> Order
+fn withdrawn(table: &Table, k: usize, order: Order) -> Order
     ensures { λ r. ⌜ Withdraws (now (table .entry)) k order r ⌝ }
 {
     let spot = spot_at(table, k);
@@ -33,7 +34,7 @@ fn withdrawn(table: &[u32; 11584], k: usize, order: Order) -> Order
 }
 
 // The activity in row k stops, where there is one.
-pub fn stop(table: &[u32; 11584], k: usize, order: Order) -> Order
+pub fn stop(table: &Table, k: usize, order: Order) -> Order
     ensures { λ r. ⌜ Stops (now (table .entry)) k order r ⌝ }
 {
     if 256 <= k {

@@ -6,7 +6,6 @@ use order::Order;
 use order::Spot;
 use order::Way;
 use order::Went;
-use order::kind;
 use order::marks::begun_in;
 use order::marks::is_over;
 use order::memory::entry;
@@ -15,13 +14,15 @@ use order::memory::wide;
 use order::memory::without;
 use order::rows::end_of;
 use order::rows::kind_of;
+use plan::kind;
+use plan::layout::Table;
 ghost use Prim.Native.Nat.{_<_};
 ghost use lib.ListN.{length};
 ghost use Rattle.order.specs.Answering.{BeginsPart, LooksTo, BeginsUndo, StartsUndo, UndoesList};
 ghost use Rattle.order.specs.State.{closings};
 
 // The undo part of the scope in row e begins.
-fn begin_part(table: &[u32; 11584], e: usize, marks: [u8; 256]) -> Entered
+fn begin_part(table: &Table, e: usize, marks: [u8; 256]) -> Entered
     requires { ⌜ e < 256 ⌝ }
     ensures { λ r. ⌜ BeginsPart (now (table .entry)) e marks r ⌝ }
 {
@@ -31,7 +32,7 @@ fn begin_part(table: &[u32; 11584], e: usize, marks: [u8; 256]) -> Entered
 }
 
 // The row where the rows end that are looked through for a scope in row j: those within it, and of a scope with no undo part those of its body.
-fn looks_to(table: &[u32; 11584], j: usize) -> usize
+fn looks_to(table: &Table, j: usize) -> usize
     requires { ⌜ j < 256 ⌝ }
     ensures { λ r. ⌜ LooksTo (now (table .entry)) j r ⌝ }
 {
@@ -42,7 +43,7 @@ fn looks_to(table: &[u32; 11584], j: usize) -> usize
 }
 
 // The undo part of scope e begins, where that stands in the rows `from` to `to` with no other scope around it there but such as have no undo part.
-fn begin_undo(table: &[u32; 11584], from: usize, to: usize, e: usize, marks: [u8; 256]) -> Entered
+fn begin_undo(table: &Table, from: usize, to: usize, e: usize, marks: [u8; 256]) -> Entered
     ensures { λ r. ⌜ BeginsUndo (now (table .entry)) from to e marks r ⌝ }
 {
     if 256 < to {
@@ -69,7 +70,7 @@ fn begin_undo(table: &[u32; 11584], from: usize, to: usize, e: usize, marks: [u8
 }
 
 // The i-th closing is removed and the undo part of its scope started, which stands in the body of this one.
-fn start_undo(table: &[u32; 11584], spot: Spot, order: Order, i: usize) -> Went
+fn start_undo(table: &Table, spot: Spot, order: Order, i: usize) -> Went
     requires { ⌜ i < length (closings order) ⌝ }
     ensures { λ r. ⌜ StartsUndo (now (table .entry)) spot order i r ⌝ }
 {
@@ -81,7 +82,7 @@ fn start_undo(table: &[u32; 11584], spot: Spot, order: Order, i: usize) -> Went
 }
 
 // What is remembered for the scope is undone, the last first.
-pub(crate) fn undo(table: &[u32; 11584], spot: Spot, order: Order) -> Went
+pub(crate) fn undo(table: &Table, spot: Spot, order: Order) -> Went
     ensures { λ r. ⌜ UndoesList (now (table .entry)) spot order r ⌝ }
 {
     let mut o = order;

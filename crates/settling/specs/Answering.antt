@@ -1,4 +1,4 @@
--- The code's answers on what is open, by what the definitions say. Assumes nothing: these are definitions.
+-- Glue: the code's answers on what is open, by what the definitions say. Assumes nothing: these are definitions, and nothing here has to be believed.
 use Prim.Native.Nat.{ℕ, zero, suc, _+_, _*_, _≤_, _<_}
 use mathlib.Core.Bool.{Bool, true, false, cond, _&&_}
 use mathlib.Core.List.{List, [], _∷_}

@@ -1,19 +1,24 @@
 // The receives and arms that are open in an order, judged: the higher-numbered of two that are for one thing.
 use fit::search::arm_at;
-use order::kind;
 use order::mark;
+use plan::kind;
+use plan::layout::END;
+use plan::layout::PARTNER;
+use plan::layout::Table;
+use plan::layout::VARIABLE;
+use plan::layout::WIDTH;
 ghost use Prim.Native.Nat.{_≤_, _<_};
 ghost use mathlib.Core.Path.{_≡_};
 ghost use Rattle.settling.specs.Answering.{SameThing, SeenRow, Reaches, OpenRow, Capped, Clashes};
 
 // Whether rows j and k name the same partner, operation and variables, the variables in the same order.
-fn same_thing(table: &[u32; 11584], j: usize, k: usize) -> bool
+fn same_thing(table: &Table, j: usize, k: usize) -> bool
     requires { ⌜ (j < 256) × (k < 256) ⌝ }
     ensures { λ r. ⌜ SameThing (now (table .entry)) j k r ⌝ }
 {
-    let mut i: usize = 1;
-    while i < 8 {
-        if table[j * 13 + i] != table[k * 13 + i] {
+    let mut i: usize = PARTNER;
+    while i < VARIABLE {
+        if table[j * WIDTH + i] != table[k * WIDTH + i] {
             return false;
         }
         i += 1;
@@ -36,7 +41,7 @@ fn narrow(row: usize) -> u8
 }
 
 // Whether one of the first n open rows names what row k names.
-fn is_second(table: &[u32; 11584], opened: &[u8; 256], n: usize, k: usize) -> bool
+fn is_second(table: &Table, opened: &[u8; 256], n: usize, k: usize) -> bool
     requires { ⌜ (n ≤ 256) × (k < 256) ⌝ }
     ensures { λ r. ⌜ SeenRow (now (table .entry)) (now (opened .entry)) n k r ⌝ }
 {
@@ -51,14 +56,14 @@ fn is_second(table: &[u32; 11584], opened: &[u8; 256], n: usize, k: usize) -> bo
 }
 
 // Where the active picks among the rows up to row k end, the rows before it ending at `reach`.
-fn reach_at(table: &[u32; 11584], marks: &[u8; 256], reach: u32, k: usize) -> u32
+fn reach_at(table: &Table, marks: &[u8; 256], reach: u32, k: usize) -> u32
     requires { ⌜ k < 256 ⌝ }
     ensures { λ r. ⌜ Reaches (now (table .entry)) (now (marks .entry)) reach k r ⌝ }
 {
-    if table[k * 13] == kind::PICK {
+    if table[k * WIDTH] == kind::PICK {
         if marks[k] == mark::ACTIVE {
-            if reach < table[k * 13 + 11] {
-                return table[k * 13 + 11];
+            if reach < table[k * WIDTH + END] {
+                return table[k * WIDTH + END];
             }
         }
     }
@@ -66,11 +71,11 @@ fn reach_at(table: &[u32; 11584], marks: &[u8; 256], reach: u32, k: usize) -> u3
 }
 
 // Whether row k is an open receive or arm, where the active picks before it end at `reach`: an arm beyond is not open.
-fn open_at(table: &[u32; 11584], marks: &[u8; 256], reach: u32, k: usize) -> bool
+fn open_at(table: &Table, marks: &[u8; 256], reach: u32, k: usize) -> bool
     requires { ⌜ k < 256 ⌝ }
     ensures { λ r. ⌜ OpenRow (now (table .entry)) (now (marks .entry)) reach k r ⌝ }
 {
-    let kind = table[k * 13];
+    let kind = table[k * WIDTH];
     if kind == kind::RECEIVE {
         return marks[k] == mark::ACTIVE;
     }
@@ -91,7 +96,7 @@ fn capped(x: usize) -> usize
 
 // The higher number of two that are open for one thing, of several pairs the one whose higher number is least; 256 where no two are. One pass over the
 // rows, and one comparison for each two that are open.
-pub fn first_conflict(table: &[u32; 11584], activities: usize, marks: &[u8; 256]) -> usize
+pub fn first_conflict(table: &Table, activities: usize, marks: &[u8; 256]) -> usize
     ensures { λ r. ⌜ Clashes (now (table .entry)) activities (now (marks .entry)) r ⌝ }
 {
     let rows = capped(activities);

@@ -1,6 +1,8 @@
 // How far an order is from where nothing is left to fault: the ranks of its marks, the root's first, compared like the letters of two words.
-use order::kind;
 use order::mark;
+use plan::kind;
+use plan::layout::Table;
+use plan::layout::WIDTH;
 ghost use Prim.Native.Nat.{_<_};
 ghost use mathlib.Core.Path.{_≡_};
 ghost use Rattle.order.specs.Judging.{rank as rankOf};
@@ -29,11 +31,11 @@ fn rank(kind: u32, mark: u8) -> u32
 }
 
 // That of the mark of row k.
-fn rank_at(table: &[u32; 11584], marks: &[u8; 256], k: usize) -> u32
+fn rank_at(table: &Table, marks: &[u8; 256], k: usize) -> u32
     requires { ⌜ k < 256 ⌝ }
     ensures { λ r. ⌜ RankAt (now (table .entry)) (now (marks .entry)) k r ⌝ }
 {
-    rank(table[k * 13], marks[k])
+    rank(table[k * WIDTH], marks[k])
 }
 
 // How many rows are compared: none of a table with more than 256.
@@ -45,7 +47,7 @@ fn rows_of(activities: usize) -> usize
 
 // Whether the first rank that differs is lower after than before, the root's coming before all others.
 pub fn is_lower(
-    table: &[u32; 11584],
+    table: &Table,
     activities: usize,
     before: u8,
     marks: &[u8; 256],

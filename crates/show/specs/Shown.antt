@@ -1,4 +1,4 @@
--- The part of a plan's bytes that `show` gives, where it starts, and the refusal. Assumes nothing: these are definitions.
+-- Meaning: the part of a plan's bytes that `show` gives, where it starts, and the refusal. Assumes nothing: these are definitions.
 use Prim.Native.Nat.{ℕ, _+_}
 use mathlib.Core.Bool.{cond}
 use mathlib.Core.List.{List, []}

@@ -1,6 +1,11 @@
 // Shows an activity of a plan: document 01, "One call shows activity k of a plan". The public call is `show`.
 use plan::Answer;
 use plan::accept;
+use plan::layout::LENGTH;
+use plan::layout::PLACE;
+use plan::layout::STOP;
+use plan::layout::Table;
+use plan::layout::WIDTH;
 ghost use Prim.Native.Nat.{_+_, _*_, _-_, _≤_, _<_};
 ghost use lib.ListN.{length, getD, take, drop};
 ghost use mathlib.Core.Path.{_≡_};
@@ -15,11 +20,11 @@ fn wide(x: u32) -> usize
 }
 
 // Column j of row k.
-fn column(table: &[u32; 11584], k: usize, j: usize) -> usize
+fn column(table: &Table, k: usize, j: usize) -> usize
     requires { ⌜ (k < 256) × (j < 13) ⌝ }
     ensures { λ r. ⌜ r ≡ getD (now (table .entry)) (k * 13 + j) 0 ⌝ }
 {
-    wide(table[k * 13 + j])
+    wide(table[k * WIDTH + j])
 }
 
 // The part of s from a to e.
@@ -37,7 +42,7 @@ pub fn show<'a>(s: &'a [u8], k: usize, start: &mut usize, refusal: &mut u32) -> 
     ensures place { λ _. ⌜ now (start .exit) ≡ shownStart (readPlan (now (s .entry))) k ⌝ }
     ensures refused { λ _. ⌜ now (refusal .exit) ≡ shownRefusal (readPlan (now (s .entry))) k ⌝ }
 {
-    let mut table = [0u32; 11584];
+    let mut table = [0u32; LENGTH];
     let mut correlation = [0u8; 16];
     let a = accept(s, &mut table, &mut correlation);
     match a {
@@ -52,8 +57,8 @@ pub fn show<'a>(s: &'a [u8], k: usize, start: &mut usize, refusal: &mut u32) -> 
             nodes: _,
         } => {
             if k < activities {
-                let from = column(&table, k, 10);
-                let to = column(&table, k, 12);
+                let from = column(&table, k, PLACE);
+                let to = column(&table, k, STOP);
                 *start = from;
                 *refusal = 0;
                 between(s, from, to)

@@ -1,4 +1,5 @@
--- Counting a choice down over what the rows of an order have on offer, without the list. Assumes nothing: these are definitions.
+-- Glue: counting a choice down over what the rows of an order have on offer, without the list. Assumes nothing: these are definitions, and nothing here has to
+-- be believed.
 use Prim.Native.Nat.{ℕ, _+_, _*_, _-_, _<_, _≤_}
 use mathlib.Core.Bool.{Bool, true, false, cond, not, _&&_, _||_}
 use mathlib.Core.List.{List, []}

@@ -1,12 +1,13 @@
 // What one row of an order has on offer, for callers who ask for a row by itself.
 use super::Sight;
 use super::rows::offer_row;
+use plan::layout::Table;
 ghost use Rattle.fit.specs.Lines.{Rows};
 ghost use Rattle.sight.specs.Sights.{Opening, offerLine};
 
 // What row k has on offer, whatever k is.
 pub fn row_sight(
-    table: &[u32; 11584],
+    table: &Table,
     picks: &[usize; 256],
     marks: &[u8; 256],
     known: &[u64; 16],

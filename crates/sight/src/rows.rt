@@ -6,6 +6,11 @@ use fit::fitness::asked_at;
 use fit::fitness::fits_at;
 use fit::fitness::unchecked_at;
 use fit::search::arm_open;
+use plan::kind;
+use plan::layout::COUNT;
+use plan::layout::Table;
+use plan::layout::VARIABLES;
+use plan::layout::WIDTH;
 ghost use Prim.Native.Nat.{_+_, _*_, _≤_, _<_};
 ghost use lib.Dec.{eqb};
 ghost use lib.ListN.{getD};
@@ -19,19 +24,19 @@ ghost use Rattle.sight.specs.Sights.{Marked, Heeding, Serving, Opening, 
 fn is_scope(kind: u32) -> bool
     ensures { λ r. ⌜ r ≡ (eqb kind 11 || eqb kind 12) ⌝ }
 {
-    if kind == 11 {
+    if kind == kind::SCOPE {
         return true;
     }
-    kind == 12
+    kind == kind::OPEN_SCOPE
 }
 
 // Whether row k awaits its step.
-fn awaits_at(table: &[u32; 11584], picks: &[usize; 256], marks: &[u8; 256], k: usize) -> bool
+fn awaits_at(table: &Table, picks: &[usize; 256], marks: &[u8; 256], k: usize) -> bool
     requires { ⌜ k < 256 ⌝ }
     ensures { λ r. ⌜ AwaitsRow (now (table .entry)) (now (picks .entry)) (now (marks .entry)) k r ⌝ }
 {
-    let kind = table[k * 13];
-    if kind == 255 {
+    let kind = table[k * WIDTH];
+    if kind == kind::ARM {
         return arm_open(table, picks, marks, k);
     }
     if is_scope(kind) {
@@ -41,19 +46,19 @@ fn awaits_at(table: &[u32; 11584], picks: &[usize; 256], marks: &[u8; 256], k: u
 }
 
 // Whether row k is a raise or a leave.
-fn is_cut(table: &[u32; 11584], k: usize) -> bool
+fn is_cut(table: &Table, k: usize) -> bool
     requires { ⌜ k < 256 ⌝ }
     ensures { λ r. ⌜ CutRow (now (table .entry)) k r ⌝ }
 {
-    let kind = table[k * 13];
-    if kind == 4 {
+    let kind = table[k * WIDTH];
+    if kind == kind::RAISE {
         return true;
     }
-    kind == 5
+    kind == kind::LEAVE
 }
 
 // Whether row k is an active raise or leave, or one was before.
-fn cut_row(table: &[u32; 11584], marks: &[u8; 256], k: usize, before: bool) -> bool
+fn cut_row(table: &Table, marks: &[u8; 256], k: usize, before: bool) -> bool
     requires { ⌜ k < 256 ⌝ }
     ensures { λ r. ⌜ Rows (now (table .entry)) k (Marked (now (marks .entry))) cutLine before r ⌝ }
 {
@@ -67,7 +72,7 @@ fn cut_row(table: &[u32; 11584], marks: &[u8; 256], k: usize, before: bool) -> b
 }
 
 // Whether an order has an active raise or leave.
-pub fn cut_rows(table: &[u32; 11584], marks: &[u8; 256], activities: usize) -> bool
+pub fn cut_rows(table: &Table, marks: &[u8; 256], activities: usize) -> bool
     ensures { λ r. ⌜ Wholes (now (table .entry)) activities (Marked (now (marks .entry))) cutLine false r ⌝ }
 {
     if 256 < activities {
@@ -94,18 +99,18 @@ fn bound_at(bound: &[u8; 16], v: u32) -> bool
 }
 
 // Whether all variables of row k are bound.
-fn bound_row(table: &[u32; 11584], bound: &[u8; 16], k: usize) -> bool
+fn bound_row(table: &Table, bound: &[u8; 16], k: usize) -> bool
     requires { ⌜ k < 256 ⌝ }
     ensures { λ r. ⌜ BoundRow (now (table .entry)) (now (bound .entry)) k r ⌝ }
 {
-    let count = table[k * 13 + 3];
+    let count = table[k * WIDTH + COUNT];
     if 4 < count {
         return false;
     }
     let many = count as usize;
     let mut i: usize = 0;
     while i < many {
-        if !bound_at(bound, table[k * 13 + 4 + i]) {
+        if !bound_at(bound, table[k * WIDTH + VARIABLES + i]) {
             return false;
         }
         i += 1;
@@ -115,7 +120,7 @@ fn bound_row(table: &[u32; 11584], bound: &[u8; 16], k: usize) -> bool
 
 // What the message at place j adds at the receive or arm in row k.
 fn take_letter(
-    table: &[u32; 11584],
+    table: &Table,
     slot: usize,
     k: usize,
     asked: &[u64; 4],
@@ -139,7 +144,7 @@ fn take_letter(
 
 // What the messages add at the receive or arm in row k.
 fn take_row(
-    table: &[u32; 11584],
+    table: &Table,
     known: &[u64; 16],
     slot: usize,
     k: usize,
@@ -175,7 +180,7 @@ fn close_held(kind: u32, parts: &[u8; 32], kept: usize, k: usize) -> bool
     requires { ⌜ k < 256 ⌝ }
     ensures { λ r. ⌜ ClosesRow kind (now (parts .entry)) kept k r ⌝ }
 {
-    if kind == 12 {
+    if kind == kind::OPEN_SCOPE {
         return false;
     }
     if kept < 32 {
@@ -193,7 +198,7 @@ fn close_held(kind: u32, parts: &[u8; 32], kept: usize, k: usize) -> bool
 
 // What row k has on offer, whether or not it awaits its step.
 fn doing_row(
-    table: &[u32; 11584],
+    table: &Table,
     known: &[u64; 16],
     bound: &[u8; 16],
     parts: &[u8; 32],
@@ -208,8 +213,8 @@ fn doing_row(
     requires { ⌜ (k < 256) × (waiting ≤ 64) ⌝ }
     ensures { λ r. ⌜ Rows (now (table .entry)) k (Serving (now (known .entry)) (now (bound .entry)) (now (parts .entry)) kept (now (letters .entry)) waiting (now (least .entry))) (doingLine waiting slot) s r ⌝ }
 {
-    let kind = table[k * 13];
-    if kind == 1 {
+    let kind = table[k * WIDTH];
+    if kind == kind::SEND {
         if waiting < 64 {
             return shown(s, slot, k, 0);
         }
@@ -218,10 +223,10 @@ fn doing_row(
         }
         return shown(s, slot, k, 0);
     }
-    if kind == 2 {
+    if kind == kind::RECEIVE {
         return take_row(table, known, slot, k, letters, waiting, least, s);
     }
-    if kind == 255 {
+    if kind == kind::ARM {
         return take_row(table, known, slot, k, letters, waiting, least, s);
     }
     if is_scope(kind) {
@@ -230,10 +235,10 @@ fn doing_row(
         }
         return shown(s, slot, k, 0);
     }
-    if kind < 3 {
+    if kind < kind::SET {
         return s;
     }
-    if kind <= 7 {
+    if kind <= kind::REPEAT {
         return shown(s, slot, k, 0);
     }
     s
@@ -241,7 +246,7 @@ fn doing_row(
 
 // What row k has on offer.
 pub(crate) fn offer_row(
-    table: &[u32; 11584],
+    table: &Table,
     picks: &[usize; 256],
     marks: &[u8; 256],
     known: &[u64; 16],
@@ -297,7 +302,7 @@ pub(crate) fn offer_row(
 
 // What all rows of an order have on offer.
 pub fn offer_rows(
-    table: &[u32; 11584],
+    table: &Table,
     picks: &[usize; 256],
     marks: &[u8; 256],
     known: &[u64; 16],

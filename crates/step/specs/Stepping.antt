@@ -1,4 +1,5 @@
--- The code's answers for a step, by what the definitions say. Assumes nothing: these are definitions.
+-- Meaning: the code's answers for a step, by what the definitions say. Only `bare`, which the contract of a step names, has to be believed: the rest is glue.
+-- Assumes nothing: these are definitions.
 use Prim.Native.Nat.{ℕ, _+_, _*_, _<_, _≤_}
 use mathlib.Core.Bool.{Bool, true, false, cond}
 use mathlib.Core.List.{List, []}

@@ -10,6 +10,8 @@ use machine::made;
 use order::End;
 use order::Order;
 use plan::Answer;
+use plan::layout::LENGTH;
+use plan::layout::Table;
 ghost use mathlib.Core.Path.{_≡_};
 ghost use Rattle.machine.specs.Calls as calls;
 ghost use Rattle.machine.specs.Calls.{refusing};
@@ -62,7 +64,7 @@ fn unchanged(answer: Step, messages: [Message; 64], waiting: usize, tally: Tally
 // What the step with a choice changes, in a state that has the plan with this table and these flags. A state goes by value, so that each call with it
 // copies it: what changes is handed back, and the caller puts it into its own.
 pub fn step_by(
-    table: &[u32; 11584],
+    table: &Table,
     flags: &[u8; 16],
     activities: usize,
     state: State,
@@ -102,7 +104,7 @@ pub fn step_by(
 pub fn take_step(state: State, choice: usize, tally: Tally) -> Stepped
     ensures { λ r. ⌜ r ≡ bare (calls.step choice state tally) ⌝ }
 {
-    let mut table = [0u32; 11584];
+    let mut table = [0u32; LENGTH];
     let mut flags = [0u8; 16];
     let a = limits::planned(state, &mut table, &mut flags);
     let Answer::Accepted {

@@ -9,6 +9,13 @@ use mail::letters;
 use order::End;
 use order::Next;
 use order::Order;
+use plan::kind;
+use plan::layout::COUNT;
+use plan::layout::OPERATION;
+use plan::layout::PARTNER;
+use plan::layout::Table;
+use plan::layout::VARIABLES;
+use plan::layout::WIDTH;
 ghost use Prim.Native.Nat.{_<_};
 ghost use lib.ListN.{getD};
 ghost use mathlib.Core.Path.{_≡_};
@@ -28,19 +35,19 @@ fn value_of(order: Order, v: u32) -> u32
 }
 
 // The values of the variables that row k names, with zeros behind them.
-fn sent_values(table: &[u32; 11584], k: usize, order: Order) -> [u32; 4]
+fn sent_values(table: &Table, k: usize, order: Order) -> [u32; 4]
     requires { ⌜ k < 256 ⌝ }
     ensures { λ r. ⌜ SentValues (now (table .entry)) k order r ⌝ }
 {
     let mut out = [0u32; 4];
-    let count = table[k * 13 + 3];
+    let count = table[k * WIDTH + COUNT];
     if 4 < count {
         return out;
     }
     let n = count as usize;
     let mut i: usize = 0;
     while i < n {
-        let x = value_of(order, table[k * 13 + 4 + i]);
+        let x = value_of(order, table[k * WIDTH + VARIABLES + i]);
         out[i] = x;
         i += 1;
     }
@@ -48,22 +55,16 @@ fn sent_values(table: &[u32; 11584], k: usize, order: Order) -> [u32; 4]
 }
 
 // The messages after the send in row k: its message is added where all its variables are bound.
-fn sent(
-    table: &[u32; 11584],
-    k: usize,
-    order: Order,
-    messages: [Message; 64],
-    waiting: usize,
-) -> Mail
+fn sent(table: &Table, k: usize, order: Order, messages: [Message; 64], waiting: usize) -> Mail
     requires { ⌜ k < 256 ⌝ }
     ensures { λ r. ⌜ SendsMail (now (table .entry)) k order messages waiting r ⌝ }
 {
     if activity::all_bound(table, k, order) {
         let values = sent_values(table, k, order);
         let m = Message {
-            partner: table[k * 13 + 1],
-            operation: table[k * 13 + 2],
-            count: table[k * 13 + 3],
+            partner: table[k * WIDTH + PARTNER],
+            operation: table[k * WIDTH + OPERATION],
+            count: table[k * WIDTH + COUNT],
             values,
         };
         return letters::with_message(messages, waiting, m);
@@ -73,7 +74,7 @@ fn sent(
 
 // The messages after the step of activity k: a send adds one, a take removes one.
 fn messages_after(
-    table: &[u32; 11584],
+    table: &Table,
     activities: usize,
     messages: [Message; 64],
     waiting: usize,
@@ -86,14 +87,14 @@ fn messages_after(
     if 256 <= k {
         return Mail { messages, waiting };
     }
-    let kind = table[k * 13];
-    if kind == 1 {
+    let kind = table[k * WIDTH];
+    if kind == kind::SEND {
         return sent(table, k, order, messages, waiting);
     }
-    if kind == 2 {
+    if kind == kind::RECEIVE {
         return letters::without_message(messages, waiting, place);
     }
-    if kind == 255 {
+    if kind == kind::ARM {
         return letters::without_message(messages, waiting, place);
     }
     Mail { messages, waiting }
@@ -186,7 +187,7 @@ fn count_end(end: End, tally: Tally) -> Tally
 
 // What an order moves to with the step of an activity: it takes the values of the message at a place, and moves on.
 fn next_of(
-    table: &[u32; 11584],
+    table: &Table,
     activities: usize,
     messages: [Message; 64],
     order: Order,
@@ -202,7 +203,7 @@ fn next_of(
 
 // What the step of an activity of the order in a slot changes: the order takes the values of its message and moves on, and the messages move too.
 fn moved_from(
-    table: &[u32; 11584],
+    table: &Table,
     activities: usize,
     order: Order,
     messages: [Message; 64],
@@ -237,7 +238,7 @@ fn moved_from(
 
 // What the offer of an activity and a place changes in the slot with this order: it is taken by the order, or by a new one where the slot is free.
 pub(crate) fn moved(
-    table: &[u32; 11584],
+    table: &Table,
     activities: usize,
     order: Order,
     messages: [Message; 64],

@@ -1,4 +1,4 @@
--- Numbers and lists of numbers as bytes, the least byte first, and back. Assumes nothing: these are definitions.
+-- Meaning: numbers and lists of numbers as bytes, the least byte first, and back. Assumes nothing: these are definitions.
 use Prim.Native.Nat.{ℕ, zero, suc, _+_, _*_, _/_, _%_}
 use mathlib.Core.Bool.{cond}
 use mathlib.Core.List.{List, [], _∷_}

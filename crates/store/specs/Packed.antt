@@ -1,4 +1,4 @@
--- A state with its tally as 12,476 bytes, and what bytes hold. Assumes nothing: these are definitions.
+-- Meaning: a state with its tally as 12,476 bytes, and what bytes hold. Assumes nothing: these are definitions.
 use Prim.Native.Nat.{ℕ}
 use mathlib.Core.Bool.{Bool, true, false, cond, _&&_}
 use mathlib.Core.List.{List, [], _∷_, _++_}

@@ -1,4 +1,4 @@
--- What a function that writes bytes from a place on leaves. Assumes nothing: this is a definition.
+-- Glue: what a function that writes bytes from a place on leaves. Assumes nothing: this is a definition, and nothing here has to be believed.
 use Prim.Native.Nat.{ℕ}
 use mathlib.Core.List.{List}
 use mathlib.Core.Path.{_≡_}

@@ -1,4 +1,4 @@
--- Decimal numbers up to 4,294,967,295. Assumes nothing: these are definitions.
+-- Meaning: decimal numbers up to 4,294,967,295. Assumes nothing: these are definitions.
 use Prim.Native.Nat.{ℕ, _+_, _-_, _*_}
 use mathlib.Core.Bool.{Bool, false, cond}
 use mathlib.Core.List.{List, [], _∷_}

@@ -1,4 +1,4 @@
--- Bytes in hexadecimal: two digits for each byte, in either case, or '-' for no bytes. Assumes nothing: these are definitions.
+-- Meaning: bytes in hexadecimal: two digits for each byte, in either case, or '-' for no bytes. Assumes nothing: these are definitions.
 use Prim.Native.Nat.{ℕ, zero, suc, _+_, _-_, _*_, _/_, _%_}
 use mathlib.Core.Bool.{Bool, true, false, cond}
 use mathlib.Core.List.{List}

@@ -1,4 +1,4 @@
--- A line as it is gathered, and as it counts once it has ended. Assumes nothing: these are definitions.
+-- Meaning: a line as it is gathered, and as it counts once it has ended. Assumes nothing: these are definitions.
 use Prim.Native.Nat.{ℕ, _-_}
 use mathlib.Core.Bool.{cond}
 use mathlib.Core.List.{List}

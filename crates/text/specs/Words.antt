@@ -1,4 +1,4 @@
--- Words of a line: what stands between blanks. Assumes nothing: these are definitions.
+-- Meaning: words of a line: what stands between blanks. Assumes nothing: these are definitions.
 use Prim.Native.Nat.{ℕ, suc, _+_, _-_, min}
 use mathlib.Core.Bool.{Bool, true, false, cond, not}
 use mathlib.Core.List.{List, [], _∷_}

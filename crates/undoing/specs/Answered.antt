@@ -1,5 +1,5 @@
--- What is taken back, told by the answers of the steps taken alone (which activity had its step, and how the order ended): with no log in it, and nothing of
--- what stands in a slot. This is what a buyer can check from outside. Assumes nothing: these are definitions.
+-- Meaning: what is taken back, told by the answers of the steps taken alone (which activity had its step, and how the order ended): with no log in it, and
+-- nothing of what stands in a slot. This is what a buyer can check from outside. Assumes nothing: these are definitions.
 use Prim.Native.Nat.{ℕ, _+_}
 use mathlib.Core.Path.{_≡_}
 use mathlib.Core.Bool.{Bool, true, false, cond, not, _&&_}

@@ -1,6 +1,6 @@
--- What a step logs as begun has begun, and nothing else has: the beginnings of a log against the marks before and after it. So none is only claimed,
--- and none is left out. A step goes through its order once for itself, and once for each raise of the judging that follows; this is said of each time,
--- since what begins the first time may be stopped the second. Assumes nothing: these are definitions.
+-- Meaning: what a step logs as begun has begun, and nothing else has: the beginnings of a log against the marks before and after it. So none is only claimed,
+-- and none is left out. A step goes through its order once for itself, and once for each raise of the judging that follows; this is said of each time, since
+-- what begins the first time may be stopped the second. Assumes nothing: these are definitions.
 use Prim.Native.Nat.{ℕ, zero, suc, _+_}
 use mathlib.Core.Path.{_≡_}
 use mathlib.Core.Bool.{Bool, true, false, cond, not, _&&_, _||_}

@@ -1,4 +1,4 @@
--- What demand 3 means to a buyer: corollaries, each a sentence. Assumes nothing: these are definitions.
+-- Meaning: what demand 3 means to a buyer: corollaries, each a sentence. Assumes nothing: these are definitions.
 use Prim.Native.Nat.{ℕ}
 use mathlib.Core.Path.{_≡_}
 use mathlib.Core.Bool.{Bool, true, false, _&&_}

@@ -1,4 +1,5 @@
--- Runs of the compiled calls, as their contracts have them: the premises are the `ensures` of the public functions `load`, `post`, `collect`, `drop_at` and `take_step`. Assumes nothing: these are definitions.
+-- Meaning: runs of the compiled calls, as their contracts have them: the premises are the `ensures` of the public functions `load`, `post`, `collect`,
+-- `drop_at` and `take_step`. Assumes nothing: these are definitions.
 use Prim.Native.Nat.{ℕ}
 use mathlib.Core.Path.{_≡_}
 use mathlib.Core.List.{List, [], _∷_}

@@ -1,5 +1,5 @@
--- The definitions of this crate that compute, under one name: a statement that says `unfolding computing judging` is computed with these and the
--- machine's. Assumes nothing.
+-- Glue: the definitions of this crate that compute, under one name: a statement that says `unfolding computing judging` is computed with these and the
+-- machine's. Assumes nothing, and nothing here has to be believed.
 use Rattle.undoing.specs.History.{history}
 use Rattle.undoing.specs.Demand3.{scopesIn, scopesOf, insideOf, isBegin, since, isTurn, isFinish, closedBy, undoneBy, isUndoRaise, closingsOf, startedBy, undoneOf, undoRaised, hasTurned, isLeft, noneLeft, mayTurn, noneNow, mayUndo, mayBegin, mayClose, startedAll, mayEnd, isOver, allowed, rightAfter, right}
 use Rattle.undoing.specs.Ties.{stateAfter, isDeed, deedOf, deedIn, deedAt, clashes, deedBy, deedsTaken, placeIn, placeOf, runAt, dueEnded, due, isFaultOf, isEndOf, heedsAfter, isRaised, endTold, endsIn, endsTaken, isStep, undoRuns, undosIn, movesOn, goIn}

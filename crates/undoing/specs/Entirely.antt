@@ -1,5 +1,5 @@
--- What a history leaves open that is true step by step and by the marks alone: that a step begins a thing once, afresh, and with all that belongs to it;
--- that nothing changes in a slot but by its steps; that what is stopped is stopped throughout; and that all that runs has a step to come. Assumes nothing:
+-- Meaning: what a history leaves open that is true step by step and by the marks alone: that a step begins a thing once, afresh, and with all that belongs to
+-- it; that nothing changes in a slot but by its steps; that what is stopped is stopped throughout; and that all that runs has a step to come. Assumes nothing:
 -- these are definitions.
 use Prim.Native.Nat.{ℕ, _+_, _≤_}
 use mathlib.Core.Path.{_≡_}

@@ -1,5 +1,5 @@
--- What runs goes on: nothing is dropped, what follows begins, and what is decided is done. Of every step taken, against the order that had it. Assumes nothing:
--- these are definitions.
+-- Meaning: what runs goes on: nothing is dropped, what follows begins, and what is decided is done. Of every step taken, against the order that had it. Assumes
+-- nothing: these are definitions.
 use Prim.Native.Nat.{ℕ, _+_}
 use mathlib.Core.Path.{_≡_}
 use mathlib.Core.Bool.{Bool, true, false, cond, not, _&&_, _||_}

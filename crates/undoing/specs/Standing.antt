@@ -1,5 +1,5 @@
--- How the marks of a live order stand against its plan: what runs, what awaits its step, what is stopped and what undoes. Read from the marks alone, at every
--- depth. Assumes nothing: these are definitions.
+-- Meaning: how the marks of a live order stand against its plan: what runs, what awaits its step, what is stopped and what undoes. Read from the marks alone,
+-- at every depth. Assumes nothing: these are definitions.
 use Prim.Native.Nat.{ℕ, _+_}
 use mathlib.Core.Path.{_≡_}
 use mathlib.Core.Bool.{Bool, true, false, cond, not, _&&_, _||_}

@@ -1,4 +1,4 @@
--- What ties the history of a slot to what stands in it, to the steps taken and to their answers, stated beside demand 3, which judges the history by
+-- Meaning: what ties the history of a slot to what stands in it, to the steps taken and to their answers, stated beside demand 3, which judges the history by
 -- itself: marks, lists, steps, faults, ends, places, and that nothing is stuck. Assumes nothing: these are definitions.
 use Prim.Native.Nat.{ℕ, zero, suc, _+_}
 use mathlib.Core.Path.{_≡_}

@@ -1,4 +1,4 @@
--- What it takes for a history to be that of a run, as one statement: demand 3 and all that ties the history to the plan, to the steps taken, to their
+-- Meaning: what it takes for a history to be that of a run, as one statement: demand 3 and all that ties the history to the plan, to the steps taken, to their
 -- answers and to what stands in the slot. Assumes nothing: these are definitions.
 use Prim.Native.Nat.{ℕ}
 use mathlib.Core.Path.{_≡_}

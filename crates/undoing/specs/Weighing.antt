@@ -1,4 +1,4 @@
--- The definitions of Entirely, Standing and Onward that compute, under one name. Assumes nothing.
+-- Glue: the definitions of Entirely, Standing and Onward that compute, under one name. Assumes nothing, and nothing here has to be believed.
 use Rattle.order.specs.Taking.{actIn}
 use Rattle.undoing.specs.Entirely.{times, isOnce, isAfresh, turnIn, turnAt, suits, isEntire, sameOrder, chained, isStopped, hasNext, isStopOf, isLocal, isAwaited}
 use Rattle.undoing.specs.Standing.{isDoing, holdingOf, runsIn, stands}

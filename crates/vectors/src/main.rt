@@ -3,6 +3,7 @@
 use libc::STDIN_FILENO;
 use libc::STDOUT_FILENO;
 use plan::Answer;
+use plan::layout::LENGTH;
 use text::Decimal;
 use text::Hex;
 use text::Line;
@@ -46,7 +47,7 @@ fn more(n: u64) -> u64 {
 
 // What the reader makes of bytes.
 fn reading(s: &[u8]) -> Outcome {
-    let mut table = [0u32; 11584];
+    let mut table = [0u32; LENGTH];
     let mut correlation = [0u8; 16];
     let a = plan::accept(s, &mut table, &mut correlation);
     match a {

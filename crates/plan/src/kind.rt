@@ -1,0 +1,33 @@
+// The kinds of activities, by document 01's codes; an arm of a pick, which has no code, has a kind of its own.
+
+pub const EMPTY: u32 = 0;
+
+pub const SEND: u32 = 1;
+
+pub const RECEIVE: u32 = 2;
+
+pub const SET: u32 = 3;
+
+pub const RAISE: u32 = 4;
+
+pub const LEAVE: u32 = 5;
+
+pub const CHOOSE: u32 = 6;
+
+pub const REPEAT: u32 = 7;
+
+pub const SEQUENCE: u32 = 8;
+
+pub const FLOW: u32 = 9;
+
+pub const PICK: u32 = 10;
+
+pub const SCOPE: u32 = 11;
+
+// A scope with no undo part of its own.
+pub const OPEN_SCOPE: u32 = 12;
+
+// The last code of an activity: what stands on file above it is no activity.
+pub const LAST: u32 = OPEN_SCOPE;
+
+pub const ARM: u32 = 255;
