@@ -215,13 +215,9 @@ pub extern "C" fn moonhalyard_run(state: &mut [u8], choices: &[usize], budget: &
     ensures bytes { λ _. ⌜ now (state .exit) ≡ engine.runBytes (now (choices .entry)) (now (budget .entry)) (now (state .entry)) ⌝ }
     ensures left { λ _. ⌜ now (budget .exit) + engine.ranIn (now (choices .entry)) (now (budget .entry)) (now (state .entry)) .taken ≡ now (budget .entry) ⌝ }
 {
-    let k = store::unpack(&state[..]);
-    let r = run::run(k.state, choices, budget, k.tally);
-    if r.taken == 0 {
-        return r.refusal;
-    }
-    store::pack(r.state, r.tally, state);
-    r.refusal
+    // by the call below and not by `run::run`: called from one place, a run stands in its caller's frame, which saves 40 KB of stack
+    let mut none = [0u64; 1];
+    moonhalyard_tell(state, choices, budget, &mut none)
 }
 
 // The same, and the answer of each step taken is put into `told`, as `moonhalyard_step` answers it, as far as there is room.

@@ -12,7 +12,6 @@ use drawing::put_number;
 use drawing::put_refusal;
 use machine::Message;
 use machine::State;
-use machine::Step;
 use offer::Offered;
 use order::Order;
 use plan::Answer;
@@ -27,55 +26,68 @@ fn put_count(out: &mut [u8; 4096], used: usize, word: &[u8], o: Offered) -> usiz
     put(out, at, b" free")
 }
 
-// A step as numbers.
-fn put_step(out: &mut [u8; 4096], used: usize, x: Step) -> usize {
-    let mut at = put_next(out, used, x.slot as u64);
-    at = put_byte(out, at, 58);
-    at = put_number(out, at, x.activity as u64);
-    at = put_byte(out, at, 58);
-    put_number(out, at, x.place as u64)
+// The slot, the activity and the message place of a step, from its number.
+fn slot_of(x: u64) -> usize {
+    (x / 16777216 % 256) as usize
 }
 
-fn put_steps(
-    out: &mut [u8; 4096],
-    used: usize,
-    table: &[u32; 11584],
-    flags: &[u8; 16],
-    activities: usize,
-    state: State,
-    many: usize,
-) -> usize {
+fn activity_of(x: u64) -> usize {
+    (x / 65536 % 256) as usize
+}
+
+fn place_of(x: u64) -> usize {
+    (x / 256 % 256) as usize
+}
+
+// A step as numbers.
+fn put_step(out: &mut [u8; 4096], used: usize, x: u64) -> usize {
+    let mut at = put_next(out, used, slot_of(x) as u64);
+    at = put_byte(out, at, 58);
+    at = put_number(out, at, activity_of(x) as u64);
+    at = put_byte(out, at, 58);
+    put_number(out, at, place_of(x) as u64)
+}
+
+// The steps of a window, as numbers.
+fn put_window(out: &mut [u8; 4096], used: usize, window: &[u64; 256], many: usize) -> usize {
     let mut at = used;
-    let mut choice = 0;
-    while choice < many {
-        let x = offer::offer_by(table, flags, activities, state, choice);
-        at = put_step(out, at, x);
-        choice += 1;
+    let mut i: usize = 0;
+    while i < 256 {
+        if i < many {
+            at = put_step(out, at, window[i]);
+        }
+        i += 1;
     }
     at
 }
 
+// The steps from a choice on, as numbers, no more than a window holds.
+fn put_from(out: &mut [u8; 4096], used: usize, state: State, first: u32, many: usize) -> usize {
+    let mut window = [0u64; 256];
+    listing::list(state, first, &mut window);
+    put_window(out, used, &window, many)
+}
+
+// The steps as numbers, window by window: to ask for each by itself takes a pass over the offer each time.
+fn put_steps(out: &mut [u8; 4096], used: usize, state: State, many: usize) -> usize {
+    let mut at = used;
+    let mut left = many;
+    while left > 256 {
+        at = put_from(out, at, state, (many - left) as u32, 256);
+        left -= 256;
+    }
+    put_from(out, at, state, (many - left) as u32, left)
+}
+
 // All that is offered, as numbers.
 pub fn put_offer(out: &mut [u8; 4096], used: usize, state: State) -> usize {
-    let mut table = [0u32; 11584];
-    let mut flags = [0u8; 16];
     let o = offer::offers(state);
-    let a = machine::limits::planned(state, &mut table, &mut flags);
-    match a {
-        Answer::Refused {
-            number: _,
-            place: _,
-        } => put_refusal(out, used, b"offer", 17),
-        Answer::Accepted {
-            variables: _,
-            activities,
-            nodes: _,
-        } => {
-            let mut at = put_count(out, used, b"offer", o);
-            at = put_steps(out, at, &table, &flags, activities, state, o.many);
-            put_byte(out, at, 10)
-        }
+    if o.refusal != 0 {
+        return put_refusal(out, used, b"offer", o.refusal);
     }
+    let mut at = put_count(out, used, b"offer", o);
+    at = put_steps(out, at, state, o.many);
+    put_byte(out, at, 10)
 }
 
 fn is_live(orders: [Order; 16], slot: usize) -> bool {
@@ -136,37 +148,76 @@ fn put_choice(
     table: &[u32; 11584],
     flags: &[u8; 16],
     state: State,
-    choice: usize,
-    x: Step,
+    choice: u64,
+    x: u64,
 ) -> usize {
     let orders = state.orders;
     let messages = state.messages;
-    let mut at = put_aligned(out, used, choice as u64);
+    let n = activity_of(x);
+    let mut at = put_aligned(out, used, choice);
     at = put(out, at, b"  ");
-    at = put_whose(out, at, orders, x.slot);
-    at = put_what(out, at, names, table, flags, x.activity);
-    at = put_which(out, at, entry(table, x.activity, 0), messages, x.place);
+    at = put_whose(out, at, orders, slot_of(x));
+    at = put_what(out, at, names, table, flags, n);
+    at = put_which(out, at, entry(table, n, 0), messages, place_of(x));
     put_byte(out, at, 10)
 }
 
+// The steps of a window, in words.
+fn put_worded(
+    out: &mut [u8; 4096],
+    used: usize,
+    names: &[u8; 4752],
+    table: &[u32; 11584],
+    flags: &[u8; 16],
+    state: State,
+    window: &[u64; 256],
+    first: u32,
+    many: usize,
+) -> usize {
+    let mut at = used;
+    let mut i: usize = 0;
+    while i < 256 {
+        if i < many {
+            at = put_choice(out, at, names, table, flags, state, first as u64 + i as u64, window[i]);
+        }
+        i += 1;
+    }
+    at
+}
+
+// The steps from a choice on, in words, no more than a window holds.
+fn put_worded_from(
+    out: &mut [u8; 4096],
+    used: usize,
+    names: &[u8; 4752],
+    table: &[u32; 11584],
+    flags: &[u8; 16],
+    state: State,
+    first: u32,
+    many: usize,
+) -> usize {
+    let mut window = [0u64; 256];
+    listing::list(state, first, &mut window);
+    put_worded(out, used, names, table, flags, state, &window, first, many)
+}
+
+// The steps in words, window by window.
 fn put_choices(
     out: &mut [u8; 4096],
     used: usize,
     names: &[u8; 4752],
     table: &[u32; 11584],
     flags: &[u8; 16],
-    activities: usize,
     state: State,
     many: usize,
 ) -> usize {
     let mut at = used;
-    let mut choice = 0;
-    while choice < many {
-        let x = offer::offer_by(table, flags, activities, state, choice);
-        at = put_choice(out, at, names, table, flags, state, choice, x);
-        choice += 1;
+    let mut left = many;
+    while left > 256 {
+        at = put_worded_from(out, at, names, table, flags, state, (many - left) as u32, 256);
+        left -= 256;
     }
-    at
+    put_worded_from(out, at, names, table, flags, state, (many - left) as u32, left)
 }
 
 // All that is offered, in words; where something is held, what has no room left; and a blank line.
@@ -182,12 +233,12 @@ pub fn put_offers(out: &mut [u8; 4096], used: usize, names: &[u8; 4752], state: 
         } => put_refusal(out, used, b"offers", 17),
         Answer::Accepted {
             variables: _,
-            activities,
+            activities: _,
             nodes: _,
         } => {
             let mut at = put_count(out, used, b"offers", o);
             at = put_byte(out, at, 10);
-            at = put_choices(out, at, names, &table, &flags, activities, state, o.many);
+            at = put_choices(out, at, names, &table, &flags, state, o.many);
             if o.held {
                 at = put_full(out, at, state);
             }
