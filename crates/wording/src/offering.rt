@@ -178,7 +178,16 @@ fn put_worded(
     let mut i: usize = 0;
     while i < 256 {
         if i < many {
-            at = put_choice(out, at, names, table, flags, state, first as u64 + i as u64, window[i]);
+            at = put_choice(
+                out,
+                at,
+                names,
+                table,
+                flags,
+                state,
+                first as u64 + i as u64,
+                window[i],
+            );
         }
         i += 1;
     }
@@ -214,10 +223,28 @@ fn put_choices(
     let mut at = used;
     let mut left = many;
     while left > 256 {
-        at = put_worded_from(out, at, names, table, flags, state, (many - left) as u32, 256);
+        at = put_worded_from(
+            out,
+            at,
+            names,
+            table,
+            flags,
+            state,
+            (many - left) as u32,
+            256,
+        );
         left -= 256;
     }
-    put_worded_from(out, at, names, table, flags, state, (many - left) as u32, left)
+    put_worded_from(
+        out,
+        at,
+        names,
+        table,
+        flags,
+        state,
+        (many - left) as u32,
+        left,
+    )
 }
 
 // All that is offered, in words; where something is held, what has no room left; and a blank line.
