@@ -41,7 +41,7 @@ fn is_undone_late(table: &[u32; 11584], a: usize, n: usize) -> bool {
 }
 
 fn is_arm_of(table: &[u32; 11584], a: usize, n: usize) -> bool {
-    if entry(table, n, 0) == 12 {
+    if entry(table, n, 0) == 255 {
         return parent_of(table, n) == a;
     }
     false
@@ -75,7 +75,7 @@ fn are_beside(table: &[u32; 11584], a: usize, j: usize, k: usize) -> bool {
 // Whether what stands at n begins as soon as activity m around it does.
 fn begins(table: &[u32; 11584], m: usize, n: usize) -> bool {
     match entry(table, m, 0) {
-        8 | 11 => n < end_of(table, after(m)),
+        8 | 11 | 12 => n < end_of(table, after(m)),
         9 | 10 => true,
         _ => false,
     }
@@ -200,37 +200,69 @@ fn scope_around(table: &[u32; 11584], s: usize) -> usize {
     outer
 }
 
-// A raise in the body of scope s faults it, one in its fault part the scope around it, and one in its undo part the scope around the one that undoes.
-fn faulted_from(table: &[u32; 11584], s: usize, n: usize) -> usize {
-    match part_in(table, s, n) {
-        0 => s,
-        1 => scope_around(table, s),
-        _ => faulted_around(table, scope_around(table, s)),
-    }
-}
-
-fn faulted_around(table: &[u32; 11584], s: usize) -> usize {
-    if s < 256 {
-        return scope_around(table, s);
+// The scope that a raise in an undo part that scope u runs faults; 257 where u is the root, so that the order fails.
+fn faulted_around(table: &[u32; 11584], u: usize) -> usize {
+    if u < 256 {
+        return scope_around(table, u);
     }
     257
 }
 
-// The scope that a raise in place of row n would fault: 256 is the root, and 257 that no scope is left, so that the order fails.
-fn faulted_by(table: &[u32; 11584], n: usize) -> usize {
-    let s = scope_of(table, n);
-    if s == n {
-        if n < end_of(table, 0) {
-            return 256;
-        }
-        return 257;
+// Whether what stands in a may still wait while scope u undoes scope t: always where a stands in that undo part, else where u stands in a.
+fn waits_on(table: &[u32; 11584], a: usize, t: usize, u: usize) -> bool {
+    if is_within(table, a, t) {
+        return is_within(table, a, u);
     }
-    faulted_from(table, s, n)
+    true
 }
 
+// Whether a raise in the undo part of scope t, while something else in a waits, may fault scope s. The scope around t undoes it; or, where that has no undo
+// part and closed before, the one to which it handed that on.
+fn faults_undoing(table: &[u32; 11584], s: usize, t: usize, a: usize) -> bool {
+    let mut u = scope_around(table, t);
+    let mut left: usize = 16;
+    while left > 0 {
+        if !waits_on(table, a, t, u) {
+            return false;
+        }
+        if faulted_around(table, u) == s {
+            return true;
+        }
+        if entry(table, u, 0) != 12 {
+            return false;
+        }
+        u = scope_around(table, u);
+        left -= 1;
+    }
+    false
+}
+
+// A raise in the body of scope t faults it, one in its fault part the scope around it, and one in its undo part the scope around the one that undoes.
+fn faults_from(table: &[u32; 11584], s: usize, t: usize, n: usize, a: usize) -> bool {
+    match part_in(table, t, n) {
+        0 => t == s,
+        1 => scope_around(table, t) == s,
+        _ => faults_undoing(table, s, t, a),
+    }
+}
+
+// Whether a raise in place of row n may fault scope s, or the root where that is 256, while something else in a waits.
+fn may_fault(table: &[u32; 11584], s: usize, n: usize, a: usize) -> bool {
+    let t = scope_of(table, n);
+    if t == n {
+        if s == 256 {
+            return n < end_of(table, 0);
+        }
+        return false;
+    }
+    faults_from(table, s, t, n, a)
+}
+
+// Whether the rival of row k may make it fault scope s.
 fn faults(table: &[u32; 11584], s: usize, k: usize) -> bool {
-    if is_contested(table, k) {
-        return faulted_by(table, k) == s;
+    let j = rival_of(table, k);
+    if j < k {
+        return may_fault(table, s, k, around(table, j, k));
     }
     false
 }

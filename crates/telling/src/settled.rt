@@ -56,7 +56,7 @@ fn mark_at(marks: &[u8; 256], n: usize) -> u8 {
 fn is_open(table: &[u32; 11584], picks: &[usize; 256], marks: &[u8; 256], n: usize) -> bool {
     match entry(table, n, 0) {
         2 => mark_at(marks, n) == 1,
-        12 => fit::search::arm_open(table, picks, marks, n),
+        255 => fit::search::arm_open(table, picks, marks, n),
         _ => false,
     }
 }
@@ -90,7 +90,7 @@ fn lower_of(table: &[u32; 11584], picks: &[usize; 256], marks: &[u8; 256], k: us
 // A receive or an arm by its number.
 fn put_row(out: &mut [u8; 4096], used: usize, table: &[u32; 11584], n: usize) -> usize {
     let mut at = used;
-    if entry(table, n, 0) == 12 {
+    if entry(table, n, 0) == 255 {
         at = put(out, at, b"arm");
     } else {
         at = put(out, at, b"receive");

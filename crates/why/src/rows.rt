@@ -1,6 +1,7 @@
 // What an order does and waits for, a line for each activity that awaits its step.
 use super::near::put_near;
 use drawing::entry;
+use drawing::is_scope;
 use drawing::put;
 use drawing::put_activity;
 use drawing::put_byte;
@@ -193,7 +194,7 @@ fn put_row(
     if fit::search::arm_open(table, picks, &marks, n) {
         return put_open(out, used, names, table, flags, n, state, order);
     }
-    if entry(table, n, 0) == 11 {
+    if is_scope(entry(table, n, 0)) {
         return put_faulted(out, used, table, n, mark);
     }
     used
