@@ -16,6 +16,10 @@ use machine::Step;
 use offer::Offered;
 use order::Order;
 use plan::Answer;
+use plan::kind;
+use plan::table::KIND;
+use plan::table::LENGTH;
+use plan::table::Table;
 
 // A command word, how much is offered, and whether something is held.
 fn put_count(out: &mut [u8; 4096], used: usize, word: &[u8], o: Offered) -> usize {
@@ -39,7 +43,7 @@ fn put_step(out: &mut [u8; 4096], used: usize, x: Step) -> usize {
 fn put_steps(
     out: &mut [u8; 4096],
     used: usize,
-    table: &[u32; 11584],
+    table: &Table,
     flags: &[u8; 16],
     activities: usize,
     state: State,
@@ -57,7 +61,7 @@ fn put_steps(
 
 // All that is offered, as numbers.
 pub fn put_offer(out: &mut [u8; 4096], used: usize, state: State) -> usize {
-    let mut table = [0u32; 11584];
+    let mut table = [0u32; LENGTH];
     let mut flags = [0u8; 16];
     let o = offer::offers(state);
     let a = machine::limits::planned(state, &mut table, &mut flags);
@@ -101,14 +105,14 @@ fn put_what(
     out: &mut [u8; 4096],
     used: usize,
     names: &[u8; 4752],
-    table: &[u32; 11584],
+    table: &Table,
     flags: &[u8; 16],
     n: usize,
 ) -> usize {
     let mut at = put(out, used, b", activity");
     at = put_next(out, at, n as u64);
     at = put(out, at, b": ");
-    if is_scope(entry(table, n, 0)) {
+    if is_scope(entry(table, n, KIND)) {
         at = put(out, at, b"close ");
     }
     put_activity(out, at, names, table, flags, n)
@@ -123,7 +127,7 @@ fn put_which(
     place: usize,
 ) -> usize {
     match kind {
-        2 | 255 => put_taken(out, used, messages, place),
+        kind::RECEIVE | kind::ARM => put_taken(out, used, messages, place),
         _ => used,
     }
 }
@@ -133,7 +137,7 @@ fn put_choice(
     out: &mut [u8; 4096],
     used: usize,
     names: &[u8; 4752],
-    table: &[u32; 11584],
+    table: &Table,
     flags: &[u8; 16],
     state: State,
     choice: usize,
@@ -145,7 +149,7 @@ fn put_choice(
     at = put(out, at, b"  ");
     at = put_whose(out, at, orders, x.slot);
     at = put_what(out, at, names, table, flags, x.activity);
-    at = put_which(out, at, entry(table, x.activity, 0), messages, x.place);
+    at = put_which(out, at, entry(table, x.activity, KIND), messages, x.place);
     put_byte(out, at, 10)
 }
 
@@ -153,7 +157,7 @@ fn put_choices(
     out: &mut [u8; 4096],
     used: usize,
     names: &[u8; 4752],
-    table: &[u32; 11584],
+    table: &Table,
     flags: &[u8; 16],
     activities: usize,
     state: State,
@@ -171,7 +175,7 @@ fn put_choices(
 
 // All that is offered, in words; where something is held, what has no room left; and a blank line.
 pub fn put_offers(out: &mut [u8; 4096], used: usize, names: &[u8; 4752], state: State) -> usize {
-    let mut table = [0u32; 11584];
+    let mut table = [0u32; LENGTH];
     let mut flags = [0u8; 16];
     let o = offer::offers(state);
     let a = machine::limits::planned(state, &mut table, &mut flags);
