@@ -23,7 +23,7 @@ use order::rows::end_of;
 use order::rows::kind_of;
 use order::rows::spot_at;
 use plan::kind;
-use plan::layout::Table;
+use plan::table::Table;
 ghost use Prim.Native.Nat.{_≤_, _<_};
 ghost use mathlib.Core.Path.{_≡_};
 ghost use Rattle.order.specs.Acting.{inPlace};

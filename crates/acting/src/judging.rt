@@ -2,7 +2,7 @@
 use super::root::acted;
 use order::End;
 use order::Next;
-use plan::layout::Table;
+use plan::table::Table;
 use settling::conflict::first_conflict;
 use settling::ranks::is_lower;
 ghost use mathlib.Core.Path.{_≡_};

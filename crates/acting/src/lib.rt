@@ -9,7 +9,7 @@ use order::Next;
 use order::Order;
 use order::rows::kind_of;
 use plan::kind;
-use plan::layout::Table;
+use plan::table::Table;
 pub use root::acted;
 ghost use Rattle.order.specs.Answering.{StepsOrder, TakesOrder};
 

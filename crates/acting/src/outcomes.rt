@@ -10,7 +10,7 @@ use order::marks::marking;
 use order::marks::runs;
 use order::marks::with_marks;
 use order::memory::forgetting;
-use plan::layout::Table;
+use plan::table::Table;
 use scopes::scopes::ends;
 use scopes::scopes::turns;
 use scopes::scopes::undoes;

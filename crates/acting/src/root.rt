@@ -11,7 +11,7 @@ use order::Way;
 use order::Went;
 use order::mark;
 use order::rows::end_of;
-use plan::layout::Table;
+use plan::table::Table;
 ghost use Prim.Native.Nat.{_≤_, _<_};
 ghost use mathlib.Core.Path.{_≡_};
 ghost use Rattle.order.specs.Acting.{endOf, movedTo};

@@ -3,7 +3,7 @@ use activity::binding;
 use order::Order;
 use order::rows::count_of;
 use order::rows::variable_of;
-use plan::layout::Table;
+use plan::table::Table;
 ghost use Prim.Native.Nat.{_<_};
 ghost use Rattle.order.specs.Answering.{BindsRow};
 

@@ -8,7 +8,7 @@ use order::marks::with_marks;
 use order::rows::end_of;
 use order::rows::kind_of;
 use plan::kind;
-use plan::layout::Table;
+use plan::table::Table;
 ghost use Prim.Native.Nat.{_≤_, _<_};
 ghost use mathlib.Core.Bool.{_&&_};
 ghost use mathlib.Core.Path.{_≡_};

@@ -12,7 +12,7 @@ use answers::step_number;
 use machine::Message;
 use offer::Offered;
 use plan::Answer;
-use plan::layout::LENGTH;
+use plan::table::LENGTH;
 
 fn pair_of(number: u32, place: usize) -> u64
     ensures { λ r. ⌜ r ≡ pairOf number place ⌝ }

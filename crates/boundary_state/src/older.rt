@@ -1,10 +1,10 @@
 // A state of the first version, MOONHAL1, as one of today: a closing was one byte there, the number of its scope, and takes two now, the second the part that
 // it is remembered for, which the plan tells.
 use plan::kind;
-use plan::layout::END;
-use plan::layout::LENGTH;
-use plan::layout::Table;
-use plan::layout::WIDTH;
+use plan::table::END;
+use plan::table::LENGTH;
+use plan::table::Table;
+use plan::table::WIDTH;
 ghost use Prim.Native.Nat.{_≤_, _<_};
 ghost use lib.Dec.{eqb, leb, ltb};
 ghost use lib.ListN.{length};

@@ -1,7 +1,7 @@
 // A plan as text for callers in other languages: the crate sheet makes rows of it, the crate writer bytes; and back, by the crate lettering. Built as a
 // static library.
-use plan::layout::LENGTH;
-use plan::layout::Table;
+use plan::table::LENGTH;
+use plan::table::Table;
 use sheet::Sheet;
 use writer::Answer;
 

@@ -3,8 +3,9 @@ use super::uses::binds;
 use super::uses::uses;
 use super::ways::may_precede;
 use super::ways::must_precede;
+use plan::table::Table;
 
-fn may_bind(table: &[u32; 11584], m: usize, n: usize, v: u32) -> bool {
+fn may_bind(table: &Table, m: usize, n: usize, v: u32) -> bool {
     if binds(table, m, v) {
         return may_precede(table, m, n);
     }
@@ -12,7 +13,7 @@ fn may_bind(table: &[u32; 11584], m: usize, n: usize, v: u32) -> bool {
 }
 
 // Whether something binds variable v before activity n on some way there.
-fn is_ever_bound(table: &[u32; 11584], n: usize, v: u32) -> bool {
+fn is_ever_bound(table: &Table, n: usize, v: u32) -> bool {
     let mut m = 0;
     while m < 256 {
         if may_bind(table, m, n, v) {
@@ -24,7 +25,7 @@ fn is_ever_bound(table: &[u32; 11584], n: usize, v: u32) -> bool {
 }
 
 // Whether activity n uses variable v, and nothing before it binds it on any way there.
-pub(crate) fn is_unbound(table: &[u32; 11584], n: usize, v: u32) -> bool {
+pub(crate) fn is_unbound(table: &Table, n: usize, v: u32) -> bool {
     if uses(table, n, v) {
         if is_ever_bound(table, n, v) {
             return false;
@@ -34,7 +35,7 @@ pub(crate) fn is_unbound(table: &[u32; 11584], n: usize, v: u32) -> bool {
     false
 }
 
-fn must_bind(table: &[u32; 11584], m: usize, n: usize, v: u32) -> bool {
+fn must_bind(table: &Table, m: usize, n: usize, v: u32) -> bool {
     if binds(table, m, v) {
         return must_precede(table, m, n);
     }
@@ -42,7 +43,7 @@ fn must_bind(table: &[u32; 11584], m: usize, n: usize, v: u32) -> bool {
 }
 
 // Whether something binds variable v before activity n on every way there, as far as the plan shows it.
-fn is_always_bound(table: &[u32; 11584], n: usize, v: u32) -> bool {
+fn is_always_bound(table: &Table, n: usize, v: u32) -> bool {
     let mut m = 0;
     while m < 256 {
         if must_bind(table, m, n, v) {
@@ -53,7 +54,7 @@ fn is_always_bound(table: &[u32; 11584], n: usize, v: u32) -> bool {
     false
 }
 
-fn may_lack(table: &[u32; 11584], n: usize, v: u32) -> bool {
+fn may_lack(table: &Table, n: usize, v: u32) -> bool {
     if uses(table, n, v) {
         if is_always_bound(table, n, v) {
             return false;
@@ -64,7 +65,7 @@ fn may_lack(table: &[u32; 11584], n: usize, v: u32) -> bool {
 }
 
 // Whether activity n uses a variable that may be unbound there.
-pub(crate) fn may_lack_one(table: &[u32; 11584], n: usize) -> bool {
+pub(crate) fn may_lack_one(table: &Table, n: usize) -> bool {
     let mut v = 0;
     while v < 16 {
         if may_lack(table, n, v) {

@@ -5,10 +5,14 @@ use drawing::end_of;
 use drawing::entry;
 use drawing::parent_of;
 use drawing::value_of;
+use plan::kind;
+use plan::table::EXPRESSION;
+use plan::table::KIND;
+use plan::table::Table;
 
 // Whether the expression of activity n is a constant that is 0, or one that is not.
-fn goes_by(table: &[u32; 11584], n: usize, zero: bool) -> bool {
-    let m = entry(table, n, 9) as usize;
+fn goes_by(table: &Table, n: usize, zero: bool) -> bool {
+    let m = entry(table, n, EXPRESSION) as usize;
     if code_of(table, m) == 0 {
         if zero {
             return value_of(table, m) == 0;
@@ -19,16 +23,16 @@ fn goes_by(table: &[u32; 11584], n: usize, zero: bool) -> bool {
 }
 
 // Whether nothing runs behind activity n in its sequence: a raise, a leave, or a repeat that never ends.
-fn is_last(table: &[u32; 11584], n: usize) -> bool {
-    match entry(table, n, 0) {
-        4 | 5 => true,
-        7 => goes_by(table, n, false),
+fn is_last(table: &Table, n: usize) -> bool {
+    match entry(table, n, KIND) {
+        kind::RAISE | kind::LEAVE => true,
+        kind::REPEAT => goes_by(table, n, false),
         _ => false,
     }
 }
 
 // Of those that stand directly in activity `parent`, the one before n; `parent` where n is the first.
-fn before(table: &[u32; 11584], parent: usize, n: usize) -> usize {
+fn before(table: &Table, parent: usize, n: usize) -> usize {
     let mut found = parent;
     let mut m = after(parent);
     while m < n {
@@ -43,10 +47,10 @@ fn before(table: &[u32; 11584], parent: usize, n: usize) -> usize {
 }
 
 // Whether activity n stands in a sequence behind one after which nothing runs.
-pub(crate) fn is_cut_off(table: &[u32; 11584], n: usize) -> bool {
+pub(crate) fn is_cut_off(table: &Table, n: usize) -> bool {
     let parent = parent_of(table, n);
     if parent < n {
-        if entry(table, parent, 0) == 8 {
+        if entry(table, parent, KIND) == kind::SEQUENCE {
             return is_last(table, before(table, parent, n));
         }
     }
@@ -54,16 +58,16 @@ pub(crate) fn is_cut_off(table: &[u32; 11584], n: usize) -> bool {
 }
 
 // Of a choose the first runs where the expression is not 0, the second where it is; what stands in a repeat, where it is not.
-fn is_never_chosen(table: &[u32; 11584], parent: usize, n: usize) -> bool {
-    match entry(table, parent, 0) {
-        6 => goes_by(table, parent, after(parent) == n),
-        7 => goes_by(table, parent, true),
+fn is_never_chosen(table: &Table, parent: usize, n: usize) -> bool {
+    match entry(table, parent, KIND) {
+        kind::CHOOSE => goes_by(table, parent, after(parent) == n),
+        kind::REPEAT => goes_by(table, parent, true),
         _ => false,
     }
 }
 
 // Whether activity n stands in a choose or a repeat by a constant that never lets it run.
-pub(crate) fn is_passed_by(table: &[u32; 11584], n: usize) -> bool {
+pub(crate) fn is_passed_by(table: &Table, n: usize) -> bool {
     let parent = parent_of(table, n);
     if parent < n {
         return is_never_chosen(table, parent, n);

@@ -1,27 +1,34 @@
 // Messages that never leave, and messages that nothing takes.
 use drawing::entry;
+use plan::kind;
+use plan::table::COUNT;
+use plan::table::KIND;
+use plan::table::OPERATION;
+use plan::table::PARTNER;
+use plan::table::PARTNERS;
+use plan::table::Table;
 
 // Whether the plan receives on a partner.
-fn is_heard(table: &[u32; 11584], partner: u32) -> bool {
+fn is_heard(table: &Table, partner: u32) -> bool {
     if partner < 64 {
-        return table[3328 + partner as usize] == 1;
+        return table[PARTNERS + partner as usize] == 1;
     }
     false
 }
 
 pub(crate) fn is_receive(kind: u32) -> bool {
-    if kind == 2 {
+    if kind == kind::RECEIVE {
         return true;
     }
-    kind == 255
+    kind == kind::ARM
 }
 
 // Whether row n is a receive or an arm that takes such a message, its values apart.
-fn takes(table: &[u32; 11584], n: usize, partner: u32, operation: u32, count: u32) -> bool {
-    if is_receive(entry(table, n, 0)) {
-        if entry(table, n, 1) == partner {
-            if entry(table, n, 2) == operation {
-                return entry(table, n, 3) == count;
+fn takes(table: &Table, n: usize, partner: u32, operation: u32, count: u32) -> bool {
+    if is_receive(entry(table, n, KIND)) {
+        if entry(table, n, PARTNER) == partner {
+            if entry(table, n, OPERATION) == operation {
+                return entry(table, n, COUNT) == count;
             }
         }
     }
@@ -30,7 +37,7 @@ fn takes(table: &[u32; 11584], n: usize, partner: u32, operation: u32, count: u3
 
 // Whether a receive or an arm of the plan takes messages of this partner and operation with so many values. Where none does, such a message waits for
 // good.
-pub fn is_ever_taken(table: &[u32; 11584], partner: u32, operation: u32, count: u32) -> bool {
+pub fn is_ever_taken(table: &Table, partner: u32, operation: u32, count: u32) -> bool {
     let mut n = 0;
     while n < 256 {
         if takes(table, n, partner, operation, count) {
@@ -41,24 +48,24 @@ pub fn is_ever_taken(table: &[u32; 11584], partner: u32, operation: u32, count: 
     false
 }
 
-fn is_sent_taken(table: &[u32; 11584], n: usize) -> bool {
+fn is_sent_taken(table: &Table, n: usize) -> bool {
     is_ever_taken(
         table,
-        entry(table, n, 1),
-        entry(table, n, 2),
-        entry(table, n, 3),
+        entry(table, n, PARTNER),
+        entry(table, n, OPERATION),
+        entry(table, n, COUNT),
     )
 }
 
-fn is_sent_home(table: &[u32; 11584], n: usize) -> bool {
-    if entry(table, n, 0) == 1 {
-        return is_heard(table, entry(table, n, 1));
+fn is_sent_home(table: &Table, n: usize) -> bool {
+    if entry(table, n, KIND) == kind::SEND {
+        return is_heard(table, entry(table, n, PARTNER));
     }
     false
 }
 
 // Whether activity n sends to a partner that the plan receives on: what it sends never leaves, and the plan itself takes it.
-pub(crate) fn never_leaves(table: &[u32; 11584], n: usize) -> bool {
+pub(crate) fn never_leaves(table: &Table, n: usize) -> bool {
     if is_sent_home(table, n) {
         return is_sent_taken(table, n);
     }
@@ -66,7 +73,7 @@ pub(crate) fn never_leaves(table: &[u32; 11584], n: usize) -> bool {
 }
 
 // The same, where no receive of the plan takes it.
-pub(crate) fn is_never_taken(table: &[u32; 11584], n: usize) -> bool {
+pub(crate) fn is_never_taken(table: &Table, n: usize) -> bool {
     if is_sent_home(table, n) {
         if is_sent_taken(table, n) {
             return false;

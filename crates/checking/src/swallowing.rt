@@ -8,10 +8,13 @@ use drawing::after;
 use drawing::entry;
 use drawing::is_scope;
 use drawing::scope_of;
+use plan::kind;
+use plan::table::KIND;
+use plan::table::Table;
 
 // Whether activity n may fault: a raise, a sum or difference, a variable that may be unbound, or a receive beside another for the same thing.
-fn may_fault(table: &[u32; 11584], n: usize) -> bool {
-    if entry(table, n, 0) == 4 {
+fn may_fault(table: &Table, n: usize) -> bool {
+    if entry(table, n, KIND) == kind::RAISE {
         return true;
     }
     if computes(table, n) {
@@ -24,7 +27,7 @@ fn may_fault(table: &[u32; 11584], n: usize) -> bool {
 }
 
 // Whether a fault of activity n faults scope s: n stands in its body, or in the fault part of a scope there.
-fn reaches(table: &[u32; 11584], s: usize, n: usize) -> bool {
+fn reaches(table: &Table, s: usize, n: usize) -> bool {
     let inner = scope_of(table, n);
     if inner == s {
         return part_in(table, s, n) == 0;
@@ -35,7 +38,7 @@ fn reaches(table: &[u32; 11584], s: usize, n: usize) -> bool {
     false
 }
 
-fn may_reach(table: &[u32; 11584], s: usize, n: usize) -> bool {
+fn may_reach(table: &Table, s: usize, n: usize) -> bool {
     if reaches(table, s, n) {
         return may_fault(table, n);
     }
@@ -43,7 +46,7 @@ fn may_reach(table: &[u32; 11584], s: usize, n: usize) -> bool {
 }
 
 // Whether something in the body of scope s may fault it.
-fn may_be_faulted(table: &[u32; 11584], s: usize) -> bool {
+fn may_be_faulted(table: &Table, s: usize) -> bool {
     let stop = fault_of(table, s);
     let mut n = after(s);
     while n < stop {
@@ -56,9 +59,9 @@ fn may_be_faulted(table: &[u32; 11584], s: usize) -> bool {
 }
 
 // Whether activity s is a scope that may fault, and whose fault part is empty.
-pub(crate) fn swallows(table: &[u32; 11584], s: usize) -> bool {
-    if is_scope(entry(table, s, 0)) {
-        if entry(table, fault_of(table, s), 0) == 0 {
+pub(crate) fn swallows(table: &Table, s: usize) -> bool {
+    if is_scope(entry(table, s, KIND)) {
+        if entry(table, fault_of(table, s), KIND) == kind::EMPTY {
             return may_be_faulted(table, s);
         }
     }

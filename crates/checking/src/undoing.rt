@@ -12,18 +12,21 @@ use super::ways::undo_of;
 use drawing::after;
 use drawing::end_of;
 use drawing::entry;
+use plan::kind;
+use plan::table::KIND;
+use plan::table::Table;
 
 // Whether activity t is a scope whose undo part does something, and that is remembered for scope s when that closes.
-fn is_undone_for(table: &[u32; 11584], s: usize, t: usize) -> bool {
-    if entry(table, t, 0) == 11 {
+fn is_undone_for(table: &Table, s: usize, t: usize) -> bool {
+    if entry(table, t, KIND) == kind::SCOPE {
         if keeper_of(table, t) == s {
-            return 0 < entry(table, undo_of(table, t), 0);
+            return kind::EMPTY < entry(table, undo_of(table, t), KIND);
         }
     }
     false
 }
 
-fn has_undone(table: &[u32; 11584], s: usize) -> bool {
+fn has_undone(table: &Table, s: usize) -> bool {
     let stop = fault_of(table, s);
     let mut t = after(s);
     while t < stop {
@@ -36,9 +39,9 @@ fn has_undone(table: &[u32; 11584], s: usize) -> bool {
 }
 
 // Whether activity s is a scope with an empty undo part around scopes with one: once it closes they are forgotten.
-pub(crate) fn forgets(table: &[u32; 11584], s: usize) -> bool {
-    if entry(table, s, 0) == 11 {
-        if entry(table, undo_of(table, s), 0) == 0 {
+pub(crate) fn forgets(table: &Table, s: usize) -> bool {
+    if entry(table, s, KIND) == kind::SCOPE {
+        if entry(table, undo_of(table, s), KIND) == kind::EMPTY {
             return has_undone(table, s);
         }
     }
@@ -46,7 +49,7 @@ pub(crate) fn forgets(table: &[u32; 11584], s: usize) -> bool {
 }
 
 // Whether m stands in the body that scope s is remembered for in the end: that of the nearest scope around it with an undo part, or of the root.
-fn is_in_reach(table: &[u32; 11584], outer: usize, s: usize, m: usize) -> bool {
+fn is_in_reach(table: &Table, outer: usize, s: usize, m: usize) -> bool {
     if outer == s {
         return is_within(table, 0, m);
     }
@@ -64,20 +67,20 @@ fn reach_of(outer: usize, s: usize) -> usize {
     after(outer)
 }
 
-fn is_behind(table: &[u32; 11584], s: usize, m: usize) -> bool {
+fn is_behind(table: &Table, s: usize, m: usize) -> bool {
     let a = around(table, s, m);
     if a == s {
         return false;
     }
-    match entry(table, a, 0) {
-        8 => s < m,
-        9 => true,
+    match entry(table, a, KIND) {
+        kind::SEQUENCE => s < m,
+        kind::FLOW => true,
         _ => false,
     }
 }
 
 // Whether m may run after scope s has closed, and before it is undone.
-fn may_follow(table: &[u32; 11584], s: usize, m: usize) -> bool {
+fn may_follow(table: &Table, s: usize, m: usize) -> bool {
     let outer = keeper_of(table, s);
     if is_in_reach(table, outer, s, m) {
         if is_behind(table, s, m) {
@@ -88,14 +91,14 @@ fn may_follow(table: &[u32; 11584], s: usize, m: usize) -> bool {
     false
 }
 
-fn changes(table: &[u32; 11584], s: usize, m: usize, v: u32) -> bool {
+fn changes(table: &Table, s: usize, m: usize, v: u32) -> bool {
     if binds(table, m, v) {
         return may_follow(table, s, m);
     }
     false
 }
 
-fn is_changed(table: &[u32; 11584], s: usize, v: u32) -> bool {
+fn is_changed(table: &Table, s: usize, v: u32) -> bool {
     let mut m = 0;
     while m < 256 {
         if changes(table, s, m, v) {
@@ -107,7 +110,7 @@ fn is_changed(table: &[u32; 11584], s: usize, v: u32) -> bool {
 }
 
 // Whether the undo part of scope s goes by a variable v that it does not bind itself.
-fn goes_by(table: &[u32; 11584], s: usize, v: u32) -> bool {
+fn goes_by(table: &Table, s: usize, v: u32) -> bool {
     let from = undo_of(table, s);
     let to = end_of(table, s);
     if is_used_within(table, from, to, v) {
@@ -129,8 +132,8 @@ fn is_for_correlation(correlation: &[u8; 16], v: u32) -> bool {
 
 // Whether activity s is a scope whose undo part goes by variable v, which may be set again after the scope. (A variable that is for correlation keeps
 // its value once it has one.)
-pub(crate) fn loses(table: &[u32; 11584], correlation: &[u8; 16], s: usize, v: u32) -> bool {
-    if entry(table, s, 0) == 11 {
+pub(crate) fn loses(table: &Table, correlation: &[u8; 16], s: usize, v: u32) -> bool {
+    if entry(table, s, KIND) == kind::SCOPE {
         if is_for_correlation(correlation, v) {
             return false;
         }

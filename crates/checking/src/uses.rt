@@ -3,19 +3,26 @@ use drawing::after;
 use drawing::code_of;
 use drawing::entry;
 use drawing::value_of;
+use plan::kind;
+use plan::table::COUNT;
+use plan::table::EXPRESSION;
+use plan::table::KIND;
+use plan::table::Table;
+use plan::table::VARIABLE;
+use plan::table::VARIABLES;
 
 // Whether variable v is number i of the tuple of row n, which has `count`.
-fn is_member(table: &[u32; 11584], n: usize, i: usize, count: usize, v: u32) -> bool {
+fn is_member(table: &Table, n: usize, i: usize, count: usize, v: u32) -> bool {
     if i < count {
         if i < 4 {
-            return entry(table, n, 4 + i) == v;
+            return entry(table, n, VARIABLES + i) == v;
         }
     }
     false
 }
 
-fn is_in_tuple(table: &[u32; 11584], n: usize, v: u32) -> bool {
-    let count = entry(table, n, 3) as usize;
+fn is_in_tuple(table: &Table, n: usize, v: u32) -> bool {
+    let count = entry(table, n, COUNT) as usize;
     let mut i = 0;
     while i < 4 {
         if is_member(table, n, i, count, v) {
@@ -27,7 +34,7 @@ fn is_in_tuple(table: &[u32; 11584], n: usize, v: u32) -> bool {
 }
 
 // The last node of the expression whose first is m: the right operand of an operation stands last. (An expression is at most 8 deep.)
-fn last_of(table: &[u32; 11584], m: usize) -> usize {
+fn last_of(table: &Table, m: usize) -> usize {
     let mut at = m;
     let mut level: usize = 0;
     while level < 8 {
@@ -40,7 +47,7 @@ fn last_of(table: &[u32; 11584], m: usize) -> usize {
     at
 }
 
-fn is_variable(table: &[u32; 11584], m: usize, v: u32) -> bool {
+fn is_variable(table: &Table, m: usize, v: u32) -> bool {
     if code_of(table, m) == 1 {
         return value_of(table, m) == v;
     }
@@ -48,7 +55,7 @@ fn is_variable(table: &[u32; 11584], m: usize, v: u32) -> bool {
 }
 
 // Whether variable v stands in the expression whose first node is m.
-fn is_in_expression(table: &[u32; 11584], m: usize, v: u32) -> bool {
+fn is_in_expression(table: &Table, m: usize, v: u32) -> bool {
     let stop = after(last_of(table, m));
     let mut i = m;
     while i < stop {
@@ -61,7 +68,7 @@ fn is_in_expression(table: &[u32; 11584], m: usize, v: u32) -> bool {
 }
 
 // A sum may be above the range, a difference below 0.
-fn is_sum(table: &[u32; 11584], m: usize) -> bool {
+fn is_sum(table: &Table, m: usize) -> bool {
     let code = code_of(table, m);
     if code == 2 {
         return true;
@@ -70,7 +77,7 @@ fn is_sum(table: &[u32; 11584], m: usize) -> bool {
 }
 
 // Whether a sum or a difference stands in the expression whose first node is m.
-fn has_sum(table: &[u32; 11584], m: usize) -> bool {
+fn has_sum(table: &Table, m: usize) -> bool {
     let stop = after(last_of(table, m));
     let mut i = m;
     while i < stop {
@@ -83,33 +90,40 @@ fn has_sum(table: &[u32; 11584], m: usize) -> bool {
 }
 
 // Whether activity n computes a sum or a difference.
-pub(crate) fn computes(table: &[u32; 11584], n: usize) -> bool {
-    match entry(table, n, 0) {
-        3 | 6 | 7 => has_sum(table, entry(table, n, 9) as usize),
+pub(crate) fn computes(table: &Table, n: usize) -> bool {
+    match entry(table, n, KIND) {
+        kind::SET | kind::CHOOSE | kind::REPEAT => has_sum(
+            table,
+            entry(table, n, EXPRESSION) as usize,
+        ),
         _ => false,
     }
 }
 
 // Whether activity n uses variable v: a send that sends it, or an expression that it stands in.
-pub(crate) fn uses(table: &[u32; 11584], n: usize, v: u32) -> bool {
-    match entry(table, n, 0) {
-        1 => is_in_tuple(table, n, v),
-        3 | 6 | 7 => is_in_expression(table, entry(table, n, 9) as usize, v),
+pub(crate) fn uses(table: &Table, n: usize, v: u32) -> bool {
+    match entry(table, n, KIND) {
+        kind::SEND => is_in_tuple(table, n, v),
+        kind::SET | kind::CHOOSE | kind::REPEAT => is_in_expression(
+            table,
+            entry(table, n, EXPRESSION) as usize,
+            v,
+        ),
         _ => false,
     }
 }
 
 // Whether activity or arm n binds variable v: a receive or an arm that takes it, or a set.
-pub(crate) fn binds(table: &[u32; 11584], n: usize, v: u32) -> bool {
-    match entry(table, n, 0) {
-        2 | 255 => is_in_tuple(table, n, v),
-        3 => entry(table, n, 8) == v,
+pub(crate) fn binds(table: &Table, n: usize, v: u32) -> bool {
+    match entry(table, n, KIND) {
+        kind::RECEIVE | kind::ARM => is_in_tuple(table, n, v),
+        kind::SET => entry(table, n, VARIABLE) == v,
         _ => false,
     }
 }
 
 // Whether any activity from `from` to before `to` uses variable v.
-pub(crate) fn is_used_within(table: &[u32; 11584], from: usize, to: usize, v: u32) -> bool {
+pub(crate) fn is_used_within(table: &Table, from: usize, to: usize, v: u32) -> bool {
     let mut n = from;
     while n < to {
         if uses(table, n, v) {
@@ -121,7 +135,7 @@ pub(crate) fn is_used_within(table: &[u32; 11584], from: usize, to: usize, v: u3
 }
 
 // The same of binding it.
-pub(crate) fn is_bound_within(table: &[u32; 11584], from: usize, to: usize, v: u32) -> bool {
+pub(crate) fn is_bound_within(table: &Table, from: usize, to: usize, v: u32) -> bool {
     let mut n = from;
     while n < to {
         if binds(table, n, v) {

@@ -15,9 +15,10 @@ use drawing::put_byte;
 use drawing::put_next;
 use drawing::put_pair;
 use drawing::put_variable;
+use plan::table::Table;
 
 // What is warned of has a number: 0 to 6, and for each of 16 variables 16 and 32 more.
-fn is_of_variable(table: &[u32; 11584], correlation: &[u8; 16], n: usize, what: u32) -> bool {
+fn is_of_variable(table: &Table, correlation: &[u8; 16], n: usize, what: u32) -> bool {
     if what < 16 {
         return false;
     }
@@ -28,7 +29,7 @@ fn is_of_variable(table: &[u32; 11584], correlation: &[u8; 16], n: usize, what: 
 }
 
 // Whether activity n earns this warning.
-fn is_earned(table: &[u32; 11584], correlation: &[u8; 16], n: usize, what: u32) -> bool {
+fn is_earned(table: &Table, correlation: &[u8; 16], n: usize, what: u32) -> bool {
     match what {
         0 => never_leaves(table, n),
         1 => is_never_taken(table, n),
@@ -76,7 +77,7 @@ fn put_words(
     out: &mut [u8; 4096],
     used: usize,
     names: &[u8; 4752],
-    table: &[u32; 11584],
+    table: &Table,
     n: usize,
     what: u32,
 ) -> usize {
@@ -120,7 +121,7 @@ fn put_warning(
     out: &mut [u8; 4096],
     used: usize,
     names: &[u8; 4752],
-    table: &[u32; 11584],
+    table: &Table,
     correlation: &[u8; 16],
     n: usize,
     what: u32,
@@ -138,7 +139,7 @@ fn put_earned(
     out: &mut [u8; 4096],
     used: usize,
     names: &[u8; 4752],
-    table: &[u32; 11584],
+    table: &Table,
     correlation: &[u8; 16],
     n: usize,
     what: u32,
@@ -154,7 +155,7 @@ fn put_warnings_at(
     out: &mut [u8; 4096],
     used: usize,
     names: &[u8; 4752],
-    table: &[u32; 11584],
+    table: &Table,
     correlation: &[u8; 16],
     n: usize,
 ) -> usize {
@@ -172,7 +173,7 @@ pub fn put_warnings(
     out: &mut [u8; 4096],
     used: usize,
     names: &[u8; 4752],
-    table: &[u32; 11584],
+    table: &Table,
     correlation: &[u8; 16],
     activities: usize,
 ) -> usize {
@@ -194,7 +195,7 @@ fn with_one(count: u64, wanted: bool) -> u64 {
     count
 }
 
-fn count_at(table: &[u32; 11584], correlation: &[u8; 16], n: usize, before: u64) -> u64 {
+fn count_at(table: &Table, correlation: &[u8; 16], n: usize, before: u64) -> u64 {
     let mut count = before;
     let mut what = 0;
     while what < 48 {
@@ -205,7 +206,7 @@ fn count_at(table: &[u32; 11584], correlation: &[u8; 16], n: usize, before: u64)
 }
 
 // How many warnings there are.
-fn count_of(table: &[u32; 11584], correlation: &[u8; 16], activities: usize) -> u64 {
+fn count_of(table: &Table, correlation: &[u8; 16], activities: usize) -> u64 {
     let mut count = 0;
     let mut n = 0;
     while n < activities {
@@ -220,7 +221,7 @@ pub fn put_check(
     out: &mut [u8; 4096],
     used: usize,
     names: &[u8; 4752],
-    table: &[u32; 11584],
+    table: &Table,
     correlation: &[u8; 16],
     activities: usize,
 ) -> usize {

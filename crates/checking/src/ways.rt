@@ -2,16 +2,19 @@
 use drawing::after;
 use drawing::end_of;
 use drawing::entry;
+use plan::kind;
+use plan::table::KIND;
+use plan::table::Table;
 
 // Whether activity n is a, or stands in it.
-pub(crate) fn is_within(table: &[u32; 11584], a: usize, n: usize) -> bool {
+pub(crate) fn is_within(table: &Table, a: usize, n: usize) -> bool {
     if a <= n {
         return n < end_of(table, a);
     }
     false
 }
 
-fn is_around(table: &[u32; 11584], a: usize, m: usize, n: usize) -> bool {
+fn is_around(table: &Table, a: usize, m: usize, n: usize) -> bool {
     if is_within(table, a, m) {
         return is_within(table, a, n);
     }
@@ -19,7 +22,7 @@ fn is_around(table: &[u32; 11584], a: usize, m: usize, n: usize) -> bool {
 }
 
 // The innermost activity or arm that both stand in, or that is one of them; 256 where it is the root.
-pub(crate) fn around(table: &[u32; 11584], m: usize, n: usize) -> usize {
+pub(crate) fn around(table: &Table, m: usize, n: usize) -> usize {
     let mut found = 256;
     let mut a = 0;
     while a < 256 {
@@ -31,15 +34,15 @@ pub(crate) fn around(table: &[u32; 11584], m: usize, n: usize) -> usize {
     found
 }
 
-fn is_repeat_around(table: &[u32; 11584], a: usize, m: usize, n: usize) -> bool {
-    if entry(table, a, 0) == 7 {
+fn is_repeat_around(table: &Table, a: usize, m: usize, n: usize) -> bool {
+    if entry(table, a, KIND) == kind::REPEAT {
         return is_around(table, a, m, n);
     }
     false
 }
 
 // Whether both stand in a repeat, from activity `first` on: then m may run in one turn and n in the next.
-pub(crate) fn repeats(table: &[u32; 11584], first: usize, m: usize, n: usize) -> bool {
+pub(crate) fn repeats(table: &Table, first: usize, m: usize, n: usize) -> bool {
     let mut a = first;
     while a < n {
         if is_repeat_around(table, a, m, n) {
@@ -51,23 +54,23 @@ pub(crate) fn repeats(table: &[u32; 11584], first: usize, m: usize, n: usize) ->
 }
 
 // The fault part and the undo part of scope s: they stand after its body.
-pub(crate) fn fault_of(table: &[u32; 11584], s: usize) -> usize {
+pub(crate) fn fault_of(table: &Table, s: usize) -> usize {
     end_of(table, after(s))
 }
 
-pub(crate) fn undo_of(table: &[u32; 11584], s: usize) -> usize {
+pub(crate) fn undo_of(table: &Table, s: usize) -> usize {
     end_of(table, fault_of(table, s))
 }
 
-fn is_keeper(table: &[u32; 11584], s: usize, n: usize) -> bool {
-    if entry(table, s, 0) == 11 {
+fn is_keeper(table: &Table, s: usize, n: usize) -> bool {
+    if entry(table, s, KIND) == kind::SCOPE {
         return n < end_of(table, s);
     }
     false
 }
 
 // The nearest scope around scope n that has an undo part; n itself where none has. Those between hand on what closed in them when they close.
-pub(crate) fn keeper_of(table: &[u32; 11584], n: usize) -> usize {
+pub(crate) fn keeper_of(table: &Table, n: usize) -> usize {
     let mut keeper = n;
     let mut s = 0;
     while s < n {
@@ -80,7 +83,7 @@ pub(crate) fn keeper_of(table: &[u32; 11584], n: usize) -> usize {
 }
 
 // In which part of scope s activity n stands: 0 the body, 1 the fault part, 2 the undo part.
-pub(crate) fn part_in(table: &[u32; 11584], s: usize, n: usize) -> u32 {
+pub(crate) fn part_in(table: &Table, s: usize, n: usize) -> u32 {
     if n < fault_of(table, s) {
         return 0;
     }
@@ -90,8 +93,8 @@ pub(crate) fn part_in(table: &[u32; 11584], s: usize, n: usize) -> u32 {
     2
 }
 
-fn is_undo_around(table: &[u32; 11584], s: usize, n: usize) -> bool {
-    if entry(table, s, 0) == 11 {
+fn is_undo_around(table: &Table, s: usize, n: usize) -> bool {
+    if entry(table, s, KIND) == kind::SCOPE {
         if is_within(table, s, n) {
             return part_in(table, s, n) == 2;
         }
@@ -100,7 +103,7 @@ fn is_undo_around(table: &[u32; 11584], s: usize, n: usize) -> bool {
 }
 
 // Whether n stands in an undo part within activity a: it runs after what follows the scope.
-fn is_in_undo(table: &[u32; 11584], a: usize, n: usize) -> bool {
+fn is_in_undo(table: &Table, a: usize, n: usize) -> bool {
     let mut s = a;
     while s < n {
         if is_undo_around(table, s, n) {
@@ -112,7 +115,7 @@ fn is_in_undo(table: &[u32; 11584], a: usize, n: usize) -> bool {
 }
 
 // In a sequence: what stands first, and whatever stands there where n is undone later.
-fn is_earlier(table: &[u32; 11584], a: usize, m: usize, n: usize) -> bool {
+fn is_earlier(table: &Table, a: usize, m: usize, n: usize) -> bool {
     if m < n {
         return true;
     }
@@ -120,23 +123,23 @@ fn is_earlier(table: &[u32; 11584], a: usize, m: usize, n: usize) -> bool {
 }
 
 // Whether m may run before n in the same turn, where a is the innermost around both.
-fn comes_before(table: &[u32; 11584], a: usize, m: usize, n: usize) -> bool {
+fn comes_before(table: &Table, a: usize, m: usize, n: usize) -> bool {
     if a == n {
         return false;
     }
     if 255 < a {
         return m < n;
     }
-    match entry(table, a, 0) {
-        8 => is_earlier(table, a, m, n),
-        9 => true,
-        11 | 12 => part_in(table, a, m) == 0,
+    match entry(table, a, KIND) {
+        kind::SEQUENCE => is_earlier(table, a, m, n),
+        kind::FLOW => true,
+        kind::SCOPE | kind::OPEN_SCOPE => part_in(table, a, m) == 0,
         _ => false,
     }
 }
 
 // Whether m, which binds something, may run before n on some way there.
-pub(crate) fn may_precede(table: &[u32; 11584], m: usize, n: usize) -> bool {
+pub(crate) fn may_precede(table: &Table, m: usize, n: usize) -> bool {
     if m == n {
         return false;
     }
@@ -150,10 +153,10 @@ pub(crate) fn may_precede(table: &[u32; 11584], m: usize, n: usize) -> bool {
     repeats(table, 0, m, n)
 }
 
-fn is_fork(table: &[u32; 11584], x: usize, m: usize) -> bool {
+fn is_fork(table: &Table, x: usize, m: usize) -> bool {
     if is_within(table, x, m) {
-        match entry(table, x, 0) {
-            8 | 9 => return false,
+        match entry(table, x, KIND) {
+            kind::SEQUENCE | kind::FLOW => return false,
             _ => return true,
         }
     }
@@ -161,7 +164,7 @@ fn is_fork(table: &[u32; 11584], x: usize, m: usize) -> bool {
 }
 
 // Whether nothing but sequences and flows stands between activity a and m within it, so that m runs wherever a is done.
-fn is_straight(table: &[u32; 11584], a: usize, m: usize) -> bool {
+fn is_straight(table: &Table, a: usize, m: usize) -> bool {
     let mut x = after(a);
     while x < m {
         if is_fork(table, x, m) {
@@ -173,7 +176,7 @@ fn is_straight(table: &[u32; 11584], a: usize, m: usize) -> bool {
 }
 
 // Whether m, which binds something, runs before n on every way there.
-pub(crate) fn must_precede(table: &[u32; 11584], m: usize, n: usize) -> bool {
+pub(crate) fn must_precede(table: &Table, m: usize, n: usize) -> bool {
     if n <= m {
         return false;
     }
@@ -181,7 +184,7 @@ pub(crate) fn must_precede(table: &[u32; 11584], m: usize, n: usize) -> bool {
     if a == m {
         return true;
     }
-    if entry(table, a, 0) == 8 {
+    if entry(table, a, KIND) == kind::SEQUENCE {
         return is_straight(table, a, m);
     }
     false

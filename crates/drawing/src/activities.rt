@@ -14,6 +14,15 @@ use super::table::is_scope;
 use super::table::order_of;
 use super::table::parent_of;
 use super::table::value_of;
+use plan::kind;
+use plan::table::COUNT;
+use plan::table::EXPRESSION;
+use plan::table::KIND;
+use plan::table::OPERATION;
+use plan::table::PARTNER;
+use plan::table::Table;
+use plan::table::VARIABLE;
+use plan::table::VARIABLES;
 
 // What part of a scope or of a choose an activity is, by its order there.
 fn put_part(out: &mut [u8; 4096], used: usize, kind: u32, order: usize) -> usize {
@@ -26,7 +35,7 @@ fn put_part(out: &mut [u8; 4096], used: usize, kind: u32, order: usize) -> usize
         }
         return put(out, used, b"undo part: ");
     }
-    if kind == 6 {
+    if kind == kind::CHOOSE {
         if order == 0 {
             return put(out, used, b"then: ");
         }
@@ -35,10 +44,10 @@ fn put_part(out: &mut [u8; 4096], used: usize, kind: u32, order: usize) -> usize
     used
 }
 
-fn put_role(out: &mut [u8; 4096], used: usize, table: &[u32; 11584], n: usize) -> usize {
+fn put_role(out: &mut [u8; 4096], used: usize, table: &Table, n: usize) -> usize {
     let parent = parent_of(table, n);
     if parent < n {
-        let kind = entry(table, parent, 0);
+        let kind = entry(table, parent, KIND);
         let order = order_of(table, parent + 1, n);
         return put_part(out, used, kind, order);
     }
@@ -76,15 +85,15 @@ fn put_another(
     out: &mut [u8; 4096],
     used: usize,
     names: &[u8; 4752],
-    table: &[u32; 11584],
+    table: &Table,
     correlation: &[u8; 16],
     n: usize,
     i: usize,
 ) -> usize {
     if i < 4 {
-        if i < entry(table, n, 3) as usize {
+        if i < entry(table, n, COUNT) as usize {
             let at = put(out, used, b", ");
-            return put_member(out, at, names, correlation, entry(table, n, 4 + i));
+            return put_member(out, at, names, correlation, entry(table, n, VARIABLES + i));
         }
     }
     used
@@ -95,11 +104,11 @@ fn put_tuple(
     out: &mut [u8; 4096],
     used: usize,
     names: &[u8; 4752],
-    table: &[u32; 11584],
+    table: &Table,
     correlation: &[u8; 16],
     n: usize,
 ) -> usize {
-    let first = put_member(out, used, names, correlation, entry(table, n, 4));
+    let first = put_member(out, used, names, correlation, entry(table, n, VARIABLES));
     let second = put_another(out, first, names, table, correlation, n, 1);
     let third = put_another(out, second, names, table, correlation, n, 2);
     put_another(out, third, names, table, correlation, n, 3)
@@ -111,15 +120,15 @@ fn put_exchange(
     used: usize,
     names: &[u8; 4752],
     words: &[u8],
-    table: &[u32; 11584],
+    table: &Table,
     correlation: &[u8; 16],
     n: usize,
 ) -> usize {
     let mut at = put(out, used, words);
     at = put(out, at, b" partner ");
-    at = put_partner(out, at, names, entry(table, n, 1));
+    at = put_partner(out, at, names, entry(table, n, PARTNER));
     at = put(out, at, b", operation ");
-    at = put_operation(out, at, names, entry(table, n, 2));
+    at = put_operation(out, at, names, entry(table, n, OPERATION));
     at = put(out, at, b": ");
     put_tuple(out, at, names, table, correlation, n)
 }
@@ -138,7 +147,7 @@ fn put_leaf(
     out: &mut [u8; 4096],
     used: usize,
     names: &[u8; 4752],
-    table: &[u32; 11584],
+    table: &Table,
     m: usize,
 ) -> usize {
     let value = value_of(table, m);
@@ -161,7 +170,7 @@ fn put_expression(
     out: &mut [u8; 4096],
     used: usize,
     names: &[u8; 4752],
-    table: &[u32; 11584],
+    table: &Table,
     m: usize,
     depth: usize,
     operand: bool,
@@ -194,22 +203,30 @@ fn put_with_expression(
     used: usize,
     names: &[u8; 4752],
     words: &[u8],
-    table: &[u32; 11584],
+    table: &Table,
     n: usize,
 ) -> usize {
     let at = put(out, used, words);
-    put_expression(out, at, names, table, entry(table, n, 9) as usize, 8, false)
+    put_expression(
+        out,
+        at,
+        names,
+        table,
+        entry(table, n, EXPRESSION) as usize,
+        8,
+        false,
+    )
 }
 
 fn put_set(
     out: &mut [u8; 4096],
     used: usize,
     names: &[u8; 4752],
-    table: &[u32; 11584],
+    table: &Table,
     n: usize,
 ) -> usize {
     let mut at = put(out, used, b"set ");
-    at = put_variable(out, at, names, entry(table, n, 8));
+    at = put_variable(out, at, names, entry(table, n, VARIABLE));
     put_with_expression(out, at, names, b" to ", table, n)
 }
 
@@ -218,25 +235,25 @@ pub fn put_activity(
     out: &mut [u8; 4096],
     used: usize,
     names: &[u8; 4752],
-    table: &[u32; 11584],
+    table: &Table,
     correlation: &[u8; 16],
     n: usize,
 ) -> usize {
-    let kind = entry(table, n, 0);
+    let kind = entry(table, n, KIND);
     match kind {
-        0 => put(out, used, b"empty"),
-        1 => put_exchange(out, used, names, b"send to", table, correlation, n),
-        2 => put_exchange(out, used, names, b"receive from", table, correlation, n),
-        3 => put_set(out, used, names, table, n),
-        4 => put(out, used, b"raise"),
-        5 => put(out, used, b"leave"),
-        6 => put_with_expression(out, used, names, b"choose by ", table, n),
-        7 => put_with_expression(out, used, names, b"repeat while ", table, n),
-        8 => put(out, used, b"sequence"),
-        9 => put(out, used, b"flow"),
-        10 => put(out, used, b"pick"),
-        11 | 12 => put(out, used, b"scope"),
-        255 => put_exchange(
+        kind::EMPTY => put(out, used, b"empty"),
+        kind::SEND => put_exchange(out, used, names, b"send to", table, correlation, n),
+        kind::RECEIVE => put_exchange(out, used, names, b"receive from", table, correlation, n),
+        kind::SET => put_set(out, used, names, table, n),
+        kind::RAISE => put(out, used, b"raise"),
+        kind::LEAVE => put(out, used, b"leave"),
+        kind::CHOOSE => put_with_expression(out, used, names, b"choose by ", table, n),
+        kind::REPEAT => put_with_expression(out, used, names, b"repeat while ", table, n),
+        kind::SEQUENCE => put(out, used, b"sequence"),
+        kind::FLOW => put(out, used, b"flow"),
+        kind::PICK => put(out, used, b"pick"),
+        kind::SCOPE | kind::OPEN_SCOPE => put(out, used, b"scope"),
+        kind::ARM => put_exchange(
             out,
             used,
             names,
@@ -271,7 +288,7 @@ pub fn put_drawn(
     out: &mut [u8; 4096],
     used: usize,
     names: &[u8; 4752],
-    table: &[u32; 11584],
+    table: &Table,
     correlation: &[u8; 16],
     n: usize,
 ) -> usize {
@@ -285,7 +302,7 @@ fn put_line(
     out: &mut [u8; 4096],
     used: usize,
     names: &[u8; 4752],
-    table: &[u32; 11584],
+    table: &Table,
     correlation: &[u8; 16],
     n: usize,
 ) -> usize {
@@ -299,7 +316,7 @@ pub fn put_drawing(
     out: &mut [u8; 4096],
     used: usize,
     names: &[u8; 4752],
-    table: &[u32; 11584],
+    table: &Table,
     correlation: &[u8; 16],
     activities: usize,
 ) -> usize {

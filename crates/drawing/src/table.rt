@@ -1,34 +1,41 @@
 // What the table of an accepted plan says of its activities and arms. (The rows and the nodes are those of the crate plan, specs/Table.antt.)
+use plan::kind;
+use plan::table::END;
+use plan::table::KIND;
+use plan::table::NODES;
+use plan::table::Table;
+use plan::table::VALUES;
+use plan::table::WIDTH;
 
 // Number `field` of row n.
-pub fn entry(table: &[u32; 11584], n: usize, field: usize) -> u32 {
+pub fn entry(table: &Table, n: usize, field: usize) -> u32 {
     if n < 256 {
-        if field < 13 {
-            return table[n * 13 + field];
+        if field < WIDTH {
+            return table[n * WIDTH + field];
         }
     }
     0
 }
 
 // The code of expression node m.
-pub fn code_of(table: &[u32; 11584], m: usize) -> u32 {
+pub fn code_of(table: &Table, m: usize) -> u32 {
     if m < 4096 {
-        return table[3392 + m * 2];
+        return table[NODES + m * 2];
     }
     0
 }
 
 // The value of expression node m: a constant, the number of a variable, or the number of the right operand's first node.
-pub fn value_of(table: &[u32; 11584], m: usize) -> u32 {
+pub fn value_of(table: &Table, m: usize) -> u32 {
     if m < 4096 {
-        return table[3393 + m * 2];
+        return table[VALUES + m * 2];
     }
     0
 }
 
 // The number after the last activity within activity n.
-pub fn end_of(table: &[u32; 11584], n: usize) -> usize {
-    entry(table, n, 11) as usize
+pub fn end_of(table: &Table, n: usize) -> usize {
+    entry(table, n, END) as usize
 }
 
 // A byte as a number of an activity.
@@ -45,7 +52,7 @@ pub fn after(m: usize) -> usize {
 }
 
 // How many activities and arms stand around activity n.
-pub(crate) fn depth_of(table: &[u32; 11584], n: usize) -> usize {
+pub(crate) fn depth_of(table: &Table, n: usize) -> usize {
     let mut depth = 0;
     let mut m = 0;
     while m < n {
@@ -58,7 +65,7 @@ pub(crate) fn depth_of(table: &[u32; 11584], n: usize) -> usize {
 }
 
 // The nearest activity or arm around activity n; n itself where there is none.
-pub fn parent_of(table: &[u32; 11584], n: usize) -> usize {
+pub fn parent_of(table: &Table, n: usize) -> usize {
     let mut parent = n;
     let mut m = 0;
     while m < n {
@@ -71,7 +78,7 @@ pub fn parent_of(table: &[u32; 11584], n: usize) -> usize {
 }
 
 // Of those directly within the activity before `first`, how many stand before activity n.
-pub(crate) fn order_of(table: &[u32; 11584], first: usize, n: usize) -> usize {
+pub(crate) fn order_of(table: &Table, first: usize, n: usize) -> usize {
     let mut order = 0;
     let mut m = first;
     while m < n {
@@ -86,7 +93,7 @@ pub(crate) fn order_of(table: &[u32; 11584], first: usize, n: usize) -> usize {
 }
 
 // The nearest scope around activity n; n itself where the root is nearest.
-pub fn scope_of(table: &[u32; 11584], n: usize) -> usize {
+pub fn scope_of(table: &Table, n: usize) -> usize {
     let mut scope = n;
     let mut m = 0;
     while m < n {
@@ -100,14 +107,14 @@ pub fn scope_of(table: &[u32; 11584], n: usize) -> usize {
 
 // Whether an activity of this kind is a scope: with an undo part, or without.
 pub fn is_scope(kind: u32) -> bool {
-    if kind == 11 {
+    if kind == kind::SCOPE {
         return true;
     }
-    kind == 12
+    kind == kind::OPEN_SCOPE
 }
 
-fn is_scope_around(table: &[u32; 11584], m: usize, n: usize) -> bool {
-    if is_scope(entry(table, m, 0)) {
+fn is_scope_around(table: &Table, m: usize, n: usize) -> bool {
+    if is_scope(entry(table, m, KIND)) {
         return n < end_of(table, m);
     }
     false

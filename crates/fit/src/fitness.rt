@@ -1,12 +1,12 @@
 // Whether a message fits a receive or an arm of the plan, and how many of its places are unchecked. A table has 256 rows, and 64 messages may wait: beyond them
 // nothing is read, and the answer says nothing.
 use order::Order;
-use plan::layout::COUNT;
-use plan::layout::OPERATION;
-use plan::layout::PARTNER;
-use plan::layout::Table;
-use plan::layout::VARIABLES;
-use plan::layout::WIDTH;
+use plan::table::COUNT;
+use plan::table::OPERATION;
+use plan::table::PARTNER;
+use plan::table::Table;
+use plan::table::VARIABLES;
+use plan::table::WIDTH;
 ghost use Prim.Native.Nat.{_+_, _≤_, _<_};
 ghost use lib.Dec.{eqb};
 ghost use mathlib.Core.Bool.{_||_};

@@ -5,7 +5,7 @@ use super::fitness::known_of;
 use super::fitness::unchecked_at;
 use super::search::open_at;
 use order::Order;
-use plan::layout::Table;
+use plan::table::Table;
 ghost use Prim.Native.Nat.{_≤_, _<_};
 ghost use Rattle.fit.specs.Receiving.{LeastLetter, LeastLetters, LeastRow, LeastRows, LeastSlot};
 

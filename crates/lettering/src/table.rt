@@ -1,9 +1,9 @@
 // What the table of an accepted plan says of its activities and arms. (The rows and the nodes are those of the crate plan, specs/Table.antt.)
-use plan::layout::END;
-use plan::layout::NODES;
-use plan::layout::Table;
-use plan::layout::VALUES;
-use plan::layout::WIDTH;
+use plan::table::END;
+use plan::table::NODES;
+use plan::table::Table;
+use plan::table::VALUES;
+use plan::table::WIDTH;
 ghost use Prim.Native.Nat.{_<_};
 
 // Where an activity stands: how many activities and arms stand around it, and the nearest of these, or itself where there is none.

@@ -7,7 +7,7 @@ use fit::fitness::known_of;
 use offer::letters::letter_sight;
 use offer::letters::lowest_free;
 use order::Order;
-use plan::layout::Table;
+use plan::table::Table;
 use sight::counting::nothing_seen;
 ghost use Prim.Native.Nat.{_≤_, _<_};
 ghost use Rattle.offer.specs.Seeing.{Starts, StartsOrder};

@@ -6,7 +6,7 @@ use fit::fitness::known_of;
 use machine::Step;
 use order::End;
 use order::Order;
-use plan::layout::Table;
+use plan::table::Table;
 use sight::Pointer;
 use sight::counting::nothing_seen;
 use sight::memory::parts_of;

@@ -8,7 +8,7 @@ use fit::letters::letters_of;
 use fit::search::picks_of;
 use machine::State;
 use order::Order;
-use plan::layout::Table;
+use plan::table::Table;
 ghost use Prim.Native.Nat.{_≤_};
 ghost use Rattle.listing.specs.Listing.{ListsBy, ListsAll, holding};
 

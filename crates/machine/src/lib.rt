@@ -5,7 +5,7 @@ pub mod made;
 use order::End;
 use order::Order;
 use plan::Answer;
-use plan::layout::LENGTH;
+use plan::table::LENGTH;
 ghost use mathlib.Core.Path.{_≡_};
 ghost use Rattle.machine.specs.Calls as calls;
 ghost use Rattle.machine.specs.State.{noTally};

@@ -8,7 +8,7 @@ use machine::State;
 use machine::limits::planned;
 use machine::made::no_message;
 use plan::Answer;
-use plan::layout::LENGTH;
+use plan::table::LENGTH;
 ghost use mathlib.Core.Path.{_≡_};
 ghost use Rattle.machine.specs.Calls as calls;
 

@@ -13,7 +13,7 @@ ghost use Rattle.plan.specs.Answers as planAnswers;
 ghost use Rattle.plan.specs.Found.{refused};
 ghost use Rattle.plan.specs.Read.{readPlan};
 use numbers::Number;
-use plan::layout::LENGTH;
+use plan::table::LENGTH;
 
 // Whether bytes are a padded plan.
 pub enum Reading {

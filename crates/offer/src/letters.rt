@@ -2,7 +2,7 @@
 use super::slots::free_slot;
 use super::slots::start_letter;
 use order::Order;
-use plan::layout::Table;
+use plan::table::Table;
 use sight::Sight;
 ghost use Rattle.offer.specs.Seeing.{Frees, StartsAt};
 

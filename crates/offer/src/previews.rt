@@ -9,7 +9,7 @@ use fit::search::picks_of;
 use machine::State;
 use machine::Step;
 use order::Order;
-use plan::layout::Table;
+use plan::table::Table;
 use sight::Sight;
 use sight::counting::answer;
 use sight::counting::nothing_seen;

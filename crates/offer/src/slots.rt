@@ -4,7 +4,7 @@ use fit::fitness::known_of;
 use fit::search::first_receiver;
 use fit::search::takes_at;
 use order::Order;
-use plan::layout::Table;
+use plan::table::Table;
 use sight::Sight;
 use sight::counting::shown;
 use sight::counting::withheld;

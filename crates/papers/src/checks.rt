@@ -5,6 +5,8 @@ use checking::put_check;
 use checking::put_warnings;
 use drawing::put_pair;
 use plan::Answer;
+use plan::table::LENGTH;
+use plan::table::Table;
 
 // A refused plan has its refusal; where only warnings are wanted, it has none.
 fn put_refused(asked: bool, number: u32, place: usize, out: &mut [u8; 4096], used: usize) -> usize {
@@ -16,7 +18,7 @@ fn put_refused(asked: bool, number: u32, place: usize, out: &mut [u8; 4096], use
 
 fn put_accepted(
     names: &[u8; 4752],
-    table: &[u32; 11584],
+    table: &Table,
     correlation: &[u8; 16],
     activities: usize,
     asked: bool,
@@ -36,7 +38,7 @@ fn put_checked(
     out: &mut [u8; 4096],
     used: usize,
 ) -> usize {
-    let mut table = [0u32; 11584];
+    let mut table = [0u32; LENGTH];
     let mut correlation = [0u8; 16];
     let a = plan::accept(s, &mut table, &mut correlation);
     match a {

@@ -12,6 +12,7 @@ use drawing::put_next;
 use drawing::put_refusal;
 use machine::State;
 use plan::Answer;
+use plan::table::LENGTH;
 use store::Kept;
 
 // Why a call of the system failed.
@@ -242,7 +243,7 @@ fn is_blank(state: State) -> bool {
 
 // Whether the desk could have saved a state.
 fn is_sound(state: State) -> bool {
-    let mut table = [0u32; 11584];
+    let mut table = [0u32; LENGTH];
     let mut flags = [0u8; 16];
     let a = machine::limits::planned(state, &mut table, &mut flags);
     match a {

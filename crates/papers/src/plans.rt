@@ -15,11 +15,13 @@ use drawing::put_number;
 use drawing::put_pair;
 use machine::Loaded;
 use plan::Answer;
+use plan::table::LENGTH;
+use plan::table::Table;
 use text::Hex;
 
 // What a plan is found to be.
 fn put_plan(s: &[u8], out: &mut [u8; 4096], used: usize) -> usize {
-    let mut table = [0u32; 11584];
+    let mut table = [0u32; LENGTH];
     let mut correlation = [0u8; 16];
     let a = plan::accept(s, &mut table, &mut correlation);
     match a {
@@ -41,7 +43,7 @@ fn put_plan(s: &[u8], out: &mut [u8; 4096], used: usize) -> usize {
 // What the last plan is called, and, where it is to be drawn, its drawing; a blank line.
 fn put_accepted(
     names: &[u8; 4752],
-    table: &[u32; 11584],
+    table: &Table,
     correlation: &[u8; 16],
     variables: u32,
     activities: usize,
@@ -64,7 +66,7 @@ fn put_refused(drawn: bool, number: u32, place: usize, out: &mut [u8; 4096], use
 }
 
 fn put_draw(s: &[u8], names: &[u8; 4752], drawn: bool, out: &mut [u8; 4096], used: usize) -> usize {
-    let mut table = [0u32; 11584];
+    let mut table = [0u32; LENGTH];
     let mut correlation = [0u8; 16];
     let a = plan::accept(s, &mut table, &mut correlation);
     match a {

@@ -1,11 +1,11 @@
 // Finds receives that disagree: document 02, request 8.
 use super::code;
-use super::layout::COUNT;
-use super::layout::KIND;
-use super::layout::OPERATION;
-use super::layout::PARTNER;
-use super::layout::PLACE;
-use super::layout::WIDTH;
+use super::table::COUNT;
+use super::table::KIND;
+use super::table::OPERATION;
+use super::table::PARTNER;
+use super::table::PLACE;
+use super::table::WIDTH;
 ghost use Prim.Native.Nat.{_+_, _*_, _%_, _≤_, _<_};
 ghost use lib.ListN.{length, getD};
 ghost use mathlib.Core.Path.{_≡_};

@@ -3,7 +3,7 @@ use super::Field;
 use super::Nodes;
 use super::fields::field_at;
 use super::fields::number_at;
-use super::layout::Table;
+use super::table::Table;
 use super::table::write_node;
 ghost use Prim.Native.Nat.{_≤_, _<_};
 ghost use lib.Dec.{eqb};

@@ -5,15 +5,14 @@ mod expressions;
 mod fields;
 pub mod kind;
 mod kinds;
-pub mod layout;
 mod owns;
 mod reading;
 mod root;
-mod table;
+pub mod table;
 mod tree;
 
-use layout::LENGTH;
-use layout::Table;
+use table::LENGTH;
+use table::Table;
 ghost use mathlib.Core.Path.{_≡_};
 ghost use Rattle.plan.specs.Answers.{answerOf, tableInto, tableFor, flagsFor};
 ghost use Rattle.plan.specs.Read.{readPlan};

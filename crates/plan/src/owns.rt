@@ -8,7 +8,7 @@ use super::fields::number_at;
 use super::fields::tuple_at;
 use super::kind;
 use super::kinds::is_scope;
-use super::layout::Table;
+use super::table::Table;
 use super::table::write_row;
 ghost use Prim.Native.Nat.{_≤_, _<_};
 ghost use lib.Dec.{eqb, leb};

@@ -5,7 +5,7 @@ use super::Out;
 use super::agree::first_differing;
 use super::fields::field_at;
 use super::fields::number_at;
-use super::layout::Table;
+use super::table::Table;
 use super::tree::activities_at;
 ghost use Prim.Native.Nat.{_≤_};
 ghost use mathlib.Core.List.{[]};

@@ -1,9 +1,9 @@
 // Cuts the bytes of an accepted plan into rows.
 use numbers::Number;
 use plan::code;
-use plan::layout::COUNT;
-use plan::layout::Table;
-use plan::layout::WIDTH;
+use plan::table::COUNT;
+use plan::table::Table;
+use plan::table::WIDTH;
 use writer::cells::at_most_19;
 use writer::cells::wide;
 ghost use Prim.Native.Nat.{_+_, _*_, _≤_, _<_};

@@ -1,7 +1,7 @@
 // The rows of a plan: from its bytes to the table that the crate writer writes it from. The public call is `rows`.
 mod cut;
 
-use plan::layout::LENGTH;
+use plan::table::LENGTH;
 use writer::Answer;
 ghost use lib.ListN.{length};
 ghost use mathlib.Core.Path.{_≡_};

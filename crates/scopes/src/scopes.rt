@@ -11,7 +11,7 @@ use order::marks::begun_in;
 use order::marks::is_over;
 use order::marks::marking;
 use order::marks::runs;
-use plan::layout::Table;
+use plan::table::Table;
 ghost use mathlib.Core.Bool.{true, false};
 ghost use mathlib.Core.Path.{_≡_};
 ghost use Rattle.order.specs.Answering.{endsOf, Handles, Undoes, Turns};

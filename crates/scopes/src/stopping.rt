@@ -8,7 +8,7 @@ use order::marks::marked;
 use order::rows::end_of;
 use order::rows::kind_of;
 use order::rows::spot_at;
-use plan::layout::Table;
+use plan::table::Table;
 ghost use mathlib.Core.Path.{_≡_};
 ghost use Rattle.order.specs.Answering.{Withdraws, Stops};
 ghost use Rattle.order.specs.Scope.{isOpen};

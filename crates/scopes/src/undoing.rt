@@ -15,7 +15,7 @@ use order::memory::without;
 use order::rows::end_of;
 use order::rows::kind_of;
 use plan::kind;
-use plan::layout::Table;
+use plan::table::Table;
 ghost use Prim.Native.Nat.{_<_};
 ghost use lib.ListN.{length};
 ghost use Rattle.order.specs.Answering.{BeginsPart, LooksTo, BeginsUndo, StartsUndo, UndoesList};

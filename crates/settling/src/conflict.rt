@@ -2,11 +2,11 @@
 use fit::search::arm_at;
 use order::mark;
 use plan::kind;
-use plan::layout::END;
-use plan::layout::PARTNER;
-use plan::layout::Table;
-use plan::layout::VARIABLE;
-use plan::layout::WIDTH;
+use plan::table::END;
+use plan::table::PARTNER;
+use plan::table::Table;
+use plan::table::VARIABLE;
+use plan::table::WIDTH;
 ghost use Prim.Native.Nat.{_≤_, _<_};
 ghost use mathlib.Core.Path.{_≡_};
 ghost use Rattle.settling.specs.Answering.{SameThing, SeenRow, Reaches, OpenRow, Capped, Clashes};

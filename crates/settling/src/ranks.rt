@@ -1,8 +1,8 @@
 // How far an order is from where nothing is left to fault: the ranks of its marks, the root's first, compared like the letters of two words.
 use order::mark;
 use plan::kind;
-use plan::layout::Table;
-use plan::layout::WIDTH;
+use plan::table::Table;
+use plan::table::WIDTH;
 ghost use Prim.Native.Nat.{_<_};
 ghost use mathlib.Core.Path.{_≡_};
 ghost use Rattle.order.specs.Judging.{rank as rankOf};

@@ -16,8 +16,10 @@ use super::names::declared;
 use super::names::is_correlation;
 use super::table::add;
 use super::table::begin;
+use plan::code;
+use plan::kind;
 
-// What an activity is: its kind (255 for an arm, 12 for a scope), the next row, or what is wrong.
+// What an activity is: its kind (of a scope that of one with no undo part), the next row, or what is wrong.
 pub struct Own {
     pub kind: usize,
     pub row: usize,
@@ -174,7 +176,7 @@ fn exchange(s: &[u8], stop: usize, at: usize, rows: &mut [u32; 87100], r: usize)
     tuple(s, stop, d, rows, r)
 }
 
-// A send (1), a receive (2) or an arm (255), from its partner on.
+// A send, a receive or an arm, from its partner on.
 fn message(
     s: &[u8],
     stop: usize,
@@ -196,7 +198,7 @@ fn message(
 
 // An arm has no code.
 fn put_code(kind: usize, rows: &mut [u32; 87100], r: usize) {
-    if kind < 3 {
+    if kind < code::SET {
         add(rows, r, kind_code(kind));
     }
 }
@@ -251,9 +253,18 @@ fn set(
     if 4294967295 < v {
         return bad(8);
     }
-    add(rows, r, 3);
+    add(rows, r, kind::SET);
     add(rows, r, narrow(v));
-    with_expression(s, stop, after_word(s, to, b"to"), 3, rows, lines, r, line)
+    with_expression(
+        s,
+        stop,
+        after_word(s, to, b"to"),
+        code::SET,
+        rows,
+        lines,
+        r,
+        line,
+    )
 }
 
 // An activity that is its word alone, or has a list, whose count is filled in as it is read.
@@ -274,8 +285,8 @@ fn listed(kind: usize, rows: &mut [u32; 87100], r: usize) -> Own {
 }
 
 fn is_list(kind: usize) -> bool {
-    if 7 < kind {
-        return kind < 11;
+    if code::REPEAT < kind {
+        return kind < code::SCOPE;
     }
     false
 }
@@ -306,36 +317,45 @@ fn after_both(s: &[u8], at: usize, word: &[u8], other: &[u8]) -> usize {
 fn opening(s: &[u8], at: usize) -> Begun {
     let send = after_both(s, at, b"send", b"to");
     if 0 < send {
-        return Begun { kind: 1, at: send };
+        return Begun {
+            kind: code::SEND,
+            at: send,
+        };
     }
     let receive = after_both(s, at, b"receive", b"from");
     if 0 < receive {
         return Begun {
-            kind: 2,
+            kind: code::RECEIVE,
             at: receive,
         };
     }
     let set = after_word(s, at, b"set");
     if 0 < set {
-        return Begun { kind: 3, at: set };
+        return Begun {
+            kind: code::SET,
+            at: set,
+        };
     }
     let choose = after_both(s, at, b"choose", b"by");
     if 0 < choose {
         return Begun {
-            kind: 6,
+            kind: code::CHOOSE,
             at: choose,
         };
     }
     let repeat = after_both(s, at, b"repeat", b"while");
     if 0 < repeat {
         return Begun {
-            kind: 7,
+            kind: code::REPEAT,
             at: repeat,
         };
     }
     let arm = after_word(s, at, b"arm");
     if 0 < arm {
-        return Begun { kind: 255, at: arm };
+        return Begun {
+            kind: code::ARM,
+            at: arm,
+        };
     }
     Begun { kind: 256, at }
 }
@@ -369,12 +389,12 @@ pub(crate) fn activity(
     let o = opening(s, at);
     let kind = o.kind;
     match kind {
-        1 => message(s, stop, o.at, 1, rows, r),
-        2 => message(s, stop, o.at, 2, rows, r),
-        3 => set(s, stop, o.at, rows, lines, r, line),
-        6 => judged(s, stop, o.at, 6, rows, lines, r, line),
-        7 => judged(s, stop, o.at, 7, rows, lines, r, line),
-        255 => arm_of(s, stop, after_mark(s, o.at, 58), rows, r),
+        code::SEND => message(s, stop, o.at, code::SEND, rows, r),
+        code::RECEIVE => message(s, stop, o.at, code::RECEIVE, rows, r),
+        code::SET => set(s, stop, o.at, rows, lines, r, line),
+        code::CHOOSE => judged(s, stop, o.at, code::CHOOSE, rows, lines, r, line),
+        code::REPEAT => judged(s, stop, o.at, code::REPEAT, rows, lines, r, line),
+        code::ARM => arm_of(s, stop, after_mark(s, o.at, 58), rows, r),
         _ => worded(s, o.at, rows, r),
     }
 }
@@ -387,38 +407,38 @@ fn arm_of(s: &[u8], stop: usize, at: usize, rows: &mut [u32; 87100], r: usize) -
     if receive == 0 {
         return bad(26);
     }
-    message(s, stop, after_word(s, receive, b"from"), 255, rows, r)
+    message(s, stop, after_word(s, receive, b"from"), code::ARM, rows, r)
 }
 
 // An activity of one word.
 fn worded(s: &[u8], at: usize, rows: &mut [u32; 87100], r: usize) -> Own {
     let empty = after_word(s, at, b"empty");
     if 0 < empty {
-        return plain(s, empty, 0, rows, r);
+        return plain(s, empty, code::EMPTY, rows, r);
     }
     let raise = after_word(s, at, b"raise");
     if 0 < raise {
-        return plain(s, raise, 4, rows, r);
+        return plain(s, raise, code::RAISE, rows, r);
     }
     let leave = after_word(s, at, b"leave");
     if 0 < leave {
-        return plain(s, leave, 5, rows, r);
+        return plain(s, leave, code::LEAVE, rows, r);
     }
     let sequence = after_word(s, at, b"sequence");
     if 0 < sequence {
-        return plain(s, sequence, 8, rows, r);
+        return plain(s, sequence, code::SEQUENCE, rows, r);
     }
     let flow = after_word(s, at, b"flow");
     if 0 < flow {
-        return plain(s, flow, 9, rows, r);
+        return plain(s, flow, code::FLOW, rows, r);
     }
     let pick = after_word(s, at, b"pick");
     if 0 < pick {
-        return plain(s, pick, 10, rows, r);
+        return plain(s, pick, code::PICK, rows, r);
     }
     let scope = after_word(s, at, b"scope");
     if 0 < scope {
-        return plain(s, scope, 12, rows, r);
+        return plain(s, scope, code::OPEN_SCOPE, rows, r);
     }
     bad(6)
 }

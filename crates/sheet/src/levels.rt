@@ -1,7 +1,12 @@
 // The activities that a line may stand in: those that are open, the outermost first. Each has its column, its kind, its row, how many stand directly
-// in it, and their column. Kinds are the codes, but for the arm, which is 255, the root, which is the first and 256, and a scope, which is 12 with an undo
-// part and without.
+// in it, and their column. Kinds are those of plan, but for the root, which is the first and has one of its own; a scope is always one with no undo part
+// here.
 use super::table::put;
+use plan::code;
+use plan::kind;
+
+// The kind of the root.
+pub(crate) const ROOT: usize = 256;
 
 fn field(levels: &[usize; 512], level: usize, f: usize) -> usize {
     if level < 64 {
@@ -41,14 +46,14 @@ pub(crate) fn row_of(levels: &[usize; 512], level: usize) -> usize {
 // How many stand in an activity of this kind; 1,000,000 where it is any number.
 fn wanted(kind: usize) -> usize {
     match kind {
-        6 => 2,
-        7 => 1,
-        8 => 1000000,
-        9 => 1000000,
-        10 => 1000000,
-        12 => 3,
-        255 => 1,
-        256 => 2,
+        code::CHOOSE => 2,
+        code::REPEAT => 1,
+        code::SEQUENCE => 1000000,
+        code::FLOW => 1000000,
+        code::PICK => 1000000,
+        code::OPEN_SCOPE => 3,
+        code::ARM => 1,
+        ROOT => 2,
         _ => 0,
     }
 }
@@ -60,7 +65,7 @@ pub(crate) fn is_whole(levels: &[usize; 512], level: usize) -> bool {
     if w == 1000000 {
         return true;
     }
-    if kind == 12 {
+    if kind == code::OPEN_SCOPE {
         return 1 < field(levels, level, 3);
     }
     field(levels, level, 3) == w
@@ -78,9 +83,9 @@ pub(crate) fn stands_in(levels: &[usize; 512], level: usize, column: usize) -> b
 pub(crate) fn part(levels: &[usize; 512], level: usize) -> usize {
     let order = field(levels, level, 3);
     match field(levels, level, 1) {
-        256 => of_root(order),
-        12 => of_scope(order),
-        6 => of_choose(order),
+        ROOT => of_root(order),
+        code::OPEN_SCOPE => of_scope(order),
+        code::CHOOSE => of_choose(order),
         _ => 0,
     }
 }
@@ -111,10 +116,10 @@ fn of_choose(order: usize) -> usize {
 
 // Whether an activity of this kind may stand in one of that kind: arms in a pick, and nowhere else.
 fn fits(kind: usize, outer: usize) -> bool {
-    if outer == 10 {
-        return kind == 255;
+    if outer == code::PICK {
+        return kind == code::ARM;
     }
-    if kind == 255 {
+    if kind == code::ARM {
         return false;
     }
     true
@@ -167,9 +172,9 @@ fn count(rows: &mut [u32; 87100], outer: usize, row: usize, order: usize) {
             put(rows, row, 2, order as u32 + 1);
         }
     }
-    if outer == 12 {
+    if outer == code::OPEN_SCOPE {
         if order == 2 {
-            put(rows, row, 1, 11);
+            put(rows, row, 1, kind::SCOPE);
         }
     }
 }

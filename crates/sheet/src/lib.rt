@@ -200,7 +200,7 @@ fn started(
         return st;
     }
     put_head(s, at, st.variables, rows, lines, small(st.line));
-    levels::open(levels, 0, 0, 256, 0);
+    levels::open(levels, 0, 0, levels::ROOT, 0);
     State {
         row: 1,
         level: 0,

@@ -1,11 +1,11 @@
 // Shows an activity of a plan: document 01, "One call shows activity k of a plan". The public call is `show`.
 use plan::Answer;
 use plan::accept;
-use plan::layout::LENGTH;
-use plan::layout::PLACE;
-use plan::layout::STOP;
-use plan::layout::Table;
-use plan::layout::WIDTH;
+use plan::table::LENGTH;
+use plan::table::PLACE;
+use plan::table::STOP;
+use plan::table::Table;
+use plan::table::WIDTH;
 ghost use Prim.Native.Nat.{_+_, _*_, _-_, _≤_, _<_};
 ghost use lib.ListN.{length, getD, take, drop};
 ghost use mathlib.Core.Path.{_≡_};

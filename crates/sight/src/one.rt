@@ -1,7 +1,7 @@
 // What one row of an order has on offer, for callers who ask for a row by itself.
 use super::Sight;
 use super::rows::offer_row;
-use plan::layout::Table;
+use plan::table::Table;
 ghost use Rattle.fit.specs.Lines.{Rows};
 ghost use Rattle.sight.specs.Sights.{Opening, offerLine};
 

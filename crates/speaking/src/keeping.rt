@@ -14,12 +14,13 @@ use papers::put_lost;
 use papers::refused;
 use papers::shown;
 use plan::Answer;
+use plan::table::LENGTH;
 use sayings::put_refused;
 use text::Hex;
 
 // How many activities and arms the plan of a state has.
 pub(crate) fn activities_of(state: State) -> usize {
-    let mut table = [0u32; 11584];
+    let mut table = [0u32; LENGTH];
     let mut flags = [0u8; 16];
     let a = machine::limits::planned(state, &mut table, &mut flags);
     match a {
@@ -66,7 +67,7 @@ fn turned_down(desk: Desk, refusal: u32, place: usize, out: &mut [u8; 4096]) -> 
 
 // Whether some bytes are a plan.
 fn answer_of(bytes: &[u8], count: usize) -> Answer {
-    let mut table = [0u32; 11584];
+    let mut table = [0u32; LENGTH];
     let mut flags = [0u8; 16];
     if count <= bytes.len() {
         return plan::accept(&bytes[0..count], &mut table, &mut flags);

@@ -18,6 +18,7 @@ use papers::Desk;
 use papers::changed;
 use papers::refused;
 use plan::Answer;
+use plan::table::LENGTH;
 use run::Ran;
 use sayings::put_refused;
 
@@ -43,7 +44,7 @@ fn put_taken(
     state: State,
     x: Step,
 ) -> usize {
-    let mut table = [0u32; 11584];
+    let mut table = [0u32; LENGTH];
     let mut flags = [0u8; 16];
     let orders = state.orders;
     let messages = state.messages;
@@ -220,7 +221,7 @@ fn put_out(
     state: State,
     m: Message,
 ) -> usize {
-    let mut table = [0u32; 11584];
+    let mut table = [0u32; LENGTH];
     let mut flags = [0u8; 16];
     let a = machine::limits::planned(state, &mut table, &mut flags);
     match a {

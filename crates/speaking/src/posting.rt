@@ -14,6 +14,8 @@ use papers::failed;
 use papers::refused;
 use phrases::part;
 use plan::Answer;
+use plan::table::LENGTH;
+use plan::table::Table;
 
 // What stands at a place of a post: a number, the end of the line, a name that nobody has, or trouble.
 enum Next {
@@ -83,7 +85,7 @@ fn numbers_of(names: &[u8; 4752], line: &[u8], from: usize, numbers: &mut [u32; 
 fn put_fate(
     out: &mut [u8; 4096],
     used: usize,
-    table: &[u32; 11584],
+    table: &Table,
     activities: usize,
     m: Message,
 ) -> usize {
@@ -107,7 +109,7 @@ fn put_waits(
     state: State,
     m: Message,
 ) -> usize {
-    let mut table = [0u32; 11584];
+    let mut table = [0u32; LENGTH];
     let mut flags = [0u8; 16];
     let a = machine::limits::planned(state, &mut table, &mut flags);
     match a {

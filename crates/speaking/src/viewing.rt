@@ -13,6 +13,8 @@ use machine::Tally;
 use papers::Desk;
 use papers::refused;
 use plan::Answer;
+use plan::table::LENGTH;
+use plan::table::Table;
 use sayings::put_refused;
 
 // A state without a plan has no such thing.
@@ -146,7 +148,7 @@ pub(crate) fn tally(desk: Desk, out: &mut [u8; 4096]) -> Desk {
 fn put_fate(
     out: &mut [u8; 4096],
     used: usize,
-    table: &[u32; 11584],
+    table: &Table,
     activities: usize,
     m: Message,
 ) -> usize {
@@ -164,7 +166,7 @@ fn put_one(
     out: &mut [u8; 4096],
     used: usize,
     names: &[u8; 4752],
-    table: &[u32; 11584],
+    table: &Table,
     activities: usize,
     place: usize,
     m: Message,
@@ -181,7 +183,7 @@ fn put_all(
     out: &mut [u8; 4096],
     used: usize,
     names: &[u8; 4752],
-    table: &[u32; 11584],
+    table: &Table,
     activities: usize,
     messages: [Message; 64],
     waiting: usize,
@@ -199,7 +201,7 @@ fn put_all(
 }
 
 fn put_waiting(out: &mut [u8; 4096], used: usize, names: &[u8; 4752], state: State) -> usize {
-    let mut table = [0u32; 11584];
+    let mut table = [0u32; LENGTH];
     let mut flags = [0u8; 16];
     let messages = state.messages;
     let a = machine::limits::planned(state, &mut table, &mut flags);

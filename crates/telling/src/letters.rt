@@ -7,25 +7,31 @@ use drawing::put_operation;
 use drawing::put_partner;
 use drawing::put_variable;
 use machine::Message;
+use plan::kind;
+use plan::table::COUNT;
+use plan::table::KIND;
+use plan::table::OPERATION;
+use plan::table::PARTNER;
+use plan::table::Table;
 
 // Whether row n is a receive or an arm.
-fn is_receive(table: &[u32; 11584], n: usize) -> bool {
-    match entry(table, n, 0) {
-        2 | 255 => true,
+fn is_receive(table: &Table, n: usize) -> bool {
+    match entry(table, n, KIND) {
+        kind::RECEIVE | kind::ARM => true,
         _ => false,
     }
 }
 
 // Whether row n receives on a partner.
-fn receives_on(table: &[u32; 11584], n: usize, partner: u32) -> bool {
+fn receives_on(table: &Table, n: usize, partner: u32) -> bool {
     if is_receive(table, n) {
-        return entry(table, n, 1) == partner;
+        return entry(table, n, PARTNER) == partner;
     }
     false
 }
 
 // Whether the plan receives on a partner. What is sent to any other leaves.
-pub fn is_received(table: &[u32; 11584], activities: usize, partner: u32) -> bool {
+pub fn is_received(table: &Table, activities: usize, partner: u32) -> bool {
     let mut n = 0;
     while n < activities {
         if receives_on(table, n, partner) {
@@ -38,7 +44,7 @@ pub fn is_received(table: &[u32; 11584], activities: usize, partner: u32) -> boo
 
 // Whether row n, a send or, where `receiving`, a receive, is of this partner, operation and count.
 fn is_of(
-    table: &[u32; 11584],
+    table: &Table,
     n: usize,
     receiving: bool,
     partner: u32,
@@ -48,18 +54,18 @@ fn is_of(
     if is_receive(table, n) != receiving {
         return false;
     }
-    if entry(table, n, 1) != partner {
+    if entry(table, n, PARTNER) != partner {
         return false;
     }
-    if entry(table, n, 2) != operation {
+    if entry(table, n, OPERATION) != operation {
         return false;
     }
-    entry(table, n, 3) == count
+    entry(table, n, COUNT) == count
 }
 
 // Whether a receive of the plan takes such messages.
 pub fn is_taken(
-    table: &[u32; 11584],
+    table: &Table,
     activities: usize,
     partner: u32,
     operation: u32,
@@ -88,7 +94,7 @@ fn agreed(before: u32, variable: u32) -> u32 {
 
 // The variable at place i of all rows of this kind, partner, operation and count; 16 or more where they have no one variable there.
 fn variable_at(
-    table: &[u32; 11584],
+    table: &Table,
     activities: usize,
     receiving: bool,
     partner: u32,
@@ -146,7 +152,7 @@ fn put_values(
     out: &mut [u8; 4096],
     used: usize,
     names: &[u8; 4752],
-    table: &[u32; 11584],
+    table: &Table,
     activities: usize,
     receiving: bool,
     m: Message,
@@ -215,7 +221,7 @@ fn put_place(
     out: &mut [u8; 4096],
     used: usize,
     names: &[u8; 4752],
-    table: &[u32; 11584],
+    table: &Table,
     activities: usize,
     receiving: bool,
     m: Message,
@@ -240,7 +246,7 @@ pub fn put_letter(
     out: &mut [u8; 4096],
     used: usize,
     names: &[u8; 4752],
-    table: &[u32; 11584],
+    table: &Table,
     activities: usize,
     m: Message,
 ) -> usize {

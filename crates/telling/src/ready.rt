@@ -5,6 +5,11 @@ use drawing::put;
 use drawing::put_byte;
 use drawing::put_number;
 use drawing::put_variable;
+use plan::table::COUNT;
+use plan::table::OPERATION;
+use plan::table::PARTNER;
+use plan::table::Table;
+use plan::table::VARIABLES;
 
 // A variable, with its value where it is bound and asked for.
 fn put_one(
@@ -79,7 +84,7 @@ fn put_member(
     out: &mut [u8; 4096],
     used: usize,
     names: &[u8; 4752],
-    table: &[u32; 11584],
+    table: &Table,
     flags: &[u8; 16],
     n: usize,
     sent: bool,
@@ -88,8 +93,8 @@ fn put_member(
     i: usize,
 ) -> usize {
     if i < 4 {
-        if i < entry(table, n, 3) as usize {
-            let v = entry(table, n, 4 + i);
+        if i < entry(table, n, COUNT) as usize {
+            let v = entry(table, n, VARIABLES + i);
             let at = put_front(out, used, i);
             return put_one(
                 out,
@@ -117,7 +122,7 @@ fn put_tuple(
     out: &mut [u8; 4096],
     used: usize,
     names: &[u8; 4752],
-    table: &[u32; 11584],
+    table: &Table,
     flags: &[u8; 16],
     n: usize,
     sent: bool,
@@ -129,8 +134,8 @@ fn put_tuple(
         used,
         names,
         !sent,
-        entry(table, n, 1),
-        entry(table, n, 2),
+        entry(table, n, PARTNER),
+        entry(table, n, OPERATION),
     );
     at = put_member(out, at, names, table, flags, n, sent, bound, values, 0);
     at = put_member(out, at, names, table, flags, n, sent, bound, values, 1);
@@ -143,7 +148,7 @@ pub fn put_sent(
     out: &mut [u8; 4096],
     used: usize,
     names: &[u8; 4752],
-    table: &[u32; 11584],
+    table: &Table,
     flags: &[u8; 16],
     n: usize,
     bound: &[u8; 16],
@@ -157,7 +162,7 @@ pub fn put_known(
     out: &mut [u8; 4096],
     used: usize,
     names: &[u8; 4752],
-    table: &[u32; 11584],
+    table: &Table,
     flags: &[u8; 16],
     n: usize,
     bound: &[u8; 16],

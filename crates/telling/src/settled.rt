@@ -7,10 +7,13 @@ use drawing::put_next;
 use order::End;
 use order::Next;
 use order::Order;
+use plan::kind;
+use plan::table::KIND;
+use plan::table::Table;
 use settling::conflict::first_conflict;
 
 // The order that has the step: a new one where it had not begun.
-fn begun(table: &[u32; 11584], order: Order) -> Order {
+fn begun(table: &Table, order: Order) -> Order {
     if order.root == 0 {
         return beginning::started_order(table);
     }
@@ -19,7 +22,7 @@ fn begun(table: &[u32; 11584], order: Order) -> Order {
 
 // The order after the step's own deed, before it is judged.
 pub(crate) fn deed_of(
-    table: &[u32; 11584],
+    table: &Table,
     activities: usize,
     order: Order,
     n: usize,
@@ -38,7 +41,7 @@ fn goes_on(end: End) -> bool {
 }
 
 // The higher-numbered of two that are open for one thing; 256 where no two are, or the order has ended.
-fn clash_in(table: &[u32; 11584], activities: usize, end: End, marks: &[u8; 256]) -> usize {
+fn clash_in(table: &Table, activities: usize, end: End, marks: &[u8; 256]) -> usize {
     if goes_on(end) {
         return first_conflict(table, activities, marks);
     }
@@ -53,22 +56,16 @@ fn mark_at(marks: &[u8; 256], n: usize) -> u8 {
 }
 
 // Whether row n is an open receive or arm.
-fn is_open(table: &[u32; 11584], picks: &[usize; 256], marks: &[u8; 256], n: usize) -> bool {
-    match entry(table, n, 0) {
-        2 => mark_at(marks, n) == 1,
-        255 => fit::search::arm_open(table, picks, marks, n),
+fn is_open(table: &Table, picks: &[usize; 256], marks: &[u8; 256], n: usize) -> bool {
+    match entry(table, n, KIND) {
+        kind::RECEIVE => mark_at(marks, n) == 1,
+        kind::ARM => fit::search::arm_open(table, picks, marks, n),
         _ => false,
     }
 }
 
 // Whether row j is open for the same thing as row k.
-fn is_other(
-    table: &[u32; 11584],
-    picks: &[usize; 256],
-    marks: &[u8; 256],
-    j: usize,
-    k: usize,
-) -> bool {
+fn is_other(table: &Table, picks: &[usize; 256], marks: &[u8; 256], j: usize, k: usize) -> bool {
     if is_open(table, picks, marks, j) {
         return is_same_thing(table, j, k);
     }
@@ -76,7 +73,7 @@ fn is_other(
 }
 
 // The lower-numbered of the pair whose higher number is k.
-fn lower_of(table: &[u32; 11584], picks: &[usize; 256], marks: &[u8; 256], k: usize) -> usize {
+fn lower_of(table: &Table, picks: &[usize; 256], marks: &[u8; 256], k: usize) -> usize {
     let mut j = 0;
     while j < k {
         if is_other(table, picks, marks, j, k) {
@@ -88,9 +85,9 @@ fn lower_of(table: &[u32; 11584], picks: &[usize; 256], marks: &[u8; 256], k: us
 }
 
 // A receive or an arm by its number.
-fn put_row(out: &mut [u8; 4096], used: usize, table: &[u32; 11584], n: usize) -> usize {
+fn put_row(out: &mut [u8; 4096], used: usize, table: &Table, n: usize) -> usize {
     let mut at = used;
-    if entry(table, n, 0) == 255 {
+    if entry(table, n, KIND) == kind::ARM {
         at = put(out, at, b"arm");
     } else {
         at = put(out, at, b"receive");
@@ -101,7 +98,7 @@ fn put_row(out: &mut [u8; 4096], used: usize, table: &[u32; 11584], n: usize) ->
 fn put_raise(
     out: &mut [u8; 4096],
     used: usize,
-    table: &[u32; 11584],
+    table: &Table,
     picks: &[usize; 256],
     marks: &[u8; 256],
     k: usize,
@@ -117,7 +114,7 @@ fn put_raise(
 pub(crate) fn put_raises(
     out: &mut [u8; 4096],
     used: usize,
-    table: &[u32; 11584],
+    table: &Table,
     activities: usize,
     next: Next,
 ) -> usize {

@@ -12,6 +12,11 @@ use machine::Step;
 use order::End;
 use order::Order;
 use order::Worth;
+use plan::kind;
+use plan::table::EXPRESSION;
+use plan::table::KIND;
+use plan::table::Table;
+use plan::table::VARIABLE;
 
 // How an order ended, if it did.
 pub fn put_end(out: &mut [u8; 4096], used: usize, end: End) -> usize {
@@ -38,7 +43,7 @@ fn put_took(
     out: &mut [u8; 4096],
     used: usize,
     names: &[u8; 4752],
-    table: &[u32; 11584],
+    table: &Table,
     activities: usize,
     root: u8,
     m: Message,
@@ -55,7 +60,7 @@ fn put_send(
     out: &mut [u8; 4096],
     used: usize,
     names: &[u8; 4752],
-    table: &[u32; 11584],
+    table: &Table,
     flags: &[u8; 16],
     n: usize,
     order: Order,
@@ -113,8 +118,8 @@ fn put_chosen(out: &mut [u8; 4096], used: usize, w: Worth, yes: &[u8], no: &[u8]
     }
 }
 
-fn worth_of(table: &[u32; 11584], n: usize, order: Order) -> Worth {
-    order::evaluation::evaluate_at(table, order, entry(table, n, 9) as usize, 8)
+fn worth_of(table: &Table, n: usize, order: Order) -> Worth {
+    order::evaluation::evaluate_at(table, order, entry(table, n, EXPRESSION) as usize, 8)
 }
 
 fn put_closed(out: &mut [u8; 4096], used: usize, n: usize) -> usize {
@@ -133,41 +138,41 @@ fn put_did(
     out: &mut [u8; 4096],
     used: usize,
     names: &[u8; 4752],
-    table: &[u32; 11584],
+    table: &Table,
     flags: &[u8; 16],
     activities: usize,
     n: usize,
     order: Order,
     m: Message,
 ) -> usize {
-    match entry(table, n, 0) {
-        1 => put_send(out, used, names, table, flags, n, order),
-        2 | 255 => put_took(out, used, names, table, activities, order.root, m),
-        3 => put_set(
+    match entry(table, n, KIND) {
+        kind::SEND => put_send(out, used, names, table, flags, n, order),
+        kind::RECEIVE | kind::ARM => put_took(out, used, names, table, activities, order.root, m),
+        kind::SET => put_set(
             out,
             used,
             names,
-            entry(table, n, 8),
+            entry(table, n, VARIABLE),
             worth_of(table, n, order),
         ),
-        4 => put(out, used, b"raised a fault"),
-        5 => put(out, used, b"left what it was doing"),
-        6 => put_chosen(
+        kind::RAISE => put(out, used, b"raised a fault"),
+        kind::LEAVE => put(out, used, b"left what it was doing"),
+        kind::CHOOSE => put_chosen(
             out,
             used,
             worth_of(table, n, order),
             b"decided: then",
             b"decided: else",
         ),
-        7 => put_chosen(
+        kind::REPEAT => put_chosen(
             out,
             used,
             worth_of(table, n, order),
             b"goes round once more",
             b"goes round no more",
         ),
-        11 => put_closed(out, used, n),
-        12 => put_handed_on(out, used, n),
+        kind::SCOPE => put_closed(out, used, n),
+        kind::OPEN_SCOPE => put_handed_on(out, used, n),
         _ => put(out, used, b"had a step of an unknown kind"),
     }
 }
@@ -176,7 +181,7 @@ fn put_did(
 fn put_behind(
     out: &mut [u8; 4096],
     used: usize,
-    table: &[u32; 11584],
+    table: &Table,
     activities: usize,
     order: Order,
     m: Message,
@@ -192,7 +197,7 @@ pub fn put_step(
     out: &mut [u8; 4096],
     used: usize,
     names: &[u8; 4752],
-    table: &[u32; 11584],
+    table: &Table,
     flags: &[u8; 16],
     activities: usize,
     order: Order,

@@ -3,7 +3,7 @@
 use libc::STDIN_FILENO;
 use libc::STDOUT_FILENO;
 use plan::Answer;
-use plan::layout::LENGTH;
+use plan::table::LENGTH;
 use text::Decimal;
 use text::Hex;
 use text::Line;

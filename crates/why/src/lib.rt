@@ -12,6 +12,8 @@ use drawing::put_variable;
 use machine::State;
 use order::Order;
 use plan::Answer;
+use plan::table::LENGTH;
+use plan::table::Table;
 use telling::value_in;
 
 // A variable that is for correlation, where it is bound.
@@ -80,7 +82,7 @@ fn put_order(
     out: &mut [u8; 4096],
     used: usize,
     names: &[u8; 4752],
-    table: &[u32; 11584],
+    table: &Table,
     flags: &[u8; 16],
     picks: &[usize; 256],
     activities: usize,
@@ -119,7 +121,7 @@ fn put_orders(
     out: &mut [u8; 4096],
     used: usize,
     names: &[u8; 4752],
-    table: &[u32; 11584],
+    table: &Table,
     flags: &[u8; 16],
     picks: &[usize; 256],
     activities: usize,
@@ -155,7 +157,7 @@ fn put_all(
     out: &mut [u8; 4096],
     used: usize,
     names: &[u8; 4752],
-    table: &[u32; 11584],
+    table: &Table,
     flags: &[u8; 16],
     activities: usize,
     state: State,
@@ -187,7 +189,7 @@ pub fn put_why(
     state: State,
     only: usize,
 ) -> usize {
-    let mut table = [0u32; 11584];
+    let mut table = [0u32; LENGTH];
     let mut flags = [0u8; 16];
     let a = machine::limits::planned(state, &mut table, &mut flags);
     match a {

@@ -5,6 +5,11 @@ use drawing::put_byte;
 use drawing::put_next;
 use drawing::put_variable;
 use machine::Message;
+use plan::table::COUNT;
+use plan::table::OPERATION;
+use plan::table::PARTNER;
+use plan::table::Table;
+use plan::table::VARIABLES;
 
 // How many values are not those asked for, and the place of the last such.
 struct Near {
@@ -55,14 +60,14 @@ fn near_of(asked: &[u64; 4], m: Message) -> Near {
 }
 
 // Whether a message is for the receive or arm in row n.
-fn is_for(table: &[u32; 11584], n: usize, m: Message) -> bool {
-    if m.partner != entry(table, n, 1) {
+fn is_for(table: &Table, n: usize, m: Message) -> bool {
+    if m.partner != entry(table, n, PARTNER) {
         return false;
     }
-    if m.operation != entry(table, n, 2) {
+    if m.operation != entry(table, n, OPERATION) {
         return false;
     }
-    m.count == entry(table, n, 3)
+    m.count == entry(table, n, COUNT)
 }
 
 fn put_number_of(out: &mut [u8; 4096], used: usize, j: usize) -> usize {
@@ -82,7 +87,7 @@ fn put_miss(
     out: &mut [u8; 4096],
     used: usize,
     names: &[u8; 4752],
-    table: &[u32; 11584],
+    table: &Table,
     n: usize,
     asked: &[u64; 4],
     values: &[u32; 4],
@@ -90,7 +95,7 @@ fn put_miss(
 ) -> usize {
     if place < 4 {
         let mut at = put(out, used, b" nearly fits: ");
-        at = put_variable(out, at, names, entry(table, n, 4 + place));
+        at = put_variable(out, at, names, entry(table, n, VARIABLES + place));
         at = put_next(out, at, wide(values[place]));
         at = put(out, at, b", not");
         at = put_next(out, at, less_one(asked[place]));
@@ -104,7 +109,7 @@ fn put_one(
     out: &mut [u8; 4096],
     used: usize,
     names: &[u8; 4752],
-    table: &[u32; 11584],
+    table: &Table,
     n: usize,
     asked: &[u64; 4],
     j: usize,
@@ -130,7 +135,7 @@ pub(crate) fn put_near(
     out: &mut [u8; 4096],
     used: usize,
     names: &[u8; 4752],
-    table: &[u32; 11584],
+    table: &Table,
     n: usize,
     asked: &[u64; 4],
     messages: [Message; 64],

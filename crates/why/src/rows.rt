@@ -8,6 +8,9 @@ use drawing::put_byte;
 use drawing::put_next;
 use machine::State;
 use order::Order;
+use plan::kind;
+use plan::table::KIND;
+use plan::table::Table;
 use telling::put_known;
 use telling::put_sent;
 
@@ -29,7 +32,7 @@ fn put_open(
     out: &mut [u8; 4096],
     used: usize,
     names: &[u8; 4752],
-    table: &[u32; 11584],
+    table: &Table,
     flags: &[u8; 16],
     n: usize,
     state: State,
@@ -52,7 +55,7 @@ fn put_send(
     out: &mut [u8; 4096],
     used: usize,
     names: &[u8; 4752],
-    table: &[u32; 11584],
+    table: &Table,
     flags: &[u8; 16],
     n: usize,
     waiting: usize,
@@ -106,7 +109,7 @@ fn put_scope(out: &mut [u8; 4096], used: usize, n: usize) -> usize {
 pub(crate) fn put_faulted(
     out: &mut [u8; 4096],
     used: usize,
-    table: &[u32; 11584],
+    table: &Table,
     n: usize,
     mark: u8,
 ) -> usize {
@@ -132,7 +135,7 @@ fn put_close(out: &mut [u8; 4096], used: usize, n: usize, kept: usize) -> usize 
 
 // How many closings may hold the close of a scope of this kind: all that are kept, but none where it has no undo part, and hands on what closed in it.
 fn held_by(kind: u32, kept: usize) -> usize {
-    if kind == 11 {
+    if kind == kind::SCOPE {
         return kept;
     }
     0
@@ -142,7 +145,7 @@ fn put_ready(
     out: &mut [u8; 4096],
     used: usize,
     names: &[u8; 4752],
-    table: &[u32; 11584],
+    table: &Table,
     flags: &[u8; 16],
     n: usize,
 ) -> usize {
@@ -157,16 +160,23 @@ fn put_active(
     out: &mut [u8; 4096],
     used: usize,
     names: &[u8; 4752],
-    table: &[u32; 11584],
+    table: &Table,
     flags: &[u8; 16],
     n: usize,
     state: State,
     order: Order,
 ) -> usize {
-    match entry(table, n, 0) {
-        1 => put_send(out, used, names, table, flags, n, state.waiting, order),
-        2 => put_open(out, used, names, table, flags, n, state, order),
-        3 | 4 | 5 | 6 | 7 => put_ready(out, used, names, table, flags, n),
+    match entry(table, n, KIND) {
+        kind::SEND => put_send(out, used, names, table, flags, n, state.waiting, order),
+        kind::RECEIVE => put_open(out, used, names, table, flags, n, state, order),
+        kind::SET | kind::RAISE | kind::LEAVE | kind::CHOOSE | kind::REPEAT => put_ready(
+            out,
+            used,
+            names,
+            table,
+            flags,
+            n,
+        ),
         _ => used,
     }
 }
@@ -176,7 +186,7 @@ fn put_row(
     out: &mut [u8; 4096],
     used: usize,
     names: &[u8; 4752],
-    table: &[u32; 11584],
+    table: &Table,
     flags: &[u8; 16],
     picks: &[usize; 256],
     n: usize,
@@ -189,12 +199,12 @@ fn put_row(
         return put_active(out, used, names, table, flags, n, state, order);
     }
     if mark == 3 {
-        return put_close(out, used, n, held_by(entry(table, n, 0), order.kept));
+        return put_close(out, used, n, held_by(entry(table, n, KIND), order.kept));
     }
     if fit::search::arm_open(table, picks, &marks, n) {
         return put_open(out, used, names, table, flags, n, state, order);
     }
-    if is_scope(entry(table, n, 0)) {
+    if is_scope(entry(table, n, KIND)) {
         return put_faulted(out, used, table, n, mark);
     }
     used
@@ -204,7 +214,7 @@ pub(crate) fn put_rows(
     out: &mut [u8; 4096],
     used: usize,
     names: &[u8; 4752],
-    table: &[u32; 11584],
+    table: &Table,
     flags: &[u8; 16],
     picks: &[usize; 256],
     activities: usize,

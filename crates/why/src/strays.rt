@@ -5,13 +5,14 @@ use fit::Receiver;
 use machine::Message;
 use machine::State;
 use order::Order;
+use plan::table::Table;
 use telling::is_received;
 use telling::is_taken;
 use telling::put_letter;
 
 // Whether an order as it starts would take message j.
 fn could_start(
-    table: &[u32; 11584],
+    table: &Table,
     picks: &[usize; 256],
     marks: &[u8; 256],
     known: &[u64; 16],
@@ -30,7 +31,7 @@ fn could_start(
 }
 
 fn starts(
-    table: &[u32; 11584],
+    table: &Table,
     flags: &[u8; 16],
     picks: &[usize; 256],
     activities: usize,
@@ -45,7 +46,7 @@ fn starts(
 
 // Who takes message j: 0 nobody, 1 an order that is live, 2 one that would start.
 fn taker_of(
-    table: &[u32; 11584],
+    table: &Table,
     flags: &[u8; 16],
     picks: &[usize; 256],
     activities: usize,
@@ -72,7 +73,7 @@ fn put_message(
     out: &mut [u8; 4096],
     used: usize,
     names: &[u8; 4752],
-    table: &[u32; 11584],
+    table: &Table,
     activities: usize,
     j: usize,
     m: Message,
@@ -90,7 +91,7 @@ fn put_stray(
     out: &mut [u8; 4096],
     used: usize,
     names: &[u8; 4752],
-    table: &[u32; 11584],
+    table: &Table,
     activities: usize,
     taker: u32,
     full: bool,
@@ -164,7 +165,7 @@ pub(crate) fn put_strays(
     out: &mut [u8; 4096],
     used: usize,
     names: &[u8; 4752],
-    table: &[u32; 11584],
+    table: &Table,
     flags: &[u8; 16],
     picks: &[usize; 256],
     activities: usize,

@@ -7,6 +7,9 @@ use drawing::put_byte;
 use drawing::put_next;
 use drawing::wide;
 use order::Order;
+use plan::kind;
+use plan::table::KIND;
+use plan::table::Table;
 use telling::put_sent;
 
 // For what a closing is remembered: the body of the root is part 0, and that of scope k is part k + 1.
@@ -23,12 +26,12 @@ fn put_one(
     out: &mut [u8; 4096],
     used: usize,
     names: &[u8; 4752],
-    table: &[u32; 11584],
+    table: &Table,
     flags: &[u8; 16],
     n: usize,
     order: Order,
 ) -> usize {
-    if entry(table, n, 0) != 1 {
+    if entry(table, n, KIND) != kind::SEND {
         return used;
     }
     let bound = order.bound;
@@ -43,7 +46,7 @@ fn put_sends(
     out: &mut [u8; 4096],
     used: usize,
     names: &[u8; 4752],
-    table: &[u32; 11584],
+    table: &Table,
     flags: &[u8; 16],
     from: usize,
     to: usize,
@@ -63,7 +66,7 @@ fn put_closing(
     out: &mut [u8; 4096],
     used: usize,
     names: &[u8; 4752],
-    table: &[u32; 11584],
+    table: &Table,
     flags: &[u8; 16],
     n: usize,
     part: usize,
@@ -81,7 +84,7 @@ fn put_place(
     out: &mut [u8; 4096],
     used: usize,
     names: &[u8; 4752],
-    table: &[u32; 11584],
+    table: &Table,
     flags: &[u8; 16],
     i: usize,
     order: Order,
@@ -110,7 +113,7 @@ pub(crate) fn put_undo(
     out: &mut [u8; 4096],
     used: usize,
     names: &[u8; 4752],
-    table: &[u32; 11584],
+    table: &Table,
     flags: &[u8; 16],
     order: Order,
 ) -> usize {

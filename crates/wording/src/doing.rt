@@ -6,6 +6,9 @@ use drawing::parent_of;
 use drawing::put_column;
 use drawing::wide;
 use order::Order;
+use plan::kind;
+use plan::table::KIND;
+use plan::table::Table;
 
 fn mark_at(marks: &[u8; 256], n: usize) -> u8 {
     if n < 256 {
@@ -29,13 +32,17 @@ fn is_running(marks: &[u8; 256], from: usize, to: usize) -> bool {
 // What has begun and is not over yet: its step, where it awaits one; else that something within it runs.
 fn put_active(out: &mut [u8; 4096], used: usize, kind: u32) -> usize {
     match kind {
-        1 => put_column(out, used, b"ready to send"),
-        2 | 10 => put_column(out, used, b"waiting for a message"),
-        3 => put_column(out, used, b"ready to set"),
-        4 => put_column(out, used, b"ready to raise"),
-        5 => put_column(out, used, b"ready to leave"),
-        6 | 7 => put_column(out, used, b"ready to decide"),
-        8 | 9 | 11 | 12 => put_column(out, used, b"running"),
+        kind::SEND => put_column(out, used, b"ready to send"),
+        kind::RECEIVE | kind::PICK => put_column(out, used, b"waiting for a message"),
+        kind::SET => put_column(out, used, b"ready to set"),
+        kind::RAISE => put_column(out, used, b"ready to raise"),
+        kind::LEAVE => put_column(out, used, b"ready to leave"),
+        kind::CHOOSE | kind::REPEAT => put_column(out, used, b"ready to decide"),
+        kind::SEQUENCE | kind::FLOW | kind::SCOPE | kind::OPEN_SCOPE => put_column(
+            out,
+            used,
+            b"running",
+        ),
         _ => put_column(out, used, b"of an unknown kind"),
     }
 }
@@ -55,13 +62,7 @@ fn put_mark(out: &mut [u8; 4096], used: usize, mark: u8) -> usize {
 
 // An arm has no mark: it is open while its pick is active, and runs where its pick is inside one of its arms and what stands within this one runs. In
 // a stopped body the pick is idle, and its arm with it, though a scope within may run on.
-fn put_arm(
-    out: &mut [u8; 4096],
-    used: usize,
-    table: &[u32; 11584],
-    marks: &[u8; 256],
-    n: usize,
-) -> usize {
+fn put_arm(out: &mut [u8; 4096], used: usize, table: &Table, marks: &[u8; 256], n: usize) -> usize {
     let pick = mark_at(marks, parent_of(table, n));
     if pick == 1 {
         return put_column(out, used, b"waiting for a message");
@@ -78,7 +79,7 @@ fn put_arm(
 fn put_in_sequence(
     out: &mut [u8; 4096],
     used: usize,
-    table: &[u32; 11584],
+    table: &Table,
     marks: &[u8; 256],
     parent: usize,
     n: usize,
@@ -114,7 +115,7 @@ fn put_body(out: &mut [u8; 4096], used: usize, mark: u8) -> usize {
 fn put_idle(
     out: &mut [u8; 4096],
     used: usize,
-    table: &[u32; 11584],
+    table: &Table,
     marks: &[u8; 256],
     root: u8,
     n: usize,
@@ -123,10 +124,15 @@ fn put_idle(
         return put_body(out, used, root);
     }
     let parent = parent_of(table, n);
-    match entry(table, parent, 0) {
-        8 => put_in_sequence(out, used, table, marks, parent, n),
-        9 => put_in_flow(out, used, mark_at(marks, parent)),
-        11 | 12 => put_part_idle(out, used, mark_at(marks, parent), after(parent) == n),
+    match entry(table, parent, KIND) {
+        kind::SEQUENCE => put_in_sequence(out, used, table, marks, parent, n),
+        kind::FLOW => put_in_flow(out, used, mark_at(marks, parent)),
+        kind::SCOPE | kind::OPEN_SCOPE => put_part_idle(
+            out,
+            used,
+            mark_at(marks, parent),
+            after(parent) == n,
+        ),
         _ => put_column(out, used, b""),
     }
 }
@@ -174,8 +180,8 @@ fn is_remembered(order: Order, n: usize) -> bool {
 }
 
 // Whether the undo part of scope n runs: it stands after the body and the fault part.
-fn is_undone(table: &[u32; 11584], marks: &[u8; 256], n: usize) -> bool {
-    if entry(table, n, 0) == 11 {
+fn is_undone(table: &Table, marks: &[u8; 256], n: usize) -> bool {
+    if entry(table, n, KIND) == kind::SCOPE {
         let fault = end_of(table, after(n));
         return is_running(marks, end_of(table, fault), end_of(table, n));
     }
@@ -185,7 +191,7 @@ fn is_undone(table: &[u32; 11584], marks: &[u8; 256], n: usize) -> bool {
 fn put_resting(
     out: &mut [u8; 4096],
     used: usize,
-    table: &[u32; 11584],
+    table: &Table,
     marks: &[u8; 256],
     order: Order,
     n: usize,
@@ -196,7 +202,7 @@ fn put_resting(
     if is_remembered(order, n) {
         return put_column(out, used, b"closed, remembered");
     }
-    if entry(table, n, 0) == 255 {
+    if entry(table, n, KIND) == kind::ARM {
         return put_arm(out, used, table, marks, n);
     }
     put_idle(out, used, table, marks, order.root, n)
@@ -206,7 +212,7 @@ fn put_resting(
 pub(crate) fn put_doing(
     out: &mut [u8; 4096],
     used: usize,
-    table: &[u32; 11584],
+    table: &Table,
     order: Order,
     n: usize,
 ) -> usize {
@@ -216,7 +222,7 @@ pub(crate) fn put_doing(
         return put_resting(out, used, table, &marks, order, n);
     }
     if mark == 1 {
-        return put_active(out, used, entry(table, n, 0));
+        return put_active(out, used, entry(table, n, KIND));
     }
     put_mark(out, used, mark)
 }

@@ -15,6 +15,10 @@ use machine::State;
 use offer::Offered;
 use order::Order;
 use plan::Answer;
+use plan::kind;
+use plan::table::KIND;
+use plan::table::LENGTH;
+use plan::table::Table;
 
 // A command word, how much is offered, and whether something is held.
 fn put_count(out: &mut [u8; 4096], used: usize, word: &[u8], o: Offered) -> usize {
@@ -113,14 +117,14 @@ fn put_what(
     out: &mut [u8; 4096],
     used: usize,
     names: &[u8; 4752],
-    table: &[u32; 11584],
+    table: &Table,
     flags: &[u8; 16],
     n: usize,
 ) -> usize {
     let mut at = put(out, used, b", activity");
     at = put_next(out, at, n as u64);
     at = put(out, at, b": ");
-    if is_scope(entry(table, n, 0)) {
+    if is_scope(entry(table, n, KIND)) {
         at = put(out, at, b"close ");
     }
     put_activity(out, at, names, table, flags, n)
@@ -135,7 +139,7 @@ fn put_which(
     place: usize,
 ) -> usize {
     match kind {
-        2 | 255 => put_taken(out, used, messages, place),
+        kind::RECEIVE | kind::ARM => put_taken(out, used, messages, place),
         _ => used,
     }
 }
@@ -145,7 +149,7 @@ fn put_choice(
     out: &mut [u8; 4096],
     used: usize,
     names: &[u8; 4752],
-    table: &[u32; 11584],
+    table: &Table,
     flags: &[u8; 16],
     state: State,
     choice: u64,
@@ -167,7 +171,7 @@ fn put_worded(
     out: &mut [u8; 4096],
     used: usize,
     names: &[u8; 4752],
-    table: &[u32; 11584],
+    table: &Table,
     flags: &[u8; 16],
     state: State,
     window: &[u64; 256],
@@ -199,7 +203,7 @@ fn put_worded_from(
     out: &mut [u8; 4096],
     used: usize,
     names: &[u8; 4752],
-    table: &[u32; 11584],
+    table: &Table,
     flags: &[u8; 16],
     state: State,
     first: u32,
@@ -215,7 +219,7 @@ fn put_choices(
     out: &mut [u8; 4096],
     used: usize,
     names: &[u8; 4752],
-    table: &[u32; 11584],
+    table: &Table,
     flags: &[u8; 16],
     state: State,
     many: usize,
@@ -249,7 +253,7 @@ fn put_choices(
 
 // All that is offered, in words; where something is held, what has no room left; and a blank line.
 pub fn put_offers(out: &mut [u8; 4096], used: usize, names: &[u8; 4752], state: State) -> usize {
-    let mut table = [0u32; 11584];
+    let mut table = [0u32; LENGTH];
     let mut flags = [0u8; 16];
     let o = offer::offers(state);
     let a = machine::limits::planned(state, &mut table, &mut flags);

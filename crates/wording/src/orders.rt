@@ -13,6 +13,8 @@ use drawing::put_refusal;
 use machine::State;
 use order::Order;
 use plan::Answer;
+use plan::table::LENGTH;
+use plan::table::Table;
 
 // The order in a slot; what a free slot holds where there is no such slot.
 fn order_in(orders: [Order; 16], slot: usize) -> Order {
@@ -139,7 +141,7 @@ fn put_order_line(
     out: &mut [u8; 4096],
     used: usize,
     names: &[u8; 4752],
-    table: &[u32; 11584],
+    table: &Table,
     correlation: &[u8; 16],
     variables: u32,
     slot: usize,
@@ -182,7 +184,7 @@ fn put_order_lines(
     out: &mut [u8; 4096],
     used: usize,
     names: &[u8; 4752],
-    table: &[u32; 11584],
+    table: &Table,
     correlation: &[u8; 16],
     variables: u32,
     orders: [Order; 16],
@@ -201,7 +203,7 @@ fn put_order_lines(
 
 // How many orders are live, each of them, and a blank line.
 pub fn put_orders(out: &mut [u8; 4096], used: usize, names: &[u8; 4752], state: State) -> usize {
-    let mut table = [0u32; 11584];
+    let mut table = [0u32; LENGTH];
     let mut correlation = [0u8; 16];
     let orders = state.orders;
     let a = machine::limits::planned(state, &mut table, &mut correlation);
@@ -223,7 +225,7 @@ fn put_doing_line(
     out: &mut [u8; 4096],
     used: usize,
     names: &[u8; 4752],
-    table: &[u32; 11584],
+    table: &Table,
     correlation: &[u8; 16],
     order: Order,
     n: usize,
@@ -238,7 +240,7 @@ fn put_doing_lines(
     out: &mut [u8; 4096],
     used: usize,
     names: &[u8; 4752],
-    table: &[u32; 11584],
+    table: &Table,
     correlation: &[u8; 16],
     activities: usize,
     order: Order,
@@ -257,7 +259,7 @@ fn put_foot(
     out: &mut [u8; 4096],
     used: usize,
     names: &[u8; 4752],
-    table: &[u32; 11584],
+    table: &Table,
     correlation: &[u8; 16],
     variables: u32,
     order: Order,
@@ -274,7 +276,7 @@ fn put_drawn_order(
     out: &mut [u8; 4096],
     used: usize,
     names: &[u8; 4752],
-    table: &[u32; 11584],
+    table: &Table,
     correlation: &[u8; 16],
     variables: u32,
     activities: usize,
@@ -298,7 +300,7 @@ pub fn put_order(
     state: State,
     slot: usize,
 ) -> usize {
-    let mut table = [0u32; 11584];
+    let mut table = [0u32; LENGTH];
     let mut correlation = [0u8; 16];
     let orders = state.orders;
     let order = order_in(orders, slot);
