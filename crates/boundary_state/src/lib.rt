@@ -1,8 +1,9 @@
-// For callers in other languages: the version of the library, and a state of any version brought up to date. A state of today comes out as it is, and one of
+// For callers in other languages: the version of the library, a state of any version brought up to date, and the seal of bytes that are kept. A state of today comes out as it is, and one of
 // the first version as the same state of today. Built as a static library.
 mod older;
 
 ghost use mathlib.Core.Path.{_≡_};
+ghost use Rattle.seal.specs.Sealed.{sealOf};
 ghost use Rattle.boundary_state.specs.Upgrade.{upgradeNumber, upgradeBytes};
 
 // The version: 10,000 for each first number, 100 for each second, and the third.
@@ -32,4 +33,12 @@ pub extern "C" fn moonhalyard_upgrade(old: &[u8], state: &mut [u8]) -> u32
     }
     store::pack(k.state, k.tally, state);
     0
+}
+
+// The seal of these bytes, to be kept behind them: read again, they are whole where their seal is the one that was kept.
+#[no_mangle]
+pub extern "C" fn moonhalyard_seal(bytes: &[u8]) -> u64
+    ensures { λ r. ⌜ r ≡ sealOf (now (bytes .entry)) ⌝ }
+{
+    seal::seal(bytes)
 }

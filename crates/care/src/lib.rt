@@ -28,7 +28,13 @@ fn is_anothers(desk: Desk, file: &[u8]) -> bool {
 }
 
 // A save over an ordinary file.
-fn replacing(desk: Desk, file: &[u8], number: u64, out: &mut [u8; 4096]) -> Desk {
+fn replacing(
+    desk: Desk,
+    file: &[u8],
+    number: u64,
+    names: &[u8; 4752],
+    out: &mut [u8; 4096],
+) -> Desk {
     if is_anothers(desk, file) {
         return not_saved(
             desk,
@@ -37,21 +43,33 @@ fn replacing(desk: Desk, file: &[u8], number: u64, out: &mut [u8; 4096]) -> Desk
             out,
         );
     }
-    replaced(desk, file, number, out)
+    replaced(desk, file, number, names, out)
 }
 
 // A save over an ordinary file, which stays as FILE.old.
-fn replaced(desk: Desk, file: &[u8], number: u64, out: &mut [u8; 4096]) -> Desk {
+fn replaced(
+    desk: Desk,
+    file: &[u8],
+    number: u64,
+    names: &[u8; 4752],
+    out: &mut [u8; 4096],
+) -> Desk {
     let e = retaining::retained(file);
     if e != 0 {
         let used = papers::put_failed(out, desk.used, number, b"keep what it holds as FILE.old", e);
         return failed(desk, used);
     }
-    papers::save(desk, file, number, out)
+    papers::save(desk, file, number, names, out)
 }
 
 // A save over a file that holds a plan: a desk without one is likely to have forgotten to open it.
-fn over_plan(desk: Desk, file: &[u8], number: u64, out: &mut [u8; 4096]) -> Desk {
+fn over_plan(
+    desk: Desk,
+    file: &[u8],
+    number: u64,
+    names: &[u8; 4752],
+    out: &mut [u8; 4096],
+) -> Desk {
     let state = desk.state;
     if state.length == 0 {
         if !desk.bold {
@@ -63,19 +81,25 @@ fn over_plan(desk: Desk, file: &[u8], number: u64, out: &mut [u8; 4096]) -> Desk
             );
         }
     }
-    replacing(desk, file, number, out)
+    replacing(desk, file, number, names, out)
 }
 
 // Saves the state.
-pub fn save(desk: Desk, file: &[u8], number: u64, out: &mut [u8; 4096]) -> Desk {
+pub fn save(
+    desk: Desk,
+    file: &[u8],
+    number: u64,
+    names: &[u8; 4752],
+    out: &mut [u8; 4096],
+) -> Desk {
     if !desk.spoken {
-        return papers::save(desk, file, number, out);
+        return papers::save(desk, file, number, names, out);
     }
     let k = ordinary::kind_of(file);
     match k {
-        Kind::Nothing => papers::save(desk, file, number, out),
-        Kind::Ordinary => replacing(desk, file, number, out),
-        Kind::Plan => over_plan(desk, file, number, out),
+        Kind::Nothing => papers::save(desk, file, number, names, out),
+        Kind::Ordinary => replacing(desk, file, number, names, out),
+        Kind::Plan => over_plan(desk, file, number, names, out),
         Kind::Folder => not_saved(desk, number, b"cannot save: it is a folder", out),
         Kind::Link => not_saved(desk, number, b"cannot save: it is a link", out),
         Kind::Other => not_saved(desk, number, b"cannot save: it is no ordinary file", out),

@@ -55,9 +55,9 @@ fn is_ordinary(fd: i32) -> bool {
     libc::lseek(fd, 2147483647, SEEK_SET) == 2147483647
 }
 
-// Whether an ordinary file holds a saved state that has a plan.
+// Whether an ordinary file begins with a saved state that has a plan.
 fn has_plan(fd: i32) -> bool {
-    let mut packed = [0u8; 12477];
+    let mut packed = [0u8; 12476];
     libc::lseek(fd, 0, SEEK_SET);
     let n = io::read_full(fd, &mut packed);
     let kept = store::unpack(&packed[..n]);
@@ -115,13 +115,13 @@ pub(crate) fn kind_of(file: &[u8]) -> Kind {
 }
 
 fn sum_in(fd: i32) -> u64 {
-    let mut packed = [0u8; 12477];
+    let mut packed = [0u8; 17245];
     let n = io::read_full(fd, &mut packed);
     libc::close(fd);
     papers::sum_of(&packed[..n])
 }
 
-// The sum of what a file holds, as far as a state goes; 0 where it cannot be opened.
+// The sum of what a file holds, as far as a saved file goes; 0 where it cannot be opened.
 pub(crate) fn sum_at(file: &[u8]) -> u64 {
     let fd = os::open_read(file);
     if fd < 0 {

@@ -71,7 +71,7 @@ fn answer_worded(
 ) -> Desk {
     match what {
         Worded::Plan => papers::load(desk, word, number, bytes, names, out),
-        Worded::Save => papers::save(desk, word, number, out),
+        Worded::Save => papers::save(desk, word, number, names, out),
         Worded::Open => papers::open(desk, word, number, bytes, names, out),
         Worded::Mend => papers::mend(desk, word, number, bytes, names, out),
     }

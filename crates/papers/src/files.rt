@@ -1,7 +1,8 @@
-// A state with its tally in a file: save and open.
+// A state with its tally and its names in a file: save and open.
 use super::Desk;
 use super::changed;
 use super::failed;
+use super::sealed;
 use super::shown;
 use super::sums::sum_of;
 use super::writing::forget;
@@ -202,23 +203,38 @@ fn filed(desk: Desk, file: u64, seen: u64) -> Desk {
     d
 }
 
-// Saves the state and the tally.
-pub fn save(desk: Desk, file: &[u8], number: u64, out: &mut [u8; 4096]) -> Desk {
+// The bytes of a file that the desk saves, all but the seal.
+fn put_desk(desk: Desk, names: &[u8; 4752], file: &mut [u8; 17244]) {
+    let mut packed = [0u8; 12476];
+    let state = desk.state;
+    let tally = desk.tally;
+    store::pack(state, tally, &mut packed);
+    sealed::put_file(file, &packed, &names[..]);
+}
+
+// Saves the state, the tally and the names.
+pub fn save(
+    desk: Desk,
+    file: &[u8],
+    number: u64,
+    names: &[u8; 4752],
+    out: &mut [u8; 4096],
+) -> Desk {
     // what was answered before is written first: where it cannot be, nothing is made lasting
     let used = drawing::flush(out, desk.used);
     let before = shown(desk, used);
     if drawing::is_lost(used) {
         return before;
     }
-    let mut packed = [0u8; 12476];
-    let state = desk.state;
-    let tally = desk.tally;
-    store::pack(state, tally, &mut packed);
-    let e = saved(file, &packed);
+    let mut bytes = [0u8; 17244];
+    put_desk(desk, names, &mut bytes);
+    let s = seal::seal(&bytes[..17236]);
+    sealed::put_seal(&mut bytes, s);
+    let e = saved(file, &bytes);
     filed(
         told(before, number, b"save", e, out),
         sum_of(file),
-        sum_of(&packed),
+        sum_of(&bytes),
     )
 }
 
@@ -309,7 +325,72 @@ fn taken(
     put_foreign(desk, number, out)
 }
 
-// What a file that was opened holds becomes the state and the tally; `file` is the sum of its name.
+// A file that a desk saved, or a state of a host's, and something is amiss with it.
+fn put_changed(desk: Desk, number: u64, out: &mut [u8; 4096]) -> Desk {
+    let used = put_error(
+        out,
+        desk.used,
+        number,
+        b"cannot open: it was cut or changed since it was saved",
+    );
+    failed(desk, used)
+}
+
+// The state that bytes hold, of whatever version.
+fn kept_in(bytes: &[u8]) -> Kept {
+    let mut packed = [0u8; 12476];
+    boundary_state::moonhalyard_upgrade(bytes, &mut packed);
+    store::unpack(&packed)
+}
+
+// The state that a file of the desk's own begins with.
+fn kept_whole(file: &[u8]) -> Kept {
+    if file.len() < 12476 {
+        return kept_in(file);
+    }
+    kept_in(&file[..12476])
+}
+
+// The state and the names of a file that is whole.
+fn taken_whole(
+    desk: Desk,
+    file: &[u8],
+    number: u64,
+    bytes: &mut [u8; 8000],
+    names: &mut [u8; 4752],
+    out: &mut [u8; 4096],
+) -> Desk {
+    let kept = kept_whole(file);
+    let d = taken(desk, kept, number, bytes, names, out);
+    if d.said == 0 {
+        sealed::take_names(file, names);
+    }
+    d
+}
+
+// What the bytes of a file come to: a file of the desk's own; a state as hosts save it, which has no names; or nothing that was saved.
+fn taken_from(
+    desk: Desk,
+    file: &[u8],
+    number: u64,
+    bytes: &mut [u8; 8000],
+    names: &mut [u8; 4752],
+    out: &mut [u8; 4096],
+) -> Desk {
+    if sealed::is_sealed(file) {
+        return taken_whole(desk, file, number, bytes, names, out);
+    }
+    let kept = kept_in(file);
+    if !kept.refused {
+        return taken(desk, kept, number, bytes, names, out);
+    }
+    if sealed::begins_as_state(file) {
+        return put_changed(desk, number, out);
+    }
+    put_foreign(desk, number, out)
+}
+
+// What a file that was opened holds becomes the state, the tally and the names; `file` is the sum of its name.
 fn read(
     desk: Desk,
     fd: i32,
@@ -319,17 +400,16 @@ fn read(
     names: &mut [u8; 4752],
     out: &mut [u8; 4096],
 ) -> Desk {
-    // one byte more than a state has, so that a longer file is known
-    let mut packed = [0u8; 12477];
-    let n = io::read_full(fd, &mut packed);
+    // one byte more than a file has, so that a longer one is known
+    let mut held = [0u8; 17245];
+    let n = io::read_full(fd, &mut held);
     let e = unread(fd, n);
     libc::close(fd);
     if e != 0 {
         return told(desk, number, b"open", e, out);
     }
-    let seen = sum_of(&packed[..n]);
-    let kept = store::unpack(&packed[..n]);
-    let d = taken(desk, kept, number, bytes, names, out);
+    let seen = sum_of(&held[..n]);
+    let d = taken_from(desk, &held[..n], number, bytes, names, out);
     filed(d, file, seen)
 }
 

@@ -6,6 +6,7 @@ mod files;
 mod mends;
 mod plans;
 mod reasons;
+mod sealed;
 mod sums;
 mod writing;
 

@@ -168,8 +168,14 @@ fn filed(desk: Desk, front: &[u8], file: &[u8], out: &mut [u8; 4096]) -> Desk {
 }
 
 // Saves the state.
-pub(crate) fn save(desk: Desk, file: &[u8], number: u64, out: &mut [u8; 4096]) -> Desk {
-    let d = care::save(desk, file, number, out);
+pub(crate) fn save(
+    desk: Desk,
+    file: &[u8],
+    number: u64,
+    names: &[u8; 4752],
+    out: &mut [u8; 4096],
+) -> Desk {
+    let d = care::save(desk, file, number, names, out);
     filed(d, b" - saved in ", file, out)
 }
 

@@ -138,7 +138,7 @@ fn kept(
     match what {
         What::Plan => keeping::plan(desk, word, number, bytes, names, out),
         What::Mend => keeping::mend(desk, word, number, bytes, names, out),
-        What::Save => keeping::save(desk, word, number, out),
+        What::Save => keeping::save(desk, word, number, names, out),
         What::Open => keeping::open(desk, word, number, bytes, names, out),
         _ => desk,
     }

@@ -1,0 +1,28 @@
+-- `papers::sealed::put_at` is safe and ends. The measure is what is left of the bytes. Assumes nothing.
+use borrow.Author.Needs.{needs}
+use native.Mathlib.Omega.{arith}
+use Prim.Native.Nat.{_-_}
+use lib.ListN.{length}
+use Rattle.papers.proofs.sealed.put_at.Statement.{statement}
+use Rattle.papers.proofs.sealed.put_at.Tie as tie
+
+abbrev Inv-loop : tie.InvT-loop
+Inv-loop file₀ at bytes place₀ i₀ file place i = Unit {0}
+
+abbrev μ-loop : tie.MeasureT-loop
+μ-loop file₀ at bytes place₀ i₀ file place i = length bytes - i
+
+pub put-at-spec : {M : Type 1} → statement M
+put-at-spec =
+    tie.close
+    (tie.spec
+    Inv-loop
+    μ-loop
+    (λ c. tt)
+    (λ c. omega arith)
+    (λ c. omega arith)
+    (λ c. omega arith)
+    (λ c. omega arith)
+    (λ c. omega arith)
+    (λ c. tt)
+    (λ c. tt))
