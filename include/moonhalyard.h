@@ -185,6 +185,10 @@ uint64_t moonhalyard_load(const uint8_t *plan, size_t n, uint8_t *state, size_t 
    first, MOONHAL1, of 11,964 bytes, as the same state of this one. Whether its plan is accepted and its numbers are within their limits the other calls see. */
 uint32_t moonhalyard_upgrade(const uint8_t *old, size_t n, uint8_t *state, size_t size);
 
+/* The seal of `n` bytes, to be kept behind them: read again, they are whole where their seal is the one that was kept. Bytes that differ in one place
+   alone never have the same seal. It tells what was cut or damaged, and is no signature: whoever changes the bytes can seal them anew. */
+uint64_t moonhalyard_seal(const uint8_t *bytes, size_t n);
+
 /* Posts a message: it waits after the others. The answer is 0 or a refusal (17, 13, 14), and where it is refused the state is left as it is.
    Partner and operation are 0 to 63, `count` values 1 to 4; values beyond the count are not looked at, and are kept as 0. */
 uint32_t moonhalyard_post(uint8_t *state, size_t size, uint32_t partner, uint32_t operation, uint32_t count, uint32_t v0, uint32_t v1, uint32_t v2,

@@ -287,6 +287,20 @@ static void in_stack(size_t kib, void *(*work)(void *))
     pthread_join(thread, NULL);
 }
 
+/* The seal of bytes, by hand for two; a byte that is changed, or two that change places, are told. */
+static void sealed(void)
+{
+    uint8_t kept[2] = {97, 98};
+    same(moonhalyard_seal(kept, 0), 1);
+    same(moonhalyard_seal(kept, 1), 98ull << 32 | 98);
+    uint64_t seal = moonhalyard_seal(kept, 2);
+    same(seal, (98ull + 196) << 32 | 196);
+    kept[0] = 98, kept[1] = 97;
+    same(moonhalyard_seal(kept, 2) == seal, 0);
+    kept[0] = 97;
+    same(moonhalyard_seal(kept, 2) == seal, 0);
+}
+
 /* A state that was kept is brought up to date, and goes on. */
 static void kept(const char *name)
 {
@@ -314,6 +328,7 @@ int main(int argc, char **argv)
     text_length = argc > 1 ? contents(argv[1], text, sizeof text) : 0;
     readers();
     words();
+    sealed();
     in_stack(512, texts_in);
     in_stack(256, calls_in);
     for (int i = 2; i < argc; i++)

@@ -79,6 +79,7 @@ def _library() -> ctypes.CDLL:
         ("show", u64, u8, size, u32),
         ("load", u64, u8, size, u8, size),
         ("upgrade", u32, u8, size, u8, size),
+        ("seal", u64, u8, size),
         ("post", u32, u8, size, u32, u32, u32, u32, u32, u32, u32),
         ("collect", u32, u8, size, u8, size),
         ("drop", u32, u8, size, size, u8, size),
@@ -172,6 +173,11 @@ class Ran(NamedTuple):
 def version() -> int:
     """The version of the library: 10,000 for each first number, 100 for each second, and the third."""
     return _c.moonhalyard_version()
+
+
+def seal(kept: bytes) -> int:
+    """The seal of bytes, to be kept behind them: read again, they are whole where their seal is the one that was kept."""
+    return _c.moonhalyard_seal(kept, len(kept))
 
 
 def says(refusal: int) -> str:

@@ -111,6 +111,15 @@ class Calls(unittest.TestCase):
             self.assertRaises(NoState, moonhalyard.kept(name).__enter__)
             self.assertEqual(sorted(os.listdir(folder)), ["state", "state.lock"])
 
+    def test_seal(self):
+        kept = self.state.to_bytes()
+        seal = moonhalyard.seal(kept)
+        self.assertEqual(moonhalyard.seal(b""), 1)
+        self.assertEqual(moonhalyard.seal(b"ab"), (98 + 196) * 2**32 + 196)
+        for at in (0, 1, 5000, len(kept) - 1):
+            self.assertNotEqual(moonhalyard.seal(kept[:at] + bytes([kept[at] ^ 1]) + kept[at + 1 :]), seal)
+            self.assertNotEqual(moonhalyard.seal(kept[:at]), seal)
+
     def test_threads(self):
         def work(thread):
             for i in range(16):

@@ -108,6 +108,12 @@ pub fn version() -> u32 {
     unsafe { sys::moonhalyard_version() }
 }
 
+/// The seal of bytes, to be kept behind them: read again, they are whole where their seal is the one that was kept.
+pub fn seal(kept: &[u8]) -> u64 {
+    // SAFETY: the bytes are read, and no more of them than there are.
+    unsafe { sys::moonhalyard_seal(kept.as_ptr(), kept.len()) }
+}
+
 /// A refusal in words.
 pub fn says(refusal: u32) -> &'static str {
     // SAFETY: the library answers a string of its own, which ends in 0 and stays, whatever the number.
