@@ -5,7 +5,7 @@ use mathlib.Core.Path.{_≡_, refl, sym, ap, subst, _∙_}
 use mathlib.Core.Bool.{Bool, true, false, cond, not, _&&_, _||_, or-true}
 use mathlib.Core.List.{List, [], _∷_, _++_}
 use lib.Dec.{eqb, ltb}
-use Rattle.plan.specs.Tree.{Exp, constant, variable, binary, Own, empty, send, receive, set as setting, raise, leave, choose, repeat, sequence, flow, pick, scope, arm, kind, Act, act, Acts, none, more, Plan, size, sizes, count}
+use Rattle.plan.specs.Tree.{Exp, constant, variable, binary, Own, empty, send, receive, set as setting, raise, leave, choose, repeat, sequence, flow, pick, scope, arm, kind, isScope, isPick, Act, act, Acts, none, more, Plan, size, sizes, count}
 use Rattle.order.specs.declared.Order.{Order}
 use Rattle.order.specs.declared.End.{End}
 use Rattle.order.specs.declared.End.the-variants.{None, Well, Handled, Failed, Left}
@@ -32,7 +32,7 @@ use Rattle.undoing.proofs.Truly.{Arms, needs, Knows, knows, KnowsIn, kn
 use Rattle.undoing.proofs.Keeping.{begins-said}
 use Rattle.undoing.proofs.BegunTold.{body-knows, fault-knows}
 use Rattle.undoing.proofs.EachTime.{time, Took, took, took-none, OfTaking, OfStarts, each-taking}
-use Rattle.undoing.proofs.Growing.{where-has, body-has, fault-has, combines-has}
+use Rattle.undoing.proofs.Dropping.{where-has, body-has, fault-has, combines-has}
 
 -- all of these began
 abbrev Has : List ℕ → List Event → Type 0
@@ -65,7 +65,7 @@ picks-marked (repeat e) within k i n o = ap (λ (w : Value). pickedBy (λ m. con
 picks-marked sequence within k i n o = refl
 picks-marked flow within k i n o = refl
 picks-marked pick within k i n o = refl
-picks-marked scope within k i n o = refl
+picks-marked (scope v) within k i n o = refl
 picks-marked (arm p op vs) within k i n o = refl
 
 mutual
@@ -84,7 +84,7 @@ mutual
 
 arms-picks : (own : Own) (within : Acts) (k t : ℕ) (o : Order) → picksAmong within (k + 1) t (arms own within k t o) ≡ picksAmong within (k + 1) t o
 unfolding arms
-arms-picks own within k t o = go (eqb (kind own) 10 && isPart within (k + 1) t)
+arms-picks own within k t o = go (isPick own && isPart within (k + 1) t)
   where
     go : (b : Bool) → picksAmong within (k + 1) t (cond b (marked k inside o) o) ≡ picksAmong within (k + 1) t o
     go true = among-marked within (k + 1) t k inside o
@@ -104,7 +104,7 @@ own-taking (repeat e) within k m o = refl
 own-taking sequence within k m o = refl
 own-taking flow within k m o = refl
 own-taking pick within k m o = refl
-own-taking scope within k m o = refl
+own-taking (scope v) within k m o = refl
 own-taking (arm p op vs) within k m o = refl
 
 mutual
@@ -141,15 +141,15 @@ part-said (suc i) (more (act own within) l) c ms h n = part-said i l (c + size (
 abbrev log-of : Outcome → List Event
 log-of r = r .log
 
-itself-picks : (own : Own) (within : Acts) (k : ℕ) (o : Order) → needs own ≤ count within → Arms (eqb (kind own) 10) within → Has (picks own within k o) (itself own within k o .log)
+itself-picks : (own : Own) (within : Acts) (q₀ k : ℕ) (o : Order) → needs own ≤ count within → Arms (isPick own) within → Has (picks own within k o) (itself own within q₀ k o .log)
 unfolding itself picks needs least kind every repeats
-itself-picks empty within k o n h = refl
-itself-picks (send p op vs) within k o n h = refl
-itself-picks (receive p op vs) within k o n h = refl
-itself-picks (setting v e) within k o n h = refl
-itself-picks raise within k o n h = refl
-itself-picks leave within k o n h = refl
-itself-picks (choose e) within k o n h = go (evaluate e o)
+itself-picks empty within q₀ k o n h = refl
+itself-picks (send p op vs) within q₀ k o n h = refl
+itself-picks (receive p op vs) within q₀ k o n h = refl
+itself-picks (setting v e) within q₀ k o n h = refl
+itself-picks raise within q₀ k o n h = refl
+itself-picks leave within q₀ k o n h = refl
+itself-picks (choose e) within q₀ k o n h = go (evaluate e o)
   where
     into : (i : ℕ) → i < 2 → hasBegan (partAt i within (k + 1)) (enters k o (beginPart i within (k + 1) (marked k inside o .marks)) .log) ≡ true
     into i m =
@@ -163,7 +163,7 @@ itself-picks (choose e) within k o n h = go (evaluate e o)
     go : (w : Value) → Has (pickedBy (λ m. partAt (cond (isTrue m) 0 1) within (k + 1) ∷ []) w) (orRaises k o (λ m. enters k o (beginPart (cond (isTrue m) 0 1) within (k + 1) (marked k inside o .marks))) w .log)
     go fault = refl
     go (value m) = rw (into (cond (isTrue m) 0 1) (first-two (isTrue m)))
-itself-picks (repeat e) within k o n h = go (evaluate e o)
+itself-picks (repeat e) within q₀ k o n h = go (evaluate e o)
   where
     body : hasBegan (partAt 0 within (k + 1)) (repeats k within o .log) ≡ true
     body =
@@ -177,14 +177,14 @@ itself-picks (repeat e) within k o n h = go (evaluate e o)
     go : (w : Value) → Has (pickedBy (λ m. cond (isTrue m) (partAt 0 within (k + 1) ∷ []) []) w) (orRaises k o (λ m. elim (isTrue m) [ true ↦ repeats k within o | false ↦ finishes k o ]) w .log)
     go fault = refl
     go (value m) = by-truth (isTrue m) _ refl
-itself-picks sequence within k o n h = refl
-itself-picks flow within k o n h = refl
-itself-picks pick within k o n h = refl
-itself-picks scope within k o n h = refl
-itself-picks (arm p op vs) within k o n h = refl
+itself-picks sequence within q₀ k o n h = refl
+itself-picks flow within q₀ k o n h = refl
+itself-picks pick within q₀ k o n h = refl
+itself-picks (scope v) within q₀ k o n h = refl
+itself-picks (arm p op vs) within q₀ k o n h = refl
 
 -- a raise stands in place of what picks nothing
-placed-picks : (own : Own) (within : Acts) (k : ℕ) (o : Order) → (eqb (kind own) 2 || eqb (kind own) 12) ≡ true → picks own within k o ≡ []
+placed-picks : (own : Own) (within : Acts) (k : ℕ) (o : Order) → (eqb (kind own) 2 || eqb (kind own) 255) ≡ true → picks own within k o ≡ []
 unfolding kind picks
 placed-picks empty within k o e = refl
 placed-picks (send p op vs) within k o e = refl
@@ -197,59 +197,59 @@ placed-picks (repeat x) within k o e = absurd (let z : _≡_ {A = ℕ} 0 1 = ap 
 placed-picks sequence within k o e = refl
 placed-picks flow within k o e = refl
 placed-picks pick within k o e = refl
-placed-picks scope within k o e = refl
+placed-picks (scope v) within k o e = refl
 placed-picks (arm p op vs) within k o e = refl
 
-performs-picks : (actor : Actor) (own : Own) (within : Acts) (k : ℕ) (o : Order) → needs own ≤ count within → Arms (eqb (kind own) 10) within → Has (picks own within k o) (performs actor own within k o .log)
+performs-picks : (actor : Actor) (own : Own) (within : Acts) (q₀ k : ℕ) (o : Order) → needs own ≤ count within → Arms (isPick own) within → Has (picks own within k o) (performs actor own within q₀ k o .log)
 unfolding performs replaces every
-performs-picks itsOwn own within k o n h = itself-picks own within k o n h
-performs-picks inPlace own within k o n h =
-    decide (eqb (kind own) 2 || eqb (kind own) 12)
-    (λ d. subst (λ (js : List ℕ). Has js (performs inPlace own within k o .log)) (sym (placed-picks own within k o d)) refl)
+performs-picks itsOwn own within q₀ k o n h = itself-picks own within q₀ k o n h
+performs-picks inPlace own within q₀ k o n h =
+    decide (eqb (kind own) 2 || eqb (kind own) 255)
+    (λ d. subst (λ (js : List ℕ). Has js (performs inPlace own within q₀ k o .log)) (sym (placed-picks own within k o d)) refl)
     (λ d. subst (λ (r : Outcome). Has (picks own within k o) (r .log))
-    (sym (second-of (eqb (kind own) 2 || eqb (kind own) 12) (raises k o) (itself own within k o) (performs inPlace own within k o) refl d)) (itself-picks own within k o n h))
+    (sym (second-of (eqb (kind own) 2 || eqb (kind own) 255) (raises k o) (itself own within q₀ k o) (performs inPlace own within q₀ k o) refl d)) (itself-picks own within q₀ k o n h))
 
 -- What is made of it has it too.
 module _ (f : ℕ → ℕ) (actor : Actor) where
   mutual
     unfolding stepIn picksIn every
 
-    step-picks : {a : Act} {k : ℕ} → Knows f a k → (t : ℕ) (o : Order) → Has (picksIn a k t o) (stepIn actor a k t o .log)
-    step-picks (knows {own} {within} {k} x n h y) t o =
+    step-picks : {a : Act} {k : ℕ} → Knows f a k → (q₀ t : ℕ) (o : Order) → Has (picksIn a k t o) (stepIn actor a q₀ k t o .log)
+    step-picks (knows {own} {within} {k} x n h y) q₀ t o =
         decide (eqb k t)
-        (λ d. subst (λ (js : List ℕ). Has js (stepIn actor (act own within) k t o .log)) (sym (first-of (eqb k t) (picks own within k o) (picksAmong within (k + 1) t o) (picksIn (act own within) k t o) refl d))
+        (λ d. subst (λ (js : List ℕ). Has js (stepIn actor (act own within) q₀ k t o .log)) (sym (first-of (eqb k t) (picks own within k o) (picksAmong within (k + 1) t o) (picksIn (act own within) k t o) refl d))
         (subst (λ (r : Outcome). Has (picks own within k o) (r .log))
-        (sym (first-of (eqb k t) (performs actor own within k o) (combines own within k t (stepAmong actor within (k + 1) t (arms own within k t o))) (stepIn actor (act own within) k t o) refl d))
-        (performs-picks actor own within k o n h)))
-        (λ d. let r = stepAmong actor within (k + 1) t (arms own within k t o) in
-        subst (λ (js : List ℕ). Has js (stepIn actor (act own within) k t o .log)) (sym (second-of (eqb k t) (picks own within k o) (picksAmong within (k + 1) t o) (picksIn (act own within) k t o) refl d))
-        (subst (λ (q : Outcome). Has (picksAmong within (k + 1) t o) (q .log)) (sym (second-of (eqb k t) (performs actor own within k o) (combines own within k t r) (stepIn actor (act own within) k t o) refl d))
+        (sym (first-of (eqb k t) (performs actor own within q₀ k o) (combines own within k t (stepAmong actor within (isScope own) q₀ (k + 1) t (arms own within k t o))) (stepIn actor (act own within) q₀ k t o) refl d))
+        (performs-picks actor own within q₀ k o n h)))
+        (λ d. let r = stepAmong actor within (isScope own) q₀ (k + 1) t (arms own within k t o) in
+        subst (λ (js : List ℕ). Has js (stepIn actor (act own within) q₀ k t o .log)) (sym (second-of (eqb k t) (picks own within k o) (picksAmong within (k + 1) t o) (picksIn (act own within) k t o) refl d))
+        (subst (λ (q : Outcome). Has (picksAmong within (k + 1) t o) (q .log)) (sym (second-of (eqb k t) (performs actor own within q₀ k o) (combines own within k t r) (stepIn actor (act own within) q₀ k t o) refl d))
         (has-more (picksAmong within (k + 1) t o) (r .log) (combines own within k t r .log) (λ i z. combines-has (isBeganOf (eqb i)) own within k t r z)
-        (subst (λ (js : List ℕ). Has js (r .log)) (arms-picks own within k t o) (among-picks y t (arms own within k t o))))))
+        (subst (λ (js : List ℕ). Has js (r .log)) (arms-picks own within k t o) (among-picks y (isScope own) q₀ t (arms own within k t o))))))
 
-    among-picks : {l : Acts} {c : ℕ} → KnowsIn f l c → (t : ℕ) (o : Order) → Has (picksAmong l c t o) (stepAmong actor l c t o .log)
-    among-picks knows-none t o = refl
-    among-picks (knows-more {a = a} {l = l} {c = c} x y) t o =
+    among-picks : {l : Acts} {c : ℕ} → KnowsIn f l c → (v₀ : Bool) (q₀ t : ℕ) (o : Order) → Has (picksAmong l c t o) (stepAmong actor l v₀ q₀ c t o .log)
+    among-picks knows-none v₀ q₀ t o = refl
+    among-picks (knows-more {a = a} {l = l} {c = c} x y) v₀ q₀ t o =
         decide (ltb t (c + size a))
-        (λ d. subst (λ (js : List ℕ). Has js (stepAmong actor (more a l) c t o .log)) (sym (first-of (ltb t (c + size a)) (picksIn a c t o) (picksAmong l (c + size a) t o) (picksAmong (more a l) c t o) refl d))
-        (subst (λ (r : Outcome). Has (picksIn a c t o) (r .log)) (sym (first-of (ltb t (c + size a)) (stepIn actor a c t o) (stepAmong actor l (c + size a) t o) (stepAmong actor (more a l) c t o) refl d)) (step-picks x t o)))
-        (λ d. subst (λ (js : List ℕ). Has js (stepAmong actor (more a l) c t o .log)) (sym (second-of (ltb t (c + size a)) (picksIn a c t o) (picksAmong l (c + size a) t o) (picksAmong (more a l) c t o) refl d))
-        (subst (λ (r : Outcome). Has (picksAmong l (c + size a) t o) (r .log)) (sym (second-of (ltb t (c + size a)) (stepIn actor a c t o) (stepAmong actor l (c + size a) t o) (stepAmong actor (more a l) c t o) refl d)) (among-picks y t o)))
+        (λ d. subst (λ (js : List ℕ). Has js (stepAmong actor (more a l) v₀ q₀ c t o .log)) (sym (first-of (ltb t (c + size a)) (picksIn a c t o) (picksAmong l (c + size a) t o) (picksAmong (more a l) c t o) refl d))
+        (subst (λ (r : Outcome). Has (picksIn a c t o) (r .log)) (sym (first-of (ltb t (c + size a)) (stepIn actor a (cond v₀ c q₀) c t o) (stepAmong actor l v₀ q₀ (c + size a) t o) (stepAmong actor (more a l) v₀ q₀ c t o) refl d)) (step-picks x (cond v₀ c q₀) t o)))
+        (λ d. subst (λ (js : List ℕ). Has js (stepAmong actor (more a l) v₀ q₀ c t o .log)) (sym (second-of (ltb t (c + size a)) (picksIn a c t o) (picksAmong l (c + size a) t o) (picksAmong (more a l) c t o) refl d))
+        (subst (λ (r : Outcome). Has (picksAmong l (c + size a) t o) (r .log)) (sym (second-of (ltb t (c + size a)) (stepIn actor a (cond v₀ c q₀) c t o) (stepAmong actor l v₀ q₀ (c + size a) t o) (stepAmong actor (more a l) v₀ q₀ c t o) refl d)) (among-picks y v₀ q₀ t o)))
 
 module _ (p : Plan) (h : Promised p) where
   root-picks : (actor : Actor) (t : ℕ) (o : Order) → Has (picksAt p t o) (stepRoot actor p t o .log)
   unfolding stepRoot picksAt
   root-picks actor t o =
-      let b = stepIn actor (p .body) 0 t o in
-      let g = stepIn actor (p .fault) (size (p .body)) t o in
+      let b = stepIn actor (p .body) 0 0 t o in
+      let g = stepIn actor (p .fault) (size (p .body)) (size (p .body)) t o in
       let k = size (p .body) in
       decide (ltb t k)
       (λ d. subst (λ (js : List ℕ). Has js (stepRoot actor p t o .log)) (sym (first-of (ltb t k) (picksIn (p .body) 0 t o) (picksIn (p .fault) k t o) (picksAt p t o) refl d))
       (subst (λ (r : Outcome). Has (picksIn (p .body) 0 t o) (r .log)) (sym (first-of (ltb t k) (fromBody (rootOf p) b) (fromFault (rootOf p) g) (stepRoot actor p t o) refl d))
-      (has-more (picksIn (p .body) 0 t o) (b .log) (fromBody (rootOf p) b .log) (λ i z. body-has (isBeganOf (eqb i)) (rootOf p) b z) (step-picks (kindAt p) actor (body-knows p h) t o))))
+      (has-more (picksIn (p .body) 0 t o) (b .log) (fromBody (rootOf p) b .log) (λ i z. body-has (isBeganOf (eqb i)) (rootOf p) b z) (step-picks (kindAt p) actor (body-knows p h) 0 t o))))
       (λ d. subst (λ (js : List ℕ). Has js (stepRoot actor p t o .log)) (sym (second-of (ltb t k) (picksIn (p .body) 0 t o) (picksIn (p .fault) k t o) (picksAt p t o) refl d))
       (subst (λ (r : Outcome). Has (picksIn (p .fault) k t o) (r .log)) (sym (second-of (ltb t k) (fromBody (rootOf p) b) (fromFault (rootOf p) g) (stepRoot actor p t o) refl d))
-      (has-more (picksIn (p .fault) k t o) (g .log) (fromFault (rootOf p) g .log) (λ i z. fault-has (isBeganOf (eqb i)) (rootOf p) g z) (step-picks (kindAt p) actor (fault-knows p h) t o))))
+      (has-more (picksIn (p .fault) k t o) (g .log) (fromFault (rootOf p) g .log) (λ i z. fault-has (isBeganOf (eqb i)) (rootOf p) g z) (step-picks (kindAt p) actor (fault-knows p h) (size (p .body)) t o))))
 
   moved-has : (r : Outcome) (e : End) (i : ℕ) → hasBegan i (r .log) ≡ true → hasBegan i (movedTo r e .log) ≡ true
   unfolding movedTo

@@ -8,7 +8,7 @@ use lib.ListN.{length, getD, set, length-set}
 use lib.Seq.{getD-set-same}
 use lib.Dec.{eqb, ltb}
 use borrow.Author.Tests.{eqb-true, eqb-false, ltb-true, ltb-false}
-use Rattle.plan.specs.Tree.{Own, empty, send, receive, set as setting, raise, leave, choose, repeat, sequence, flow, pick, scope, arm, kind, Act, act, Acts, none, more, Plan, size, sizes, count}
+use Rattle.plan.specs.Tree.{Own, empty, send, receive, set as setting, raise, leave, choose, repeat, sequence, flow, pick, scope, arm, kind, isScope, isPick, Act, act, Acts, none, more, Plan, size, sizes, count}
 use Rattle.order.specs.declared.Order.{Order}
 use Rattle.order.specs.Lists.{some}
 use Rattle.order.specs.State.{idle, active, inside, withMarks, marked, markAt, binding}
@@ -17,97 +17,24 @@ use Rattle.order.specs.Expression.{Value, fault, value, evaluate, isTrue}
 use Rattle.order.specs.Begin.{Begun, part, partAt, beginPart, beginAfter, cleared}
 use Rattle.order.specs.declared.Way.{Way as Result}
 use Rattle.order.specs.declared.Way.the-variants.{Running as running, Over as over, Raising as raising, Leaving as leaving, Undone as undone, UndoRaising as undoRaising}
-use Rattle.order.specs.Scope.{Outcome, runs, after, begunIn, whereOver, Scope, scopeAt, closing, looksAgain, bodyOver, bodyRaised, undoOver, undoRaised, fromBody, partOver, partRaised, fromFault, fromUndo}
+use Rattle.order.specs.Scope.{Outcome, runs, begunIn, whereOver, Scope, scopeAt, closing, fromBody, fromFault, goesThrough, fromUndo}
 use Rattle.order.specs.Acting.{finishes, raises, orRaises, enters, again, repeats, allBound, itself, isPart, arms, goesOn, joins, inScope, combines, stepIn, stepAmong, Actor, replaces, performs}
 use Rattle.order.specs.Taking.{actAt}
-use Rattle.undoing.specs.Begun.{lasts}
-use Rattle.undoing.specs.Onward.{isRash}
-use Rattle.undoing.proofs.Parts.{both, decide, some-append}
+use Rattle.undoing.specs.Begun.{lasts, isScopeKind}
+use Rattle.undoing.specs.Entirely.{isRash}
+use Rattle.undoing.proofs.Parts.{both, decide}
 use Rattle.undoing.proofs.Orders.{least}
 use Rattle.undoing.proofs.Places.{first-of, second-of}
 use Rattle.undoing.proofs.Breaking.{cleared-kept}
-use Rattle.undoing.proofs.Truly.{Up, up-other, Arms, needs, Knows, knows, KnowsIn, knows-none, knows-more}
-use Rattle.undoing.proofs.Lasting.{part-began, goes-where, goes-begun, finishes-goes, Goes, Within, looks-goes, over-goes, undone-goes, part-goes, scope-within}
+use Rattle.undoing.proofs.Truly.{Up, up-other, scope-kind, no-pick, Arms, needs, Knows, knows, KnowsIn, knows-none, knows-more}
+use Rattle.undoing.proofs.Lasting.{part-began, goes-where, goes-begun, finishes-goes, Goes, Within, looks-goes, over-goes, undone-goes, part-goes, scope-needs, scope-within}
 use Rattle.undoing.proofs.Keeping.{again-goes, joins-goes, follows-goes}
 use Rattle.undoing.proofs.Keeping as keeping
-use Rattle.undoing.proofs.Dropping.{isBad, Drops, step-drops, among-drops}
+use Rattle.undoing.proofs.Dropping.{isBad, among-drops, combines-has, calmer, not-bad}
 use Rattle.undoing.proofs.AfreshSteps.{Stood, StoodIn, stood-here, stood-within, stood-first, stood-later}
 
 abbrev log-of : Outcome → List Event
 log-of o = o .log
-
--- What has happened in a step stays so in what is made of it.
-module _ (h : Event → Bool) where
-  more-has : (l m : List Event) → some h l ≡ true → some h (l ++ m) ≡ true
-  more-has l m e = some-append h l m ∙ rw e
-
-  pub where-has : (g : Order → Outcome) (r : Outcome) → some h (r .log) ≡ true → some h (whereOver g r .log) ≡ true
-  where-has g r e = go (r .result)
-    where
-      go : (x : Result) → some h (whereOver g (record { result = x; order = r .order; log = r .log }) .log) ≡ true
-      go running = e
-      go over = more-has (r .log) (g (r .order) .log) e
-      go raising = e
-      go leaving = e
-      go undone = e
-      go undoRaising = e
-
-  on-has : (k m : ℕ) (g : Order → Outcome) (r : Outcome) → some h (r .log) ≡ true → some h (goesOn k m g r .log) ≡ true
-  unfolding goesOn
-  on-has k m g r e = where-has (λ q. elim (eqb (markAt k q) m) [ true ↦ g q | false ↦ runs q ]) r e
-
-  pub body-has : (s : Scope) (r : Outcome) → some h (r .log) ≡ true → some h (fromBody s r .log) ≡ true
-  unfolding fromBody
-  body-has s r e = go (r .result)
-    where
-      go : (x : Result) → some h (fromBody s (record { result = x; order = r .order; log = r .log }) .log) ≡ true
-      go running = more-has (r .log) (looksAgain s (r .order) .log) e
-      go over = more-has (r .log) (bodyOver s (r .order) .log) e
-      go raising = more-has (r .log) (bodyRaised s (r .order) .log) e
-      go leaving = e
-      go undone = more-has (r .log) (undoOver s (r .order) .log) e
-      go undoRaising = more-has (r .log) (undoRaised s (r .order) .log) e
-
-  pub fault-has : (s : Scope) (r : Outcome) → some h (r .log) ≡ true → some h (fromFault s r .log) ≡ true
-  unfolding fromFault
-  fault-has s r e = go (r .result)
-    where
-      go : (x : Result) → some h (fromFault s (record { result = x; order = r .order; log = r .log }) .log) ≡ true
-      go running = e
-      go over = more-has (r .log) (partOver s (r .order) .log) e
-      go raising = more-has (r .log) (partRaised s (r .order) .log) e
-      go leaving = e
-      go undone = e
-      go undoRaising = e
-
-  has-either : (v : Bool) (x y z : Outcome) → z ≡ elim v [ true ↦ x | false ↦ y ] → some h (x .log) ≡ true → some h (y .log) ≡ true → some h (z .log) ≡ true
-  has-either true x y z e a b = subst (λ (r : Outcome). some h (r .log) ≡ true) (sym e) a
-  has-either false x y z e a b = subst (λ (r : Outcome). some h (r .log) ≡ true) (sym e) b
-
-  pub combines-has : (own : Own) (within : Acts) (k t : ℕ) (r : Outcome) → some h (r .log) ≡ true → some h (combines own within k t r .log) ≡ true
-  unfolding combines inScope fromUndo
-  combines-has empty within k t r e = e
-  combines-has (send a b vs) within k t r e = e
-  combines-has (receive a b vs) within k t r e = e
-  combines-has (setting v x) within k t r e = e
-  combines-has raise within k t r e = e
-  combines-has leave within k t r e = e
-  combines-has (choose x) within k t r e = on-has k inside (finishes k) r e
-  combines-has (repeat x) within k t r e = on-has k inside (again k) r e
-  combines-has sequence within k t r e = on-has k active (λ o. whereOver (finishes k) (begunIn o (beginAfter within (k + 1) t (o .marks)))) r e
-  combines-has flow within k t r e = on-has k active (joins k within) r e
-  combines-has pick within k t r e = on-has k inside (finishes k) r e
-  combines-has scope within k t r e =
-      has-either (ltb t (partAt 1 within (k + 1))) (fromBody (scopeAt k within) r) (elim (ltb t (partAt 2 within (k + 1))) [ true ↦ fromFault (scopeAt k within) r | false ↦ fromUndo r ]) _ refl (body-has (scopeAt k within) r e)
-      (has-either (ltb t (partAt 2 within (k + 1))) (fromFault (scopeAt k within) r) (fromUndo r) _ refl (fault-has (scopeAt k within) r e) e)
-  combines-has (arm a b vs) within k t r e = e
-
--- where none is rash with more, none was
-pub calmer : (l m : List Event) → (some isRash l ≡ true → some isRash m ≡ true) → some isRash m ≡ false → some isRash l ≡ false
-calmer l m f e = decide (some isRash l) (λ d. absurd (false≢true (sym e ∙ f d))) (λ d. d)
-
-pub not-bad : (o : Order) (r : Outcome) → Drops o r → some isRash (r .log) ≡ false → isBad (r .result) ≡ false
-not-bad o r w e = decide (isBad (r .result)) (λ d. absurd (false≢true (sym e ∙ w .rash d))) (λ d. d)
 
 module _ (f : ℕ → ℕ) where
   -- a scope
@@ -171,29 +98,29 @@ module _ (f : ℕ → ℕ) where
       on-grows k active (λ o. whereOver (finishes k) (begunIn o (beginAfter within (k + 1) t (o .marks)))) r j (follows-goes f k t (r .order) y m .grows j l (λ i. d (omega arith)) u) u
   combines-grows flow within k t r e n y m q j l d u = on-grows k active (joins k within) r j (joins-goes f k 0 within (r .order) .grows j l (λ i. d (omega arith)) u) u
   combines-grows pick within k t r e n y m q j l d u = on-grows k inside (finishes k) r j (finishes-goes f k 0 (r .order) .grows j l (λ i. d (omega arith)) u) u
-  combines-grows scope within k t r e n y m q j l d u =
+  combines-grows (scope v) within k t r e n y m q j l d u =
       let s = scopeAt k within in
-      let h = scope-within f (ap (λ (i : ℕ). eqb i 11) e) n y in
-      grows-either j (ltb t (partAt 1 within (k + 1))) (fromBody s r) (elim (ltb t (partAt 2 within (k + 1))) [ true ↦ fromFault s r | false ↦ fromUndo r ]) _ refl
-      (body-grows s (k + 1) (k + 1 + sizes within) h r m q j l (λ i. d (omega arith)) u)
+      let h = scope-within f (ap isScopeKind e ∙ scope-kind (scope v)) (scope-needs f (scope v) (count within) refl n) y in
+      grows-either j (ltb t (partAt 1 within (k + 1))) (elim (goesThrough v k r) [ true ↦ r | false ↦ fromBody s r ]) (elim (ltb t (partAt 2 within (k + 1))) [ true ↦ fromFault s r | false ↦ fromUndo r ]) _ refl
+      (grows-either j (goesThrough v k r) r (fromBody s r) _ refl u (body-grows s (k + 1) (k + 1 + sizes within) h r m q j l (λ i. d (omega arith)) u))
       (grows-either j (ltb t (partAt 2 within (k + 1))) (fromFault s r) (fromUndo r) _ refl (fault-grows s (k + 1) (k + 1 + sizes within) h r m q j l (λ i. d (omega arith)) u) u)
   combines-grows (arm a b vs) within k t r e n y m q j l d u = u
 
   -- its own step
-  itself-grows : (own : Own) (within : Acts) (k : ℕ) (o : Order) → f k ≡ kind own → needs own ≤ count within → KnowsIn f within (k + 1) → k + 1 + sizes within ≤ length (o .marks)
-      → (j : ℕ) → lasts (f j) ≡ true → (j ≡ k → ⊥) → (k < j → j < k + 1 + sizes within → ⊥) → Up (o .marks) j → Up (itself own within k o .order .marks) j
+  itself-grows : (own : Own) (within : Acts) (q k : ℕ) (o : Order) → f k ≡ kind own → needs own ≤ count within → KnowsIn f within (k + 1) → k + 1 + sizes within ≤ length (o .marks)
+      → (j : ℕ) → lasts (f j) ≡ true → (j ≡ k → ⊥) → (k < j → j < k + 1 + sizes within → ⊥) → Up (o .marks) j → Up (itself own within q k o .order .marks) j
   unfolding itself needs least kind closing repeats
-  itself-grows empty within k o e n y m j l d c u = u
-  itself-grows (send a b vs) within k o e n y m j l d c u = decide (allBound o vs) (λ t. rw t (up-other (o .marks) k idle j d u)) (λ t. rw t (up-other (o .marks) k idle j d u))
-  itself-grows (receive a b vs) within k o e n y m j l d c u = up-other (o .marks) k idle j d u
-  itself-grows (setting v x) within k o e n y m j l d c u = go (evaluate x o)
+  itself-grows empty within q k o e n y m j l d c u = u
+  itself-grows (send a b vs) within q k o e n y m j l d c u = decide (allBound o vs) (λ t. rw t (up-other (o .marks) k idle j d u)) (λ t. rw t (up-other (o .marks) k idle j d u))
+  itself-grows (receive a b vs) within q k o e n y m j l d c u = up-other (o .marks) k idle j d u
+  itself-grows (setting v x) within q k o e n y m j l d c u = go (evaluate x o)
     where
       go : (w : Value) → Up (orRaises k o (λ i. finishes k (binding v i o)) w .order .marks) j
       go fault = up-other (o .marks) k idle j d u
       go (value i) = up-other (o .marks) k idle j d u
-  itself-grows raise within k o e n y m j l d c u = up-other (o .marks) k idle j d u
-  itself-grows leave within k o e n y m j l d c u = up-other (o .marks) k idle j d u
-  itself-grows (choose x) within k o e n y m j l d c u = go (evaluate x o)
+  itself-grows raise within q k o e n y m j l d c u = up-other (o .marks) k idle j d u
+  itself-grows leave within q k o e n y m j l d c u = up-other (o .marks) k idle j d u
+  itself-grows (choose x) within q k o e n y m j l d c u = go (evaluate x o)
     where
       into : (i : ℕ) → i < 2 → Up (enters k o (beginPart i within (k + 1) (marked k inside o .marks)) .order .marks) j
       into i h =
@@ -210,7 +137,7 @@ module _ (f : ℕ → ℕ) where
       go : (w : Value) → Up (orRaises k o (λ i. enters k o (beginPart (cond (isTrue i) 0 1) within (k + 1) (marked k inside o .marks))) w .order .marks) j
       go fault = up-other (o .marks) k idle j d u
       go (value i) = into (cond (isTrue i) 0 1) (first-two (isTrue i))
-  itself-grows (repeat x) within k o e n y m j l d c u = go (evaluate x o)
+  itself-grows (repeat x) within q k o e n y m j l d c u = go (evaluate x o)
     where
       ms : List ℕ
       ms = cleared (k + 1) (sizes within) (o .marks)
@@ -236,16 +163,16 @@ module _ (f : ℕ → ℕ) where
       go : (w : Value) → Up (orRaises k o (λ i. elim (isTrue i) [ true ↦ repeats k within o | false ↦ finishes k o ]) w .order .marks) j
       go fault = up-other (o .marks) k idle j d u
       go (value i) = by-truth (isTrue i) _ refl
-  itself-grows sequence within k o e n y m j l d c u = u
-  itself-grows flow within k o e n y m j l d c u = u
-  itself-grows pick within k o e n y m j l d c u = u
-  itself-grows scope within k o e n y m j l d c u = up-other (o .marks) k idle j d u
-  itself-grows (arm a b vs) within k o e n y m j l d c u =
+  itself-grows sequence within q k o e n y m j l d c u = u
+  itself-grows flow within q k o e n y m j l d c u = u
+  itself-grows pick within q k o e n y m j l d c u = u
+  itself-grows (scope v) within q k o e n y m j l d c u = up-other (o .marks) k idle j d u
+  itself-grows (arm a b vs) within q k o e n y m j l d c u =
       goes-begun f {b = k + 1} {e = k + 1 + sizes within} o (beginPart 0 within (k + 1) (o .marks)) (part-began f y 0 (omega arith) (o .marks) m) (omega arith) (omega arith) .grows j l (λ z. d (omega arith)) u
 
   arms-up : (own : Own) (within : Acts) (k t : ℕ) (o : Order) (j : ℕ) → (j ≡ k → ⊥) → Up (o .marks) j → Up (arms own within k t o .marks) j
   unfolding arms
-  arms-up own within k t o j d u = go (eqb (kind own) 10 && isPart within (k + 1) t)
+  arms-up own within k t o j d u = go (isPick own && isPart within (k + 1) t)
     where
       go : (b : Bool) → Up (cond b (marked k inside o) o .marks) j
       go true = up-other (o .marks) k inside j d u
@@ -253,7 +180,7 @@ module _ (f : ℕ → ℕ) where
 
   arms-long : (own : Own) (within : Acts) (k t : ℕ) (o : Order) → length (arms own within k t o .marks) ≡ length (o .marks)
   unfolding arms
-  arms-long own within k t o = go (eqb (kind own) 10 && isPart within (k + 1) t)
+  arms-long own within k t o = go (isPick own && isPart within (k + 1) t)
     where
       go : (b : Bool) → length (cond b (marked k inside o) o .marks) ≡ length (o .marks)
       go true = length-set (o .marks) k inside
@@ -263,19 +190,19 @@ module _ (f : ℕ → ℕ) where
   abbrev UpIn : (j : ℕ) → Outcome → Type 0
   UpIn j r = Up (r .order .marks) j
 
-  performs-grows : (actor : Actor) (own : Own) (within : Acts) (k : ℕ) (o : Order) → f k ≡ kind own → needs own ≤ count within → KnowsIn f within (k + 1) → k + 1 + sizes within ≤ length (o .marks)
-      → (j : ℕ) → lasts (f j) ≡ true → (j ≡ k → ⊥) → (k < j → j < k + 1 + sizes within → ⊥) → Up (o .marks) j → Up (performs actor own within k o .order .marks) j
+  performs-grows : (actor : Actor) (own : Own) (within : Acts) (q k : ℕ) (o : Order) → f k ≡ kind own → needs own ≤ count within → KnowsIn f within (k + 1) → k + 1 + sizes within ≤ length (o .marks)
+      → (j : ℕ) → lasts (f j) ≡ true → (j ≡ k → ⊥) → (k < j → j < k + 1 + sizes within → ⊥) → Up (o .marks) j → Up (performs actor own within q k o .order .marks) j
   unfolding performs
-  performs-grows actor own within k o e n y m j l d c u = go (replaces actor (kind own))
+  performs-grows actor own within q k o e n y m j l d c u = go (replaces actor (kind own))
     where
-      go : (b : Bool) → UpIn j (elim b [ true ↦ raises k o | false ↦ itself own within k o ])
+      go : (b : Bool) → UpIn j (elim b [ true ↦ raises k o | false ↦ itself own within q k o ])
       go true = up-other (o .marks) k idle j d u
-      go false = itself-grows own within k o e n y m j l d c u
+      go false = itself-grows own within q k o e n y m j l d c u
 
   -- a repeat that has the step in it, and not as its own
   arms-same : (own : Own) (within : Acts) (k t : ℕ) (o : Order) → kind own ≡ 7 → Up (o .marks) k → Up (arms own within k t o .marks) k
   unfolding arms
-  arms-same own within k t o e u = rw e u
+  arms-same own within k t o e u = subst (λ (b : Bool). Up (cond (b && isPart within (k + 1) t) (marked k inside o) o .marks) k) (sym (no-pick own 7 refl e)) u
 
   again-up : (own : Own) (within : Acts) (k t : ℕ) (r : Outcome) → kind own ≡ 7 → k < length (r .order .marks) → Up (r .order .marks) k → Up (combines own within k t r .order .marks) k
   unfolding combines kind
@@ -290,7 +217,8 @@ module _ (f : ℕ → ℕ) where
   again-up sequence within k t r e m u = absurd (omega arith)
   again-up flow within k t r e m u = absurd (omega arith)
   again-up pick within k t r e m u = absurd (omega arith)
-  again-up scope within k t r e m u = absurd (omega arith)
+  again-up (scope true) within k t r e m u = absurd (omega arith)
+  again-up (scope false) within k t r e m u = absurd (omega arith)
   again-up (arm a b vs) within k t r e m u = absurd (omega arith)
 
   -- A step: j has it not in it, or is a repeat that has it, and not as its own; and j does not stand in what has it.
@@ -298,19 +226,19 @@ module _ (f : ℕ → ℕ) where
     mutual
       unfolding stepIn size
 
-      pub step-grows : {a : Act} {k : ℕ} → Knows f a k → Stood p a k → k ≤ t → t < k + size a → (o : Order) → k + size a ≤ length (o .marks) → some isRash (stepIn actor a k t o .log) ≡ false → Up (o .marks) j
-          → Up (stepIn actor a k t o .order .marks) j
-      step-grows (knows {own} {within} {k} x n r y) st h e o m c u =
+      pub step-grows : {a : Act} {k : ℕ} → Knows f a k → Stood p a k → (q₀ : ℕ) → k ≤ t → t < k + size a → (o : Order) → k + size a ≤ length (o .marks) → some isRash (stepIn actor a q₀ k t o .log) ≡ false → Up (o .marks) j
+          → Up (stepIn actor a q₀ k t o .order .marks) j
+      step-grows (knows {own} {within} {k} x n r y) st q₀ h e o m c u =
           decide (eqb k t)
           (λ d. let i = eqb-true k t d in
-          subst (λ (q : Outcome). Up (q .order .marks) j) (sym (first-of (eqb k t) (performs actor own within k o) (combines own within k t (stepAmong actor within (k + 1) t (arms own within k t o))) (stepIn actor (act own within) k t o) refl d))
-          (performs-grows actor own within k o x n y (omega arith) j l (not-own i)
+          subst (λ (q : Outcome). Up (q .order .marks) j) (sym (first-of (eqb k t) (performs actor own within q₀ k o) (combines own within k t (stepAmong actor within (isScope own) q₀ (k + 1) t (arms own within k t o))) (stepIn actor (act own within) q₀ k t o) refl d))
+          (performs-grows actor own within q₀ k o x n y (omega arith) j l (not-own i)
           (λ a b. under (omega arith) (subst (λ (z : Act). j < t + size z) (sym (subst (λ (z : ℕ). actAt p z ≡ act own within) i (stood-here st))) (omega arith))) u))
           (λ d. let i = eqb-false k t d in
-          let q = second-of (eqb k t) (performs actor own within k o) (combines own within k t (stepAmong actor within (k + 1) t (arms own within k t o))) (stepIn actor (act own within) k t o) refl d in
+          let q = second-of (eqb k t) (performs actor own within q₀ k o) (combines own within k t (stepAmong actor within (isScope own) q₀ (k + 1) t (arms own within k t o))) (stepIn actor (act own within) q₀ k t o) refl d in
           let o₁ = arms own within k t o in
           let z = arms-long own within k t o in
-          let r₁ = stepAmong actor within (k + 1) t o₁ in
+          let r₁ = stepAmong actor within (isScope own) q₀ (k + 1) t o₁ in
           let c₁ : some isRash (combines own within k t r₁ .log) ≡ false = subst (λ (w : Outcome). some isRash (w .log) ≡ false) q c in
           let c₂ = calmer (r₁ .log) (combines own within k t r₁ .log) (combines-has isRash own within k t r₁) c₁ in
           let m₁ = among-long y o₁ (omega arith) in
@@ -321,10 +249,10 @@ module _ (f : ℕ → ℕ) where
           subst (λ (i : ℕ). Up (combines own within k t r₁ .order .marks) i) (sym s)
           (again-up own within k t r₁ g (omega (arith, m₁))
           (subst (λ (i : ℕ). Up (r₁ .order .marks) i) s
-          (among-grows y (stood-within st) (omega arith) (omega arith) o₁ (omega arith) c₂ (subst (λ (i : ℕ). Up (o₁ .marks) i) (sym s) (arms-same own within k t o g (subst (λ (i : ℕ). Up (o .marks) i) s u)))))))
+          (among-grows y (stood-within st) (isScope own) q₀ (omega arith) (omega arith) o₁ (omega arith) c₂ (subst (λ (i : ℕ). Up (o₁ .marks) i) (sym s) (arms-same own within k t o g (subst (λ (i : ℕ). Up (o .marks) i) s u)))))))
           (λ other. let not-k = eqb-false j k other in
-          combines-grows own within k t r₁ x n y (omega (arith, m₁)) (not-bad o₁ r₁ (among-drops f t actor y o₁) c₂) j l not-k
-          (among-grows y (stood-within st) (omega arith) (omega arith) o₁ (omega arith) c₂ (arms-up own within k t o j not-k u)))))
+          combines-grows own within k t r₁ x n y (omega (arith, m₁)) (not-bad o₁ r₁ (among-drops f t actor y (isScope own) q₀ o₁) c₂) j l not-k
+          (among-grows y (stood-within st) (isScope own) q₀ (omega arith) (omega arith) o₁ (omega arith) c₂ (arms-up own within k t o j not-k u)))))
         where
           its-own : j ≡ k → (eqb (f j) 7 && ltb j t) ≡ true
           its-own d = off (omega arith) (subst (λ (i : ℕ). t < i + size (actAt p i)) (sym d) (subst (λ (z : Act). t < k + size z) (sym (stood-here st)) e))
@@ -332,17 +260,17 @@ module _ (f : ℕ → ℕ) where
           not-own : k ≡ t → j ≡ k → ⊥
           not-own i d = both (eqb (f j) 7) (ltb j t) (its-own d) (λ a b. let z = ltb-true j t b in omega arith)
 
-          among-long : KnowsIn f within (k + 1) → (o₁ : Order) → k + 1 + sizes within ≤ length (o₁ .marks) → length (stepAmong actor within (k + 1) t o₁ .order .marks) ≡ length (o₁ .marks)
-          among-long y o₁ m = keeping.among-steps f actor y t o₁ m .long
+          among-long : KnowsIn f within (k + 1) → (o₁ : Order) → k + 1 + sizes within ≤ length (o₁ .marks) → length (stepAmong actor within (isScope own) q₀ (k + 1) t o₁ .order .marks) ≡ length (o₁ .marks)
+          among-long y o₁ m = keeping.among-steps f actor y (isScope own) q₀ t o₁ m .long
 
-      pub among-grows : {r : Acts} {c : ℕ} → KnowsIn f r c → StoodIn p r c → c ≤ t → t < c + sizes r → (o : Order) → c + sizes r ≤ length (o .marks) → some isRash (stepAmong actor r c t o .log) ≡ false → Up (o .marks) j
-          → Up (stepAmong actor r c t o .order .marks) j
-      among-grows knows-none st h e o m c u = absurd (omega arith)
-      among-grows (knows-more {a = a} {l = r} {c = c} x y) st h e o m z u =
+      pub among-grows : {r : Acts} {c : ℕ} → KnowsIn f r c → StoodIn p r c → (v₀ : Bool) (q₀ : ℕ) → c ≤ t → t < c + sizes r → (o : Order) → c + sizes r ≤ length (o .marks) → some isRash (stepAmong actor r v₀ q₀ c t o .log) ≡ false → Up (o .marks) j
+          → Up (stepAmong actor r v₀ q₀ c t o .order .marks) j
+      among-grows knows-none st v₀ q₀ h e o m c u = absurd (omega arith)
+      among-grows (knows-more {a = a} {l = r} {c = c} x y) st v₀ q₀ h e o m z u =
           decide (ltb t (c + size a))
-          (λ d. let q = first-of (ltb t (c + size a)) (stepIn actor a c t o) (stepAmong actor r (c + size a) t o) (stepAmong actor (more a r) c t o) refl d in
+          (λ d. let q = first-of (ltb t (c + size a)) (stepIn actor a (cond v₀ c q₀) c t o) (stepAmong actor r v₀ q₀ (c + size a) t o) (stepAmong actor (more a r) v₀ q₀ c t o) refl d in
           subst (λ (w : Outcome). Up (w .order .marks) j) (sym q)
-          (step-grows x (stood-first st) h (ltb-true t (c + size a) d) o (omega arith) (subst (λ (w : Outcome). some isRash (w .log) ≡ false) q z) u))
-          (λ d. let q = second-of (ltb t (c + size a)) (stepIn actor a c t o) (stepAmong actor r (c + size a) t o) (stepAmong actor (more a r) c t o) refl d in
+          (step-grows x (stood-first st) (cond v₀ c q₀) h (ltb-true t (c + size a) d) o (omega arith) (subst (λ (w : Outcome). some isRash (w .log) ≡ false) q z) u))
+          (λ d. let q = second-of (ltb t (c + size a)) (stepIn actor a (cond v₀ c q₀) c t o) (stepAmong actor r v₀ q₀ (c + size a) t o) (stepAmong actor (more a r) v₀ q₀ c t o) refl d in
           subst (λ (w : Outcome). Up (w .order .marks) j) (sym q)
-          (among-grows y (stood-later st) (ltb-false t (c + size a) d) (omega arith) o (omega arith) (subst (λ (w : Outcome). some isRash (w .log) ≡ false) q z) u))
+          (among-grows y (stood-later st) v₀ q₀ (ltb-false t (c + size a) d) (omega arith) o (omega arith) (subst (λ (w : Outcome). some isRash (w .log) ≡ false) q z) u))

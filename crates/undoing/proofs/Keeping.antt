@@ -85,7 +85,7 @@ began-more : (j : ℕ) (l m : List Event) → hasBegan j l ≡ true → hasBegan
 began-more j l m h = some-append (isBeganOf (eqb j)) l m ∙ rw h
 
 -- no arm begins silently
-begins-said : (a : Act) (l : Acts) (k : ℕ) (ms : List ℕ) → Arms false (more a l) → hasBegan k (begin a k ms .log) ≡ true
+pub begins-said : (a : Act) (l : Acts) (k : ℕ) (ms : List ℕ) → Arms false (more a l) → hasBegan k (begin a k ms .log) ≡ true
 unfolding begin kind some isBeganOf
 begins-said (act empty within) l k ms h = rw (eq-eqb k k refl)
 begins-said (act (send p o vs) within) l k ms h = rw (eq-eqb k k refl)
@@ -245,14 +245,14 @@ module _ (f : ℕ → ℕ) where
     part-raised-falls o = falls-either (eqb (markOf (s .name) o) handling) (breaks s o) (runs o) (partRaised s o) refl (breaks-falls o) (goes-falls (goes-runs f b e o))
 
   -- Activities other than scopes.
-  again-goes : (k e : ℕ) (o : Order) → eqb (f k) 7 ≡ true → Goes f (k + 1) e o (again k o)
+  pub again-goes : (k e : ℕ) (o : Order) → eqb (f k) 7 ≡ true → Goes f (k + 1) e o (again k o)
   again-goes k e o q = goes-marked f k active o (again k o) refl (rw q) (goes-runs f (k + 1) e (marked k active o))
 
-  joins-goes : (k e : ℕ) (within : Acts) (o : Order) → Goes f (k + 1) e o (joins k within o)
+  pub joins-goes : (k e : ℕ) (within : Acts) (o : Order) → Goes f (k + 1) e o (joins k within o)
   unfolding joins
   joins-goes k e within o = goes-either f (quiet (k + 1) (sizes within) (o .marks)) (finishes k o) (runs o) (joins k within o) refl (finishes-goes f k e o) (goes-runs f (k + 1) e o)
 
-  follows-goes : {within : Acts} (k t : ℕ) (o : Order) → KnowsIn f within (k + 1) → k + 1 + sizes within ≤ length (o .marks)
+  pub follows-goes : {within : Acts} (k t : ℕ) (o : Order) → KnowsIn f within (k + 1) → k + 1 + sizes within ≤ length (o .marks)
       → Goes f (k + 1) (k + 1 + sizes within) o (whereOver (finishes k) (begunIn o (beginAfter within (k + 1) t (o .marks))))
   follows-goes {within} k t o y m =
       goes-where f (finishes k) (begunIn o (beginAfter within (k + 1) t (o .marks))) (goes-begun f o (beginAfter within (k + 1) t (o .marks)) (after-began f y t (o .marks) m) (omega arith) (omega arith))
@@ -665,7 +665,7 @@ module _ (f : ℕ → ℕ) where
         (sym (second-of (eqb k t) (performs actor own within q₀ k o) (combines own within k t (stepAmong actor within (isScope own) q₀ (k + 1) t (arms own within k t o))) (stepIn actor (act own within) q₀ k t o) refl e))
         (steps-lower (ownsIn (act own within) k t) (omega arith) (within-steps actor own within q₀ k t o x n r y (omega arith) (eqb-false k t e) (λ o₁ l. among-steps actor y (isScope own) q₀ t o₁ (omega arith)))))
 
-    among-steps : (actor : Actor) {l : Acts} {c : ℕ} → KnowsIn f l c → (v : Bool) (q₀ t : ℕ) (o : Order) → c + sizes l ≤ length (o .marks) → Steps (ownsAmong l c t) c o (stepAmong actor l v q₀ c t o)
+    pub among-steps : (actor : Actor) {l : Acts} {c : ℕ} → KnowsIn f l c → (v : Bool) (q₀ t : ℕ) (o : Order) → c + sizes l ≤ length (o .marks) → Steps (ownsAmong l c t) c o (stepAmong actor l v q₀ c t o)
     among-steps actor (knows-none {c}) v q₀ t o h = still-steps (ownsAmong none c t) c o (λ j. false≢true)
     among-steps actor (knows-more {a} {l} {c} x y) v q₀ t o h =
         decide (ltb t (c + size a))

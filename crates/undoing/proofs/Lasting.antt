@@ -67,7 +67,7 @@ module _ (f : ℕ → ℕ) where
   either-began {k} {n} {ms} true x y z e b d = subst (λ (r : Begun). Began f k n ms r) (sym e) (b refl)
   either-began {k} {n} {ms} false x y z e b d = subst (λ (r : Begun). Began f k n ms r) (sym e) d
 
-  scope-needs : (own : Own) (n : ℕ) → isScope own ≡ true → needs own ≤ n → 2 ≤ n
+  pub scope-needs : (own : Own) (n : ℕ) → isScope own ≡ true → needs own ≤ n → 2 ≤ n
   unfolding needs
   scope-needs own n s h = decide (hasUndo own) (λ u. let z : 3 ≤ n = rw (s, u) at h in omega arith) (λ u. rw (s, u) at h)
 

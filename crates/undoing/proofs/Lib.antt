@@ -62,8 +62,16 @@ pub mod OnceSteps
 pub mod OnceOver
 pub mod Nearing
 pub mod NearTold
-pub mod Firmly
-pub mod Weighed
+pub mod Dropping
+pub mod Bodies
+pub mod Afresh
+pub mod AfreshSteps
+pub mod AfreshTold
+pub mod Upright
+pub mod Growing
+pub mod Passing
+pub mod Moving
+pub mod Deciding
 pub mod AnsweredExamples
 pub mod Sure
 pub mod Lessening
@@ -74,3 +82,4 @@ pub mod Pushing
 pub mod Booked
 pub mod TakenBack
 pub mod AsOften
+pub mod Firmly

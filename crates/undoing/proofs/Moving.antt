@@ -18,7 +18,7 @@ use Rattle.machine.specs.declared.Message.{Message}
 use Rattle.machine.specs.declared.State.{State}
 use Rattle.machine.specs.declared.Tally.{Tally}
 use Rattle.order.specs.Lists.{every, some}
-use Rattle.order.specs.State.{root, idle, done, halted, withdrawing, markAt, isLive, noOrder}
+use Rattle.order.specs.State.{Name, root, idle, done, halted, withdrawing, markAt, markOf, isLive, noOrder}
 use Rattle.machine.specs.State.{fresh}
 use Rattle.machine.specs.Limits.{rootInLimits}
 use Rattle.order.specs.Event.{Event, started, ended}
@@ -36,8 +36,8 @@ use Rattle.undoing.specs.History.{logOf}
 use Rattle.undoing.specs.Ties.{isTaken}
 use Rattle.undoing.specs.Orderly.{isBeganOf}
 use Rattle.undoing.specs.Begun.{kindAt, lasts, hasBegan, Taken, takenBy, stepsTaken}
-use Rattle.undoing.specs.Entirely.{ofAll, standsIn}
-use Rattle.undoing.specs.Onward.{hadBy, isRash, standsUnder, mayBeOver, isKept, KeptRunning, laterBegan, goesOn, passesIn, passesAmong, isPassed, PassedOn}
+use Rattle.undoing.specs.Entirely.{ofAll, isRash, standsIn}
+use Rattle.undoing.specs.Onward.{hadBy, standsUnder, mayBeOver, isKept, KeptRunning, laterBegan, goesOn, passesIn, passesAmong, isPassed, PassedOn}
 use Rattle.undoing.proofs.Parts.{both, decide, every-append, some-append}
 use Rattle.undoing.proofs.Accounts.{phase}
 use Rattle.undoing.proofs.Marks.{Quiet, turned-waits, turned-undoes, turned-heals, turned-not-open}
@@ -48,7 +48,7 @@ use Rattle.undoing.proofs.Planning.{Promised, promised}
 use Rattle.undoing.proofs.Waiting.{Waits, quiet-waits, waits-from}
 use Rattle.undoing.proofs.Scoping.{scope-live, scope-done, scope-turned, Running, StepsAs}
 use Rattle.undoing.proofs.Scoping as scoping
-use Rattle.undoing.proofs.Stepping.{steps, steps-stopped, steps-undoing}
+use Rattle.undoing.proofs.Stepping.{awake-first, steps, steps-stopped, steps-undoing}
 use Rattle.undoing.proofs.Roots.{Awaited, in-body, in-fault, Standing}
 use Rattle.undoing.proofs.Roots as roots
 use Rattle.undoing.proofs.Slots.{standing-live, Alike, taking-alike, alike-awaited, alike-stands, alike-holds, order-starts}
@@ -57,14 +57,13 @@ use Rattle.undoing.proofs.Demanded.{step-after}
 use Rattle.undoing.proofs.Truly.{Up, Knows}
 use Rattle.undoing.proofs.Lasting.{Within}
 use Rattle.undoing.proofs.Keeping as keeping
-use Rattle.undoing.proofs.Entire.{Named}
 use Rattle.undoing.proofs.BegunTold.{body-knows, fault-knows}
-use Rattle.undoing.proofs.EntirelyTold.{each-below, formed-named}
+use Rattle.undoing.proofs.EntirelyTold.{each-below}
 use Rattle.undoing.proofs.NearTold.{awaited-to}
 use Rattle.undoing.proofs.Coming.{in-first, in-later}
-use Rattle.undoing.proofs.Dropping.{isBad, Drops, step-drops, root-drops}
+use Rattle.undoing.proofs.Dropping.{isBad, Drops, step-drops, root-drops, body-has, fault-has, calmer, not-bad}
 use Rattle.undoing.proofs.AfreshSteps.{Stood}
-use Rattle.undoing.proofs.Growing.{body-has, fault-has, calmer, not-bad, body-grows, fault-grows, step-grows}
+use Rattle.undoing.proofs.Growing.{body-grows, fault-grows, step-grows}
 use Rattle.undoing.proofs.Passing.{Onward, on-later, on-lives, Thru, thru-here, thru-in, ThruIn, thru-first, thru-later, Passes, thru-map, thru-in-map, later-more, live-passes, waits-passes, undoes-passes, fault-passes, thru-run, thru-stopped, thru-undoing, thru-part}
 
 -- a log without its last, or without its first
@@ -80,9 +79,6 @@ module _ (p : Plan) (h : Promised p) where
 
   kf : Knows (kindAt p) (p .fault) (size (p .body))
   kf = fault-knows p h
-
-  nf : Named (kindAt p) (p .fault)
-  nf = formed-named (kindAt p) (h .fault)
 
   body-stood : Stood p (p .body) 0
   body-stood = record { at = λ j x y. in-first (p .body) (more (p .fault) none) 0 j (omega arith) }
@@ -108,19 +104,19 @@ module _ (p : Plan) (h : Promised p) where
     m = st .many
 
     -- where the step is
-    root-body : t < size (p .body) → stepRoot actor p t o ≡ fromBody (rootOf p) (stepIn actor (p .body) 0 t o)
+    root-body : t < size (p .body) → stepRoot actor p t o ≡ fromBody (rootOf p) (stepIn actor (p .body) 0 0 t o)
     unfolding stepRoot
-    root-body e = first-of (ltb t (size (p .body))) (fromBody (rootOf p) (stepIn actor (p .body) 0 t o)) (fromFault (rootOf p) (stepIn actor (p .fault) (size (p .body)) t o)) (stepRoot actor p t o) refl (lt-ltb t (size (p .body)) e)
+    root-body e = first-of (ltb t (size (p .body))) (fromBody (rootOf p) (stepIn actor (p .body) 0 0 t o)) (fromFault (rootOf p) (stepIn actor (p .fault) (size (p .body)) (size (p .body)) t o)) (stepRoot actor p t o) refl (lt-ltb t (size (p .body)) e)
 
-    root-fault : size (p .body) ≤ t → stepRoot actor p t o ≡ fromFault (rootOf p) (stepIn actor (p .fault) (size (p .body)) t o)
+    root-fault : size (p .body) ≤ t → stepRoot actor p t o ≡ fromFault (rootOf p) (stepIn actor (p .fault) (size (p .body)) (size (p .body)) t o)
     unfolding stepRoot
-    root-fault e = second-of (ltb t (size (p .body))) (fromBody (rootOf p) (stepIn actor (p .body) 0 t o)) (fromFault (rootOf p) (stepIn actor (p .fault) (size (p .body)) t o)) (stepRoot actor p t o) refl (le-ltb t (size (p .body)) e)
+    root-fault e = second-of (ltb t (size (p .body))) (fromBody (rootOf p) (stepIn actor (p .body) 0 0 t o)) (fromFault (rootOf p) (stepIn actor (p .fault) (size (p .body)) (size (p .body)) t o)) (stepRoot actor p t o) refl (le-ltb t (size (p .body)) e)
 
     module _ (c : some isRash (stepRoot actor p t o .log) ≡ false) where
-      calm-body : t < size (p .body) → some isRash (fromBody (rootOf p) (stepIn actor (p .body) 0 t o) .log) ≡ false
+      calm-body : t < size (p .body) → some isRash (fromBody (rootOf p) (stepIn actor (p .body) 0 0 t o) .log) ≡ false
       calm-body e = subst (λ (r : Outcome). some isRash (r .log) ≡ false) (root-body e) c
 
-      calm-fault : size (p .body) ≤ t → some isRash (fromFault (rootOf p) (stepIn actor (p .fault) (size (p .body)) t o) .log) ≡ false
+      calm-fault : size (p .body) ≤ t → some isRash (fromFault (rootOf p) (stepIn actor (p .fault) (size (p .body)) (size (p .body)) t o) .log) ≡ false
       calm-fault e = subst (λ (r : Outcome). some isRash (r .log) ≡ false) (root-fault e) c
 
       root-grows : (j : ℕ) → lasts (kindAt p j) ≡ true → (j ≤ t → t < j + size (actAt p j) → (eqb (kindAt p j) 7 && ltb j t) ≡ true) → (t < j → j < t + size (actAt p t) → ⊥) → Up (o .marks) j → Up (stepRoot actor p t o .order .marks) j
@@ -128,68 +124,69 @@ module _ (p : Plan) (h : Promised p) where
         where
           go : Awaited p (o .marks) t → Up (stepRoot actor p t o .order .marks) j
           go (in-body e w) =
-              let its = stepIn actor (p .body) 0 t o in
+              let its = stepIn actor (p .body) 0 0 t o in
               let i = calmer (its .log) (fromBody (rootOf p) its .log) (body-has isRash (rootOf p) its) (calm-body e) in
               subst (λ (r : Outcome). Up (r .order .marks) j) (sym (root-body e))
-              (body-grows (kindAt p) (rootOf p) 0 (size (p .body) + size (p .fault)) parts its (omega (arith, m, keeping.step-steps (kindAt p) actor kb t o (omega (arith, m)) .long)) (not-bad o its (step-drops (kindAt p) t actor kb o) i) j l (λ d. omega arith)
-              (step-grows (kindAt p) actor p t j l off under kb body-stood (omega arith) (omega arith) o (omega (arith, m)) i u))
+              (body-grows (kindAt p) (rootOf p) 0 (size (p .body) + size (p .fault)) parts its (omega (arith, m, keeping.step-steps (kindAt p) actor kb 0 t o (omega (arith, m)) .long)) (not-bad o its (step-drops (kindAt p) t actor kb 0 o) i) j l (λ d. omega arith)
+              (step-grows (kindAt p) actor p t j l off under kb body-stood 0 (omega arith) (omega arith) o (omega (arith, m)) i u))
           go (in-fault e w) =
-              let its = stepIn actor (p .fault) (size (p .body)) t o in
+              let its = stepIn actor (p .fault) (size (p .body)) (size (p .body)) t o in
               let i = calmer (its .log) (fromFault (rootOf p) its .log) (fault-has isRash (rootOf p) its) (calm-fault e) in
               subst (λ (r : Outcome). Up (r .order .marks) j) (sym (root-fault e))
-              (fault-grows (kindAt p) (rootOf p) 0 (size (p .body) + size (p .fault)) parts its (omega (arith, m, keeping.step-steps (kindAt p) actor kf t o (omega (arith, m)) .long)) (not-bad o its (step-drops (kindAt p) t actor kf o) i) j l (λ d. omega arith)
-              (step-grows (kindAt p) actor p t j l off under kf fault-stood e (awaited-to {p = p} {ms = o .marks} {t = t} (in-fault e w)) o (omega (arith, m)) i u))
+              (fault-grows (kindAt p) (rootOf p) 0 (size (p .body) + size (p .fault)) parts its (omega (arith, m, keeping.step-steps (kindAt p) actor kf (size (p .body)) t o (omega (arith, m)) .long)) (not-bad o its (step-drops (kindAt p) t actor kf (size (p .body)) o) i) j l (λ d. omega arith)
+              (step-grows (kindAt p) actor p t j l off under kf fault-stood (size (p .body)) e (awaited-to {p = p} {ms = o .marks} {t = t} (in-fault e w)) o (omega (arith, m)) i u))
 
-      root-thru : ThruIn p (h .distinct) actor (kindAt p) t o (stepRoot actor p t o) whole 0
+      root-thru : ThruIn p actor (kindAt p) t o (stepRoot actor p t o) whole 0
       root-thru = go a
         where
-          go : Awaited p (o .marks) t → ThruIn p (h .distinct) actor (kindAt p) t o (stepRoot actor p t o) whole 0
-          go (in-body e w) = thru-first {a = p .body} {l = more (p .fault) none} {c = 0} (omega arith) (subst (λ (r : Outcome). Thru p (h .distinct) actor (kindAt p) t o r (p .body) 0) (sym (root-body e)) (on (st .runs)))
+          go : Awaited p (o .marks) t → ThruIn p actor (kindAt p) t o (stepRoot actor p t o) whole 0
+          go (in-body e w) = thru-first {a = p .body} {l = more (p .fault) none} {c = 0} (omega arith) (subst (λ (r : Outcome). Thru p actor (kindAt p) t o r (p .body) 0) (sym (root-body e)) (on (st .runs)))
             where
               its : Outcome
-              its = stepIn actor (p .body) 0 t o
+              its = stepIn actor (p .body) 0 0 t o
 
               i : some isRash (its .log) ≡ false
               i = calmer (its .log) (fromBody (rootOf p) its .log) (body-has isRash (rootOf p) its) (calm-body e)
 
-              mapped : Passes p (h .distinct) actor (kindAt p) t o its (fromBody (rootOf p) its) 0 (size (p .body)) → Thru p (h .distinct) actor (kindAt p) t o its (p .body) 0 → Thru p (h .distinct) actor (kindAt p) t o (fromBody (rootOf p) its) (p .body) 0
-              mapped w x = thru-map p (h .distinct) actor (kindAt p) t o w x (omega arith) (omega arith)
+              mapped : Passes p actor (kindAt p) t o its (fromBody (rootOf p) its) 0 (size (p .body)) → Thru p actor (kindAt p) t o its (p .body) 0 → Thru p actor (kindAt p) t o (fromBody (rootOf p) its) (p .body) 0
+              mapped w x = thru-map p actor (kindAt p) t o w x (omega arith) (omega arith)
 
-              on : Running (rootOf p) (o .marks) (o .root) → Thru p (h .distinct) actor (kindAt p) t o (fromBody (rootOf p) its) (p .body) 0
+              on : Running (rootOf p) (o .marks) (o .root) → Thru p actor (kindAt p) t o (fromBody (rootOf p) its) (p .body) 0
               on (scope-live d r q) =
-                  mapped (live-passes p (h .distinct) actor (kindAt p) t o (rootOf p) (h .seat) 0 (size (p .body) + size (p .fault)) parts nf (omega arith) (omega (arith, m)) (λ j x y. omega arith) (λ j x y. omega arith) (calm-body e) q r
-                  (steps p (h .distinct) actor (h .seat .body) t o false w refl r (ap phase d) (omega (arith, m))))
-                  (thru-run p (h .distinct) actor (kindAt p) t o (h .seat .body) kb false w refl r (ap phase d) (omega (arith, m)) i)
+                  mapped (live-passes p actor (kindAt p) t o (rootOf p) (h .seat) 0 (size (p .body) + size (p .fault)) parts (omega arith) (omega (arith, m)) (λ j x y. omega arith) (λ j x y. omega arith) (calm-body e) d
+                  (steps p actor (h .seat .body) 0 t o false (h .seat .at) w refl r (ap phase d) (omega (arith, m))))
+                  (thru-run p actor (kindAt p) t o (h .seat .body) kb 0 (h .seat .at) false w refl r (ap phase d) (omega (arith, m)) i)
               on (scope-done d q z) = absurd (st .going d)
               on (scope-turned (turned-waits {w = a} q z _ v)) =
-                  mapped (waits-passes p (h .distinct) actor (kindAt p) t o (rootOf p) (h .seat) 0 (size (p .body) + size (p .fault)) parts nf (omega arith) (omega (arith, m)) (λ j x y. omega arith) (λ j x y. omega arith) (calm-body e) a q v z
-                  (steps-stopped p (h .distinct) actor (h .seat .body) t o false w refl z (omega (arith, m))))
-                  (thru-stopped p (h .distinct) actor (kindAt p) t o (h .seat .body) kb false w refl z (omega (arith, m)) i)
+                  mapped (waits-passes p actor (kindAt p) t o (rootOf p) (h .seat) 0 (size (p .body) + size (p .fault)) parts (omega arith) (omega (arith, m)) (λ j x y. omega arith) (λ j x y. omega arith) (calm-body e)
+                  (steps-stopped p actor (h .seat .body) 0 t o false (h .seat .at) w refl z (omega (arith, m))))
+                  (thru-stopped p actor (kindAt p) t o (h .seat .body) kb 0 (h .seat .at) false w refl z (omega (arith, m)) i)
               on (scope-turned (turned-undoes {w = a} q z v)) =
-                  mapped (undoes-passes p (h .distinct) actor (kindAt p) t o (rootOf p) (h .seat) 0 (size (p .body) + size (p .fault)) parts nf (omega arith) (omega (arith, m)) (λ j x y. omega arith) (λ j x y. omega arith) (calm-body e) a q v
-                  (steps-undoing p (h .distinct) actor (h .seat .body) t o false w refl z (a, q) (omega (arith, m))))
-                  (thru-undoing p (h .distinct) actor (kindAt p) t o (h .seat .body) kb false w refl z (a, q) (omega (arith, m)) i)
+                  let r₀ = awake-first p actor (λ n. markOf n o) root (h .seat .beyond) a q in
+                  mapped (undoes-passes p actor (kindAt p) t o (rootOf p) (h .seat) 0 (size (p .body) + size (p .fault)) parts (omega arith) (omega (arith, m)) (λ j x y. omega arith) (λ j x y. omega arith) (calm-body e) a q
+                  (steps-undoing p actor (h .seat .body) 0 t o false (h .seat .at) w refl z root r₀ (a, ap (λ (n : Name). phase (markOf n o)) r₀ ∙ q) (omega (arith, m))))
+                  (thru-undoing p actor (kindAt p) t o (h .seat .body) kb 0 (h .seat .at) false w refl z root r₀ (a, ap (λ (n : Name). phase (markOf n o)) r₀ ∙ q) (omega (arith, m)) i)
               on (scope-turned (turned-heals q z v)) = absurd (quiet-waits w refl z)
-          go (in-fault e w) = later (subst (λ (r : Outcome). Thru p (h .distinct) actor (kindAt p) t o r (p .fault) (size (p .body))) (sym (root-fault e)) (on (st .runs)))
+          go (in-fault e w) = later (subst (λ (r : Outcome). Thru p actor (kindAt p) t o r (p .fault) (size (p .body))) (sym (root-fault e)) (on (st .runs)))
             where
               its : Outcome
-              its = stepIn actor (p .fault) (size (p .body)) t o
+              its = stepIn actor (p .fault) (size (p .body)) (size (p .body)) t o
 
               i : some isRash (its .log) ≡ false
               i = calmer (its .log) (fromFault (rootOf p) its .log) (fault-has isRash (rootOf p) its) (calm-fault e)
 
-              later : Thru p (h .distinct) actor (kindAt p) t o (stepRoot actor p t o) (p .fault) (size (p .body)) → ThruIn p (h .distinct) actor (kindAt p) t o (stepRoot actor p t o) whole 0
-              later x = thru-later {a = p .body} {l = more (p .fault) none} {c = 0} (omega arith) (subst (λ (c : ℕ). ThruIn p (h .distinct) actor (kindAt p) t o (stepRoot actor p t o) (more (p .fault) none) c) (omega arith) (thru-first {a = p .fault} {l = none} {c = size (p .body)} (awaited-to {p = p} {ms = o .marks} {t = t} (in-fault e w)) x))
+              later : Thru p actor (kindAt p) t o (stepRoot actor p t o) (p .fault) (size (p .body)) → ThruIn p actor (kindAt p) t o (stepRoot actor p t o) whole 0
+              later x = thru-later {a = p .body} {l = more (p .fault) none} {c = 0} (omega arith) (subst (λ (c : ℕ). ThruIn p actor (kindAt p) t o (stepRoot actor p t o) (more (p .fault) none) c) (omega arith) (thru-first {a = p .fault} {l = none} {c = size (p .body)} (awaited-to {p = p} {ms = o .marks} {t = t} (in-fault e w)) x))
 
-              on : Running (rootOf p) (o .marks) (o .root) → Thru p (h .distinct) actor (kindAt p) t o (fromFault (rootOf p) its) (p .fault) (size (p .body))
+              on : Running (rootOf p) (o .marks) (o .root) → Thru p actor (kindAt p) t o (fromFault (rootOf p) its) (p .fault) (size (p .body))
               on (scope-live d r q) = absurd (quiet-waits w refl q)
               on (scope-done d q z) = absurd (st .going d)
               on (scope-turned (turned-waits q z _ v)) = absurd (quiet-waits w refl v)
               on (scope-turned (turned-undoes q z v)) = absurd (quiet-waits w refl v)
               on (scope-turned (turned-heals q z v)) =
-                  thru-map p (h .distinct) actor (kindAt p) t o
-                  (fault-passes p (h .distinct) actor (kindAt p) t o (rootOf p) (h .seat) 0 (size (p .body) + size (p .fault)) parts nf (omega arith) (omega (arith, m)) (λ j x y. omega arith) (λ j x y. omega arith) (calm-fault e))
-                  (thru-part p (h .distinct) actor (kindAt p) t o (h .seat .fault) kf false w refl v q (omega (arith, m)) i) (omega arith) (omega arith)
+                  thru-map p actor (kindAt p) t o
+                  (fault-passes p actor (kindAt p) t o (rootOf p) (h .seat) 0 (size (p .body) + size (p .fault)) parts (omega arith) (omega (arith, m)) (λ j x y. omega arith) (λ j x y. omega arith) (calm-fault e))
+                  (thru-part p actor (kindAt p) t o (h .seat .fault) kf (size (p .body)) tt false w refl v q (omega (arith, m)) i) (omega arith) (omega arith)
 
     -- what the order becomes
     record Moves (r : Outcome) (q : Order) (l : List Event) : Type 0 where
@@ -216,7 +213,7 @@ module _ (p : Plan) (h : Promised p) where
         r = stepRoot actor p t o
 
         w : scoping.Steps p (rootOf p) (Running (rootOf p)) o r
-        w = roots.root-steps p (h .distinct) actor (h .seat) t o a st x y
+        w = roots.root-steps p actor (h .seat) t o a st x y
 
         same : (q : Order) → ((j : ℕ) → j < size (p .body) + size (p .fault) → Up (r .order .marks) j → Up (q .marks) j) → Moves r q (r .log)
         same q g = record { more-log = λ i d. d; same-log = λ i d. d; up = g }
@@ -247,7 +244,7 @@ module _ (p : Plan) (h : Promised p) where
   -- As the tests have it: by the marks and the log after the step.
   module _ (actor : Actor) (t : ℕ) (o : Order) (r : Outcome) (v : Bool) (ns : List ℕ) (l : List Event) (more-log : (i : ℕ) → hasBegan i (r .log) ≡ true → hasBegan i l ≡ true)
       (up : (j : ℕ) → j < size (p .body) + size (p .fault) → Up (r .order .marks) j → Up ns j) (same-log : v ≡ false → (i : ℕ) → hasBegan i (r .log) ≡ false → hasBegan i l ≡ false) where
-    goes-told : (within : Acts) (k : ℕ) → k + 1 + sizes within ≤ size (p .body) + size (p .fault) → Onward p (h .distinct) actor (kindAt p) t o within k r → goesOn v within k t ns l ≡ true
+    goes-told : (within : Acts) (k : ℕ) → k + 1 + sizes within ≤ size (p .body) + size (p .fault) → Onward p actor (kindAt p) t o within k r → goesOn v within k t ns l ≡ true
     unfolding goesOn
     goes-told within k n (on-later z) = rw (later-more within (k + 1) t (r .log) l more-log z, or-true)
     goes-told within k n (on-lives j a b e u z) = rw (again v refl, loud)
@@ -259,7 +256,7 @@ module _ (p : Plan) (h : Promised p) where
         loud : quiet (k + 1) (sizes within) ns ≡ false
         loud = decide (quiet (k + 1) (sizes within) ns) (λ d. absurd (false≢true (sym (up j (omega arith) u) ∙ ap (λ (m : ℕ). eqb m idle) (quiet-found (sizes within) (k + 1) ns d .at j (omega arith) b)))) (λ d. d)
 
-    node-told : (own : Own) (within : Acts) (k : ℕ) → k + 1 + sizes within ≤ size (p .body) + size (p .fault) → (eqb (kind own) 8 ≡ true → Up (o .marks) k → Onward p (h .distinct) actor (kindAt p) t o within k r)
+    node-told : (own : Own) (within : Acts) (k : ℕ) → k + 1 + sizes within ≤ size (p .body) + size (p .fault) → (eqb (kind own) 8 ≡ true → Up (o .marks) k → Onward p actor (kindAt p) t o within k r)
         → ((not (eqb (kind own) 8) || eqb (getD (o .marks) k 0) idle) || goesOn v within k t ns l) ≡ true
     node-told own within k n g =
         decide (eqb (kind own) 8)
@@ -269,11 +266,11 @@ module _ (p : Plan) (h : Promised p) where
     mutual
       unfolding passesIn size
 
-      thru-told : {a : Act} {k : ℕ} → Thru p (h .distinct) actor (kindAt p) t o r a k → k + size a ≤ size (p .body) + size (p .fault) → passesIn v a k t (o .marks) ns l ≡ true
+      thru-told : {a : Act} {k : ℕ} → Thru p actor (kindAt p) t o r a k → k + size a ≤ size (p .body) + size (p .fault) → passesIn v a k t (o .marks) ns l ≡ true
       thru-told (thru-here {own} {within} {k} e) n = rw (eq-eqb k t e)
       thru-told (thru-in {own} {within} {k} lt g x) n = rw (node-told own within k (omega arith) g, thru-in-told x (omega arith), or-true)
 
-      thru-in-told : {x : Acts} {c : ℕ} → ThruIn p (h .distinct) actor (kindAt p) t o r x c → c + sizes x ≤ size (p .body) + size (p .fault) → passesAmong v x c t (o .marks) ns l ≡ true
+      thru-in-told : {x : Acts} {c : ℕ} → ThruIn p actor (kindAt p) t o r x c → c + sizes x ≤ size (p .body) + size (p .fault) → passesAmong v x c t (o .marks) ns l ≡ true
       thru-in-told (thru-first {a = a} {l = x} {c = c} e w) n = first-of (ltb t (c + size a)) (passesIn v a c t (o .marks) ns l) (passesAmong v x (c + size a) t (o .marks) ns l) (passesAmong v (more a x) c t (o .marks) ns l) refl (lt-ltb t (c + size a) e) ∙ thru-told w (omega arith)
       thru-in-told (thru-later {a = a} {l = x} {c = c} e w) n = second-of (ltb t (c + size a)) (passesIn v a c t (o .marks) ns l) (passesAmong v x (c + size a) t (o .marks) ns l) (passesAmong v (more a x) c t (o .marks) ns l) refl (le-ltb t (c + size a) e) ∙ thru-in-told w (omega arith)
 

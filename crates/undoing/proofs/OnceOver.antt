@@ -17,8 +17,8 @@ use Rattle.order.specs.declared.End.the-variants.{None, Well, Handled, Failed, 
 use Rattle.machine.specs.declared.Message.{Message}
 use Rattle.machine.specs.declared.State.{State}
 use Rattle.machine.specs.declared.Tally.{Tally}
-use Rattle.order.specs.Lists.{every}
-use Rattle.order.specs.State.{Name, root, markOf, isLive, noOrder}
+use Rattle.order.specs.Lists.{every, some}
+use Rattle.order.specs.State.{Name, idle, root, markOf, isLive, noOrder}
 use Rattle.machine.specs.State.{fresh}
 use Rattle.order.specs.Event.{Event, started, ended}
 use Rattle.order.specs.Scope.{Outcome, rootOf, fromBody, fromFault}
@@ -27,8 +27,8 @@ use Rattle.machine.specs.Calls.{loadedAs, load, post, collect, Stepped, doingAt
 use Rattle.undoing.specs.History.{logOf}
 use Rattle.undoing.specs.Ties.{isTaken}
 use Rattle.undoing.specs.Orderly.{isBeganOf}
-use Rattle.undoing.specs.Begun.{kindAt, lasts, Taken, numbers, takenBy, stepsTaken}
-use Rattle.undoing.specs.Entirely.{ofAll, times, isOnce, BegunOnce}
+use Rattle.undoing.specs.Begun.{hasBegan, kindAt, lasts, Taken, numbers, takenBy, stepsTaken}
+use Rattle.undoing.specs.Entirely.{ofAll, times, isOnce, isRash, BegunOnce}
 use Rattle.undoing.proofs.Parts.{decide, every-append}
 use Rattle.undoing.proofs.Accounts.{phase}
 use Rattle.undoing.proofs.Marks.{turned-waits, turned-undoes, turned-heals}
@@ -43,11 +43,15 @@ use Rattle.undoing.proofs.Slots.{standing-live, Alike, taking-alike, al
 use Rattle.undoing.proofs.Happening.{orderIn, withMessage, Happens, nothing-here, goes-here, starts-here, step-happens}
 use Rattle.undoing.proofs.Demanded.{step-after}
 use Rattle.undoing.proofs.Truly.{Knows}
-use Rattle.undoing.proofs.BegunTold.{body-knows, fault-knows}
+use Rattle.undoing.proofs.BegunTold.{body-knows, fault-knows, start-began}
 use Rattle.undoing.proofs.Entire.{times-append, times-event}
 use Rattle.undoing.proofs.Single.{Once, once-light, light-none, Onto, begin-onto}
-use Rattle.undoing.proofs.OnceTold.{fault-once}
+use Rattle.undoing.proofs.OnceTold.{none-times, fault-once}
 use Rattle.undoing.proofs.OnceSteps.{live-body, waits-body, undoing-body, once-run, once-stopped, once-undoing, once-part}
+use Rattle.undoing.proofs.Bodies.{begin-bodies}
+use Rattle.undoing.proofs.Afresh.{Fresh, New, new-idle, new-again}
+use Rattle.undoing.proofs.AfreshSteps.{Again}
+use Rattle.undoing.proofs.AfreshTold.{order-fresh}
 use Rattle.undoing.proofs.EachTime.{time, OfTimes, OfStarts, each-time}
 use Rattle.undoing.proofs.EntirelyTold.{each-below}
 
@@ -112,14 +116,38 @@ module _ (p : Plan) (h : Promised p) where
   unfolding begunOrder isBeganOf
   start-times k = let e = times-event k started (begunOrder p .log) refl in let w = begin-onto (kindAt p) kb (noOrder .marks) .once k in omega arith
 
-  is-once : (x : Taken) (k : ℕ) → (lasts (kindAt p k) ≡ true → times k (x .log) ≤ cond (isLive (x .before)) 1 2) → isOnce p x k ≡ true
+  is-once : (x : Taken) (k : ℕ) → (lasts (kindAt p k) ≡ true → times k (x .log) ≤ 1) → isOnce p x k ≡ true
   unfolding isOnce
-  is-once x k g = decide (lasts (kindAt p k)) (λ l. rw (l, le-leb (times k (x .log)) (cond (isLive (x .before)) 1 2) (g l))) (λ l. rw l)
+  is-once x k g = decide (lasts (kindAt p k)) (λ l. rw (l, le-leb (times k (x .log)) 1 (g l))) (λ l. rw l)
+
+  -- what an order that starts begins with does not begin again in its first step
+  start-once : (t : ℕ) (m : Message) → Awaited p (startedOrder p .marks) t → Standing p (startedOrder p) → (k : ℕ) → lasts (kindAt p k) ≡ true → hasBegan k (begunOrder p .log) ≡ true
+      → hasBegan k (acted itsOwn p t (withMessage p t m (startedOrder p)) .log) ≡ true → ⊥
+  unfolding startedOrder begunOrder some isBeganOf
+  start-once t m x st k l b d = so (subst (λ (ms : List ℕ). Fresh p (kindAt p) (Again p t ms (some isRash (acted itsOwn p t (withMessage p t m (startedOrder p)) .log))) ms (acted itsOwn p t (withMessage p t m (startedOrder p)) .log)) (like .marks) (order-fresh p h itsOwn t (withMessage p t m (startedOrder p)) (alike-awaited like t x) (alike-stands p (startedOrder p) (withMessage p t m (startedOrder p)) like st)) .at k d)
+    where
+      like : Alike p (startedOrder p) (withMessage p t m (startedOrder p))
+      like = taking-alike p (doingAt p t) m (startedOrder p)
+
+      so : New p (kindAt p) (Again p t (startedOrder p .marks) (some isRash (acted itsOwn p t (withMessage p t m (startedOrder p)) .log))) (startedOrder p .marks) k → ⊥
+      so (new-idle e) = false≢true (sym (start-began p h .truly k l b) ∙ ap (λ (v : ℕ). eqb v idle) e)
+      so (new-again e) = false≢true (sym (begin-bodies p (h .seat .body) refl (noOrder .marks) .at k b) ∙ e .place)
+
+  after-start : (k : ℕ) (l : List Event) → hasBegan k (started ∷ l) ≡ true → hasBegan k l ≡ true
+  unfolding some isBeganOf
+  after-start k l e = e
+
+  once-both : (k : ℕ) (l m : List Event) → times k l ≤ 1 → times k m ≤ 1 → (hasBegan k l ≡ true → hasBegan k m ≡ true → ⊥) → times k (l ++ m) ≤ 1
+  once-both k l m a b g =
+      let e = times-append k l m in
+      decide (hasBegan k l)
+      (λ x. decide (hasBegan k m) (λ y. absurd (g x y)) (λ y. let z = none-times k m y in omega arith))
+      (λ x. let z = none-times k l x in omega arith)
 
   once-time : OfTimes p (ofAll isOnce p)
   once-time actor t o o′ past like a st g =
       let x = time t o [] (acted actor p t o′) in
-      each-below (isOnce p x) (size (p .body) + size (p .fault)) (λ k n. is-once x k (λ j. rw (standing-live p o st)
+      each-below (isOnce p x) (size (p .body) + size (p .fault)) (λ k n. is-once x k (λ j.
       (order-once actor t o′ (alike-awaited like t a) (alike-stands p o o′ like st) .at k j)))
 
   once-start : OfStarts p (ofAll isOnce p)
@@ -129,9 +157,9 @@ module _ (p : Plan) (h : Promised p) where
       let x = time t o l (acted itsOwn p t o′) in
       let like = taking-alike p (doingAt p t) m (startedOrder p) in
       let st = order-starts p h t past n a .1 in
-      each-below (isOnce p x) (size (p .body) + size (p .fault)) (λ k i. is-once x k (λ j. rw z
-      (let c = order-once itsOwn t o′ (alike-awaited like t a) (alike-stands p (startedOrder p) o′ like st) .at k j in
-      let b = start-times k in let d = times-append k l (acted itsOwn p t o′ .log) in omega arith)))
+      each-below (isOnce p x) (size (p .body) + size (p .fault)) (λ k i. is-once x k (λ j.
+      once-both k l (acted itsOwn p t o′ .log) (start-times k) (order-once itsOwn t o′ (alike-awaited like t a) (alike-stands p (startedOrder p) o′ like st) .at k j)
+      (λ b d. start-once t m a st k j (after-start k (begunOrder p .log) b) d)))
 
 -- What lasts begins once.
 pub begun-once : BegunOnce

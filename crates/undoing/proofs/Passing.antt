@@ -7,43 +7,44 @@ use mathlib.Core.List.{List, [], _∷_, _++_}
 use lib.ListN.{length, getD}
 use lib.Dec.{eqb, ltb}
 use borrow.Author.Tests.{eqb-true, eqb-false, lt-ltb, le-ltb, ltb-true, ltb-false}
-use Rattle.plan.specs.Tree.{Own, empty, send, receive, set as setting, raise, leave, choose, repeat, sequence, flow, pick, scope, arm, kind, Act, act, Acts, none, more, Plan, size, sizes, count}
+use Rattle.plan.specs.Tree.{Own, empty, send, receive, set as setting, raise, leave, choose, repeat, sequence, flow, pick, scope, arm, kind, isScope, isPick, Act, act, Acts, none, more, Plan, size, sizes, count}
 use Rattle.order.specs.declared.Order.{Order}
 use Rattle.order.specs.Lists.{some}
-use Rattle.order.specs.State.{Name, root, inner, idle, active, inside, markAt, markOf}
+use Rattle.order.specs.State.{Name, root, inner, idle, active, inside, done, faulty, halted, markAt, markOf, marking}
 use Rattle.order.specs.Event.{Event}
 use Rattle.order.specs.Begin.{Begun, inTurn, begin, beginInTurn, beginAfter, part, partAt}
 use Rattle.order.specs.declared.Way.{Way as Result}
 use Rattle.order.specs.declared.Way.the-variants.{Running as running, Over as over, Raising as raising, Leaving as leaving, Undone as undone, UndoRaising as undoRaising}
-use Rattle.order.specs.Scope.{Outcome, runs, begunIn, whereOver, Scope, scopeAt, isScope, fromBody, fromFault, fromUndo}
+use Rattle.order.specs.Scope.{Outcome, runs, begunIn, whereOver, Scope, scopeAt, innerRuns, looksAgain, bodyOver, fromBody, fromFault, fromUndo}
 use Rattle.order.specs.Acting.{finishes, goesOn, combines, stepIn, stepAmong, isPart, Actor, performs}
-use Rattle.undoing.specs.Ties.{Place, bodyOf, faultOf, undoOf, nameOf, aroundOf}
+use Rattle.undoing.specs.Ties.{Place, bodyOf, faultOf, undoOf, nameOf, beyondOf, lastOf}
 use Rattle.undoing.specs.Orderly.{isBeganOf}
-use Rattle.undoing.specs.Begun.{lasts, hasBegan}
-use Rattle.undoing.specs.Entirely.{times}
-use Rattle.undoing.specs.Onward.{isRash, eachBegan, laterBegan}
+use Rattle.undoing.specs.Begun.{lasts, isScopeKind, hasBegan}
+use Rattle.undoing.specs.Entirely.{times, isRash}
+use Rattle.undoing.specs.Onward.{eachBegan, laterBegan}
 use Rattle.undoing.proofs.Parts.{both, decide, some-append}
 use Rattle.undoing.proofs.Accounts.{Phase, live, heals, phase}
 use Rattle.undoing.proofs.Places.{first-of, second-of}
-use Rattle.undoing.proofs.Marks.{trio, Quiet, isDoer, Run, run-awaits, run-one, run-all, run-body, run-done, run-turned, One, one-here, one-later, All, all-none, all-run, all-quiet, Turned, turned-waits, turned-undoes, turned-heals, Stopped, stopped-part, stopped-quiet, stopped-scope, StoppedIn, stopped-more, Undoing, undoing-part, undoing-scope, UndoingIn, undoing-here, undoing-later, quiet-part, quiet-join, turned-not-rest}
-use Rattle.undoing.proofs.Orders.{Fit, Sits, sits-part, sits-scope, SitsIn, sits-more, Remedy, remedy}
-use Rattle.undoing.proofs.Seats.{Seat}
+use Rattle.undoing.proofs.Marks.{trio, Quiet, isDoer, Run, run-awaits, run-one, run-all, run-body, run-done, run-turned, One, one-here, one-later, All, all-none, all-run, all-quiet, Turned, turned-waits, turned-undoes, turned-heals, Stopped, stopped-part, stopped-quiet, stopped-scope, StoppedIn, stopped-more, Undoing, undoing-part, undoing-scope, undoing-through, UndoingIn, undoing-here, undoing-later, quiet-part, quiet-join, turned-not-rest}
+use Rattle.undoing.proofs.Orders.{Fit, Sits, sits-part, sits-scope, SitsIn, sits-more, Remedy, remedy, Rest, rest-undo, rest-none}
+use Rattle.undoing.proofs.Moves.{runnerAt}
+use Rattle.undoing.proofs.Seats.{Seat, mark-kept, stopped-rests}
 use Rattle.undoing.proofs.Stopping.{seat-of}
 use Rattle.undoing.proofs.Waiting.{opens, Waits, waits-itself, waits-within, WaitsIn, waits-first, waits-later, waits-from, opens-idle, quiet-waits, quiet-waits-in, stopped-waits, undoing-waits}
-use Rattle.undoing.proofs.Breaking.{Distinct}
 use Rattle.undoing.proofs.Scoping.{Acted, RunAs, StopAs, UndoAs}
 use Rattle.undoing.proofs.Combining.{arms-held, arms-none}
-use Rattle.undoing.proofs.Stepping.{steps, steps-one, steps-all, steps-stopped, steps-stopped-in, steps-undoing, steps-undoing-in, steps-part, opens-held, stopped-part-not, undoing-part-not, body-step, fault-step, undo-step, Whole, Its}
-use Rattle.undoing.proofs.Truly.{Up, Arms, Knows, knows, KnowsIn, knows-none, knows-more}
-use Rattle.undoing.proofs.Lasting.{Within, scope-within}
+use Rattle.undoing.proofs.Stepping.{PartOf, through-is, awake-first, steps, steps-one, steps-all, steps-stopped, steps-stopped-in, steps-undoing, steps-undoing-in, steps-part, opens-held, stopped-part-not, undoing-part-not, body-step, fault-step, undo-step, Whole, Its}
+use Rattle.undoing.proofs.Truly.{Up, scope-kind, no-pick, Arms, Knows, knows, KnowsIn, knows-none, knows-more}
+use Rattle.undoing.proofs.Lasting.{Within, scope-needs, scope-within}
 use Rattle.undoing.proofs.Keeping.{begins-said}
 use Rattle.undoing.proofs.Keeping as keeping
 use Rattle.undoing.proofs.Entire.{Named}
 use Rattle.undoing.proofs.Entering.{step-at}
-use Rattle.undoing.proofs.Dropping.{isBad, step-drops, among-drops}
+use Rattle.undoing.proofs.Single.{looks-none, looks-still}
+use Rattle.undoing.proofs.Dropping.{isBad, step-drops, among-drops, body-has, fault-has, combines-has, calmer, not-bad}
 use Rattle.undoing.proofs.Afresh.{began-times, Fresh, New, new-idle, new-again, fault-fresh, fresh-append}
-use Rattle.undoing.proofs.AfreshSteps.{isOver, isUndone, its-own, its-within, its-first, its-later, after-fresh, combines-fresh, live-fresh, waits-fresh, undoes-fresh, arms-of}
-use Rattle.undoing.proofs.Growing.{body-has, fault-has, combines-has, calmer, not-bad, body-grows, fault-grows, combines-grows}
+use Rattle.undoing.proofs.AfreshSteps.{other-mark, isOver, isUndone, its-own, its-within, its-first, its-later, after-fresh, combines-fresh, arms-of}
+use Rattle.undoing.proofs.Growing.{body-grows, fault-grows, combines-grows}
 
 -- More events: what had begun has.
 each-more : (l : Acts) (c : ℕ) (m n : List Event) → ((i : ℕ) → hasBegan i m ≡ true → hasBegan i n ≡ true) → eachBegan l c m ≡ true → eachBegan l c n ≡ true
@@ -144,8 +145,13 @@ module _ (f : ℕ → ℕ) where
   doer-lasts sequence e = absurd (false≢true e)
   doer-lasts flow e = absurd (false≢true e)
   doer-lasts pick e = refl
-  doer-lasts scope e = absurd (false≢true e)
+  doer-lasts (scope v) e = absurd (false≢true e)
   doer-lasts (arm p o vs) e = absurd (false≢true e)
+
+  scope-lasts : (v : Bool) → lasts (kind (scope v)) ≡ true
+  unfolding lasts kind
+  scope-lasts true = refl
+  scope-lasts false = refl
 
   mutual
     unfolding size lasts kind
@@ -154,9 +160,9 @@ module _ (f : ℕ → ℕ) where
     run-loud-so {ms} (knows e n r y) (run-awaits {own} {within} {k} s d z q) = loud k (omega arith) (omega arith) (ap lasts e ∙ doer-lasts own d) (rw z)
     run-loud-so (knows e n r y) (run-one s d z) = loud-wider (one-loud-so y z) (omega arith) (omega arith)
     run-loud-so (knows e n r y) (run-all d z q) = loud-wider (all-loud-so y z q) (omega arith) (omega arith)
-    run-loud-so (knows e n r y) (run-body {k = k} d z q) = loud k (omega arith) (omega arith) (ap lasts e) (rw d)
-    run-loud-so (knows e n r y) (run-done {k = k} d q) = loud k (omega arith) (omega arith) (ap lasts e) (rw d)
-    run-loud-so {ms} (knows e n r y) (run-turned {k = k} d q) = loud k (omega arith) (omega arith) (ap lasts e) (decide (eqb (getD ms k 0) idle) (λ z. absurd (turned-not-rest d (eqb-true (getD ms k 0) idle z))) (λ z. z))
+    run-loud-so (knows e n r y) (run-body {v} {k = k} d z q) = loud k (omega arith) (omega arith) (ap lasts e ∙ scope-lasts v) (rw d)
+    run-loud-so (knows e n r y) (run-done {v} {k = k} d q) = loud k (omega arith) (omega arith) (ap lasts e ∙ scope-lasts v) (rw d)
+    run-loud-so {ms} (knows e n r y) (run-turned {v} {k = k} d q) = loud k (omega arith) (omega arith) (ap lasts e ∙ scope-lasts v) (decide (eqb (getD ms k 0) idle) (λ z. absurd (turned-not-rest d (eqb-true (getD ms k 0) idle z))) (λ z. z))
 
     one-loud-so : {ms : List ℕ} {l : Acts} {c : ℕ} → KnowsIn f l c → One ms l c → Loud ms c (sizes l)
     one-loud-so (knows-more x y) (one-here r q) = loud-wider (run-loud-so x r) (omega arith) (omega arith)
@@ -167,7 +173,7 @@ module _ (f : ℕ → ℕ) where
     all-loud-so (knows-more x y) (all-run r q) z = loud-wider (run-loud-so x r) (omega arith) (omega arith)
     all-loud-so (knows-more x y) (all-quiet q r) z = loud-wider (all-loud-so y r (λ w. z (quiet-join q w refl))) (omega arith) (omega arith)
 
-module _ (p : Plan) (distinct : Distinct p) (actor : Actor) (f : ℕ → ℕ) (t : ℕ) (o : Order) where
+module _ (p : Plan) (actor : Actor) (f : ℕ → ℕ) (t : ℕ) (o : Order) where
   -- A sequence that has the step in it, after the outcome r.
   pub data Onward (within : Acts) (k : ℕ) (r : Outcome) : Type 0 where
     on-later : laterBegan within (k + 1) t (r .log) ≡ true → Onward within k r
@@ -218,17 +224,17 @@ module _ (p : Plan) (distinct : Distinct p) (actor : Actor) (f : ℕ → ℕ) (t
   its-fresh r = record { at = λ j h. new-again h }
 
   -- Activities other than scopes.
-  combines-passes : (own : Own) (within : Acts) (k : ℕ) → Knows f (act own within) k → isScope own ≡ false → k + 1 + sizes within ≤ length (o .marks)
-      → some isRash (combines own within k t (stepAmong actor within (k + 1) t o) .log) ≡ false
-      → (eqb (kind own) 8 ≡ true → eqb (markAt k (stepAmong actor within (k + 1) t o .order)) active ≡ true → (ns : List ℕ) → Fresh p f (Begun-in (stepAmong actor within (k + 1) t o)) (o .marks) (beginAfter within (k + 1) t ns .log))
-      → Passes (stepAmong actor within (k + 1) t o) (combines own within k t (stepAmong actor within (k + 1) t o)) (k + 1) (sizes within)
-  combines-passes own within k (knows e n a y) s m c g =
-      let r = stepAmong actor within (k + 1) t o in
+  combines-passes : (own : Own) (within : Acts) (y₀ k : ℕ) → Knows f (act own within) k → isScope own ≡ false → k + 1 + sizes within ≤ length (o .marks)
+      → some isRash (combines own within k t (stepAmong actor within false y₀ (k + 1) t o) .log) ≡ false
+      → (eqb (kind own) 8 ≡ true → eqb (markAt k (stepAmong actor within false y₀ (k + 1) t o .order)) active ≡ true → (ns : List ℕ) → Fresh p f (Begun-in (stepAmong actor within false y₀ (k + 1) t o)) (o .marks) (beginAfter within (k + 1) t ns .log))
+      → Passes (stepAmong actor within false y₀ (k + 1) t o) (combines own within k t (stepAmong actor within false y₀ (k + 1) t o)) (k + 1) (sizes within)
+  combines-passes own within y₀ k (knows e n a y) s m c g =
+      let r = stepAmong actor within false y₀ (k + 1) t o in
       record {
         has = λ i d. combines-has (isBeganOf (eqb i)) own within k t r d;
-        grows = λ j x z l u. combines-grows f own within k t r e n y (omega (arith, keeping.among-steps f actor y t o m .long))
-            (not-bad o r (among-drops f t actor y o) (calmer (r .log) (combines own within k t r .log) (combines-has isRash own within k t r) c)) j l (λ d. omega arith) u;
-        none = λ i j x z v u d. none-from r (combines own within k t r) (combines-fresh p distinct actor f t o (Begun-in r) own within k r s (its-fresh r) g) i u d;
+        grows = λ j x z l u. combines-grows f own within k t r e n y (omega (arith, keeping.among-steps f actor y false y₀ t o m .long))
+            (not-bad o r (among-drops f t actor y false y₀ o) (calmer (r .log) (combines own within k t r .log) (combines-has isRash own within k t r) c)) j l (λ d. omega arith) u;
+        none = λ i j x z v u d. none-from r (combines own within k t r) (combines-fresh p actor f t o (Begun-in r) own within k r s (its-fresh r) g) i u d;
       }
 
   -- what has the step where all is quiet is an arm
@@ -240,118 +246,179 @@ module _ (p : Plan) (distinct : Distinct p) (actor : Actor) (f : ℕ → ℕ) (t
   arm-thru (waits-later h w) q = thru-later h (arm-thru w (quiet-part q (omega arith) (omega arith)))
 
   -- a sequence
-  seq-claim : (own : Own) (within : Acts) (k : ℕ) → Knows f (act own within) k → k < t → Acted k (size (act own within)) o (RunAs p (act own within) k t o) (stepIn actor (act own within) k t o)
-      → some isRash (stepIn actor (act own within) k t o .log) ≡ false → stepIn actor (act own within) k t o ≡ combines own within k t (stepAmong actor within (k + 1) t o) → eqb (kind own) 8 ≡ true
-      → Onward within k (stepIn actor (act own within) k t o)
+  seq-claim : (own : Own) (within : Acts) (y₀ k : ℕ) → Knows f (act own within) k → k < t → Acted k (size (act own within)) o (RunAs p (act own within) k t o) (stepIn actor (act own within) y₀ k t o)
+      → some isRash (stepIn actor (act own within) y₀ k t o .log) ≡ false → stepIn actor (act own within) y₀ k t o ≡ combines own within k t (stepAmong actor within false y₀ (k + 1) t o) → eqb (kind own) 8 ≡ true
+      → Onward within k (stepIn actor (act own within) y₀ k t o)
   unfolding kind size isDoer
-  seq-claim empty within k x h w c q e = absurd (false≢true e)
-  seq-claim (send a b vs) within k x h w c q e = absurd (false≢true e)
-  seq-claim (receive a b vs) within k x h w c q e = absurd (false≢true e)
-  seq-claim (setting v z) within k x h w c q e = absurd (false≢true e)
-  seq-claim raise within k x h w c q e = absurd (false≢true e)
-  seq-claim leave within k x h w c q e = absurd (false≢true e)
-  seq-claim (choose z) within k x h w c q e = absurd (false≢true e)
-  seq-claim (repeat z) within k x h w c q e = absurd (false≢true e)
-  seq-claim sequence within k (knows x n a y) h w c q e = go (R .result) refl (w .comes)
+  seq-claim empty within y₀ k x h w c q e = absurd (false≢true e)
+  seq-claim (send a b vs) within y₀ k x h w c q e = absurd (false≢true e)
+  seq-claim (receive a b vs) within y₀ k x h w c q e = absurd (false≢true e)
+  seq-claim (setting v z) within y₀ k x h w c q e = absurd (false≢true e)
+  seq-claim raise within y₀ k x h w c q e = absurd (false≢true e)
+  seq-claim leave within y₀ k x h w c q e = absurd (false≢true e)
+  seq-claim (choose z) within y₀ k x h w c q e = absurd (false≢true e)
+  seq-claim (repeat z) within y₀ k x h w c q e = absurd (false≢true e)
+  seq-claim sequence within y₀ k (knows x n a y) h w c q e = go (R .result) refl (w .comes)
     where
       R : Outcome
-      R = stepIn actor (act sequence within) k t o
+      R = stepIn actor (act sequence within) y₀ k t o
 
       good : isBad (R .result) ≡ false
-      good = not-bad o R (step-drops f t actor (knows x n a y) o) c
+      good = not-bad o R (step-drops f t actor (knows x n a y) y₀ o) c
 
       lives : Run (R .order .marks) (act sequence within) k → Onward within k R
       lives (run-awaits s d z q) = absurd (false≢true d)
       lives (run-one s d z) = go (one-loud-so f y z)
         where
           go : Loud f (R .order .marks) (k + 1) (sizes within) → Onward within k R
-          go (loud j i b l u) = on-lives j (omega arith) b l u (times-none k (R .log) (step-at f t actor (knows x n a y) o (omega arith) .strict .below k (omega arith)))
+          go (loud j i b l u) = on-lives j (omega arith) b l u (times-none k (R .log) (step-at f t actor (knows x n a y) y₀ o (omega arith) .strict .below k (omega arith)))
 
       go : (z : Result) → R .result ≡ z → RunAs p (act sequence within) k t o (R .log) (R .order) z → Onward within k R
       go running d v = lives (v .0)
       go over d v =
           on-later (subst (λ (u : Outcome). laterBegan within (k + 1) t (u .log) ≡ true) (sym q)
-          (seq-over f k t (stepAmong actor within (k + 1) t o) y a (subst (λ (u : Outcome). isOver (u .result) ≡ true) q (subst (λ (z : Result). isOver z ≡ true) (sym d) refl))))
+          (seq-over f k t (stepAmong actor within false y₀ (k + 1) t o) y a (subst (λ (u : Outcome). isOver (u .result) ≡ true) q (subst (λ (z : Result). isOver z ≡ true) (sym d) refl))))
       go raising d v = absurd (false≢true (sym good ∙ ap isBad d))
       go leaving d v = absurd (false≢true (sym good ∙ ap isBad d))
       go undone d v = absurd v
       go undoRaising d v = absurd v
-  seq-claim flow within k x h w c q e = absurd (false≢true e)
-  seq-claim pick within k x h w c q e = absurd (false≢true e)
-  seq-claim scope within k x h w c q e = absurd (false≢true e)
-  seq-claim (arm a b vs) within k x h w c q e = absurd (false≢true e)
+  seq-claim flow within y₀ k x h w c q e = absurd (false≢true e)
+  seq-claim pick within y₀ k x h w c q e = absurd (false≢true e)
+  seq-claim (scope true) within y₀ k x h w c q e = absurd (false≢true e)
+  seq-claim (scope false) within y₀ k x h w c q e = absurd (false≢true e)
+  seq-claim (arm a b vs) within y₀ k x h w c q e = absurd (false≢true e)
 
-  part-thru : (own : Own) (within : Acts) (k : ℕ) (b : Bool) → isScope own ≡ false → Knows f (act own within) k → Waits (o .marks) (act own within) k t b → b ≡ false → Run (o .marks) (act own within) k
-      → k + 1 + sizes within ≤ length (o .marks) → Acted k (size (act own within)) o (RunAs p (act own within) k t o) (stepIn actor (act own within) k t o) → some isRash (stepIn actor (act own within) k t o .log) ≡ false
-      → ((c : Bool) → WaitsIn (o .marks) within (k + 1) t c → c ≡ false → One (o .marks) within (k + 1) → some isRash (stepAmong actor within (k + 1) t o .log) ≡ false → ThruIn (stepAmong actor within (k + 1) t o) within (k + 1))
-      → ((c : Bool) → WaitsIn (o .marks) within (k + 1) t c → c ≡ false → All (o .marks) within (k + 1) → some isRash (stepAmong actor within (k + 1) t o .log) ≡ false → ThruIn (stepAmong actor within (k + 1) t o) within (k + 1))
-      → Thru (stepIn actor (act own within) k t o) (act own within) k
+  part-thru : (own : Own) (within : Acts) (y₀ k : ℕ) (b : Bool) → isScope own ≡ false → Knows f (act own within) k → Waits (o .marks) (act own within) k t b → b ≡ false → Run (o .marks) (act own within) k
+      → k + 1 + sizes within ≤ length (o .marks) → Acted k (size (act own within)) o (RunAs p (act own within) k t o) (stepIn actor (act own within) y₀ k t o) → some isRash (stepIn actor (act own within) y₀ k t o .log) ≡ false
+      → ((c : Bool) → WaitsIn (o .marks) within (k + 1) t c → c ≡ false → One (o .marks) within (k + 1) → some isRash (stepAmong actor within false y₀ (k + 1) t o .log) ≡ false → ThruIn (stepAmong actor within false y₀ (k + 1) t o) within (k + 1))
+      → ((c : Bool) → WaitsIn (o .marks) within (k + 1) t c → c ≡ false → All (o .marks) within (k + 1) → some isRash (stepAmong actor within false y₀ (k + 1) t o .log) ≡ false → ThruIn (stepAmong actor within false y₀ (k + 1) t o) within (k + 1))
+      → Thru (stepIn actor (act own within) y₀ k t o) (act own within) k
   unfolding kind
-  part-thru own within k b s x (waits-itself e d) q run m w c one all = thru-here e
-  part-thru own within k b s x (waits-within h v) q (run-awaits s₁ y z u) m w c one all =
-      thru-in h (λ e up. absurd (quiet-waits-in v (ap (λ (n : ℕ). eqb n 10 && eqb (getD (o .marks) k 0) active) (eqb-true (kind own) 8 e)) u)) (arm-thru v u)
-  part-thru own within k b s (knows x n r y) (waits-within h v) q (run-one s₁ z l) m w c one all =
-      let i = its-within actor own within k t o o (λ e. omega arith) (arms-held own within k t o z) in
-      let a = opens-held p distinct actor own (getD (o .marks) k 0) z in
-      let c₁ : some isRash (combines own within k t (stepAmong actor within (k + 1) t o) .log) ≡ false = subst (λ (u : Outcome). some isRash (u .log) ≡ false) i c in
-      thru-in h (λ e up. seq-claim own within k (knows x n r y) h w c i e)
+  part-thru own within y₀ k b s x (waits-itself e d) q run m w c one all = thru-here e
+  part-thru own within y₀ k b s x (waits-within h v) q (run-awaits s₁ y z u) m w c one all =
+      thru-in h (λ e up. absurd (quiet-waits-in v (ap (λ (n : Bool). n && eqb (getD (o .marks) k 0) active) (no-pick own 8 refl (eqb-true (kind own) 8 e))) u)) (arm-thru v u)
+  part-thru own within y₀ k b s (knows x n r y) (waits-within h v) q (run-one s₁ z l) m w c one all =
+      let i = its-within actor own within y₀ k t o o s (λ e. omega arith) (arms-held own within k t o z) in
+      let a = opens-held p actor own (getD (o .marks) k 0) z in
+      let c₁ : some isRash (combines own within k t (stepAmong actor within false y₀ (k + 1) t o) .log) ≡ false = subst (λ (u : Outcome). some isRash (u .log) ≡ false) i c in
+      thru-in h (λ e up. seq-claim own within y₀ k (knows x n r y) h w c i e)
       (subst (λ (u : Outcome). ThruIn u within (k + 1)) (sym i)
-      (thru-in-map (combines-passes own within k (knows x n r y) s m c₁ (λ e d ns. after-fresh p distinct actor f t o (Begun-in (stepAmong actor within (k + 1) t o)) y (arms-of p distinct actor f t o own within e r) v a l ns))
-      (one (opens own (getD (o .marks) k 0)) v a l (calmer _ _ (combines-has isRash own within k t (stepAmong actor within (k + 1) t o)) c₁)) (omega arith) (omega arith)))
-  part-thru flow within k b s (knows x n r y) (waits-within h v) q (run-all z l g) m w c one all =
-      let i = its-within actor flow within k t o o (λ e. omega arith) (arms-held flow within k t o z) in
-      let c₁ : some isRash (combines flow within k t (stepAmong actor within (k + 1) t o) .log) ≡ false = subst (λ (u : Outcome). some isRash (u .log) ≡ false) i c in
+      (thru-in-map (combines-passes own within y₀ k (knows x n r y) s m c₁ (λ e d ns. after-fresh p actor f t o (Begun-in (stepAmong actor within false y₀ (k + 1) t o)) y (arms-of p actor f t o own within e r) v a l ns))
+      (one (opens own (getD (o .marks) k 0)) v a l (calmer _ _ (combines-has isRash own within k t (stepAmong actor within false y₀ (k + 1) t o)) c₁)) (omega arith) (omega arith)))
+  part-thru flow within y₀ k b s (knows x n r y) (waits-within h v) q (run-all z l g) m w c one all =
+      let i = its-within actor flow within y₀ k t o o refl (λ e. omega arith) (arms-held flow within k t o z) in
+      let c₁ : some isRash (combines flow within k t (stepAmong actor within false y₀ (k + 1) t o) .log) ≡ false = subst (λ (u : Outcome). some isRash (u .log) ≡ false) i c in
       thru-in h (λ e up. absurd (false≢true e))
       (subst (λ (u : Outcome). ThruIn u within (k + 1)) (sym i)
-      (thru-in-map (combines-passes flow within k (knows x n r y) s m c₁ (λ e. absurd (false≢true e)))
-      (all (opens flow (getD (o .marks) k 0)) v refl l (calmer _ _ (combines-has isRash flow within k t (stepAmong actor within (k + 1) t o)) c₁)) (omega arith) (omega arith)))
-  part-thru own within k b s x (waits-within h v) q (run-body y r z) m w c one all = absurd (false≢true (sym s))
-  part-thru own within k b s x (waits-within h v) q (run-done y z) m w c one all = absurd (false≢true (sym s))
-  part-thru own within k b s x (waits-within h v) q (run-turned y z) m w c one all = absurd (false≢true (sym s))
+      (thru-in-map (combines-passes flow within y₀ k (knows x n r y) s m c₁ (λ e. absurd (false≢true e)))
+      (all (opens flow (getD (o .marks) k 0)) v refl l (calmer _ _ (combines-has isRash flow within k t (stepAmong actor within false y₀ (k + 1) t o)) c₁)) (omega arith) (omega arith)))
+  part-thru own within y₀ k b s x (waits-within h v) q (run-body y r z) m w c one all = absurd (false≢true (sym s))
+  part-thru own within y₀ k b s x (waits-within h v) q (run-done y z) m w c one all = absurd (false≢true (sym s))
+  part-thru own within y₀ k b s x (waits-within h v) q (run-turned y z) m w c one all = absurd (false≢true (sym s))
 
   -- an activity of a stopped body, or of one of which an undo part runs: its own mark is idle
-  idle-thru : {C : List Event → Order → Result → Type 0} (own : Own) (within : Acts) (k : ℕ) → Knows f (act own within) k → isScope own ≡ false → getD (o .marks) k 0 ≡ idle → isPart within (k + 1) t ≡ false → k < t
-      → k + 1 + sizes within ≤ length (o .marks) → Acted (k + 1) (sizes within) o C (stepAmong actor within (k + 1) t o) → some isRash (stepIn actor (act own within) k t o .log) ≡ false
-      → (some isRash (stepAmong actor within (k + 1) t o .log) ≡ false → ThruIn (stepAmong actor within (k + 1) t o) within (k + 1)) → Thru (stepIn actor (act own within) k t o) (act own within) k
-  idle-thru own within k x s i n h m v c g =
-      let q = its-within actor own within k t o o (λ e. omega arith) (arms-none own within k t o n) in
-      let c₁ : some isRash (combines own within k t (stepAmong actor within (k + 1) t o) .log) ≡ false = subst (λ (u : Outcome). some isRash (u .log) ≡ false) q c in
+  idle-thru : {C : List Event → Order → Result → Type 0} (own : Own) (within : Acts) (y₀ k : ℕ) → Knows f (act own within) k → isScope own ≡ false → getD (o .marks) k 0 ≡ idle → isPart within (k + 1) t ≡ false → k < t
+      → k + 1 + sizes within ≤ length (o .marks) → Acted (k + 1) (sizes within) o C (stepAmong actor within false y₀ (k + 1) t o) → some isRash (stepIn actor (act own within) y₀ k t o .log) ≡ false
+      → (some isRash (stepAmong actor within false y₀ (k + 1) t o .log) ≡ false → ThruIn (stepAmong actor within false y₀ (k + 1) t o) within (k + 1)) → Thru (stepIn actor (act own within) y₀ k t o) (act own within) k
+  idle-thru own within y₀ k x s i n h m v c g =
+      let q = its-within actor own within y₀ k t o o s (λ e. omega arith) (arms-none own within k t o n) in
+      let c₁ : some isRash (combines own within k t (stepAmong actor within false y₀ (k + 1) t o) .log) ≡ false = subst (λ (u : Outcome). some isRash (u .log) ≡ false) q c in
       thru-in h (λ e up. absurd (false≢true (sym up ∙ ap (λ (m : ℕ). eqb m idle) i)))
       (subst (λ (u : Outcome). ThruIn u within (k + 1)) (sym q)
-      (thru-in-map (combines-passes own within k x s m c₁ (λ e d. absurd (false≢true (subst (λ (z : ℕ). eqb z active ≡ true) (v .kept .below k (omega arith) ∙ i) d))))
-      (g (calmer _ _ (combines-has isRash own within k t (stepAmong actor within (k + 1) t o)) c₁)) (omega arith) (omega arith)))
+      (thru-in-map (combines-passes own within y₀ k x s m c₁ (λ e d. absurd (false≢true (subst (λ (z : ℕ). eqb z active ≡ true) (v .kept .below k (omega arith) ∙ i) d))))
+      (g (calmer _ _ (combines-has isRash own within k t (stepAmong actor within false y₀ (k + 1) t o)) c₁)) (omega arith) (omega arith)))
 
   -- A scope.
-  module _ (s : Scope) (h : Seat p s) (b e : ℕ) (w : Within f s b e) (named : Named f (s .fault)) (from : b ≤ s .bodyAt) (m : e ≤ length (o .marks)) (below : (j : ℕ) → s .bodyAt ≤ j → j + 1 ≡ b → ⊥) (belowFault : (j : ℕ) → s .faultAt ≤ j → j + 1 ≡ b → ⊥) where
+  module _ (s : Scope) (h : Seat p s) (b e : ℕ) (w : Within f s b e) (from : b ≤ s .bodyAt) (m : e ≤ length (o .marks)) (below : (j : ℕ) → s .bodyAt ≤ j → j + 1 ≡ b → ⊥) (belowFault : (j : ℕ) → s .faultAt ≤ j → j + 1 ≡ b → ⊥) where
     abbrev its : Outcome
-    its = stepIn actor (s .body) (s .bodyAt) t o
+    its = stepIn actor (s .body) (s .bodyAt) (s .bodyAt) t o
 
     long : length (its .order .marks) ≡ length (o .marks)
-    long = keeping.step-steps f actor (w .body) t o (omega (arith, w .bodyTo)) .long
+    long = keeping.step-steps f actor (w .body) (s .bodyAt) t o (omega (arith, w .bodyTo)) .long
+
+    its-mark : {C : List Event → Order → Result → Type 0} → Acted (s .bodyAt) (size (s .body)) o C its → markOf (s .name) (its .order) ≡ markOf (s .name) o
+    its-mark v = mark-kept (s .name) (s .bodyAt) o (its .order) (h .before) (omega arith) (v .rooted) (v .kept)
 
     module _ (c : some isRash (fromBody s its .log) ≡ false) where
       good : isBad (its .result) ≡ false
-      good = not-bad o its (step-drops f t actor (w .body) o) (calmer (its .log) (fromBody s its .log) (body-has isRash s its) c)
+      good = not-bad o its (step-drops f t actor (w .body) (s .bodyAt) o) (calmer (its .log) (fromBody s its .log) (body-has isRash s its) c)
 
-      body-passes : ((j : ℕ) → s .bodyAt ≤ j → j < s .bodyAt + size (s .body) → Up (its .order .marks) j → Fresh p f (Begun-in its) (o .marks) (fromBody s its .log)) → Passes its (fromBody s its) (s .bodyAt) (size (s .body))
+      -- where it does not look again, and none of its undo parts is over, nothing more begins
+      none-more : looksAgain s (its .order) ≡ runs (its .order) → isUndone (its .result) ≡ false → (i : ℕ) → hasBegan i (its .log) ≡ false → hasBegan i (fromBody s its .log) ≡ false
+      unfolding fromBody bodyOver some
+      none-more l u i d = go (its .result) good u
+        where
+          with-more : (n : List Event) → hasBegan i n ≡ false → hasBegan i (its .log ++ n) ≡ false
+          with-more n z = some-append (isBeganOf (eqb i)) (its .log) n ∙ rw (d, z)
+
+          still : hasBegan i (looksAgain s (its .order) .log) ≡ false
+          still = ap (λ (r : Outcome). hasBegan i (r .log)) l
+
+          ended-so : (v : Bool) (z : Outcome) → z ≡ elim v [ true ↦ runs (marking (s .name) done (its .order)) | false ↦ looksAgain s (its .order) ] → hasBegan i (z .log) ≡ false
+          ended-so true z e = ap (λ (r : Outcome). hasBegan i (r .log)) e
+          ended-so false z e = ap (λ (r : Outcome). hasBegan i (r .log)) e ∙ still
+
+          go : (x : Result) → isBad x ≡ false → isUndone x ≡ false → hasBegan i (fromBody s (record { result = x; order = its .order; log = its .log }) .log) ≡ false
+          go running n u = with-more (looksAgain s (its .order) .log) still
+          go over n u = with-more (bodyOver s (its .order) .log) (ended-so (eqb (markOf (s .name) (its .order)) active) (bodyOver s (its .order)) refl)
+          go raising n u = absurd (false≢true (sym n))
+          go leaving n u = absurd (false≢true (sym n))
+          go undone n u = absurd (false≢true (sym u))
+          go undoRaising n u = absurd (false≢true (sym n))
+
+      body-passes : ((j : ℕ) → s .bodyAt ≤ j → j < s .bodyAt + size (s .body) → Up (its .order .marks) j → (looksAgain s (its .order) ≡ runs (its .order)) × (isUndone (its .result) ≡ false)) → Passes its (fromBody s its) (s .bodyAt) (size (s .body))
       body-passes g =
           record {
             has = λ i d. body-has (isBeganOf (eqb i)) s its d;
             grows = λ j x z l u. body-grows f s b e w its (omega (arith, long)) good j l (below j x) u;
-            none = λ i j x z v u d. none-from its (fromBody s its) (g j x z v) i u d;
+            none = λ i j x z v u d. let y = g j x z v in none-more (y .0) (y .1) i d;
           }
 
-      pub live-passes : Quiet (o .marks) (s .faultAt) (size (s .fault)) → Run (o .marks) (s .body) (s .bodyAt) → Acted (s .bodyAt) (size (s .body)) o (RunAs p (s .body) (s .bodyAt) t o) its → Passes its (fromBody s its) (s .bodyAt) (size (s .body))
-      live-passes q run v = body-passes (λ j x z u. live-fresh p distinct actor f t o (Begun-in its) s h (w .body) (w .fault) named q (omega (arith, w .bodyTo)) (its-fresh its) run v)
+      pub live-passes : markOf (s .name) o ≡ active → Acted (s .bodyAt) (size (s .body)) o (RunAs p (s .body) (s .bodyAt) t o) its → Passes its (fromBody s its) (s .bodyAt) (size (s .body))
+      live-passes a v =
+          body-passes (λ j x z u. (looks-still f s (w .body) (w .fault) (its .order) (rw (its-mark v ∙ a)) (rw (its-mark v ∙ a)), not-undone (its .result) (v .comes)))
+        where
+          not-undone : (y : Result) → RunAs p (s .body) (s .bodyAt) t o (its .log) (its .order) y → isUndone y ≡ false
+          not-undone running c = refl
+          not-undone over c = refl
+          not-undone raising c = refl
+          not-undone leaving c = refl
+          not-undone undone c = absurd c
+          not-undone undoRaising c = refl
 
-      pub waits-passes : (z : Bool) → phase (markOf (s .name) o) ≡ Phase.waits z → Quiet (o .marks) (s .faultAt) (size (s .fault)) → Stopped (o .marks) (s .body) (s .bodyAt)
-          → Acted (s .bodyAt) (size (s .body)) o (StopAs p (s .body) (s .bodyAt) o) its → Passes its (fromBody s its) (s .bodyAt) (size (s .body))
-      waits-passes z ph q st v = body-passes (λ j x y u. waits-fresh p distinct actor f t o (Begun-in its) s h (w .body) (w .fault) named q (omega (arith, w .bodyTo)) (its-fresh its) z ph st v)
+      pub waits-passes : Acted (s .bodyAt) (size (s .body)) o (StopAs p (s .body) (s .bodyAt) o) its → Passes its (fromBody s its) (s .bodyAt) (size (s .body))
+      waits-passes v =
+          body-passes (λ j x z u. (
+            decide (innerRuns (s .body) (s .bodyAt) (its .order .marks))
+                (λ d. looks-none f s (w .body) (w .fault) (its .order) d)
+                (λ d. absurd (false≢true (sym u ∙ ap (λ (m : ℕ). eqb m idle) (stopped-rests (stopped-of (its .result) good (v .comes)) d .at j x z)))),
+            not-undone (its .result) (v .comes),
+          ))
+        where
+          stopped-of : (y : Result) → isBad y ≡ false → StopAs p (s .body) (s .bodyAt) o (its .log) (its .order) y → Stopped (its .order .marks) (s .body) (s .bodyAt)
+          stopped-of running n c = c .0
+          stopped-of over n c = c .0
+          stopped-of raising n c = absurd (false≢true (sym n))
+          stopped-of leaving n c = absurd (false≢true (sym n))
+          stopped-of undone n c = absurd c
+          stopped-of undoRaising n c = absurd c
 
-      pub undoes-passes : (z : Bool) → phase (markOf (s .name) o) ≡ Phase.undoes z → Quiet (o .marks) (s .faultAt) (size (s .fault))
-          → Acted (s .bodyAt) (size (s .body)) o (UndoAs p (s .name) (s .body) (s .bodyAt) t o) its → Passes its (fromBody s its) (s .bodyAt) (size (s .body))
-      undoes-passes z ph q v =
-          body-passes (λ j x y u. undoes-fresh p distinct actor f t o (Begun-in its) s h (w .body) (w .fault) named q (omega (arith, w .bodyTo)) (its-fresh its) z ph (λ d. absurd (undone-quiet (its .result) d (v .comes) j x y u)) v)
+          not-undone : (y : Result) → StopAs p (s .body) (s .bodyAt) o (its .log) (its .order) y → isUndone y ≡ false
+          not-undone running c = refl
+          not-undone over c = refl
+          not-undone raising c = refl
+          not-undone leaving c = refl
+          not-undone undone c = absurd c
+          not-undone undoRaising c = refl
+
+      pub undoes-passes : (z : Bool) → phase (markOf (s .name) o) ≡ Phase.undoes z → Acted (s .bodyAt) (size (s .body)) o (UndoAs p (s .name) (s .body) (s .bodyAt) t o) its → Passes its (fromBody s its) (s .bodyAt) (size (s .body))
+      undoes-passes z ph v =
+          body-passes (λ j x y u. (
+            looks-still f s (w .body) (w .fault) (its .order)
+                (other-mark (markOf (s .name) (its .order)) faulty (Phase.undoes z) (ap phase (its-mark v) ∙ ph) (λ d. let z : _≡_ {A = ℕ} 0 1 = cc in omega arith))
+                (other-mark (markOf (s .name) (its .order)) halted (Phase.undoes z) (ap phase (its-mark v) ∙ ph) (λ d. let z : _≡_ {A = ℕ} 0 1 = cc in omega arith)),
+            decide (isUndone (its .result)) (λ d. absurd (undone-quiet (its .result) d (v .comes) j x y u)) (λ d. d),
+          ))
         where
           undone-quiet : (y : Result) → isUndone y ≡ true → UndoAs p (s .name) (s .body) (s .bodyAt) t o (its .log) (its .order) y → (j : ℕ) → s .bodyAt ≤ j → j < s .bodyAt + size (s .body) → Up (its .order .marks) j → ⊥
           undone-quiet running d c j x z u = false≢true d
@@ -362,17 +429,18 @@ module _ (p : Plan) (distinct : Distinct p) (actor : Actor) (f : ℕ → ℕ) (t
           undone-quiet undoRaising d c j x z u = false≢true d
 
     -- its fault part
-    pub fault-passes : some isRash (fromFault s (stepIn actor (s .fault) (s .faultAt) t o) .log) ≡ false → Passes (stepIn actor (s .fault) (s .faultAt) t o) (fromFault s (stepIn actor (s .fault) (s .faultAt) t o)) (s .faultAt) (size (s .fault))
+    pub fault-passes : some isRash (fromFault s (stepIn actor (s .fault) (s .faultAt) (s .faultAt) t o) .log) ≡ false
+        → Passes (stepIn actor (s .fault) (s .faultAt) (s .faultAt) t o) (fromFault s (stepIn actor (s .fault) (s .faultAt) (s .faultAt) t o)) (s .faultAt) (size (s .fault))
     fault-passes c =
-        let r = stepIn actor (s .fault) (s .faultAt) t o in
-        let good = not-bad o r (step-drops f t actor (w .fault) o) (calmer (r .log) (fromFault s r .log) (fault-has isRash s r) c) in
+        let r = stepIn actor (s .fault) (s .faultAt) (s .faultAt) t o in
+        let good = not-bad o r (step-drops f t actor (w .fault) (s .faultAt) o) (calmer (r .log) (fromFault s r .log) (fault-has isRash s r) c) in
         record {
           has = λ i d. fault-has (isBeganOf (eqb i)) s r d;
-          grows = λ j x z l u. fault-grows f s b e w r (omega (arith, keeping.step-steps f actor (w .fault) t o (omega (arith, w .faultTo)) .long)) good j l (belowFault j x) u;
+          grows = λ j x z l u. fault-grows f s b e w r (omega (arith, keeping.step-steps f actor (w .fault) (s .faultAt) t o (omega (arith, w .faultTo)) .long)) good j l (belowFault j x) u;
           none = λ i j x z v u d. none-from r (fromFault s r) (fault-fresh p f (Begun-in r) (o .marks) s r (its-fresh r)) i u d;
         }
 
-  undo-passes : (a : Act) (k n : ℕ) → Passes (stepIn actor a k t o) (fromUndo (stepIn actor a k t o)) k n
+  undo-passes : (a : Act) (k n : ℕ) → Passes (stepIn actor a k k t o) (fromUndo (stepIn actor a k k t o)) k n
   unfolding fromUndo
   undo-passes a k n = record { has = λ i d. d; grows = λ j x z l u. u; none = λ i j x z v u d. d }
 
@@ -380,104 +448,101 @@ module _ (p : Plan) (distinct : Distinct p) (actor : Actor) (f : ℕ → ℕ) (t
   unfolding fromUndo
   undo-calm r e = e
 
-  first-thru : (a : Act) (l : Acts) (c : ℕ) → t < c + size a → Thru (stepIn actor a c t o) a c → ThruIn (stepAmong actor (more a l) c t o) (more a l) c
-  first-thru a l c h w = thru-first h (subst (λ (q : Outcome). Thru q a c) (sym (its-first actor a l c t o h)) w)
+  first-thru : (a : Act) (l : Acts) (y₀ c : ℕ) → t < c + size a → Thru (stepIn actor a y₀ c t o) a c → ThruIn (stepAmong actor (more a l) false y₀ c t o) (more a l) c
+  first-thru a l y₀ c h w = thru-first h (subst (λ (q : Outcome). Thru q a c) (sym (its-first actor a l y₀ c t o h)) w)
 
-  later-thru : (a : Act) (l : Acts) (c : ℕ) → c + size a ≤ t → ThruIn (stepAmong actor l (c + size a) t o) l (c + size a) → ThruIn (stepAmong actor (more a l) c t o) (more a l) c
-  later-thru a l c h w = thru-later h (subst (λ (q : Outcome). ThruIn q l (c + size a)) (sym (its-later actor a l c t o h)) w)
+  later-thru : (a : Act) (l : Acts) (y₀ c : ℕ) → c + size a ≤ t → ThruIn (stepAmong actor l false y₀ (c + size a) t o) l (c + size a) → ThruIn (stepAmong actor (more a l) false y₀ c t o) (more a l) c
+  later-thru a l y₀ c h w = thru-later h (subst (λ (q : Outcome). ThruIn q l (c + size a)) (sym (its-later actor a l y₀ c t o h)) w)
 
-  calm-first : (a : Act) (l : Acts) (c : ℕ) → t < c + size a → some isRash (stepAmong actor (more a l) c t o .log) ≡ false → some isRash (stepIn actor a c t o .log) ≡ false
-  calm-first a l c h e = subst (λ (q : Outcome). some isRash (q .log) ≡ false) (its-first actor a l c t o h) e
+  calm-first : (a : Act) (l : Acts) (y₀ c : ℕ) → t < c + size a → some isRash (stepAmong actor (more a l) false y₀ c t o .log) ≡ false → some isRash (stepIn actor a y₀ c t o .log) ≡ false
+  calm-first a l y₀ c h e = subst (λ (q : Outcome). some isRash (q .log) ≡ false) (its-first actor a l y₀ c t o h) e
 
-  calm-later : (a : Act) (l : Acts) (c : ℕ) → c + size a ≤ t → some isRash (stepAmong actor (more a l) c t o .log) ≡ false → some isRash (stepAmong actor l (c + size a) t o .log) ≡ false
-  calm-later a l c h e = subst (λ (q : Outcome). some isRash (q .log) ≡ false) (its-later actor a l c t o h) e
+  calm-later : (a : Act) (l : Acts) (y₀ c : ℕ) → c + size a ≤ t → some isRash (stepAmong actor (more a l) false y₀ c t o .log) ≡ false → some isRash (stepAmong actor l false y₀ (c + size a) t o .log) ≡ false
+  calm-later a l y₀ c h e = subst (λ (q : Outcome). some isRash (q .log) ≡ false) (its-later actor a l y₀ c t o h) e
 
-  second : (b g u : Act) → Arms false (trio b g u) → Named f g
-  second (act ob wb) (act og wg) (act ou wu) r = r .1 .0
+  -- a scope is no sequence
+  no-sequence : (v : Bool) → eqb (kind (scope v)) 8 ≡ true → ⊥
+  unfolding kind
+  no-sequence true e = false≢true e
+  no-sequence false e = false≢true e
 
   -- the numbers of a scope
-  its-within-scope : (b g u : Act) (k : ℕ) → Knows f (act scope (trio b g u)) k → Within f (scopeAt k (trio b g u)) (k + 1) (k + 1 + sizes (trio b g u))
-  unfolding kind count
-  its-within-scope b g u k (knows e n r y) = scope-within f (ap (λ (i : ℕ). eqb i 11) e) (omega arith) y
+  its-within-scope : (z₀ : Bool) (b g : Act) (u : Acts) (k : ℕ) → Knows f (act (scope z₀) (trio b g u)) k → Within f (scopeAt k (trio b g u)) (k + 1) (k + 1 + sizes (trio b g u))
+  its-within-scope z₀ b g u k (knows e n r y) = scope-within f (ap isScopeKind e ∙ scope-kind (scope z₀)) (scope-needs f (scope z₀) (count (trio b g u)) refl n) y
 
-  module _ {n : Name} (b g u : Act) (k : ℕ) (h : Seat p (scopeAt k (trio b g u))) (sb : Sits p (bodyOf (inner k) n) b (k + 1)) (x : Knows f (act scope (trio b g u)) k) (named : Named f g) (m : k + size (act scope (trio b g u)) ≤ length (o .marks))
-      (lt : k < t) (w : WaitsIn (o .marks) (trio b g u) (k + 1) t false) (c : some isRash (stepIn actor (act scope (trio b g u)) k t o .log) ≡ false) where
-    in-body : (t < k + 1 + size b) → Thru (stepIn actor (act scope (trio b g u)) k t o) b (k + 1) → Thru (stepIn actor (act scope (trio b g u)) k t o) (act scope (trio b g u)) k
-    unfolding kind
-    in-body e v = thru-in lt (λ d. absurd (false≢true d)) (thru-first e v)
+  module _ {n : Name} {ns : List Name} (z₀ : Bool) (b g : Act) (u : Acts) (y₀ k : ℕ) (h : Seat p (scopeAt k (trio b g u))) (sb : Sits p (bodyOf (inner k) ns n) b (k + 1)) (x : Knows f (act (scope z₀) (trio b g u)) k)
+      (m : k + (1 + (size b + (size g + sizes u))) ≤ length (o .marks)) (lt : k < t) (w : WaitsIn (o .marks) (trio b g u) (k + 1) t false) (c : some isRash (stepIn actor (act (scope z₀) (trio b g u)) y₀ k t o .log) ≡ false) where
+    abbrev Whole-step : Outcome
+    Whole-step = stepIn actor (act (scope z₀) (trio b g u)) y₀ k t o
 
-    in-fault : k + 1 + size b ≤ t → t < k + 1 + size b + size g → Thru (stepIn actor (act scope (trio b g u)) k t o) g (k + 1 + size b) → Thru (stepIn actor (act scope (trio b g u)) k t o) (act scope (trio b g u)) k
-    unfolding kind
-    in-fault d e v = thru-in lt (λ d. absurd (false≢true d)) (thru-later d (thru-first e v))
+    abbrev Body-step : Outcome
+    Body-step = stepIn actor b (k + 1) (k + 1) t o
 
-    calm-body : t < k + 1 + size b → some isRash (fromBody (scopeAt k (trio b g u)) (stepIn actor b (k + 1) t o) .log) ≡ false
-    unfolding Its Whole
-    calm-body e = subst (λ (q : Outcome). some isRash (q .log) ≡ false) (body-step p distinct actor b g u k t o lt e) c
+    abbrev Fault-step : Outcome
+    Fault-step = stepIn actor g (k + 1 + size b) (k + 1 + size b) t o
 
-    calm-its : t < k + 1 + size b → some isRash (stepIn actor b (k + 1) t o .log) ≡ false
-    calm-its e = calmer _ _ (body-has isRash (scopeAt k (trio b g u)) (stepIn actor b (k + 1) t o)) (calm-body e)
+    in-body : (t < k + 1 + size b) → Thru Whole-step b (k + 1) → Thru Whole-step (act (scope z₀) (trio b g u)) k
+    in-body e v = thru-in lt (λ d. absurd (no-sequence z₀ d)) (thru-first e v)
 
-    turned-thru : Turned (o .marks) (getD (o .marks) k 0) b (k + 1) g (k + 1 + size b) → Quiet (o .marks) (k + 1 + size b + size g) (size u)
-        → ((y : Bool) → Waits (o .marks) b (k + 1) t y → y ≡ false → Stopped (o .marks) b (k + 1) → some isRash (stepIn actor b (k + 1) t o .log) ≡ false → Thru (stepIn actor b (k + 1) t o) b (k + 1))
-        → ((y : Bool) → Waits (o .marks) b (k + 1) t y → y ≡ false → Undoing (o .marks) b (k + 1) → (v : Bool) → phase (getD (o .marks) k 0) ≡ Phase.undoes v → some isRash (stepIn actor b (k + 1) t o .log) ≡ false → Thru (stepIn actor b (k + 1) t o) b (k + 1))
-        → ((y : Bool) → Waits (o .marks) g (k + 1 + size b) t y → y ≡ false → Run (o .marks) g (k + 1 + size b) → phase (getD (o .marks) k 0) ≡ heals → some isRash (stepIn actor g (k + 1 + size b) t o .log) ≡ false → Thru (stepIn actor g (k + 1 + size b) t o) g (k + 1 + size b))
-        → Thru (stepIn actor (act scope (trio b g u)) k t o) (act scope (trio b g u)) k
+    in-fault : k + 1 + size b ≤ t → t < k + 1 + size b + size g → Thru Whole-step g (k + 1 + size b) → Thru Whole-step (act (scope z₀) (trio b g u)) k
+    in-fault d e v = thru-in lt (λ d. absurd (no-sequence z₀ d)) (thru-later d (thru-first e v))
+
+    calm-body : Whole-step ≡ fromBody (scopeAt k (trio b g u)) Body-step → some isRash (fromBody (scopeAt k (trio b g u)) Body-step .log) ≡ false
+    calm-body q = subst (λ (q : Outcome). some isRash (q .log) ≡ false) q c
+
+    calm-its : Whole-step ≡ fromBody (scopeAt k (trio b g u)) Body-step → some isRash (Body-step .log) ≡ false
+    calm-its q = calmer _ _ (body-has isRash (scopeAt k (trio b g u)) Body-step) (calm-body q)
+
+    W : Within f (scopeAt k (trio b g u)) (k + 1) (k + 1 + sizes (trio b g u))
+    W = its-within-scope z₀ b g u k x
+
+    turned-thru : Turned (o .marks) (getD (o .marks) k 0) b (k + 1) g (k + 1 + size b) → Quiet (o .marks) (k + 1 + size b + size g) (sizes u)
+        → ((y : Bool) → Waits (o .marks) b (k + 1) t y → y ≡ false → Stopped (o .marks) b (k + 1) → some isRash (Body-step .log) ≡ false → Thru Body-step b (k + 1))
+        → ((y : Bool) → Waits (o .marks) b (k + 1) t y → y ≡ false → Undoing (o .marks) b (k + 1) → (v : Bool) → phase (getD (o .marks) k 0) ≡ Phase.undoes v → some isRash (Body-step .log) ≡ false → Thru Body-step b (k + 1))
+        → ((y : Bool) → Waits (o .marks) g (k + 1 + size b) t y → y ≡ false → Run (o .marks) g (k + 1 + size b) → phase (getD (o .marks) k 0) ≡ heals → some isRash (Fault-step .log) ≡ false → Thru Fault-step g (k + 1 + size b))
+        → Thru Whole-step (act (scope z₀) (trio b g u)) k
     unfolding size part partAt Its Whole
     turned-thru r q i j l = go r w
       where
-        W : Within f (scopeAt k (trio b g u)) (k + 1) (k + 1 + sizes (trio b g u))
-        W = its-within-scope b g u k x
-
-        go : Turned (o .marks) (getD (o .marks) k 0) b (k + 1) g (k + 1 + size b) → WaitsIn (o .marks) (trio b g u) (k + 1) t false → Thru (stepIn actor (act scope (trio b g u)) k t o) (act scope (trio b g u)) k
-        go (turned-waits {w = a} d z _ y) (waits-first e v) =
-            in-body e (subst (λ (q : Outcome). Thru q b (k + 1)) (sym (body-step p distinct actor b g u k t o lt e))
-            (thru-map (waits-passes (scopeAt k (trio b g u)) h (k + 1) (k + 1 + sizes (trio b g u)) W named (omega arith) (omega arith) (λ j a d. omega arith) (λ j a d. omega arith) (calm-body e) a d y z (steps-stopped p distinct actor sb t o false v refl z (omega arith)))
-            (i false v refl z (calm-its e)) (omega arith) (omega arith)))
+        go : Turned (o .marks) (getD (o .marks) k 0) b (k + 1) g (k + 1 + size b) → WaitsIn (o .marks) (trio b g u) (k + 1) t false → Thru Whole-step (act (scope z₀) (trio b g u)) k
+        go (turned-waits d z n y) (waits-first e v) =
+            let a = steps-stopped p actor sb (k + 1) t o false refl v refl z (omega arith) in
+            let q = body-step p actor z₀ b g u y₀ k t (getD (o .marks) k 0) o lt e (a .kept .below k (omega arith)) (turned-not-rest (turned-waits {f = g} d z n y)) in
+            in-body e (subst (λ (q : Outcome). Thru q b (k + 1)) (sym q)
+            (thru-map (waits-passes (scopeAt k (trio b g u)) h (k + 1) (k + 1 + sizes (trio b g u)) W (omega arith) (omega arith) (λ j a d. omega arith) (λ j a d. omega arith) (calm-body q) a)
+            (i false v refl z (calm-its q)) (omega arith) (omega arith)))
         go (turned-undoes {w = a} d z y) (waits-first e v) =
-            in-body e (subst (λ (q : Outcome). Thru q b (k + 1)) (sym (body-step p distinct actor b g u k t o lt e))
-            (thru-map (undoes-passes (scopeAt k (trio b g u)) h (k + 1) (k + 1 + sizes (trio b g u)) W named (omega arith) (omega arith) (λ j a d. omega arith) (λ j a d. omega arith) (calm-body e) a d y (steps-undoing p distinct actor sb t o false v refl z (a, d) (omega arith)))
-            (j false v refl z a d (calm-its e)) (omega arith) (omega arith)))
+            let r = awake-first p actor (λ n. markOf n o) (inner k) ns a d in
+            let s = steps-undoing p actor sb (k + 1) t o false refl v refl z (inner k) r (a, ap (λ (n : Name). phase (markOf n o)) r ∙ d) (omega arith) in
+            let q = body-step p actor z₀ b g u y₀ k t (getD (o .marks) k 0) o lt e (s .kept .below k (omega arith)) (turned-not-rest (turned-undoes {f = g} d z y)) in
+            in-body e (subst (λ (q : Outcome). Thru q b (k + 1)) (sym q)
+            (thru-map (undoes-passes (scopeAt k (trio b g u)) h (k + 1) (k + 1 + sizes (trio b g u)) W (omega arith) (omega arith) (λ j a d. omega arith) (λ j a d. omega arith) (calm-body q) a d s)
+            (j false v refl z a d (calm-its q)) (omega arith) (omega arith)))
         go (turned-heals d z y) (waits-first e v) = absurd (quiet-waits v refl z)
         go (turned-waits d z _ y) (waits-later a (waits-first e v)) = absurd (quiet-waits v refl y)
         go (turned-undoes d z y) (waits-later a (waits-first e v)) = absurd (quiet-waits v refl y)
         go (turned-heals d z y) (waits-later a (waits-first e v)) =
-            let q = fault-step p distinct actor b g u k t o a e in
-            let c₁ : some isRash (fromFault (scopeAt k (trio b g u)) (stepIn actor g (k + 1 + size b) t o) .log) ≡ false = subst (λ (z : Outcome). some isRash (z .log) ≡ false) q c in
+            let q = fault-step p actor z₀ b g u y₀ k t o a e in
+            let c₁ : some isRash (fromFault (scopeAt k (trio b g u)) Fault-step .log) ≡ false = subst (λ (z : Outcome). some isRash (z .log) ≡ false) q c in
             in-fault a e (subst (λ (q : Outcome). Thru q g (k + 1 + size b)) (sym q)
-            (thru-map (fault-passes (scopeAt k (trio b g u)) h (k + 1) (k + 1 + sizes (trio b g u)) W named (omega arith) (omega arith) (λ j a d. omega arith) (λ j a d. omega arith) c₁)
-            (l false v refl y d (calmer _ _ (fault-has isRash (scopeAt k (trio b g u)) (stepIn actor g (k + 1 + size b) t o)) c₁)) (omega arith) (omega arith)))
-        go z (waits-later a (waits-later e (waits-first d v))) = absurd (quiet-waits v refl q)
+            (thru-map (fault-passes (scopeAt k (trio b g u)) h (k + 1) (k + 1 + sizes (trio b g u)) W (omega arith) (omega arith) (λ j a d. omega arith) (λ j a d. omega arith) c₁)
+            (l false v refl y d (calmer _ _ (fault-has isRash (scopeAt k (trio b g u)) Fault-step) c₁)) (omega arith) (omega arith)))
+        go z (waits-later a (waits-later e v)) = absurd (quiet-waits-in v refl q)
 
-    live-thru : getD (o .marks) k 0 ≡ active → Run (o .marks) b (k + 1) → Quiet (o .marks) (k + 1 + size b) (size g + size u)
-        → (Waits (o .marks) b (k + 1) t false → some isRash (stepIn actor b (k + 1) t o .log) ≡ false → Thru (stepIn actor b (k + 1) t o) b (k + 1)) → Thru (stepIn actor (act scope (trio b g u)) k t o) (act scope (trio b g u)) k
+    live-thru : getD (o .marks) k 0 ≡ active → Run (o .marks) b (k + 1) → Quiet (o .marks) (k + 1 + size b) (size g + sizes u)
+        → (Waits (o .marks) b (k + 1) t false → some isRash (Body-step .log) ≡ false → Thru Body-step b (k + 1)) → Thru Whole-step (act (scope z₀) (trio b g u)) k
     unfolding size part partAt Its Whole
     live-thru d r q j = go w
       where
-        W : Within f (scopeAt k (trio b g u)) (k + 1) (k + 1 + sizes (trio b g u))
-        W = its-within-scope b g u k x
-
-        go : WaitsIn (o .marks) (trio b g u) (k + 1) t false → Thru (stepIn actor (act scope (trio b g u)) k t o) (act scope (trio b g u)) k
+        go : WaitsIn (o .marks) (trio b g u) (k + 1) t false → Thru Whole-step (act (scope z₀) (trio b g u)) k
         go (waits-first e v) =
-            in-body e (subst (λ (q : Outcome). Thru q b (k + 1)) (sym (body-step p distinct actor b g u k t o lt e))
-            (thru-map (live-passes (scopeAt k (trio b g u)) h (k + 1) (k + 1 + sizes (trio b g u)) W named (omega arith) (omega arith) (λ j a d. omega arith) (λ j a d. omega arith) (calm-body e) (quiet-part q (omega arith) (omega arith)) r
-            (steps p distinct actor sb t o false v refl r (ap phase d) (omega arith)))
-            (j v (calm-its e)) (omega arith) (omega arith)))
+            let a = steps p actor sb (k + 1) t o false refl v refl r (ap phase d) (omega arith) in
+            let i = body-step p actor z₀ b g u y₀ k t active o lt e (a .kept .below k (omega arith) ∙ d) (λ n. absurd (omega (arith, n))) in
+            in-body e (subst (λ (q : Outcome). Thru q b (k + 1)) (sym i)
+            (thru-map (live-passes (scopeAt k (trio b g u)) h (k + 1) (k + 1 + sizes (trio b g u)) W (omega arith) (omega arith) (λ j a d. omega arith) (λ j a d. omega arith) (calm-body i) d a)
+            (j v (calm-its i)) (omega arith) (omega arith)))
         go (waits-later a (waits-first e v)) = absurd (quiet-waits v refl (quiet-part q (omega arith) (omega arith)))
-        go (waits-later a (waits-later e (waits-first z v))) = absurd (quiet-waits v refl (quiet-part q (omega arith) (omega arith)))
-
-  -- a scope that has turned, with the lengths that its parts ask for
-  turned-by : {n : Name} (b g u : Act) (k : ℕ) → Seat p (scopeAt k (trio b g u)) → Sits p (bodyOf (inner k) n) b (k + 1) → Knows f (act scope (trio b g u)) k → Named f g
-      → k + size (act scope (trio b g u)) ≤ length (o .marks) → k < t → WaitsIn (o .marks) (trio b g u) (k + 1) t false → some isRash (stepIn actor (act scope (trio b g u)) k t o .log) ≡ false
-      → Turned (o .marks) (getD (o .marks) k 0) b (k + 1) g (k + 1 + size b) → Quiet (o .marks) (k + 1 + size b + size g) (size u)
-      → ((y : Bool) → Waits (o .marks) b (k + 1) t y → y ≡ false → Stopped (o .marks) b (k + 1) → k + 1 + size b ≤ length (o .marks) → some isRash (stepIn actor b (k + 1) t o .log) ≡ false → Thru (stepIn actor b (k + 1) t o) b (k + 1))
-      → ((y : Bool) → Waits (o .marks) b (k + 1) t y → y ≡ false → Undoing (o .marks) b (k + 1) → (v : Bool) → phase (getD (o .marks) k 0) ≡ Phase.undoes v → k + 1 + size b ≤ length (o .marks) → some isRash (stepIn actor b (k + 1) t o .log) ≡ false
-      → Thru (stepIn actor b (k + 1) t o) b (k + 1))
-      → ((y : Bool) → Waits (o .marks) g (k + 1 + size b) t y → y ≡ false → Run (o .marks) g (k + 1 + size b) → phase (getD (o .marks) k 0) ≡ heals → k + 1 + size b + size g ≤ length (o .marks)
-      → some isRash (stepIn actor g (k + 1 + size b) t o .log) ≡ false → Thru (stepIn actor g (k + 1 + size b) t o) g (k + 1 + size b))
-      → Thru (stepIn actor (act scope (trio b g u)) k t o) (act scope (trio b g u)) k
-  unfolding size
-  turned-by b g u k h sb x named m lt w c r q i j l =
-      turned-thru b g u k h sb x named m lt w c r q (λ y w₁ e₁ r₁ c₁. i y w₁ e₁ r₁ (omega arith) c₁) (λ y w₁ e₁ r₁ v z c₁. j y w₁ e₁ r₁ v z (omega arith) c₁) (λ y w₁ e₁ r₁ z c₁. l y w₁ e₁ r₁ z (omega arith) c₁)
+        go (waits-later a (waits-later e v)) = absurd (quiet-waits-in v refl (quiet-part q (omega arith) (omega arith)))
 
   -- what f knows of the parts
   within-known : {own : Own} {within : Acts} {k : ℕ} → Knows f (act own within) k → KnowsIn f within (k + 1)
@@ -489,188 +554,221 @@ module _ (p : Plan) (distinct : Distinct p) (actor : Actor) (f : ℕ → ℕ) (t
   later-known : {a : Act} {l : Acts} {c : ℕ} → KnowsIn f (more a l) c → KnowsIn f l (c + size a)
   later-known (knows-more x y) = y
 
-  named-of : (b g u : Act) (k : ℕ) → Knows f (act scope (trio b g u)) k → Named f g
-  unfolding kind
-  named-of b g u k (knows e n r y) = second b g u r
-
   -- What the mutual block below asks of each kind of activity, with what it finds of the parts as premises: so that each is checked by itself.
-  part-by : (own : Own) (within : Acts) (k : ℕ) (b : Bool) → isScope own ≡ false → Knows f (act own within) k → Waits (o .marks) (act own within) k t b → b ≡ false → Run (o .marks) (act own within) k
-      → k + size (act own within) ≤ length (o .marks) → Acted k (size (act own within)) o (RunAs p (act own within) k t o) (stepIn actor (act own within) k t o) → some isRash (stepIn actor (act own within) k t o .log) ≡ false
-      → ((c : Bool) → WaitsIn (o .marks) within (k + 1) t c → c ≡ false → One (o .marks) within (k + 1) → k + 1 + sizes within ≤ length (o .marks) → some isRash (stepAmong actor within (k + 1) t o .log) ≡ false
-      → ThruIn (stepAmong actor within (k + 1) t o) within (k + 1))
-      → ((c : Bool) → WaitsIn (o .marks) within (k + 1) t c → c ≡ false → All (o .marks) within (k + 1) → k + 1 + sizes within ≤ length (o .marks) → some isRash (stepAmong actor within (k + 1) t o .log) ≡ false
-      → ThruIn (stepAmong actor within (k + 1) t o) within (k + 1))
-      → Thru (stepIn actor (act own within) k t o) (act own within) k
+  part-by : (own : Own) (within : Acts) (y₀ k : ℕ) (b : Bool) → isScope own ≡ false → Knows f (act own within) k → Waits (o .marks) (act own within) k t b → b ≡ false → Run (o .marks) (act own within) k
+      → k + size (act own within) ≤ length (o .marks) → Acted k (size (act own within)) o (RunAs p (act own within) k t o) (stepIn actor (act own within) y₀ k t o) → some isRash (stepIn actor (act own within) y₀ k t o .log) ≡ false
+      → ((c : Bool) → WaitsIn (o .marks) within (k + 1) t c → c ≡ false → One (o .marks) within (k + 1) → k + 1 + sizes within ≤ length (o .marks) → some isRash (stepAmong actor within false y₀ (k + 1) t o .log) ≡ false
+      → ThruIn (stepAmong actor within false y₀ (k + 1) t o) within (k + 1))
+      → ((c : Bool) → WaitsIn (o .marks) within (k + 1) t c → c ≡ false → All (o .marks) within (k + 1) → k + 1 + sizes within ≤ length (o .marks) → some isRash (stepAmong actor within false y₀ (k + 1) t o .log) ≡ false
+      → ThruIn (stepAmong actor within false y₀ (k + 1) t o) within (k + 1))
+      → Thru (stepIn actor (act own within) y₀ k t o) (act own within) k
   unfolding size
-  part-by own within k b s x w q run m a c one all =
+  part-by own within y₀ k b s x w q run m a c one all =
       let m₁ : k + 1 + sizes within ≤ length (o .marks) = omega arith in
-      part-thru own within k b s x w q run m₁ a c (λ d w₁ e₁ r₁ c₁. one d w₁ e₁ r₁ m₁ c₁) (λ d w₁ e₁ r₁ c₁. all d w₁ e₁ r₁ m₁ c₁)
+      part-thru own within y₀ k b s x w q run m₁ a c (λ d w₁ e₁ r₁ c₁. one d w₁ e₁ r₁ m₁ c₁) (λ d w₁ e₁ r₁ c₁. all d w₁ e₁ r₁ m₁ c₁)
 
-  module _ {n : Name} (b g u : Act) (k : ℕ) (h : Seat p (scopeAt k (trio b g u))) (sb : Sits p (bodyOf (inner k) n) b (k + 1)) (x : Knows f (act scope (trio b g u)) k) (m : k + size (act scope (trio b g u)) ≤ length (o .marks))
-      (i : (y : Bool) → Waits (o .marks) b (k + 1) t y → y ≡ false → Stopped (o .marks) b (k + 1) → k + 1 + size b ≤ length (o .marks) → some isRash (stepIn actor b (k + 1) t o .log) ≡ false → Thru (stepIn actor b (k + 1) t o) b (k + 1))
-      (j : (y : Bool) → Waits (o .marks) b (k + 1) t y → y ≡ false → Undoing (o .marks) b (k + 1) → (v : Bool) → phase (getD (o .marks) k 0) ≡ Phase.undoes v → k + 1 + size b ≤ length (o .marks) → some isRash (stepIn actor b (k + 1) t o .log) ≡ false
-      → Thru (stepIn actor b (k + 1) t o) b (k + 1))
+  module _ {n : Name} {ns : List Name} (z₀ : Bool) (b g : Act) (u : Acts) (y₀ k : ℕ) (h : Seat p (scopeAt k (trio b g u))) (sb : Sits p (bodyOf (inner k) ns n) b (k + 1)) (x : Knows f (act (scope z₀) (trio b g u)) k)
+      (m : k + (1 + (size b + (size g + sizes u))) ≤ length (o .marks))
+      (i : (y : Bool) → Waits (o .marks) b (k + 1) t y → y ≡ false → Stopped (o .marks) b (k + 1) → k + 1 + size b ≤ length (o .marks) → some isRash (stepIn actor b (k + 1) (k + 1) t o .log) ≡ false → Thru (stepIn actor b (k + 1) (k + 1) t o) b (k + 1))
+      (j : (y : Bool) → Waits (o .marks) b (k + 1) t y → y ≡ false → Undoing (o .marks) b (k + 1) → (v : Bool) → phase (getD (o .marks) k 0) ≡ Phase.undoes v → k + 1 + size b ≤ length (o .marks)
+      → some isRash (stepIn actor b (k + 1) (k + 1) t o .log) ≡ false → Thru (stepIn actor b (k + 1) (k + 1) t o) b (k + 1))
       (l : (y : Bool) → Waits (o .marks) g (k + 1 + size b) t y → y ≡ false → Run (o .marks) g (k + 1 + size b) → phase (getD (o .marks) k 0) ≡ heals → k + 1 + size b + size g ≤ length (o .marks)
-      → some isRash (stepIn actor g (k + 1 + size b) t o .log) ≡ false → Thru (stepIn actor g (k + 1 + size b) t o) g (k + 1 + size b)) where
-    scope-run-by : (c : Bool) → Waits (o .marks) (act scope (trio b g u)) k t c → Run (o .marks) (act scope (trio b g u)) k → some isRash (stepIn actor (act scope (trio b g u)) k t o .log) ≡ false
-        → ((y : Bool) → Waits (o .marks) b (k + 1) t y → y ≡ false → Run (o .marks) b (k + 1) → phase (getD (o .marks) k 0) ≡ live → k + 1 + size b ≤ length (o .marks) → some isRash (stepIn actor b (k + 1) t o .log) ≡ false
-        → Thru (stepIn actor b (k + 1) t o) b (k + 1))
-        → Thru (stepIn actor (act scope (trio b g u)) k t o) (act scope (trio b g u)) k
-    unfolding size kind
+      → some isRash (stepIn actor g (k + 1 + size b) (k + 1 + size b) t o .log) ≡ false → Thru (stepIn actor g (k + 1 + size b) (k + 1 + size b) t o) g (k + 1 + size b)) where
+    -- one that has turned, with the lengths that its parts ask for
+    turned-by : k < t → WaitsIn (o .marks) (trio b g u) (k + 1) t false → some isRash (stepIn actor (act (scope z₀) (trio b g u)) y₀ k t o .log) ≡ false
+        → Turned (o .marks) (getD (o .marks) k 0) b (k + 1) g (k + 1 + size b) → Quiet (o .marks) (k + 1 + size b + size g) (sizes u) → Thru (stepIn actor (act (scope z₀) (trio b g u)) y₀ k t o) (act (scope z₀) (trio b g u)) k
+    turned-by lt w c r q =
+        turned-thru {n = n} {ns = ns} z₀ b g u y₀ k h sb x m lt w c r q (λ y w₁ e₁ r₁ c₁. i y w₁ e₁ r₁ (omega arith) c₁) (λ y w₁ e₁ r₁ v z c₁. j y w₁ e₁ r₁ v z (omega arith) c₁) (λ y w₁ e₁ r₁ z c₁. l y w₁ e₁ r₁ z (omega arith) c₁)
+
+    scope-run-by : (c : Bool) → Waits (o .marks) (act (scope z₀) (trio b g u)) k t c → Run (o .marks) (act (scope z₀) (trio b g u)) k → some isRash (stepIn actor (act (scope z₀) (trio b g u)) y₀ k t o .log) ≡ false
+        → ((y : Bool) → Waits (o .marks) b (k + 1) t y → y ≡ false → Run (o .marks) b (k + 1) → phase (getD (o .marks) k 0) ≡ live → k + 1 + size b ≤ length (o .marks) → some isRash (stepIn actor b (k + 1) (k + 1) t o .log) ≡ false
+        → Thru (stepIn actor b (k + 1) (k + 1) t o) b (k + 1))
+        → Thru (stepIn actor (act (scope z₀) (trio b g u)) y₀ k t o) (act (scope z₀) (trio b g u)) k
+    unfolding size
     scope-run-by c (waits-itself e d) r z q = thru-here e
     scope-run-by c (waits-within lt w) (run-awaits s d y v) z q = absurd (false≢true (sym s))
     scope-run-by c (waits-within lt w) (run-one s d y) z q = absurd (false≢true (sym s))
-    scope-run-by c (waits-within lt w) (run-body d r v) z q = live-thru {n = n} b g u k h sb x (named-of b g u k x) m lt w z d r v (λ w₁ c₁. q false w₁ refl r (ap phase d) (omega arith) c₁)
+    scope-run-by c (waits-within lt w) (run-body d r v) z q = live-thru {n = n} {ns = ns} z₀ b g u y₀ k h sb x m lt w z d r v (λ w₁ c₁. q false w₁ refl r (ap phase d) (omega arith) c₁)
     scope-run-by c (waits-within lt w) (run-done d v) z q = absurd (quiet-waits-in w refl (quiet-part v (omega arith) (omega arith)))
-    scope-run-by c (waits-within lt w) (run-turned d v) z q = turned-by {n = n} b g u k h sb x (named-of b g u k x) m lt w z d v i j l
+    scope-run-by c (waits-within lt w) (run-turned d v) z q = turned-by lt w z d v
 
-    scope-stopped-by : (c : Bool) → Waits (o .marks) (act scope (trio b g u)) k t c → c ≡ false → Stopped (o .marks) (act scope (trio b g u)) k → some isRash (stepIn actor (act scope (trio b g u)) k t o .log) ≡ false
-        → Thru (stepIn actor (act scope (trio b g u)) k t o) (act scope (trio b g u)) k
-    unfolding kind
+    scope-stopped-by : (c : Bool) → Waits (o .marks) (act (scope z₀) (trio b g u)) k t c → c ≡ false → Stopped (o .marks) (act (scope z₀) (trio b g u)) k → some isRash (stepIn actor (act (scope z₀) (trio b g u)) y₀ k t o .log) ≡ false
+        → Thru (stepIn actor (act (scope z₀) (trio b g u)) y₀ k t o) (act (scope z₀) (trio b g u)) k
     scope-stopped-by c w q (stopped-part s e d) z = absurd (false≢true (sym s))
     scope-stopped-by c w q (stopped-quiet e) z = absurd (quiet-waits w q e)
     scope-stopped-by c (waits-itself e d) q (stopped-scope y v) z = thru-here e
-    scope-stopped-by c (waits-within lt w) q (stopped-scope y v) z = turned-by {n = n} b g u k h sb x (named-of b g u k x) m lt w z y v i j l
+    scope-stopped-by c (waits-within lt w) q (stopped-scope y v) z = turned-by lt w z y v
 
-  scope-undoing-by : (b g u : Act) (k : ℕ) (c : Bool) → k + size (act scope (trio b g u)) ≤ length (o .marks) → Waits (o .marks) (act scope (trio b g u)) k t c → Undoing (o .marks) (act scope (trio b g u)) k
-      → some isRash (stepIn actor (act scope (trio b g u)) k t o .log) ≡ false
-      → ((y : Bool) → Waits (o .marks) u (k + 1 + size b + size g) t y → y ≡ false → Run (o .marks) u (k + 1 + size b + size g) → k + 1 + size b + size g + size u ≤ length (o .marks)
-      → some isRash (stepIn actor u (k + 1 + size b + size g) t o .log) ≡ false → Thru (stepIn actor u (k + 1 + size b + size g) t o) u (k + 1 + size b + size g))
-      → Thru (stepIn actor (act scope (trio b g u)) k t o) (act scope (trio b g u)) k
-  unfolding size kind Its Whole
-  scope-undoing-by b g u k c m w (undoing-part s e d) z i = absurd (false≢true (sym s))
-  scope-undoing-by b g u k c m (waits-itself e d) (undoing-scope x q r) z i = thru-here e
-  scope-undoing-by b g u k c m (waits-within h (waits-first h₁ w)) (undoing-scope x q r) z i = absurd (quiet-waits w refl (quiet-part q (omega arith) (omega arith)))
-  scope-undoing-by b g u k c m (waits-within h (waits-later h₁ (waits-first h₂ w))) (undoing-scope x q r) z i = absurd (quiet-waits w refl (quiet-part q (omega arith) (omega arith)))
-  scope-undoing-by b g u k c m (waits-within h (waits-later h₁ (waits-later h₂ (waits-first h₃ w)))) (undoing-scope x q r) z i =
-      let e = undo-step p distinct actor b g u k t o h₂ h₃ in
-      thru-in h (λ d. absurd (false≢true d)) (thru-later h₁ (thru-later h₂ (thru-first h₃
+  -- one whose undo part runs, and one that was looked through
+  scope-undoing-by : (b g u : Act) (y₀ k : ℕ) (c : Bool) → k + (1 + (size b + (size g + (size u + 0)))) ≤ length (o .marks) → Waits (o .marks) (act (scope true) (trio b g (more u none))) k t c → Quiet (o .marks) (k + 1) (size b + size g)
+      → some isRash (stepIn actor (act (scope true) (trio b g (more u none))) y₀ k t o .log) ≡ false
+      → (Waits (o .marks) u (k + 1 + size b + size g) t false → k + 1 + size b + size g + size u ≤ length (o .marks) → some isRash (stepIn actor u (k + 1 + size b + size g) (k + 1 + size b + size g) t o .log) ≡ false
+      → Thru (stepIn actor u (k + 1 + size b + size g) (k + 1 + size b + size g) t o) u (k + 1 + size b + size g))
+      → Thru (stepIn actor (act (scope true) (trio b g (more u none))) y₀ k t o) (act (scope true) (trio b g (more u none))) k
+  unfolding size Its Whole
+  scope-undoing-by b g u y₀ k c m (waits-itself e d) q z i = thru-here e
+  scope-undoing-by b g u y₀ k c m (waits-within h (waits-first h₁ w)) q z i = absurd (quiet-waits w refl (quiet-part q (omega arith) (omega arith)))
+  scope-undoing-by b g u y₀ k c m (waits-within h (waits-later h₁ (waits-first h₂ w))) q z i = absurd (quiet-waits w refl (quiet-part q (omega arith) (omega arith)))
+  scope-undoing-by b g u y₀ k c m (waits-within h (waits-later h₁ (waits-later h₂ (waits-first h₃ w)))) q z i =
+      let e = undo-step p actor b g u y₀ k t o h₂ h₃ in
+      thru-in h (λ d. absurd (no-sequence true d)) (thru-later h₁ (thru-later h₂ (thru-first h₃
       (subst (λ (v : Outcome). Thru v u (k + 1 + size b + size g)) (sym e)
-      (thru-map (undo-passes u (k + 1 + size b + size g) (size u)) (i _ w refl r (omega arith) (undo-calm (stepIn actor u (k + 1 + size b + size g) t o) (subst (λ (v : Outcome). some isRash (v .log) ≡ false) e z))) (omega arith) (omega arith))))))
+      (thru-map (undo-passes u (k + 1 + size b + size g) (size u)) (i w (omega arith) (undo-calm (stepIn actor u (k + 1 + size b + size g) (k + 1 + size b + size g) t o) (subst (λ (v : Outcome). some isRash (v .log) ≡ false) e z))) (omega arith) (omega arith))))))
 
-  part-stopped-by : (own : Own) (within : Acts) (k : ℕ) (b : Bool) {x : Place} → isScope own ≡ false → SitsIn p x within (k + 1) → Knows f (act own within) k → Waits (o .marks) (act own within) k t b → Stopped (o .marks) (act own within) k
-      → k + size (act own within) ≤ length (o .marks) → some isRash (stepIn actor (act own within) k t o .log) ≡ false
-      → ((c : Bool) → WaitsIn (o .marks) within (k + 1) t c → c ≡ false → StoppedIn (o .marks) within (k + 1) → k + 1 + sizes within ≤ length (o .marks) → some isRash (stepAmong actor within (k + 1) t o .log) ≡ false
-      → ThruIn (stepAmong actor within (k + 1) t o) within (k + 1))
-      → Thru (stepIn actor (act own within) k t o) (act own within) k
+  scope-through-by : {m₀ : Name} (b g : Act) (u : Acts) (y₀ k : ℕ) (c : Bool) → Waits (o .marks) (act (scope false) (trio b g u)) k t c → getD (o .marks) k 0 ≡ idle → Quiet (o .marks) (k + 1 + size b) (size g + sizes u)
+      → some isRash (stepIn actor (act (scope false) (trio b g u)) y₀ k t o .log) ≡ false
+      → (Waits (o .marks) b (k + 1) t false → Acted (k + 1) (size b) o (UndoAs p m₀ b (k + 1) t o) (stepIn actor b (k + 1) (k + 1) t o))
+      → (Waits (o .marks) b (k + 1) t false → some isRash (stepIn actor b (k + 1) (k + 1) t o .log) ≡ false → Thru (stepIn actor b (k + 1) (k + 1) t o) b (k + 1))
+      → Thru (stepIn actor (act (scope false) (trio b g u)) y₀ k t o) (act (scope false) (trio b g u)) k
+  unfolding size
+  scope-through-by b g u y₀ k c (waits-itself e d) x q z a i = thru-here e
+  scope-through-by {m₀ = m₀} b g u y₀ k c (waits-within h (waits-first h₁ w)) x q z a i =
+      let e = through-is p actor b g u y₀ k t m₀ o x h h₁ (a w) in
+      thru-in h (λ d. absurd (no-sequence false d)) (thru-first h₁ (subst (λ (v : Outcome). Thru v b (k + 1)) (sym e) (i w (subst (λ (v : Outcome). some isRash (v .log) ≡ false) e z))))
+  scope-through-by b g u y₀ k c (waits-within h (waits-later h₁ w)) x q z a i = absurd (quiet-waits-in w refl q)
+
+  part-stopped-by : (own : Own) (within : Acts) (y₀ k : ℕ) (b : Bool) {x : Place} → isScope own ≡ false → SitsIn p x within (k + 1) → PartOf x y₀ → Knows f (act own within) k → Waits (o .marks) (act own within) k t b → Stopped (o .marks) (act own within) k
+      → k + size (act own within) ≤ length (o .marks) → some isRash (stepIn actor (act own within) y₀ k t o .log) ≡ false
+      → ((c : Bool) → WaitsIn (o .marks) within (k + 1) t c → c ≡ false → StoppedIn (o .marks) within (k + 1) → k + 1 + sizes within ≤ length (o .marks) → some isRash (stepAmong actor within false y₀ (k + 1) t o .log) ≡ false
+      → ThruIn (stepAmong actor within false y₀ (k + 1) t o) within (k + 1))
+      → Thru (stepIn actor (act own within) y₀ k t o) (act own within) k
   unfolding size kind
-  part-stopped-by own within k b s y x (waits-itself e d) r m z i = thru-here e
-  part-stopped-by own within k b s y x (waits-within h w) (stopped-part s₁ e j) m z i =
+  part-stopped-by own within y₀ k b s y y₁ x (waits-itself e d) r m z i = thru-here e
+  part-stopped-by own within y₀ k b s y y₁ x (waits-within h w) (stopped-part s₁ e j) m z i =
       let c = opens-idle own (getD (o .marks) k 0) e in
-      idle-thru own within k x s e (stopped-part-not p distinct actor j w c) h (omega arith) (steps-stopped-in p distinct actor y t o _ w c j (omega arith)) z (λ c₁. i _ w c j (omega arith) c₁)
-  part-stopped-by own within k b s y x (waits-within h w) (stopped-quiet j) m z i =
+      idle-thru own within y₀ k x s e (stopped-part-not p actor j w c) h (omega arith) (steps-stopped-in p actor y y₀ t o _ y₁ w c j (omega arith)) z (λ c₁. i _ w c j (omega arith) c₁)
+  part-stopped-by own within y₀ k b s y y₁ x (waits-within h w) (stopped-quiet j) m z i =
       absurd (quiet-waits-in w (opens-idle own (getD (o .marks) k 0) (j .at k (omega arith) (omega arith))) (quiet-part j (omega arith) (omega arith)))
-  part-stopped-by own within k b s y x (waits-within h w) (stopped-scope e j) m z i = absurd (false≢true (sym s))
+  part-stopped-by own within y₀ k b s y y₁ x (waits-within h w) (stopped-scope e j) m z i = absurd (false≢true (sym s))
 
-  part-undoing-by : (own : Own) (within : Acts) (k : ℕ) (b : Bool) {x : Place} → isScope own ≡ false → SitsIn p x within (k + 1) → Fit (undoOf (nameOf x) (aroundOf x)) o → Knows f (act own within) k → Waits (o .marks) (act own within) k t b
-      → Undoing (o .marks) (act own within) k → k + size (act own within) ≤ length (o .marks) → some isRash (stepIn actor (act own within) k t o .log) ≡ false
-      → ((c : Bool) → WaitsIn (o .marks) within (k + 1) t c → c ≡ false → UndoingIn (o .marks) within (k + 1) → k + 1 + sizes within ≤ length (o .marks) → some isRash (stepAmong actor within (k + 1) t o .log) ≡ false
-      → ThruIn (stepAmong actor within (k + 1) t o) within (k + 1))
-      → Thru (stepIn actor (act own within) k t o) (act own within) k
+  part-undoing-by : (own : Own) (within : Acts) (y₀ k : ℕ) (b : Bool) {x : Place} → isScope own ≡ false → SitsIn p x within (k + 1) → PartOf x y₀ → (m₀ : Name) → runnerAt (λ n. markOf n o) (nameOf x) (beyondOf x) ≡ m₀ → Fit (undoOf (nameOf x) (beyondOf x) (lastOf x)) o → Knows f (act own within) k → Waits (o .marks) (act own within) k t b
+      → Undoing (o .marks) (act own within) k → k + size (act own within) ≤ length (o .marks) → some isRash (stepIn actor (act own within) y₀ k t o .log) ≡ false
+      → ((c : Bool) → WaitsIn (o .marks) within (k + 1) t c → c ≡ false → UndoingIn (o .marks) within (k + 1) → k + 1 + sizes within ≤ length (o .marks) → some isRash (stepAmong actor within false y₀ (k + 1) t o .log) ≡ false
+      → ThruIn (stepAmong actor within false y₀ (k + 1) t o) within (k + 1))
+      → Thru (stepIn actor (act own within) y₀ k t o) (act own within) k
   unfolding size kind
-  part-undoing-by own within k b s y v x (waits-itself e d) r m z i = thru-here e
-  part-undoing-by own within k b s y v x (waits-within h w) (undoing-part s₁ e j) m z i =
+  part-undoing-by own within y₀ k b s y y₁ m₀ y₂ v x (waits-itself e d) r m z i = thru-here e
+  part-undoing-by own within y₀ k b s y y₁ m₀ y₂ v x (waits-within h w) (undoing-part s₁ e j) m z i =
       let c = opens-idle own (getD (o .marks) k 0) e in
-      idle-thru own within k x s e (undoing-part-not p distinct actor j w c) h (omega arith) (steps-undoing-in p distinct actor y t o _ w c j v (omega arith)) z (λ c₁. i _ w c j (omega arith) c₁)
-  part-undoing-by own within k b s y v x (waits-within h w) (undoing-scope e j q) m z i = absurd (false≢true (sym s))
+      idle-thru own within y₀ k x s e (undoing-part-not p actor j w c) h (omega arith) (steps-undoing-in p actor y y₀ t o _ y₁ w c j m₀ y₂ v (omega arith)) z (λ c₁. i _ w c j (omega arith) c₁)
+  part-undoing-by own within y₀ k b s y y₁ m₀ y₂ v x (waits-within h w) (undoing-scope e j q) m z i = absurd (false≢true (sym s))
+  part-undoing-by own within y₀ k b s y y₁ m₀ y₂ v x (waits-within h w) (undoing-through e j q) m z i = absurd (false≢true (sym s))
 
   -- lists: the one with the step, or a later one
-  one-by : (a : Act) (l : Acts) (c : ℕ) (b : Bool) → WaitsIn (o .marks) (more a l) c t b → b ≡ false → One (o .marks) (more a l) c → c + sizes (more a l) ≤ length (o .marks) → some isRash (stepAmong actor (more a l) c t o .log) ≡ false
-      → (Waits (o .marks) a c t b → Run (o .marks) a c → c + size a ≤ length (o .marks) → some isRash (stepIn actor a c t o .log) ≡ false → Thru (stepIn actor a c t o) a c)
-      → (WaitsIn (o .marks) l (c + size a) t b → One (o .marks) l (c + size a) → c + size a + sizes l ≤ length (o .marks) → some isRash (stepAmong actor l (c + size a) t o .log) ≡ false
-      → ThruIn (stepAmong actor l (c + size a) t o) l (c + size a))
-      → ThruIn (stepAmong actor (more a l) c t o) (more a l) c
+  one-by : (a : Act) (l : Acts) (y₀ c : ℕ) (b : Bool) → WaitsIn (o .marks) (more a l) c t b → b ≡ false → One (o .marks) (more a l) c → c + sizes (more a l) ≤ length (o .marks) → some isRash (stepAmong actor (more a l) false y₀ c t o .log) ≡ false
+      → (Waits (o .marks) a c t b → Run (o .marks) a c → c + size a ≤ length (o .marks) → some isRash (stepIn actor a y₀ c t o .log) ≡ false → Thru (stepIn actor a y₀ c t o) a c)
+      → (WaitsIn (o .marks) l (c + size a) t b → One (o .marks) l (c + size a) → c + size a + sizes l ≤ length (o .marks) → some isRash (stepAmong actor l false y₀ (c + size a) t o .log) ≡ false
+      → ThruIn (stepAmong actor l false y₀ (c + size a) t o) l (c + size a))
+      → ThruIn (stepAmong actor (more a l) false y₀ c t o) (more a l) c
   unfolding size
-  one-by a l c b (waits-first h w) e (one-here r q) m i f g = first-thru a l c h (f w r (omega arith) (calm-first a l c h i))
-  one-by a l c b (waits-later h w) e (one-here r q) m i f g = absurd (quiet-waits-in w e q)
-  one-by a l c b (waits-first h w) e (one-later q r) m i f g = absurd (quiet-waits w e q)
-  one-by a l c b (waits-later h w) e (one-later q r) m i f g = later-thru a l c h (g w r (omega arith) (calm-later a l c h i))
+  one-by a l y₀ c b (waits-first h w) e (one-here r q) m i f g = first-thru a l y₀ c h (f w r (omega arith) (calm-first a l y₀ c h i))
+  one-by a l y₀ c b (waits-later h w) e (one-here r q) m i f g = absurd (quiet-waits-in w e q)
+  one-by a l y₀ c b (waits-first h w) e (one-later q r) m i f g = absurd (quiet-waits w e q)
+  one-by a l y₀ c b (waits-later h w) e (one-later q r) m i f g = later-thru a l y₀ c h (g w r (omega arith) (calm-later a l y₀ c h i))
 
-  all-by : (a : Act) (l : Acts) (c : ℕ) (b : Bool) → WaitsIn (o .marks) (more a l) c t b → b ≡ false → All (o .marks) (more a l) c → c + sizes (more a l) ≤ length (o .marks) → some isRash (stepAmong actor (more a l) c t o .log) ≡ false
-      → (Waits (o .marks) a c t b → Run (o .marks) a c → c + size a ≤ length (o .marks) → some isRash (stepIn actor a c t o .log) ≡ false → Thru (stepIn actor a c t o) a c)
-      → (WaitsIn (o .marks) l (c + size a) t b → All (o .marks) l (c + size a) → c + size a + sizes l ≤ length (o .marks) → some isRash (stepAmong actor l (c + size a) t o .log) ≡ false
-      → ThruIn (stepAmong actor l (c + size a) t o) l (c + size a))
-      → ThruIn (stepAmong actor (more a l) c t o) (more a l) c
+  all-by : (a : Act) (l : Acts) (y₀ c : ℕ) (b : Bool) → WaitsIn (o .marks) (more a l) c t b → b ≡ false → All (o .marks) (more a l) c → c + sizes (more a l) ≤ length (o .marks) → some isRash (stepAmong actor (more a l) false y₀ c t o .log) ≡ false
+      → (Waits (o .marks) a c t b → Run (o .marks) a c → c + size a ≤ length (o .marks) → some isRash (stepIn actor a y₀ c t o .log) ≡ false → Thru (stepIn actor a y₀ c t o) a c)
+      → (WaitsIn (o .marks) l (c + size a) t b → All (o .marks) l (c + size a) → c + size a + sizes l ≤ length (o .marks) → some isRash (stepAmong actor l false y₀ (c + size a) t o .log) ≡ false
+      → ThruIn (stepAmong actor l false y₀ (c + size a) t o) l (c + size a))
+      → ThruIn (stepAmong actor (more a l) false y₀ c t o) (more a l) c
   unfolding size
-  all-by a l c b (waits-first h w) e (all-run r q) m i f g = first-thru a l c h (f w r (omega arith) (calm-first a l c h i))
-  all-by a l c b (waits-first h w) e (all-quiet q r) m i f g = absurd (quiet-waits w e q)
-  all-by a l c b (waits-later h w) e (all-run r q) m i f g = later-thru a l c h (g w q (omega arith) (calm-later a l c h i))
-  all-by a l c b (waits-later h w) e (all-quiet q r) m i f g = later-thru a l c h (g w r (omega arith) (calm-later a l c h i))
+  all-by a l y₀ c b (waits-first h w) e (all-run r q) m i f g = first-thru a l y₀ c h (f w r (omega arith) (calm-first a l y₀ c h i))
+  all-by a l y₀ c b (waits-first h w) e (all-quiet q r) m i f g = absurd (quiet-waits w e q)
+  all-by a l y₀ c b (waits-later h w) e (all-run r q) m i f g = later-thru a l y₀ c h (g w q (omega arith) (calm-later a l y₀ c h i))
+  all-by a l y₀ c b (waits-later h w) e (all-quiet q r) m i f g = later-thru a l y₀ c h (g w r (omega arith) (calm-later a l y₀ c h i))
 
-  stopped-by : (a : Act) (l : Acts) (c : ℕ) (b : Bool) → WaitsIn (o .marks) (more a l) c t b → StoppedIn (o .marks) (more a l) c → c + sizes (more a l) ≤ length (o .marks) → some isRash (stepAmong actor (more a l) c t o .log) ≡ false
-      → (Waits (o .marks) a c t b → Stopped (o .marks) a c → c + size a ≤ length (o .marks) → some isRash (stepIn actor a c t o .log) ≡ false → Thru (stepIn actor a c t o) a c)
-      → (WaitsIn (o .marks) l (c + size a) t b → StoppedIn (o .marks) l (c + size a) → c + size a + sizes l ≤ length (o .marks) → some isRash (stepAmong actor l (c + size a) t o .log) ≡ false
-      → ThruIn (stepAmong actor l (c + size a) t o) l (c + size a))
-      → ThruIn (stepAmong actor (more a l) c t o) (more a l) c
+  stopped-by : (a : Act) (l : Acts) (y₀ c : ℕ) (b : Bool) → WaitsIn (o .marks) (more a l) c t b → StoppedIn (o .marks) (more a l) c → c + sizes (more a l) ≤ length (o .marks) → some isRash (stepAmong actor (more a l) false y₀ c t o .log) ≡ false
+      → (Waits (o .marks) a c t b → Stopped (o .marks) a c → c + size a ≤ length (o .marks) → some isRash (stepIn actor a y₀ c t o .log) ≡ false → Thru (stepIn actor a y₀ c t o) a c)
+      → (WaitsIn (o .marks) l (c + size a) t b → StoppedIn (o .marks) l (c + size a) → c + size a + sizes l ≤ length (o .marks) → some isRash (stepAmong actor l false y₀ (c + size a) t o .log) ≡ false
+      → ThruIn (stepAmong actor l false y₀ (c + size a) t o) l (c + size a))
+      → ThruIn (stepAmong actor (more a l) false y₀ c t o) (more a l) c
   unfolding size
-  stopped-by a l c b (waits-first h w) (stopped-more r q) m i f g = first-thru a l c h (f w r (omega arith) (calm-first a l c h i))
-  stopped-by a l c b (waits-later h w) (stopped-more r q) m i f g = later-thru a l c h (g w q (omega arith) (calm-later a l c h i))
+  stopped-by a l y₀ c b (waits-first h w) (stopped-more r q) m i f g = first-thru a l y₀ c h (f w r (omega arith) (calm-first a l y₀ c h i))
+  stopped-by a l y₀ c b (waits-later h w) (stopped-more r q) m i f g = later-thru a l y₀ c h (g w q (omega arith) (calm-later a l y₀ c h i))
 
-  undoing-by : (a : Act) (l : Acts) (c : ℕ) (b : Bool) → WaitsIn (o .marks) (more a l) c t b → b ≡ false → UndoingIn (o .marks) (more a l) c → c + sizes (more a l) ≤ length (o .marks) → some isRash (stepAmong actor (more a l) c t o .log) ≡ false
-      → (Waits (o .marks) a c t b → Undoing (o .marks) a c → c + size a ≤ length (o .marks) → some isRash (stepIn actor a c t o .log) ≡ false → Thru (stepIn actor a c t o) a c)
-      → (WaitsIn (o .marks) l (c + size a) t b → UndoingIn (o .marks) l (c + size a) → c + size a + sizes l ≤ length (o .marks) → some isRash (stepAmong actor l (c + size a) t o .log) ≡ false
-      → ThruIn (stepAmong actor l (c + size a) t o) l (c + size a))
-      → ThruIn (stepAmong actor (more a l) c t o) (more a l) c
+  undoing-by : (a : Act) (l : Acts) (y₀ c : ℕ) (b : Bool) → WaitsIn (o .marks) (more a l) c t b → b ≡ false → UndoingIn (o .marks) (more a l) c → c + sizes (more a l) ≤ length (o .marks) → some isRash (stepAmong actor (more a l) false y₀ c t o .log) ≡ false
+      → (Waits (o .marks) a c t b → Undoing (o .marks) a c → c + size a ≤ length (o .marks) → some isRash (stepIn actor a y₀ c t o .log) ≡ false → Thru (stepIn actor a y₀ c t o) a c)
+      → (WaitsIn (o .marks) l (c + size a) t b → UndoingIn (o .marks) l (c + size a) → c + size a + sizes l ≤ length (o .marks) → some isRash (stepAmong actor l false y₀ (c + size a) t o .log) ≡ false
+      → ThruIn (stepAmong actor l false y₀ (c + size a) t o) l (c + size a))
+      → ThruIn (stepAmong actor (more a l) false y₀ c t o) (more a l) c
   unfolding size
-  undoing-by a l c b (waits-first h w) e (undoing-here r q) m i f g = first-thru a l c h (f w r (omega arith) (calm-first a l c h i))
-  undoing-by a l c b (waits-later h w) e (undoing-here r q) m i f g = absurd (quiet-waits-in w e q)
-  undoing-by a l c b (waits-first h w) e (undoing-later q r) m i f g = absurd (quiet-waits w e q)
-  undoing-by a l c b (waits-later h w) e (undoing-later q r) m i f g = later-thru a l c h (g w r (omega arith) (calm-later a l c h i))
+  undoing-by a l y₀ c b (waits-first h w) e (undoing-here r q) m i f g = first-thru a l y₀ c h (f w r (omega arith) (calm-first a l y₀ c h i))
+  undoing-by a l y₀ c b (waits-later h w) e (undoing-here r q) m i f g = absurd (quiet-waits-in w e q)
+  undoing-by a l y₀ c b (waits-first h w) e (undoing-later q r) m i f g = absurd (quiet-waits w e q)
+  undoing-by a l y₀ c b (waits-later h w) e (undoing-later q r) m i f g = later-thru a l y₀ c h (g w r (omega arith) (calm-later a l y₀ c h i))
 
   mutual
-    pub thru-run : {x : Place} {a : Act} {k : ℕ} → Sits p x a k → Knows f a k → (b : Bool) → Waits (o .marks) a k t b → b ≡ false → Run (o .marks) a k → Fit x o → k + size a ≤ length (o .marks)
-        → some isRash (stepIn actor a k t o .log) ≡ false → Thru (stepIn actor a k t o) a k
-    thru-run (sits-part {q = x} {own} {within} {k} s g u y l) z b w q run v m c =
-        part-by own within k b s z w q run m (steps p distinct actor (sits-part s g u y l) t o b w q run v m) c
-        (λ d w₁ e₁ r₁ m₁ c₁. thru-one l (within-known z) d w₁ e₁ r₁ v m₁ c₁) (λ d w₁ e₁ r₁ m₁ c₁. thru-all l (within-known z) d w₁ e₁ r₁ v m₁ c₁)
-    thru-run (sits-scope {n} {c = a} {b} {f = g} {u} {k} kn d i sb y sf su) z c w q run v m r =
-        scope-run-by {n = n} b g u k (seat-of u kn i sb y sf) sb z m
-        (λ x w₁ e₁ r₁ m₁ c₁. thru-stopped sb (first-known (within-known z)) x w₁ e₁ r₁ m₁ c₁)
-        (λ x w₁ e₁ r₁ a z₁ m₁ c₁. thru-undoing sb (first-known (within-known z)) x w₁ e₁ r₁ (a, z₁) m₁ c₁)
-        (λ x w₁ e₁ r₁ z₁ m₁ c₁. thru-part sf (first-known (later-known (within-known z))) x w₁ e₁ r₁ z₁ m₁ c₁)
-        c w run r
-        (λ x w₁ e₁ r₁ z₁ m₁ c₁. thru-run sb (first-known (within-known z)) x w₁ e₁ r₁ z₁ m₁ c₁)
+    unfolding size
 
-    thru-one : {x : Place} {l : Acts} {c : ℕ} → SitsIn p x l c → KnowsIn f l c → (b : Bool) → WaitsIn (o .marks) l c t b → b ≡ false → One (o .marks) l c → Fit x o → c + sizes l ≤ length (o .marks)
-        → some isRash (stepAmong actor l c t o .log) ≡ false → ThruIn (stepAmong actor l c t o) l c
-    thru-one (sits-more {q = x} {a} {l} {c} s y) z b w e r v m i =
-        one-by a l c b w e r m i (λ w₁ r₁ m₁ c₁. thru-run s (first-known z) b w₁ e r₁ v m₁ c₁) (λ w₁ r₁ m₁ c₁. thru-one y (later-known z) b w₁ e r₁ v m₁ c₁)
+    pub thru-run : {x : Place} {a : Act} {k : ℕ} → Sits p x a k → Knows f a k → (y₀ : ℕ) → PartOf x y₀ → (b : Bool) → Waits (o .marks) a k t b → b ≡ false → Run (o .marks) a k → Fit x o → k + size a ≤ length (o .marks)
+        → some isRash (stepIn actor a y₀ k t o .log) ≡ false → Thru (stepIn actor a y₀ k t o) a k
+    thru-run (sits-part {q = x} {own} {within} {k} s g u y l) z y₀ y₁ b w q run v m c =
+        part-by own within y₀ k b s z w q run m (steps p actor (sits-part s g u y l) y₀ t o b y₁ w q run v m) c
+        (λ d w₁ e₁ r₁ m₁ c₁. thru-one l (within-known z) y₀ y₁ d w₁ e₁ r₁ v m₁ c₁) (λ d w₁ e₁ r₁ m₁ c₁. thru-all l (within-known z) y₀ y₁ d w₁ e₁ r₁ v m₁ c₁)
+    thru-run (sits-scope {v = z₀} {n} {c = a} {ns} {b} {f = g} {u} {k} kn d i sb y sf su) z y₀ y₁ c w q run v m e =
+        scope-run-by z₀ b g u y₀ k (seat-of u kn d i sb y sf) sb z m
+        (λ x w₁ e₁ r₁ m₁ c₁. thru-stopped sb (first-known (within-known z)) (k + 1) refl x w₁ e₁ r₁ m₁ c₁)
+        (λ x w₁ e₁ r₁ v z₁ m₁ c₁. let r = awake-first p actor (λ n. markOf n o) (inner k) (cond z₀ [] (n ∷ ns)) v z₁ in
+        thru-undoing sb (first-known (within-known z)) (k + 1) refl x w₁ e₁ r₁ (inner k) r (v, ap (λ (n : Name). phase (markOf n o)) r ∙ z₁) m₁ c₁)
+        (λ x w₁ e₁ r₁ z₁ m₁ c₁. thru-part sf (first-known (later-known (within-known z))) (k + 1 + size b) tt x w₁ e₁ r₁ z₁ m₁ c₁)
+        c w run e
+        (λ x w₁ e₁ r₁ z₁ m₁ c₁. thru-run sb (first-known (within-known z)) (k + 1) refl x w₁ e₁ r₁ z₁ m₁ c₁)
 
-    thru-all : {x : Place} {l : Acts} {c : ℕ} → SitsIn p x l c → KnowsIn f l c → (b : Bool) → WaitsIn (o .marks) l c t b → b ≡ false → All (o .marks) l c → Fit x o → c + sizes l ≤ length (o .marks)
-        → some isRash (stepAmong actor l c t o .log) ≡ false → ThruIn (stepAmong actor l c t o) l c
-    thru-all (sits-more {q = x} {a} {l} {c} s y) z b w e r v m i =
-        all-by a l c b w e r m i (λ w₁ r₁ m₁ c₁. thru-run s (first-known z) b w₁ e r₁ v m₁ c₁) (λ w₁ r₁ m₁ c₁. thru-all y (later-known z) b w₁ e r₁ v m₁ c₁)
+    thru-one : {x : Place} {l : Acts} {c : ℕ} → SitsIn p x l c → KnowsIn f l c → (y₀ : ℕ) → PartOf x y₀ → (b : Bool) → WaitsIn (o .marks) l c t b → b ≡ false → One (o .marks) l c → Fit x o → c + sizes l ≤ length (o .marks)
+        → some isRash (stepAmong actor l false y₀ c t o .log) ≡ false → ThruIn (stepAmong actor l false y₀ c t o) l c
+    thru-one (sits-more {q = x} {a} {l} {c} s y) z y₀ y₁ b w e r v m i =
+        one-by a l y₀ c b w e r m i (λ w₁ r₁ m₁ c₁. thru-run s (first-known z) y₀ y₁ b w₁ e r₁ v m₁ c₁) (λ w₁ r₁ m₁ c₁. thru-one y (later-known z) y₀ y₁ b w₁ e r₁ v m₁ c₁)
 
-    pub thru-stopped : {x : Place} {a : Act} {k : ℕ} → Sits p x a k → Knows f a k → (b : Bool) → Waits (o .marks) a k t b → b ≡ false → Stopped (o .marks) a k → k + size a ≤ length (o .marks)
-        → some isRash (stepIn actor a k t o .log) ≡ false → Thru (stepIn actor a k t o) a k
-    thru-stopped (sits-part {q = x} {own} {within} {k} s g u y l) z b w q r m c =
-        part-stopped-by own within k b s l z w r m c (λ d w₁ e₁ r₁ m₁ c₁. thru-stopped-in l (within-known z) d w₁ e₁ r₁ m₁ c₁)
-    thru-stopped (sits-scope {n} {c = a} {b} {f = g} {u} {k} kn d i sb y sf su) z c w q r m e =
-        scope-stopped-by {n = n} b g u k (seat-of u kn i sb y sf) sb z m
-        (λ x w₁ e₁ r₁ m₁ c₁. thru-stopped sb (first-known (within-known z)) x w₁ e₁ r₁ m₁ c₁)
-        (λ x w₁ e₁ r₁ a z₁ m₁ c₁. thru-undoing sb (first-known (within-known z)) x w₁ e₁ r₁ (a, z₁) m₁ c₁)
-        (λ x w₁ e₁ r₁ z₁ m₁ c₁. thru-part sf (first-known (later-known (within-known z))) x w₁ e₁ r₁ z₁ m₁ c₁)
+    thru-all : {x : Place} {l : Acts} {c : ℕ} → SitsIn p x l c → KnowsIn f l c → (y₀ : ℕ) → PartOf x y₀ → (b : Bool) → WaitsIn (o .marks) l c t b → b ≡ false → All (o .marks) l c → Fit x o → c + sizes l ≤ length (o .marks)
+        → some isRash (stepAmong actor l false y₀ c t o .log) ≡ false → ThruIn (stepAmong actor l false y₀ c t o) l c
+    thru-all (sits-more {q = x} {a} {l} {c} s y) z y₀ y₁ b w e r v m i =
+        all-by a l y₀ c b w e r m i (λ w₁ r₁ m₁ c₁. thru-run s (first-known z) y₀ y₁ b w₁ e r₁ v m₁ c₁) (λ w₁ r₁ m₁ c₁. thru-all y (later-known z) y₀ y₁ b w₁ e r₁ v m₁ c₁)
+
+    pub thru-stopped : {x : Place} {a : Act} {k : ℕ} → Sits p x a k → Knows f a k → (y₀ : ℕ) → PartOf x y₀ → (b : Bool) → Waits (o .marks) a k t b → b ≡ false → Stopped (o .marks) a k → k + size a ≤ length (o .marks)
+        → some isRash (stepIn actor a y₀ k t o .log) ≡ false → Thru (stepIn actor a y₀ k t o) a k
+    thru-stopped (sits-part {q = x} {own} {within} {k} s g u y l) z y₀ y₁ b w q r m c =
+        part-stopped-by own within y₀ k b s l y₁ z w r m c (λ d w₁ e₁ r₁ m₁ c₁. thru-stopped-in l (within-known z) y₀ y₁ d w₁ e₁ r₁ m₁ c₁)
+    thru-stopped (sits-scope {v = z₀} {n} {c = a} {ns} {b} {f = g} {u} {k} kn d i sb y sf su) z y₀ y₁ c w q r m e =
+        scope-stopped-by z₀ b g u y₀ k (seat-of u kn d i sb y sf) sb z m
+        (λ x w₁ e₁ r₁ m₁ c₁. thru-stopped sb (first-known (within-known z)) (k + 1) refl x w₁ e₁ r₁ m₁ c₁)
+        (λ x w₁ e₁ r₁ v z₁ m₁ c₁. let r = awake-first p actor (λ n. markOf n o) (inner k) (cond z₀ [] (n ∷ ns)) v z₁ in
+        thru-undoing sb (first-known (within-known z)) (k + 1) refl x w₁ e₁ r₁ (inner k) r (v, ap (λ (n : Name). phase (markOf n o)) r ∙ z₁) m₁ c₁)
+        (λ x w₁ e₁ r₁ z₁ m₁ c₁. thru-part sf (first-known (later-known (within-known z))) (k + 1 + size b) tt x w₁ e₁ r₁ z₁ m₁ c₁)
         c w q r e
 
-    thru-stopped-in : {x : Place} {l : Acts} {c : ℕ} → SitsIn p x l c → KnowsIn f l c → (b : Bool) → WaitsIn (o .marks) l c t b → b ≡ false → StoppedIn (o .marks) l c → c + sizes l ≤ length (o .marks)
-        → some isRash (stepAmong actor l c t o .log) ≡ false → ThruIn (stepAmong actor l c t o) l c
-    thru-stopped-in (sits-more {q = x} {a} {l} {c} s y) z b w e r m i =
-        stopped-by a l c b w r m i (λ w₁ r₁ m₁ c₁. thru-stopped s (first-known z) b w₁ e r₁ m₁ c₁) (λ w₁ r₁ m₁ c₁. thru-stopped-in y (later-known z) b w₁ e r₁ m₁ c₁)
+    thru-stopped-in : {x : Place} {l : Acts} {c : ℕ} → SitsIn p x l c → KnowsIn f l c → (y₀ : ℕ) → PartOf x y₀ → (b : Bool) → WaitsIn (o .marks) l c t b → b ≡ false → StoppedIn (o .marks) l c → c + sizes l ≤ length (o .marks)
+        → some isRash (stepAmong actor l false y₀ c t o .log) ≡ false → ThruIn (stepAmong actor l false y₀ c t o) l c
+    thru-stopped-in (sits-more {q = x} {a} {l} {c} s y) z y₀ y₁ b w e r m i =
+        stopped-by a l y₀ c b w r m i (λ w₁ r₁ m₁ c₁. thru-stopped s (first-known z) y₀ y₁ b w₁ e r₁ m₁ c₁) (λ w₁ r₁ m₁ c₁. thru-stopped-in y (later-known z) y₀ y₁ b w₁ e r₁ m₁ c₁)
 
-    pub thru-undoing : {x : Place} {a : Act} {k : ℕ} → Sits p x a k → Knows f a k → (b : Bool) → Waits (o .marks) a k t b → b ≡ false → Undoing (o .marks) a k → Fit (undoOf (nameOf x) (aroundOf x)) o
-        → k + size a ≤ length (o .marks) → some isRash (stepIn actor a k t o .log) ≡ false → Thru (stepIn actor a k t o) a k
-    thru-undoing (sits-part {q = x} {own} {within} {k} s g u y l) z b w q r v m c =
-        part-undoing-by own within k b s l v z w r m c (λ d w₁ e₁ r₁ m₁ c₁. thru-undoing-in l (within-known z) d w₁ e₁ r₁ v m₁ c₁)
-    thru-undoing (sits-scope {n} {c = a} {b} {f = g} {u} {k} kn d i sb y sf su) z c w q r v m e =
-        scope-undoing-by b g u k c m w r e (λ x w₁ e₁ r₁ m₁ c₁. thru-part su (first-known (later-known (later-known (within-known z)))) x w₁ e₁ r₁ v m₁ c₁)
+    pub thru-undoing : {x : Place} {a : Act} {k : ℕ} → Sits p x a k → Knows f a k → (y₀ : ℕ) → PartOf x y₀ → (b : Bool) → Waits (o .marks) a k t b → b ≡ false → Undoing (o .marks) a k → (m₀ : Name) → runnerAt (λ n. markOf n o) (nameOf x) (beyondOf x) ≡ m₀ → Fit (undoOf (nameOf x) (beyondOf x) (lastOf x)) o
+        → k + size a ≤ length (o .marks) → some isRash (stepIn actor a y₀ k t o .log) ≡ false → Thru (stepIn actor a y₀ k t o) a k
+    thru-undoing (sits-part {q = x} {own} {within} {k} s g u y l) z y₀ y₁ b w q r m₀ y₂ v m c =
+        part-undoing-by own within y₀ k b s l y₁ m₀ y₂ v z w r m c (λ d w₁ e₁ r₁ m₁ c₁. thru-undoing-in l (within-known z) y₀ y₁ d w₁ e₁ r₁ m₀ y₂ v m₁ c₁)
+    thru-undoing (sits-scope {v = true} kn d i sb y sf su) z y₀ y₁ c w q (undoing-part s j r) m₀ y₂ v m e = absurd (false≢true (sym s))
+    thru-undoing (sits-scope {v = true} {b = b} {f = g} {k = k} kn d i sb y sf su) z y₀ y₁ c w q (undoing-scope {u = u} x j r) m₀ y₂ v m e =
+        scope-undoing-by b g u y₀ k c m w j e (λ w₁ m₁ c₁. thru-rest su u refl (later-known (later-known (within-known z))) tt false w₁ refl r v m₁ c₁)
+    thru-undoing (sits-scope {v = false} kn d i sb y sf su) z y₀ y₁ c w q (undoing-part s j r) m₀ y₂ v m e = absurd (false≢true (sym s))
+    thru-undoing (sits-scope {v = false} {b = b} {f = g} {u = u} {k = k} kn d i sb y sf su) z y₀ y₁ c w q (undoing-through x j r) m₀ y₂ v m e =
+        scope-through-by {m₀ = m₀} b g u y₀ k c w x r e (λ w₁. steps-undoing p actor sb (k + 1) t o false refl w₁ refl j m₀ (rw x y₂) (rw x v) (omega arith))
+        (λ w₁ c₁. thru-undoing sb (first-known (within-known z)) (k + 1) refl false w₁ refl j m₀ (rw x y₂) (rw x v) (omega arith) c₁)
 
-    thru-undoing-in : {x : Place} {l : Acts} {c : ℕ} → SitsIn p x l c → KnowsIn f l c → (b : Bool) → WaitsIn (o .marks) l c t b → b ≡ false → UndoingIn (o .marks) l c → Fit (undoOf (nameOf x) (aroundOf x)) o
-        → c + sizes l ≤ length (o .marks) → some isRash (stepAmong actor l c t o .log) ≡ false → ThruIn (stepAmong actor l c t o) l c
-    thru-undoing-in (sits-more {q = x} {a} {l} {c} s y) z b w e r v m i =
-        undoing-by a l c b w e r m i (λ w₁ r₁ m₁ c₁. thru-undoing s (first-known z) b w₁ e r₁ v m₁ c₁) (λ w₁ r₁ m₁ c₁. thru-undoing-in y (later-known z) b w₁ e r₁ v m₁ c₁)
+    thru-undoing-in : {x : Place} {l : Acts} {c : ℕ} → SitsIn p x l c → KnowsIn f l c → (y₀ : ℕ) → PartOf x y₀ → (b : Bool) → WaitsIn (o .marks) l c t b → b ≡ false → UndoingIn (o .marks) l c → (m₀ : Name) → runnerAt (λ n. markOf n o) (nameOf x) (beyondOf x) ≡ m₀ → Fit (undoOf (nameOf x) (beyondOf x) (lastOf x)) o
+        → c + sizes l ≤ length (o .marks) → some isRash (stepAmong actor l false y₀ c t o .log) ≡ false → ThruIn (stepAmong actor l false y₀ c t o) l c
+    thru-undoing-in (sits-more {q = x} {a} {l} {c} s y) z y₀ y₁ b w e r m₀ y₂ v m i =
+        undoing-by a l y₀ c b w e r m i (λ w₁ r₁ m₁ c₁. thru-undoing s (first-known z) y₀ y₁ b w₁ e r₁ m₀ y₂ v m₁ c₁) (λ w₁ r₁ m₁ c₁. thru-undoing-in y (later-known z) y₀ y₁ b w₁ e r₁ m₀ y₂ v m₁ c₁)
 
-    pub thru-part : {x : Place} {a : Act} {k : ℕ} → Remedy p x a k → Knows f a k → (b : Bool) → Waits (o .marks) a k t b → b ≡ false → Run (o .marks) a k → Fit x o → k + size a ≤ length (o .marks)
-        → some isRash (stepIn actor a k t o .log) ≡ false → Thru (stepIn actor a k t o) a k
-    thru-part (remedy {q = x} {own} {within} {k} s a g u z₁ l d) z b w q run v m c =
-        part-by own within k b s z w q run m (steps-part p distinct actor (remedy s a g u z₁ l d) t o b w q run v m) c
-        (λ d w₁ e₁ r₁ m₁ c₁. thru-one l (within-known z) d w₁ e₁ r₁ v m₁ c₁) (λ d w₁ e₁ r₁ m₁ c₁. thru-all l (within-known z) d w₁ e₁ r₁ v m₁ c₁)
+    -- what stands after the fault part of a scope
+    thru-rest : {v : Bool} {x : Place} {l : Acts} {k : ℕ} → Rest p v x l k → (u : Act) → l ≡ more u none → KnowsIn f l k → PartOf x k → (b : Bool) → Waits (o .marks) u k t b → b ≡ false → Run (o .marks) u k → Fit x o
+        → k + size u ≤ length (o .marks) → some isRash (stepIn actor u k k t o .log) ≡ false → Thru (stepIn actor u k k t o) u k
+    thru-rest (rest-undo {q = x} {u = a} {k} su) u e z y₁ b w q r v m c =
+        let d : a ≡ u = cc in
+        subst (λ (j : Act). Waits (o .marks) j k t b → Run (o .marks) j k → k + size j ≤ length (o .marks) → some isRash (stepIn actor j k k t o .log) ≡ false → Thru (stepIn actor j k k t o) j k) d
+        (λ w₁ r₁ m₁ c₁. thru-part su (first-known z) k y₁ b w₁ q r₁ v m₁ c₁) w r m c
+    thru-rest rest-none u e z y₁ b w q r v m c = absurd (let d : _≡_ {A = ℕ} 0 1 = cc in omega arith)
+
+    pub thru-part : {x : Place} {a : Act} {k : ℕ} → Remedy p x a k → Knows f a k → (y₀ : ℕ) → PartOf x y₀ → (b : Bool) → Waits (o .marks) a k t b → b ≡ false → Run (o .marks) a k → Fit x o → k + size a ≤ length (o .marks)
+        → some isRash (stepIn actor a y₀ k t o .log) ≡ false → Thru (stepIn actor a y₀ k t o) a k
+    thru-part (remedy {q = x} {own} {within} {k} s a g u z₁ l d) z y₀ y₁ b w q run v m c =
+        part-by own within y₀ k b s z w q run m (steps-part p actor (remedy s a g u z₁ l d) y₀ t o b y₁ w q run v m) c
+        (λ d w₁ e₁ r₁ m₁ c₁. thru-one l (within-known z) y₀ y₁ d w₁ e₁ r₁ v m₁ c₁) (λ d w₁ e₁ r₁ m₁ c₁. thru-all l (within-known z) y₀ y₁ d w₁ e₁ r₁ v m₁ c₁)

@@ -1,334 +1,926 @@
--- Histories of engines that do wrong, on plans and calls, and which of the statements each breaks: computed. Assumes nothing.
+-- Engines that do wrong, each judged by its own answers and its own steps, and which of the statements each breaks first: computed. Assumes nothing.
 use Prim.Native.Nat.{ℕ}
 use mathlib.Core.Path.{_≡_, refl}
-use mathlib.Core.List.{List, [], _∷_, map}
+use mathlib.Core.Bool.{cond, not, _&&_}
+use mathlib.Core.List.{List, [], _∷_, _++_, map}
+use lib.Dec.{eqb}
 use Rattle.plan.specs.Read.{readPlan}
-use Rattle.order.specs.declared.Closing.{Closing}
+use Rattle.plan.specs.Tree.{Plan}
 use Rattle.order.specs.declared.Order.{Order}
-use Rattle.order.specs.State.{root, inner, active, faulty, undoing, marked, noOrder, withRoot, closingOf, remembering}
-use Rattle.order.specs.Event.{Event, started, began, closed, faulted, ended, raised, left}
+use Rattle.order.specs.declared.End.{End}
+use Rattle.order.specs.declared.End.the-variants.{None, Well, Handled, Failed, Left}
+use Rattle.order.specs.State.{root, inner, idle, active, inside, done, faulty, undoing, handling, closingOf, marked, isLive, noOrder, withRoot, withMarks, remembering}
+use Rattle.order.specs.Event.{Event, started, began, closed, faulted, stopped, ended, raised, left}
+use Rattle.order.specs.Acting.{startedOrder}
 use Rattle.machine.specs.State.{noTally}
 use Rattle.machine.specs.Limits.{by}
 use Rattle.machine.specs.Calls.{loaded, Call, posting, stepping}
 use Rattle.machine.specs.Computing.{computing}
 use Rattle.undoing.specs.Computing.{judging}
+use Rattle.undoing.specs.Weighing.{weighing}
 use Rattle.undoing.specs.History.{history}
-use Rattle.undoing.specs.Ties.{orderAfter, deedsTaken, endsTaken}
-use Rattle.undoing.specs.Begun.{Taken, stepsTaken}
-use Rattle.undoing.specs.UndoneRight.{Named, demand3, orderly, faults, steps, ends, begunTruly, begunAll, begunInTurn, live, lists, goingOn, neverStuck, broken}
+use Rattle.undoing.specs.Ties.{orderAfter, deedAt, deedsTaken, endList, endsTaken}
+use Rattle.undoing.specs.Begun.{hasBegan, markBefore, Taken, stepsTaken}
+use Rattle.undoing.specs.UndoneRight.{Named, demand3, orderly, faults, steps, ends, begunTruly, begunAll, begunInTurn, once, afresh, entirely, leftToFinish, keptRunning, passedOn, decided, itsStep, ownSteps, marks, lists, places, goingOn, neverStuck, stoppedWithin, toCome, standing, broken}
 
--- A plan, calls on a fresh state of it, what happens with them in slot 0, and what an engine that does wrong would say had happened.
-record Wrong : Type 0 where
-  calls : List Call
-  taken : List Taken
-  order : Order
-  happened : List Event
-  breaks : List Named
+-- What an engine does: a step of an activity, with what the order becomes, what it logs and what it answers; or something that happens to the slot while another
+-- slot has its step, or with a post.
+data Deed : Type 0 where
+  does : (activity : ℕ) → (Order → Order) → List Event → End → Deed
+  silently : (Order → Order) → Deed
 
-record Example : Type 0 where
+-- An engine that is right up to some calls, and then does these deeds, in slot 0 of a fresh state of a plan.
+record Engine : Type 0 where
   bytes : List ℕ
   calls : List Call
-  happened : List Event
-  wrongly : List Wrong
+  deeds : List Deed
 
--- the message that starts each of them
+-- what is broken first
+first-of : List Named → List Named → List Named
+first-of [] l = l
+first-of (n ∷ m) l = n ∷ m
+
+-- by what the deeds are in the history, the ends answered, the steps taken, the order that stands now, and what happened
+judge : Plan → List Event → List End → List Taken → Order → List Event → List Deed → List Named
+judge p ds es ts o h [] = []
+judge p ds es ts o h (does k f l e ∷ ws) =
+    let q = f o in
+    let ds′ = ds ++ (cond (isLive o) [] (started ∷ []) ++ deedAt p k (cond (isLive o) o (startedOrder p))) in
+    let es′ = es ++ endList e in
+    let ts′ = ts ++ (record { activity = k; before = o; after = q; log = l } ∷ []) in
+    let h′ = h ++ l in
+    first-of (broken p ds′ es′ ts′ q h′) (judge p ds′ es′ ts′ q h′ ws)
+judge p ds es ts o h (silently f ∷ ws) = first-of (broken p ds es ts (f o) h) (judge p ds es ts (f o) h ws)
+
+verdict : Engine → List Named
+verdict x =
+    let s = loaded (x .bytes) in
+    by [] (λ p. judge p (deedsTaken p (x .calls) 0 s noTally) (endsTaken (x .calls) 0 s noTally) (stepsTaken p (x .calls) 0 s noTally) (orderAfter (x .calls) 0 s noTally) (history (x .calls) 0 s noTally) (x .deeds)) (readPlan (x .bytes))
+
+-- the message that starts each order, and the first choice
 abbrev first : Call
 first = posting (record { partner = 0; operation = 0; count = 1; values = 5 ∷ 0 ∷ 0 ∷ 0 ∷ [] })
 
 abbrev next : Call
 next = stepping 0
 
--- that of an order that is over
-abbrev over : List Call → List Event → List Named → Wrong
-over cs l ns = record { calls = cs; taken = []; order = noOrder; happened = l; breaks = ns }
+-- the order is over; it has this root and the mark of this activity, and no other
+abbrev gone : Order → Order
+gone o = noOrder
+
+abbrev only1 : ℕ → ℕ → (Order → Order)
+only1 r k o = withRoot r (marked k active (withMarks (noOrder .marks) o))
 
 -- Document 01's plan C: a receive 1; two scopes 2 and 6, empty but for their undo parts 5 and 9, which send; a raise 10; the root's fault part 11.
 unfoldable planC : List ℕ
 planC = 1 ∷ 1 ∷ 0 ∷ 8 ∷ 4 ∷ 2 ∷ 0 ∷ 0 ∷ 1 ∷ 0 ∷ 11 ∷ 0 ∷ 0 ∷ 1 ∷ 2 ∷ 1 ∷ 1 ∷ 0 ∷ 11 ∷ 0 ∷ 0 ∷ 1 ∷ 2 ∷ 2 ∷ 1 ∷ 0 ∷ 4 ∷ 0 ∷ []
 
--- the calls up to the raise, and to the end
-abbrev raising : List Call
-raising = first ∷ next ∷ next ∷ next ∷ next ∷ []
+-- A receive 1; a set 2; a repeat 3 of a sequence 4 with a scope 5 (undo part 8, a send) and a set 9, three times; a raise 10; the root's fault part
+-- 11.
+unfoldable three : List ℕ
+three = 1 ∷ 2 ∷ 0 ∷ 8 ∷ 4 ∷ 2 ∷ 0 ∷ 0 ∷ 1 ∷ 0 ∷ 3 ∷ 1 ∷ 0 ∷ 0 ∷ 7 ∷ 5 ∷ 1 ∷ 1 ∷ 0 ∷ 3 ∷ 8 ∷ 2 ∷ 11 ∷ 0 ∷ 0 ∷ 1 ∷ 2 ∷ 1 ∷ 1 ∷ 1 ∷ 3 ∷ 1 ∷ 2 ∷ 1 ∷ 1 ∷ 0 ∷ 1 ∷ 4 ∷ 0 ∷ []
 
-abbrev whole : List Call
-whole = first ∷ next ∷ next ∷ next ∷ next ∷ next ∷ next ∷ []
+-- A receive 1; a flow 2 of a scope 3 (its body, a raise 4; its fault part, a send 5) and a sequence 7 of a scope 8 (undo part 11, a send) and a raise
+-- 12; the root's fault part 13.
+unfoldable innerHandler : List ℕ
+innerHandler = 1 ∷ 1 ∷ 0 ∷ 8 ∷ 2 ∷ 2 ∷ 0 ∷ 0 ∷ 1 ∷ 0 ∷ 9 ∷ 2 ∷ 11 ∷ 4 ∷ 1 ∷ 2 ∷ 3 ∷ 1 ∷ 0 ∷ 0 ∷ 8 ∷ 2 ∷ 11 ∷ 0 ∷ 0 ∷ 1 ∷ 2 ∷ 1 ∷ 1 ∷ 0 ∷ 4 ∷ 0 ∷ []
 
--- an order that hangs after its fault, with both closings still remembered
-abbrev hanging : Order
-hanging = withRoot faulty (remembering (closingOf 2 0 ∷ closingOf 6 0 ∷ []) noOrder)
+-- A receive 1; a scope 2 whose body is a raise 3, with an empty fault part 4 and an undo part 5, a send; a raise 6; the root's fault part 7.
+unfoldable handledScope : List ℕ
+handledScope = 1 ∷ 1 ∷ 0 ∷ 8 ∷ 3 ∷ 2 ∷ 0 ∷ 0 ∷ 1 ∷ 0 ∷ 11 ∷ 4 ∷ 0 ∷ 1 ∷ 2 ∷ 1 ∷ 1 ∷ 0 ∷ 4 ∷ 0 ∷ []
 
--- an order whose newest undo part runs, with the other closing still remembered
-abbrev again : Order
-again = withRoot undoing (marked 9 active (remembering (closingOf 2 0 ∷ []) noOrder))
+-- A receive 1; a set 2; a repeat 3 of a scope 4, whose body is a choose 5 of a sequence 6, with an inner scope 7 (undo part 10, a send) and a set 11,
+-- and a raise 12; its fault part is a set 13; the root's fault part 15. The first time the inner scope closes and then the outer one; the second time
+-- the outer scope faults before the inner one begins.
+unfoldable closedOuter : List ℕ
+closedOuter = 1 ∷ 2 ∷ 0 ∷ 8 ∷ 3 ∷ 2 ∷ 0 ∷ 0 ∷ 1 ∷ 0 ∷ 3 ∷ 1 ∷ 0 ∷ 0 ∷ 7 ∷ 5 ∷ 1 ∷ 1 ∷ 0 ∷ 2 ∷ 11 ∷ 6 ∷ 4 ∷ 1 ∷ 1 ∷ 0 ∷ 0 ∷ 8 ∷ 2 ∷ 11 ∷ 0 ∷ 0 ∷ 1 ∷ 2 ∷ 1 ∷ 1 ∷ 0 ∷ 3 ∷ 1 ∷ 0 ∷ 1 ∷ 4 ∷ 3 ∷ 1 ∷ 0 ∷ 2 ∷ 0 ∷ 0 ∷ []
 
--- an order that awaits its raise, with a closing remembered; and one that undoes the other scope, which has not closed
-abbrev about : Order
-about = withRoot active (marked 0 active (marked 12 active (remembering (closingOf 8 0 ∷ []) noOrder)))
+-- A receive 1; a choose 2 of a scope 3 (undo part 6, a send) and an empty activity 7, which it takes; a scope 8 (undo part 11, empty); a raise 12;
+-- the root's fault part 13, a send.
+unfoldable neverEntered : List ℕ
+neverEntered = 1 ∷ 1 ∷ 0 ∷ 8 ∷ 4 ∷ 2 ∷ 0 ∷ 0 ∷ 1 ∷ 0 ∷ 6 ∷ 4 ∷ 1 ∷ 0 ∷ 0 ∷ 0 ∷ 11 ∷ 0 ∷ 0 ∷ 1 ∷ 2 ∷ 1 ∷ 1 ∷ 0 ∷ 0 ∷ 11 ∷ 0 ∷ 0 ∷ 0 ∷ 4 ∷ 1 ∷ 2 ∷ 2 ∷ 1 ∷ 0 ∷ []
 
-abbrev besides : Order
-besides = withRoot undoing (marked 6 active noOrder)
+-- A receive 1; a scope 2 (undo part 5, a sequence of two sends, 6 and 7); a raise 8; the root's fault part 9, a send.
+unfoldable inSequence : List ℕ
+inSequence = 1 ∷ 1 ∷ 0 ∷ 8 ∷ 3 ∷ 2 ∷ 0 ∷ 0 ∷ 1 ∷ 0 ∷ 11 ∷ 0 ∷ 0 ∷ 8 ∷ 2 ∷ 1 ∷ 2 ∷ 1 ∷ 1 ∷ 0 ∷ 1 ∷ 2 ∷ 1 ∷ 1 ∷ 0 ∷ 4 ∷ 1 ∷ 2 ∷ 2 ∷ 1 ∷ 0 ∷ []
 
--- an order in whose undo part, a sequence, this activity runs
-abbrev running : ℕ → Order
-running k = withRoot undoing (marked 5 active (marked k active noOrder))
+-- The same with a flow of two sends for the undo part.
+unfoldable inFlow : List ℕ
+inFlow = 1 ∷ 1 ∷ 0 ∷ 8 ∷ 3 ∷ 2 ∷ 0 ∷ 0 ∷ 1 ∷ 0 ∷ 11 ∷ 0 ∷ 0 ∷ 9 ∷ 2 ∷ 1 ∷ 2 ∷ 1 ∷ 1 ∷ 0 ∷ 1 ∷ 2 ∷ 1 ∷ 1 ∷ 0 ∷ 4 ∷ 1 ∷ 2 ∷ 2 ∷ 1 ∷ 0 ∷ []
 
--- the calls of the other examples
-abbrev thirteen : List Call
-thirteen = first ∷ next ∷ next ∷ next ∷ next ∷ next ∷ next ∷ next ∷ next ∷ next ∷ next ∷ next ∷ next ∷ []
+-- A receive 1; a flow 2 of a scope 3 (its body a sequence 4 of a set 5, a repeat 6 that twice closes a scope 8, undo part 11, a receive, and a raise
+-- 13; fault part 14) and a sequence 16 of sets 17, 18 and 19.
+unfoldable beside : List ℕ
+beside = 1 ∷ 3 ∷ 0 ∷ 8 ∷ 2 ∷ 2 ∷ 0 ∷ 0 ∷ 1 ∷ 0 ∷ 9 ∷ 2 ∷ 11 ∷ 8 ∷ 3 ∷ 3 ∷ 1 ∷ 0 ∷ 0 ∷ 7 ∷ 5 ∷ 1 ∷ 1 ∷ 0 ∷ 2 ∷ 8 ∷ 2 ∷ 11 ∷ 0 ∷ 0 ∷ 2 ∷ 1 ∷ 1 ∷ 1 ∷ 0 ∷ 3 ∷ 1 ∷ 2 ∷ 1 ∷ 1 ∷ 0 ∷ 1 ∷ 4 ∷ 0 ∷ 0 ∷ 8 ∷ 3 ∷ 3 ∷ 2 ∷ 0 ∷ 1 ∷ 3 ∷ 2 ∷ 0 ∷ 2 ∷ 3 ∷ 2 ∷ 0 ∷ 3 ∷ 0 ∷ []
 
-abbrev seventeen : List Call
-seventeen = first ∷ next ∷ next ∷ next ∷ next ∷ next ∷ next ∷ next ∷ next ∷ next ∷ next ∷ next ∷ next ∷ next ∷ next ∷ next ∷ next ∷ []
+-- The same with a sequence of two sends, 12 and 13, for that undo part 11; the raise is 15, and beside the scope stands a repeat 18 of a receive 19
+-- that never comes.
+unfoldable hung : List ℕ
+hung = 1 ∷ 3 ∷ 0 ∷ 8 ∷ 2 ∷ 2 ∷ 0 ∷ 0 ∷ 1 ∷ 0 ∷ 9 ∷ 2 ∷ 11 ∷ 8 ∷ 3 ∷ 3 ∷ 1 ∷ 0 ∷ 0 ∷ 7 ∷ 5 ∷ 1 ∷ 1 ∷ 0 ∷ 2 ∷ 8 ∷ 2 ∷ 11 ∷ 0 ∷ 0 ∷ 8 ∷ 2 ∷ 1 ∷ 1 ∷ 1 ∷ 1 ∷ 0 ∷ 1 ∷ 1 ∷ 2 ∷ 1 ∷ 0 ∷ 3 ∷ 1 ∷ 2 ∷ 1 ∷ 1 ∷ 0 ∷ 1 ∷ 4 ∷ 0 ∷ 0 ∷ 7 ∷ 0 ∷ 1 ∷ 2 ∷ 3 ∷ 3 ∷ 1 ∷ 2 ∷ 0 ∷ []
 
-abbrev beside : List Call
-beside = first ∷ next ∷ next ∷ stepping 1 ∷ next ∷ next ∷ next ∷ []
+-- A receive 1; a flow 2 of a scope 3 (sets 5 and 6 in a sequence 4) and a raise 9; the root's fault part 10.
+unfoldable unstopped : List ℕ
+unstopped = 1 ∷ 1 ∷ 0 ∷ 8 ∷ 2 ∷ 2 ∷ 0 ∷ 0 ∷ 1 ∷ 0 ∷ 9 ∷ 2 ∷ 11 ∷ 8 ∷ 2 ∷ 3 ∷ 0 ∷ 0 ∷ 1 ∷ 3 ∷ 0 ∷ 0 ∷ 2 ∷ 0 ∷ 0 ∷ 4 ∷ 0 ∷ []
 
-abbrev four : List Call
-four = first ∷ next ∷ next ∷ next ∷ []
+-- A receive 1; a set 2; a scope 3 (its body, a send 4; undo part 6, a send); a raise 7; the root's fault part 8.
+unfoldable unbegun : List ℕ
+unbegun = 1 ∷ 1 ∷ 0 ∷ 8 ∷ 4 ∷ 2 ∷ 0 ∷ 0 ∷ 1 ∷ 0 ∷ 3 ∷ 0 ∷ 0 ∷ 1 ∷ 11 ∷ 1 ∷ 1 ∷ 1 ∷ 1 ∷ 0 ∷ 0 ∷ 1 ∷ 1 ∷ 2 ∷ 1 ∷ 0 ∷ 4 ∷ 0 ∷ []
 
--- Plan C.
-unfoldable twoScopes : Example
-twoScopes =
-    record {
-      bytes = planC;
-      calls = whole;
-      happened = started ∷ began 0 ∷ began 1 ∷ began 2 ∷ began 3 ∷ closed 2 ∷ began 6 ∷ began 7 ∷ closed 6 ∷ began 10 ∷ raised 10 ∷ faulted root ∷ began 9 ∷ began 5 ∷ began 11 ∷ ended root ∷ [];
-      wrongly =
-          -- a raise ends the order at once, without undo
-          over raising (started ∷ began 0 ∷ began 1 ∷ began 2 ∷ began 3 ∷ closed 2 ∷ began 6 ∷ began 7 ∷ closed 6 ∷ began 10 ∷ raised 10 ∷ ended root ∷ []) (faults ∷ ends ∷ [])
-          -- a raise starts the fault part without undo
-          ∷ over raising (started ∷ began 0 ∷ began 1 ∷ began 2 ∷ began 3 ∷ closed 2 ∷ began 6 ∷ began 7 ∷ closed 6 ∷ began 10 ∷ raised 10 ∷ began 11 ∷ ended root ∷ []) (orderly ∷ faults ∷ ends ∷ [])
-          -- scopes are neither logged nor undone
-          ∷ over whole (started ∷ began 0 ∷ began 1 ∷ began 3 ∷ began 7 ∷ began 10 ∷ raised 10 ∷ faulted root ∷ began 11 ∷ ended root ∷ []) (orderly ∷ steps ∷ [])
-          -- the order hangs after its fault
-          ∷ record { calls = raising; taken = []; order = hanging; happened = started ∷ began 0 ∷ began 1 ∷ began 2 ∷ began 3 ∷ closed 2 ∷ began 6 ∷ began 7 ∷ closed 6 ∷ began 10 ∷ raised 10 ∷ faulted root ∷ []; breaks = goingOn ∷ neverStuck ∷ [] }
-          -- a raise is logged as a leave
-          ∷ over raising (started ∷ began 0 ∷ began 1 ∷ began 2 ∷ began 3 ∷ closed 2 ∷ began 6 ∷ began 7 ∷ closed 6 ∷ began 10 ∷ left ∷ []) (steps ∷ ends ∷ [])
-          -- a send in an undo part is logged as a raise, and the rest of the list is dropped
-          ∷ over (first ∷ next ∷ next ∷ next ∷ next ∷ next ∷ []) (started ∷ began 0 ∷ began 1 ∷ began 2 ∷ began 3 ∷ closed 2 ∷ began 6 ∷ began 7 ∷ closed 6 ∷ began 10 ∷ raised 10 ∷ faulted root ∷ began 9 ∷ raised 9 ∷ ended root ∷ []) (steps ∷ ends ∷ [])
-          -- a fault without a raise, and an undo part that nobody's raise asked for
-          ∷ over (first ∷ next ∷ next ∷ []) (started ∷ began 0 ∷ began 1 ∷ began 2 ∷ began 3 ∷ closed 2 ∷ faulted root ∷ began 5 ∷ began 11 ∷ ended root ∷ []) (faults ∷ ends ∷ [])
-          -- the fault part starts before the undo parts
-          ∷ over whole (started ∷ began 0 ∷ began 1 ∷ began 2 ∷ began 3 ∷ closed 2 ∷ began 6 ∷ began 7 ∷ closed 6 ∷ began 10 ∷ raised 10 ∷ faulted root ∷ began 11 ∷ began 9 ∷ began 5 ∷ ended root ∷ []) (orderly ∷ [])
-          -- undoing in file order, with the closings logged in the reverse order
-          ∷ over whole (started ∷ began 0 ∷ began 1 ∷ began 2 ∷ began 3 ∷ began 6 ∷ began 7 ∷ closed 6 ∷ closed 2 ∷ began 10 ∷ raised 10 ∷ faulted root ∷ began 5 ∷ began 9 ∷ began 11 ∷ ended root ∷ []) (steps ∷ [])
-          -- an undo part that is over starts a second time, and that is not said
-          ∷ record { calls = first ∷ next ∷ next ∷ next ∷ next ∷ next ∷ []; taken = record { activity = 9; before = again; after = again; log = [] } ∷ []; order = again; happened = started ∷ began 0 ∷ began 1 ∷ began 2 ∷ began 3 ∷ closed 2 ∷ began 6 ∷ began 7 ∷ closed 6 ∷ began 10 ∷ raised 10 ∷ faulted root ∷ began 9 ∷ []; breaks = begunAll ∷ [] }
-          -- the newest undo part is started and the other is not
-          ∷ over whole (started ∷ began 0 ∷ began 1 ∷ began 2 ∷ began 3 ∷ closed 2 ∷ began 6 ∷ began 7 ∷ closed 6 ∷ began 10 ∷ raised 10 ∷ faulted root ∷ began 9 ∷ began 11 ∷ ended root ∷ []) (demand3 ∷ orderly ∷ [])
-          -- undoing in file order
-          ∷ over whole (started ∷ began 0 ∷ began 1 ∷ began 2 ∷ began 3 ∷ closed 2 ∷ began 6 ∷ began 7 ∷ closed 6 ∷ began 10 ∷ raised 10 ∷ faulted root ∷ began 5 ∷ began 9 ∷ began 11 ∷ ended root ∷ []) (demand3 ∷ orderly ∷ [])
-          -- one of them twice
-          ∷ over whole (started ∷ began 0 ∷ began 1 ∷ began 2 ∷ began 3 ∷ closed 2 ∷ began 6 ∷ began 7 ∷ closed 6 ∷ began 10 ∷ raised 10 ∷ faulted root ∷ began 9 ∷ began 9 ∷ began 5 ∷ began 11 ∷ ended root ∷ []) (demand3 ∷ orderly ∷ [])
-          -- the other without the newest
-          ∷ over whole (started ∷ began 0 ∷ began 1 ∷ began 2 ∷ began 3 ∷ closed 2 ∷ began 6 ∷ began 7 ∷ closed 6 ∷ began 10 ∷ raised 10 ∷ faulted root ∷ began 5 ∷ began 11 ∷ ended root ∷ []) (demand3 ∷ orderly ∷ [])
-          ∷ [];
-    }
+-- A receive 1; a scope 2 (undo part 5, a send); a flow 6 of a scope 7 (its body, a receive 8 that never comes) and a raise 11; the root's fault part
+-- 12.
+unfoldable waiting : List ℕ
+waiting = 1 ∷ 1 ∷ 0 ∷ 8 ∷ 3 ∷ 2 ∷ 0 ∷ 0 ∷ 1 ∷ 0 ∷ 11 ∷ 0 ∷ 0 ∷ 1 ∷ 1 ∷ 1 ∷ 1 ∷ 0 ∷ 9 ∷ 2 ∷ 11 ∷ 2 ∷ 3 ∷ 3 ∷ 1 ∷ 0 ∷ 0 ∷ 0 ∷ 4 ∷ 0 ∷ []
 
--- A receive 1; a set 2; a repeat 3 of a sequence 4 with a scope 5 (undo part 8) and a set 9, three times; a raise 10; the root's fault part 11.
-unfoldable threeClosings : Example
-threeClosings =
-    record {
-      bytes = 1 ∷ 2 ∷ 0 ∷ 8 ∷ 4 ∷ 2 ∷ 0 ∷ 0 ∷ 1 ∷ 0 ∷ 3 ∷ 1 ∷ 0 ∷ 0 ∷ 7 ∷ 5 ∷ 1 ∷ 1 ∷ 0 ∷ 3 ∷ 8 ∷ 2 ∷ 11 ∷ 0 ∷ 0 ∷ 1 ∷ 2 ∷ 1 ∷ 1 ∷ 1 ∷ 3 ∷ 1 ∷ 2 ∷ 1 ∷ 1 ∷ 0 ∷ 1 ∷ 4 ∷ 0 ∷ [];
-      calls = seventeen;
-      happened = started ∷ began 0 ∷ began 1 ∷ began 2 ∷ began 3 ∷ began 4 ∷ began 5 ∷ began 6 ∷ closed 5 ∷ began 9 ∷ began 4 ∷ began 5 ∷ began 6 ∷ closed 5 ∷ began 9 ∷ began 4 ∷ began 5 ∷ began 6 ∷ closed 5 ∷ began 9 ∷ began 10 ∷ raised 10 ∷ faulted root ∷ began 8 ∷ began 8 ∷ began 8 ∷ began 11 ∷ ended root ∷ [];
-      wrongly =
-          -- once per scope where a repeat closed it often
-          over seventeen (started ∷ began 0 ∷ began 1 ∷ began 2 ∷ began 3 ∷ began 4 ∷ began 5 ∷ began 6 ∷ closed 5 ∷ began 9 ∷ began 4 ∷ began 5 ∷ began 6 ∷ closed 5 ∷ began 9 ∷ began 4 ∷ began 5 ∷ began 6 ∷ closed 5 ∷ began 9 ∷ began 10 ∷ raised 10 ∷ faulted root ∷ began 8 ∷ began 11 ∷ ended root ∷ []) (demand3 ∷ orderly ∷ [])
-          -- the same, with only the last closing logged
-          ∷ over seventeen (started ∷ began 0 ∷ began 1 ∷ began 2 ∷ began 3 ∷ began 4 ∷ began 5 ∷ began 6 ∷ began 9 ∷ began 4 ∷ began 5 ∷ began 6 ∷ began 9 ∷ began 4 ∷ began 5 ∷ began 6 ∷ closed 5 ∷ began 9 ∷ began 10 ∷ raised 10 ∷ faulted root ∷ began 8 ∷ began 11 ∷ ended root ∷ []) (orderly ∷ steps ∷ [])
-          ∷ [];
-    }
+-- A receive 1; a flow 2 of a scope 3, whose body is a sequence 4 of a scope 5 (undo part 8, a sequence of a send 9) and a receive 10, and a sequence
+-- 13 of a set 14 and a raise 15; the root's fault part 16, a send.
+unfoldable nested : List ℕ
+nested = 1 ∷ 1 ∷ 0 ∷ 8 ∷ 2 ∷ 2 ∷ 0 ∷ 0 ∷ 1 ∷ 0 ∷ 9 ∷ 2 ∷ 11 ∷ 8 ∷ 2 ∷ 11 ∷ 0 ∷ 0 ∷ 8 ∷ 1 ∷ 1 ∷ 1 ∷ 1 ∷ 1 ∷ 0 ∷ 2 ∷ 3 ∷ 3 ∷ 1 ∷ 0 ∷ 0 ∷ 0 ∷ 8 ∷ 2 ∷ 3 ∷ 0 ∷ 0 ∷ 1 ∷ 4 ∷ 1 ∷ 2 ∷ 2 ∷ 1 ∷ 0 ∷ []
 
--- A receive 1; a flow 2 of a scope 3 (its body, a raise 4; its fault part, a send 5) and a sequence 7 of a scope 8 (undo part 11) and a raise 12; the
--- root's fault part 13.
-unfoldable innerHandler : Example
-innerHandler =
-    record {
-      bytes = 1 ∷ 1 ∷ 0 ∷ 8 ∷ 2 ∷ 2 ∷ 0 ∷ 0 ∷ 1 ∷ 0 ∷ 9 ∷ 2 ∷ 11 ∷ 4 ∷ 1 ∷ 2 ∷ 3 ∷ 1 ∷ 0 ∷ 0 ∷ 8 ∷ 2 ∷ 11 ∷ 0 ∷ 0 ∷ 1 ∷ 2 ∷ 1 ∷ 1 ∷ 0 ∷ 4 ∷ 0 ∷ [];
-      calls = beside;
-      happened = started ∷ began 0 ∷ began 1 ∷ began 2 ∷ began 3 ∷ began 4 ∷ began 7 ∷ began 8 ∷ began 9 ∷ raised 4 ∷ faulted (inner 3) ∷ began 5 ∷ closed 8 ∷ began 12 ∷ raised 12 ∷ faulted root ∷ ended (inner 3) ∷ began 11 ∷ began 13 ∷ ended root ∷ [];
-      wrongly =
-          -- a scope's undo starts while an inner handler still runs
-          over beside (started ∷ began 0 ∷ began 1 ∷ began 2 ∷ began 3 ∷ began 4 ∷ began 7 ∷ began 8 ∷ began 9 ∷ raised 4 ∷ faulted (inner 3) ∷ began 5 ∷ closed 8 ∷ began 12 ∷ raised 12 ∷ faulted root ∷ began 11 ∷ ended (inner 3) ∷ began 13 ∷ ended root ∷ []) (demand3 ∷ [])
-          -- an undo part starts before anything around it faulted
-          ∷ over (first ∷ next ∷ next ∷ stepping 1 ∷ []) (started ∷ began 0 ∷ began 1 ∷ began 2 ∷ began 3 ∷ began 4 ∷ began 7 ∷ began 8 ∷ began 9 ∷ raised 4 ∷ faulted (inner 3) ∷ began 5 ∷ closed 8 ∷ began 11 ∷ []) (demand3 ∷ orderly ∷ live ∷ [])
-          -- the root ends and leaves scope 3 running
-          ∷ over beside (started ∷ began 0 ∷ began 1 ∷ began 2 ∷ began 3 ∷ began 4 ∷ began 7 ∷ began 8 ∷ began 9 ∷ raised 4 ∷ faulted (inner 3) ∷ began 5 ∷ closed 8 ∷ began 12 ∷ raised 12 ∷ faulted root ∷ began 13 ∷ ended root ∷ []) (demand3 ∷ orderly ∷ [])
-          ∷ [];
-    }
+-- A receive 1; scopes 2 and 6, whose undo parts 5 and 9 raise; a raise 10; the root's fault part 11.
+unfoldable raisingUndo : List ℕ
+raisingUndo = 1 ∷ 1 ∷ 0 ∷ 8 ∷ 4 ∷ 2 ∷ 0 ∷ 0 ∷ 1 ∷ 0 ∷ 11 ∷ 0 ∷ 0 ∷ 4 ∷ 11 ∷ 0 ∷ 0 ∷ 4 ∷ 4 ∷ 0 ∷ []
 
--- A receive 1; a scope 2 whose body is a raise 3, with an empty fault part 4 and an undo part 5; a raise 6; the root's fault part 7.
-unfoldable handledScope : Example
-handledScope =
-    record {
-      bytes = 1 ∷ 1 ∷ 0 ∷ 8 ∷ 3 ∷ 2 ∷ 0 ∷ 0 ∷ 1 ∷ 0 ∷ 11 ∷ 4 ∷ 0 ∷ 1 ∷ 2 ∷ 1 ∷ 1 ∷ 0 ∷ 4 ∷ 0 ∷ [];
-      calls = four;
-      happened = started ∷ began 0 ∷ began 1 ∷ began 2 ∷ began 3 ∷ raised 3 ∷ faulted (inner 2) ∷ began 4 ∷ ended (inner 2) ∷ began 6 ∷ raised 6 ∷ faulted root ∷ began 7 ∷ ended root ∷ [];
-      wrongly =
-          -- a scope that faulted and was handled is remembered and undone; its fault is not logged
-          over four (started ∷ began 0 ∷ began 1 ∷ began 2 ∷ began 3 ∷ raised 3 ∷ began 4 ∷ closed 2 ∷ began 6 ∷ raised 6 ∷ faulted root ∷ began 5 ∷ began 7 ∷ ended root ∷ []) (orderly ∷ faults ∷ steps ∷ [])
-          -- the fault part runs though nothing raised
-          ∷ over four (started ∷ began 0 ∷ began 1 ∷ began 2 ∷ began 3 ∷ began 4 ∷ closed 2 ∷ began 6 ∷ raised 6 ∷ ended root ∷ []) (orderly ∷ faults ∷ steps ∷ ends ∷ [])
-          -- a scope that faulted and was handled is undone
-          ∷ over four (started ∷ began 0 ∷ began 1 ∷ began 2 ∷ began 3 ∷ raised 3 ∷ faulted (inner 2) ∷ began 4 ∷ ended (inner 2) ∷ began 6 ∷ raised 6 ∷ faulted root ∷ began 5 ∷ began 7 ∷ ended root ∷ []) (demand3 ∷ orderly ∷ [])
-          -- the same, with a closing claimed for it
-          ∷ over four (started ∷ began 0 ∷ began 1 ∷ began 2 ∷ began 3 ∷ raised 3 ∷ faulted (inner 2) ∷ began 4 ∷ closed 2 ∷ began 6 ∷ raised 6 ∷ faulted root ∷ began 5 ∷ began 7 ∷ ended root ∷ []) (demand3 ∷ steps ∷ [])
-          ∷ [];
-    }
+-- A receive 1; a scope 2 (undo part 5, a send); a raise 6; the root's fault part 7, a send.
+unfoldable oneSend : List ℕ
+oneSend = 1 ∷ 1 ∷ 0 ∷ 8 ∷ 3 ∷ 2 ∷ 0 ∷ 0 ∷ 1 ∷ 0 ∷ 11 ∷ 0 ∷ 0 ∷ 1 ∷ 2 ∷ 1 ∷ 1 ∷ 0 ∷ 4 ∷ 1 ∷ 2 ∷ 2 ∷ 1 ∷ 0 ∷ []
 
--- A receive 1; a set 2; a repeat 3 of a scope 4, whose body is a choose 5 of a sequence 6, with an inner scope 7 (undo part 10) and a set 11, and a
--- raise 12; its fault part is a set 13; the root's fault part 15. The first time the inner scope closes and then the outer one; the second time the
--- outer scope faults before the inner one begins.
-unfoldable closedOuter : Example
-closedOuter =
-    record {
-      bytes = 1 ∷ 2 ∷ 0 ∷ 8 ∷ 3 ∷ 2 ∷ 0 ∷ 0 ∷ 1 ∷ 0 ∷ 3 ∷ 1 ∷ 0 ∷ 0 ∷ 7 ∷ 5 ∷ 1 ∷ 1 ∷ 0 ∷ 2 ∷ 11 ∷ 6 ∷ 4 ∷ 1 ∷ 1 ∷ 0 ∷ 0 ∷ 8 ∷ 2 ∷ 11 ∷ 0 ∷ 0 ∷ 1 ∷ 2 ∷ 1 ∷ 1 ∷ 0 ∷ 3 ∷ 1 ∷ 0 ∷ 1 ∷ 4 ∷ 3 ∷ 1 ∷ 0 ∷ 2 ∷ 0 ∷ 0 ∷ [];
-      calls = thirteen;
-      happened = started ∷ began 0 ∷ began 1 ∷ began 2 ∷ began 3 ∷ began 4 ∷ began 5 ∷ began 6 ∷ began 7 ∷ began 8 ∷ closed 7 ∷ began 11 ∷ closed 4 ∷ began 4 ∷ began 5 ∷ began 12 ∷ raised 12 ∷ faulted (inner 4) ∷ began 13 ∷ ended (inner 4) ∷ ended root ∷ [];
-      wrongly =
-          -- the close of the outer scope kept its list, and what closed in it the first time is undone the second time
-          over thirteen (started ∷ began 0 ∷ began 1 ∷ began 2 ∷ began 3 ∷ began 4 ∷ began 5 ∷ began 6 ∷ began 7 ∷ began 8 ∷ closed 7 ∷ began 11 ∷ closed 4 ∷ began 4 ∷ began 5 ∷ began 12 ∷ raised 12 ∷ faulted (inner 4) ∷ began 10 ∷ began 13 ∷ ended (inner 4) ∷ ended root ∷ []) (demand3 ∷ orderly ∷ [])
-          ∷ [];
-    }
+-- A receive 0 alone; the root's fault part 1, empty.
+unfoldable lone : List ℕ
+lone = 1 ∷ 1 ∷ 0 ∷ 2 ∷ 0 ∷ 0 ∷ 1 ∷ 0 ∷ 0 ∷ []
 
--- A receive 1; a choose 2 of a scope 3 (undo part 6, a send) and an empty activity 7, which it takes; a scope 8 (undo part 11, empty); a raise 12; the root's
--- fault part 13, a send.
-unfoldable neverEntered : Example
-neverEntered =
-    record {
-      bytes = 1 ∷ 1 ∷ 0 ∷ 8 ∷ 4 ∷ 2 ∷ 0 ∷ 0 ∷ 1 ∷ 0 ∷ 6 ∷ 4 ∷ 1 ∷ 0 ∷ 0 ∷ 0 ∷ 11 ∷ 0 ∷ 0 ∷ 1 ∷ 2 ∷ 1 ∷ 1 ∷ 0 ∷ 0 ∷ 11 ∷ 0 ∷ 0 ∷ 0 ∷ 4 ∷ 1 ∷ 2 ∷ 2 ∷ 1 ∷ 0 ∷ [];
-      calls = raising;
-      happened = started ∷ began 0 ∷ began 1 ∷ began 2 ∷ began 7 ∷ began 8 ∷ began 9 ∷ closed 8 ∷ began 12 ∷ raised 12 ∷ faulted root ∷ began 11 ∷ began 13 ∷ [];
-      wrongly =
-          -- after an undo part that is over at once that of a scope that never began runs as well, and that is not said
-          record { calls = raising; taken = record { activity = 12; before = about; after = besides; log = raised 12 ∷ faulted root ∷ began 11 ∷ [] } ∷ []; order = besides; happened = started ∷ began 0 ∷ began 1 ∷ began 2 ∷ began 7 ∷ began 8 ∷ began 9 ∷ closed 8 ∷ began 12 ∷ raised 12 ∷ faulted root ∷ began 11 ∷ []; breaks = begunAll ∷ [] }
-          -- and that is said
-          ∷ record { calls = raising; taken = record { activity = 12; before = about; after = besides; log = raised 12 ∷ faulted root ∷ began 11 ∷ began 6 ∷ [] } ∷ []; order = besides; happened = started ∷ began 0 ∷ began 1 ∷ began 2 ∷ began 7 ∷ began 8 ∷ began 9 ∷ closed 8 ∷ began 12 ∷ raised 12 ∷ faulted root ∷ began 11 ∷ began 6 ∷ []; breaks = demand3 ∷ lists ∷ [] }
-          ∷ [];
-    }
+-- A receive 1; a set 2; a repeat 3 of a sequence 4 with a scope 5 (undo part 8, a sequence of two sends, 9 and 10) and a set 11, twice; a raise 12;
+-- the root's fault part 13, empty.
+unfoldable twice : List ℕ
+twice = 1 ∷ 2 ∷ 0 ∷ 8 ∷ 4 ∷ 2 ∷ 0 ∷ 0 ∷ 1 ∷ 0 ∷ 3 ∷ 1 ∷ 0 ∷ 0 ∷ 7 ∷ 5 ∷ 1 ∷ 1 ∷ 0 ∷ 2 ∷ 8 ∷ 2 ∷ 11 ∷ 0 ∷ 0 ∷ 8 ∷ 2 ∷ 1 ∷ 2 ∷ 1 ∷ 1 ∷ 1 ∷ 1 ∷ 2 ∷ 2 ∷ 1 ∷ 1 ∷ 3 ∷ 1 ∷ 2 ∷ 1 ∷ 1 ∷ 0 ∷ 1 ∷ 4 ∷ 0 ∷ []
 
--- A receive 1; a scope 2 (undo part 5, a sequence of two sends, 6 and 7); a raise 8; the root's fault part 9.
-unfoldable inSequence : Example
-inSequence =
-    record {
-      bytes = 1 ∷ 1 ∷ 0 ∷ 8 ∷ 3 ∷ 2 ∷ 0 ∷ 0 ∷ 1 ∷ 0 ∷ 11 ∷ 0 ∷ 0 ∷ 8 ∷ 2 ∷ 1 ∷ 2 ∷ 1 ∷ 1 ∷ 0 ∷ 1 ∷ 2 ∷ 1 ∷ 1 ∷ 0 ∷ 4 ∷ 1 ∷ 2 ∷ 2 ∷ 1 ∷ 0 ∷ [];
-      calls = first ∷ next ∷ next ∷ next ∷ next ∷ next ∷ [];
-      happened = started ∷ began 0 ∷ began 1 ∷ began 2 ∷ began 3 ∷ closed 2 ∷ began 8 ∷ raised 8 ∷ faulted root ∷ began 5 ∷ began 6 ∷ began 7 ∷ began 9 ∷ [];
-      wrongly =
-          -- the undo part starts a second time, and what begins in it is said, but not that it does
-          record { calls = first ∷ next ∷ next ∷ next ∷ next ∷ next ∷ []; taken = record { activity = 7; before = running 7; after = running 6; log = began 6 ∷ [] } ∷ []; order = running 6; happened = started ∷ began 0 ∷ began 1 ∷ began 2 ∷ began 3 ∷ closed 2 ∷ began 8 ∷ raised 8 ∷ faulted root ∷ began 5 ∷ began 6 ∷ began 7 ∷ began 6 ∷ []; breaks = begunInTurn ∷ [] }
-          ∷ [];
-    }
+-- A flow 0 of two receives, 1 (which the message starts) and 2; the root's fault part 3, empty.
+unfoldable startFlow : List ℕ
+startFlow = 1 ∷ 1 ∷ 0 ∷ 9 ∷ 2 ∷ 2 ∷ 0 ∷ 0 ∷ 1 ∷ 0 ∷ 2 ∷ 1 ∷ 0 ∷ 1 ∷ 0 ∷ 0 ∷ []
 
 -- Scopes with no undo part of their own, code 12.
 
--- A receive 1; a scope 2 of code 12 whose body is a sequence 3 of two scopes, 4 (undo part 7) and 8 (undo part 11); its fault part 12; a raise 13; the root's
--- fault part 14.
-abbrev eight : List Call
-eight = first ∷ next ∷ next ∷ next ∷ next ∷ next ∷ next ∷ next ∷ []
+-- A receive 1; a scope 2 of code 12, whose body is a sequence 3 of scopes 4 (undo part 7, a send) and 8 (undo part 11, a send); its fault part 12,
+-- empty; a raise 13; the root's fault part 14, empty.
+unfoldable handedOn : List ℕ
+handedOn = 1 ∷ 1 ∷ 0 ∷ 8 ∷ 3 ∷ 2 ∷ 0 ∷ 0 ∷ 1 ∷ 0 ∷ 12 ∷ 8 ∷ 2 ∷ 11 ∷ 0 ∷ 0 ∷ 1 ∷ 9 ∷ 1 ∷ 1 ∷ 0 ∷ 11 ∷ 0 ∷ 0 ∷ 1 ∷ 9 ∷ 2 ∷ 1 ∷ 0 ∷ 0 ∷ 4 ∷ 0 ∷ []
 
-abbrev handing : List Call
-handing = first ∷ next ∷ next ∷ next ∷ next ∷ []
+-- A receive 1; a flow 2 of a scope 3 of code 12, whose body is a scope 4 (undo part 7, a send), and a scope 9 (undo part 12, a send); a raise 13; the
+-- root's fault part 14. Scope 4 closes, then 9, then 3.
+unfoldable datedOuter : List ℕ
+datedOuter = 1 ∷ 1 ∷ 0 ∷ 8 ∷ 3 ∷ 2 ∷ 0 ∷ 0 ∷ 1 ∷ 0 ∷ 9 ∷ 2 ∷ 12 ∷ 11 ∷ 0 ∷ 0 ∷ 1 ∷ 2 ∷ 1 ∷ 1 ∷ 0 ∷ 0 ∷ 11 ∷ 0 ∷ 0 ∷ 1 ∷ 2 ∷ 2 ∷ 1 ∷ 0 ∷ 4 ∷ 0 ∷ []
 
--- an order that awaits the raise 13 after scope 2 closed, with these closings remembered
-abbrev handed : List Closing → Order
-handed l = withRoot active (marked 0 active (marked 13 active (remembering l noOrder)))
+-- A receive 1; a scope 2 of code 12, whose body is a sequence 3 of a scope 4 (undo part 7, a send) and a raise 8; its fault part 9, empty; a raise 10;
+-- the root's fault part 11, empty.
+unfoldable faultedOpen : List ℕ
+faultedOpen = 1 ∷ 1 ∷ 0 ∷ 8 ∷ 3 ∷ 2 ∷ 0 ∷ 0 ∷ 1 ∷ 0 ∷ 12 ∷ 8 ∷ 2 ∷ 11 ∷ 0 ∷ 0 ∷ 1 ∷ 2 ∷ 1 ∷ 1 ∷ 0 ∷ 4 ∷ 0 ∷ 4 ∷ 0 ∷ []
 
-unfoldable handedOn : Example
-handedOn =
-    record {
-      bytes = 1 ∷ 1 ∷ 0 ∷ 8 ∷ 3 ∷ 2 ∷ 0 ∷ 0 ∷ 1 ∷ 0 ∷ 12 ∷ 8 ∷ 2 ∷ 11 ∷ 0 ∷ 0 ∷ 1 ∷ 9 ∷ 1 ∷ 1 ∷ 0 ∷ 11 ∷ 0 ∷ 0 ∷ 1 ∷ 9 ∷ 2 ∷ 1 ∷ 0 ∷ 0 ∷ 4 ∷ 0 ∷ [];
-      calls = eight;
-      happened = started ∷ began 0 ∷ began 1 ∷ began 2 ∷ began 3 ∷ began 4 ∷ began 5 ∷ closed 4 ∷ began 8 ∷ began 9 ∷ closed 8 ∷ closed 2 ∷ began 13 ∷ raised 13 ∷ faulted root ∷ began 11 ∷ began 7 ∷ began 14 ∷ ended root ∷ [];
-      wrongly =
-          -- what scope 2 would hand on is forgotten
-          over eight (started ∷ began 0 ∷ began 1 ∷ began 2 ∷ began 3 ∷ began 4 ∷ began 5 ∷ closed 4 ∷ began 8 ∷ began 9 ∷ closed 8 ∷ closed 2 ∷ began 13 ∷ raised 13 ∷ faulted root ∷ began 14 ∷ ended root ∷ []) (demand3 ∷ orderly ∷ [])
-          -- it is handed on in reverse
-          ∷ over eight (started ∷ began 0 ∷ began 1 ∷ began 2 ∷ began 3 ∷ began 4 ∷ began 5 ∷ closed 4 ∷ began 8 ∷ began 9 ∷ closed 8 ∷ closed 2 ∷ began 13 ∷ raised 13 ∷ faulted root ∷ began 7 ∷ began 11 ∷ began 14 ∷ ended root ∷ []) (demand3 ∷ orderly ∷ [])
-          -- it is undone twice by the root
-          ∷ over eight (started ∷ began 0 ∷ began 1 ∷ began 2 ∷ began 3 ∷ began 4 ∷ began 5 ∷ closed 4 ∷ began 8 ∷ began 9 ∷ closed 8 ∷ closed 2 ∷ began 13 ∷ raised 13 ∷ faulted root ∷ began 11 ∷ began 7 ∷ began 11 ∷ began 7 ∷ began 14 ∷ ended root ∷ []) (demand3 ∷ orderly ∷ [])
-          -- scope 2 itself is taken for one that is undone, by its fault part
-          ∷ over eight (started ∷ began 0 ∷ began 1 ∷ began 2 ∷ began 3 ∷ began 4 ∷ began 5 ∷ closed 4 ∷ began 8 ∷ began 9 ∷ closed 8 ∷ closed 2 ∷ began 13 ∷ raised 13 ∷ faulted root ∷ began 12 ∷ began 11 ∷ began 7 ∷ began 14 ∷ ended root ∷ []) (orderly ∷ [])
-          -- the order remembers nothing after the close of scope 2; the same in reverse; still for scope 2; for both
-          ∷ record { calls = handing; taken = []; order = handed []; happened = started ∷ began 0 ∷ began 1 ∷ began 2 ∷ began 3 ∷ began 4 ∷ began 5 ∷ closed 4 ∷ began 8 ∷ began 9 ∷ closed 8 ∷ closed 2 ∷ began 13 ∷ []; breaks = lists ∷ [] }
-          ∷ record { calls = handing; taken = []; order = handed (closingOf 8 0 ∷ closingOf 4 0 ∷ []); happened = started ∷ began 0 ∷ began 1 ∷ began 2 ∷ began 3 ∷ began 4 ∷ began 5 ∷ closed 4 ∷ began 8 ∷ began 9 ∷ closed 8 ∷ closed 2 ∷ began 13 ∷ []; breaks = lists ∷ [] }
-          ∷ record { calls = handing; taken = []; order = handed (closingOf 4 3 ∷ closingOf 8 3 ∷ []); happened = started ∷ began 0 ∷ began 1 ∷ began 2 ∷ began 3 ∷ began 4 ∷ began 5 ∷ closed 4 ∷ began 8 ∷ began 9 ∷ closed 8 ∷ closed 2 ∷ began 13 ∷ []; breaks = lists ∷ [] }
-          ∷ record { calls = handing; taken = []; order = handed (closingOf 4 3 ∷ closingOf 8 3 ∷ closingOf 4 0 ∷ closingOf 8 0 ∷ []); happened = started ∷ began 0 ∷ began 1 ∷ began 2 ∷ began 3 ∷ began 4 ∷ began 5 ∷ closed 4 ∷ began 8 ∷ began 9 ∷ closed 8 ∷ closed 2 ∷ began 13 ∷ []; breaks = lists ∷ [] }
-          ∷ [];
-    }
+-- closedOuter with a scope 4 of code 12 and a raise 14 after the repeat: the first time the inner scope 7 closes and is handed on, the second time scope 4
+-- faults before the inner one begins; the root's fault part 15.
+unfoldable handedOnce : List ℕ
+handedOnce = 1 ∷ 2 ∷ 0 ∷ 8 ∷ 4 ∷ 2 ∷ 0 ∷ 0 ∷ 1 ∷ 0 ∷ 3 ∷ 1 ∷ 0 ∷ 0 ∷ 7 ∷ 5 ∷ 1 ∷ 1 ∷ 0 ∷ 2 ∷ 12 ∷ 6 ∷ 4 ∷ 1 ∷ 1 ∷ 0 ∷ 0 ∷ 8 ∷ 2 ∷ 11 ∷ 0 ∷ 0 ∷ 1 ∷ 2 ∷ 1 ∷ 1 ∷ 0 ∷ 3 ∷ 1 ∷ 0 ∷ 1 ∷ 4 ∷ 3 ∷ 1 ∷ 0 ∷ 2 ∷ 4 ∷ 0 ∷ []
 
--- A receive 1; a flow 2 of a scope 3 of code 12, whose body is a scope 4 (undo part 7), and a scope 9 (undo part 12); a raise 13; the root's fault part 14. Scope 4
--- closes, then 9, then 3.
-abbrev dating : List Call
-dating = first ∷ next ∷ next ∷ stepping 1 ∷ next ∷ next ∷ next ∷ next ∷ []
+-- A receive 1; a set 2; a repeat 3 of a sequence 4: a scope 5 of code 12, whose body is a sequence 6 of a scope 7 (undo part 10, a flow of a raise 11 and
+-- a receive 12) and a choose 13 (a raise 14 the second time); a set 17.
+unfoldable anew : List ℕ
+anew = 1 ∷ 2 ∷ 0 ∷ 8 ∷ 3 ∷ 2 ∷ 0 ∷ 0 ∷ 1 ∷ 0 ∷ 3 ∷ 1 ∷ 0 ∷ 0 ∷ 7 ∷ 5 ∷ 1 ∷ 1 ∷ 0 ∷ 3 ∷ 8 ∷ 2 ∷ 12 ∷ 8 ∷ 2 ∷ 11 ∷ 0 ∷ 0 ∷ 9 ∷ 2 ∷ 4 ∷ 2 ∷ 1 ∷ 1 ∷ 1 ∷ 0 ∷ 6 ∷ 5 ∷ 0 ∷ 0 ∷ 1 ∷ 1 ∷ 4 ∷ 0 ∷ 0 ∷ 3 ∷ 1 ∷ 2 ∷ 1 ∷ 1 ∷ 0 ∷ 1 ∷ 0 ∷ []
 
-unfoldable datedOuter : Example
-datedOuter =
-    record {
-      bytes = 1 ∷ 1 ∷ 0 ∷ 8 ∷ 3 ∷ 2 ∷ 0 ∷ 0 ∷ 1 ∷ 0 ∷ 9 ∷ 2 ∷ 12 ∷ 11 ∷ 0 ∷ 0 ∷ 1 ∷ 2 ∷ 1 ∷ 1 ∷ 0 ∷ 0 ∷ 11 ∷ 0 ∷ 0 ∷ 1 ∷ 2 ∷ 2 ∷ 1 ∷ 0 ∷ 4 ∷ 0 ∷ [];
-      calls = dating;
-      happened = started ∷ began 0 ∷ began 1 ∷ began 2 ∷ began 3 ∷ began 4 ∷ began 5 ∷ began 9 ∷ began 10 ∷ closed 4 ∷ closed 9 ∷ closed 3 ∷ began 13 ∷ raised 13 ∷ faulted root ∷ began 7 ∷ began 12 ∷ began 14 ∷ ended root ∷ [];
-      wrongly =
-          -- what scope 3 hands on is dated by the inner closing
-          over dating (started ∷ began 0 ∷ began 1 ∷ began 2 ∷ began 3 ∷ began 4 ∷ began 5 ∷ began 9 ∷ began 10 ∷ closed 4 ∷ closed 9 ∷ closed 3 ∷ began 13 ∷ raised 13 ∷ faulted root ∷ began 12 ∷ began 7 ∷ began 14 ∷ ended root ∷ []) (demand3 ∷ orderly ∷ [])
-          -- the order remembers it so
-          ∷ record { calls = first ∷ next ∷ next ∷ stepping 1 ∷ next ∷ []; taken = []; order = handed (closingOf 4 0 ∷ closingOf 9 0 ∷ []); happened = started ∷ began 0 ∷ began 1 ∷ began 2 ∷ began 3 ∷ began 4 ∷ began 5 ∷ began 9 ∷ began 10 ∷ closed 4 ∷ closed 9 ∷ closed 3 ∷ began 13 ∷ []; breaks = lists ∷ [] }
-          ∷ [];
-    }
+-- Document 01's own and its shortcuts.
 
--- A receive 1; a scope 2 of code 12 whose body is a sequence 3 of a scope 4 (undo part 7) and a raise 8; its fault part 9; a raise 10; the root's fault part 11.
-unfoldable faultedOpen : Example
-faultedOpen =
-    record {
-      bytes = 1 ∷ 1 ∷ 0 ∷ 8 ∷ 3 ∷ 2 ∷ 0 ∷ 0 ∷ 1 ∷ 0 ∷ 12 ∷ 8 ∷ 2 ∷ 11 ∷ 0 ∷ 0 ∷ 1 ∷ 2 ∷ 1 ∷ 1 ∷ 0 ∷ 4 ∷ 0 ∷ 4 ∷ 0 ∷ [];
-      calls = first ∷ next ∷ next ∷ next ∷ next ∷ next ∷ [];
-      happened = started ∷ began 0 ∷ began 1 ∷ began 2 ∷ began 3 ∷ began 4 ∷ began 5 ∷ closed 4 ∷ began 8 ∷ raised 8 ∷ faulted (inner 2) ∷ began 7 ∷ began 9 ∷ ended (inner 2) ∷ began 10 ∷ raised 10 ∷ faulted root ∷ began 11 ∷ ended root ∷ [];
-      wrongly =
-          -- scope 2 undoes scope 4 and hands it on as well, though it faulted
-          over (first ∷ next ∷ next ∷ next ∷ next ∷ next ∷ []) (started ∷ began 0 ∷ began 1 ∷ began 2 ∷ began 3 ∷ began 4 ∷ began 5 ∷ closed 4 ∷ began 8 ∷ raised 8 ∷ faulted (inner 2) ∷ began 7 ∷ began 9 ∷ ended (inner 2) ∷ began 10 ∷ raised 10 ∷ faulted root ∷ began 7 ∷ began 11 ∷ ended root ∷ []) (demand3 ∷ orderly ∷ [])
-          -- scope 2 hands on instead of undoing
-          ∷ over (first ∷ next ∷ next ∷ next ∷ next ∷ next ∷ []) (started ∷ began 0 ∷ began 1 ∷ began 2 ∷ began 3 ∷ began 4 ∷ began 5 ∷ closed 4 ∷ began 8 ∷ raised 8 ∷ faulted (inner 2) ∷ began 9 ∷ ended (inner 2) ∷ began 10 ∷ raised 10 ∷ faulted root ∷ began 7 ∷ began 11 ∷ ended root ∷ []) (demand3 ∷ orderly ∷ [])
-          -- the fault of scope 2 is passed over: the root is the one that faults and undoes
-          ∷ over (first ∷ next ∷ next ∷ next ∷ next ∷ next ∷ []) (started ∷ began 0 ∷ began 1 ∷ began 2 ∷ began 3 ∷ began 4 ∷ began 5 ∷ closed 4 ∷ began 8 ∷ raised 8 ∷ faulted root ∷ began 7 ∷ began 11 ∷ ended root ∷ []) (demand3 ∷ orderly ∷ faults ∷ steps ∷ [])
-          ∷ [];
-    }
+-- a raise ends the order at once, without undo
+unfoldable ending : Engine
+ending = record {
+  bytes = planC;
+  calls = first ∷ next ∷ next ∷ next ∷ [];
+  deeds = does 10 gone (raised 10 ∷ ended root ∷ []) Failed ∷ [];
+}
 
--- A receive 1; a set 2; a repeat 3 of a scope 4 of code 12, whose body is a choose 5 of a sequence 6, with an inner scope 7 (undo part 10) and a set 11, and a
--- raise 12; its fault part is a set 13; a raise 14; the root's fault part 15. The first time the inner scope closes and then the outer one; the second time the
--- outer scope faults before the inner one begins.
-unfoldable handedOnce : Example
-handedOnce =
-    record {
-      bytes = 1 ∷ 2 ∷ 0 ∷ 8 ∷ 4 ∷ 2 ∷ 0 ∷ 0 ∷ 1 ∷ 0 ∷ 3 ∷ 1 ∷ 0 ∷ 0 ∷ 7 ∷ 5 ∷ 1 ∷ 1 ∷ 0 ∷ 2 ∷ 12 ∷ 6 ∷ 4 ∷ 1 ∷ 1 ∷ 0 ∷ 0 ∷ 8 ∷ 2 ∷ 11 ∷ 0 ∷ 0 ∷ 1 ∷ 2 ∷ 1 ∷ 1 ∷ 0 ∷ 3 ∷ 1 ∷ 0 ∷ 1 ∷ 4 ∷ 3 ∷ 1 ∷ 0 ∷ 2 ∷ 4 ∷ 0 ∷ [];
-      calls = first ∷ next ∷ next ∷ next ∷ next ∷ next ∷ next ∷ next ∷ next ∷ next ∷ next ∷ next ∷ next ∷ next ∷ next ∷ [];
-      happened = started ∷ began 0 ∷ began 1 ∷ began 2 ∷ began 3 ∷ began 4 ∷ began 5 ∷ began 6 ∷ began 7 ∷ began 8 ∷ closed 7 ∷ began 11 ∷ closed 4 ∷ began 4 ∷ began 5 ∷ began 12 ∷ raised 12 ∷ faulted (inner 4) ∷ began 13 ∷ ended (inner 4) ∷ began 14 ∷ raised 14 ∷ faulted root ∷ began 10 ∷ began 15 ∷ ended root ∷ [];
-      wrongly =
-          -- it is undone twice, once by the inner scope, once by the outer
-          over (first ∷ next ∷ next ∷ next ∷ next ∷ next ∷ next ∷ next ∷ next ∷ next ∷ next ∷ next ∷ next ∷ next ∷ next ∷ []) (started ∷ began 0 ∷ began 1 ∷ began 2 ∷ began 3 ∷ began 4 ∷ began 5 ∷ began 6 ∷ began 7 ∷ began 8 ∷ closed 7 ∷ began 11 ∷ closed 4 ∷ began 4 ∷ began 5 ∷ began 12 ∷ raised 12 ∷ faulted (inner 4) ∷ began 10 ∷ began 13 ∷ ended (inner 4) ∷ began 14 ∷ raised 14 ∷ faulted root ∷ began 10 ∷ began 15 ∷ ended root ∷ []) (demand3 ∷ orderly ∷ [])
-          -- once, but by the inner scope, the second time that it runs
-          ∷ over (first ∷ next ∷ next ∷ next ∷ next ∷ next ∷ next ∷ next ∷ next ∷ next ∷ next ∷ next ∷ next ∷ next ∷ next ∷ []) (started ∷ began 0 ∷ began 1 ∷ began 2 ∷ began 3 ∷ began 4 ∷ began 5 ∷ began 6 ∷ began 7 ∷ began 8 ∷ closed 7 ∷ began 11 ∷ closed 4 ∷ began 4 ∷ began 5 ∷ began 12 ∷ raised 12 ∷ faulted (inner 4) ∷ began 10 ∷ began 13 ∷ ended (inner 4) ∷ began 14 ∷ raised 14 ∷ faulted root ∷ began 15 ∷ ended root ∷ []) (demand3 ∷ orderly ∷ [])
-          ∷ [];
-    }
+-- a raise starts the fault part without undo
+unfoldable skipsUndo : Engine
+skipsUndo = record {
+  bytes = planC;
+  calls = first ∷ next ∷ next ∷ next ∷ [];
+  deeds = does 10 gone (raised 10 ∷ began 11 ∷ ended root ∷ []) Handled ∷ [];
+}
 
-unfoldable examples : List Example
-examples = twoScopes ∷ threeClosings ∷ innerHandler ∷ handledScope ∷ closedOuter ∷ neverEntered ∷ inSequence ∷ handedOn ∷ datedOuter ∷ faultedOpen ∷ handedOnce ∷ []
+-- scopes are neither logged nor undone
+unfoldable scopeless : Engine
+scopeless = record {
+  bytes = planC;
+  calls = first ∷ [];
+  deeds = does 1 (λ o. withRoot active (marked 0 active (marked 10 active noOrder))) (started ∷ began 0 ∷ began 1 ∷ began 3 ∷ began 7 ∷ began 10 ∷ []) None ∷ does 10 gone (raised 10 ∷ faulted root ∷ began 11 ∷ ended root ∷ []) Handled ∷ [];
+}
 
--- the right histories are those of the definitions
-logged : map (λ x. history (x .calls) 0 (loaded (x .bytes)) noTally) examples ≡ map (λ x. x .happened) examples
-unfolding examples twoScopes threeClosings innerHandler handledScope closedOuter neverEntered inSequence handedOn datedOuter faultedOpen handedOnce planC computing judging
+-- the order hangs after its fault
+unfoldable hanging : Engine
+hanging = record {
+  bytes = planC;
+  calls = first ∷ next ∷ next ∷ next ∷ [];
+  deeds = does 10 (λ o. withRoot faulty (withMarks (noOrder .marks) o)) (raised 10 ∷ faulted root ∷ []) None ∷ [];
+}
+
+-- a raise is logged as a leave
+unfoldable leaving : Engine
+leaving = record {
+  bytes = planC;
+  calls = first ∷ next ∷ next ∷ next ∷ [];
+  deeds = does 10 gone (left ∷ []) Left ∷ [];
+}
+
+-- a send in an undo part is logged as a raise, and the rest of the list is dropped
+unfoldable sending : Engine
+sending = record {
+  bytes = planC;
+  calls = first ∷ next ∷ next ∷ next ∷ next ∷ [];
+  deeds = does 9 gone (raised 9 ∷ ended root ∷ []) Failed ∷ [];
+}
+
+-- a fault without a raise, and an undo part that no raise asked for
+unfoldable unasked : Engine
+unasked = record {
+  bytes = planC;
+  calls = first ∷ next ∷ [];
+  deeds = does 2 gone (closed 2 ∷ faulted root ∷ began 5 ∷ began 11 ∷ ended root ∷ []) Handled ∷ [];
+}
+
+-- the fault part starts before the undo parts
+unfoldable faultFirst : Engine
+faultFirst = record {
+  bytes = planC;
+  calls = first ∷ next ∷ next ∷ next ∷ [];
+  deeds = does 10 (λ o. remembering (closingOf 2 0 ∷ []) (only1 undoing 9 o)) (raised 10 ∷ faulted root ∷ began 11 ∷ began 9 ∷ []) None ∷ does 9 (λ o. remembering [] (only1 undoing 5 o)) (began 5 ∷ []) None ∷ does 5 gone (ended root ∷ []) Handled ∷ [];
+}
+
+-- undoing in file order, with the closings logged in the reverse order
+unfoldable turnedAbout : Engine
+turnedAbout = record {
+  bytes = planC;
+  calls = first ∷ next ∷ [];
+  deeds = does 2 (λ o. marked 2 idle (marked 6 done o)) (began 6 ∷ began 7 ∷ []) None ∷ does 6 (λ o. remembering (closingOf 6 0 ∷ closingOf 2 0 ∷ []) (marked 6 idle (marked 10 active o))) (closed 6 ∷ closed 2 ∷ began 10 ∷ []) None ∷ does 10 (λ o. remembering (closingOf 6 0 ∷ []) (only1 undoing 5 o)) (raised 10 ∷ faulted root ∷ began 5 ∷ []) None ∷ [];
+}
+
+-- an undo part that is over starts a second time, and that is not said
+unfoldable unsaid : Engine
+unsaid = record {
+  bytes = planC;
+  calls = first ∷ next ∷ next ∷ next ∷ next ∷ [];
+  deeds = does 9 (λ o. o) ([]) None ∷ [];
+}
+
+-- the newest undo part is started, and the other dropped
+unfoldable newest : Engine
+newest = record {
+  bytes = planC;
+  calls = first ∷ next ∷ next ∷ next ∷ next ∷ [];
+  deeds = does 9 gone (began 11 ∷ ended root ∷ []) Handled ∷ [];
+}
+
+-- undoing in file order
+unfoldable oldest : Engine
+oldest = record {
+  bytes = planC;
+  calls = first ∷ next ∷ next ∷ next ∷ [];
+  deeds = does 10 (λ o. remembering (closingOf 6 0 ∷ []) (only1 undoing 5 o)) (raised 10 ∷ faulted root ∷ began 5 ∷ []) None ∷ [];
+}
+
+-- one of them starts twice
+unfoldable twiceOver : Engine
+twiceOver = record {
+  bytes = planC;
+  calls = first ∷ next ∷ next ∷ next ∷ next ∷ [];
+  deeds = does 9 (λ o. o) (began 9 ∷ []) None ∷ [];
+}
+
+-- the other is undone without the newest
+unfoldable other : Engine
+other = record {
+  bytes = planC;
+  calls = first ∷ next ∷ next ∷ next ∷ [];
+  deeds = does 10 (λ o. remembering [] (only1 undoing 5 o)) (raised 10 ∷ faulted root ∷ began 5 ∷ []) None ∷ does 5 gone (began 11 ∷ ended root ∷ []) Handled ∷ [];
+}
+
+-- once per scope where a repeat closed it often
+unfoldable oncePer : Engine
+oncePer = record {
+  bytes = three;
+  calls = first ∷ next ∷ next ∷ next ∷ next ∷ next ∷ next ∷ next ∷ next ∷ next ∷ next ∷ next ∷ next ∷ [];
+  deeds = does 10 (λ o. remembering [] (only1 undoing 8 o)) (raised 10 ∷ faulted root ∷ began 8 ∷ []) None ∷ does 8 gone (began 11 ∷ ended root ∷ []) Handled ∷ [];
+}
+
+-- the same, with only the last closing logged
+unfoldable lastLogged : Engine
+lastLogged = record {
+  bytes = three;
+  calls = first ∷ next ∷ next ∷ next ∷ [];
+  deeds = does 5 (λ o. marked 5 idle (marked 9 active o)) (began 9 ∷ []) None ∷ [];
+}
+
+-- a scope's undo starts while an inner handler still runs
+unfoldable tooEarly : Engine
+tooEarly = record {
+  bytes = innerHandler;
+  calls = first ∷ next ∷ next ∷ stepping 1 ∷ [];
+  deeds = does 12 (λ o. withRoot undoing (remembering [] (marked 0 idle (marked 2 idle (marked 7 idle (marked 12 idle (marked 11 active o))))))) (raised 12 ∷ faulted root ∷ began 11 ∷ []) None ∷ [];
+}
+
+-- an undo part starts before anything around it faulted
+unfoldable unfaulted : Engine
+unfaulted = record {
+  bytes = innerHandler;
+  calls = first ∷ next ∷ next ∷ [];
+  deeds = does 8 (λ o. marked 8 idle (marked 11 active o)) (closed 8 ∷ began 11 ∷ []) None ∷ [];
+}
+
+-- the root ends and leaves an inner scope running
+unfoldable leftRunning : Engine
+leftRunning = record {
+  bytes = innerHandler;
+  calls = first ∷ next ∷ next ∷ stepping 1 ∷ [];
+  deeds = does 12 gone (raised 12 ∷ faulted root ∷ began 13 ∷ ended root ∷ []) Handled ∷ [];
+}
+
+-- a scope that faulted and was handled is remembered, and its fault is not logged
+unfoldable remembersHandled : Engine
+remembersHandled = record {
+  bytes = handledScope;
+  calls = first ∷ next ∷ [];
+  deeds = does 3 (λ o. remembering (closingOf 2 0 ∷ []) (marked 3 idle (marked 2 idle (marked 6 active o)))) (raised 3 ∷ began 4 ∷ closed 2 ∷ began 6 ∷ []) None ∷ [];
+}
+
+-- the fault part runs though nothing raised
+unfoldable unraised : Engine
+unraised = record {
+  bytes = handledScope;
+  calls = first ∷ next ∷ [];
+  deeds = does 3 (λ o. remembering (closingOf 2 0 ∷ []) (marked 3 idle (marked 2 idle (marked 6 active o)))) (began 4 ∷ closed 2 ∷ began 6 ∷ []) None ∷ [];
+}
+
+-- a scope that faulted and was handled is undone
+unfoldable undoesHandled : Engine
+undoesHandled = record {
+  bytes = handledScope;
+  calls = first ∷ next ∷ next ∷ [];
+  deeds = does 6 (only1 undoing 5) (raised 6 ∷ faulted root ∷ began 5 ∷ []) None ∷ [];
+}
+
+-- the same, with a closing claimed for it
+unfoldable closesHandled : Engine
+closesHandled = record {
+  bytes = handledScope;
+  calls = first ∷ next ∷ [];
+  deeds = does 3 (λ o. remembering (closingOf 2 0 ∷ []) (marked 3 idle (marked 2 idle (marked 6 active o)))) (raised 3 ∷ faulted (inner 2) ∷ began 4 ∷ closed 2 ∷ began 6 ∷ []) None ∷ [];
+}
+
+-- the close of the outer scope kept its list, and what closed in it the first time is undone the second time
+unfoldable keepsList : Engine
+keepsList = record {
+  bytes = closedOuter;
+  calls = first ∷ next ∷ next ∷ next ∷ next ∷ next ∷ next ∷ next ∷ next ∷ next ∷ [];
+  deeds = does 12 (λ o. marked 12 idle (marked 5 idle (marked 4 undoing (marked 10 active o)))) (raised 12 ∷ faulted (inner 4) ∷ began 10 ∷ []) None ∷ [];
+}
+
+-- after an undo part that is over at once that of a scope that never began runs as well, and that is not said
+unfoldable oneMore : Engine
+oneMore = record {
+  bytes = neverEntered;
+  calls = first ∷ next ∷ next ∷ next ∷ [];
+  deeds = does 12 (λ o. remembering [] (only1 undoing 6 o)) (raised 12 ∷ faulted root ∷ began 11 ∷ []) None ∷ [];
+}
+
+-- and that is said
+unfoldable oneMoreSaid : Engine
+oneMoreSaid = record {
+  bytes = neverEntered;
+  calls = first ∷ next ∷ next ∷ next ∷ [];
+  deeds = does 12 (λ o. remembering [] (only1 undoing 6 o)) (raised 12 ∷ faulted root ∷ began 11 ∷ began 6 ∷ []) None ∷ [];
+}
+
+-- an undo part that is a sequence starts a second time, and only what begins in it is told
+unfoldable untold : Engine
+untold = record {
+  bytes = inSequence;
+  calls = first ∷ next ∷ next ∷ next ∷ next ∷ [];
+  deeds = does 7 (λ o. marked 7 idle (marked 6 active o)) (began 6 ∷ []) None ∷ [];
+}
+
+-- What is only claimed, dropped, or done at the wrong time, behind a history that looks right.
+
+-- the raise ends the order in its own step, handled, and both undo parts are only claimed
+unfoldable claimsAll : Engine
+claimsAll = record {
+  bytes = planC;
+  calls = first ∷ next ∷ next ∷ next ∷ [];
+  deeds = does 10 gone (raised 10 ∷ faulted root ∷ began 9 ∷ began 5 ∷ began 11 ∷ ended root ∷ []) Handled ∷ [];
+}
+
+-- the newest undo part starts and has its step, and then the other is only claimed
+unfoldable claimsOther : Engine
+claimsOther = record {
+  bytes = planC;
+  calls = first ∷ next ∷ next ∷ next ∷ next ∷ [];
+  deeds = does 9 gone (began 5 ∷ began 11 ∷ ended root ∷ []) Handled ∷ [];
+}
+
+-- an undo part that is a sequence is only claimed
+unfoldable claimsSequence : Engine
+claimsSequence = record {
+  bytes = inSequence;
+  calls = first ∷ next ∷ next ∷ [];
+  deeds = does 8 (λ o. remembering [] (only1 handling 9 o)) (raised 8 ∷ faulted root ∷ began 5 ∷ began 9 ∷ []) None ∷ does 9 gone (ended root ∷ []) Handled ∷ [];
+}
+
+-- closed three times, undone once, claimed three times
+unfoldable claimsThrice : Engine
+claimsThrice = record {
+  bytes = three;
+  calls = first ∷ next ∷ next ∷ next ∷ next ∷ next ∷ next ∷ next ∷ next ∷ next ∷ next ∷ next ∷ next ∷ [];
+  deeds = does 10 (λ o. remembering [] (only1 undoing 8 o)) (raised 10 ∷ faulted root ∷ began 8 ∷ began 8 ∷ began 8 ∷ []) None ∷ does 8 gone (began 11 ∷ ended root ∷ []) Handled ∷ [];
+}
+
+-- a step of another branch claims again the undo part that runs
+unfoldable claimsBeside : Engine
+claimsBeside = record {
+  bytes = beside;
+  calls = first ∷ next ∷ next ∷ next ∷ next ∷ next ∷ next ∷ next ∷ next ∷ next ∷ next ∷ [];
+  deeds = does 17 (λ o. remembering [] (marked 17 idle (marked 18 active o))) (began 11 ∷ began 18 ∷ []) None ∷ [];
+}
+
+-- while another slot has its step the undo part that runs is exchanged for the other
+unfoldable otherSlot : Engine
+otherSlot = record {
+  bytes = planC;
+  calls = first ∷ next ∷ next ∷ next ∷ next ∷ [];
+  deeds = silently (λ o. marked 9 idle (marked 5 active o)) ∷ [];
+}
+
+-- an undo part hangs for good, and another branch goes on
+unfoldable hangs : Engine
+hangs = record {
+  bytes = hung;
+  calls = first ∷ next ∷ next ∷ next ∷ next ∷ next ∷ next ∷ next ∷ next ∷ next ∷ next ∷ [];
+  deeds = does 12 (λ o. marked 12 idle o) ([]) None ∷ [];
+}
+
+-- the root faults, and an inner scope is not stopped before it has done all it had to do
+unfoldable runsOn : Engine
+runsOn = record {
+  bytes = unstopped;
+  calls = first ∷ next ∷ [];
+  deeds = does 9 (λ o. withRoot faulty (marked 0 idle (marked 2 idle (marked 9 idle o)))) (raised 9 ∷ faulted root ∷ []) None ∷ [];
+}
+
+-- a step of another branch drops the undo part that runs, and starts it again
+unfoldable drops : Engine
+drops = record {
+  bytes = beside;
+  calls = first ∷ next ∷ next ∷ next ∷ next ∷ next ∷ next ∷ next ∷ next ∷ next ∷ next ∷ [];
+  deeds = does 17 (λ o. remembering [] (marked 17 idle (marked 18 active o))) (began 11 ∷ began 18 ∷ []) None ∷ does 18 (λ o. marked 11 idle (marked 3 idle (marked 18 idle (marked 19 active o)))) (began 14 ∷ ended (inner 3) ∷ began 19 ∷ []) None ∷ [];
+}
+
+-- the body of a scope never begins, and the scope closes
+unfoldable bodiless : Engine
+bodiless = record {
+  bytes = unbegun;
+  calls = first ∷ next ∷ [];
+  deeds = does 2 (λ o. marked 2 idle (marked 3 done o)) (began 3 ∷ []) None ∷ [];
+}
+
+-- a scope is closed while its body runs
+unfoldable closesEarly : Engine
+closesEarly = record {
+  bytes = unbegun;
+  calls = first ∷ next ∷ next ∷ [];
+  deeds = does 3 (λ o. remembering (closingOf 3 0 ∷ []) (marked 3 idle (marked 4 idle (marked 7 active o)))) (closed 3 ∷ began 7 ∷ []) None ∷ [];
+}
+
+-- an order ends well in the middle of its body
+unfoldable endsMidway : Engine
+endsMidway = record {
+  bytes = planC;
+  calls = first ∷ next ∷ next ∷ [];
+  deeds = does 6 gone (closed 6 ∷ ended root ∷ []) Well ∷ [];
+}
+
+-- of an undo part that is a flow of two only the first begins
+unfoldable halfFlow : Engine
+halfFlow = record {
+  bytes = inFlow;
+  calls = first ∷ next ∷ next ∷ [];
+  deeds = does 8 (λ o. remembering [] (marked 5 active (only1 undoing 6 o))) (raised 8 ∷ faulted root ∷ began 5 ∷ began 6 ∷ []) None ∷ [];
+}
+
+-- an undo part that is a send is only claimed, in the step that ends the order
+unfoldable claimsSend : Engine
+claimsSend = record {
+  bytes = unbegun;
+  calls = first ∷ next ∷ next ∷ next ∷ next ∷ [];
+  deeds = does 7 gone (raised 7 ∷ faulted root ∷ began 6 ∷ began 8 ∷ ended root ∷ []) Handled ∷ [];
+}
+
+-- a slot is used again, and the new order finds what the last one remembered
+unfoldable oldList : Engine
+oldList = record {
+  bytes = planC;
+  calls = first ∷ first ∷ next ∷ next ∷ next ∷ next ∷ next ∷ next ∷ next ∷ [];
+  deeds = silently (λ o. remembering (closingOf 2 0 ∷ []) o) ∷ [];
+}
+
+-- the root faults, and waits for an inner scope that it does not stop
+unfoldable waitsForEver : Engine
+waitsForEver = record {
+  bytes = waiting;
+  calls = first ∷ next ∷ next ∷ [];
+  deeds = does 11 (λ o. withRoot faulty (marked 0 idle (marked 6 idle (marked 11 idle o)))) (raised 11 ∷ faulted root ∷ []) None ∷ [];
+}
+
+-- the list of a scope that was stopped is only claimed
+unfoldable claimsStopped : Engine
+claimsStopped = record {
+  bytes = nested;
+  calls = first ∷ next ∷ next ∷ next ∷ [];
+  deeds = does 15 (λ o. remembering [] (only1 handling 16 o)) (raised 15 ∷ faulted root ∷ stopped 3 ∷ began 8 ∷ ended (inner 3) ∷ began 16 ∷ []) None ∷ [];
+}
+
+-- a scope is said to begin anew, so that its closings are forgotten
+unfoldable fakesBeginning : Engine
+fakesBeginning = record {
+  bytes = beside;
+  calls = first ∷ next ∷ next ∷ next ∷ next ∷ [];
+  deeds = does 12 (λ o. marked 12 idle (marked 6 active (marked 7 idle o))) (began 3 ∷ began 4 ∷ []) None ∷ [];
+}
+
+-- a raise in an undo part is swallowed, and the next starts
+unfoldable swallows : Engine
+swallows = record {
+  bytes = raisingUndo;
+  calls = first ∷ next ∷ next ∷ next ∷ next ∷ [];
+  deeds = does 9 (λ o. remembering [] (only1 undoing 5 o)) (raised 9 ∷ began 5 ∷ []) None ∷ [];
+}
+
+-- the list of a scope that was stopped is dropped
+unfoldable dropsStopped : Engine
+dropsStopped = record {
+  bytes = nested;
+  calls = first ∷ next ∷ next ∷ next ∷ [];
+  deeds = does 15 (λ o. remembering [] (only1 handling 16 o)) (raised 15 ∷ faulted root ∷ stopped 3 ∷ ended (inner 3) ∷ began 16 ∷ []) None ∷ [];
+}
+
+-- an undo part that is a send is only claimed, while the order lives on
+unfoldable claimsOne : Engine
+claimsOne = record {
+  bytes = oneSend;
+  calls = first ∷ next ∷ next ∷ [];
+  deeds = does 6 (λ o. remembering [] (only1 handling 7 o)) (raised 6 ∷ faulted root ∷ began 5 ∷ began 7 ∷ []) None ∷ [];
+}
+
+-- two undo parts run at once
+unfoldable bothAtOnce : Engine
+bothAtOnce = record {
+  bytes = planC;
+  calls = first ∷ next ∷ next ∷ next ∷ [];
+  deeds = does 10 (λ o. remembering [] (marked 9 active (only1 undoing 5 o))) (raised 10 ∷ faulted root ∷ began 9 ∷ began 5 ∷ []) None ∷ [];
+}
+
+-- an undo part runs in a body that has not turned
+unfoldable inOpenBody : Engine
+inOpenBody = record {
+  bytes = planC;
+  calls = first ∷ next ∷ next ∷ [];
+  deeds = does 6 (λ o. remembering (closingOf 2 0 ∷ []) (marked 6 idle (marked 10 active (marked 9 active o)))) (closed 6 ∷ began 10 ∷ began 9 ∷ []) None ∷ [];
+}
+
+-- another undo part runs than the one told
+unfoldable anotherThanTold : Engine
+anotherThanTold = record {
+  bytes = planC;
+  calls = first ∷ next ∷ next ∷ next ∷ [];
+  deeds = does 10 (λ o. remembering (closingOf 2 0 ∷ []) (only1 undoing 5 o)) (raised 10 ∷ faulted root ∷ began 9 ∷ []) None ∷ [];
+}
+
+-- What is over before its time.
+
+-- an undo part that is a sequence is over after its first send
+unfoldable dropsTail : Engine
+dropsTail = record {
+  bytes = inSequence;
+  calls = first ∷ next ∷ next ∷ next ∷ [];
+  deeds = does 6 (only1 handling 9) (began 9 ∷ []) None ∷ [];
+}
+
+-- an undo part that is a flow is over after one of its two sends
+unfoldable dropsBranch : Engine
+dropsBranch = record {
+  bytes = inFlow;
+  calls = first ∷ next ∷ next ∷ next ∷ [];
+  deeds = does 6 (only1 handling 9) (began 9 ∷ []) None ∷ [];
+}
+
+-- of an undo part that is a sequence both sends begin at once
+unfoldable asFlow : Engine
+asFlow = record {
+  bytes = inSequence;
+  calls = first ∷ next ∷ next ∷ [];
+  deeds = does 8 (λ o. remembering [] (marked 5 active (marked 7 active (only1 undoing 6 o)))) (raised 8 ∷ faulted root ∷ began 5 ∷ began 6 ∷ began 7 ∷ []) None ∷ [];
+}
+
+-- the body of an order, a receive, begins again with the step that should end it
+unfoldable againAndAgain : Engine
+againAndAgain = record {
+  bytes = lone;
+  calls = first ∷ [];
+  deeds = does 0 (λ o. withRoot active (marked 0 active noOrder)) (started ∷ began 0 ∷ began 0 ∷ []) None ∷ [];
+}
+
+-- a scope closed twice: its undo part, a sequence, is cut short after its first send, and begins again for the other closing
+unfoldable cutsShort : Engine
+cutsShort = record {
+  bytes = twice;
+  calls = first ∷ next ∷ next ∷ next ∷ next ∷ next ∷ next ∷ next ∷ next ∷ next ∷ next ∷ [];
+  deeds = does 9 (λ o. remembering [] o) (began 8 ∷ began 9 ∷ []) None ∷ [];
+}
+
+-- of a flow of two receives with which an order starts the other is dropped in the starting step
+unfoldable startsHalf : Engine
+startsHalf = record {
+  bytes = startFlow;
+  calls = first ∷ [];
+  deeds = does 1 gone (started ∷ began 0 ∷ began 1 ∷ began 2 ∷ ended root ∷ []) Well ∷ [];
+}
+
+-- a repeat is left after its first round, without deciding again
+unfoldable leavesRepeat : Engine
+leavesRepeat = record {
+  bytes = three;
+  calls = first ∷ next ∷ next ∷ next ∷ next ∷ [];
+  deeds = does 9 (λ o. marked 10 active (marked 9 idle (marked 4 idle (marked 3 idle o)))) (began 10 ∷ []) None ∷ [];
+}
+
+-- a choose begins the part that its expression does not pick
+unfoldable otherPart : Engine
+otherPart = record {
+  bytes = neverEntered;
+  calls = first ∷ next ∷ [];
+  deeds = does 2 (λ o. marked 3 done (marked 2 inside o)) (began 3 ∷ began 4 ∷ []) None ∷ [];
+}
+
+-- a choose begins nothing, and is over
+unfoldable choosesNone : Engine
+choosesNone = record {
+  bytes = neverEntered;
+  calls = first ∷ next ∷ [];
+  deeds = does 2 (λ o. marked 8 done (marked 2 idle o)) (began 8 ∷ began 9 ∷ []) None ∷ [];
+}
+
+-- Request 13: what a scope with no undo part does with what closed in it.
+
+-- what a scope of code 12 would hand on is forgotten
+unfoldable forgets : Engine
+forgets = record {
+  bytes = handedOn;
+  calls = first ∷ next ∷ next ∷ next ∷ [];
+  deeds = does 2 (λ o. remembering [] (marked 2 idle (marked 13 active o))) (closed 2 ∷ began 13 ∷ []) None ∷ [];
+}
+
+-- it is handed on in reverse
+unfoldable handsReversed : Engine
+handsReversed = record {
+  bytes = handedOn;
+  calls = first ∷ next ∷ next ∷ next ∷ [];
+  deeds = does 2 (λ o. remembering (closingOf 8 0 ∷ closingOf 4 0 ∷ []) (marked 2 idle (marked 13 active o))) (closed 2 ∷ began 13 ∷ []) None ∷ [];
+}
+
+-- it stays remembered for the scope of code 12
+unfoldable keepsForInner : Engine
+keepsForInner = record {
+  bytes = handedOn;
+  calls = first ∷ next ∷ next ∷ next ∷ [];
+  deeds = does 2 (λ o. remembering (closingOf 4 3 ∷ closingOf 8 3 ∷ []) (marked 2 idle (marked 13 active o))) (closed 2 ∷ began 13 ∷ []) None ∷ [];
+}
+
+-- it is remembered for both
+unfoldable handsToBoth : Engine
+handsToBoth = record {
+  bytes = handedOn;
+  calls = first ∷ next ∷ next ∷ next ∷ [];
+  deeds = does 2 (λ o. remembering (closingOf 4 3 ∷ closingOf 8 3 ∷ closingOf 4 0 ∷ closingOf 8 0 ∷ []) (marked 2 idle (marked 13 active o))) (closed 2 ∷ began 13 ∷ []) None ∷ [];
+}
+
+-- what was handed on is not undone
+unfoldable skipsHanded : Engine
+skipsHanded = record {
+  bytes = handedOn;
+  calls = first ∷ next ∷ next ∷ next ∷ next ∷ [];
+  deeds = does 13 gone (raised 13 ∷ faulted root ∷ began 14 ∷ ended root ∷ []) Handled ∷ [];
+}
+
+-- what was handed on is undone in file order
+unfoldable oldestHanded : Engine
+oldestHanded = record {
+  bytes = handedOn;
+  calls = first ∷ next ∷ next ∷ next ∷ next ∷ [];
+  deeds = does 13 (λ o. remembering (closingOf 8 0 ∷ []) (only1 undoing 7 o)) (raised 13 ∷ faulted root ∷ began 7 ∷ []) None ∷ [];
+}
+
+-- it is undone twice by the root
+unfoldable twiceHanded : Engine
+twiceHanded = record {
+  bytes = handedOn;
+  calls = first ∷ next ∷ next ∷ next ∷ next ∷ next ∷ next ∷ [];
+  deeds = does 7 (λ o. only1 undoing 11 o) (began 11 ∷ []) None ∷ [];
+}
+
+-- the scope of code 12 itself is taken for one that is undone, by its fault part
+unfoldable undoesByFault : Engine
+undoesByFault = record {
+  bytes = handedOn;
+  calls = first ∷ next ∷ next ∷ next ∷ next ∷ [];
+  deeds = does 13 (λ o. remembering (closingOf 4 0 ∷ []) (only1 undoing 11 o)) (raised 13 ∷ faulted root ∷ began 12 ∷ began 11 ∷ []) None ∷ [];
+}
+
+-- what a scope of code 12 hands on is remembered by the inner closing
+unfoldable datesInner : Engine
+datesInner = record {
+  bytes = datedOuter;
+  calls = first ∷ next ∷ next ∷ stepping 1 ∷ [];
+  deeds = does 3 (λ o. remembering (closingOf 4 0 ∷ closingOf 9 0 ∷ []) (marked 3 idle (marked 2 idle (marked 13 active o)))) (closed 3 ∷ began 13 ∷ []) None ∷ [];
+}
+
+-- and undone so
+unfoldable undoesDated : Engine
+undoesDated = record {
+  bytes = datedOuter;
+  calls = first ∷ next ∷ next ∷ stepping 1 ∷ next ∷ [];
+  deeds = does 13 (λ o. remembering (closingOf 4 0 ∷ []) (only1 undoing 12 o)) (raised 13 ∷ faulted root ∷ began 12 ∷ []) None ∷ [];
+}
+
+-- a scope of code 12 that faulted undoes what closed in it, and hands it on as well
+unfoldable handsOnFaulted : Engine
+handsOnFaulted = record {
+  bytes = faultedOpen;
+  calls = first ∷ next ∷ next ∷ next ∷ [];
+  deeds = does 7 (λ o. remembering (closingOf 4 0 ∷ []) (marked 7 idle (marked 2 idle (marked 10 active o)))) (began 9 ∷ ended (inner 2) ∷ began 10 ∷ []) None ∷ [];
+}
+
+-- and the root undoes it once more
+unfoldable undoesFaulted : Engine
+undoesFaulted = record {
+  bytes = faultedOpen;
+  calls = first ∷ next ∷ next ∷ next ∷ next ∷ [];
+  deeds = does 10 (only1 undoing 7) (raised 10 ∷ faulted root ∷ began 7 ∷ []) None ∷ [];
+}
+
+-- a scope of code 12 that faulted hands it on instead of undoing it
+unfoldable handsOnInstead : Engine
+handsOnInstead = record {
+  bytes = faultedOpen;
+  calls = first ∷ next ∷ next ∷ [];
+  deeds = does 8 (λ o. remembering (closingOf 4 0 ∷ []) (marked 8 idle (marked 3 idle (marked 2 idle (marked 10 active o))))) (raised 8 ∷ faulted (inner 2) ∷ began 9 ∷ ended (inner 2) ∷ began 10 ∷ []) None ∷ [];
+}
+
+-- a raise in a scope of code 12 is passed over to the root
+unfoldable passesOver : Engine
+passesOver = record {
+  bytes = faultedOpen;
+  calls = first ∷ next ∷ next ∷ [];
+  deeds = does 8 (λ o. remembering [] (only1 undoing 7 o)) (raised 8 ∷ faulted root ∷ began 7 ∷ []) None ∷ [];
+}
+
+-- a scope of code 12 undoes what it handed on the time before
+unfoldable undoesHandedOn : Engine
+undoesHandedOn = record {
+  bytes = handedOnce;
+  calls = first ∷ next ∷ next ∷ next ∷ next ∷ next ∷ next ∷ next ∷ next ∷ next ∷ [];
+  deeds = does 12 (λ o. marked 12 idle (marked 5 idle (marked 4 undoing (marked 10 active o)))) (raised 12 ∷ faulted (inner 4) ∷ began 10 ∷ []) None ∷ [];
+}
+
+-- the right course of each plan, as far as its engines go
+right : List (List Event)
+right =
+    (started ∷ began 0 ∷ began 1 ∷ began 2 ∷ began 3 ∷ closed 2 ∷ began 6 ∷ began 7 ∷ closed 6 ∷ began 10 ∷ raised 10 ∷ faulted root ∷ began 9 ∷ began 5 ∷ began 11 ∷ ended root ∷ [])
+    ∷ (started ∷ began 0 ∷ began 1 ∷ began 2 ∷ began 3 ∷ began 4 ∷ began 5 ∷ began 6 ∷ closed 5 ∷ began 9 ∷ began 4 ∷ began 5 ∷ began 6 ∷ closed 5 ∷ began 9 ∷ began 4 ∷ began 5 ∷ began 6 ∷ closed 5 ∷ began 9 ∷ began 10 ∷ raised 10 ∷ faulted root ∷ began 8 ∷ began 8 ∷ began 8 ∷ began 11 ∷ ended root ∷ [])
+    ∷ (started ∷ began 0 ∷ began 1 ∷ began 2 ∷ began 3 ∷ began 4 ∷ began 7 ∷ began 8 ∷ began 9 ∷ raised 4 ∷ faulted (inner 3) ∷ began 5 ∷ closed 8 ∷ began 12 ∷ raised 12 ∷ faulted root ∷ ended (inner 3) ∷ began 11 ∷ began 13 ∷ ended root ∷ [])
+    ∷ (started ∷ began 0 ∷ began 1 ∷ began 2 ∷ began 3 ∷ raised 3 ∷ faulted (inner 2) ∷ began 4 ∷ ended (inner 2) ∷ began 6 ∷ raised 6 ∷ faulted root ∷ began 7 ∷ ended root ∷ [])
+    ∷ (started ∷ began 0 ∷ began 1 ∷ began 2 ∷ began 3 ∷ began 4 ∷ began 5 ∷ began 6 ∷ began 7 ∷ began 8 ∷ closed 7 ∷ began 11 ∷ closed 4 ∷ began 4 ∷ began 5 ∷ began 12 ∷ raised 12 ∷ faulted (inner 4) ∷ began 13 ∷ ended (inner 4) ∷ ended root ∷ [])
+    ∷ (started ∷ began 0 ∷ began 1 ∷ began 2 ∷ began 7 ∷ began 8 ∷ began 9 ∷ closed 8 ∷ began 12 ∷ raised 12 ∷ faulted root ∷ began 11 ∷ began 13 ∷ [])
+    ∷ (started ∷ began 0 ∷ began 1 ∷ began 2 ∷ began 3 ∷ closed 2 ∷ began 8 ∷ raised 8 ∷ faulted root ∷ began 5 ∷ began 6 ∷ began 7 ∷ began 9 ∷ [])
+    ∷ (started ∷ began 0 ∷ began 1 ∷ began 2 ∷ began 3 ∷ closed 2 ∷ began 8 ∷ raised 8 ∷ faulted root ∷ began 5 ∷ began 6 ∷ began 7 ∷ began 9 ∷ [])
+    ∷ (started ∷ began 0 ∷ began 1 ∷ began 2 ∷ began 3 ∷ began 4 ∷ began 5 ∷ began 16 ∷ began 17 ∷ began 6 ∷ began 7 ∷ began 8 ∷ began 9 ∷ closed 8 ∷ began 12 ∷ began 7 ∷ began 8 ∷ began 9 ∷ closed 8 ∷ began 12 ∷ began 13 ∷ raised 13 ∷ faulted (inner 3) ∷ began 11 ∷ [])
+    ∷ (started ∷ began 0 ∷ began 1 ∷ began 2 ∷ began 3 ∷ began 4 ∷ began 5 ∷ began 18 ∷ began 6 ∷ began 7 ∷ began 8 ∷ began 9 ∷ closed 8 ∷ began 14 ∷ began 7 ∷ began 8 ∷ began 9 ∷ closed 8 ∷ began 14 ∷ began 15 ∷ raised 15 ∷ faulted (inner 3) ∷ began 11 ∷ began 12 ∷ [])
+    ∷ (started ∷ began 0 ∷ began 1 ∷ began 2 ∷ began 3 ∷ began 4 ∷ began 5 ∷ began 9 ∷ [])
+    ∷ (started ∷ began 0 ∷ began 1 ∷ began 2 ∷ began 3 ∷ began 4 ∷ [])
+    ∷ (started ∷ began 0 ∷ began 1 ∷ began 2 ∷ began 3 ∷ closed 2 ∷ began 6 ∷ began 7 ∷ began 8 ∷ began 11 ∷ [])
+    ∷ (started ∷ began 0 ∷ began 1 ∷ began 2 ∷ began 3 ∷ began 4 ∷ began 5 ∷ began 6 ∷ began 13 ∷ began 14 ∷ closed 5 ∷ began 10 ∷ began 15 ∷ [])
+    ∷ (started ∷ began 0 ∷ began 1 ∷ began 2 ∷ began 3 ∷ closed 2 ∷ began 6 ∷ began 7 ∷ closed 6 ∷ began 10 ∷ raised 10 ∷ faulted root ∷ began 9 ∷ [])
+    ∷ (started ∷ began 0 ∷ began 1 ∷ began 2 ∷ began 3 ∷ closed 2 ∷ began 6 ∷ [])
+    ∷ (started ∷ began 0 ∷ ended root ∷ [])
+    ∷ (started ∷ began 0 ∷ began 1 ∷ began 2 ∷ began 3 ∷ began 4 ∷ began 5 ∷ began 6 ∷ closed 5 ∷ began 11 ∷ began 4 ∷ began 5 ∷ began 6 ∷ closed 5 ∷ began 11 ∷ began 12 ∷ raised 12 ∷ faulted root ∷ began 8 ∷ began 9 ∷ [])
+    ∷ (started ∷ began 0 ∷ began 1 ∷ began 2 ∷ [])
+    ∷ (started ∷ began 0 ∷ began 1 ∷ began 2 ∷ began 3 ∷ began 4 ∷ began 5 ∷ closed 4 ∷ began 8 ∷ began 9 ∷ closed 8 ∷ closed 2 ∷ began 13 ∷ raised 13 ∷ faulted root ∷ began 11 ∷ began 7 ∷ began 14 ∷ ended root ∷ [])
+    ∷ (started ∷ began 0 ∷ began 1 ∷ began 2 ∷ began 3 ∷ began 4 ∷ began 5 ∷ began 9 ∷ began 10 ∷ closed 4 ∷ closed 9 ∷ closed 3 ∷ began 13 ∷ raised 13 ∷ faulted root ∷ began 7 ∷ began 12 ∷ began 14 ∷ ended root ∷ [])
+    ∷ (started ∷ began 0 ∷ began 1 ∷ began 2 ∷ began 3 ∷ began 4 ∷ began 5 ∷ closed 4 ∷ began 8 ∷ raised 8 ∷ faulted (inner 2) ∷ began 7 ∷ began 9 ∷ ended (inner 2) ∷ began 10 ∷ raised 10 ∷ faulted root ∷ began 11 ∷ ended root ∷ [])
+    ∷ (started ∷ began 0 ∷ began 1 ∷ began 2 ∷ began 3 ∷ began 4 ∷ began 5 ∷ began 6 ∷ began 7 ∷ began 8 ∷ closed 7 ∷ began 11 ∷ closed 4 ∷ began 4 ∷ began 5 ∷ began 12 ∷ raised 12 ∷ faulted (inner 4) ∷ began 13 ∷ ended (inner 4) ∷ began 14 ∷ raised 14 ∷ faulted root ∷ began 10 ∷ began 15 ∷ ended root ∷ [])
+    ∷ (started ∷ began 0 ∷ began 1 ∷ began 2 ∷ began 3 ∷ began 4 ∷ began 5 ∷ began 6 ∷ began 7 ∷ began 8 ∷ closed 7 ∷ began 13 ∷ began 15 ∷ closed 5 ∷ began 17 ∷ began 4 ∷ began 5 ∷ began 6 ∷ began 7 ∷ began 8 ∷ closed 7 ∷ began 13 ∷ began 14 ∷ raised 14 ∷ faulted (inner 5) ∷ began 10 ∷ began 11 ∷ began 12 ∷ raised 11 ∷ ended (inner 5) ∷ faulted root ∷ began 10 ∷ began 11 ∷ began 12 ∷ [])
+    ∷ []
+
+logged : history (first ∷ next ∷ next ∷ next ∷ next ∷ next ∷ next ∷ []) 0 (loaded planC) noTally ∷ history (first ∷ next ∷ next ∷ next ∷ next ∷ next ∷ next ∷ next ∷ next ∷ next ∷ next ∷ next ∷ next ∷ next ∷ next ∷ next ∷ next ∷ []) 0 (loaded three) noTally ∷ history (first ∷ next ∷ next ∷ stepping 1 ∷ next ∷ next ∷ next ∷ []) 0 (loaded innerHandler) noTally ∷ history (first ∷ next ∷ next ∷ next ∷ []) 0 (loaded handledScope) noTally ∷ history (first ∷ next ∷ next ∷ next ∷ next ∷ next ∷ next ∷ next ∷ next ∷ next ∷ next ∷ next ∷ next ∷ []) 0 (loaded closedOuter) noTally ∷ history (first ∷ next ∷ next ∷ next ∷ next ∷ []) 0 (loaded neverEntered) noTally ∷ history (first ∷ next ∷ next ∷ next ∷ next ∷ next ∷ []) 0 (loaded inSequence) noTally ∷ history (first ∷ next ∷ next ∷ next ∷ next ∷ next ∷ []) 0 (loaded inFlow) noTally ∷ history (first ∷ next ∷ next ∷ next ∷ next ∷ next ∷ next ∷ next ∷ next ∷ next ∷ next ∷ []) 0 (loaded beside) noTally ∷ history (first ∷ next ∷ next ∷ next ∷ next ∷ next ∷ next ∷ next ∷ next ∷ next ∷ next ∷ []) 0 (loaded hung) noTally ∷ history (first ∷ next ∷ []) 0 (loaded unstopped) noTally ∷ history (first ∷ next ∷ next ∷ next ∷ []) 0 (loaded unbegun) noTally ∷ history (first ∷ next ∷ next ∷ []) 0 (loaded waiting) noTally ∷ history (first ∷ next ∷ next ∷ next ∷ []) 0 (loaded nested) noTally ∷ history (first ∷ next ∷ next ∷ next ∷ next ∷ []) 0 (loaded raisingUndo) noTally ∷ history (first ∷ next ∷ next ∷ []) 0 (loaded oneSend) noTally ∷ history (first ∷ next ∷ []) 0 (loaded lone) noTally ∷ history (first ∷ next ∷ next ∷ next ∷ next ∷ next ∷ next ∷ next ∷ next ∷ next ∷ next ∷ []) 0 (loaded twice) noTally ∷ history (first ∷ next ∷ []) 0 (loaded startFlow) noTally ∷ history (first ∷ next ∷ next ∷ next ∷ next ∷ next ∷ next ∷ next ∷ []) 0 (loaded handedOn) noTally ∷ history (first ∷ next ∷ next ∷ stepping 1 ∷ next ∷ next ∷ next ∷ next ∷ []) 0 (loaded datedOuter) noTally ∷ history (first ∷ next ∷ next ∷ next ∷ next ∷ next ∷ []) 0 (loaded faultedOpen) noTally ∷ history (first ∷ next ∷ next ∷ next ∷ next ∷ next ∷ next ∷ next ∷ next ∷ next ∷ next ∷ next ∷ next ∷ next ∷ next ∷ []) 0 (loaded handedOnce) noTally ∷ history (first ∷ next ∷ next ∷ next ∷ next ∷ next ∷ next ∷ next ∷ next ∷ next ∷ next ∷ next ∷ next ∷ []) 0 (loaded anew) noTally ∷ [] ≡ right
+unfolding right planC three innerHandler handledScope closedOuter neverEntered inSequence inFlow beside hung unstopped unbegun waiting nested raisingUndo oneSend lone twice startFlow handedOn datedOuter faultedOpen handedOnce anew computing judging
 logged = refl
 
--- what a wrong history breaks, on the plan that some bytes spell
-brokenBy : List ℕ → Wrong → List Named
-brokenBy bytes w =
-    by [] (λ p. broken p (deedsTaken p (w .calls) 0 (loaded bytes) noTally) (endsTaken (w .calls) 0 (loaded bytes) noTally) (w .taken) (w .order) (w .happened)) (readPlan bytes)
+engines : List Engine
+engines = ending ∷ skipsUndo ∷ scopeless ∷ hanging ∷ leaving ∷ sending ∷ unasked ∷ faultFirst ∷ turnedAbout ∷ unsaid ∷ newest ∷ oldest ∷ twiceOver ∷ other ∷ oncePer ∷ lastLogged ∷ tooEarly ∷ unfaulted ∷ leftRunning ∷ remembersHandled ∷ unraised ∷ undoesHandled ∷ closesHandled ∷ keepsList ∷ oneMore ∷ oneMoreSaid ∷ untold ∷ claimsAll ∷ claimsOther ∷ claimsSequence ∷ claimsThrice ∷ claimsBeside ∷ otherSlot ∷ hangs ∷ runsOn ∷ drops ∷ bodiless ∷ closesEarly ∷ endsMidway ∷ halfFlow ∷ claimsSend ∷ oldList ∷ waitsForEver ∷ claimsStopped ∷ fakesBeginning ∷ swallows ∷ dropsStopped ∷ claimsOne ∷ bothAtOnce ∷ inOpenBody ∷ anotherThanTold ∷ dropsTail ∷ dropsBranch ∷ asFlow ∷ againAndAgain ∷ cutsShort ∷ startsHalf ∷ leavesRepeat ∷ otherPart ∷ choosesNone ∷ []
 
-refused : map (λ x. map (brokenBy (x .bytes)) (x .wrongly)) examples ≡ map (λ x. map (λ w. w .breaks) (x .wrongly)) examples
-unfolding examples twoScopes threeClosings innerHandler handledScope closedOuter neverEntered inSequence handedOn datedOuter faultedOpen handedOnce planC brokenBy computing judging
+-- and what each breaks
+refused : map verdict engines
+    ≡ (faults ∷ ends ∷ [])
+    ∷ (orderly ∷ faults ∷ ends ∷ [])
+    ∷ (orderly ∷ begunInTurn ∷ entirely ∷ leftToFinish ∷ [])
+    ∷ (goingOn ∷ neverStuck ∷ standing ∷ [])
+    ∷ (steps ∷ [])
+    ∷ (steps ∷ [])
+    ∷ (faults ∷ begunTruly ∷ passedOn ∷ [])
+    ∷ (orderly ∷ [])
+    ∷ (steps ∷ marks ∷ [])
+    ∷ (begunAll ∷ [])
+    ∷ (demand3 ∷ orderly ∷ [])
+    ∷ (demand3 ∷ lists ∷ [])
+    ∷ (demand3 ∷ lists ∷ [])
+    ∷ (demand3 ∷ lists ∷ [])
+    ∷ (lists ∷ [])
+    ∷ (steps ∷ marks ∷ [])
+    ∷ (demand3 ∷ standing ∷ [])
+    ∷ (demand3 ∷ orderly ∷ places ∷ goingOn ∷ standing ∷ [])
+    ∷ (demand3 ∷ orderly ∷ [])
+    ∷ (orderly ∷ faults ∷ steps ∷ [])
+    ∷ (orderly ∷ steps ∷ [])
+    ∷ (demand3 ∷ lists ∷ [])
+    ∷ (demand3 ∷ steps ∷ [])
+    ∷ (demand3 ∷ lists ∷ [])
+    ∷ (begunAll ∷ [])
+    ∷ (demand3 ∷ lists ∷ [])
+    ∷ (begunInTurn ∷ entirely ∷ [])
+    ∷ (begunTruly ∷ [])
+    ∷ (begunTruly ∷ [])
+    ∷ (entirely ∷ [])
+    ∷ (once ∷ [])
+    ∷ (afresh ∷ leftToFinish ∷ [])
+    ∷ (ownSteps ∷ [])
+    ∷ (passedOn ∷ toCome ∷ standing ∷ [])
+    ∷ (stoppedWithin ∷ standing ∷ [])
+    ∷ (afresh ∷ leftToFinish ∷ [])
+    ∷ (entirely ∷ [])
+    ∷ (itsStep ∷ [])
+    ∷ (passedOn ∷ [])
+    ∷ (entirely ∷ [])
+    ∷ (begunTruly ∷ [])
+    ∷ (ownSteps ∷ lists ∷ [])
+    ∷ (stoppedWithin ∷ standing ∷ [])
+    ∷ (entirely ∷ [])
+    ∷ (orderly ∷ begunInTurn ∷ afresh ∷ entirely ∷ passedOn ∷ lists ∷ [])
+    ∷ (faults ∷ [])
+    ∷ (demand3 ∷ [])
+    ∷ (begunTruly ∷ [])
+    ∷ (goingOn ∷ standing ∷ [])
+    ∷ (demand3 ∷ orderly ∷ places ∷ goingOn ∷ standing ∷ [])
+    ∷ (begunTruly ∷ begunAll ∷ [])
+    ∷ (passedOn ∷ [])
+    ∷ (keptRunning ∷ [])
+    ∷ (standing ∷ [])
+    ∷ (once ∷ [])
+    ∷ (passedOn ∷ [])
+    ∷ (keptRunning ∷ [])
+    ∷ (keptRunning ∷ [])
+    ∷ (decided ∷ [])
+    ∷ (decided ∷ [])
+    ∷ []
+unfolding engines planC three innerHandler handledScope closedOuter neverEntered inSequence inFlow beside hung unstopped unbegun waiting nested raisingUndo oneSend lone twice startFlow ending skipsUndo scopeless hanging leaving sending unasked faultFirst turnedAbout unsaid newest oldest twiceOver other oncePer lastLogged tooEarly unfaulted leftRunning remembersHandled unraised undoesHandled closesHandled keepsList oneMore oneMoreSaid untold claimsAll claimsOther claimsSequence claimsThrice claimsBeside otherSlot hangs runsOn drops bodiless closesEarly endsMidway halfFlow claimsSend oldList waitsForEver claimsStopped fakesBeginning swallows dropsStopped claimsOne bothAtOnce inOpenBody anotherThanTold dropsTail dropsBranch asFlow againAndAgain cutsShort startsHalf leavesRepeat otherPart choosesNone first-of judge verdict computing judging weighing
 refused = refl
 
--- and the right ones break none
-unbroken : map (λ x. by (begunTruly ∷ []) (λ p. broken p (deedsTaken p (x .calls) 0 (loaded (x .bytes)) noTally) (endsTaken (x .calls) 0 (loaded (x .bytes)) noTally) (stepsTaken p (x .calls) 0 (loaded (x .bytes)) noTally) (orderAfter (x .calls) 0 (loaded (x .bytes)) noTally) (x .happened)) (readPlan (x .bytes))) examples
-    ≡ map (λ x. []) examples
-unfolding examples twoScopes threeClosings innerHandler handledScope closedOuter neverEntered inSequence handedOn datedOuter faultedOpen handedOnce planC computing judging
-unbroken = refl
+-- the engines of request 13, and what each breaks
+handers : List Engine
+handers = forgets ∷ handsReversed ∷ keepsForInner ∷ handsToBoth ∷ skipsHanded ∷ oldestHanded ∷ twiceHanded ∷ undoesByFault ∷ datesInner ∷ undoesDated ∷ handsOnFaulted ∷ undoesFaulted ∷ handsOnInstead ∷ passesOver ∷ undoesHandedOn ∷ []
+
+refusedHanders : map verdict handers
+    ≡ (lists ∷ [])
+    ∷ (lists ∷ [])
+    ∷ (lists ∷ [])
+    ∷ (lists ∷ [])
+    ∷ (demand3 ∷ orderly ∷ [])
+    ∷ (demand3 ∷ lists ∷ [])
+    ∷ (demand3 ∷ lists ∷ [])
+    ∷ (orderly ∷ leftToFinish ∷ [])
+    ∷ (lists ∷ [])
+    ∷ (demand3 ∷ lists ∷ [])
+    ∷ (lists ∷ [])
+    ∷ (demand3 ∷ lists ∷ [])
+    ∷ (demand3 ∷ orderly ∷ lists ∷ [])
+    ∷ (demand3 ∷ orderly ∷ faults ∷ marks ∷ [])
+    ∷ (demand3 ∷ lists ∷ [])
+    ∷ []
+unfolding handers handedOn datedOuter faultedOpen handedOnce forgets handsReversed keepsForInner handsToBoth skipsHanded oldestHanded twiceHanded undoesByFault datesInner undoesDated handsOnFaulted undoesFaulted handsOnInstead passesOver undoesHandedOn first-of judge verdict computing judging weighing
+refusedHanders = refl
+
+-- Not every step begins only what was idle: in the last of `anew` the raise 11 ends scope 5, which ran the undo part 10 for the second closing of scope 7, and in the same
+-- step the root begins it for the first, which was handed on to it, with the receive 12, which ran.
+begunAnew : by [] (λ p. map (λ x. cond (hasBegan 12 (x .log) && not (eqb (markBefore 12 x) idle)) (x .activity) 0) (stepsTaken p (first ∷ next ∷ next ∷ next ∷ next ∷ next ∷ next ∷ next ∷ next ∷ next ∷ next ∷ next ∷ next ∷ []) 0 (loaded anew) noTally)) (readPlan anew)
+    ≡ 0 ∷ 0 ∷ 0 ∷ 0 ∷ 0 ∷ 0 ∷ 0 ∷ 0 ∷ 0 ∷ 0 ∷ 0 ∷ 11 ∷ []
+unfolding anew computing judging weighing
+begunAnew = refl

@@ -7,17 +7,17 @@ use mathlib.Core.List.{List}
 use lib.ListN.{getD}
 use lib.Dec.{eqb}
 use borrow.Author.Tests.{eq-eqb}
-use Rattle.plan.specs.Tree.{Own, empty, send, receive, set as setting, raise, leave, choose, repeat, sequence, flow, pick, scope, arm, kind, Act, act, Acts, none, more, Plan, size, sizes}
+use Rattle.plan.specs.Tree.{Own, empty, send, receive, set as setting, raise, leave, choose, repeat, sequence, flow, pick, scope, arm, kind, isScope, hasUndo, Act, act, Acts, none, more, Plan, size, sizes}
 use Rattle.order.specs.declared.Order.{Order}
 use Rattle.order.specs.Event.{Event}
 use Rattle.order.specs.State.{idle, active, inside, done, faulty, undoing, handling, halted, withdrawing, isLive}
 use Rattle.order.specs.Begin.{quiet}
-use Rattle.order.specs.Scope.{isScope, isOpen, innerRuns, rootOf}
-use Rattle.undoing.specs.Standing.{isDoing, holdingOf, runsIn, oneRuns, allRun, scopeRuns, turnedRuns, stoppedIn, stoppedAll, undoingIn, undoingOne, lastRuns, stands, Stands}
+use Rattle.order.specs.Scope.{isOpen, innerRuns, rootOf}
+use Rattle.undoing.specs.Standing.{isDoing, holdingOf, runsIn, oneRuns, allRun, scopeRuns, turnedRuns, stoppedIn, stoppedAll, undoingIn, undoingOne, undoingFirst, lastRuns, stands, Stands}
 use Rattle.undoing.proofs.Parts.{decide}
 use Rattle.undoing.proofs.Accounts.{Phase, waits, heals, phase}
 use Rattle.undoing.proofs.Places.{first-of, second-of}
-use Rattle.undoing.proofs.Marks.{trio, Quiet, holding, isDoer, Run, run-awaits, run-one, run-all, run-body, run-done, run-turned, One, one-here, one-later, All, all-none, all-run, all-quiet, Turned, turned-waits, turned-undoes, turned-heals, Stopped, stopped-part, stopped-quiet, stopped-scope, StoppedIn, stopped-none, stopped-more, Undoing, undoing-part, undoing-scope, UndoingIn, undoing-here, undoing-later, quiet-part, turned-not-open}
+use Rattle.undoing.proofs.Marks.{trio, Quiet, holding, isDoer, Run, run-awaits, run-one, run-all, run-body, run-done, run-turned, One, one-here, one-later, All, all-none, all-run, all-quiet, Turned, turned-waits, turned-undoes, turned-heals, Stopped, stopped-part, stopped-quiet, stopped-scope, StoppedIn, stopped-none, stopped-more, Undoing, undoing-part, undoing-scope, undoing-through, UndoingIn, undoing-here, undoing-later, quiet-part, turned-not-open}
 use Rattle.undoing.proofs.Combining.{quiet-told, quiet-found}
 use Rattle.undoing.proofs.Scoping.{scope-live, scope-done, scope-turned, Running, waits-mark, undoes-mark, no-heals}
 use Rattle.undoing.proofs.Roots.{Standing}
@@ -37,7 +37,7 @@ doing (repeat x) e = refl
 doing sequence e = absurd (false≢true e)
 doing flow e = absurd (false≢true e)
 doing pick e = refl
-doing scope e = absurd (false≢true e)
+doing (scope v) e = absurd (false≢true e)
 doing (arm p o vs) e = absurd (false≢true e)
 
 holds-so : (own : Own) → isScope own ≡ false → holdingOf (kind own) ≡ holding own
@@ -53,19 +53,19 @@ holds-so (repeat x) s = refl
 holds-so sequence s = refl
 holds-so flow s = refl
 holds-so pick s = refl
-holds-so scope s = absurd (false≢true (sym s))
+holds-so (scope v) s = absurd (false≢true (sym s))
 holds-so (arm p o vs) s = refl
 
 -- a scope in a phase has one of its two marks
-waits-is : (m : ℕ) (w : Bool) → phase m ≡ waits w → (eqb m faulty || eqb m halted) ≡ true
+pub waits-is : (m : ℕ) (w : Bool) → phase m ≡ waits w → (eqb m faulty || eqb m halted) ≡ true
 waits-is m true e = rw (waits-mark m e .0)
 waits-is m false e = rw (waits-mark m e .1, or-true)
 
-undoes-is : (m : ℕ) (w : Bool) → phase m ≡ Phase.undoes w → (eqb m undoing || eqb m withdrawing) ≡ true
+pub undoes-is : (m : ℕ) (w : Bool) → phase m ≡ Phase.undoes w → (eqb m undoing || eqb m withdrawing) ≡ true
 undoes-is m true e = rw (undoes-mark m e .0)
 undoes-is m false e = rw (undoes-mark m e .1, or-true)
 
-heals-is : (m : ℕ) → phase m ≡ heals → eqb m handling ≡ true
+pub heals-is : (m : ℕ) → phase m ≡ heals → eqb m handling ≡ true
 heals-is m e = decide (eqb m handling) (λ z. z) (λ z. absurd (no-heals m z e))
 
 eq-so : (m n : ℕ) → m ≡ n → eqb n n ≡ true → eqb m n ≡ true
@@ -94,7 +94,7 @@ module _ (ms : List ℕ) where
 
   undo-plain : (own : Own) (within : Acts) (k : ℕ) → isScope own ≡ false → undoingIn (act own within) k ms ≡ (eqb (getD ms k 0) idle && undoingOne within (k + 1) ms)
   unfolding runsIn
-  undo-plain own within k s = ap (λ (b : Bool). eqb (getD ms k 0) idle && b) (second-of (isScope own) (lastRuns within (k + 1) ms) (undoingOne within (k + 1) ms) _ refl s)
+  undo-plain own within k s = ap (λ (b : Bool). eqb (getD ms k 0) idle && b) (second-of (isScope own) (cond (hasUndo own) (lastRuns within (k + 1) ms) (undoingFirst within (k + 1) ms)) (undoingOne within (k + 1) ms) _ refl s)
 
   -- a scope that turned is stopped
   stop-turned : {b : Bool} (m : ℕ) (a : Bool) → isOpen m ≡ false → b ≡ true → (a || (not (eqb m active || eqb m done) && b)) ≡ true
@@ -123,9 +123,9 @@ module _ (ms : List ℕ) where
         plain-so own within k s (rw (one-so r, subst (λ (m : ℕ). eqb (getD ms k 0) m ≡ true) (sym (holds-so own s)) (subst (λ (m : ℕ). eqb m (holding own) ≡ true) (sym e) (eq-eqb (holding own) (holding own) refl)), or-true))
     run-so (run-all {within} {k} e r z) =
         plain-so flow within k refl (rw (eq-so (getD ms k 0) active e refl, all-so r, decide (quiet (k + 1) (sizes within) ms) (λ d. absurd (z (quiet-found (sizes within) (k + 1) ms d))) (λ d. d), or-true, or-true))
-    run-so (run-body {b} {f} {u} {k} e r q) = rw (eq-so (getD ms k 0) active e refl, run-so r, q-so (k + 1 + size b) (size f + (size u + 0)) q (omega arith) (omega arith))
-    run-so (run-done {b} {f} {u} {k} e q) = rw (eq-so (getD ms k 0) done e refl, q-so (k + 1) (size b + (size f + (size u + 0))) q (omega arith) (omega arith), or-true)
-    run-so (run-turned {b} {f} {u} {k} t q) = rw (turned-so u t q, or-true, or-true)
+    run-so (run-body {v} {b} {f} {u} {k} e r q) = rw (eq-so (getD ms k 0) active e refl, run-so r, q-so (k + 1 + size b) (size f + sizes u) q (omega arith) (omega arith))
+    run-so (run-done {v} {b} {f} {u} {k} e q) = rw (eq-so (getD ms k 0) done e refl, q-so (k + 1) (size b + (size f + sizes u)) q (omega arith) (omega arith), or-true)
+    run-so (run-turned {v} {b} {f} {u} {k} t q) = rw (turned-so u t q, or-true, or-true)
 
     one-so : {l : Acts} {c : ℕ} → One ms l c → oneRuns l c ms ≡ true
     one-so (one-here {a} {l} {c} r q) = rw (run-so r, quiet-told (sizes l) (c + size a) ms q)
@@ -136,20 +136,20 @@ module _ (ms : List ℕ) where
     all-so (all-run r q) = rw (run-so r, all-so q)
     all-so (all-quiet {a} {l} {c} q r) = rw (quiet-told (size a) c ms q, or-true, all-so r)
 
-    turned-so : {m kb kf : ℕ} {b f : Act} (u : Act) → Turned ms m b kb f kf → Quiet ms (kf + size f) (size u)
-        → turnedRuns (more f (more u none)) kf ms m (stoppedIn b kb ms && innerRuns b kb ms) (undoingIn b kb ms) (quiet kb (size b) ms) ≡ true
+    turned-so : {m kb kf : ℕ} {b f : Act} (u : Acts) → Turned ms m b kb f kf → Quiet ms (kf + size f) (sizes u)
+        → turnedRuns (more f u) kf ms m (stoppedIn b kb ms && innerRuns b kb ms) (undoingIn b kb ms) (quiet kb (size b) ms) ≡ true
     turned-so u (turned-waits {w} {m} {kb} {kf} {b} {f} e s i y) q =
-        rw (q-so (kf + size f) (size u + 0) q (omega arith) (omega arith), waits-is m w e, stopped-so s, i, quiet-told (size f) kf ms y)
+        rw (q-so (kf + size f) (sizes u) q (omega arith) (omega arith), waits-is m w e, stopped-so s, i, quiet-told (size f) kf ms y)
     turned-so u (turned-undoes {w} {m} {kb} {kf} {b} {f} e s y) q =
-        rw (q-so (kf + size f) (size u + 0) q (omega arith) (omega arith), undoes-is m w e, undoing-so s, or-true, quiet-told (size f) kf ms y)
+        rw (q-so (kf + size f) (sizes u) q (omega arith) (omega arith), undoes-is m w e, undoing-so s, or-true, quiet-told (size f) kf ms y)
     turned-so u (turned-heals {m} {kb} {kf} {b} {f} e y r) q =
-        rw (q-so (kf + size f) (size u + 0) q (omega arith) (omega arith), heals-is m e, quiet-told (size b) kb ms y, run-so r, or-true)
+        rw (q-so (kf + size f) (sizes u) q (omega arith) (omega arith), heals-is m e, quiet-told (size b) kb ms y, run-so r, or-true)
 
     stopped-so : {a : Act} {k : ℕ} → Stopped ms a k → stoppedIn a k ms ≡ true
     stopped-so (stopped-part {own} {within} {k} s e r) = stop-plain own within k s ∙ rw (e, stopped-all-so r)
     stopped-so (stopped-quiet {a} {k} q) = quiet-stopped a k q
-    stopped-so (stopped-scope {b} {f} {u} {k} t q) =
-        let z : scopeRuns (trio b f u) k ms ≡ true = rw (turned-so u t q, or-true, or-true) in stop-scope scope (trio b f u) k refl ∙ stop-turned (getD ms k 0) (quiet k (1 + sizes (trio b f u)) ms) (turned-not-open t) z
+    stopped-so (stopped-scope {v} {b} {f} {u} {k} t q) =
+        let z : scopeRuns (trio b f u) k ms ≡ true = rw (turned-so u t q, or-true, or-true) in stop-scope (scope v) (trio b f u) k refl ∙ stop-turned (getD ms k 0) (quiet k (1 + sizes (trio b f u)) ms) (turned-not-open t) z
 
     stopped-all-so : {l : Acts} {c : ℕ} → StoppedIn ms l c → stoppedAll l c ms ≡ true
     stopped-all-so stopped-none = refl
@@ -158,6 +158,7 @@ module _ (ms : List ℕ) where
     undoing-so : {a : Act} {k : ℕ} → Undoing ms a k → undoingIn a k ms ≡ true
     undoing-so (undoing-part {own} {within} {k} s e r) = undo-plain own within k s ∙ rw (e, undoing-one-so r)
     undoing-so (undoing-scope {b} {f} {u} {k} e q r) = rw (e, quiet-told (size b) (k + 1) ms (quiet-part q (omega arith) (omega arith)), quiet-told (size f) (k + 1 + size b) ms (quiet-part q (omega arith) (omega arith)), run-so r)
+    undoing-so (undoing-through {b} {f} {u} {k} e r q) = rw (e, undoing-so r, q-so (k + 1 + size b) (size f + sizes u) q (omega arith) (omega arith))
 
     undoing-one-so : {l : Acts} {c : ℕ} → UndoingIn ms l c → undoingOne l c ms ≡ true
     undoing-one-so (undoing-here {a} {l} {c} r q) = rw (undoing-so r, quiet-told (sizes l) (c + size a) ms q)

@@ -25,8 +25,8 @@ use Rattle.machine.specs.Fit.{readyOf}
 use Rattle.machine.specs.State.{letters}
 use Rattle.machine.specs.Limits.{planIn}
 use Rattle.machine.specs.Calls.{loaded, trimmed, post, partnersOf, collect, dropAt, step, Call}
-use Rattle.undoing.specs.Demand3.{Inner, scopesOf, inUndoPart}
-use Rattle.undoing.specs.Ties.{Always, orderAfter, isRaised, isTurned, isTaken, isStep, Place, bodyOf, faultOf, undoOf, placeOf}
+use Rattle.undoing.specs.Demand3.{Inner, scopesOf}
+use Rattle.undoing.specs.Ties.{Always, orderAfter, isTurned, isTaken, isStep, Place, bodyOf, faultOf, undoOf, placeOf}
 use Rattle.undoing.specs.Orderly.{isBeganOf}
 use Rattle.undoing.specs.Begun.{kindAt, lasts, hasBegan, Taken, markBefore, isMarked, numbers, stepsTaken}
 
@@ -58,8 +58,8 @@ unfoldable pub BegunOnce : Type 0
 BegunOnce = OfEveryStep isOnce
 
 -- AFRESH. What begins was idle before the step; or it stands in an undo part, and the step in it: an undo part that is over begins again for the closing before.
--- Or the step raised in that undo part: the scope that ran it ends, and where that one has no undo part itself, a scope further out may have the same closing from
--- an earlier time and begins the undo part anew. Nothing else begins while it runs.
+-- Or the step raised, and that undo part stands in the body of a scope with no undo part that had turned: what that one ran, a scope further out may have from an
+-- earlier time, and begins anew when the raise ends it. Nothing else begins while it runs.
 abbrev pub isUndo : Place → Bool
 isUndo (bodyOf n ns m) = false
 isUndo (faultOf n ns m) = false
@@ -69,14 +69,24 @@ isUndo (undoOf n ns m) = true
 abbrev pub standsIn : Plan → Taken → (activity : ℕ) → Bool
 standsIn p x k = leb k (x .activity) && ltb (x .activity) (k + size (actAt p k))
 
--- the step raised, in the undo part in which an activity stands
-abbrev pub raisedBeside : Plan → Taken → (activity : ℕ) → Bool
-raisedBeside p x k = isRaised (x .log) && some (λ y. inUndoPart (x .activity) y && inUndoPart k y) (scopesOf p)
+-- a raise or a leave
+unfoldable pub isRash : Event → Bool
+isRash started = false
+isRash (began k) = false
+isRash (closed k) = false
+isRash (faulted n) = false
+isRash (stopped k) = false
+isRash (ended n) = false
+isRash (raised k) = true
+isRash left = true
+
+-- it stands in the body of a scope with no undo part that had turned before the step
+abbrev pub mayBeHandedOn : Plan → Taken → (activity : ℕ) → Bool
+mayBeHandedOn p x k = some (λ y. (not (y .undoes) && isTurned (markAt (y .number) (x .before))) && (ltb (y .number) k && ltb k (y .fault))) (scopesOf p)
 
 unfoldable pub isAfresh : Plan → Taken → (activity : ℕ) → Bool
 isAfresh p x k =
-    not (hasBegan k (x .log))
-    || (eqb (markBefore k x) idle || ((isUndo (placeOf p k) && standsIn p x k) || raisedBeside p x k))
+    not (hasBegan k (x .log)) || (eqb (markBefore k x) idle || (isUndo (placeOf p k) && (standsIn p x k || (some isRash (x .log) && mayBeHandedOn p x k))))
 
 unfoldable pub BegunAfresh : Type 0
 BegunAfresh = OfEveryStep isAfresh

@@ -13,29 +13,18 @@ use Rattle.order.specs.declared.Order.{Order}
 use Rattle.machine.specs.declared.Tally.{Tally}
 use Rattle.order.specs.Lists.{every, some}
 use Rattle.order.specs.State.{idle, markAt, isLive}
-use Rattle.order.specs.Event.{Event, started, began, closed, faulted, stopped, ended, raised, left}
+use Rattle.order.specs.Event.{Event}
 use Rattle.order.specs.Expression.{Value, fault, value, evaluate, isTrue}
 use Rattle.order.specs.Begin.{partAt, quiet}
 use Rattle.order.specs.Acting.{startedOrder}
 use Rattle.order.specs.Taking.{actAt}
 use Rattle.machine.specs.Calls.{loaded, Call}
 use Rattle.undoing.specs.Begun.{kindAt, lasts, hasBegan, Taken, stepsTaken}
-use Rattle.undoing.specs.Entirely.{OfEveryStep, standsIn}
+use Rattle.undoing.specs.Entirely.{OfEveryStep, isRash, standsIn}
 
 -- the order that had the step: the one that stood in the slot, or the one that starts
 abbrev pub hadBy : Plan → Taken → Order
 hadBy p x = cond (isLive (x .before)) (x .before) (startedOrder p)
-
--- a raise or a leave
-unfoldable pub isRash : Event → Bool
-isRash started = false
-isRash (began k) = false
-isRash (closed k) = false
-isRash (faulted n) = false
-isRash (stopped k) = false
-isRash (ended n) = false
-isRash (raised k) = true
-isRash left = true
 
 -- KEPT. Nothing is dropped: in a step that is neither a raise nor a leave what lasts and runs is still marked afterwards, unless the step stands in it, or it stands
 -- in the activity whose step it is ("Repeat begins its body afresh each time"). And a repeat only where that step is its own: when its body is over it decides again.
@@ -107,7 +96,7 @@ picks (repeat e) within k o = pickedBy (λ n. cond (isTrue n) (partAt 0 within (
 picks sequence within k o = []
 picks flow within k o = []
 picks pick within k o = []
-picks scope within k o = []
+picks (scope undo) within k o = []
 picks (arm p op vs) within k o = []
 
 -- of activity t

@@ -6,16 +6,16 @@ use mathlib.Core.Bool.{Bool, true, false, cond, not, _&&_, _||_}
 use mathlib.Core.List.{List}
 use lib.ListN.{getD}
 use lib.Dec.{eqb}
-use Rattle.plan.specs.Tree.{Own, kind, Act, act, Acts, none, more, Plan, size, sizes}
+use Rattle.plan.specs.Tree.{Own, kind, isScope, hasUndo, Act, act, Acts, none, more, Plan, size, sizes}
 use Rattle.order.specs.declared.Order.{Order}
 use Rattle.order.specs.State.{idle, active, inside, done, faulty, undoing, handling, halted, withdrawing, isLive}
 use Rattle.order.specs.Begin.{quiet}
-use Rattle.order.specs.Scope.{isScope, innerRuns}
+use Rattle.order.specs.Scope.{innerRuns}
 use Rattle.undoing.specs.Ties.{Always}
 
 -- whether an activity has a step of its own, or has those of its arms: all but empty ones, sequences, flows, scopes and arms
 unfoldable pub isDoing : (kind : ℕ) → Bool
-isDoing n = not ((eqb n 0 || eqb n 12) || ((eqb n 8 || eqb n 9) || eqb n 11))
+isDoing n = not ((eqb n 0 || eqb n 255) || ((eqb n 8 || eqb n 9) || (eqb n 11 || eqb n 12)))
 
 -- the mark with which one of its parts runs: a choose, a repeat or a pick is inside; a sequence and a flow are active; an arm has none
 unfoldable pub holdingOf : (kind : ℕ) → ℕ
@@ -78,14 +78,21 @@ unfoldable mutual
   stoppedAll none c ms = true
   stoppedAll (more a l) c ms = stoppedIn a c ms && stoppedAll l (c + size a) ms
 
-  -- "the last remembered for it is removed and its undo part started; when that ends, the next": one undo part of a scope directly inside runs, and nothing else
+  -- "the last remembered for it is removed and its undo part started; when that ends, the next": one undo part of a scope directly inside runs, looked for through
+  -- scopes with no undo part, and nothing else
   pub undoingIn : Act → (k : ℕ) → List ℕ → Bool
   undoingIn (act own within) k ms =
-      eqb (getD ms k 0) idle && elim (isScope own) [ true ↦ lastRuns within (k + 1) ms | false ↦ undoingOne within (k + 1) ms ]
+      eqb (getD ms k 0) idle
+      && elim (isScope own) [ true ↦ cond (hasUndo own) (lastRuns within (k + 1) ms) (undoingFirst within (k + 1) ms) | false ↦ undoingOne within (k + 1) ms ]
 
   pub undoingOne : Acts → (c : ℕ) → List ℕ → Bool
   undoingOne none c ms = false
   undoingOne (more a l) c ms = (undoingIn a c ms && quiet (c + size a) (sizes l) ms) || (quiet c (size a) ms && undoingOne l (c + size a) ms)
+
+  -- in the body of a scope, whose other part is quiet
+  pub undoingFirst : Acts → (c : ℕ) → List ℕ → Bool
+  undoingFirst none c ms = false
+  undoingFirst (more b l) c ms = undoingIn b c ms && quiet (c + size b) (sizes l) ms
 
   -- of the parts of a scope the last runs, and the others are quiet
   pub lastRuns : Acts → (c : ℕ) → List ℕ → Bool
