@@ -47,7 +47,7 @@ pub data Named : Type 0 where
   begunInTurn : Named
   -- what lasts begins once in a step
   once : Named
-  -- what begins was idle before the step
+  -- what begins was idle before the step, but for an undo part that begins again
   afresh : Named
   -- what begins begins with all that belongs to it
   entirely : Named
