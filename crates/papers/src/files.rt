@@ -203,8 +203,8 @@ fn filed(desk: Desk, file: u64, seen: u64) -> Desk {
     d
 }
 
-// The bytes of a file that the desk saves, all but the seal.
-fn put_desk(desk: Desk, names: &[u8; 4752], file: &mut [u8; 17244]) {
+// The bytes of a file that the desk saves.
+fn put_desk(desk: Desk, names: &[u8; 4752], file: &mut [u8]) {
     let mut packed = [0u8; 12476];
     let state = desk.state;
     let tally = desk.tally;
@@ -228,8 +228,6 @@ pub fn save(
     }
     let mut bytes = [0u8; 17244];
     put_desk(desk, names, &mut bytes);
-    let s = seal::seal(&bytes[..17236]);
-    sealed::put_seal(&mut bytes, s);
     let e = saved(file, &bytes);
     filed(
         told(before, number, b"save", e, out),

@@ -4,13 +4,20 @@ fn wide(b: u8) -> u64 {
     b as u64
 }
 
+// A byte of a file, where it has the place.
+fn set_byte(file: &mut [u8], place: usize, b: u8) {
+    if place < file.len() {
+        file[place] = b;
+    }
+}
+
 // Bytes from a place of a file on, as far as there is room.
-fn put_at(file: &mut [u8; 17244], at: usize, bytes: &[u8]) {
+fn put_at(file: &mut [u8], at: usize, bytes: &[u8]) {
     let mut place = at;
     let mut i = 0;
     while i < bytes.len() {
+        set_byte(file, place, bytes[i]);
         if place < 17244 {
-            file[place] = bytes[i];
             place += 1;
         }
         i += 1;
@@ -25,22 +32,23 @@ fn seal_of(file: &[u8]) -> u64 {
     seal::seal(&file[..17236])
 }
 
-// A seal into the last eight bytes, the lowest first.
-pub(crate) fn put_seal(file: &mut [u8; 17244], seal: u64) {
-    let mut left = seal;
+// That seal into the last eight bytes, the lowest first.
+fn put_seal(file: &mut [u8]) {
+    let mut left = seal_of(&file[..]);
     let mut place: usize = 17236;
     while place < 17244 {
-        file[place] = (left % 256) as u8;
+        set_byte(file, place, (left % 256) as u8);
         left /= 256;
         place += 1;
     }
 }
 
-// All but the seal of the file of a packed state and the names.
-pub(crate) fn put_file(file: &mut [u8; 17244], packed: &[u8], names: &[u8]) {
+// The file of a packed state and the names, in 17,244 bytes.
+pub(crate) fn put_file(file: &mut [u8], packed: &[u8], names: &[u8]) {
     put_at(file, 0, packed);
     put_at(file, 12476, names);
     put_at(file, 17228, b"MOONDSK1");
+    put_seal(file);
 }
 
 // Whether the last eight bytes of a file are this seal.

@@ -1,13 +1,14 @@
--- `papers::sealed::put_at` is safe and ends. The measure is what is left of the bytes. Assumes nothing.
+-- `papers::sealed::put_at` is safe and ends. The measure is what is left of the bytes, and the file stays as long as it is. Assumes nothing.
 use borrow.Author.Needs.{needs}
 use native.Mathlib.Omega.{arith}
+use mathlib.Core.Path.{_≡_}
 use Prim.Native.Nat.{_-_}
 use lib.ListN.{length}
 use Rattle.papers.proofs.sealed.put_at.Statement.{statement}
 use Rattle.papers.proofs.sealed.put_at.Tie as tie
 
 abbrev Inv-loop : tie.InvT-loop
-Inv-loop file₀ at bytes place₀ i₀ file place i = Unit {0}
+Inv-loop file₀ at bytes place₀ i₀ file place i = length file ≡ length file₀
 
 abbrev μ-loop : tie.MeasureT-loop
 μ-loop file₀ at bytes place₀ i₀ file place i = length bytes - i
@@ -18,11 +19,12 @@ put-at-spec =
     (tie.spec
     Inv-loop
     μ-loop
-    (λ c. tt)
+    (λ c. search needs)
+    (λ c. omega arith)
+    (λ c κs. search needs)
     (λ c. omega arith)
     (λ c. omega arith)
     (λ c. omega arith)
-    (λ c. omega arith)
-    (λ c. omega arith)
-    (λ c. tt)
+    (λ c. search needs)
+    (λ c. search needs)
     (λ c. tt))
