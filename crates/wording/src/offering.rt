@@ -52,6 +52,14 @@ fn put_step(out: &mut [u8; 4096], used: usize, x: u64) -> usize {
     put_number(out, at, place_of(x) as u64)
 }
 
+// A choice as `list` takes it; no offer has so many that one is beyond it.
+fn choice_of(x: usize) -> u32 {
+    if x < 4294967296 {
+        return x as u32;
+    }
+    4294967295
+}
+
 // The steps of a window, as numbers.
 fn put_window(out: &mut [u8; 4096], used: usize, window: &[u64; 256], many: usize) -> usize {
     let mut at = used;
@@ -77,10 +85,10 @@ fn put_steps(out: &mut [u8; 4096], used: usize, state: State, many: usize) -> us
     let mut at = used;
     let mut left = many;
     while left > 256 {
-        at = put_from(out, at, state, (many - left) as u32, 256);
+        at = put_from(out, at, state, choice_of(many - left), 256);
         left -= 256;
     }
-    put_from(out, at, state, (many - left) as u32, left)
+    put_from(out, at, state, choice_of(many - left), left)
 }
 
 // All that is offered, as numbers.
@@ -234,7 +242,7 @@ fn put_choices(
             table,
             flags,
             state,
-            (many - left) as u32,
+            choice_of(many - left),
             256,
         );
         left -= 256;
@@ -246,7 +254,7 @@ fn put_choices(
         table,
         flags,
         state,
-        (many - left) as u32,
+        choice_of(many - left),
         left,
     )
 }

@@ -18,7 +18,8 @@ put-window-spec =
     Inv-loop
     μ-loop
     (λ c. tt)
-    (λ c κs. search needs)
+    (λ c. omega arith)
+    (λ c. omega arith)
     (λ c κs. search needs)
     (λ c. omega arith)
     (λ c. omega arith)

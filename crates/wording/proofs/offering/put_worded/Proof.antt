@@ -18,7 +18,9 @@ put-worded-spec =
     Inv-loop
     μ-loop
     (λ c. tt)
-    (λ c κs. search needs)
+    (λ c. search needs)
+    (λ c. omega arith)
+    (λ c. omega arith)
     (λ c κs. search needs)
     (λ c. omega arith)
     (λ c. omega arith)
