@@ -90,7 +90,7 @@ unfoldable pub steppedAlone : Plan → Offer → State → Tally → Stepped
 steppedAlone p x s t =
     let m = stepOrder p (x .activity) (orderOf s x) in
     record {
-      answer = answering x (m .end);
+      answer = answering x (m .end) (m .fault);
       state = withOrder (x .slot) (m .order) s;
       tally = countEnd (m .end) t;
       log = m .log;

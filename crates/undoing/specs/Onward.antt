@@ -81,7 +81,7 @@ PassedOn =
 -- DECIDED. "decide (choose or repeat)": in its step a choose begins its first part where its expression is true, else its second, and a repeat its body where its
 -- expression is true; by the variables of the order that had the step.
 abbrev pub pickedBy : (ℕ → List ℕ) → Value → List ℕ
-pickedBy f fault = []
+pickedBy f (fault x) = []
 pickedBy f (value n) = f n
 
 unfoldable pub picks : Own → (within : Acts) → (k : ℕ) → Order → List ℕ
