@@ -16,7 +16,7 @@ use Rattle.machine.specs.declared.State.{State}
 use Rattle.machine.specs.declared.Tally.{Tally}
 use Rattle.order.specs.Lists.{every, some, only, each}
 use Rattle.order.specs.State.{idle, faulty, undoing, handling, halted, withdrawing, Name, root, inner, same, closings, markOf, isLive, noOrder}
-use Rattle.order.specs.Expression.{plainRaise, unboundVariable, conflictingReceive, Value, fault as faulting, value, evaluate}
+use Rattle.order.specs.Expression.{unboundVariable, conflictingReceive, Value, fault as faulting, value, evaluate}
 use Rattle.order.specs.Event.{Event, started, began, closed, faulted, stopped, ended, raised, left}
 use Rattle.order.specs.Begin.{quiet}
 use Rattle.order.specs.Scope.{Scope, scopeAt, rootOf, isOpen, innerRuns}
@@ -121,7 +121,7 @@ deedOf empty k o = []
 deedOf (send p op vs) k o = raisedIf k unboundVariable (not (allBound o vs))
 deedOf (receive p op vs) k o = []
 deedOf (setting v e) k o = raisedBy k (evaluate e o)
-deedOf raise k o = raised k plainRaise ∷ []
+deedOf (raise n) k o = raised k n ∷ []
 deedOf leave k o = left ∷ []
 deedOf (choose e) k o = raisedBy k (evaluate e o)
 deedOf (repeat e) k o = raisedBy k (evaluate e o)
