@@ -22,6 +22,7 @@ use order::rows::kind_of;
 use order::rows::variable_of;
 use plan::kind;
 use plan::table::EXPRESSION;
+use plan::table::PARTNER;
 use plan::table::Table;
 use plan::table::VARIABLE;
 use plan::table::WIDTH;
@@ -214,6 +215,18 @@ fn sets(table: &Table, k: usize, order: Order) -> Went
     }
 }
 
+// A raise with a number of its own, which stands where a send has its partner.
+fn raises_its_number(table: &Table, k: usize, order: Order) -> Went
+    requires { ⌜ k < 256 ⌝ }
+    ensures { λ r. ⌜ StepOf 13 (now (table .entry)) k order r ⌝ }
+{
+    let n = table[k * WIDTH + PARTNER];
+    if 255 < n {
+        return raises(fault::PLAIN_RAISE, k, order);
+    }
+    raises(n as u8, k, order)
+}
+
 // A choose decides.
 fn chooses(table: &Table, k: usize, order: Order) -> Went
     requires { ⌜ k < 256 ⌝ }
@@ -271,6 +284,7 @@ pub fn itself(table: &Table, q: usize, k: usize, order: Order) -> Went
         kind::RECEIVE => finishes(k, order),
         kind::SET => sets(table, k, order),
         kind::RAISE => raises(fault::PLAIN_RAISE, k, order),
+        kind::NUMBERED_RAISE => raises_its_number(table, k, order),
         kind::LEAVE => leaves(k, order),
         kind::CHOOSE => chooses(table, k, order),
         kind::REPEAT => decides(table, k, order),
