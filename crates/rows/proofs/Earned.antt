@@ -154,7 +154,7 @@ module _ (t s : List ℕ) (words : Words t) where
   asks-some aHead r = omega arith
   asks-some anActivity r =
       cond-some (eqb (cell t r 1) 1 || eqb (cell t r 1) 2) _ _ (omega arith)
-      (cond-some (eqb (cell t r 1) 3 || (eqb (cell t r 1) 8 || (eqb (cell t r 1) 9 || eqb (cell t r 1) 10))) 2 1 (omega arith) (omega arith))
+      (cond-some (eqb (cell t r 1) 3 || (eqb (cell t r 1) 8 || (eqb (cell t r 1) 9 || (eqb (cell t r 1) 10 || eqb (cell t r 1) 13)))) 2 1 (omega arith) (omega arith))
   asks-some anArm r = omega arith
   asks-some anExpression r = cond-some (leb (cell t r 1) 1) 2 1 (omega arith) (omega arith)
 

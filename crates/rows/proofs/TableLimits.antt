@@ -96,7 +96,7 @@ module _ (t : List ℕ) (words : Words t) where
         both (leb 16 x) _ h (λ a h1. both (leb x 255) _ h1 (λ b c. raise-allowed x (leb-true 16 x a) (omega (arith, leb-true x 255 b))))
 
     parts-within : (r k next : ℕ) → There t r k next → k ≤ 13 → (handler && (eqb k 11 || eqb k 12)) ≡ false → partsFit vars cs t r k ≡ true → Finds Kept (partsAt vars t r k next)
-    unfolding partsAt partsFit ownWithin
+    unfolding partsAt partsFit ownWithin raiseWithin
     parts-within r k next w l g h =
         finds-code k 0 (omega arith) (λ e. finds-found refl) (λ z.
         finds-code k 1 (omega arith) (λ e. finds-found (message-within r k next w false (rw e at h))) (λ z.
