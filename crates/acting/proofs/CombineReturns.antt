@@ -2,7 +2,7 @@
 use mathlib.Core.Path.{_≡_, refl, sym, ap, subst, _∙_}
 use mathlib.Core.Bool.{Bool, true, false, cond, not, _&&_, false≢true, and-false}
 use mathlib.Core.List.{List, []}
-use Prim.Native.Nat.{ℕ, _+_, _<_, _≤_}
+use Prim.Native.Nat.{ℕ, zero, suc, _+_, _<_, _≤_}
 use native.Mathlib.Omega.{arith}
 use borrow.Author.Tests.{eq-eqb, ne-eqb, lt-ltb, le-ltb, ltb-true}
 use lib.Dec.{eqb, ltb}
@@ -234,7 +234,8 @@ module _ (t : List ℕ) (k e child : ℕ) (o : Order) {kd : ℕ} (q : KindOf t k
     inside-over (send p q vs) l x h d = absurd (false≢true d)
     inside-over (receive p q vs) l x h d = absurd (false≢true d)
     inside-over (setting v e) l x h d = absurd (false≢true d)
-    inside-over raise l x h d = absurd (false≢true d)
+    inside-over (raise zero) l x h d = absurd (false≢true d)
+    inside-over (raise (suc number)) l x h d = absurd (false≢true d)
     inside-over leave l x h d = absurd (false≢true d)
     inside-over (choose e) l x h d = refl
     inside-over (repeat e) l x h d = absurd (h7 h)
@@ -279,7 +280,8 @@ combines-waits empty l k x R n h = refl
 combines-waits (send p q vs) l k x R n h = refl
 combines-waits (receive p q vs) l k x R n h = refl
 combines-waits (setting v e) l k x R n h = refl
-combines-waits raise l k x R n h = refl
+combines-waits (raise zero) l k x R n h = refl
+combines-waits (raise (suc number)) l k x R n h = refl
 combines-waits leave l k x R n h = refl
 combines-waits (choose e) l k x R n h = goes-waits k 2 (finishes k) R h
 combines-waits (repeat e) l k x R n h = goes-waits k 2 (again k) R h
@@ -295,7 +297,8 @@ combines-plain empty l k x R n h = refl
 combines-plain (send p q vs) l k x R n h = refl
 combines-plain (receive p q vs) l k x R n h = refl
 combines-plain (setting v e) l k x R n h = refl
-combines-plain raise l k x R n h = refl
+combines-plain (raise zero) l k x R n h = refl
+combines-plain (raise (suc number)) l k x R n h = refl
 combines-plain leave l k x R n h = refl
 combines-plain (choose e) l k x R n h = absurd (false≢true (sym h))
 combines-plain (repeat e) l k x R n h = absurd (false≢true (sym h))
@@ -394,7 +397,8 @@ combines-same empty l k x R = refl
 combines-same (send p q vs) l k x R = refl
 combines-same (receive p q vs) l k x R = refl
 combines-same (setting v e) l k x R = refl
-combines-same raise l k x R = refl
+combines-same (raise zero) l k x R = refl
+combines-same (raise (suc number)) l k x R = refl
 combines-same leave l k x R = refl
 combines-same (choose e) l k x R = goes-same k 2 (finishes k) R
 combines-same (repeat e) l k x R = goes-same k 2 (again k) R

@@ -14,6 +14,7 @@ use Rattle.order.specs.Lists.{withoutLast}
 use Rattle.order.specs.Begin.{Begun, begin, beginAfter, beginPart, partAt, cleared, quiet}
 use Rattle.order.specs.Scope.{Outcome, Scope, runs, after, begunIn, whereOver, scopeAt, isFor, isOpen, closing, innerRuns, rememberedFor, beginUndo, startUndo, undo, stop, ends, handle, undoes, turns, faults, breaks, looksAgain, bodyOver, bodyRaised, undoOver, undoRaised, fromBody, partOver, partRaised, fromFault, goesThrough, fromUndo}
 use Rattle.order.specs.Acting.{finishes, raises, orRaises, enters, again, repeats, allBound, itself, arms, goesOn, joins, inScope, combines, Actor, replaces, performs, stepIn, stepAmong}
+use Rattle.laws.proofs.Limited.{Limited, LimitedAll, limited-within, limited-first, limited-rest, limited-raise}
 
 -- what a scope does of itself runs on or is over
 abbrev pub isCalm : Way → Bool
@@ -194,29 +195,29 @@ calm-repeats k l o =
     let b = beginPart 0 l (k + 1) (o′ .marks) in
     calm-where (again k) (begunIn o′ b) (calm-begun o′ b) (λ q. refl)
 
-number-itself : (own : Own) (l : Acts) (c k : ℕ) (o : Order) → Numbered (itself own l c k o)
+number-itself : (own : Own) (l : Acts) (c k : ℕ) (o : Order) → Limited (act own l) → Numbered (itself own l c k o)
 unfolding itself closing isFaultNumber
-number-itself empty l c k o = refl
-number-itself (send p q vs) l c k o = number-cond (allBound o vs) (finishes k o) (raises unboundVariable k o) refl refl
-number-itself (receive p q vs) l c k o = refl
-number-itself (setting v e) l c k o = number-or k o _ (evaluate e o) (number-evaluate e o) (λ n. refl)
-number-itself raise l c k o = refl
-number-itself leave l c k o = refl
-number-itself (choose e) l c k o =
+number-itself empty l c k o w = refl
+number-itself (send p q vs) l c k o w = number-cond (allBound o vs) (finishes k o) (raises unboundVariable k o) refl refl
+number-itself (receive p q vs) l c k o w = refl
+number-itself (setting v e) l c k o w = number-or k o _ (evaluate e o) (number-evaluate e o) (λ n. refl)
+number-itself (raise n) l c k o w = limited-raise n l w
+number-itself leave l c k o w = refl
+number-itself (choose e) l c k o w =
     number-or k o (λ n. enters k o (beginPart (cond (isTrue n) 0 1) l (k + 1) (marked k inside o .marks))) (evaluate e o) (number-evaluate e o)
     (λ n. let b = beginPart (cond (isTrue n) 0 1) l (k + 1) (marked k inside o .marks) in calm-number (enters k o b) (calm-enters k o b))
-number-itself (repeat e) l c k o =
+number-itself (repeat e) l c k o w =
     number-or k o (λ n. elim (isTrue n) [ true ↦ repeats k l o | false ↦ finishes k o ]) (evaluate e o) (number-evaluate e o)
     (λ n. number-pick (isTrue n) (repeats k l o) (finishes k o) (calm-number (repeats k l o) (calm-repeats k l o)) refl)
-number-itself sequence l c k o = refl
-number-itself flow l c k o = refl
-number-itself pick l c k o = refl
-number-itself (scope u) l c k o = refl
-number-itself (arm p q vs) l c k o = calm-number (begunIn o (beginPart 0 l (k + 1) (o .marks))) (calm-begun o (beginPart 0 l (k + 1) (o .marks)))
+number-itself sequence l c k o w = refl
+number-itself flow l c k o w = refl
+number-itself pick l c k o w = refl
+number-itself (scope u) l c k o w = refl
+number-itself (arm p q vs) l c k o w = calm-number (begunIn o (beginPart 0 l (k + 1) (o .marks))) (calm-begun o (beginPart 0 l (k + 1) (o .marks)))
 
-number-performs : (y : Actor) (own : Own) (l : Acts) (c k : ℕ) (o : Order) → Numbered (performs y own l c k o)
+number-performs : (y : Actor) (own : Own) (l : Acts) (c k : ℕ) (o : Order) → Limited (act own l) → Numbered (performs y own l c k o)
 unfolding performs isFaultNumber
-number-performs y own l c k o = number-pick (replaces y (kind own)) (raises conflictingReceive k o) (itself own l c k o) refl (number-itself own l c k o)
+number-performs y own l c k o w = number-pick (replaces y (kind own)) (raises conflictingReceive k o) (itself own l c k o) refl (number-itself own l c k o w)
 
 -- what a scope makes of what comes out of a part of it: a fault that goes on keeps its number
 number-undo-raised : (x : ℕ) (s : Scope) (o : Order) → isFaultNumber x ≡ true → Numbered (undoRaised x s o)
@@ -288,7 +289,7 @@ number-combines empty l k t r x = x
 number-combines (send p q vs) l k t r x = x
 number-combines (receive p q vs) l k t r x = x
 number-combines (setting v e) l k t r x = x
-number-combines raise l k t r x = x
+number-combines (raise number) l k t r x = x
 number-combines leave l k t r x = x
 number-combines (choose e) l k t r x = number-goes k inside (finishes k) r x (λ q. refl)
 number-combines (repeat e) l k t r x = number-goes k inside (again k) r x (λ q. refl)
@@ -304,13 +305,14 @@ number-combines (arm p q vs) l k t r x = x
 mutual
   unfolding stepIn size
 
-  pub number-step : (y : Actor) (a : Act) (c k t : ℕ) (o : Order) → Numbered (stepIn y a c k t o)
-  number-step y (act own l) c k t o =
-      number-pick (eqb k t) (performs y own l c k o) (combines own l k t (stepAmong y l (isScope own) c (k + 1) t (arms own l k t o))) (number-performs y own l c k o)
-      (number-combines own l k t (stepAmong y l (isScope own) c (k + 1) t (arms own l k t o)) (number-among y l (isScope own) c (k + 1) t (arms own l k t o)))
+  pub number-step : (y : Actor) (a : Act) (c k t : ℕ) (o : Order) → Limited a → Numbered (stepIn y a c k t o)
+  number-step y (act own l) c k t o w =
+      number-pick (eqb k t) (performs y own l c k o) (combines own l k t (stepAmong y l (isScope own) c (k + 1) t (arms own l k t o))) (number-performs y own l c k o w)
+      (number-combines own l k t (stepAmong y l (isScope own) c (k + 1) t (arms own l k t o))
+      (number-among y l (isScope own) c (k + 1) t (arms own l k t o) (limited-within own l w)))
 
-  pub number-among : (y : Actor) (l : Acts) (w : Bool) (q c t : ℕ) (o : Order) → Numbered (stepAmong y l w q c t o)
-  number-among y none w q c t o = refl
-  number-among y (more a l) w q c t o =
-      number-pick (ltb t (c + size a)) (stepIn y a (cond w c q) c t o) (stepAmong y l w q (c + size a) t o) (number-step y a (cond w c q) c t o)
-      (number-among y l w q (c + size a) t o)
+  pub number-among : (y : Actor) (l : Acts) (b : Bool) (q c t : ℕ) (o : Order) → LimitedAll l → Numbered (stepAmong y l b q c t o)
+  number-among y none b q c t o w = refl
+  number-among y (more a l) b q c t o w =
+      number-pick (ltb t (c + size a)) (stepIn y a (cond b c q) c t o) (stepAmong y l b q (c + size a) t o) (number-step y a (cond b c q) c t o (limited-first a l w))
+      (number-among y l b q (c + size a) t o (limited-rest a l w))

@@ -11,6 +11,7 @@ use Rattle.plan.specs.Found.{among}
 use Rattle.plan.specs.Tree.{Exp, Own, empty, send, receive, set as setting, raise, leave, choose, repeat, sequence, flow, pick, scope, arm, kind, isScope, hasUndo, isPick, Act, act, Acts, none, more, Plan, size, sizes}
 use Rattle.plan.proofs.Accepts.{both}
 use Rattle.order.specs.declared.Closing.{Closing}
+use Rattle.plan.specs.Within.{planWithin}
 use Rattle.order.specs.declared.Order.{Order}
 use Rattle.order.specs.declared.Way.{Way}
 use Rattle.order.specs.declared.Way.the-variants.{Running as running, Over as over, Raising as raising, Leaving as leaving, Undone as undone, UndoRaising as undoRaising}
@@ -31,6 +32,7 @@ use Rattle.order.specs.Room.{hasRoom, roomIn, roomAmong, roomPlan}
 use Rattle.order.specs.Taking.{bindAll}
 use Rattle.order.proofs.MemoryReturns.{closings-are}
 use Rattle.machine.specs.Limits.{rootInLimits, orderInLimits}
+use Rattle.laws.proofs.Limited.{Limited, LimitedAll, limited-within, limited-first, limited-rest, limited-parts}
 use Rattle.laws.proofs.Numbers.{hasNumber, Numbered, number-step, number-among}
 use Rattle.laws.proofs.Offering.{pick-true, pick-false, Each, each-none, each-more, Does, plan-ready}
 
@@ -86,7 +88,8 @@ mutual
   small-begin (act (send p o vs) l) k ms s = small-set k active refl s
   small-begin (act (receive p o vs) l) k ms s = small-set k active refl s
   small-begin (act (setting v e) l) k ms s = small-set k active refl s
-  small-begin (act raise l) k ms s = small-set k active refl s
+  small-begin (act (raise zero) l) k ms s = small-set k active refl s
+  small-begin (act (raise (suc number)) l) k ms s = small-set k active refl s
   small-begin (act leave l) k ms s = small-set k active refl s
   small-begin (act (choose e) l) k ms s = small-set k active refl s
   small-begin (act (repeat e) l) k ms s = small-set k active refl s
@@ -503,7 +506,8 @@ module _ {z : ℕ} where
   fine-itself (receive p q vs) l c k h f = fine-marked k idle refl f
   fine-itself {o} (setting v e) l c k h f =
       fine-or k (λ n. finishes k (binding v n o)) (evaluate e o) f (λ n. fine-marked k idle refl (fine-binding v n f))
-  fine-itself raise l c k h f = fine-marked k idle refl f
+  fine-itself (raise zero) l c k h f = fine-marked k idle refl f
+  fine-itself (raise (suc number)) l c k h f = fine-marked k idle refl f
   fine-itself leave l c k h f = fine-marked k idle refl f
   fine-itself {o} (choose e) l c k h f =
       fine-or k (λ n. enters k o (beginPart (cond (isTrue n) 0 1) l (k + 1) (marked k inside o .marks))) (evaluate e o) f
@@ -542,7 +546,7 @@ module _ {z : ℕ} where
   fine-combines (send p q vs) l k t r x f = f
   fine-combines (receive p q vs) l k t r x f = f
   fine-combines (setting v e) l k t r x f = f
-  fine-combines raise l k t r x f = f
+  fine-combines (raise number) l k t r x f = f
   fine-combines leave l k t r x f = f
   fine-combines (choose e) l k t r x f = fine-goes k inside (finishes k) r f (λ q g. fine-marked k idle refl g)
   fine-combines (repeat e) l k t r x f = fine-goes k inside (again k) r f (λ q g. fine-marked k active refl g)
@@ -583,11 +587,11 @@ fine-performs {z} {o} y own l c k h f = go (replaces y (kind own))
 mutual
   unfolding stepIn roomIn size
 
-  fine-step-in : {z : ℕ} {o : Order} (y : Actor) (a : Act) (c k t : ℕ) → roomIn a k t (closings o) ≡ true → Fine false z o → Fine false z (stepIn y a c k t o .order)
-  fine-step-in {z} {o} y (act own l) c k t h f =
+  fine-step-in : {z : ℕ} {o : Order} (y : Actor) (a : Act) (c k t : ℕ) → Limited a → roomIn a k t (closings o) ≡ true → Fine false z o → Fine false z (stepIn y a c k t o .order)
+  fine-step-in {z} {o} y (act own l) c k t w h f =
       go (eqb k t) h (λ e. fine-performs y own l c k e f)
-      (λ e. fine-combines own l k t (stepAmong y l (isScope own) c (k + 1) t (arms own l k t o)) (number-among y l (isScope own) c (k + 1) t (arms own l k t o))
-      (fine-step-among y l (isScope own) c (k + 1) t (ap (roomAmong l (k + 1) t) (arms-closings own l k t o) ∙ e) (fine-arms own l k t f)))
+      (λ e. fine-combines own l k t (stepAmong y l (isScope own) c (k + 1) t (arms own l k t o)) (number-among y l (isScope own) c (k + 1) t (arms own l k t o) (limited-within own l w))
+      (fine-step-among y l (isScope own) c (k + 1) t (limited-within own l w) (ap (roomAmong l (k + 1) t) (arms-closings own l k t o) ∙ e) (fine-arms own l k t f)))
     where
       go : (b : Bool) → elim b [ true ↦ hasRoom own l k (closings o) | false ↦ roomAmong l (k + 1) t (closings o) ] ≡ true
           → (hasRoom own l k (closings o) ≡ true → Fine false z (performs y own l c k o .order))
@@ -596,11 +600,11 @@ mutual
       go true e u v = u e
       go false e u v = v e
 
-  fine-step-among : {z : ℕ} {o : Order} (y : Actor) (l : Acts) (w : Bool) (q c t : ℕ) → roomAmong l c t (closings o) ≡ true → Fine false z o
+  fine-step-among : {z : ℕ} {o : Order} (y : Actor) (l : Acts) (w : Bool) (q c t : ℕ) → LimitedAll l → roomAmong l c t (closings o) ≡ true → Fine false z o
       → Fine false z (stepAmong y l w q c t o .order)
-  fine-step-among y none w q c t h f = f
-  fine-step-among {z} {o} y (more a l) w q c t h f =
-      go (ltb t (c + size a)) h (λ e. fine-step-in y a (cond w c q) c t e f) (λ e. fine-step-among y l w q (c + size a) t e f)
+  fine-step-among y none w q c t v h f = f
+  fine-step-among {z} {o} y (more a l) w q c t v h f =
+      go (ltb t (c + size a)) h (λ e. fine-step-in y a (cond w c q) c t (limited-first a l v) e f) (λ e. fine-step-among y l w q (c + size a) t (limited-rest a l v) e f)
     where
       go : (b : Bool) → elim b [ true ↦ roomIn a c t (closings o) | false ↦ roomAmong l (c + size a) t (closings o) ] ≡ true
           → (roomIn a c t (closings o) ≡ true → Fine false z (stepIn y a (cond w c q) c t o .order))
@@ -683,21 +687,22 @@ ended-body p r x f = go (r .result) x
     go (undoRaising n) x = ended-fine (after (r .log) (undoRaised n (rootOf p) (r .order))) (fine-undo-raised (rootOf p) n f)
 
 -- An order within its limits that an activity acts in, or a raise in its place, stays so.
-acted-limits : (y : Actor) (p : Plan) (t : ℕ) (o : Order) → t < size (p .body) + size (p .fault) → roomPlan p t (closings o) ≡ true → orderInLimits o ≡ true
+acted-limits : (y : Actor) (p : Plan) (t : ℕ) (o : Order) → planWithin p ≡ true → t < size (p .body) + size (p .fault) → roomPlan p t (closings o) ≡ true → orderInLimits o ≡ true
     → orderInLimits (acted y p t o .order) ≡ true
 unfolding acted stepRoot roomIn
-acted-limits y p t o h e f =
+acted-limits y p t o w h e f =
+    limited-parts p w (λ v u.
     let z : 0 + size (p .body) ≡ size (p .body) = omega arith in
-    go (ltb t (size (p .body))) (ltb t (size (p .body) + size (p .fault))) (lt-ltb t (size (p .body) + size (p .fault)) h)
+    go v u (ltb t (size (p .body))) (ltb t (size (p .body) + size (p .fault))) (lt-ltb t (size (p .body) + size (p .fault)) h)
     (subst (λ (n : ℕ). _≡_ {A = Bool} (elim (ltb t n) [
       | true ↦ roomIn (p .body) 0 t (closings o)
       | false ↦ elim (ltb t (n + size (p .fault))) [ true ↦ roomIn (p .fault) n t (closings o) | false ↦ true ]
-    ]) true) z e)
+    ]) true) z e))
   where
     fine : Fine true 0 o
     fine = limits-fine o f
 
-    go : (a b : Bool) → b ≡ true
+    go : Limited (p .body) → Limited (p .fault) → (a b : Bool) → b ≡ true
         → _≡_ {A = Bool} (elim a [
           | true ↦ roomIn (p .body) 0 t (closings o)
           | false ↦ elim b [ true ↦ roomIn (p .fault) (size (p .body)) t (closings o) | false ↦ true ]
@@ -706,11 +711,11 @@ acted-limits y p t o h e f =
           | true ↦ fromBody (rootOf p) (stepIn y (p .body) 0 0 t o)
           | false ↦ fromFault (rootOf p) (stepIn y (p .fault) (size (p .body)) (size (p .body)) t o)
         ])
-    go true b q r = ended-body p (stepIn y (p .body) 0 0 t o) (number-step y (p .body) 0 0 t o) (fine-out fine (fine-step-in y (p .body) 0 0 t r (fine-in fine)))
-    go false true q r =
+    go v u true b q r = ended-body p (stepIn y (p .body) 0 0 t o) (number-step y (p .body) 0 0 t o v) (fine-out fine (fine-step-in y (p .body) 0 0 t v r (fine-in fine)))
+    go v u false true q r =
         ended-fine (fromFault (rootOf p) (stepIn y (p .fault) (size (p .body)) (size (p .body)) t o))
-        (fine-from-fault (rootOf p) (stepIn y (p .fault) (size (p .body)) (size (p .body)) t o) (fine-out fine (fine-step-in y (p .fault) (size (p .body)) (size (p .body)) t r (fine-in fine))))
-    go false false q r = absurd (let w : _≡_ {A = ℕ} 0 1 = cc in omega arith)
+        (fine-from-fault (rootOf p) (stepIn y (p .fault) (size (p .body)) (size (p .body)) t o) (fine-out fine (fine-step-in y (p .fault) (size (p .body)) (size (p .body)) t u r (fine-in fine))))
+    go v u false false q r = absurd (let w : _≡_ {A = ℕ} 0 1 = cc in omega arith)
 
 -- what is for the same thing as one before it closes nothing
 second-room : (before : List Ready) (d : Doing) (xs : List Closing) → isSecond before d ≡ true → roomOf d xs ≡ true
@@ -741,15 +746,15 @@ unfolding conflict
 conflict-room p o = clash-room p (closings o) [] (readyOf p o) (plan-ready p o)
 
 -- An order within its limits that is judged stays so.
-judged-limits : (n : ℕ) (p : Plan) (m : Moved) → orderInLimits (m .order) ≡ true → orderInLimits (judged n p m .order) ≡ true
+judged-limits : (n : ℕ) (p : Plan) (m : Moved) → planWithin p ≡ true → orderInLimits (m .order) ≡ true → orderInLimits (judged n p m .order) ≡ true
 unfolding judged
-judged-limits zero p m f = f
-judged-limits (suc n) p m f = go (λ m′ f′. judged-limits n p m′ f′) (m .end)
+judged-limits zero p m w f = f
+judged-limits (suc n) p m w f = go (λ m′ f′. judged-limits n p m′ w f′) (m .end)
   where
     on : ((m′ : Moved) → orderInLimits (m′ .order) ≡ true → orderInLimits (judged n p m′ .order) ≡ true) → (v : Verdict) → Roomed p (closings (m .order)) v
         → orderInLimits (upon (judged n p) p m v .order) ≡ true
     on g clear c = f
-    on g (clash k) c = g (following (m .log) (acted inPlace p k (m .order))) (acted-limits inPlace p k (m .order) (c .0) (c .1) f)
+    on g (clash k) c = g (following (m .log) (acted inPlace p k (m .order))) (acted-limits inPlace p k (m .order) w (c .0) (c .1) f)
 
     go : ((m′ : Moved) → orderInLimits (m′ .order) ≡ true → orderInLimits (judged n p m′ .order) ≡ true) → (e : End)
         → orderInLimits (elim e as (λ _. Moved) [ None ↦ upon (judged n p) p m (conflict p (m .order)) | Well ↦ m | Handled ↦ m | Failed ↦ m | Left ↦ m ] .order) ≡ true
@@ -760,10 +765,10 @@ judged-limits (suc n) p m f = go (λ m′ f′. judged-limits n p m′ f′) (m 
     go g Left = f
 
 -- A step of an order within its limits leaves it so.
-pub step-limits : (p : Plan) (t : ℕ) (o : Order) → t < size (p .body) + size (p .fault) → roomPlan p t (closings o) ≡ true → orderInLimits o ≡ true
+pub step-limits : (p : Plan) (t : ℕ) (o : Order) → planWithin p ≡ true → t < size (p .body) + size (p .fault) → roomPlan p t (closings o) ≡ true → orderInLimits o ≡ true
     → orderInLimits (stepOrder p t o .order) ≡ true
 unfolding stepOrder settled
-step-limits p t o h e f = judged-limits (spare p (acted itsOwn p t o .order)) p (acted itsOwn p t o) (acted-limits itsOwn p t o h e f)
+step-limits p t o w h e f = judged-limits (spare p (acted itsOwn p t o .order)) p (acted itsOwn p t o) w (acted-limits itsOwn p t o w h e f)
 
 -- an order as it starts, and one that takes its values
 pub start-limits : (p : Plan) → orderInLimits (startedOrder p) ≡ true

@@ -355,7 +355,7 @@ setBy empty o = o
 setBy (send p q vs) o = o
 setBy (receive p q vs) o = o
 setBy (setting v e) o = setTo v (evaluate e o) o
-setBy raise o = o
+setBy (raise number) o = o
 setBy leave o = o
 setBy (choose e) o = o
 setBy (repeat e) o = o
@@ -390,7 +390,7 @@ set-alike (setting v e) o q f = rw (evaluate-alike e o q f) (go (evaluate e o))
     go : (x : Value) → Alike (setTo v x o) (setTo v x q)
     go (fault n) = f
     go (value n) = record { values = rw (f .values); bound = rw (f .bound); root = f .root }
-set-alike raise o q f = f
+set-alike (raise number) o q f = f
 set-alike leave o q f = f
 set-alike (choose e) o q f = f
 set-alike (repeat e) o q f = f
@@ -428,7 +428,8 @@ alike-itself (setting v e) l c k o = go (evaluate e o)
     go : (x : Value) → Alike (setTo v x o) (orRaises k o (λ n. finishes k (binding v n o)) x .order)
     go (fault n) = as-marks _ (alike o)
     go (value n) = as-marks _ (alike (binding v n o))
-alike-itself raise l c k o = as-marks _ (alike o)
+alike-itself (raise zero) l c k o = as-marks _ (alike o)
+alike-itself (raise (suc number)) l c k o = as-marks _ (alike o)
 alike-itself leave l c k o = as-marks _ (alike o)
 alike-itself (choose e) l c k o =
     alike-or o k (λ n. enters k o (beginPart (cond (isTrue n) 0 1) l (k + 1) (marked k inside o .marks))) (evaluate e o)
@@ -467,7 +468,7 @@ module _ {xs bs : List ℕ} {z : ℕ} where
   as-combines (send p q vs) l k t r f = f
   as-combines (receive p q vs) l k t r f = f
   as-combines (setting v e) l k t r f = f
-  as-combines raise l k t r f = f
+  as-combines (raise number) l k t r f = f
   as-combines leave l k t r f = f
   as-combines (choose e) l k t r f = as-goes k inside (finishes k) r f (λ q g. as-marks _ g)
   as-combines (repeat e) l k t r f = as-goes k inside (again k) r f (λ q g. as-marks _ g)
@@ -502,7 +503,8 @@ replaced-set y (send p q vs) o h = refl
 replaced-set y (receive p q vs) o h = refl
 replaced-set itsOwn (setting v e) o h = absurd (false≢true h)
 replaced-set inPlace (setting v e) o h = absurd (false≢true h)
-replaced-set y raise o h = refl
+replaced-set y (raise zero) o h = refl
+replaced-set y (raise (suc number)) o h = refl
 replaced-set y leave o h = refl
 replaced-set y (choose e) o h = refl
 replaced-set y (repeat e) o h = refl
@@ -602,7 +604,8 @@ set-live (setting v e) o = go (evaluate e o)
     go : (x : Value) → setTo v x o .root ≡ o .root
     go (fault n) = refl
     go (value n) = refl
-set-live raise o = refl
+set-live (raise zero) o = refl
+set-live (raise (suc number)) o = refl
 set-live leave o = refl
 set-live (choose e) o = refl
 set-live (repeat e) o = refl
@@ -693,7 +696,8 @@ taking-sets (act empty l) k o h = refl
 taking-sets (act (send p q vs) l) k o h = refl
 taking-sets (act (receive p q vs) l) k o h = refl
 taking-sets (act (setting v e) l) k o h = absurd (false≢true h)
-taking-sets (act raise l) k o h = refl
+taking-sets (act (raise zero) l) k o h = refl
+taking-sets (act (raise (suc number)) l) k o h = refl
 taking-sets (act leave l) k o h = refl
 taking-sets (act (choose e) l) k o h = refl
 taking-sets (act (repeat e) l) k o h = refl

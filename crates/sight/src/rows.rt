@@ -51,10 +51,10 @@ fn is_cut(table: &Table, k: usize) -> bool
     ensures { λ r. ⌜ CutRow (now (table .entry)) k r ⌝ }
 {
     let kind = table[k * WIDTH];
-    if kind == kind::RAISE {
-        return true;
+    match kind {
+        kind::RAISE | kind::NUMBERED_RAISE => true,
+        _ => kind == kind::LEAVE,
     }
-    kind == kind::LEAVE
 }
 
 // Whether row k is an active raise or leave, or one was before.
@@ -233,6 +233,9 @@ fn doing_row(
         if close_held(kind, parts, kept, k) {
             return withheld(s);
         }
+        return shown(s, slot, k, 0);
+    }
+    if kind == kind::NUMBERED_RAISE {
         return shown(s, slot, k, 0);
     }
     if kind < kind::SET {

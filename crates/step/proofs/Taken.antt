@@ -168,7 +168,8 @@ module _ (t : List ℕ) (n : ℕ) (s : State) (o : Order) (x j : ℕ) where
       go (send a b vs) l e = absurd (f (sym e))
       go (receive a b vs) l e = absurd (g (sym e))
       go (setting v d) l e = refl
-      go raise l e = refl
+      go (raise zero) l e = refl
+      go (raise (suc number)) l e = refl
       go leave l e = refl
       go (choose d) l e = refl
       go (repeat d) l e = refl
