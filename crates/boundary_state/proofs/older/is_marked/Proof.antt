@@ -1,13 +1,13 @@
--- `boundary_state::older::is_old` meets its contract. Assumes nothing.
+-- `boundary_state::older::is_marked` meets its contract. Assumes nothing.
 use borrow.Author.Needs.{needs}
-use Rattle.boundary_state.proofs.Renewing.{old-long, old-not}
-use Rattle.boundary_state.proofs.older.is_old.Statement.{statement}
-use Rattle.boundary_state.proofs.older.is_old.Tie as tie
+use Rattle.boundary_state.proofs.Renewing.{marked-long, marked-not}
+use Rattle.boundary_state.proofs.older.is_marked.Statement.{statement}
+use Rattle.boundary_state.proofs.older.is_marked.Tie as tie
 
-ruleset cases = (old-long, old-not)
+ruleset cases = (marked-long, marked-not)
 
-pub is-old-spec : {M : Type 1} → statement M
-is-old-spec =
+pub is-marked-spec : {M : Type 1} → statement M
+is-marked-spec =
     tie.close (tie.spec
     -- number-at-requires
     (λ c κs. search needs)
