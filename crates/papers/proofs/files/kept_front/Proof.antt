@@ -13,6 +13,6 @@ kept-front-spec =
     (λ c κs. search needs)
     (λ c κs. search needs)
     (λ c. tt)
-    (λ c. let b = c .before .before in sym (length-take-le (b .state-size .result) (b .before .args .bytes .now) (omega arith)))
+    (λ c. let b = c .before .before in sym (length-take-le (b .state-size .result) (b .before .before .args .bytes .now) (omega arith)))
     (λ c κs. search needs)
     (λ c. tt))
