@@ -242,11 +242,11 @@ unfolding isLeft isBegin isFinish isBeganOf
 left-one k started past n h = absurd (false≢true h)
 left-one k (began j) past n h = rw (isLeft, n) at h
 left-one k (closed j) past n h = decide (eqb k j) (λ t. absurd (false≢true (rw (isLeft, t) at h))) (λ t. rw (isLeft, t) at h)
-left-one k (faulted m) past n h = h
+left-one k (faulted m x) past n h = h
 left-one k (stopped j) past n h = h
 left-one k (ended root) past n h = h
 left-one k (ended (inner j)) past n h = decide (eqb k j) (λ t. absurd (false≢true (rw (isLeft, t) at h))) (λ t. rw (isLeft, t) at h)
-left-one k (raised j) past n h = h
+left-one k (raised j x) past n h = h
 left-one k left past n h = h
 
 left-before : (k : ℕ) (l past : List Event) → hasBegan k l ≡ false → isLeft (inner k) (onto l past) ≡ true → isLeft (inner k) past ≡ true

@@ -48,10 +48,10 @@ unfoldable pub isStart : Event → Bool
 isStart started = true
 isStart (began k) = false
 isStart (closed k) = false
-isStart (faulted n) = false
+isStart (faulted n x) = false
 isStart (stopped k) = false
 isStart (ended n) = false
-isStart (raised k) = false
+isStart (raised k x) = false
 isStart left = false
 
 -- a start is a deed
@@ -61,10 +61,10 @@ start-kept [] = refl
 start-kept (started ∷ l) = refl
 start-kept (began k ∷ l) = start-kept l
 start-kept (closed k ∷ l) = start-kept l
-start-kept (faulted n ∷ l) = start-kept l
+start-kept (faulted n x ∷ l) = start-kept l
 start-kept (stopped k ∷ l) = start-kept l
 start-kept (ended n ∷ l) = start-kept l
-start-kept (raised k ∷ l) = start-kept l
+start-kept (raised k x ∷ l) = start-kept l
 start-kept (left ∷ l) = start-kept l
 
 -- the step of no activity is a start
@@ -121,11 +121,11 @@ now-none [] h = refl
 now-none (started ∷ past) h = refl
 now-none (began k ∷ past) h = refl
 now-none (closed k ∷ past) h = refl
-now-none (faulted n ∷ past) h = refl
+now-none (faulted n x ∷ past) h = refl
 now-none (stopped k ∷ past) h = refl
 now-none (ended root ∷ past) h = absurd (false≢true (sym h))
 now-none (ended (inner k) ∷ past) h = refl
-now-none (raised k ∷ past) h = refl
+now-none (raised k x ∷ past) h = refl
 now-none (left ∷ past) h = absurd (false≢true (sym h))
 
 -- nothing but a start is allowed after an order's end
@@ -134,10 +134,10 @@ unfolding allowed isStart
 after-none p past started n h = refl
 after-none p past (began k) n h = absurd (false≢true (rw n at h))
 after-none p past (closed k) n h = absurd (false≢true (rw n at h))
-after-none p past (faulted m) n h = absurd (false≢true (rw n at h))
+after-none p past (faulted m x) n h = absurd (false≢true (rw n at h))
 after-none p past (stopped k) n h = absurd (false≢true (rw n at h))
 after-none p past (ended m) n h = absurd (false≢true (rw n at h))
-after-none p past (raised k) n h = absurd (false≢true (rw n at h))
+after-none p past (raised k x) n h = absurd (false≢true (rw n at h))
 after-none p past left n h = absurd (false≢true (rw n at h))
 
 -- so that a fair log without a start has no end but at its end
@@ -194,11 +194,11 @@ rawEnd [] = false
 rawEnd (started ∷ past) = false
 rawEnd (began k ∷ past) = false
 rawEnd (closed k ∷ past) = false
-rawEnd (faulted n ∷ past) = false
+rawEnd (faulted n x ∷ past) = false
 rawEnd (stopped k ∷ past) = false
 rawEnd (ended root ∷ past) = isRaised past
 rawEnd (ended (inner k) ∷ past) = false
-rawEnd (raised k ∷ past) = false
+rawEnd (raised k x ∷ past) = false
 rawEnd (left ∷ past) = false
 
 -- an order that lives on has none
@@ -208,11 +208,11 @@ now-cool [] h = refl
 now-cool (started ∷ past) h = refl
 now-cool (began k ∷ past) h = refl
 now-cool (closed k ∷ past) h = refl
-now-cool (faulted n ∷ past) h = refl
+now-cool (faulted n x ∷ past) h = refl
 now-cool (stopped k ∷ past) h = refl
 now-cool (ended root ∷ past) h = absurd (false≢true (sym h))
 now-cool (ended (inner k) ∷ past) h = refl
-now-cool (raised k ∷ past) h = refl
+now-cool (raised k x ∷ past) h = refl
 now-cool (left ∷ past) h = refl
 
 -- a calm log brings none
@@ -222,11 +222,11 @@ calm-cool [] past c h g = g
 calm-cool (started ∷ l) past c h g = calm-cool l (started ∷ past) c refl refl
 calm-cool (began k ∷ l) past c h g = calm-cool l (began k ∷ past) c refl refl
 calm-cool (closed k ∷ l) past c h g = calm-cool l (closed k ∷ past) c refl refl
-calm-cool (faulted n ∷ l) past c h g = absurd (let z : _≡_ {A = ℕ} 0 1 = cc in omega arith)
+calm-cool (faulted n x ∷ l) past c h g = absurd (let z : _≡_ {A = ℕ} 0 1 = cc in omega arith)
 calm-cool (stopped k ∷ l) past c h g = calm-cool l (stopped k ∷ past) c refl refl
 calm-cool (ended root ∷ l) past c h g = calm-cool l (ended root ∷ past) c refl h
 calm-cool (ended (inner k) ∷ l) past c h g = calm-cool l (ended (inner k) ∷ past) c refl refl
-calm-cool (raised k ∷ l) past c h g = absurd (let z : _≡_ {A = ℕ} 0 1 = cc in omega arith)
+calm-cool (raised k x ∷ l) past c h g = absurd (let z : _≡_ {A = ℕ} 0 1 = cc in omega arith)
 calm-cool (left ∷ l) past c h g = calm-cool l (left ∷ past) c refl refl
 
 -- nor does one of its shape, where no raise is lost
@@ -245,11 +245,11 @@ told-turned [] b h g = absurd (false≢true h)
 told-turned (started ∷ past) b h g = absurd (false≢true h)
 told-turned (began k ∷ past) b h g = absurd (false≢true h)
 told-turned (closed k ∷ past) b h g = absurd (false≢true h)
-told-turned (faulted n ∷ past) b h g = absurd (false≢true h)
+told-turned (faulted n x ∷ past) b h g = absurd (false≢true h)
 told-turned (stopped k ∷ past) b h g = absurd (false≢true h)
 told-turned (ended root ∷ past) b h g = rw (h, g)
 told-turned (ended (inner k) ∷ past) b h g = absurd (false≢true h)
-told-turned (raised k ∷ past) b h g = absurd (false≢true h)
+told-turned (raised k x ∷ past) b h g = absurd (false≢true h)
 told-turned (left ∷ past) b h g = absurd (false≢true h)
 
 -- the end of an order whose log is of its shape

@@ -66,10 +66,10 @@ clear-raised p [] h = refl
 clear-raised p (started ∷ past) h = refl
 clear-raised p (began k ∷ past) h = refl
 clear-raised p (closed k ∷ past) h = refl
-clear-raised p (faulted n ∷ past) h = refl
+clear-raised p (faulted n x ∷ past) h = refl
 clear-raised p (stopped k ∷ past) h = refl
 clear-raised p (ended n ∷ past) h = refl
-clear-raised p (raised k ∷ past) h = absurd (false≢true (sym (first-due (placeAfter p past k)) ∙ h))
+clear-raised p (raised k x ∷ past) h = absurd (false≢true (sym (first-due (placeAfter p past k)) ∙ h))
 clear-raised p (left ∷ past) h = refl
 
 -- and nothing is due after an end either
@@ -79,10 +79,10 @@ clear-ended p [] h = refl
 clear-ended p (started ∷ past) h = refl
 clear-ended p (began k ∷ past) h = refl
 clear-ended p (closed k ∷ past) h = refl
-clear-ended p (faulted n ∷ past) h = refl
+clear-ended p (faulted n x ∷ past) h = refl
 clear-ended p (stopped k ∷ past) h = refl
 clear-ended p (ended n ∷ past) h = refl
-clear-ended p (raised k ∷ past) h = absurd (false≢true (sym (first-due (placeAfter p past k)) ∙ h))
+clear-ended p (raised k x ∷ past) h = absurd (false≢true (sym (first-due (placeAfter p past k)) ∙ h))
 clear-ended p (left ∷ past) h = refl
 
 -- an event that is no fault, where nothing is due
@@ -98,10 +98,10 @@ calm-heeds p [] past c h = h
 calm-heeds p (started ∷ l) past c h = rw (heeds-clear (due p past) started h refl, calm-heeds p l (started ∷ past) c refl)
 calm-heeds p (began k ∷ l) past c h = rw (heeds-clear (due p past) (began k) h refl, calm-heeds p l (began k ∷ past) c refl)
 calm-heeds p (closed k ∷ l) past c h = rw (heeds-clear (due p past) (closed k) h refl, calm-heeds p l (closed k ∷ past) c refl)
-calm-heeds p (faulted n ∷ l) past c h = absurd (let z : _≡_ {A = ℕ} 0 1 = cc in omega arith)
+calm-heeds p (faulted n x ∷ l) past c h = absurd (let z : _≡_ {A = ℕ} 0 1 = cc in omega arith)
 calm-heeds p (stopped k ∷ l) past c h = rw (heeds-clear (due p past) (stopped k) h refl, calm-heeds p l (stopped k ∷ past) c refl)
 calm-heeds p (ended n ∷ l) past c h = rw (heeds-clear (due p past) (ended n) h refl, calm-heeds p l (ended n ∷ past) c (clear-ended p past h))
-calm-heeds p (raised k ∷ l) past c h = absurd (let z : _≡_ {A = ℕ} 0 1 = cc in omega arith)
+calm-heeds p (raised k x ∷ l) past c h = absurd (let z : _≡_ {A = ℕ} 0 1 = cc in omega arith)
 calm-heeds p (left ∷ l) past c h = rw (heeds-clear (due p past) left h refl, calm-heeds p l (left ∷ past) c refl)
 
 -- at its end nothing is due

@@ -188,10 +188,10 @@ module _ (p : Plan) (h : Seat p (rootOf p)) where
   duesOnto (started ∷ l) d = duesOnto l d
   duesOnto (began k ∷ l) d = duesOnto l d
   duesOnto (closed k ∷ l) d = duesOnto l (cond (isClose p root k) (putting (backOf p k) d) d)
-  duesOnto (faulted n ∷ l) d = duesOnto l d
+  duesOnto (faulted n x ∷ l) d = duesOnto l d
   duesOnto (stopped k ∷ l) d = duesOnto l d
   duesOnto (ended n ∷ l) d = duesOnto l d
-  duesOnto (raised k ∷ l) d = duesOnto l d
+  duesOnto (raised k x ∷ l) d = duesOnto l d
   duesOnto (left ∷ l) d = duesOnto l d
 
   -- one event
@@ -205,10 +205,10 @@ module _ (p : Plan) (h : Seat p (rootOf p)) where
   onto-dues (started ∷ l) past h = absurd (false≢true (sym h))
   onto-dues (began k ∷ l) past h = onto-dues l (began k ∷ past) h ∙ ap (duesOnto (only isDeed l)) (next-dues (began k) past refl)
   onto-dues (closed k ∷ l) past h = onto-dues l (closed k ∷ past) h ∙ ap (duesOnto (only isDeed l)) (next-dues (closed k) past refl ∙ closed-dues k past (closingsOf p root past))
-  onto-dues (faulted n ∷ l) past h = onto-dues l (faulted n ∷ past) h ∙ ap (duesOnto (only isDeed l)) (next-dues (faulted n) past refl)
+  onto-dues (faulted n x ∷ l) past h = onto-dues l (faulted n x ∷ past) h ∙ ap (duesOnto (only isDeed l)) (next-dues (faulted n x) past refl)
   onto-dues (stopped k ∷ l) past h = onto-dues l (stopped k ∷ past) h ∙ ap (duesOnto (only isDeed l)) (next-dues (stopped k) past refl)
   onto-dues (ended n ∷ l) past h = onto-dues l (ended n ∷ past) h ∙ ap (duesOnto (only isDeed l)) (next-dues (ended n) past refl)
-  onto-dues (raised k ∷ l) past h = onto-dues l (raised k ∷ past) h ∙ ap (duesOnto (only isDeed l)) (next-dues (raised k) past refl)
+  onto-dues (raised k x ∷ l) past h = onto-dues l (raised k x ∷ past) h ∙ ap (duesOnto (only isDeed l)) (next-dues (raised k x) past refl)
   onto-dues (left ∷ l) past h = onto-dues l (left ∷ past) h ∙ ap (duesOnto (only isDeed l)) (next-dues left past refl)
 
   -- a step that closes nothing directly inside

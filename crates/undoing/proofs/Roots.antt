@@ -118,11 +118,11 @@ told-over [] h = absurd (false≢true h)
 told-over (started ∷ past) h = absurd (false≢true h)
 told-over (began k ∷ past) h = absurd (false≢true h)
 told-over (closed k ∷ past) h = absurd (false≢true h)
-told-over (faulted n ∷ past) h = absurd (false≢true h)
+told-over (faulted n x ∷ past) h = absurd (false≢true h)
 told-over (stopped k ∷ past) h = absurd (false≢true h)
 told-over (ended root ∷ past) h = refl
 told-over (ended (inner k) ∷ past) h = absurd (false≢true h)
-told-over (raised k ∷ past) h = absurd (false≢true h)
+told-over (raised k x ∷ past) h = absurd (false≢true h)
 told-over (left ∷ past) h = refl
 
 turned-over : (past : List Event) → endsTurned past ≡ true → noneNow past ≡ true
@@ -131,11 +131,11 @@ turned-over [] h = absurd (false≢true h)
 turned-over (started ∷ past) h = absurd (false≢true h)
 turned-over (began k ∷ past) h = absurd (false≢true h)
 turned-over (closed k ∷ past) h = absurd (false≢true h)
-turned-over (faulted n ∷ past) h = absurd (false≢true h)
+turned-over (faulted n x ∷ past) h = absurd (false≢true h)
 turned-over (stopped k ∷ past) h = absurd (false≢true h)
 turned-over (ended root ∷ past) h = refl
 turned-over (ended (inner k) ∷ past) h = absurd (false≢true h)
-turned-over (raised k ∷ past) h = absurd (false≢true h)
+turned-over (raised k x ∷ past) h = absurd (false≢true h)
 turned-over (left ∷ past) h = absurd (false≢true h)
 
 -- what is known of the newest event where an order has ended so

@@ -37,10 +37,10 @@ unfoldable pub isGrave : Event → Bool
 isGrave started = false
 isGrave (began k) = false
 isGrave (closed k) = false
-isGrave (faulted n) = true
+isGrave (faulted n x) = true
 isGrave (stopped k) = false
 isGrave (ended n) = false
-isGrave (raised k) = true
+isGrave (raised k x) = true
 isGrave left = false
 
 -- neither in a log
