@@ -246,10 +246,10 @@ module _ (p : Plan) (f : ℕ → ℕ) (A : ℕ → Type 0) (ms : List ℕ) where
       go : (x : Result) → Fresh (whereOver g (record { result = x; order = o .order; log = o .log }) .log)
       go running = w
       go over = fresh-append (o .log) (g (o .order) .log) w (h (o .order))
-      go raising = w
+      go (raising x) = w
       go leaving = w
       go undone = w
-      go undoRaising = w
+      go (undoRaising x) = w
 
   pub fresh-either : (v : Bool) (x y z : Outcome) → z ≡ elim v [ true ↦ x | false ↦ y ] → (v ≡ true → Fresh (x .log)) → (v ≡ false → Fresh (y .log)) → Fresh (z .log)
   fresh-either true x y z e g h = subst (λ (q : Outcome). Fresh (q .log)) (sym e) (g refl)
@@ -326,10 +326,10 @@ module _ (p : Plan) (f : ℕ → ℕ) (A : ℕ → Type 0) (ms : List ℕ) where
       go : (x : Result) → Fresh (fromFault s (record { result = x; order = r .order; log = r .log }) .log)
       go running = w
       go over = fresh-append (r .log) (partOver s (r .order) .log) w (fresh-either (eqb (markOf (s .name) (r .order)) handling) (ends s (r .order)) (runs (r .order)) _ refl (λ v. fresh-none (ends s (r .order) .log) (λ j. refl)) (λ v. fresh-runs (r .order)))
-      go raising = fresh-append (r .log) (partRaised s (r .order) .log) w (fresh-either (eqb (markOf (s .name) (r .order)) handling) (breaks s (r .order)) (runs (r .order)) _ refl (λ v. breaks-fresh s (r .order)) (λ v. fresh-runs (r .order)))
+      go (raising x) = fresh-append (r .log) (partRaised x s (r .order) .log) w (fresh-either (eqb (markOf (s .name) (r .order)) handling) (breaks x s (r .order)) (runs (r .order)) _ refl (λ v. breaks-fresh s (r .order)) (λ v. fresh-runs (r .order)))
       go leaving = w
       go undone = w
-      go undoRaising = w
+      go (undoRaising x) = w
 
   -- Stopping: the scopes that are open were so before the step.
   pub record Opened (k n : ℕ) (ns : List ℕ) : Type 0 where

@@ -66,10 +66,10 @@ pub record Agrees (p : Plan) (o : Order) (a : Book) : Type 0 where
 abbrev pub SettledAs : Plan → (due : List (List ℕ)) → (begun : Bool) → Order → Result → Type 0
 SettledAs p d b o running = (owed p o ≡ d) × (begunMark (o .root) ≡ false → b ≡ false)
 SettledAs p d b o over = d ≡ []
-SettledAs p d b o raising = Unit {0}
+SettledAs p d b o (raising x) = Unit {0}
 SettledAs p d b o leaving = Unit {0}
 SettledAs p d b o undone = Unit {0}
-SettledAs p d b o undoRaising = Unit {0}
+SettledAs p d b o (undoRaising x) = Unit {0}
 
 abbrev pub Settled : Plan → (due : List (List ℕ)) → (begun : Bool) → Outcome → Type 0
 Settled p d b r = SettledAs p d b (r .order) (r .result)
@@ -167,10 +167,10 @@ module _ (p : Plan) (h : Promised p) where
       go over c d =
           subst (λ (e : List (List ℕ)). Settled p e b (after (r .log) (handle s (r .order)))) (sym (ap (duesIn p) (sym i) ∙ d))
           (handle-settles b (r .order) (u .rooted) (c .1) (c .0) (quiet-agree y (agree-above (u .kept) (omega arith))) (omega (arith, u .kept .many)))
-      go raising c d = absurd c
+      go (raising x) c d = absurd c
       go leaving c d = absurd c
       go undone c d = absurd c
-      go undoRaising c d = absurd c
+      go (undoRaising x) c d = absurd c
 
   turns-settles : (o : Order) → Stopped (o .marks) (p .body) 0 → Quiet (o .marks) (size (p .body)) (size (p .fault)) → size (p .body) + size (p .fault) ≤ length (o .marks)
       → Settled p (duesIn p (listOf p root o)) false (turns true (rootOf p) o)
@@ -330,13 +330,13 @@ module _ (p : Plan) (h : Promised p) where
         go over c =
             subst (λ (z : Outcome). Settled p (duesWith p (h .seat) actor t (duesIn p (listOf p root o))) false (after (stepIn actor (p .body) 0 0 t o .log) z)) (sym (over-is (rootOf p) o₁ active d₁))
             (quiet-owed p o₁ (undo-quiet (h .seat .body) (o₁ .marks) (c .0)) ∙ listed (c .1), λ x. refl)
-        go raising c =
+        go (raising x) c =
             subst (λ (z : Outcome). Settled p (duesWith p (h .seat) actor t (duesIn p (listOf p root o))) false (after (stepIn actor (p .body) 0 0 t o .log) z)) (sym (raised-is (rootOf p) o₁ true (rw d₁)))
-            (subst (λ (z : List (List ℕ)). Settled p z false (faults (rootOf p) o₁)) (listed (c .1))
+            (subst (λ (z : List (List ℕ)). Settled p z false (faults x (rootOf p) o₁)) (listed (c .1))
             (faults-settles o₁ (onto (stepIn actor (p .body) 0 0 t o .log) past) d₁ (c .0) q₁ (omega (arith, v .kept .many)) (c .1 .does past g .1)))
         go leaving c = tt
         go undone c = absurd c
-        go undoRaising c = absurd c
+        go (undoRaising x) c = absurd c
 
     -- It waits for its inner scopes.
     waits-right : (actor : Actor) → Fitting actor p t → t < size (p .body) → o .root ≡ faulty → Stopped (o .marks) (p .body) 0 → Quiet (o .marks) (size (p .body)) (size (p .fault)) → Waits (o .marks) (p .body) 0 t false → Right actor (fromBody (rootOf p) (its actor))
@@ -368,11 +368,11 @@ module _ (p : Plan) (h : Promised p) where
         go running c = looks (c .0) (c .1)
         go over c =
             subst (λ (z : Outcome). Settled p (duesWith p (h .seat) actor t (duesIn p (listOf p root o))) false (after (stepIn actor (p .body) 0 0 t o .log) z)) (sym (over-is (rootOf p) o₁ faulty d₁)) (looks (c .0) (c .1))
-        go raising c =
+        go (raising x) c =
             subst (λ (z : Outcome). Settled p (duesWith p (h .seat) actor t (duesIn p (listOf p root o))) false (after (stepIn actor (p .body) 0 0 t o .log) z)) (sym (raised-is (rootOf p) o₁ false (rw d₁))) (looks (c .0) (c .1))
         go leaving c = tt
         go undone c = absurd c
-        go undoRaising c = absurd c
+        go (undoRaising x) c = absurd c
 
     -- the mark of a root that undoes
     undo-mark : (k : ℕ) → k ≡ undoing → (eqb k undoing || eqb k withdrawing) ≡ true
@@ -417,7 +417,7 @@ module _ (p : Plan) (h : Promised p) where
             subst (λ (z : Outcome). Settled p (putting (without t left) (duesIn p (listOf p root o))) (noted p root t a .begun) (after (stepIn itsOwn (p .body) 0 0 t o .log) z)) (sym (looks-is (rootOf p) o₁ undoing d₁))
             (rw (l, same-list), λ x. absurd (false≢true (sym x ∙ ap begunMark d₁)))
         go over c l = absurd c
-        go raising c l = absurd c
+        go (raising x) c l = absurd c
         go leaving c l = tt
         go undone c l =
             subst (λ (z : Bool). Settled p (putting (without t left) (duesIn p (listOf p root o))) (noted p root t a .begun)
@@ -425,8 +425,8 @@ module _ (p : Plan) (h : Promised p) where
             (sym (eq-eqb (o₁ .root) undoing d₁))
             (subst (λ (e : List (List ℕ)). Settled p e (noted p root t a .begun) (undoes true (rootOf p) o₁)) (ap (duesIn p) same-list ∙ ap (λ (i : List ℕ). putting i (duesIn p (listOf p root o))) (sym l))
             (undoes-settles (noted p root t a .begun) o₁ (c .0) (quiet-agree q (agree-above (v .kept) (omega arith))) (omega (arith, v .kept .many))))
-        go undoRaising c l =
-            subst (λ (z : Bool). Settled p (putting (without t left) (duesIn p (listOf p root o))) (noted p root t a .begun) (after (stepIn itsOwn (p .body) 0 0 t o .log) (elim z [ true ↦ breaks (rootOf p) o₁ | false ↦ runs o₁ ])))
+        go (undoRaising x) c l =
+            subst (λ (z : Bool). Settled p (putting (without t left) (duesIn p (listOf p root o))) (noted p root t a .begun) (after (stepIn itsOwn (p .body) 0 0 t o .log) (elim z [ true ↦ breaks x (rootOf p) o₁ | false ↦ runs o₁ ])))
             (sym (undo-mark (o₁ .root) d₁)) tt
     undoing-right inPlace j i d r q w = (
       tt,
@@ -475,11 +475,11 @@ module _ (p : Plan) (h : Promised p) where
         )
         go over c =
             subst (λ (z : Bool). Settled p [] (a .begun) (after (stepIn actor (p .fault) (size (p .body)) (size (p .body)) t o .log) (elim z [ true ↦ ends (rootOf p) o₁ | false ↦ runs o₁ ]))) (sym (eq-eqb (o₁ .root) handling d₁)) refl
-        go raising c =
-            subst (λ (z : Bool). Settled p [] (a .begun) (after (stepIn actor (p .fault) (size (p .body)) (size (p .body)) t o .log) (elim z [ true ↦ breaks (rootOf p) o₁ | false ↦ runs o₁ ]))) (sym (eq-eqb (o₁ .root) handling d₁)) tt
+        go (raising x) c =
+            subst (λ (z : Bool). Settled p [] (a .begun) (after (stepIn actor (p .fault) (size (p .body)) (size (p .body)) t o .log) (elim z [ true ↦ breaks x (rootOf p) o₁ | false ↦ runs o₁ ]))) (sym (eq-eqb (o₁ .root) handling d₁)) tt
         go leaving c = tt
         go undone c = absurd c
-        go undoRaising c = absurd c
+        go (undoRaising x) c = absurd c
 
   -- However it stands.
   pub root-right : (actor : Actor) (t : ℕ) (o : Order) (past : List Event) (a : Book) → Fitting actor p t → Awaited p (o .marks) t → Standing p o → (o .root ≡ halted → ⊥) → (o .root ≡ withdrawing → ⊥) → HoldsAt p (momentOf p o) past → Agrees p o a

@@ -91,10 +91,10 @@ body-deeds s r = go (r .result)
     go : (x : Result) → only isDeed (fromBody s (record { result = x; order = r .order; log = r .log }) .log) ≡ only isDeed (r .log)
     go running = silent-after isDeed deeds-aside (r .log) (looksAgain s (r .order) .log) (looks-still s (r .order))
     go over = silent-after isDeed deeds-aside (r .log) (bodyOver s (r .order) .log) (over-still s (r .order))
-    go raising = silent-after isDeed deeds-aside (r .log) (bodyRaised s (r .order) .log) (raised-still s (r .order))
+    go (raising x) = silent-after isDeed deeds-aside (r .log) (bodyRaised x s (r .order) .log) (raised-still s (r .order))
     go leaving = refl
     go undone = silent-after isDeed deeds-aside (r .log) (undoOver s (r .order) .log) (undo-over-still s (r .order))
-    go undoRaising = silent-after isDeed deeds-aside (r .log) (undoRaised s (r .order) .log) (undo-raised-still s (r .order))
+    go (undoRaising x) = silent-after isDeed deeds-aside (r .log) (undoRaised x s (r .order) .log) (undo-raised-still s (r .order))
 
 part-over-still : (s : Scope) (o : Order) → Still (partOver s o .log)
 unfolding partOver
@@ -111,10 +111,10 @@ fault-deeds s r = go (r .result)
     go : (x : Result) → only isDeed (fromFault s (record { result = x; order = r .order; log = r .log }) .log) ≡ only isDeed (r .log)
     go running = refl
     go over = silent-after isDeed deeds-aside (r .log) (partOver s (r .order) .log) (part-over-still s (r .order))
-    go raising = silent-after isDeed deeds-aside (r .log) (partRaised s (r .order) .log) (part-raised-still s (r .order))
+    go (raising x) = silent-after isDeed deeds-aside (r .log) (partRaised x s (r .order) .log) (part-raised-still s (r .order))
     go leaving = refl
     go undone = refl
-    go undoRaising = refl
+    go (undoRaising x) = refl
 
 -- what follows a step where that is over
 where-deeds : (g : Order → Outcome) (r : Outcome) → ((o : Order) → Still (g o .log)) → only isDeed (whereOver g r .log) ≡ only isDeed (r .log)
@@ -123,10 +123,10 @@ where-deeds g r e = go (r .result)
     go : (x : Result) → only isDeed (whereOver g (record { result = x; order = r .order; log = r .log }) .log) ≡ only isDeed (r .log)
     go running = refl
     go over = silent-after isDeed deeds-aside (r .log) (g (r .order) .log) (e (r .order))
-    go raising = refl
+    go (raising x) = refl
     go leaving = refl
     go undone = refl
-    go undoRaising = refl
+    go (undoRaising x) = refl
 
 goes-deeds : (k m : ℕ) (g : Order → Outcome) (r : Outcome) → ((o : Order) → Still (g o .log)) → only isDeed (goesOn k m g r .log) ≡ only isDeed (r .log)
 unfolding goesOn

@@ -30,10 +30,10 @@ use Rattle.undoing.proofs.Entire.{scope-not, Two, times-append, times-e
 abbrev pub isLeaving : Result → Bool
 isLeaving running = false
 isLeaving over = false
-isLeaving raising = false
+isLeaving (raising x) = false
 isLeaving leaving = true
 isLeaving undone = false
-isLeaving undoRaising = false
+isLeaving (undoRaising x) = false
 
 -- a later one of a sequence may begin once more where the step stands in the one before it
 abbrev pub allow : (t : ℕ) → ℕ → ℕ → ℕ
@@ -314,10 +314,10 @@ module _ (f : ℕ → ℕ) where
         go : (x : Result) → o .result ≡ x → Goes r c (whereOver g (record { result = x; order = o .order; log = o .log }))
         go running e = same running e
         go over e = record { wide = wide-append no (o .log) (g (o .order) .log) (w .wide) (h (o .order) .wide); stays = h (o .order) .stays }
-        go raising e = same raising e
+        go (raising x) e = same (raising x) e
         go leaving e = same leaving e
         go undone e = same undone e
-        go undoRaising e = same undoRaising e
+        go (undoRaising x) e = same (undoRaising x) e
 
     goes-either : (v : Bool) (x y z : Outcome) → z ≡ elim v [ true ↦ x | false ↦ y ] → Goes r c x → Goes r c y → Goes r c z
     goes-either true x y z e g h = subst (λ (q : Outcome). Goes r c q) (sym e) g
@@ -456,10 +456,10 @@ module _ (f : ℕ → ℕ) where
         go : (y : Result) → q .result ≡ y → Steps x r c (fromBody s (record { result = y; order = q .order; log = q .log }))
         go running e = then-steps q (looksAgain s (q .order)) w (looks-goes s r c h (q .order))
         go over e = then-steps q (bodyOver s (q .order)) w (over-goes s r c h (q .order))
-        go raising e = then-steps q (bodyRaised s (q .order)) w (raised-goes (q .order))
+        go (raising x) e = then-steps q (bodyRaised x s (q .order)) w (raised-goes (q .order))
         go leaving e = as-steps q leaving (λ d. ap isLeaving e) w
         go undone e = then-steps q (undoOver s (q .order)) w (undone-goes s r c h (q .order))
-        go undoRaising e = then-steps q (undoRaised s (q .order)) w (undo-raised-goes s r c h (q .order))
+        go (undoRaising x) e = then-steps q (undoRaised x s (q .order)) w (undo-raised-goes s r c h (q .order))
 
     pub fault-steps : (q : Outcome) → Steps x r c q → Steps x r c (fromFault s q)
     unfolding fromFault
@@ -468,10 +468,10 @@ module _ (f : ℕ → ℕ) where
         go : (y : Result) → q .result ≡ y → Steps x r c (fromFault s (record { result = y; order = q .order; log = q .log }))
         go running e = as-steps q running (λ d. absurd (false≢true d)) w
         go over e = then-steps q (partOver s (q .order)) w (part-goes s r c h (q .order))
-        go raising e = then-steps q (partRaised s (q .order)) w (part-raised-goes s r c h (q .order))
+        go (raising x) e = then-steps q (partRaised x s (q .order)) w (part-raised-goes s r c h (q .order))
         go leaving e = as-steps q leaving (λ d. ap isLeaving e) w
         go undone e = as-steps q running (λ d. absurd (false≢true d)) w
-        go undoRaising e = as-steps q running (λ d. absurd (false≢true d)) w
+        go (undoRaising x) e = as-steps q running (λ d. absurd (false≢true d)) w
 
     undo-steps : (q : Outcome) → Steps x r c q → Steps x r c (fromUndo q)
     unfolding fromUndo
@@ -480,10 +480,10 @@ module _ (f : ℕ → ℕ) where
         go : (y : Result) → q .result ≡ y → Steps x r c (fromUndo (record { result = y; order = q .order; log = q .log }))
         go running e = as-steps q running (λ d. absurd (false≢true d)) w
         go over e = as-steps q undone (λ d. absurd (false≢true d)) w
-        go raising e = as-steps q undoRaising (λ d. absurd (false≢true d)) w
+        go (raising x) e = as-steps q (undoRaising x) (λ d. absurd (false≢true d)) w
         go leaving e = as-steps q leaving (λ d. ap isLeaving e) w
         go undone e = as-steps q undone (λ d. absurd (false≢true d)) w
-        go undoRaising e = as-steps q undoRaising (λ d. absurd (false≢true d)) w
+        go (undoRaising x) e = as-steps q (undoRaising x) (λ d. absurd (false≢true d)) w
 
   steps-either : {x : ℕ → ℕ → ℕ} {r : Acts} {c : ℕ} (v : Bool) (p q z : Outcome) → z ≡ elim v [ true ↦ p | false ↦ q ] → Steps x r c p → Steps x r c q → Steps x r c z
   steps-either {x} {r} {c} true p q z e g h = subst (λ (o : Outcome). Steps x r c o) (sym e) g
@@ -543,10 +543,10 @@ module _ (f : ℕ → ℕ) where
               strict = strict-like (allow t) (o .log ++ g (o .order) .log) (λ j. let u = times-append j (o .log) (g (o .order) .log) in let v = z (o .order) j in omega arith) (w .strict);
               leaves = λ d. absurd (false≢true (sym (n (o .order)) ∙ d));
             }
-        go raising e = same raising e
+        go (raising x) e = same (raising x) e
         go leaving e = same leaving e
         go undone e = same undone e
-        go undoRaising e = same undoRaising e
+        go (undoRaising x) e = same (undoRaising x) e
 
     begun-at : (a : Act) (k : ℕ) (o : Order) (b : Begun) → Strict (allow t) a k (b .log) → StepsAt (allow t) a k (begunIn o b)
     begun-at a k o b w = record { strict = w; leaves = λ e. absurd (not-leaving (b .over) e) }
@@ -695,10 +695,10 @@ module _ (f : ℕ → ℕ) where
             → StepsAt (allow t) (act sequence within) k (whereOver (λ q. elim (eqb (markAt k q) active) [ true ↦ next-of within k q | false ↦ runs q ]) (record { result = x; order = o .order; log = o .log }))
         go running e = same running e
         go over e = on (eqb (markAt k (o .order)) active)
-        go raising e = same raising e
+        go (raising x) e = same (raising x) e
         go leaving e = same leaving e
         go undone e = same undone e
-        go undoRaising e = same undoRaising e
+        go (undoRaising x) e = same (undoRaising x) e
 
     combines-at : (own : Own) (within : Acts) (k : ℕ) (o : Outcome) → needs own ≤ count within → Arms (isPick own) within → KnowsIn f within (k + 1) → k + 1 ≤ t
         → StepsIn (allow t) within (k + 1) o → StepsAt (allow t) (act own within) k (combines own within k t o)

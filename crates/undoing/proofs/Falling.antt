@@ -62,10 +62,10 @@ falls-below x = same-less (x .from) (x .same)
 abbrev pub isPlain : Result → Bool
 isPlain running = true
 isPlain over = true
-isPlain raising = true
+isPlain (raising x) = true
 isPlain leaving = false
 isPlain undone = false
-isPlain undoRaising = true
+isPlain (undoRaising x) = true
 
 -- what a raise in a tree comes to; in a handler, h, it comes out of it
 pub record Fell (f : ℕ → ℕ) (h : Bool) (b e : ℕ) (o : Order) (r : Outcome) : Type 0 where
@@ -136,10 +136,10 @@ fell-goes f h k m c d o g r i v j w = go (r .result) (w .plain) (w .out)
     go : (x : Result) → isPlain x ≡ true → (h ≡ true → x ≡ raising) → Fell f h k d o (whereOver (λ o₁. elim (eqb (markAt k o₁) m) [ true ↦ g o₁ | false ↦ runs o₁ ]) (r₁ x))
     go running y z = same running y z
     go over y z = on (eqb (markAt k (r .order)) m) refl z
-    go raising y z = same raising y z
+    go (raising x) y z = same (raising x) y z
     go leaving y z = absurd (false≢true y)
     go undone y z = absurd (false≢true y)
-    go undoRaising y z = same undoRaising y z
+    go (undoRaising x) y z = same (undoRaising x) y z
 
 -- a sequence goes on
 goes-sequence : (f : ℕ → ℕ) (k t : ℕ) (within : Acts) (o : Order) → k < endWith within (k + 1) t → markAt k o ≡ active
@@ -227,10 +227,10 @@ plain-where g r x f = go (r .result) x
     go : (z : Result) → isPlain z ≡ true → isPlain (whereOver g (record { result = z; order = r .order; log = r .log }) .result) ≡ true
     go running x = x
     go over x = f (r .order)
-    go raising x = x
+    go (raising n) x = x
     go leaving x = x
     go undone x = x
-    go undoRaising x = x
+    go (undoRaising n) x = x
 
 plain-begun : (o : Order) (b : Begun) → isPlain (begunIn o b .result) ≡ true
 plain-begun o b = go (b .over)
@@ -320,10 +320,10 @@ module _ (s : Scope) (b : ℕ) (h : Owns s b)
           → Lowered s b (r .order) (fromBody s (record { result = z; order = r .order; log = r .log })) × (isPlain (fromBody s (record { result = z; order = r .order; log = r .log }) .result) ≡ true)
       go running x = (lowered-after (r .log) (r .order) (looksAgain s (r .order)) (again-lowered s b h (r .order)), plain-again s (r .order))
       go over x = (lowered-after (r .log) (r .order) (bodyOver s (r .order)) (over-lowered s b h (r .order)), plain-over s (r .order))
-      go raising x = (lowered-after (r .log) (r .order) (bodyRaised s (r .order)) (raised-lowered s b h (r .order)), plain-raised s (r .order))
+      go (raising n) x = (lowered-after (r .log) (r .order) (bodyRaised n s (r .order)) (raised-lowered s b h (r .order)), plain-raised s (r .order))
       go leaving x = absurd (false≢true x)
       go undone x = absurd (false≢true x)
-      go undoRaising x = let u = undo-lowered s b h f (r .order) in (lowered-after (r .log) (r .order) (undoRaised s (r .order)) (u .0), u .1)
+      go (undoRaising n) x = let u = undo-lowered s b h f (r .order) in (lowered-after (r .log) (r .order) (undoRaised n s (r .order)) (u .0), u .1)
 
   pub fault-lowered : (r : Outcome) → r .result ≡ raising → Lowered s b (r .order) (fromFault s r) × (isPlain (fromFault s r .result) ≡ true)
   unfolding fromFault

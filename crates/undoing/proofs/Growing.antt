@@ -46,10 +46,10 @@ module _ (f : ℕ → ℕ) where
         go : (x : Result) → isBad x ≡ false → Up (fromBody s (record { result = x; order = r .order; log = r .log }) .order .marks) j
         go running n = looks-goes f s b e h (r .order) m .grows j l d u
         go over n = over-goes f s b e h (r .order) m .grows j l d u
-        go raising n = absurd (false≢true (sym n))
+        go (raising x) n = absurd (false≢true (sym n))
         go leaving n = u
         go undone n = undone-goes f s b e h (r .order) m .grows j l d u
-        go undoRaising n = absurd (false≢true (sym n))
+        go (undoRaising x) n = absurd (false≢true (sym n))
 
     pub fault-grows : Up (fromFault s r .order .marks) j
     unfolding fromFault
@@ -58,10 +58,10 @@ module _ (f : ℕ → ℕ) where
         go : (x : Result) → isBad x ≡ false → Up (fromFault s (record { result = x; order = r .order; log = r .log }) .order .marks) j
         go running n = u
         go over n = part-goes f s b e h (r .order) .grows j l d u
-        go raising n = absurd (false≢true (sym n))
+        go (raising x) n = absurd (false≢true (sym n))
         go leaving n = u
         go undone n = u
-        go undoRaising n = u
+        go (undoRaising x) n = u
 
   on-grows : (k v : ℕ) (g : Order → Outcome) (r : Outcome) (j : ℕ) → Up (g (r .order) .order .marks) j → Up (r .order .marks) j → Up (goesOn k v g r .order .marks) j
   unfolding goesOn
@@ -74,10 +74,10 @@ module _ (f : ℕ → ℕ) where
       go : (x : Result) → Up (whereOver (λ q. elim (eqb (markAt k q) v) [ true ↦ g q | false ↦ runs q ]) (record { result = x; order = r .order; log = r .log }) .order .marks) j
       go running = u
       go over = on (eqb (markAt k (r .order)) v) _ refl
-      go raising = u
+      go (raising x) = u
       go leaving = u
       go undone = u
-      go undoRaising = u
+      go (undoRaising x) = u
 
   grows-either : (j : ℕ) (v : Bool) (x y z : Outcome) → z ≡ elim v [ true ↦ x | false ↦ y ] → Up (x .order .marks) j → Up (y .order .marks) j → Up (z .order .marks) j
   grows-either j true x y z e a b = subst (λ (q : Outcome). Up (q .order .marks) j) (sym e) a

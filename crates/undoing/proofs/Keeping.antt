@@ -265,10 +265,10 @@ module _ (f : ℕ → ℕ) where
       go : (y : Result) → hasBegan j (whereOver x (record { result = y; order = r .order; log = r .log }) .log) ≡ true
       go running = h
       go over = began-more j (r .log) (x (r .order) .log) h
-      go raising = h
+      go (raising x) = h
       go leaving = h
       go undone = h
-      go undoRaising = h
+      go (undoRaising x) = h
 
   -- a choose that is set after its step is inside
   entered : {n : ℕ} (k : ℕ) (o : Order) (b : Begun) → k < length (o .marks) → Began f (k + 1) n (set (o .marks) k inside) b
@@ -390,10 +390,10 @@ module _ (f : ℕ → ℕ) where
           go : (x : Result) → r .result ≡ x → Steps g b o (fromBody s (record { result = x; order = r .order; log = r .log }))
           go running d = follows (looksAgain s (r .order)) (looks-goes f s b e h (r .order) l)
           go over d = follows (bodyOver s (r .order)) (over-goes f s b e h (r .order) l)
-          go raising d = steps-fall o r (bodyRaised s (r .order)) w (ap isRaising d) (raised-falls s b e h (r .order) l)
+          go (raising x) d = steps-fall o r (bodyRaised x s (r .order)) w (ap isRaising d) (raised-falls s b e h (r .order) l)
           go leaving d = steps-as r leaving (λ q. ap isRaising d ∙ q) w
           go undone d = follows (undoOver s (r .order)) (undone-goes f s b e h (r .order) l)
-          go undoRaising d = steps-fall o r (undoRaised s (r .order)) w (ap isRaising d) (undo-raised-falls s b e h (r .order))
+          go (undoRaising x) d = steps-fall o r (undoRaised x s (r .order)) w (ap isRaising d) (undo-raised-falls s b e h (r .order))
 
       fault-steps : (o : Order) (r : Outcome) → Steps g b o r → Steps g b o (fromFault s r)
       unfolding fromFault
@@ -405,10 +405,10 @@ module _ (f : ℕ → ℕ) where
           go : (x : Result) → r .result ≡ x → Steps g b o (fromFault s (record { result = x; order = r .order; log = r .log }))
           go running d = passes running refl
           go over d = steps-after o r (partOver s (r .order)) w (part-goes f s b e h (r .order)) (scope-free r (partOver s (r .order)))
-          go raising d = steps-fall o r (partRaised s (r .order)) w (ap isRaising d) (part-raised-falls s b e h (r .order))
+          go (raising x) d = steps-fall o r (partRaised x s (r .order)) w (ap isRaising d) (part-raised-falls s b e h (r .order))
           go leaving d = passes leaving refl
           go undone d = passes running refl
-          go undoRaising d = passes running refl
+          go (undoRaising x) d = passes running refl
 
     undo-steps : {b : ℕ} (o : Order) (r : Outcome) → Steps g b o r → Steps g b o (fromUndo r)
     unfolding fromUndo
@@ -417,10 +417,10 @@ module _ (f : ℕ → ℕ) where
         go : (x : Result) → r .result ≡ x → Steps g b o (fromUndo (record { result = x; order = r .order; log = r .log }))
         go running d = steps-as r running (λ q. ap isRaising d ∙ q) w
         go over d = steps-as r undone (λ q. absurd (false≢true q)) w
-        go raising d = steps-as r undoRaising (λ q. ap isRaising d) w
+        go (raising x) d = steps-as r (undoRaising x) (λ q. ap isRaising d) w
         go leaving d = steps-as r leaving (λ q. absurd (false≢true q)) w
         go undone d = steps-as r undone (λ q. absurd (false≢true q)) w
-        go undoRaising d = steps-as r undoRaising (λ q. ap isRaising d) w
+        go (undoRaising x) d = steps-as r (undoRaising x) (λ q. ap isRaising d) w
 
     -- goes on where its mark is as it was
     goes-on-steps : {e : ℕ} (k v : ℕ) (o : Order) (x : Order → Outcome) (r : Outcome) → eqb v idle ≡ false → (shifts (f k) ≡ true → g k ≡ false)
@@ -442,10 +442,10 @@ module _ (f : ℕ → ℕ) where
             → Steps g (k + 1) o (whereOver (λ o₁. elim (eqb (markAt k o₁) v) [ true ↦ x o₁ | false ↦ runs o₁ ]) (record { result = y; order = r .order; log = r .log }))
         go running d = steps-as r running (λ q. absurd (false≢true q)) w
         go over d = on (eqb (markAt k (r .order)) v) refl
-        go raising d = steps-as r raising (λ q. ap isRaising d) w
+        go (raising x) d = steps-as r (raising x) (λ q. ap isRaising d) w
         go leaving d = steps-as r leaving (λ q. absurd (false≢true q)) w
         go undone d = steps-as r undone (λ q. absurd (false≢true q)) w
-        go undoRaising d = steps-as r undoRaising (λ q. ap isRaising d) w
+        go (undoRaising x) d = steps-as r (undoRaising x) (λ q. ap isRaising d) w
 
     -- what it makes of a step within it
     scope-steps : (v : Bool) (within : Acts) (k t : ℕ) (o : Order) (r : Outcome) → isScopeKind (f k) ≡ true → 2 ≤ count within → KnowsIn f within (k + 1)

@@ -253,10 +253,10 @@ module _ (lead : ℕ → Lead) where
         go : (x : Result) → Fine (whereOver g (record { result = x; order = r .order; log = r .log }) .log)
         go running = w
         go over = fine-append (r .log) (g (r .order) .log) w (h (r .order))
-        go raising = w
+        go (raising x) = w
         go leaving = w
         go undone = w
-        go undoRaising = w
+        go (undoRaising x) = w
 
     choose-fine : (v : Bool) (x y z : Outcome) → z ≡ elim v [ true ↦ x | false ↦ y ] → Fine (x .log) → Fine (y .log) → Fine (z .log)
     choose-fine true x y z d w g = subst (λ (r : Outcome). Fine (r .log)) (sym d) w
@@ -376,10 +376,10 @@ module _ (lead : ℕ → Lead) where
           go : (x : Result) → Fine (fromBody s (record { result = x; order = r .order; log = r .log }) .log)
           go running = later (looksAgain s (r .order)) (looks-fine s h (r .order))
           go over = later (bodyOver s (r .order)) (over-fine s h (r .order))
-          go raising = later (bodyRaised s (r .order)) (raised-fine (r .order))
+          go (raising x) = later (bodyRaised x s (r .order)) (raised-fine (r .order))
           go leaving = w
           go undone = later (undoOver s (r .order)) (undone-fine s h (r .order))
-          go undoRaising = later (undoRaised s (r .order)) (undo-raised-fine (r .order))
+          go (undoRaising x) = later (undoRaised x s (r .order)) (undo-raised-fine (r .order))
 
       fault-fine : (r : Outcome) → Fine (r .log) → Fine (fromFault s r .log)
       unfolding fromFault
@@ -388,10 +388,10 @@ module _ (lead : ℕ → Lead) where
           go : (x : Result) → Fine (fromFault s (record { result = x; order = r .order; log = r .log }) .log)
           go running = w
           go over = fine-append (r .log) (partOver s (r .order) .log) w (part-fine s h (r .order))
-          go raising = fine-append (r .log) (partRaised s (r .order) .log) w (part-raised-fine (r .order))
+          go (raising x) = fine-append (r .log) (partRaised x s (r .order) .log) w (part-raised-fine (r .order))
           go leaving = w
           go undone = w
-          go undoRaising = w
+          go (undoRaising x) = w
 
     -- Activities other than scopes.
     on-fine : (k v : ℕ) (x : Order → Outcome) (r : Outcome) → Fine (r .log) → ((o : Order) → Fine (x o .log)) → Fine (goesOn k v x r .log)

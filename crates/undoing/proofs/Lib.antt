@@ -1,3 +1,4 @@
+pub mod Causing
 pub mod Parts
 pub mod Accounts
 pub mod Moves

@@ -176,10 +176,10 @@ low-where b o g r f x = go (r .result)
     go : (z : Result) → Low b o (whereOver g (record { result = z; order = r .order; log = r .log }) .order)
     go running = x
     go over = low-then x (f (r .order))
-    go raising = x
+    go (raising n) = x
     go leaving = x
     go undone = x
-    go undoRaising = x
+    go (undoRaising n) = x
 
 -- the undo parts of a scope start, behind where its body stands
 pub low-undo : (l : List ℕ) (s : Scope) (o : Order) → Low (s .bodyAt) o (undo l s o .order)
@@ -269,10 +269,10 @@ module _ (s : Scope) (b : ℕ) (h : Owns s b) where
       go : (z : Result) → Under n s b o (whereOver g (record { result = z; order = r .order; log = r .log }) .order)
       go running = x
       go over = under-then x (f (r .order))
-      go raising = x
+      go (raising n) = x
       go leaving = x
       go undone = x
-      go undoRaising = x
+      go (undoRaising n) = x
 
   under-ends : (o : Order) → Under 0 s b o (ends s o .order)
   unfolding rank

@@ -261,10 +261,10 @@ module _ (t : ℕ) where
           go : (x : Result) → LocalIn (whereOver g (record { result = x; order = o .order; log = o .log }) .log) r c
           go running = w
           go over = in-append (o .log) (g (o .order) .log) r c w (h (o .order))
-          go raising = w
+          go (raising x) = w
           go leaving = w
           go undone = w
-          go undoRaising = w
+          go (undoRaising x) = w
 
       either-local : (v : Bool) (x y z : Outcome) → z ≡ elim v [ true ↦ x | false ↦ y ] → LocalIn (x .log) r c → LocalIn (y .log) r c → LocalIn (z .log) r c
       either-local true x y z e g h = subst (λ (q : Outcome). LocalIn (q .log) r c) (sym e) g
@@ -384,10 +384,10 @@ module _ (t : ℕ) where
           go : (y : Result) → LocalIn (fromBody s (record { result = y; order = q .order; log = q .log }) .log) r c
           go running = later (looksAgain s (q .order)) (looks-local s r c h (q .order))
           go over = later (bodyOver s (q .order)) (over-local s r c h (q .order))
-          go raising = later (bodyRaised s (q .order)) (raised-local (q .order))
+          go (raising x) = later (bodyRaised x s (q .order)) (raised-local (q .order))
           go leaving = w
           go undone = later (undoOver s (q .order)) (undone-local s r c h (q .order))
-          go undoRaising = later (undoRaised s (q .order)) (undo-raised-local s r c h (q .order))
+          go (undoRaising x) = later (undoRaised x s (q .order)) (undo-raised-local s r c h (q .order))
 
       fault-local : (q : Outcome) → LocalIn (q .log) r c → LocalIn (fromFault s q .log) r c
       unfolding fromFault
@@ -396,10 +396,10 @@ module _ (t : ℕ) where
           go : (y : Result) → LocalIn (fromFault s (record { result = y; order = q .order; log = q .log }) .log) r c
           go running = w
           go over = in-append (q .log) (partOver s (q .order) .log) r c w (part-over-local s r c h (q .order))
-          go raising = in-append (q .log) (partRaised s (q .order) .log) r c w (part-raised-local s r c h (q .order))
+          go (raising x) = in-append (q .log) (partRaised x s (q .order) .log) r c w (part-raised-local s r c h (q .order))
           go leaving = w
           go undone = w
-          go undoRaising = w
+          go (undoRaising x) = w
 
     -- A step.
     after-local : {l : Acts} {c : ℕ} → KnowsIn f l c → Arms false l → (ms : List ℕ) → LocalIn (beginAfter l c t ms .log) l c × ((j : ℕ) → j < c → times j (beginAfter l c t ms .log) ≡ 0)

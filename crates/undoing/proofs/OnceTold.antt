@@ -45,10 +45,10 @@ log-of o = o .log
 abbrev pub isGoing : Result → Bool
 isGoing running = true
 isGoing over = true
-isGoing raising = false
+isGoing (raising x) = false
 isGoing leaving = false
 isGoing undone = false
-isGoing undoRaising = false
+isGoing (undoRaising x) = false
 
 module _ (f : ℕ → ℕ) where
   -- A scope that looks again begins nothing, or nothing that lasts began before it.
@@ -122,10 +122,10 @@ module _ (f : ℕ → ℕ) where
         go : (x : Result) → r .result ≡ x → Once f (fromBody s (record { result = x; order = r .order; log = r .log }) .log)
         go running e = looks-after r w (g (ap isGoing e))
         go over e = over-after r w (g (ap isGoing e))
-        go raising e = light-once f (bodyRaised s (r .order) .log) (light-none f (r .log) (z (ap isRaising e))) (raised-once (r .order) m)
+        go (raising x) e = light-once f (bodyRaised x s (r .order) .log) (light-none f (r .log) (z (ap isRaising e))) (raised-once (r .order) m)
         go leaving e = w
         go undone e = light-once f (undoOver s (r .order) .log) (u e) (undone-lone f s kb kf (r .order) .once)
-        go undoRaising e = once-light f (r .log) w (light-none f (undoRaised s (r .order) .log) (undo-raised-none (r .order)))
+        go (undoRaising x) e = once-light f (r .log) w (light-none f (undoRaised x s (r .order) .log) (undo-raised-none (r .order)))
 
     pub fault-once : (r : Outcome) → Once f (r .log) → Once f (fromFault s r .log)
     unfolding fromFault
@@ -134,10 +134,10 @@ module _ (f : ℕ → ℕ) where
         go : (x : Result) → Once f (fromFault s (record { result = x; order = r .order; log = r .log }) .log)
         go running = w
         go over = once-light f (r .log) w (light-none f (partOver s (r .order) .log) (part-over-none (r .order)))
-        go raising = once-light f (r .log) w (light-none f (partRaised s (r .order) .log) (part-raised-none (r .order)))
+        go (raising x) = once-light f (r .log) w (light-none f (partRaised x s (r .order) .log) (part-raised-none (r .order)))
         go leaving = w
         go undone = w
-        go undoRaising = w
+        go (undoRaising x) = w
 
   -- Activities other than scopes.
   or-lone : (k : ℕ) (o : Order) (g : ℕ → Outcome) (v : Value) → ((n : ℕ) → Lone f (g n)) → Lone f (orRaises k o g v)
@@ -212,10 +212,10 @@ module _ (f : ℕ → ℕ) where
       go : (x : Result) → Once f (whereOver (λ q. elim (eqb (markAt k q) v) [ true ↦ g q | false ↦ runs q ]) (record { result = x; order = r .order; log = r .log }) .log)
       go running = w
       go over = on (eqb (markAt k (r .order)) v)
-      go raising = w
+      go (raising x) = w
       go leaving = w
       go undone = w
-      go undoRaising = w
+      go (undoRaising x) = w
 
   sequence-once : (actor : Actor) {within : Acts} (v₀ : Bool) (q₀ k t : ℕ) (o : Order) → KnowsIn f within (k + 1) → Arms false within → k + 1 ≤ t → Once f (stepAmong actor within v₀ q₀ (k + 1) t o .log)
       → Once f (goesOn k active (λ q. whereOver (finishes k) (begunIn q (beginAfter within (k + 1) t (q .marks)))) (stepAmong actor within v₀ q₀ (k + 1) t o) .log)
@@ -246,10 +246,10 @@ module _ (f : ℕ → ℕ) where
           → Once f (whereOver (λ q. elim (eqb (markAt k q) active) [ true ↦ whereOver (finishes k) (begunIn q (beginAfter within (k + 1) t (q .marks))) | false ↦ runs q ]) (record { result = x; order = r .order; log = r .log }) .log)
       go running = w
       go over = on (eqb (markAt k (r .order)) active)
-      go raising = w
+      go (raising x) = w
       go leaving = w
       go undone = w
-      go undoRaising = w
+      go (undoRaising x) = w
 
   joins-none : (k : ℕ) (within : Acts) (q : Order) (j : ℕ) → times j (joins k within q .log) ≡ 0
   unfolding joins times

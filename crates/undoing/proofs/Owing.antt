@@ -35,10 +35,10 @@ closings-where f r g = go (r .result)
     go : (x : Result) → closings (whereOver f (record { result = x; order = r .order; log = r .log }) .order) ≡ closings (r .order)
     go running = refl
     go over = g (r .order)
-    go raising = refl
+    go (raising x) = refl
     go leaving = refl
     go undone = refl
-    go undoRaising = refl
+    go (undoRaising x) = refl
 
 closings-goes : (k m : ℕ) (f : Order → Outcome) (r : Outcome) → ((o : Order) → closings (f o .order) ≡ closings o) → closings (goesOn k m f r .order) ≡ closings (r .order)
 unfolding goesOn

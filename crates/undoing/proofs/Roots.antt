@@ -57,10 +57,10 @@ weaker {p} {s} {o} {r} v = record { apart = v .apart; comes = go (r .result) (v 
     go : (x : Result) → StepsAs p s (Turning s) o (r .log) (r .order) x → StepsAs p s (Running s) o (r .log) (r .order) x
     go running c = (scope-turned (c .0), c .1)
     go over c = c
-    go raising c = c
+    go (raising x) c = c
     go leaving c = c
     go undone c = c
-    go undoRaising c = c
+    go (undoRaising x) c = c
 
 module _ (p : Plan) (actor : Actor) (h : Seat p (rootOf p)) where
   pub root-steps : (t : ℕ) (o : Order) → Awaited p (o .marks) t → Standing p o → (o .root ≡ halted → ⊥) → (o .root ≡ withdrawing → ⊥)
@@ -198,7 +198,7 @@ module _ (p : Plan) (actor : Actor) (h : Seat p (rootOf p)) where
           → Passed p past (movedTo (record { result = z; order = r .order; log = r .log }) (endOf (record { result = z; order = r .order; log = r .log })))
       go running c = by-done (c .0) (c .1) (eqb (r .order .root) done) refl
       go over c = passes-end (c .3 .does past g .0) refl (c .3 .does past g .1)
-      go raising c = passes-end (c .3 .does past g .0) refl (c .3 .does past g .1)
+      go (raising x) c = passes-end (c .3 .does past g .0) refl (c .3 .does past g .1)
       go leaving c = passes-end (c .does past g .0) refl (c .does past g .1)
       go undone c = absurd c
-      go undoRaising c = absurd c
+      go (undoRaising x) c = absurd c

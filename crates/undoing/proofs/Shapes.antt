@@ -55,10 +55,10 @@ graves-aside = record { begins = λ k. refl; stops = λ k. refl; ends = λ n. re
 abbrev pub isMild : Result → Bool
 isMild running = true
 isMild over = true
-isMild raising = false
+isMild (raising x) = false
 isMild leaving = false
 isMild undone = false
-isMild undoRaising = false
+isMild (undoRaising x) = false
 
 -- it runs on or is over, and logs neither
 pub record Mild (r : Outcome) : Type 0 where
@@ -75,10 +75,10 @@ mild-where g r h e = go (r .result) (h .goes)
     go : (x : Result) → isMild x ≡ true → Mild (whereOver g (record { result = x; order = r .order; log = r .log }))
     go running m = record { goes = refl; calm = h .calm }
     go over m = record { goes = e (r .order) .goes; calm = silent-append isGrave graves-aside (r .log) (g (r .order) .log) (h .calm) (e (r .order) .calm) }
-    go raising m = absurd (false≢true m)
+    go (raising x) m = absurd (false≢true m)
     go leaving m = absurd (false≢true m)
     go undone m = absurd (false≢true m)
-    go undoRaising m = absurd (false≢true m)
+    go (undoRaising x) m = absurd (false≢true m)
 
 pub mild-begun : (o : Order) (b : Begun) → Calm (b .log) → Mild (begunIn o b)
 mild-begun o b h = record { goes = decide (b .over) (λ e. rw e) (λ e. rw e); calm = h }
@@ -195,10 +195,10 @@ pub data Raise (p : Plan) (t : ℕ) (φ : Name → Bool) (q : Place) : List Even
 abbrev pub OutAs : Plan → (t : ℕ) → (φ : Name → Bool) → (bare : Bool) → Place → (k : ℕ) → Order → List Event → Order → Result → Type 0
 OutAs p t φ b q k o l o′ running = Shape p t φ o l
 OutAs p t φ b q k o l o′ over = Shape p t φ o l
-OutAs p t φ b q k o l o′ raising = Raise p t φ q l × Below k o o′ × (b ≡ true → (l ≡ raised t ∷ []) × (placeOf p t ≡ q))
+OutAs p t φ b q k o l o′ (raising x) = Raise p t φ q l × Below k o o′ × (b ≡ true → (l ≡ raised t x ∷ []) × (placeOf p t ≡ q))
 OutAs p t φ b q k o l o′ leaving = Shape p t φ o l
 OutAs p t φ b q k o l o′ undone = Shape p t φ o l
-OutAs p t φ b q k o l o′ undoRaising = (l ≡ raised t ∷ []) × (seen φ (placeOf p t) ≡ runAt φ (nameOf q) (beyondOf q) (lastOf q)) × Below k o o′ × (b ≡ false)
+OutAs p t φ b q k o l o′ (undoRaising x) = (l ≡ raised t x ∷ []) × (seen φ (placeOf p t) ≡ runAt φ (nameOf q) (beyondOf q) (lastOf q)) × Below k o o′ × (b ≡ false)
 
 pub record Out (p : Plan) (t : ℕ) (φ : Name → Bool) (b : Bool) (q : Place) (k : ℕ) (o : Order) (r : Outcome) : Type 0 where
   pub comes : OutAs p t φ b q k o (r .log) (r .order) (r .result)
@@ -211,10 +211,10 @@ module _ (p : Plan) (t : ℕ) (φ : Name → Bool) (b : Bool) (q : Place) (k : �
       go : (x : Result) → isMild x ≡ true → OutAs p t φ b q k o (l ++ r .log) (r .order) x
       go running e = shape-append (r .log) s (m .calm)
       go over e = shape-append (r .log) s (m .calm)
-      go raising e = absurd (false≢true e)
+      go (raising x) e = absurd (false≢true e)
       go leaving e = absurd (false≢true e)
       go undone e = absurd (false≢true e)
-      go undoRaising e = absurd (false≢true e)
+      go (undoRaising x) e = absurd (false≢true e)
 
   -- what is mild
   out-mild : (r : Outcome) → Mild r → Out p t φ b q k o r
@@ -228,10 +228,10 @@ module _ (p : Plan) (t : ℕ) (φ : Name → Bool) (b : Bool) (q : Place) (k : �
       go : (x : Result) → OutAs p t φ b q k o (r .log) (r .order) x → Out p t φ b q k o (whereOver g (record { result = x; order = r .order; log = r .log }))
       go running c = record { comes = c }
       go over c = record { comes = mild-as (r .log) (g (r .order)) c (m (r .order)) }
-      go raising c = record { comes = c }
+      go (raising x) c = record { comes = c }
       go leaving c = record { comes = c }
       go undone c = record { comes = c }
-      go undoRaising c = record { comes = c }
+      go (undoRaising x) c = record { comes = c }
 
   -- and k still has its mark
   out-goes : (m : ℕ) (g : Order → Outcome) (r : Outcome) → ((o : Order) → Mild (g o)) → Out p t φ b q k o r → Out p t φ b q k o (goesOn k m g r)
@@ -317,10 +317,10 @@ data Ended (p : Plan) (t : ℕ) (φ : Name → Bool) (s : Scope) (m : Name) (o :
 abbrev ScopeAs : Plan → (t : ℕ) → (φ : Name → Bool) → Scope → Name → Order → List Event → Order → Result → Type 0
 ScopeAs p t φ s m o l o′ running = Shape p t φ o l
 ScopeAs p t φ s m o l o′ over = Shape p t φ o l
-ScopeAs p t φ s m o l o′ raising = Ended p t φ s m o l o′
+ScopeAs p t φ s m o l o′ (raising x) = Ended p t φ s m o l o′
 ScopeAs p t φ s m o l o′ leaving = Shape p t φ o l
 ScopeAs p t φ s m o l o′ undone = ⊥
-ScopeAs p t φ s m o l o′ undoRaising = ⊥
+ScopeAs p t φ s m o l o′ (undoRaising x) = ⊥
 
 record ScopeOut (p : Plan) (t : ℕ) (φ : Name → Bool) (s : Scope) (m : Name) (o : Order) (r : Outcome) : Type 0 where
   comes : ScopeAs p t φ s m o (r .log) (r .order) (r .result)
@@ -329,10 +329,10 @@ record ScopeOut (p : Plan) (t : ℕ) (φ : Name → Bool) (s : Scope) (m : Name)
 abbrev isOut : Result → Bool
 isOut running = false
 isOut over = false
-isOut raising = false
+isOut (raising x) = false
 isOut leaving = false
 isOut undone = false
-isOut undoRaising = true
+isOut (undoRaising x) = true
 
 -- where it is run: past a scope that is not left, where there is none beyond, and where the scope is left
 run-past : (φ : Name → Bool) (n x : Name) (xs : List Name) (c : Name) → φ n ≡ false → runAt φ n (x ∷ xs) c ≡ runAt φ x xs c
@@ -362,10 +362,10 @@ module _ (p : Plan) (t : ℕ) (φ : Name → Bool) (s : Scope) (m : Name) (o : O
       go : (x : Result) → isMild x ≡ true → ScopeAs p t φ s m o (l ++ r .log) (r .order) x
       go running d = shape-append (r .log) g (e .calm)
       go over d = shape-append (r .log) g (e .calm)
-      go raising d = absurd (false≢true d)
+      go (raising x) d = absurd (false≢true d)
       go leaving d = absurd (false≢true d)
       go undone d = absurd (false≢true d)
-      go undoRaising d = absurd (false≢true d)
+      go (undoRaising x) d = absurd (false≢true d)
 
   -- the result of what is mild
   scope-result : (l : List Event) (r : Outcome) → isMild (r .result) ≡ true → Shape p t φ o l → ScopeOut p t φ s m o (record { result = r .result; order = r .order; log = l })
@@ -374,10 +374,10 @@ module _ (p : Plan) (t : ℕ) (φ : Name → Bool) (s : Scope) (m : Name) (o : O
       go : (x : Result) → isMild x ≡ true → ScopeAs p t φ s m o l (r .order) x
       go running d = g
       go over d = g
-      go raising d = absurd (false≢true d)
+      go (raising x) d = absurd (false≢true d)
       go leaving d = absurd (false≢true d)
       go undone d = absurd (false≢true d)
-      go undoRaising d = absurd (false≢true d)
+      go (undoRaising x) d = absurd (false≢true d)
 
   -- the scope faults
   faults-out : {ns : List Name} {c : Name} (l : List Event) (o₁ : Order) → isOpen (markOf (s .name) o) ≡ true → Raise p t φ (bodyOf (s .name) ns c) l → ScopeOut p t φ s m o (after l (faults s o₁))
@@ -429,10 +429,10 @@ module _ (p : Plan) (t : ℕ) (φ : Name → Bool) (s : Scope) (m : Name) (o : O
       go : (x : Result) → r .result ≡ x → OutAs p t φ b (bodyOf (s .name) ns c₀) (s .bodyAt) o (r .log) o₁ x → ScopeOut p t φ s m o (fromBody s (record { result = x; order = o₁; log = r .log }))
       go running z c = scope-mild (r .log) (looksAgain s o₁) c (mild-looks s o₁)
       go over z c = scope-mild (r .log) (bodyOver s o₁) c (mild-over s o₁)
-      go raising z c = so (isOpen (markOf (s .name) o₁)) refl (c .0) (c .1)
+      go (raising x) z c = so (isOpen (markOf (s .name) o₁)) refl (c .0) (c .1)
       go leaving z c = record { comes = c }
       go undone z c = scope-mild (r .log) (undoOver s o₁) c (mild-undo-over s o₁)
-      go undoRaising z c = un (eqb (markOf (s .name) o₁) undoing || eqb (markOf (s .name) o₁) withdrawing) (r .log) refl (c .0) (c .1 ∙ here (ap isOut z) (c .2)) (c .2)
+      go (undoRaising x) z c = un (eqb (markOf (s .name) o₁) undoing || eqb (markOf (s .name) o₁) withdrawing) (r .log) refl (c .0) (c .1 ∙ here (ap isOut z) (c .2)) (c .2)
 
   -- a step in its fault part
   fault-out : {ns : List Name} {c₀ : Name} (r : Outcome) → firstOf ns c₀ ≡ m → s .bodyAt ≤ s .faultAt → Out p t φ true (faultOf (s .name) ns c₀) (s .faultAt) o r → ScopeOut p t φ s m o (fromFault s r)
@@ -454,12 +454,12 @@ module _ (p : Plan) (t : ℕ) (φ : Name → Bool) (s : Scope) (m : Name) (o : O
       go : (x : Result) → OutAs p t φ true (faultOf (s .name) ns c₀) (s .faultAt) o (r .log) o₁ x → ScopeOut p t φ s m o (fromFault s (record { result = x; order = o₁; log = r .log }))
       go running c = record { comes = c }
       go over c = scope-mild (r .log) (partOver s o₁) c (mild-part-over s o₁)
-      go raising c =
+      go (raising n) c =
           un (eqb (markOf (s .name) o₁) handling) (r .log) refl (c .2 refl .0) (c .2 refl .1)
           (record { marks = λ i x. c .1 .marks i (omega arith); rooted = c .1 .rooted })
       go leaving c = record { comes = c }
       go undone c = record { comes = c }
-      go undoRaising c = absurd (false≢true (sym (c .3)))
+      go (undoRaising x) c = absurd (false≢true (sym (c .3)))
 
 -- Up the tree.
 
@@ -473,10 +473,10 @@ out-wider p t φ b b′ q k k′ o r h f w = record { comes = go (r .result) (w 
     go : (x : Result) → OutAs p t φ b′ q k′ o (r .log) (r .order) x → OutAs p t φ b q k o (r .log) (r .order) x
     go running c = c
     go over c = c
-    go raising c = (c .0, below (c .1), λ e. c .2 (f e))
+    go (raising x) c = (c .0, below (c .1), λ e. c .2 (f e))
     go leaving c = c
     go undone c = c
-    go undoRaising c = (c .0, c .1, below (c .2), decide b (λ e. absurd (false≢true (sym (c .3) ∙ f e))) (λ e. e))
+    go (undoRaising x) c = (c .0, c .1, below (c .2), decide b (λ e. absurd (false≢true (sym (c .3) ∙ f e))) (λ e. e))
 
 -- a mark that is no scope's says nothing
 mark-plain : (p : Plan) (n : Name) (k v : ℕ) (o : Order) → isName p (inner k) ≡ false → isName p n ≡ true → markOf n (marked k v o) ≡ markOf n o
@@ -505,10 +505,10 @@ out-marked p t φ b q k v o r e w = record { comes = go (r .result) (w .comes) }
     go : (x : Result) → OutAs p t φ b q k (marked k v o) (r .log) (r .order) x → OutAs p t φ b q k o (r .log) (r .order) x
     go running c = shape-marked p t φ k v o e c
     go over c = shape-marked p t φ k v o e c
-    go raising c = (c .0, below (c .1), c .2)
+    go (raising x) c = (c .0, below (c .1), c .2)
     go leaving c = shape-marked p t φ k v o e c
     go undone c = shape-marked p t φ k v o e c
-    go undoRaising c = (c .0, c .1, below (c .2), c .3)
+    go (undoRaising x) c = (c .0, c .1, below (c .2), c .3)
 
 out-arms : (p : Plan) (t : ℕ) (φ : Name → Bool) (b : Bool) (q : Place) (own : Own) (within : Acts) (k : ℕ) (o : Order) (r : Outcome) → isName p (inner k) ≡ false
     → Out p t φ b q k (arms own within k t o) r → Out p t φ b q k o r
@@ -595,7 +595,7 @@ module _ (p : Plan) (t : ℕ) (φ : Name → Bool) (q : Place) (z₀ : Bool) (b 
       go : (l : List Event) (o′ : Order) (x : Result) → ScopeAs p t φ (scopeAt k (trio b f u)) (nameOf q) o l o′ x → OutAs p t φ false q k o l o′ x
       go l o′ running c = c
       go l o′ over c = c
-      go _ _ raising (ended-so {o₁} g n d) = (
+      go _ _ (raising y) (ended-so {o₁} g n d) = (
         raise-out g,
         record {
           marks = λ i x. cleared-kept (1 + sizes (trio b f u)) k (set (o₁ .marks) k idle) .below i x ∙ (getD-set-other (o₁ .marks) k i idle 0 (omega arith) ∙ d .marks i (omega arith));
@@ -605,7 +605,7 @@ module _ (p : Plan) (t : ℕ) (φ : Name → Bool) (q : Place) (z₀ : Bool) (b 
       )
       go l o′ leaving c = c
       go l o′ undone c = absurd c
-      go l o′ undoRaising c = absurd c
+      go l o′ (undoRaising x) c = absurd c
 
   -- its undo part, which a scope around it runs
   undo-as : (c : ℕ) (r : Outcome) → k ≤ c → Out p t φ true (undoOf (nameOf q) (beyondOf q) (lastOf q)) c o r → Out p t φ false q k o (fromUndo r)
@@ -616,10 +616,10 @@ module _ (p : Plan) (t : ℕ) (φ : Name → Bool) (q : Place) (z₀ : Bool) (b 
           → OutAs p t φ false q k o (r .log) (r .order) (fromUndo (record { result = x; order = r .order; log = r .log }) .result)
       go running d = d
       go over d = d
-      go raising d = (d .2 refl .0, ap (seen φ) (d .2 refl .1), record { marks = λ i x. d .1 .marks i (omega arith); rooted = d .1 .rooted }, refl)
+      go (raising n) d = (d .2 refl .0, ap (seen φ) (d .2 refl .1), record { marks = λ i x. d .1 .marks i (omega arith); rooted = d .1 .rooted }, refl)
       go leaving d = d
       go undone d = d
-      go undoRaising d = absurd (false≢true (sym (d .3)))
+      go (undoRaising x) d = absurd (false≢true (sym (d .3)))
 
   -- what goes through it comes to the same where it stands
   through-as : (r : Outcome) → goesThrough z₀ k r ≡ true → isName p (inner k) ≡ true → Agrees p φ o → Out p t φ (bare b) (bodyOf (inner k) (beyondIn z₀ q) (lastIn z₀ q)) (k + 1) o r → Out p t φ false q k o r
@@ -631,10 +631,10 @@ module _ (p : Plan) (t : ℕ) (φ : Name → Bool) (q : Place) (z₀ : Bool) (b 
       go true x e c = absurd (false≢true e)
       go false running e c = absurd (false≢true (sym (and-false (eqb (markAt k (r .order)) idle)) ∙ e))
       go false over e c = absurd (false≢true (sym (and-false (eqb (markAt k (r .order)) idle)) ∙ e))
-      go false raising e c = absurd (false≢true (sym (and-false (eqb (markAt k (r .order)) idle)) ∙ e))
+      go false (raising x) e c = absurd (false≢true (sym (and-false (eqb (markAt k (r .order)) idle)) ∙ e))
       go false leaving e c = absurd (false≢true (sym (and-false (eqb (markAt k (r .order)) idle)) ∙ e))
       go false undone e c = c
-      go false undoRaising e c =
+      go false (undoRaising z) e c =
           let i : getD (o .marks) k 0 ≡ idle = sym (c .2 .marks k (omega arith)) ∙ eqb-true (markAt k (r .order)) idle (both-true (eqb (markAt k (r .order)) idle) true e (λ x y. x)) in
           let y : φ (inner k) ≡ false = a (inner k) n ∙ rw i in
           (c .0, c .1 ∙ passed y, record { marks = λ j x. c .2 .marks j (omega arith); rooted = c .2 .rooted }, refl)
@@ -656,10 +656,10 @@ module _ (p : Plan) (t : ℕ) (φ : Name → Bool) (q : Place) (z₀ : Bool) (b 
       go true x e i = run-none φ (inner k) (nameOf q)
       go false running e i = absurd (false≢true i)
       go false over e i = absurd (false≢true i)
-      go false raising e i = absurd (false≢true i)
+      go false (raising x) e i = absurd (false≢true i)
       go false leaving e i = absurd (false≢true i)
       go false undone e i = absurd (false≢true i)
-      go false undoRaising e i = run-here φ (inner k) (nameOf q) (beyondOf q) (lastOf q) (awake (sym (and-true (eqb (markAt k (r .order)) idle)) ∙ e))
+      go false (undoRaising x) e i = run-here φ (inner k) (nameOf q) (beyondOf q) (lastOf q) (awake (sym (and-true (eqb (markAt k (r .order)) idle)) ∙ e))
 
   -- in which part the step is
   in-body : (r : Outcome) (v : Bool) → ltb t (k + 1 + size b) ≡ true → goesThrough z₀ k r ≡ v → inScope z₀ k t (trio b f u) r ≡ elim v [ true ↦ r | false ↦ fromBody (scopeAt k (trio b f u)) r ]
@@ -806,10 +806,10 @@ order-shape actor p h t φ o g = go (r .log) (r .order) (r .result) (root-out ac
         (movedTo (record { result = x; order = o′; log = l }) (endOf (record { result = x; order = o′; log = l })) .log)
     go l o′ running c = well l o′ (eqb (o′ .root) done) c
     go l o′ over c = shaped refl c
-    go _ _ raising (ended-so g n d) = out g n
+    go _ _ (raising x) (ended-so g n d) = out g n
     go l o′ leaving c = shaped refl c
     go l o′ undone c = absurd c
-    go l o′ undoRaising c = absurd c
+    go l o′ (undoRaising x) c = absurd c
 
 -- What an order that starts logs before its step is calm.
 pub start-calm : (p : Plan) → Calm (started ∷ begunOrder p .log)

@@ -236,7 +236,7 @@ every-at f (a ∷ l) (suc i) d e h = both (f a) (every f l) h (λ x y. every-at 
 
 -- no order is within the limits
 pub no-order-limits : orderInLimits noOrder ≡ true
-unfolding orderInLimits noOrder rootInLimits every among
+unfolding orderInLimits noOrder rootInLimits every among isFaultNumber
 no-order-limits = refl
 
 -- the root of an order that starts is within its limits

@@ -33,10 +33,10 @@ use Rattle.undoing.proofs.Owing.{not-scope}
 abbrev isOver : Result → Bool
 isOver running = false
 isOver over = true
-isOver raising = false
+isOver (raising x) = false
 isOver leaving = false
 isOver undone = false
-isOver undoRaising = false
+isOver (undoRaising x) = false
 
 -- what is not over goes up as it is
 up-where : (f : Order → Outcome) (r : Outcome) → isOver (r .result) ≡ false → whereOver f r .result ≡ r .result
@@ -45,10 +45,10 @@ up-where f r n = go (r .result) n
     go : (x : Result) → isOver x ≡ false → whereOver f (record { result = x; order = r .order; log = r .log }) .result ≡ x
     go running n = refl
     go over n = absurd (false≢true (sym n))
-    go raising n = refl
+    go (raising x) n = refl
     go leaving n = refl
     go undone n = refl
-    go undoRaising n = refl
+    go (undoRaising x) n = refl
 
 up-goes : (k m : ℕ) (f : Order → Outcome) (r : Outcome) → isOver (r .result) ≡ false → goesOn k m f r .result ≡ r .result
 unfolding goesOn
