@@ -25,6 +25,7 @@ use Rattle.undoing.specs.Ties.{Place, bodyOf, faultOf, undoOf, nameOf, b
 use Rattle.undoing.specs.Orderly.{isBeganOf}
 use Rattle.undoing.specs.Begun.{hasBegan}
 use Rattle.undoing.specs.Entirely.{isUndo, times, isRash}
+use Rattle.undoing.proofs.Causing.{caused, faults-is}
 use Rattle.undoing.proofs.Parts.{decide, one-some}
 use Rattle.undoing.proofs.Accounts.{Phase, live, waits, heals, phase}
 use Rattle.undoing.proofs.Places.{first-of, second-of}
@@ -338,21 +339,22 @@ module _ (p : Plan) (actor : Actor) (f : ℕ → ℕ) (t : ℕ) (o : Order) (A :
     later : (x : Outcome) → Newly (x .log) → Newly (its .log ++ x .log)
     later x v = fresh-append p f A (o .marks) (its .log) (x .log) w v
 
-    faults-fresh : (o₁ : Order) → Calm p f A (o .marks) (s .body) (s .bodyAt) → Stoppable (o₁ .marks) (s .body) (s .bodyAt) → length (o₁ .marks) ≡ length (o .marks)
-        → ((j : ℕ) → Wane (o .marks) (o₁ .marks) j) → Newly (faults s o₁ .log)
-    unfolding faults isBeganOf
-    faults-fresh o₁ c y n st =
-        let o₂ = marking (s .name) faulty o₁ in
+    faults-fresh : (number : ℕ) (o₁ : Order) → Calm p f A (o .marks) (s .body) (s .bodyAt) → Stoppable (o₁ .marks) (s .body) (s .bodyAt) → length (o₁ .marks) ≡ length (o .marks)
+        → ((j : ℕ) → Wane (o .marks) (o₁ .marks) j) → Newly (faults number s o₁ .log)
+    unfolding isBeganOf
+    faults-fresh number o₁ c y n st =
+        let o₂ = caused (s .name) number (marking (s .name) faulty o₁) in
         let r = stop (s .body) (s .bodyAt) o₂ in
         let g : Agree (s .bodyAt) (size (s .body)) (o₁ .marks) (o₂ .marks) = marking-agree (s .name) faulty o₁ (h .before) in
-        fresh-event p f A (o .marks) (faulted (s .name)) _ (λ j. refl)
+        subst (λ (z : Outcome). Newly (z .log)) (sym (faults-is number s o₁))
+        (fresh-event p f A (o .marks) (faulted (s .name) number) _ (λ j. refl)
         (fresh-append p f A (o .marks) (r .log) (turns true s (r .order) .log)
         (stop-fresh p f A (o .marks) (h .body) kb c o₂ (ap phase (marking-mark (s .name) (s .bodyAt) faulty o₁ (h .before) (omega arith))) (stoppable-agree y g) (omega (arith, marking-length (s .name) faulty o₁))
         (record {
           at = λ j x z e. let d : isOpen (getD (o₁ .marks) j 0) ≡ true = subst (λ (i : ℕ). isOpen i ≡ true) (g .at j x z) e in
               st j .was d;
         }))
-        (turns-fresh p f A (o .marks) s kb kf named true (λ e. quiet-news p f A (o .marks) q) (r .order) (λ v. c)))
+        (turns-fresh p f A (o .marks) s kb kf named true (λ e. quiet-news p f A (o .marks) q) (r .order) (λ v. c))))
 
     pub live-fresh : markOf (s .name) o ≡ active → Run (o .marks) (s .body) (s .bodyAt) → Acted (s .bodyAt) (size (s .body)) o (RunAs p (s .body) (s .bodyAt) t o) its → Newly (fromBody s its .log)
     unfolding fromBody bodyRaised bodyOver
@@ -369,7 +371,7 @@ module _ (p : Plan) (actor : Actor) (f : ℕ → ℕ) (t : ℕ) (o : Order) (A :
         go (raising x) e d =
             later (bodyRaised x s (its .order))
             (fresh-either p f A (o .marks) (isOpen (markOf (s .name) (its .order))) (faults x s (its .order)) (looksAgain s (its .order)) (bodyRaised x s (its .order)) refl
-            (λ z. faults-fresh (its .order) (run-calm p f A (o .marks) (ex (drops .rash (subst (λ (y : Result). isBad y ≡ true) (sym e) refl))) (h .body) run) (d .0) (v .kept .many) (drops .stays (subst (λ (y : Result). isRaising y ≡ true) (sym e) refl)))
+            (λ z. faults-fresh x (its .order) (run-calm p f A (o .marks) (ex (drops .rash (subst (λ (y : Result). isBad y ≡ true) (sym e) refl))) (h .body) run) (d .0) (v .kept .many) (drops .stays (subst (λ (y : Result). isRaising y ≡ true) (sym e) refl)))
             (λ z. still))
           where
             drops : Drops o its
@@ -419,7 +421,7 @@ module _ (p : Plan) (actor : Actor) (f : ℕ → ℕ) (t : ℕ) (o : Order) (A :
         go (raising x) e d = absurd d
         go leaving e d = w
         go undone e d = later (undoOver s (its .order)) (undone-fresh p f A (o .marks) s kb kf named (c (subst (λ (y : Result). isUndone y ≡ true) (sym e) refl)) (quiet-news p f A (o .marks) q) (its .order))
-        go (undoRaising x) e d = later (undoRaised x s (its .order)) (undo-raised-fresh p f A (o .marks) s (its .order))
+        go (undoRaising x) e d = later (undoRaised x s (its .order)) (undo-raised-fresh p f A (o .marks) s x (its .order))
 
 -- neither of two
 neither : (a b : Bool) → (a || b) ≡ false → (a ≡ false) × (b ≡ false)

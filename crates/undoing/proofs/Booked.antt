@@ -12,7 +12,8 @@ use Rattle.order.specs.declared.Closing.{Closing}
 use Rattle.order.specs.declared.Order.{Order}
 use Rattle.order.specs.declared.End.the-variants.{None}
 use Rattle.order.specs.Lists.{some, only}
-use Rattle.order.specs.State.{Name, root, inner, idle, active, done, faulty, undoing, handling, halted, withdrawing, withRoot, closings, markOf}
+use Rattle.order.specs.State.{Name, root, inner, idle, active, done, faulty, undoing, handling, halted, withdrawing, withRoot, closings, markOf, causing}
+use Rattle.order.specs.Expression.{conflictingReceive}
 use Rattle.order.specs.Event.{Event, faulted}
 use Rattle.order.specs.Begin.{begin}
 use Rattle.order.specs.declared.Way.{Way as Result}
@@ -181,15 +182,15 @@ module _ (p : Plan) (h : Promised p) where
       go true e = (quiet-owed p o (undo-stopped (h .seat .body) t), λ x. refl)
       go false e = undoes-settles false o (stopped-rests t e) y m
 
-  faults-settles : (o : Order) (past : List Event) → o .root ≡ active → Stoppable (o .marks) (p .body) 0 → Quiet (o .marks) (size (p .body)) (size (p .fault))
-      → size (p .body) + size (p .fault) ≤ length (o .marks) → HoldsAt p (momentOf p o) past → Settled p (duesIn p (listOf p root o)) false (faults (rootOf p) o)
+  faults-settles : (number : ℕ) (o : Order) (past : List Event) → o .root ≡ active → Stoppable (o .marks) (p .body) 0 → Quiet (o .marks) (size (p .body)) (size (p .fault))
+      → size (p .body) + size (p .fault) ≤ length (o .marks) → HoldsAt p (momentOf p o) past → Settled p (duesIn p (listOf p root o)) false (faults number (rootOf p) o)
   unfolding faults only isDeed some isStart duesOnto
-  faults-settles o past e t y m g =
+  faults-settles number o past e t y m g =
       subst (λ (d : List (List ℕ)). Settled p d false (turns true (rootOf p) o₂)) same-dues
       (turns-settles o₂ (r .stands) (quiet-agree y (agree-above (r .kept) (omega arith))) (omega (arith, r .kept .many)))
     where
       o₁ : Order
-      o₁ = withRoot faulty o
+      o₁ = causing root number (withRoot faulty o)
 
       o₂ : Order
       o₂ = stop (p .body) 0 o₁ .order
@@ -200,22 +201,22 @@ module _ (p : Plan) (h : Promised p) where
       r : Stops p (λ ms. Stopped ms (p .body) 0) 0 (size (p .body)) o₁ (stop (p .body) 0 o₁)
       r = stops p (h .seat .body) o₁ refl t (omega arith)
 
-      g₁ : HoldsAt p (momentOf p o₁) (faulted root ∷ past)
-      g₁ = move-fault p (momentOf p o) (momentOf p o₁) past g root refl (ap phase e) refl refl (marking-elsewhere p root faulty o) .1
+      g₁ : HoldsAt p (momentOf p o₁) (faulted root number ∷ past)
+      g₁ = move-fault p (momentOf p o) (momentOf p o₁) past g root number refl (ap phase e) refl refl (marking-elsewhere p root faulty o) .1
 
-      g₂ : HoldsAt p (momentOf p o₂) (onto l (faulted root ∷ past))
-      g₂ = r .does .does (faulted root ∷ past) g₁ .1
+      g₂ : HoldsAt p (momentOf p o₂) (onto l (faulted root number ∷ past))
+      g₂ = r .does .does (faulted root number ∷ past) g₁ .1
 
       still : only isDeed l ≡ []
       still = stop-silent isDeed deeds-aside (p .body) 0 o₁
 
-      unstarted : some isStart (faulted root ∷ l) ≡ false
+      unstarted : some isStart (faulted root number ∷ l) ≡ false
       unstarted = start-kept l ∙ ap (some isStart) still
 
       same-dues : duesIn p (listOf p root o₂) ≡ duesIn p (listOf p root o)
       same-dues =
-          ap (duesIn p) (sym (tied-at p (momentOf p o₂) (momentOf p o₂) (onto l (faulted root ∷ past)) g₂ (waits true) root refl (ap phase (r .rooted)) .3))
-          ∙ (onto-dues p (h .seat) (faulted root ∷ l) past unstarted ∙ (ap (λ (z : List Event). duesOnto p (h .seat) z (duesIn p (closingsOf p root past))) still
+          ap (duesIn p) (sym (tied-at p (momentOf p o₂) (momentOf p o₂) (onto l (faulted root number ∷ past)) g₂ (waits true) root refl (ap phase (r .rooted)) .3))
+          ∙ (onto-dues p (h .seat) (faulted root number ∷ l) past unstarted ∙ (ap (λ (z : List Event). duesOnto p (h .seat) z (duesIn p (closingsOf p root past))) still
           ∙ ap (duesIn p) (tied-at p (momentOf p o) (momentOf p o) past g live root refl (ap phase e) .3)))
 
   -- Which steps close and take back.
@@ -331,9 +332,9 @@ module _ (p : Plan) (h : Promised p) where
             subst (λ (z : Outcome). Settled p (duesWith p (h .seat) actor t (duesIn p (listOf p root o))) false (after (stepIn actor (p .body) 0 0 t o .log) z)) (sym (over-is (rootOf p) o₁ active d₁))
             (quiet-owed p o₁ (undo-quiet (h .seat .body) (o₁ .marks) (c .0)) ∙ listed (c .1), λ x. refl)
         go (raising x) c =
-            subst (λ (z : Outcome). Settled p (duesWith p (h .seat) actor t (duesIn p (listOf p root o))) false (after (stepIn actor (p .body) 0 0 t o .log) z)) (sym (raised-is (rootOf p) o₁ true (rw d₁)))
+            subst (λ (z : Outcome). Settled p (duesWith p (h .seat) actor t (duesIn p (listOf p root o))) false (after (stepIn actor (p .body) 0 0 t o .log) z)) (sym (raised-is x (rootOf p) o₁ true (rw d₁)))
             (subst (λ (z : List (List ℕ)). Settled p z false (faults x (rootOf p) o₁)) (listed (c .1))
-            (faults-settles o₁ (onto (stepIn actor (p .body) 0 0 t o .log) past) d₁ (c .0) q₁ (omega (arith, v .kept .many)) (c .1 .does past g .1)))
+            (faults-settles x o₁ (onto (stepIn actor (p .body) 0 0 t o .log) past) d₁ (c .0) q₁ (omega (arith, v .kept .many)) (c .1 .does past g .1)))
         go leaving c = tt
         go undone c = absurd c
         go (undoRaising x) c = absurd c
@@ -369,7 +370,7 @@ module _ (p : Plan) (h : Promised p) where
         go over c =
             subst (λ (z : Outcome). Settled p (duesWith p (h .seat) actor t (duesIn p (listOf p root o))) false (after (stepIn actor (p .body) 0 0 t o .log) z)) (sym (over-is (rootOf p) o₁ faulty d₁)) (looks (c .0) (c .1))
         go (raising x) c =
-            subst (λ (z : Outcome). Settled p (duesWith p (h .seat) actor t (duesIn p (listOf p root o))) false (after (stepIn actor (p .body) 0 0 t o .log) z)) (sym (raised-is (rootOf p) o₁ false (rw d₁))) (looks (c .0) (c .1))
+            subst (λ (z : Outcome). Settled p (duesWith p (h .seat) actor t (duesIn p (listOf p root o))) false (after (stepIn actor (p .body) 0 0 t o .log) z)) (sym (raised-is x (rootOf p) o₁ false (rw d₁))) (looks (c .0) (c .1))
         go leaving c = tt
         go undone c = absurd c
         go (undoRaising x) c = absurd c
@@ -432,7 +433,7 @@ module _ (p : Plan) (h : Promised p) where
       tt,
       subst (λ (x : Result). Settled p (a .due) (a .begun) (fromBody (rootOf p) (record { result = x; order = o₁; log = stepIn inPlace (p .body) 0 0 t o .log })))
           (sym (undo-raises p (h .seat .body) 0 t o false (h .seat .at) w refl r root (awake-first p inPlace (λ n. markOf n o) root (h .seat .beyond) true (ap phase d)) (true, ap (λ (n : Name). phase (markOf n o)) (awake-first p inPlace (λ n. markOf n o) root (h .seat .beyond) true (ap phase d)) ∙ ap phase d) (omega arith) (ap isTake (sym (doing-body p t i)) ∙ j)))
-          (subst (λ (z : Bool). Settled p (a .due) (a .begun) (after (stepIn inPlace (p .body) 0 0 t o .log) (elim z [ true ↦ breaks (rootOf p) o₁ | false ↦ runs o₁ ]))) (sym (undo-mark (o₁ .root) d₁)) tt),
+          (subst (λ (z : Bool). Settled p (a .due) (a .begun) (after (stepIn inPlace (p .body) 0 0 t o .log) (elim z [ true ↦ breaks conflictingReceive (rootOf p) o₁ | false ↦ runs o₁ ]))) (sym (undo-mark (o₁ .root) d₁)) tt),
     )
       where
         o₁ : Order

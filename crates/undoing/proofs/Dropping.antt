@@ -9,10 +9,10 @@ use lib.Dec.{eqb, ltb}
 use borrow.Author.Tests.{eqb-true, eqb-false}
 use Rattle.plan.specs.Tree.{Own, empty, send, receive, set as setting, raise, leave, choose, repeat, sequence, flow, pick, scope, arm, kind, isScope, isPick, Act, act, Acts, none, more, Plan, size, sizes}
 use Rattle.order.specs.declared.Order.{Order}
-use Rattle.order.specs.State.{Name, root, inner, idle, active, inside, faulty, undoing, handling, withdrawing, marked, markAt, markOf, marking, binding}
+use Rattle.order.specs.State.{Name, root, inner, idle, active, inside, faulty, undoing, handling, withdrawing, marked, markAt, markOf, marking, binding, causing}
 use Rattle.order.specs.Event.{Event}
 use Rattle.order.specs.Lists.{some}
-use Rattle.order.specs.Expression.{Value, fault, value, evaluate, isTrue}
+use Rattle.order.specs.Expression.{plainRaise, unboundVariable, conflictingReceive, Value, fault, value, evaluate, isTrue}
 use Rattle.order.specs.Begin.{part, partAt, beginPart, beginAfter}
 use Rattle.order.specs.declared.Way.{Way as Result}
 use Rattle.order.specs.declared.Way.the-variants.{Running as running, Over as over, Raising as raising, Leaving as leaving, Undone as undone, UndoRaising as undoRaising}
@@ -82,21 +82,21 @@ mild-calm (undoRaising x) m e = false≢true m
 mild-drops : (o : Order) (r : Outcome) → isMild (r .result) ≡ true → Drops o r
 mild-drops o r m = record { stays = λ e. absurd (mild-calm (r .result) m e); rash = λ e. absurd (mild-good (r .result) m e) }
 
-raises-drops : (k : ℕ) (o : Order) → Drops o (raises k o)
+raises-drops : (x k : ℕ) (o : Order) → Drops o (raises x k o)
 unfolding some isRash
-raises-drops k o = record { stays = λ e j. wane-so (stay-idle (o .marks) k j); rash = λ e. refl }
+raises-drops x k o = record { stays = λ e j. wane-so (stay-idle (o .marks) k j); rash = λ e. refl }
 
 or-drops : (k : ℕ) (o : Order) (g : ℕ → Outcome) (v : Value) → ((n : ℕ) → Mild (g n)) → Drops o (orRaises k o g v)
-or-drops k o g fault h = raises-drops k o
+or-drops k o g (fault x) h = raises-drops x k o
 or-drops k o g (value n) h = mild-drops o (g n) (h n .goes)
 
 itself-drops : (own : Own) (within : Acts) (q k : ℕ) (o : Order) → Drops o (itself own within q k o)
 unfolding itself closing some isRash
 itself-drops empty within q k o = mild-drops o (runs o) refl
-itself-drops (send a b vs) within q k o = decide (allBound o vs) (λ e. rw e (mild-drops o (finishes k o) refl)) (λ e. rw e (raises-drops k o))
+itself-drops (send a b vs) within q k o = decide (allBound o vs) (λ e. rw e (mild-drops o (finishes k o) refl)) (λ e. rw e (raises-drops unboundVariable k o))
 itself-drops (receive a b vs) within q k o = mild-drops o (finishes k o) refl
 itself-drops (setting v e) within q k o = or-drops k o _ (evaluate e o) (λ n. mild-finishes k (binding v n o))
-itself-drops raise within q k o = raises-drops k o
+itself-drops raise within q k o = raises-drops plainRaise k o
 itself-drops leave within q k o = record { stays = λ e. absurd (false≢true e); rash = λ e. refl }
 itself-drops (choose e) within q k o =
     or-drops k o _ (evaluate e o) (λ n. mild-enters k o (beginPart (cond (isTrue n) 0 1) within (k + 1) (marked k inside o .marks)) (part-silent isGrave graves-aside (cond (isTrue n) 0 1) within (k + 1) (marked k inside o .marks)))
@@ -136,9 +136,9 @@ stay-marking-idle : (n : Name) (o : Order) (j : ℕ) → Stay (o .marks) (markin
 stay-marking-idle root o j = stay-still (o .marks) j
 stay-marking-idle (inner k) o j = stay-idle (o .marks) k j
 
-breaks-stay : (s : Scope) (o : Order) (j : ℕ) → Stay (o .marks) (breaks s o .order .marks) j
+breaks-stay : (s : Scope) (number : ℕ) (o : Order) (j : ℕ) → Stay (o .marks) (breaks number s o .order .marks) j
 unfolding breaks forgetting
-breaks-stay s o j = stay-then (stay-marking-idle (s .name) o j) (stay-cleared (s .count) (s .first) (marking (s .name) idle o .marks) j)
+breaks-stay s number o j = stay-then (stay-marking-idle (s .name) o j) (stay-cleared (s .count) (s .first) (marking (s .name) idle o .marks) j)
 
 drops-either : (o : Order) (v : Bool) (x y z : Outcome) → z ≡ elim v [ true ↦ x | false ↦ y ] → Drops o x → Drops o y → Drops o z
 drops-either o true x y z e g h = subst (λ (r : Outcome). Drops o r) (sym e) g
@@ -158,7 +158,7 @@ body-drops s o r w = go (r .result) refl
         }
       where
         raised : (v : Bool) (z : Outcome) → z ≡ elim v [ true ↦ faults x s (r .order) | false ↦ looksAgain s (r .order) ] → isMild (z .result) ≡ true
-        raised true z e = subst (λ (q : Outcome). isMild (q .result) ≡ true) (sym e) (mild-turns true s (stop (s .body) (s .bodyAt) (marking (s .name) faulty (r .order)) .order) .goes)
+        raised true z e = subst (λ (q : Outcome). isMild (q .result) ≡ true) (sym e) (mild-turns true s (stop (s .body) (s .bodyAt) (causing (s .name) x (marking (s .name) faulty (r .order))) .order) .goes)
         raised false z e = subst (λ (q : Outcome). isMild (q .result) ≡ true) (sym e) (mild-looks s (r .order) .goes)
     go leaving e = record { stays = λ d. absurd (false≢true d); rash = λ d. w .rash (subst (λ (y : Result). isBad y ≡ true) (sym e) refl) }
     go undone e = record { stays = λ d. absurd (mild-calm (undoOver s (r .order) .result) (mild-undo-over s (r .order) .goes) d); rash = λ d. absurd (mild-good (undoOver s (r .order) .result) (mild-undo-over s (r .order) .goes) d) }
@@ -169,7 +169,7 @@ body-drops s o r w = go (r .result) refl
         }
       where
         broke : (v : Bool) (z : Outcome) → z ≡ elim v [ true ↦ breaks x s (r .order) | false ↦ runs (r .order) ] → (j : ℕ) → Wane (o .marks) (z .order .marks) j
-        broke true z d j = subst (λ (q : Outcome). Wane (o .marks) (q .order .marks) j) (sym d) (wane-then (w .stays (subst (λ (y : Result). isRaising y ≡ true) (sym e) refl) j) (wane-so (breaks-stay s (r .order) j)))
+        broke true z d j = subst (λ (q : Outcome). Wane (o .marks) (q .order .marks) j) (sym d) (wane-then (w .stays (subst (λ (y : Result). isRaising y ≡ true) (sym e) refl) j) (wane-so (breaks-stay s x (r .order) j)))
         broke false z d j = subst (λ (q : Outcome). Wane (o .marks) (q .order .marks) j) (sym d) (w .stays (subst (λ (y : Result). isRaising y ≡ true) (sym e) refl) j)
 
 fault-drops : (s : Scope) (o : Order) (r : Outcome) → Drops o r → Drops o (fromFault s r)
@@ -186,7 +186,7 @@ fault-drops s o r w = go (r .result) refl
         }
       where
         broke : (v : Bool) (z : Outcome) → z ≡ elim v [ true ↦ breaks x s (r .order) | false ↦ runs (r .order) ] → (j : ℕ) → Wane (o .marks) (z .order .marks) j
-        broke true z d j = subst (λ (q : Outcome). Wane (o .marks) (q .order .marks) j) (sym d) (wane-then (w .stays (subst (λ (y : Result). isRaising y ≡ true) (sym e) refl) j) (wane-so (breaks-stay s (r .order) j)))
+        broke true z d j = subst (λ (q : Outcome). Wane (o .marks) (q .order .marks) j) (sym d) (wane-then (w .stays (subst (λ (y : Result). isRaising y ≡ true) (sym e) refl) j) (wane-so (breaks-stay s x (r .order) j)))
         broke false z d j = subst (λ (q : Outcome). Wane (o .marks) (q .order .marks) j) (sym d) (w .stays (subst (λ (y : Result). isRaising y ≡ true) (sym e) refl) j)
     go leaving e = record { stays = λ d. absurd (false≢true d); rash = λ d. w .rash (subst (λ (y : Result). isBad y ≡ true) (sym e) refl) }
     go undone e = record { stays = λ d. absurd (false≢true d); rash = λ d. absurd (false≢true d) }
@@ -226,7 +226,7 @@ combines-drops (arm a b vs) within k t o r w = w
 -- what acts: the activity itself, or a raise in its place
 performs-drops : (actor : Actor) (own : Own) (within : Acts) (q k : ℕ) (o : Order) → Drops o (performs actor own within q k o)
 unfolding performs
-performs-drops actor own within q k o = drops-either o (replaces actor (kind own)) (raises k o) (itself own within q k o) _ refl (raises-drops k o) (itself-drops own within q k o)
+performs-drops actor own within q k o = drops-either o (replaces actor (kind own)) (raises conflictingReceive k o) (itself own within q k o) _ refl (raises-drops conflictingReceive k o) (itself-drops own within q k o)
 
 -- an arm that acts makes its pick no scope
 arms-wane : (own : Own) (within : Acts) (k t : ℕ) (o : Order) (j : ℕ) → Wane (o .marks) (arms own within k t o .marks) j

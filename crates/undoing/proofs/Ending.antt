@@ -15,7 +15,7 @@ use Rattle.order.specs.declared.End.the-variants.{None, Well, Handled, Failed, 
 use Rattle.machine.specs.declared.State.{State}
 use Rattle.machine.specs.declared.Tally.{Tally}
 use Rattle.order.specs.Lists.{some, only}
-use Rattle.order.specs.Expression.{evaluate}
+use Rattle.order.specs.Expression.{unboundVariable, Value, fault, value, evaluate}
 use Rattle.order.specs.State.{root, inner}
 use Rattle.machine.specs.State.{fresh}
 use Rattle.order.specs.Event.{Event, started, began, closed, faulted, stopped, ended, raised, left}
@@ -26,7 +26,7 @@ use Rattle.machine.specs.Calls.{loadedAs, load, post, collect, dropAt, Stepped,
 use Rattle.undoing.specs.History.{logOf, history}
 use Rattle.undoing.specs.Demand3.{closingsOf, noneNow, isOver, allowed}
 use Rattle.undoing.specs.Orderly.{orderly}
-use Rattle.undoing.specs.Ties.{isDeed, isFault, deedOf, deedIn, deedAmong, deedAt, placeNow, fits, due, isRaised, endTold, endList, endsIn, endBy, endsTaken, EndsTold, heedsAfter}
+use Rattle.undoing.specs.Ties.{isDeed, raisedIf, raisedBy, deedOf, deedIn, deedAmong, deedAt, placeNow, fits, due, isRaised, endTold, endList, endsIn, endBy, endsTaken, EndsTold, heedsAfter}
 use Rattle.undoing.specs.Buyer.{atEnds, allBack, HandledTakesAllBack, noneBack, WellTakesNothingBack}
 use Rattle.undoing.proofs.Parts.{both, decide, alike-itself}
 use Rattle.undoing.proofs.Moves.{HoldsAt, fair}
@@ -68,21 +68,26 @@ start-kept (raised k x ∷ l) = start-kept l
 start-kept (left ∷ l) = start-kept l
 
 -- the step of no activity is a start
-if-starts : (k : ℕ) (b : Bool) → some isStart (cond b (raised k ∷ []) []) ≡ false
+if-starts : (k x : ℕ) (b : Bool) → some isStart (raisedIf k x b) ≡ false
 unfolding some isStart
-if-starts k true = refl
-if-starts k false = refl
+if-starts k x true = refl
+if-starts k x false = refl
+
+by-starts : (k : ℕ) (v : Value) → some isStart (raisedBy k v) ≡ false
+unfolding some isStart
+by-starts k (fault x) = refl
+by-starts k (value n) = refl
 
 deed-starts : (own : Own) (k : ℕ) (o : Order) → some isStart (deedOf own k o) ≡ false
 unfolding deedOf some isStart
 deed-starts empty k o = refl
-deed-starts (send x y vs) k o = if-starts k (not (allBound o vs))
+deed-starts (send x y vs) k o = if-starts k unboundVariable (not (allBound o vs))
 deed-starts (receive x y vs) k o = refl
-deed-starts (setting v e) k o = if-starts k (isFault (evaluate e o))
+deed-starts (setting v e) k o = by-starts k (evaluate e o)
 deed-starts raise k o = refl
 deed-starts leave k o = refl
-deed-starts (choose e) k o = if-starts k (isFault (evaluate e o))
-deed-starts (repeat e) k o = if-starts k (isFault (evaluate e o))
+deed-starts (choose e) k o = by-starts k (evaluate e o)
+deed-starts (repeat e) k o = by-starts k (evaluate e o)
 deed-starts sequence k o = refl
 deed-starts flow k o = refl
 deed-starts pick k o = refl
@@ -233,10 +238,10 @@ calm-cool (left ∷ l) past c h g = calm-cool l (left ∷ past) c refl refl
 shape-cool : (p : Plan) (t : ℕ) (o : Order) (l past : List Event) → Shape p t (leftBy o) o l → fits (placeNow p o t) o ≡ true → isRaised past ≡ false → rawEnd past ≡ false → rawEnd (onto l past) ≡ false
 unfolding isRaised rawEnd
 shape-cool p t o l past (shape-calm c) f h g = calm-cool l past c h g
-shape-cool p t o _ past (shape-fault {n} {m} {ns} {l} x c) f h g = calm-cool l (faulted n ∷ raised t ∷ past) c refl refl
-shape-cool p t o _ past (shape-end-fault {n} {m} {l} x i z c) f h g = calm-cool l (faulted m ∷ ended n ∷ raised t ∷ past) c refl refl
-shape-cool p t o _ past (shape-end {k} {m} {l} x i z c) f h g = calm-cool l (ended (inner k) ∷ raised t ∷ past) c refl refl
-shape-cool p t o _ past (shape-lost {q} {l} x i z c) f h g = absurd (false≢true (sym z ∙ (ap (λ v. fits v o) (sym x) ∙ f)))
+shape-cool p t o _ past (shape-fault {number} {n} {m} {ns} {l} x c) f h g = calm-cool l (faulted n number ∷ raised t number ∷ past) c refl refl
+shape-cool p t o _ past (shape-end-fault {number} {n} {m} {l} x i z c) f h g = calm-cool l (faulted m number ∷ ended n ∷ raised t number ∷ past) c refl refl
+shape-cool p t o _ past (shape-end {number} {k} {m} {l} x i z c) f h g = calm-cool l (ended (inner k) ∷ raised t number ∷ past) c refl refl
+shape-cool p t o _ past (shape-lost {number} {q} {l} x i z c) f h g = absurd (false≢true (sym z ∙ (ap (λ v. fits v o) (sym x) ∙ f)))
 
 -- How the newest event tells an end.
 told-turned : (past : List Event) (b : Bool) → endsTurned past ≡ true → rawEnd past ≡ b → endTold past ≡ cond b Failed Handled
@@ -253,15 +258,15 @@ told-turned (raised k x ∷ past) b h g = absurd (false≢true h)
 told-turned (left ∷ past) b h g = absurd (false≢true h)
 
 -- the end of an order whose log is of its shape
-told-end : (p : Plan) (t : ℕ) (o : Order) (e : End) (l past : List Event) → EndedAs p e (onto l past) → OrderShape p t (leftBy o) o e l → fits (placeNow p o t) o ≡ true
+told-end : (p : Plan) (t : ℕ) (o : Order) (e : End) (number : ℕ) (l past : List Event) → EndedAs p e (onto l past) → OrderShape p t (leftBy o) o e number l → fits (placeNow p o t) o ≡ true
     → isRaised past ≡ false → rawEnd past ≡ false → endTold (onto l past) ≡ e
 unfolding rawEnd isRaised
-told-end p t o None l past h s f c g = absurd h
-told-end p t o Well l past h s f c g = h .0
-told-end p t o Handled l past h (shaped x y) f c g = told-turned (onto l past) false (h .0) (shape-cool p t o l past y f c g)
-told-end p t o Failed l past h (shaped x y) f c g = absurd (false≢true (sym x))
-told-end p t o Failed _ past h (out x y) f c g = told-turned (ended root ∷ raised t ∷ past) true h refl
-told-end p t o Left l past h s f c g = h
+told-end p t o None number l past h s f c g = absurd h
+told-end p t o Well number l past h s f c g = h .0
+told-end p t o Handled number l past h (shaped x y) f c g = told-turned (onto l past) false (h .0) (shape-cool p t o l past y f c g)
+told-end p t o Failed number l past h (shaped x y) f c g = absurd (false≢true (sym x))
+told-end p t o Failed number _ past h (out x y) f c g = told-turned (ended root ∷ raised t number ∷ past) true h refl
+told-end p t o Left number l past h s f c g = h
 
 -- What a promise at ends asks: nothing where there is none, and what is known of an order that ended so.
 pub record Kept (p : Plan) (f : End → List Event → Bool) : Type 0 where
@@ -296,7 +301,7 @@ module _ (p : Plan) (h : Promised p) where
             λ f k. fair-at p f (k .none) l past r (log-starts actor p t o v) (g .now) (rw q (k .none (older (onto l past)))),
           )
       go (passes-end r d z) =
-          let q = told-end p t o e l past z (order-shape actor p (h .seat) t (leftBy o) o (λ n i. refl)) fit (clear-raised p past c) (now-cool past (g .now)) in (
+          let q = told-end p t o e (acted actor p t o .fault) l past z (order-shape actor p (h .seat) t (leftBy o) o (λ n i. refl)) fit (clear-raised p past c) (now-cool past (g .now)) in (
             fair-ends p l past r (log-starts actor p t o v) (g .now) ∙ ap endList q,
             λ f k. fair-at p f (k .none) l past r (log-starts actor p t o v) (g .now) (rw q (k .ended e (onto l past) z)),
           )

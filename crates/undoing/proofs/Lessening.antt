@@ -13,7 +13,7 @@ use Rattle.plan.specs.Tree.{Own, empty, send, receive, set as setting, raise, l
 use Rattle.order.specs.declared.Order.{Order}
 use Rattle.order.specs.Lists.{some, only}
 use Rattle.order.specs.State.{active, inside, binding, markAt, marked}
-use Rattle.order.specs.Expression.{Value, fault, value, evaluate, isTrue}
+use Rattle.order.specs.Expression.{unboundVariable, Value, fault, value, evaluate, isTrue}
 use Rattle.order.specs.Begin.{beginAfter, beginPart, quiet}
 use Rattle.order.specs.declared.Way.{Way as Result}
 use Rattle.order.specs.declared.Way.the-variants.{Running as running, Over as over, Raising as raising, Leaving as leaving, Undone as undone, UndoRaising as undoRaising}
@@ -215,14 +215,14 @@ module _ (p : Plan) where
   sure-done empty within y₀ k o s g d f l q m = absurd (false≢true s)
   sure-done (send x y vs) within y₀ k o s g d f l q m = go (allBound o vs)
     where
-      go : (b : Bool) → DoneAs k (cond b (finishes k o) (raises k o) .order .marks) (cond b (finishes k o) (raises k o) .result)
+      go : (b : Bool) → DoneAs k (cond b (finishes k o) (raises unboundVariable k o) .order .marks) (cond b (finishes k o) (raises unboundVariable k o) .result)
       go true = tt
       go false = tt
   sure-done (receive x y vs) within y₀ k o s g d f l q m = tt
   sure-done (setting v x) within y₀ k o s g d f l q m = go (evaluate x o)
     where
       go : (z : Value) → DoneAs k (orRaises k o (λ n. finishes k (binding v n o)) z .order .marks) (orRaises k o (λ n. finishes k (binding v n o)) z .result)
-      go fault = tt
+      go (fault x) = tt
       go (value n) = tt
   sure-done raise within y₀ k o s g d f l q m = tt
   sure-done leave within y₀ k o s g d f l q m = tt
@@ -235,7 +235,7 @@ module _ (p : Plan) where
       go : (z : Value) → ((i : ℕ) → i < count within → DoneAs k (enters k o (beginPart i within (k + 1) (marked k inside o .marks)) .order .marks) (enters k o (beginPart i within (k + 1) (marked k inside o .marks)) .result))
           → DoneAs k (orRaises k o (λ n. enters k o (beginPart (cond (isTrue n) 0 1) within (k + 1) (marked k inside o .marks))) z .order .marks)
           (orRaises k o (λ n. enters k o (beginPart (cond (isTrue n) 0 1) within (k + 1) (marked k inside o .marks))) z .result)
-      go fault h = tt
+      go (fault x) h = tt
       go (value n) h = h (cond (isTrue n) 0 1) (omega (arith, first-two (isTrue n)))
   sure-done (repeat x) within y₀ k o s g d f l q m = absurd (false≢true s)
   sure-done sequence within y₀ k o s g d f l q m = absurd (false≢true s)

@@ -14,6 +14,7 @@ use Rattle.order.specs.declared.Order.{Order}
 use Rattle.order.specs.declared.End.the-variants.{None, Left}
 use Rattle.order.specs.Lists.{only}
 use Rattle.order.specs.State.{Name, root, inner, same, idle, active, inside, done, closings, remembering, marked, markOf, closingOf}
+use Rattle.order.specs.Expression.{conflictingReceive}
 use Rattle.order.specs.Event.{Event, raised}
 use Rattle.order.specs.Begin.{part, partAt, beginPart}
 use Rattle.order.specs.declared.Way.{Way as Result}
