@@ -25,7 +25,7 @@ use Rattle.undoing.specs.Ties.{Place, bodyOf, faultOf, undoOf, nameOf, b
 use Rattle.undoing.specs.Orderly.{isBeganOf}
 use Rattle.undoing.specs.Begun.{hasBegan}
 use Rattle.undoing.specs.Entirely.{isUndo, times, isRash}
-use Rattle.undoing.proofs.Causing.{caused, faults-is}
+use Rattle.undoing.proofs.Causing.{caused, caused-mark, faults-is}
 use Rattle.undoing.proofs.Parts.{decide, one-some}
 use Rattle.undoing.proofs.Accounts.{Phase, live, waits, heals, phase}
 use Rattle.undoing.proofs.Places.{first-of, second-of}
@@ -349,7 +349,7 @@ module _ (p : Plan) (actor : Actor) (f : ℕ → ℕ) (t : ℕ) (o : Order) (A :
         subst (λ (z : Outcome). Newly (z .log)) (sym (faults-is number s o₁))
         (fresh-event p f A (o .marks) (faulted (s .name) number) _ (λ j. refl)
         (fresh-append p f A (o .marks) (r .log) (turns true s (r .order) .log)
-        (stop-fresh p f A (o .marks) (h .body) kb c o₂ (ap phase (marking-mark (s .name) (s .bodyAt) faulty o₁ (h .before) (omega arith))) (stoppable-agree y g) (omega (arith, marking-length (s .name) faulty o₁))
+        (stop-fresh p f A (o .marks) (h .body) kb c o₂ (ap phase (caused-mark (s .name) (s .name) number (marking (s .name) faulty o₁) ∙ marking-mark (s .name) (s .bodyAt) faulty o₁ (h .before) (omega arith))) (stoppable-agree y g) (omega (arith, marking-length (s .name) faulty o₁))
         (record {
           at = λ j x z e. let d : isOpen (getD (o₁ .marks) j 0) ≡ true = subst (λ (i : ℕ). isOpen i ≡ true) (g .at j x z) e in
               st j .was d;

@@ -28,7 +28,7 @@ use Rattle.undoing.proofs.Accounts.{Phase, live, waits, heals, phase}
 use Rattle.undoing.proofs.Moves.{HoldsAt, tied-at, move-fault}
 use Rattle.undoing.proofs.Marks.{Quiet, Run, Turned, turned-waits, turned-undoes, turned-heals, Stopped, Undoing, Stoppable, quiet-agree, agree-below, agree-above}
 use Rattle.undoing.proofs.Orders.{listOf, momentOf, onto, Does}
-use Rattle.undoing.proofs.Seats.{marking-elsewhere, stopped-rests, remembered-list}
+use Rattle.undoing.proofs.Seats.{faulting-elsewhere, stopped-rests, remembered-list}
 use Rattle.undoing.proofs.Undo.{UndoneAs, Undone, undoes-list}
 use Rattle.undoing.proofs.Turning.{TurnsAs, handles}
 use Rattle.undoing.proofs.Stopping.{Stops, stops}
@@ -202,7 +202,7 @@ module _ (p : Plan) (h : Promised p) where
       r = stops p (h .seat .body) o₁ refl t (omega arith)
 
       g₁ : HoldsAt p (momentOf p o₁) (faulted root number ∷ past)
-      g₁ = move-fault p (momentOf p o) (momentOf p o₁) past g root number refl (ap phase e) refl refl (marking-elsewhere p root faulty o) .1
+      g₁ = move-fault p (momentOf p o) (momentOf p o₁) past g root number refl (ap phase e) refl refl (faulting-elsewhere p root number o) .1
 
       g₂ : HoldsAt p (momentOf p o₂) (onto l (faulted root number ∷ past))
       g₂ = r .does .does (faulted root number ∷ past) g₁ .1

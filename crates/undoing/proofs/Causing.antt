@@ -4,7 +4,7 @@ use mathlib.Core.Path.{_≡_, refl, ap}
 use mathlib.Core.Bool.{true}
 use mathlib.Core.List.{_∷_}
 use Rattle.order.specs.declared.Order.{Order}
-use Rattle.order.specs.State.{Name, root, inner, faulty, marking, causing}
+use Rattle.order.specs.State.{Name, root, inner, faulty, markOf, marking, causing}
 use Rattle.order.specs.Event.{faulted}
 use Rattle.order.specs.Scope.{Outcome, after, Scope, turns, stop, faults}
 
@@ -16,6 +16,11 @@ caused n x o =
 causing-is : (n : Name) (x : ℕ) (o : Order) → causing n x o ≡ caused n x o
 causing-is root x o = refl
 causing-is (inner k) x o = refl
+
+-- its marks are as they were
+pub caused-mark : (m n : Name) (x : ℕ) (o : Order) → markOf m (caused n x o) ≡ markOf m o
+caused-mark root n x o = refl
+caused-mark (inner k) n x o = refl
 
 -- a scope that faults, so
 abbrev pub faultsIn : (number : ℕ) → Scope → Order → Outcome

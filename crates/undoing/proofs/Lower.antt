@@ -412,7 +412,8 @@ unfolding rank
 faults-under s b h number o =
     let o′ = caused (s .name) number (marking (s .name) faulty o) in
     subst (λ (z : Outcome). Under 5 s b o (z .order)) (sym (faults-is number s o))
-    (under-turns s b h 5 true o (stop (s .body) (s .bodyAt) o′ .order) (omega arith) (under-body s b h (under-put s b h faulty o) (low-stop (s .body) (s .bodyAt) (s .bodyAt) o′ (omega arith))))
+    (under-turns s b h 5 true o (stop (s .body) (s .bodyAt) o′ .order) (omega arith) (under-body s b h (under-put s b h faulty o)
+    (low-then (record { root = refl; marks = low-itself (s .bodyAt) o′ .marks }) (low-stop (s .body) (s .bodyAt) (s .bodyAt) o′ (omega arith)))))
 
 pub raised-lowered : (s : Scope) (b : ℕ) → Owns s b → (number : ℕ) (o : Order) → Lowered s b o (bodyRaised number s o)
 unfolding bodyRaised rank

@@ -18,14 +18,14 @@ use Rattle.order.specs.declared.Way.the-variants.{Running as running, Over as o
 use Rattle.order.specs.Scope.{Outcome, runs, after, Scope, isOpen, innerRuns, ends, undoes, turns, stop, faults, breaks, looksAgain, bodyOver, bodyRaised, undoOver, undoRaised, fromBody, partOver, partRaised, fromFault, forgetting}
 use Rattle.undoing.specs.Demand3.{isRoot}
 use Rattle.undoing.specs.Ties.{isName}
-use Rattle.undoing.proofs.Causing.{caused, faults-is}
+use Rattle.undoing.proofs.Causing.{caused, caused-mark, faults-is}
 use Rattle.undoing.proofs.Parts.{decide}
 use Rattle.undoing.proofs.Accounts.{Phase, rest, live, waits, heals, odd, phase, tied-as}
 use Rattle.undoing.proofs.Moves.{RunIn, tied-from, move-fault}
 use Rattle.undoing.proofs.Marks.{Quiet, Kept, Run, Turned, turned-undoes, turned-heals, Stopped, Undoing, Stoppable, agree-part, quiet-part, quiet-agree, agree-below, agree-above, stoppable-agree, not-open}
 use Rattle.undoing.proofs.Orders.{endAs, failAs, listOf, momentOf, Does, does-then, does-nothing, does-one, bare, remedy-names}
-use Rattle.undoing.proofs.Seats.{Seat, mark-kept, marking-mark, marking-elsewhere, marking-agree, marking-length, quiet-inner, inside-rest}
-use Rattle.undoing.proofs.Turning.{Apart, apart-then, apart-kept, apart-marking, TurnsAs, Turns, turns-after, does-phase, marking-list, does-healed, undoes-on, turns-on}
+use Rattle.undoing.proofs.Seats.{Seat, mark-kept, marking-mark, marking-elsewhere, faulting-elsewhere, marking-agree, marking-length, quiet-inner, inside-rest}
+use Rattle.undoing.proofs.Turning.{Apart, apart-then, apart-kept, apart-marking, apart-faulting, TurnsAs, Turns, turns-after, does-phase, marking-list, does-healed, undoes-on, turns-on}
 use Rattle.undoing.proofs.Stopping.{stops}
 use Rattle.undoing.proofs.Breaking.{Owns, broken, OthersRest, broken-mark, cleared-kept, cleared-quiet, breaks-healed, breaks-raised}
 
@@ -200,15 +200,15 @@ module _ (p : Plan) where
   faults-on x s o h q t y m =
       let o₁ = caused (s .name) x (marking (s .name) faulty o) in
       let n = marking-length (s .name) faulty o in
-      let k : markOf (s .name) o₁ ≡ faulty = marking-mark (s .name) (s .bodyAt) faulty o (h .before) (omega (arith, h .after)) in
+      let k : markOf (s .name) o₁ ≡ faulty = caused-mark (s .name) (s .name) x (marking (s .name) faulty o) ∙ marking-mark (s .name) (s .bodyAt) faulty o (h .before) (omega (arith, h .after)) in
       let y₁ : Quiet (o₁ .marks) (s .faultAt) (size (s .fault))
       = quiet-agree y (agree-part (marking-agree {c = s .bodyAt} {m = size (s .body) + size (s .fault)} (s .name) faulty o (h .before)) (omega (arith, h .after)) (omega (arith, h .after))) in
       let r = stops p (h .body) o₁ (ap phase k) (stoppable-agree t (marking-agree (s .name) faulty o (h .before))) (omega (arith, h .after, n)) in
       let o₂ = stop (s .body) (s .bodyAt) o₁ .order in
       let d : Does p None o (faulted (s .name) x ∷ []) o₁
-      = does-one (λ past w. move-fault p (momentOf p o) (momentOf p o₁) past w (s .name) x (h .name) q (ap phase k) (marking-list p (s .name) (s .name) faulty o) (marking-elsewhere p (s .name) faulty o)) in
+      = does-one (λ past w. move-fault p (momentOf p o) (momentOf p o₁) past w (s .name) x (h .name) q (ap phase k) (marking-list p (s .name) (s .name) faulty o) (faulting-elsewhere p (s .name) x o)) in
       subst (λ (z : Outcome). Turns p s o z) (sym (faults-is x s o))
-      (turns-after (apart-then (apart-marking s faulty o (h .before) (omega (arith, h .after))) (apart-kept s o₁ o₂ (r .kept) (omega arith) (omega (arith, h .after)) (r .rooted)))
+      (turns-after (apart-then (apart-faulting s x o (h .before) (omega (arith, h .after))) (apart-kept s o₁ o₂ (r .kept) (omega arith) (omega (arith, h .after)) (r .rooted)))
       (does-then d (r .does))
       (turns-on p true s o₂ h (λ z. absurd (false≢true (sym z)))
       (ap phase (mark-kept (s .name) (s .bodyAt) o₁ o₂ (h .before) (omega arith) (r .rooted) (r .kept) ∙ k)) (r .stands)

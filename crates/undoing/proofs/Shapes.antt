@@ -168,10 +168,10 @@ pub data Handler (p : Plan) (t : ℕ) (φ : Name → Bool) (n m : Name) : Type 0
 -- the one around, with that number, or none where that one is not open; or a raise lost, where its scope is not as it should be.
 pub data Shape (p : Plan) (t : ℕ) (φ : Name → Bool) (o : Order) : List Event → Type 0 where
   shape-calm : {l : List Event} → Calm l → Shape p t φ o l
-  shape-fault : {x : ℕ} {n m : Name} {ns : List Name} {l : List Event} → placeOf p t ≡ bodyOf n ns m → Calm l → Shape p t φ o (raised t x ∷ faulted n x ∷ l)
-  shape-end-fault : {x : ℕ} {n m : Name} {l : List Event} → Handler p t φ n m → isName p m ≡ true → isOpen (markOf m o) ≡ true → Calm l → Shape p t φ o (raised t x ∷ ended n ∷ faulted m x ∷ l)
-  shape-end : {x k : ℕ} {m : Name} {l : List Event} → Handler p t φ (inner k) m → isName p m ≡ true → isOpen (markOf m o) ≡ false → Calm l → Shape p t φ o (raised t x ∷ ended (inner k) ∷ l)
-  shape-lost : {x : ℕ} {q : Place} {l : List Event} → seen φ (placeOf p t) ≡ q → isName p (nameOf q) ≡ true → fits q o ≡ false → Calm l → Shape p t φ o (raised t x ∷ l)
+  shape-fault : {number : ℕ} {n m : Name} {ns : List Name} {l : List Event} → placeOf p t ≡ bodyOf n ns m → Calm l → Shape p t φ o (raised t number ∷ faulted n number ∷ l)
+  shape-end-fault : {number : ℕ} {n m : Name} {l : List Event} → Handler p t φ n m → isName p m ≡ true → isOpen (markOf m o) ≡ true → Calm l → Shape p t φ o (raised t number ∷ ended n ∷ faulted m number ∷ l)
+  shape-end : {number k : ℕ} {m : Name} {l : List Event} → Handler p t φ (inner k) m → isName p m ≡ true → isOpen (markOf m o) ≡ false → Calm l → Shape p t φ o (raised t number ∷ ended (inner k) ∷ l)
+  shape-lost : {number : ℕ} {q : Place} {l : List Event} → seen φ (placeOf p t) ≡ q → isName p (nameOf q) ≡ true → fits q o ≡ false → Calm l → Shape p t φ o (raised t number ∷ l)
 
 -- what is calm may follow
 shape-append : {p : Plan} {t : ℕ} {φ : Name → Bool} {o : Order} {l : List Event} (m : List Event) → Shape p t φ o l → Calm m → Shape p t φ o (l ++ m)
