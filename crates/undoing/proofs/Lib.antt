@@ -30,6 +30,7 @@ pub mod Shapes
 pub mod Fitting
 pub mod Told
 pub mod Chains
+pub mod Numbered
 pub mod Stepped
 pub mod Heeding
 pub mod Ending
