@@ -109,7 +109,7 @@ mutual
   deed-among-starts (more a l) c t o = either-starts (ltb t _) (deedIn a c t o) (deedAmong l _ t o) _ refl (deed-in-starts a c t o) (deed-among-starts l _ t o)
 
 -- nor has the log of a walk one
-log-starts : (actor : Actor) (p : Plan) (t : ℕ) (o : Order) → Fitting actor p t → some isStart (acted actor p t o .log) ≡ false
+pub log-starts : (actor : Actor) (p : Plan) (t : ℕ) (o : Order) → Fitting actor p t → some isStart (acted actor p t o .log) ≡ false
 unfolding deedAt some isStart
 log-starts itsOwn p t o y =
     start-kept (acted itsOwn p t o .log)
@@ -120,7 +120,7 @@ log-starts inPlace p t o y = start-kept (acted inPlace p t o .log) ∙ ap (some 
 -- The ends of a log.
 
 -- where an order lives on, its newest event tells of no end
-now-none : (past : List Event) → noneNow past ≡ false → endTold past ≡ None
+pub now-none : (past : List Event) → noneNow past ≡ false → endTold past ≡ None
 unfolding endTold noneNow isOver
 now-none [] h = refl
 now-none (started ∷ past) h = refl
@@ -134,7 +134,7 @@ now-none (raised k x ∷ past) h = refl
 now-none (left ∷ past) h = absurd (false≢true (sym h))
 
 -- nothing but a start is allowed after an order's end
-after-none : (p : Plan) (past : List Event) (e : Event) → noneNow past ≡ true → allowed p past e ≡ true → isStart e ≡ true
+pub after-none : (p : Plan) (past : List Event) (e : Event) → noneNow past ≡ true → allowed p past e ≡ true → isStart e ≡ true
 unfolding allowed isStart
 after-none p past started n h = refl
 after-none p past (began k) n h = absurd (false≢true (rw n at h))
@@ -194,7 +194,7 @@ ends-append [] m past = refl
 ends-append (e ∷ l) m past = rw (ends-append l m (e ∷ past), append-assoc)
 
 -- The root's end right after a raise.
-unfoldable rawEnd : (past : List Event) → Bool
+unfoldable pub rawEnd : (past : List Event) → Bool
 rawEnd [] = false
 rawEnd (started ∷ past) = false
 rawEnd (began k ∷ past) = false
@@ -207,7 +207,7 @@ rawEnd (raised k x ∷ past) = false
 rawEnd (left ∷ past) = false
 
 -- an order that lives on has none
-now-cool : (past : List Event) → noneNow past ≡ false → rawEnd past ≡ false
+pub now-cool : (past : List Event) → noneNow past ≡ false → rawEnd past ≡ false
 unfolding rawEnd noneNow isOver
 now-cool [] h = refl
 now-cool (started ∷ past) h = refl
@@ -258,7 +258,7 @@ told-turned (raised k x ∷ past) b h g = absurd (false≢true h)
 told-turned (left ∷ past) b h g = absurd (false≢true h)
 
 -- the end of an order whose log is of its shape
-told-end : (p : Plan) (t : ℕ) (o : Order) (e : End) (number : ℕ) (l past : List Event) → EndedAs p e (onto l past) → OrderShape p t (leftBy o) o e number l → fits (placeNow p o t) o ≡ true
+pub told-end : (p : Plan) (t : ℕ) (o : Order) (e : End) (number : ℕ) (l past : List Event) → EndedAs p e (onto l past) → OrderShape p t (leftBy o) o e number l → fits (placeNow p o t) o ≡ true
     → isRaised past ≡ false → rawEnd past ≡ false → endTold (onto l past) ≡ e
 unfolding rawEnd isRaised
 told-end p t o None number l past h s f c g = absurd h

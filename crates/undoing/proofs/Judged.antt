@@ -41,7 +41,7 @@ root-turn (ended n) = refl
 root-turn (raised k x) = refl
 root-turn left = refl
 
-root-turns : (l : List Event) → some (isTurn root) l ≡ some (isFaultOf (same root)) l
+pub root-turns : (l : List Event) → some (isTurn root) l ≡ some (isFaultOf (same root)) l
 unfolding some
 root-turns [] = refl
 root-turns (e ∷ l) = rw (root-turn e, root-turns l)

@@ -34,6 +34,7 @@ pub mod Numbered
 pub mod Stepped
 pub mod Heeding
 pub mod Ending
+pub mod Because
 pub mod Awaiting
 pub mod Going
 pub mod Truly

@@ -12,7 +12,7 @@ use Rattle.order.specs.declared.End.{End}
 use Rattle.order.specs.declared.End.the-variants.{None, Well, Handled, Failed, Left}
 use Rattle.machine.specs.declared.Message.{Message}
 use Rattle.order.specs.Lists.{only, withoutLast}
-use Rattle.order.specs.State.{Name, root, inner, same, idle, active, inside, done, faulty, undoing, handling, halted, withdrawing, withMarks, binding, remembering, closings, closingOf, markOf, markAt, marked, marking, causing}
+use Rattle.order.specs.State.{Name, root, inner, same, idle, active, inside, done, faulty, undoing, handling, halted, withdrawing, withMarks, binding, remembering, closings, closingOf, markOf, markAt, marked, marking, causing, noOrder}
 use Rattle.order.specs.Expression.{unboundVariable, plainRaise, conflictingReceive, Value, fault, value, evaluate, isTrue}
 use Rattle.order.specs.Event.{Event, started, began, closed, faulted, stopped, ended, raised, left}
 use Rattle.order.specs.Begin.{Begun, begin, beginAfter, beginPart, partAt, cleared, quiet}
@@ -20,7 +20,7 @@ use Rattle.order.specs.declared.Way.{Way as Result}
 use Rattle.order.specs.declared.Way.the-variants.{Running as running, Over as over, Raising as raising, Leaving as leaving, Undone as undone, UndoRaising as undoRaising}
 use Rattle.order.specs.Scope.{Outcome, runs, after, begunIn, whereOver, Scope, scopeAt, rootOf, isFor, forgetting, adds, closing, innerRuns, beginUndo, startUndo, undo, ends, handle, undoes, turns, rememberedFor, isOpen, untouched, withdraws, stop, stopAll, stopFirst, faults, breaks, looksAgain, bodyOver, bodyRaised, undoOver, undoRaised, fromBody, partOver, partRaised, fromFault, goesThrough, fromUndo}
 use Rattle.order.specs.Scope as definitions
-use Rattle.order.specs.Acting.{finishes, raises, leaves, orRaises, enters, again, repeats, allBound, itself, isPart, arms, goesOn, joins, inScope, combines, Actor, itsOwn, inPlace, replaces, performs, stepIn, stepAmong, stepRoot, endOf, faultOf, Moved, movedTo, acted}
+use Rattle.order.specs.Acting.{finishes, raises, leaves, orRaises, enters, again, repeats, allBound, itself, isPart, arms, goesOn, joins, inScope, combines, Actor, itsOwn, inPlace, replaces, performs, stepIn, stepAmong, stepRoot, endOf, faultOf, Moved, movedTo, acted, begunOrder, startedOrder}
 use Rattle.order.specs.Judging.{Verdict, clear, clash, conflict, following, upon, judged, spare, settled, stepOrder}
 use Rattle.order.specs.Taking.{bindAll}
 use Rattle.machine.specs.Fit.{Doing, noStep, sends, takes, moves, cuts, closes}
@@ -30,7 +30,7 @@ use Rattle.undoing.proofs.Parts.{decide}
 use Rattle.undoing.proofs.Aside.{Aside, silent-append, begin-silent, after-silent, part-silent, begin-undo-silent}
 
 -- The number of the newest fault of the root in a log, oldest first; where there is none, the one before it.
-abbrev nextNumber : (number : ℕ) → Event → ℕ
+abbrev pub nextNumber : (number : ℕ) → Event → ℕ
 nextNumber c started = c
 nextNumber c (began k) = c
 nextNumber c (closed k) = c
@@ -386,7 +386,7 @@ root-goes actor p t o =
     (fault-goes (rootOf p) (stepIn actor (p .fault) (size (p .body)) (size (p .body)) t o) (step-goes actor (p .fault) (size (p .body)) (size (p .body)) t o))
 
 -- An order after a step: it follows the log where it lives on, and where it ended handled the number that it kept is the one answered.
-abbrev Told : (c : ℕ) → List Event → Order → (fault : ℕ) → End → Type 0
+abbrev pub Told : (c : ℕ) → List Event → Order → (fault : ℕ) → End → Type 0
 Told c l o x None = Follows c l o
 Told c l o x Well = Unit {0}
 Told c l o x Handled = x ≡ numberAfter c l
@@ -463,3 +463,8 @@ taking-cause (takes x y vs) m o = bound-cause vs (m .values) o
 taking-cause moves m o = refl
 taking-cause cuts m o = refl
 taking-cause (closes u s) m o = refl
+
+-- an order starts with none
+pub started-number : (p : Plan) → numberAfter 0 (begunOrder p .log) ≡ startedOrder p .cause
+unfolding begunOrder startedOrder noOrder
+started-number p = silent-number 0 (begunOrder p .log) (begin-silent isFaulted faults-aside (p .body) 0 (noOrder .marks))
