@@ -25,7 +25,7 @@ use Rattle.machine.specs.Calls.{loadedAs, load, post, collect, dropAt, Stepped,
 use Rattle.undoing.specs.History.{logOf, history}
 use Rattle.undoing.specs.Demand3.{since, isBegin, isTurn, isFinish, hasTurned, noneNow, isOver, allowed}
 use Rattle.undoing.specs.Orderly.{orderly, hasFaulted, isCause, CausesTold}
-use Rattle.undoing.specs.Ties.{stateAfter, orderAfter, pastAfter, isDeed, isTaken, placeNow, fits, due, isFaultOf, heedsAfter, endTold, endList, endBy, numbersTold, numberTold, raiseTold, causeBy, causesIn, causeAnswered, causeOf, causesTaken, HandledBecause}
+use Rattle.undoing.specs.Ties.{stateAfter, orderAfter, pastAfter, isDeed, due, isFaultOf, heedsAfter, endTold, endList, endBy, numbersTold, numberTold, raiseTold, causeBy, causesIn, causeAnswered, causeOf, causesTaken, HandledBecause}
 use Rattle.undoing.proofs.Parts.{both, decide}
 use Rattle.undoing.proofs.Moves.{HoldsAt, fair}
 use Rattle.undoing.proofs.Orders.{endsTurned, older, momentOf, fairAfter, onto, onto-append}

@@ -12,22 +12,21 @@ use Rattle.order.specs.declared.End.{End}
 use Rattle.order.specs.declared.End.the-variants.{None, Well, Handled, Failed, Left}
 use Rattle.machine.specs.declared.Message.{Message}
 use Rattle.order.specs.Lists.{only, withoutLast}
-use Rattle.order.specs.State.{Name, root, inner, same, idle, active, inside, done, faulty, undoing, handling, halted, withdrawing, withMarks, binding, remembering, closings, closingOf, markOf, markAt, marked, marking, causing, noOrder}
+use Rattle.order.specs.State.{Name, root, inner, idle, active, inside, done, faulty, undoing, handling, halted, withdrawing, withMarks, binding, remembering, closings, markOf, markAt, marked, marking, causing, noOrder}
 use Rattle.order.specs.Expression.{unboundVariable, plainRaise, conflictingReceive, Value, fault, value, evaluate, isTrue}
 use Rattle.order.specs.Event.{Event, started, began, closed, faulted, stopped, ended, raised, left}
 use Rattle.order.specs.Begin.{Begun, begin, beginAfter, beginPart, partAt, cleared, quiet}
 use Rattle.order.specs.declared.Way.{Way as Result}
 use Rattle.order.specs.declared.Way.the-variants.{Running as running, Over as over, Raising as raising, Leaving as leaving, Undone as undone, UndoRaising as undoRaising}
-use Rattle.order.specs.Scope.{Outcome, runs, after, begunIn, whereOver, Scope, scopeAt, rootOf, isFor, forgetting, adds, closing, innerRuns, beginUndo, startUndo, undo, ends, handle, undoes, turns, rememberedFor, isOpen, untouched, withdraws, stop, stopAll, stopFirst, faults, breaks, looksAgain, bodyOver, bodyRaised, undoOver, undoRaised, fromBody, partOver, partRaised, fromFault, goesThrough, fromUndo}
+use Rattle.order.specs.Scope.{Outcome, runs, after, begunIn, whereOver, Scope, scopeAt, rootOf, isFor, forgetting, closing, innerRuns, beginUndo, startUndo, undo, ends, handle, undoes, turns, rememberedFor, isOpen, untouched, withdraws, stop, stopAll, stopFirst, faults, breaks, looksAgain, bodyOver, bodyRaised, undoOver, undoRaised, fromBody, partOver, partRaised, fromFault, goesThrough, fromUndo}
 use Rattle.order.specs.Scope as definitions
-use Rattle.order.specs.Acting.{finishes, raises, leaves, orRaises, enters, again, repeats, allBound, itself, isPart, arms, goesOn, joins, inScope, combines, Actor, itsOwn, inPlace, replaces, performs, stepIn, stepAmong, stepRoot, endOf, faultOf, Moved, movedTo, acted, begunOrder, startedOrder}
+use Rattle.order.specs.Acting.{finishes, raises, orRaises, again, repeats, allBound, itself, isPart, arms, goesOn, joins, inScope, combines, Actor, itsOwn, inPlace, replaces, performs, stepIn, stepAmong, stepRoot, endOf, faultOf, Moved, movedTo, acted, begunOrder, startedOrder}
 use Rattle.order.specs.Judging.{Verdict, clear, clash, conflict, following, upon, judged, spare, settled, stepOrder}
 use Rattle.order.specs.Taking.{bindAll}
 use Rattle.machine.specs.Fit.{Doing, noStep, sends, takes, moves, cuts, closes}
 use Rattle.machine.specs.Calls.{orderTaking}
-use Rattle.undoing.specs.Ties.{isFaultOf}
 use Rattle.undoing.proofs.Parts.{decide}
-use Rattle.undoing.proofs.Aside.{Aside, silent-append, begin-silent, after-silent, part-silent, begin-undo-silent}
+use Rattle.undoing.proofs.Aside.{Aside, begin-silent, after-silent, part-silent, begin-undo-silent}
 
 -- The number of the newest fault of the root in a log, oldest first; where there is none, the one before it.
 abbrev pub nextNumber : (number : ℕ) → Event → ℕ

@@ -24,7 +24,7 @@ use Rattle.undoing.proofs.Accounts.{Phase, rest, live, waits, heals, od
 use Rattle.undoing.proofs.Moves.{RunIn, tied-from, move-fault}
 use Rattle.undoing.proofs.Marks.{Quiet, Kept, Run, Turned, turned-undoes, turned-heals, Stopped, Undoing, Stoppable, agree-part, quiet-part, quiet-agree, agree-below, agree-above, stoppable-agree, not-open}
 use Rattle.undoing.proofs.Orders.{endAs, failAs, listOf, momentOf, Does, does-then, does-nothing, does-one, bare, remedy-names}
-use Rattle.undoing.proofs.Seats.{Seat, mark-kept, marking-mark, marking-elsewhere, faulting-elsewhere, marking-agree, marking-length, quiet-inner, inside-rest}
+use Rattle.undoing.proofs.Seats.{Seat, mark-kept, marking-mark, faulting-elsewhere, marking-agree, marking-length, quiet-inner, inside-rest}
 use Rattle.undoing.proofs.Turning.{Apart, apart-then, apart-kept, apart-marking, apart-faulting, TurnsAs, Turns, turns-after, does-phase, marking-list, does-healed, undoes-on, turns-on}
 use Rattle.undoing.proofs.Stopping.{stops}
 use Rattle.undoing.proofs.Breaking.{Owns, broken, OthersRest, broken-mark, cleared-kept, cleared-quiet, breaks-healed, breaks-raised}
