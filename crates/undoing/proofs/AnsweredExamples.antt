@@ -22,7 +22,7 @@ next = stepping 0
 
 -- an answer: the step of an activity, and how the order ended with it
 abbrev answers : (activity : ℕ) → End → Step
-answers t e = record { refusal = 0; slot = 0; activity = t; place = 0; end = e }
+answers t e = record { refusal = 0; slot = 0; activity = t; place = 0; end = e; fault = 0 }
 
 abbrev goes : (activity : ℕ) → Step
 goes t = answers t None

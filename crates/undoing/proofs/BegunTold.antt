@@ -242,11 +242,11 @@ unfolding isLeft isBegin isFinish isBeganOf
 left-one k started past n h = absurd (false≢true h)
 left-one k (began j) past n h = rw (isLeft, n) at h
 left-one k (closed j) past n h = decide (eqb k j) (λ t. absurd (false≢true (rw (isLeft, t) at h))) (λ t. rw (isLeft, t) at h)
-left-one k (faulted m) past n h = h
+left-one k (faulted m x) past n h = h
 left-one k (stopped j) past n h = h
 left-one k (ended root) past n h = h
 left-one k (ended (inner j)) past n h = decide (eqb k j) (λ t. absurd (false≢true (rw (isLeft, t) at h))) (λ t. rw (isLeft, t) at h)
-left-one k (raised j) past n h = h
+left-one k (raised j x) past n h = h
 left-one k left past n h = h
 
 left-before : (k : ℕ) (l past : List Event) → hasBegan k l ≡ false → isLeft (inner k) (onto l past) ≡ true → isLeft (inner k) past ≡ true
@@ -467,11 +467,11 @@ module _ (p : Plan) (h : Promised p) where
         let o = orderIn s i in
         let o′ = withMessage p t m o in
         let like = taking-alike p (doingAt p t) m o in
-        subst (AllBegun p) (sym (taken-goes s t m r q (standing-live p o st)))
+        subst (AllBegun p) (sym (taken-goes s t m r (q .0, q .1, q .2) (standing-live p o st)))
         (begun-first (time t o (acted itsOwn p t o′)) (raisesOf (spare p (acted itsOwn p t o′ .order)) p (acted itsOwn p t o′)) (time-begun itsOwn t o o′ past like x st y)
         (raises-begun (spare p (acted itsOwn p t o′ .order)) past (acted itsOwn p t o′) (passed-once p h itsOwn t o′ past (alike-awaited like t x) (alike-stands p o o′ like st) (alike-holds like past y))))
     happens-begun s past r (starts-here t m q x z n l e d) =
-        subst (AllBegun p) (sym (taken-starts s t m r q z))
+        subst (AllBegun p) (sym (taken-starts s t m r (q .0, q .1, q .2) z))
         (begun-first one (raisesOf (spare p (m₁ .order)) p m₁) (
           one-taken isMarked one (λ v k. is-marked one k (λ y g. marked v k y g)),
           one-taken hasBegun one (λ v k. has-begun one k (λ y. rw z (may-be (kindAt p k) (ownsAt p t k) (hasBegan (k + 1) (l₀ ++ m₁ .log)) idle (markAt k (m₁ .order)) (λ u. absurd (starts-idle t m past n x slot v k y u))))),

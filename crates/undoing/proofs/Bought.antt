@@ -480,10 +480,10 @@ module _ (p : Plan) (all : Each (Known p) (scopesOf p)) (x : Inner) (kn : Known 
           (λ d w. decide (y .undoes)
           (λ u. still past (closed (y .number)) (λ n. refl) (λ n. other-closed y ky u d n past) refl g)
           (λ u. both (not (noneNow past)) _ w (λ a b. both (mayTurn (inner (y .number)) past) _ b (λ c f. hand-pays y ky u past c g)))) t h)
-  pays past (faulted n) h g = still past (faulted n) (λ m. refl) (λ m. refl) refl g
+  pays past (faulted n x) h g = still past (faulted n x) (λ m. refl) (λ m. refl) refl g
   pays past (stopped j) h g = still past (stopped j) (λ m. refl) (λ m. refl) refl g
   pays past (ended n) h g = still past (ended n) (λ m. refl) (λ m. refl) refl g
-  pays past (raised j) h g = still past (raised j) (λ m. refl) (λ m. refl) refl g
+  pays past (raised j x) h g = still past (raised j x) (λ m. refl) (λ m. refl) refl g
   pays past left h g = still past left (λ m. refl) (λ m. refl) refl g
 
   -- over a right history, which leaves the same to be counted
@@ -594,10 +594,10 @@ unfolding isBegin
 begin-is k started h = absurd (false≢true h)
 begin-is k (began j) h = ap began (sym (eqb-true k j h))
 begin-is k (closed j) h = absurd (false≢true h)
-begin-is k (faulted n) h = absurd (false≢true h)
+begin-is k (faulted n x) h = absurd (false≢true h)
 begin-is k (stopped j) h = absurd (false≢true h)
 begin-is k (ended n) h = absurd (false≢true h)
-begin-is k (raised j) h = absurd (false≢true h)
+begin-is k (raised j x) h = absurd (false≢true h)
 begin-is k left h = absurd (false≢true h)
 
 begin-apart : (a : Name) (k : ℕ) → same (inner k) a ≡ false → isBegin a (began k) ≡ false
@@ -612,11 +612,11 @@ finish-none p a past started h v = absurd (false≢true h)
 finish-none p a past (began j) h v = absurd (false≢true h)
 finish-none p a past (closed j) h v =
     both (not (noneNow past)) _ v (λ b c. both (mayTurn (inner j) past) _ c (λ d f. subst (λ (z : Name). noneLeft p z past ≡ true) (sym (same-equal a (inner j) h)) f))
-finish-none p a past (faulted n) h v = absurd (false≢true h)
+finish-none p a past (faulted n x) h v = absurd (false≢true h)
 finish-none p a past (stopped j) h v = absurd (false≢true h)
 finish-none p a past (ended n) h v =
     both (not (noneNow past)) _ v (λ b c. both (noneLeft p n past) _ c (λ d f. subst (λ (z : Name). noneLeft p z past ≡ true) (sym (same-equal a n h)) d))
-finish-none p a past (raised j) h v = absurd (false≢true h)
+finish-none p a past (raised j x) h v = absurd (false≢true h)
 finish-none p a past left h v = absurd (false≢true h)
 
 -- what holds of each in a list holds of the one that a filter finds
@@ -778,10 +778,10 @@ module _ (p : Plan) where
 
       go : Each (Placed p) (scopesOf p) → some (isClosedOf e) (since s past) ≡ true
       go l = find l (λ z. absurd (let b : times e (closedBy (insideOf p s) (λ k. closingsOf p (inner k) past) (closed j)) ≡ 0 = ap (times e) (closed-inside p s (λ k. closingsOf p (inner k) past) j) ∙ rw z in omega arith))
-  brought all past (faulted m) h g w s e c n = absurd (omega arith)
+  brought all past (faulted m x) h g w s e c n = absurd (omega arith)
   brought all past (stopped j) h g w s e c n = absurd (omega arith)
   brought all past (ended m) h g w s e c n = absurd (omega arith)
-  brought all past (raised j) h g w s e c n = absurd (omega arith)
+  brought all past (raised j x) h g w s e c n = absurd (omega arith)
   brought all past left h g w s e c n = absurd (omega arith)
 
   sound-on : (all : Each (Placed p) (scopesOf p)) (past : List Event) (v : Event) → allowed p past v ≡ true → Nest past → Sound past → Sound (v ∷ past)
@@ -804,10 +804,10 @@ module _ (p : Plan) where
   first-closed past (began k) h w =
       both (not (noneNow past)) _ h (λ a b. every-so (mayUndo p past) (wasClosed past) (λ x m. w (runnerOf past x) (x .number) (let d = one-more p past x m in omega arith)) (only (isUndoPart k) (scopesOf p)) b)
   first-closed past (closed k) h w = refl
-  first-closed past (faulted n) h w = refl
+  first-closed past (faulted n x) h w = refl
   first-closed past (stopped k) h w = refl
   first-closed past (ended n) h w = refl
-  first-closed past (raised k) h w = refl
+  first-closed past (raised k x) h w = refl
   first-closed past left h w = refl
 
   all-closed : (all : Each (Placed p) (scopesOf p)) (past l : List Event) → rightAfter p past l ≡ true → orderlyAfter p past l ≡ true → Nest past → Sound past → closedFirstAfter p past l ≡ true
@@ -841,10 +841,10 @@ module _ (p : Plan) (all : Each (Known p) (scopesOf p)) (x : Inner) (kn : Known 
       (omega (arith, own-undo p all x kn un root past, at-most (runnerOf past x) root 1)) in rw t (omega arith))
       (λ t. omega (arith, other-undo p all x kn un j t root past))
   takes-begun past (closed k) = omega arith
-  takes-begun past (faulted n) = omega arith
+  takes-begun past (faulted n x) = omega arith
   takes-begun past (stopped k) = omega arith
   takes-begun past (ended n) = omega arith
-  takes-begun past (raised k) = omega arith
+  takes-begun past (raised k x) = omega arith
   takes-begun past left = omega arith
 
   undone-begun : (past : List Event) → length (only (eqb (x .number)) (undoneOf p root past)) ≤ howMany (isBeganOf (eqb (x .undo))) (since root past)
