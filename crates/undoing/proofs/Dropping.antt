@@ -96,7 +96,8 @@ itself-drops empty within q k o = mild-drops o (runs o) refl
 itself-drops (send a b vs) within q k o = decide (allBound o vs) (λ e. rw e (mild-drops o (finishes k o) refl)) (λ e. rw e (raises-drops unboundVariable k o))
 itself-drops (receive a b vs) within q k o = mild-drops o (finishes k o) refl
 itself-drops (setting v e) within q k o = or-drops k o _ (evaluate e o) (λ n. mild-finishes k (binding v n o))
-itself-drops raise within q k o = raises-drops plainRaise k o
+itself-drops (raise zero) within q k o = raises-drops plainRaise k o
+itself-drops (raise (suc number)) within q k o = raises-drops plainRaise k o
 itself-drops leave within q k o = record { stays = λ e. absurd (false≢true e); rash = λ e. refl }
 itself-drops (choose e) within q k o =
     or-drops k o _ (evaluate e o) (λ n. mild-enters k o (beginPart (cond (isTrue n) 0 1) within (k + 1) (marked k inside o .marks)) (part-silent isGrave graves-aside (cond (isTrue n) 0 1) within (k + 1) (marked k inside o .marks)))
@@ -210,7 +211,7 @@ combines-drops empty within k t o r w = w
 combines-drops (send a b vs) within k t o r w = w
 combines-drops (receive a b vs) within k t o r w = w
 combines-drops (setting v e) within k t o r w = w
-combines-drops raise within k t o r w = w
+combines-drops (raise number) within k t o r w = w
 combines-drops leave within k t o r w = w
 combines-drops (choose e) within k t o r w = on-drops o k inside (finishes k) r w (mild-finishes k)
 combines-drops (repeat e) within k t o r w = on-drops o k inside (again k) r w (mild-again k)
@@ -291,7 +292,7 @@ module _ (h : Event → Bool) where
   combines-has (send a b vs) within k t r e = e
   combines-has (receive a b vs) within k t r e = e
   combines-has (setting v x) within k t r e = e
-  combines-has raise within k t r e = e
+  combines-has (raise number) within k t r e = e
   combines-has leave within k t r e = e
   combines-has (choose x) within k t r e = on-has k inside (finishes k) r e
   combines-has (repeat x) within k t r e = on-has k inside (again k) r e

@@ -1,5 +1,5 @@
 -- The ends that a history tells are those that its steps answered, and what is promised at ends holds there. Assumes nothing.
-use Prim.Native.Nat.{ℕ}
+use Prim.Native.Nat.{ℕ, zero, suc}
 use native.Mathlib.Omega.{arith}
 use mathlib.Core.Path.{_≡_, refl, sym, ap, subst, _∙_}
 use mathlib.Core.Bool.{Bool, true, false, cond, not, _&&_, false≢true}
@@ -84,7 +84,8 @@ deed-starts empty k o = refl
 deed-starts (send x y vs) k o = if-starts k unboundVariable (not (allBound o vs))
 deed-starts (receive x y vs) k o = refl
 deed-starts (setting v e) k o = by-starts k (evaluate e o)
-deed-starts raise k o = refl
+deed-starts (raise zero) k o = refl
+deed-starts (raise (suc number)) k o = refl
 deed-starts leave k o = refl
 deed-starts (choose e) k o = by-starts k (evaluate e o)
 deed-starts (repeat e) k o = by-starts k (evaluate e o)

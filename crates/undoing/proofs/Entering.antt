@@ -707,7 +707,8 @@ module _ (f : ℕ → ℕ) where
     combines-at (send a b vs) within k o n r y h w = up-at (send a b vs) within k o w
     combines-at (receive a b vs) within k o n r y h w = up-at (receive a b vs) within k o w
     combines-at (setting v e) within k o n r y h w = up-at (setting v e) within k o w
-    combines-at raise within k o n r y h w = up-at raise within k o w
+    combines-at (raise zero) within k o n r y h w = up-at (raise zero) within k o w
+    combines-at (raise (suc number)) within k o n r y h w = up-at (raise (suc number)) within k o w
     combines-at leave within k o n r y h w = up-at leave within k o w
     combines-at (choose e) within k o n r y h w = on-at (choose e) within k inside (finishes k) o w (λ q j. refl) (λ q. refl)
     combines-at (repeat e) within k o n r y h w = on-at (repeat e) within k inside (again k) o w (λ q j. refl) (λ q. refl)

@@ -254,7 +254,8 @@ module _ (p : Plan) where
   acts-itself (setting v x) within q₀ k o s a i c z u f l e q m =
       acts-or-raises (setting v x) within k o _ (evaluate x o) u f s z q
       (λ n. go-run k (go-finishes (setting v x) within k o (binding v n o) refl refl (bound-everywhere v n o) z q (omega arith)))
-  acts-itself raise within q₀ k o s a i c z u f l e q m = acts-raises plainRaise raise within k o u f s z q
+  acts-itself (raise zero) within q₀ k o s a i c z u f l e q m = acts-raises plainRaise (raise zero) within k o u f s z q
+  acts-itself (raise (suc number)) within q₀ k o s a i c z u f l e q m = acts-raises plainRaise (raise (suc number)) within k o u f s z q
   acts-itself leave within q₀ k o s a i c z u f l e q m = acts-leaves leave within k o
   acts-itself (choose x) within q₀ k o s a i c z u f l e q m =
       acts-or-raises (choose x) within k o _ (evaluate x o) u f s z q (λ n. go-run k (go-enters x within k (cond (isTrue n) 0 1) o (u .before) f l (omega (arith, first-two (isTrue n))) z q m))

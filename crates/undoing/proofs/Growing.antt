@@ -1,5 +1,5 @@
 -- In a step that is neither a raise nor a leave no mark that lasts is cleared but those of the activities that have the step in them. Assumes nothing.
-use Prim.Native.Nat.{ℕ, _+_, _≤_, _<_}
+use Prim.Native.Nat.{ℕ, zero, suc, _+_, _≤_, _<_}
 use native.Mathlib.Omega.{arith}
 use mathlib.Core.Path.{_≡_, refl, sym, ap, subst, _∙_}
 use mathlib.Core.Bool.{Bool, true, false, cond, _&&_, _||_, false≢true}
@@ -90,7 +90,7 @@ module _ (f : ℕ → ℕ) where
   combines-grows (send a b vs) within k t r e n y m q j l d u = u
   combines-grows (receive a b vs) within k t r e n y m q j l d u = u
   combines-grows (setting v x) within k t r e n y m q j l d u = u
-  combines-grows raise within k t r e n y m q j l d u = u
+  combines-grows (raise number) within k t r e n y m q j l d u = u
   combines-grows leave within k t r e n y m q j l d u = u
   combines-grows (choose x) within k t r e n y m q j l d u = on-grows k inside (finishes k) r j (finishes-goes f k 0 (r .order) .grows j l (λ i. d (omega arith)) u) u
   combines-grows (repeat x) within k t r e n y m q j l d u = on-grows k inside (again k) r j (again-goes f k 0 (r .order) (ap (λ (i : ℕ). eqb i 7) e) .grows j l (λ i. d (omega arith)) u) u
@@ -118,7 +118,8 @@ module _ (f : ℕ → ℕ) where
       go : (w : Value) → Up (orRaises k o (λ i. finishes k (binding v i o)) w .order .marks) j
       go (fault x) = up-other (o .marks) k idle j d u
       go (value i) = up-other (o .marks) k idle j d u
-  itself-grows raise within q k o e n y m j l d c u = up-other (o .marks) k idle j d u
+  itself-grows (raise zero) within q k o e n y m j l d c u = up-other (o .marks) k idle j d u
+  itself-grows (raise (suc number)) within q k o e n y m j l d c u = up-other (o .marks) k idle j d u
   itself-grows leave within q k o e n y m j l d c u = up-other (o .marks) k idle j d u
   itself-grows (choose x) within q k o e n y m j l d c u = go (evaluate x o)
     where
@@ -210,7 +211,8 @@ module _ (f : ℕ → ℕ) where
   again-up (send a b vs) within k t r e m u = absurd (omega arith)
   again-up (receive a b vs) within k t r e m u = absurd (omega arith)
   again-up (setting v x) within k t r e m u = absurd (omega arith)
-  again-up raise within k t r e m u = absurd (omega arith)
+  again-up (raise zero) within k t r e m u = absurd (omega arith)
+  again-up (raise (suc number)) within k t r e m u = absurd (omega arith)
   again-up leave within k t r e m u = absurd (omega arith)
   again-up (choose x) within k t r e m u = absurd (omega arith)
   again-up (repeat x) within k t r e m u = on-grows k inside (again k) r k (ap (λ (v : ℕ). eqb v idle) (getD-set-same (r .order .marks) k active 0 m)) u

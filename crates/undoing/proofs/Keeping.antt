@@ -1,5 +1,5 @@
 -- What a step logs as begun is marked afterwards, where it lasts; and what it does not is set only where it was, or as its own step has it. Assumes nothing.
-use Prim.Native.Nat.{ℕ, _+_, _≤_, _<_}
+use Prim.Native.Nat.{ℕ, zero, suc, _+_, _≤_, _<_}
 use native.Mathlib.Omega.{arith}
 use mathlib.Core.Path.{_≡_, refl, sym, ap, subst, _∙_}
 use mathlib.Core.Bool.{Bool, true, false, cond, _&&_, _||_, false≢true, and-false}
@@ -49,7 +49,8 @@ pick-kind empty e = absurd (false≢true e)
 pick-kind (send x y vs) e = absurd (false≢true e)
 pick-kind (receive x y vs) e = absurd (false≢true e)
 pick-kind (setting v x) e = absurd (false≢true e)
-pick-kind raise e = absurd (false≢true e)
+pick-kind (raise zero) e = absurd (false≢true e)
+pick-kind (raise (suc number)) e = absurd (false≢true e)
 pick-kind leave e = absurd (false≢true e)
 pick-kind (choose x) e = absurd (false≢true e)
 pick-kind (repeat x) e = absurd (false≢true e)
@@ -65,7 +66,8 @@ arm-kind empty e = absurd (false≢true e)
 arm-kind (send x y vs) e = absurd (false≢true e)
 arm-kind (receive x y vs) e = absurd (false≢true e)
 arm-kind (setting v x) e = absurd (false≢true e)
-arm-kind raise e = absurd (false≢true e)
+arm-kind (raise zero) e = absurd (false≢true e)
+arm-kind (raise (suc number)) e = absurd (false≢true e)
 arm-kind leave e = absurd (false≢true e)
 arm-kind (choose x) e = absurd (false≢true e)
 arm-kind (repeat x) e = absurd (false≢true e)
@@ -92,7 +94,8 @@ begins-said (act empty within) l k ms h = rw (eq-eqb k k refl)
 begins-said (act (send p o vs) within) l k ms h = rw (eq-eqb k k refl)
 begins-said (act (receive p o vs) within) l k ms h = rw (eq-eqb k k refl)
 begins-said (act (setting v e) within) l k ms h = rw (eq-eqb k k refl)
-begins-said (act raise within) l k ms h = rw (eq-eqb k k refl)
+begins-said (act (raise zero) within) l k ms h = rw (eq-eqb k k refl)
+begins-said (act (raise (suc number)) within) l k ms h = rw (eq-eqb k k refl)
 begins-said (act leave within) l k ms h = rw (eq-eqb k k refl)
 begins-said (act (choose e) within) l k ms h = rw (eq-eqb k k refl)
 begins-said (act (repeat e) within) l k ms h = rw (eq-eqb k k refl)
@@ -468,7 +471,7 @@ module _ (f : ℕ → ℕ) where
     combines-steps (send a b vs) within k t o r e n y m q w = w
     combines-steps (receive a b vs) within k t o r e n y m q w = w
     combines-steps (setting v x) within k t o r e n y m q w = w
-    combines-steps raise within k t o r e n y m q w = w
+    combines-steps (raise number) within k t o r e n y m q w = w
     combines-steps leave within k t o r e n y m q w = w
     combines-steps (choose x) within k t o r e n y m q w = goes-on-steps {e = 0} k inside o (finishes k) r refl (λ s. q) w (λ o₁ d. finishes-goes f k 0 o₁)
     combines-steps (repeat x) within k t o r e n y m q w = goes-on-steps {e = 0} k inside o (again k) r refl (λ s. q) w (λ o₁ d. again-goes k 0 o₁ (ap (λ (i : ℕ). eqb i 7) e))

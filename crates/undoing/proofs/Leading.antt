@@ -145,7 +145,8 @@ module _ (lead : ℕ → Lead) where
     own-led (send p o vs) within k s q e ms x y = led-alone k q e
     own-led (receive p o vs) within k s q e ms x y = led-alone k q e
     own-led (setting v z) within k s q e ms x y = led-alone k q e
-    own-led raise within k s q e ms x y = led-alone k q e
+    own-led (raise zero) within k s q e ms x y = led-alone k q e
+    own-led (raise (suc number)) within k s q e ms x y = led-alone k q e
     own-led leave within k s q e ms x y = led-alone k q e
     own-led (choose z) within k s q e ms x y = led-alone k q e
     own-led (repeat z) within k s q e ms x y = led-alone k q e
@@ -412,7 +413,7 @@ module _ (lead : ℕ → Lead) where
     combines-fine (send a b vs) within k r s y n w = w
     combines-fine (receive a b vs) within k r s y n w = w
     combines-fine (setting v x) within k r s y n w = w
-    combines-fine raise within k r s y n w = w
+    combines-fine (raise number) within k r s y n w = w
     combines-fine leave within k r s y n w = w
     combines-fine (choose x) within k r s y n w = on-fine k inside (finishes k) r w (λ o. fine-none)
     combines-fine (repeat x) within k r s y n w = on-fine k inside (again k) r w (λ o. fine-none)

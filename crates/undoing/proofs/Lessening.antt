@@ -1,6 +1,6 @@
 -- A step in a tree that runs, without scopes: it is no longer among the sure steps that are still to come, all the others are; and if it is a sure step it was
 -- among them. Assumes nothing.
-use Prim.Native.Nat.{ℕ, _+_, _≤_, _<_}
+use Prim.Native.Nat.{ℕ, zero, suc, _+_, _≤_, _<_}
 use native.Mathlib.Omega.{arith}
 use mathlib.Core.Path.{_≡_, refl, sym, ap, subst, _∙_}
 use mathlib.Core.Bool.{Bool, true, false, cond, not, _||_, false≢true, or-false, or-true}
@@ -88,7 +88,8 @@ sure-left empty within k ms s = absurd (false≢true s)
 sure-left (send x y vs) within k ms s = refl
 sure-left (receive x y vs) within k ms s = refl
 sure-left (setting v x) within k ms s = refl
-sure-left raise within k ms s = refl
+sure-left (raise zero) within k ms s = refl
+sure-left (raise (suc number)) within k ms s = refl
 sure-left leave within k ms s = refl
 sure-left (choose x) within k ms s = refl
 sure-left (repeat x) within k ms s = absurd (false≢true s)
@@ -111,7 +112,8 @@ surely-so empty s = absurd (false≢true s)
 surely-so (send x y vs) s = record { plain = refl; shut = refl; held = refl; awaits-so = λ m. refl }
 surely-so (receive x y vs) s = record { plain = refl; shut = refl; held = refl; awaits-so = λ m. refl }
 surely-so (setting v x) s = record { plain = refl; shut = refl; held = refl; awaits-so = λ m. refl }
-surely-so raise s = record { plain = refl; shut = refl; held = refl; awaits-so = λ m. refl }
+surely-so (raise zero) s = record { plain = refl; shut = refl; held = refl; awaits-so = λ m. refl }
+surely-so (raise (suc number)) s = record { plain = refl; shut = refl; held = refl; awaits-so = λ m. refl }
 surely-so leave s = record { plain = refl; shut = refl; held = refl; awaits-so = λ m. refl }
 surely-so (choose x) s = record { plain = refl; shut = refl; held = refl; awaits-so = λ m. refl }
 surely-so (repeat x) s = absurd (false≢true s)
@@ -144,7 +146,8 @@ sure-keeps empty within k t r s = absurd (false≢true s)
 sure-keeps (send x y vs) within k t r s = keeps-itself k (r .order .marks) (r .result)
 sure-keeps (receive x y vs) within k t r s = keeps-itself k (r .order .marks) (r .result)
 sure-keeps (setting v x) within k t r s = keeps-itself k (r .order .marks) (r .result)
-sure-keeps raise within k t r s = keeps-itself k (r .order .marks) (r .result)
+sure-keeps (raise zero) within k t r s = keeps-itself k (r .order .marks) (r .result)
+sure-keeps (raise (suc number)) within k t r s = keeps-itself k (r .order .marks) (r .result)
 sure-keeps leave within k t r s = keeps-itself k (r .order .marks) (r .result)
 sure-keeps (choose x) within k t r s = go (r .result)
   where
@@ -224,7 +227,7 @@ module _ (p : Plan) where
       go : (z : Value) → DoneAs k (orRaises k o (λ n. finishes k (binding v n o)) z .order .marks) (orRaises k o (λ n. finishes k (binding v n o)) z .result)
       go (fault x) = tt
       go (value n) = tt
-  sure-done raise within y₀ k o s g d f l q m = tt
+  sure-done (raise number) within y₀ k o s g d f l q m = tt
   sure-done leave within y₀ k o s g d f l q m = tt
   sure-done (choose x) within y₀ k o s g d f l q m = go (evaluate x o) (λ i h. choose-done within k i o d f l h q m)
     where
@@ -405,7 +408,8 @@ module _ (p : Plan) where
     part-less (send y z vs) g w r = sure-less (send y z vs) refl g w (sure-runs (send y z vs) within k refl r)
     part-less (receive y z vs) g w r = sure-less (receive y z vs) refl g w (sure-runs (receive y z vs) within k refl r)
     part-less (setting v y) g w r = sure-less (setting v y) refl g w (sure-runs (setting v y) within k refl r)
-    part-less raise g w r = sure-less raise refl g w (sure-runs raise within k refl r)
+    part-less (raise zero) g w r = sure-less (raise zero) refl g w (sure-runs (raise zero) within k refl r)
+    part-less (raise (suc number)) g w r = sure-less (raise (suc number)) refl g w (sure-runs (raise (suc number)) within k refl r)
     part-less leave g w r = sure-less leave refl g w (sure-runs leave within k refl r)
     part-less (choose y) g w r = sure-less (choose y) refl g w (sure-runs (choose y) within k refl r)
     part-less (repeat y) g w r = nothing-less (leftIn (act (repeat y) within) k) t (o .marks) (stepIn itsOwn (act (repeat y) within) y₀ k t o .order .marks) (stepIn itsOwn (act (repeat y) within) y₀ k t o .result) (λ ms. refl)
@@ -535,7 +539,8 @@ mutual
   due-left (act (send x y vs) within) k t b w e r h = sure-due (send x y vs) within k t b w e refl h
   due-left (act (receive x y vs) within) k t b w e r h = sure-due (receive x y vs) within k t b w e refl h
   due-left (act (setting v x) within) k t b w e r h = sure-due (setting v x) within k t b w e refl h
-  due-left (act raise within) k t b w e r h = sure-due raise within k t b w e refl h
+  due-left (act (raise zero) within) k t b w e r h = sure-due (raise zero) within k t b w e refl h
+  due-left (act (raise (suc number)) within) k t b w e r h = sure-due (raise (suc number)) within k t b w e refl h
   due-left (act leave within) k t b w e r h = sure-due leave within k t b w e refl h
   due-left (act (choose x) within) k t b w e r h = sure-due (choose x) within k t b w e refl h
   due-left (act (repeat x) within) k t b w e r h = absurd (false≢true h)

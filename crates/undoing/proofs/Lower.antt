@@ -73,7 +73,8 @@ mutual
   same-begin (act (send p o vs) within) b k ms e = same-set b k active ms e
   same-begin (act (receive p o vs) within) b k ms e = same-set b k active ms e
   same-begin (act (setting v x) within) b k ms e = same-set b k active ms e
-  same-begin (act raise within) b k ms e = same-set b k active ms e
+  same-begin (act (raise zero) within) b k ms e = same-set b k active ms e
+  same-begin (act (raise (suc number)) within) b k ms e = same-set b k active ms e
   same-begin (act leave within) b k ms e = same-set b k active ms e
   same-begin (act (choose x) within) b k ms e = same-set b k active ms e
   same-begin (act (repeat x) within) b k ms e = same-set b k active ms e

@@ -134,7 +134,8 @@ module _ (t : ℕ) where
     own-local (send p o vs) within k ms a b c = plain-local (send p o vs) within k _ refl (in-zero _ within (k + 1) (single k (k + 1) (sizes within) (omega arith)))
     own-local (receive p o vs) within k ms a b c = plain-local (receive p o vs) within k _ refl (in-zero _ within (k + 1) (single k (k + 1) (sizes within) (omega arith)))
     own-local (setting v e) within k ms a b c = plain-local (setting v e) within k _ refl (in-zero _ within (k + 1) (single k (k + 1) (sizes within) (omega arith)))
-    own-local raise within k ms a b c = plain-local raise within k _ refl (in-zero _ within (k + 1) (single k (k + 1) (sizes within) (omega arith)))
+    own-local (raise zero) within k ms a b c = plain-local (raise zero) within k _ refl (in-zero _ within (k + 1) (single k (k + 1) (sizes within) (omega arith)))
+    own-local (raise (suc number)) within k ms a b c = plain-local (raise (suc number)) within k _ refl (in-zero _ within (k + 1) (single k (k + 1) (sizes within) (omega arith)))
     own-local leave within k ms a b c = plain-local leave within k _ refl (in-zero _ within (k + 1) (single k (k + 1) (sizes within) (omega arith)))
     own-local (choose e) within k ms a b c = plain-local (choose e) within k _ refl (in-zero _ within (k + 1) (single k (k + 1) (sizes within) (omega arith)))
     own-local (repeat e) within k ms a b c = plain-local (repeat e) within k _ refl (in-zero _ within (k + 1) (single k (k + 1) (sizes within) (omega arith)))
@@ -429,7 +430,8 @@ module _ (t : ℕ) where
     itself-local (send a b vs) within q₀ k o n r y = decide (allBound o vs) (λ e. rw e (in-none [] within (k + 1) (λ j. refl))) (λ e. rw e (in-none _ within (k + 1) (λ j. refl)))
     itself-local (receive a b vs) within q₀ k o n r y = in-none [] within (k + 1) (λ j. refl)
     itself-local (setting v e) within q₀ k o n r y = or-local within (k + 1) k o _ (evaluate e o) (λ i. in-none [] within (k + 1) (λ j. refl))
-    itself-local raise within q₀ k o n r y = in-none _ within (k + 1) (λ j. refl)
+    itself-local (raise zero) within q₀ k o n r y = in-none _ within (k + 1) (λ j. refl)
+    itself-local (raise (suc number)) within q₀ k o n r y = in-none _ within (k + 1) (λ j. refl)
     itself-local leave within q₀ k o n r y = in-none _ within (k + 1) (λ j. refl)
     itself-local (choose e) within q₀ k o n r y = or-local within (k + 1) k o _ (evaluate e o) (λ z. let o₁ = marked k inside o in
         where-local within (k + 1) (finishes k) (begunIn o₁ (beginPart (cond (isTrue z) 0 1) within (k + 1) (o₁ .marks))) (part-local y r (cond (isTrue z) 0 1) (second (isTrue z)) (o₁ .marks) .0) (λ q. in-none [] within (k + 1) (λ j. refl)))
@@ -456,7 +458,7 @@ module _ (t : ℕ) where
     combines-local (send a b vs) within k q n r y w = w
     combines-local (receive a b vs) within k q n r y w = w
     combines-local (setting v e) within k q n r y w = w
-    combines-local raise within k q n r y w = w
+    combines-local (raise number) within k q n r y w = w
     combines-local leave within k q n r y w = w
     combines-local (choose e) within k q n r y w = on-local within (k + 1) k inside (finishes k) q w (λ o. in-none [] within (k + 1) (λ j. refl))
     combines-local (repeat e) within k q n r y w = on-local within (k + 1) k inside (again k) q w (λ o. in-none [] within (k + 1) (λ j. refl))

@@ -269,7 +269,7 @@ module _ (f : ℕ → ℕ) where
   combines-once actor (send a b vs) within q₀ k t o s r y h w = w
   combines-once actor (receive a b vs) within q₀ k t o s r y h w = w
   combines-once actor (setting v e) within q₀ k t o s r y h w = w
-  combines-once actor raise within q₀ k t o s r y h w = w
+  combines-once actor (raise number) within q₀ k t o s r y h w = w
   combines-once actor leave within q₀ k t o s r y h w = w
   combines-once actor (choose e) within q₀ k t o s r y h w = on-once k inside (finishes k) _ w (λ q j. refl)
   combines-once actor (repeat e) within q₀ k t o s r y h w = on-once k inside (again k) _ w (λ q j. refl)

@@ -1,5 +1,5 @@
 -- What an order still owes: what is to come of the undo part that runs, and the sure steps of those that are remembered. Assumes nothing.
-use Prim.Native.Nat.{ℕ, _+_, _≤_, _<_}
+use Prim.Native.Nat.{ℕ, zero, suc, _+_, _≤_, _<_}
 use native.Mathlib.Omega.{arith}
 use mathlib.Core.Path.{_≡_, refl, sym, ap, subst, _∙_}
 use mathlib.Core.Bool.{Bool, true, false, cond, not, _&&_, _||_, or-false, false≢true}
@@ -75,7 +75,8 @@ closings-itself (send x y vs) within y₀ k o s = go (allBound o vs)
     go false = refl
 closings-itself (receive x y vs) within y₀ k o s = refl
 closings-itself (setting v x) within y₀ k o s = closings-raises k o (λ n. finishes k (binding v n o)) (evaluate x o) (λ n. refl)
-closings-itself raise within y₀ k o s = refl
+closings-itself (raise zero) within y₀ k o s = refl
+closings-itself (raise (suc number)) within y₀ k o s = refl
 closings-itself leave within y₀ k o s = refl
 closings-itself (choose x) within y₀ k o s =
     closings-raises k o _ (evaluate x o) (λ n. closings-where (finishes k) (begunIn (marked k inside o) (beginPart (cond (isTrue n) 0 1) within (k + 1) (marked k inside o .marks))) (λ o. refl))
@@ -96,7 +97,8 @@ closings-combines empty within k t r s = refl
 closings-combines (send x y vs) within k t r s = refl
 closings-combines (receive x y vs) within k t r s = refl
 closings-combines (setting v x) within k t r s = refl
-closings-combines raise within k t r s = refl
+closings-combines (raise zero) within k t r s = refl
+closings-combines (raise (suc number)) within k t r s = refl
 closings-combines leave within k t r s = refl
 closings-combines (choose x) within k t r s = closings-goes k inside (finishes k) r (λ o. refl)
 closings-combines (repeat x) within k t r s = closings-goes k inside (again k) r (λ o. refl)

@@ -1,5 +1,5 @@
 -- A sequence that has the step in it runs on, or all that follows in it begins: of a step that is neither a raise nor a leave. Assumes nothing.
-use Prim.Native.Nat.{ℕ, _+_, _≤_, _<_}
+use Prim.Native.Nat.{ℕ, zero, suc, _+_, _≤_, _<_}
 use native.Mathlib.Omega.{arith}
 use mathlib.Core.Path.{_≡_, refl, sym, ap, subst, _∙_}
 use mathlib.Core.Bool.{Bool, true, false, cond, not, _&&_, _||_, false≢true, or-true}
@@ -138,7 +138,8 @@ module _ (f : ℕ → ℕ) where
   doer-lasts (send p o vs) e = refl
   doer-lasts (receive p o vs) e = refl
   doer-lasts (setting v x) e = refl
-  doer-lasts raise e = refl
+  doer-lasts (raise zero) e = refl
+  doer-lasts (raise (suc number)) e = refl
   doer-lasts leave e = refl
   doer-lasts (choose x) e = refl
   doer-lasts (repeat x) e = refl
@@ -254,7 +255,8 @@ module _ (p : Plan) (actor : Actor) (f : ℕ → ℕ) (t : ℕ) (o : Order) wher
   seq-claim (send a b vs) within y₀ k x h w c q e = absurd (false≢true e)
   seq-claim (receive a b vs) within y₀ k x h w c q e = absurd (false≢true e)
   seq-claim (setting v z) within y₀ k x h w c q e = absurd (false≢true e)
-  seq-claim raise within y₀ k x h w c q e = absurd (false≢true e)
+  seq-claim (raise zero) within y₀ k x h w c q e = absurd (false≢true e)
+  seq-claim (raise (suc number)) within y₀ k x h w c q e = absurd (false≢true e)
   seq-claim leave within y₀ k x h w c q e = absurd (false≢true e)
   seq-claim (choose z) within y₀ k x h w c q e = absurd (false≢true e)
   seq-claim (repeat z) within y₀ k x h w c q e = absurd (false≢true e)

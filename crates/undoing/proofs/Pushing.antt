@@ -1,5 +1,5 @@
 -- What closes directly inside the root with a step, by its log: the step itself, where it is the close of such a scope. Assumes nothing.
-use Prim.Native.Nat.{ℕ, _+_, _≤_, _<_}
+use Prim.Native.Nat.{ℕ, zero, suc, _+_, _≤_, _<_}
 use native.Mathlib.Omega.{arith}
 use mathlib.Core.Path.{_≡_, refl, sym, ap, subst, _∙_}
 use mathlib.Core.Bool.{Bool, true, false, cond, not, _&&_, _||_, false≢true}
@@ -240,7 +240,8 @@ module _ (p : Plan) (h : Seat p (rootOf p)) where
   other-own (send x y vs) k o d e = if-raised k unboundVariable d (not (allBound o vs))
   other-own (receive x y vs) k o d e = refl
   other-own (setting v x) k o d e = by-raised k d (evaluate x o)
-  other-own raise k o d e = nothing-closed k plainRaise d
+  other-own (raise zero) k o d e = nothing-closed k plainRaise d
+  other-own (raise (suc number)) k o d e = nothing-closed k plainRaise d
   other-own leave k o d e = left-closed d
   other-own (choose x) k o d e = by-raised k d (evaluate x o)
   other-own (repeat x) k o d e = by-raised k d (evaluate x o)

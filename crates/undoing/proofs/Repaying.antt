@@ -1,5 +1,5 @@
 -- An undo part that begins has all its sure steps to come, a step in one that runs takes itself away from these, and so it goes through the list. Assumes nothing.
-use Prim.Native.Nat.{ℕ, _+_, _≤_, _<_}
+use Prim.Native.Nat.{ℕ, zero, suc, _+_, _≤_, _<_}
 use native.Mathlib.Omega.{arith}
 use mathlib.Core.Path.{_≡_, refl, sym, ap, subst, _∙_}
 use mathlib.Core.Bool.{Bool, true, false, cond, not, _&&_, _||_, false≢true, or-true, or-false}
@@ -428,7 +428,8 @@ kind-place p q own within k t v f h = go own h
     go (send x y vs) h = its h
     go (receive x y vs) h = its h
     go (setting x y) h = its h
-    go raise h = its h
+    go (raise zero) h = its h
+    go (raise (suc number)) h = its h
     go leave h = its h
     go (choose x) h = its h
     go (repeat x) h = absurd (false≢true h)
@@ -481,7 +482,8 @@ kind-sub t empty x y z x′ y′ z′ e f g h = h
 kind-sub t (send a b vs) x y z x′ y′ z′ e f g h = e h
 kind-sub t (receive a b vs) x y z x′ y′ z′ e f g h = e h
 kind-sub t (setting a b) x y z x′ y′ z′ e f g h = e h
-kind-sub t raise x y z x′ y′ z′ e f g h = e h
+kind-sub t (raise zero) x y z x′ y′ z′ e f g h = e h
+kind-sub t (raise (suc number)) x y z x′ y′ z′ e f g h = e h
 kind-sub t leave x y z x′ y′ z′ e f g h = e h
 kind-sub t (choose a) x y z x′ y′ z′ e f g h = e h
 kind-sub t (repeat a) x y z x′ y′ z′ e f g h = h

@@ -1,5 +1,5 @@
 -- The log of a step by its raise: what follows a raise, and that nothing faults without one. Assumes nothing.
-use Prim.Native.Nat.{ℕ, _+_, _≤_, _<_}
+use Prim.Native.Nat.{ℕ, zero, suc, _+_, _≤_, _<_}
 use native.Mathlib.Omega.{arith}
 use mathlib.Core.Path.{_≡_, refl, sym, ap, subst, _∙_}
 use mathlib.Core.Bool.{Bool, true, false, cond, not, _&&_, _||_, false≢true, and-false, and-true}
@@ -258,7 +258,8 @@ module _ (p : Plan) (t : ℕ) (φ : Name → Bool) (b : Bool) (q : Place) (k : �
   out-itself (send x op vs) within q₀ s e l = decide (allBound o vs) (λ d. rw d (out-mild (finishes k o) (mild-finishes k o))) (λ d. rw d (out-raises unboundVariable e l))
   out-itself (receive x op vs) within q₀ s e l = out-mild (finishes k o) (mild-finishes k o)
   out-itself (setting v x) within q₀ s e l = out-or e l (λ n. finishes k (binding v n o)) (evaluate x o) (λ n. mild-finishes k (binding v n o))
-  out-itself raise within q₀ s e l = out-raises plainRaise e l
+  out-itself (raise zero) within q₀ s e l = out-raises plainRaise e l
+  out-itself (raise (suc number)) within q₀ s e l = out-raises plainRaise e l
   out-itself leave within q₀ s e l = record { comes = shape-calm refl }
   out-itself (choose x) within q₀ s e l =
       out-or e l (λ n. enters k o (beginPart (cond (isTrue n) 0 1) within (k + 1) (marked k inside o .marks))) (evaluate x o)
@@ -289,7 +290,7 @@ module _ (p : Plan) (t : ℕ) (φ : Name → Bool) (b : Bool) (q : Place) (k : �
   out-combines (send x op vs) within r s h = h
   out-combines (receive x op vs) within r s h = h
   out-combines (setting v x) within r s h = h
-  out-combines raise within r s h = h
+  out-combines (raise number) within r s h = h
   out-combines leave within r s h = h
   out-combines (choose x) within r s h = out-goes inside (finishes k) r (mild-finishes k) h
   out-combines (repeat x) within r s h = out-goes inside (again k) r (mild-again k) h

@@ -120,7 +120,8 @@ module _ (f : ℕ → ℕ) where
   own-onto (send p o vs) within k e ms t a b = onto-waits k _
   own-onto (receive p o vs) within k e ms t a b = onto-waits k _
   own-onto (setting v x) within k e ms t a b = onto-waits k _
-  own-onto raise within k e ms t a b = onto-waits k _
+  own-onto (raise zero) within k e ms t a b = onto-waits k _
+  own-onto (raise (suc number)) within k e ms t a b = onto-waits k _
   own-onto leave within k e ms t a b = onto-waits k _
   own-onto (choose x) within k e ms t a b = onto-waits k _
   own-onto (repeat x) within k e ms t a b = onto-waits k _

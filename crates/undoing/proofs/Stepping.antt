@@ -1,5 +1,5 @@
 -- A step in a tree, from the activity that acts up: how the tree stands after it, and that all it logs is right. Assumes nothing.
-use Prim.Native.Nat.{ℕ, _+_, _≤_, _<_}
+use Prim.Native.Nat.{ℕ, zero, suc, _+_, _≤_, _<_}
 use native.Mathlib.Omega.{arith}
 use mathlib.Core.Path.{_≡_, refl, sym, ap, subst, _∙_}
 use mathlib.Core.Bool.{Bool, true, false, _&&_, _||_, false≢true, or-true, cond, not, and-false}
@@ -346,7 +346,8 @@ module _ (p : Plan) (actor : Actor) where
   arm-itself (send x y vs) within y₀ k o e = absurd (false≢true e)
   arm-itself (receive x y vs) within y₀ k o e = absurd (false≢true e)
   arm-itself (setting v x) within y₀ k o e = absurd (false≢true e)
-  arm-itself raise within y₀ k o e = absurd (false≢true e)
+  arm-itself (raise zero) within y₀ k o e = absurd (false≢true e)
+  arm-itself (raise (suc number)) within y₀ k o e = absurd (false≢true e)
   arm-itself leave within y₀ k o e = absurd (false≢true e)
   arm-itself (choose x) within y₀ k o e = absurd (false≢true e)
   arm-itself (repeat x) within y₀ k o e = absurd (false≢true e)
@@ -426,7 +427,8 @@ module _ (p : Plan) (actor : Actor) where
   held-itself (send x y vs) within y₀ k o s e = absurd (false≢true e)
   held-itself (receive x y vs) within y₀ k o s e = absurd (false≢true e)
   held-itself (setting v x) within y₀ k o s e = absurd (false≢true e)
-  held-itself raise within y₀ k o s e = absurd (false≢true e)
+  held-itself (raise zero) within y₀ k o s e = absurd (false≢true e)
+  held-itself (raise (suc number)) within y₀ k o s e = absurd (false≢true e)
   held-itself leave within y₀ k o s e = absurd (false≢true e)
   held-itself (choose x) within y₀ k o s e = absurd (false≢true e)
   held-itself (repeat x) within y₀ k o s e = absurd (false≢true e)

@@ -1,5 +1,5 @@
 -- A raise in place of a receive comes out of the undo part that runs: no scope stands there that could take it. Assumes nothing.
-use Prim.Native.Nat.{ℕ, _+_, _≤_, _<_}
+use Prim.Native.Nat.{ℕ, zero, suc, _+_, _≤_, _<_}
 use native.Mathlib.Omega.{arith}
 use mathlib.Core.Path.{_≡_, refl, sym, ap, subst, _∙_}
 use mathlib.Core.Bool.{Bool, true, false, cond, not, false≢true}
@@ -61,7 +61,8 @@ up-combines empty within k t r s n = refl
 up-combines (send x y vs) within k t r s n = refl
 up-combines (receive x y vs) within k t r s n = refl
 up-combines (setting v x) within k t r s n = refl
-up-combines raise within k t r s n = refl
+up-combines (raise zero) within k t r s n = refl
+up-combines (raise (suc number)) within k t r s n = refl
 up-combines leave within k t r s n = refl
 up-combines (choose x) within k t r s n = up-goes k inside (finishes k) r n
 up-combines (repeat x) within k t r s n = up-goes k inside (again k) r n
