@@ -70,7 +70,7 @@ const char *moonhalyard_says(uint32_t refusal);
    Bytes of another length or with another mark in front hold no state: every call but load and upgrade answers 17 for them and leaves them as they
    are. */
 /* layout: written by tools/layout from data/layout.txt */
-#define MOONHALYARD_MARK "MOONHAL2"
+#define MOONHALYARD_MARK "MOONHAL3"
 #define MOONHALYARD_TALLY_STARTED 8
 #define MOONHALYARD_TALLY_WELL 12
 #define MOONHALYARD_TALLY_HANDLED 16
@@ -83,7 +83,7 @@ const char *moonhalyard_says(uint32_t refusal);
 #define MOONHALYARD_MESSAGES_MOST 64
 #define MOONHALYARD_ORDERS 5932
 #define MOONHALYARD_ORDERS_MOST 16
-#define MOONHALYARD_STATE 12476
+#define MOONHALYARD_STATE 12492
 #define MOONHALYARD_MESSAGE_PARTNER 0
 #define MOONHALYARD_MESSAGE_OPERATION 4
 #define MOONHALYARD_MESSAGE_COUNT 8
@@ -100,7 +100,8 @@ const char *moonhalyard_says(uint32_t refusal);
 #define MOONHALYARD_ORDER_REMEMBERED 337
 #define MOONHALYARD_ORDER_REMEMBERED_MOST 32
 #define MOONHALYARD_ORDER_KEPT 401
-#define MOONHALYARD_ORDER 409
+#define MOONHALYARD_ORDER_CAUSE 409
+#define MOONHALYARD_ORDER 410
 #define MOONHALYARD_CLOSING_SCOPE 0
 #define MOONHALYARD_CLOSING_PART 1
 #define MOONHALYARD_CLOSING 2
