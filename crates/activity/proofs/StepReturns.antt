@@ -24,7 +24,7 @@ use Rattle.order.specs.declared.Worth.{Worth}
 use Rattle.order.specs.Acting.{finishes, enters, again, repeats, itself}
 use Rattle.order.specs.Answering.{went, isOver, worthOf, Evaluates, begunOf, Begins, Clears, KindOf, forPart, notFor, handed, Forgets, Remembers, Hands, runsOf, finishesOf, raisesOf, leavesOf, Bound, CountOf, VariableOf, Names, AllBound, Binds, Enters, StepOf, Roomy, Closes, HandsOn, StepsAt, Repeats, WorthAt}
 use Rattle.order.specs.Begin.{begin, part, partAt, beginPart}
-use Rattle.order.specs.Expression.{Value, fault, value, evaluate, isTrue}
+use Rattle.order.specs.Expression.{plainRaise, unboundVariable, Value, fault, value, evaluate, isTrue}
 use Rattle.order.specs.Lists.{only, every}
 use Rattle.order.specs.Scope.{begunIn, whereOver, scopeAt, isFor, listOf, forgetting, adds, closing}
 use Rattle.order.specs.Stands.{End, Line, Stands}
@@ -40,8 +40,8 @@ module _ (k : ℕ) (o : Order) where
   pub finish-is : {p : Order} → p ≡ marked k 0 o → _≡_ {A = Went} (record { way = Over; order = p }) (finishesOf k o)
   finish-is e = rw e
 
-  pub raise-is : {p : Order} → p ≡ marked k 0 o → _≡_ {A = Went} (record { way = Raising; order = p }) (raisesOf k o)
-  raise-is e = rw e
+  pub raise-is : (x : ℕ) {p : Order} → p ≡ marked k 0 o → _≡_ {A = Went} (record { way = Raising x; order = p }) (raisesOf x k o)
+  raise-is x e = rw e
 
   pub leave-is : {p : Order} → p ≡ marked k 0 o → _≡_ {A = Went} (record { way = Leaving; order = p }) (leavesOf k o)
   leave-is e = rw e
@@ -160,7 +160,7 @@ module _ (t : List ℕ) (k : ℕ) (o : Order) {b : Bool} (x : AllBound t k o b) 
         (λ p q vs s. rw (← x .is vs (send-names t k p q vs l s), e) g) own n s;
   }
 
-  pub send-raises : b ≡ false → {r : Went} → r ≡ raisesOf k o → StepOf 1 t k o r
+  pub send-raises : b ≡ false → {r : Went} → r ≡ raisesOf unboundVariable k o → StepOf 1 t k o r
   unfolding itself
   send-raises e {r} g = record {
     is = λ own l pt n s.
@@ -187,7 +187,7 @@ set-row t k v o e l x s =
     }))))
 
 module _ (t : List ℕ) (k : ℕ) (o : Order) {w : Worth} (x : WorthAt t k o w) where
-  pub set-raises : w ≡ Worth.Fault → {r : Went} → r ≡ raisesOf k o → StepOf 3 t k o r
+  pub set-raises : {f : ℕ} → w ≡ Worth.Fault f → {r : Went} → r ≡ raisesOf f k o → StepOf 3 t k o r
   unfolding itself
   set-raises h {r} g = record {
     is = λ own l pt n s.
@@ -229,7 +229,7 @@ chosen e a b pt k o y h true i = rw (h, i)
 chosen e a b pt k o y h false i = rw (h, i)
 
 module _ (t : List ℕ) (k : ℕ) (o : Order) {w : Worth} (x : WorthAt t k o w) where
-  pub choose-raises : w ≡ Worth.Fault → {r : Went} → r ≡ raisesOf k o → StepOf 6 t k o r
+  pub choose-raises : {f : ℕ} → w ≡ Worth.Fault f → {r : Went} → r ≡ raisesOf f k o → StepOf 6 t k o r
   unfolding itself
   choose-raises h {r} g = record {
     is = λ own l pt n s.
@@ -311,7 +311,7 @@ decided e l pt k o y h true i = rw h (yes (isTrue y) (repeats k l o) (finishes k
 decided e l pt k o y h false i = rw h (no (isTrue y) (repeats k l o) (finishes k o) i)
 
 module _ (t : List ℕ) (k : ℕ) (o : Order) {w : Worth} (x : WorthAt t k o w) where
-  pub decide-raises : w ≡ Worth.Fault → {r : Went} → r ≡ raisesOf k o → StepOf 7 t k o r
+  pub decide-raises : {f : ℕ} → w ≡ Worth.Fault f → {r : Went} → r ≡ raisesOf f k o → StepOf 7 t k o r
   unfolding itself
   decide-raises h {r} g = record {
     is = λ own l pt n s.
@@ -424,7 +424,7 @@ module _ (t : List ℕ) (pt k : ℕ) (o : Order) {kd : ℕ} (q : KindOf t k kd) 
     is = λ own l d s room. of-kind 2 (λ w. r ≡ went (itself w l pt k o)) (λ p q vs. g) own (sym (row-kind q own l s) ∙ e);
   }
 
-  pub itself-raises : kd ≡ 4 → {r : Went} → r ≡ raisesOf k o → StepsAt t pt k o r
+  pub itself-raises : kd ≡ 4 → {r : Went} → r ≡ raisesOf plainRaise k o → StepsAt t pt k o r
   unfolding itself
   itself-raises e {r} g = record { is = λ own l d s room. of-kind 4 (λ w. r ≡ went (itself w l pt k o)) g own (sym (row-kind q own l s) ∙ e) }
 

@@ -221,7 +221,7 @@ module _ {t : List ℕ} {e c : ℕ} {ms : List ℕ} {j : ℕ} {m : List ℕ} {o 
 
 -- `no_order`, `started_order`
 pub no-order-is : _≡_ {A = Order}
-    (record { root = 0; marks = replicate 256 0; values = replicate 16 0; bound = replicate 16 0; remembered = replicate 32 (closingOf 0 0); kept = 0 })
+    (record { root = 0; marks = replicate 256 0; values = replicate 16 0; bound = replicate 16 0; remembered = replicate 32 (closingOf 0 0); kept = 0; cause = 0 })
     noOrder
 unfolding noOrder
 no-order-is = refl

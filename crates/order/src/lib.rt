@@ -1,5 +1,6 @@
 // One order: what it holds, what the rows of its plan say, how its marks and what it remembers change, and what expressions come to.
 pub mod evaluation;
+pub mod fault;
 pub mod inside;
 pub mod kind;
 pub mod mark;
