@@ -8,6 +8,7 @@ use drawing::put_byte;
 use drawing::put_next;
 use machine::State;
 use order::Order;
+use order::fault;
 use plan::kind;
 use plan::table::KIND;
 use plan::table::Table;
@@ -106,7 +107,7 @@ fn put_scope(out: &mut [u8; 4096], used: usize, n: usize) -> usize {
 
 // Of a conflicting receive, the first two that are for one thing and may have made the root fault.
 fn put_conflict(out: &mut [u8; 4096], used: usize, table: &Table, cause: u8) -> usize {
-    if cause != 4 {
+    if cause != fault::CONFLICTING_RECEIVE {
         return used;
     }
     let k = checking::contested_in(table, 256);
