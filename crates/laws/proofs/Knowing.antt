@@ -20,7 +20,7 @@ use Rattle.order.specs.declared.End.{End}
 use Rattle.order.specs.declared.End.the-variants.{None, Well, Handled, Failed, Left}
 use Rattle.order.specs.Acting.{startedOrder, allBound}
 use Rattle.order.specs.Judging.{stepOrder}
-use Rattle.order.specs.Expression.{Value, fault, value, evaluate}
+use Rattle.order.specs.Expression.{unboundVariable, Value, fault, value, evaluate}
 use Rattle.order.specs.Lists.{every, stored}
 use Rattle.order.specs.Stands.{Stands}
 use Rattle.order.specs.State.{idle, isLive, isBound, valueOf, binding, noOrder}
@@ -171,7 +171,7 @@ unfolding evaluate worth knownIn
 evaluate-worth (constant n) f = refl
 evaluate-worth (variable v) {o} f = go (isBound o v) ∙ ap toValue (f .is v)
   where
-    go : (b : Bool) → cond b (value (valueOf o v)) fault ≡ toValue (cond b (known (valueOf o v)) unknown)
+    go : (b : Bool) → cond b (value (valueOf o v)) (fault unboundVariable) ≡ toValue (cond b (known (valueOf o v)) unknown)
     go true = refl
     go false = refl
 evaluate-worth (binary op x y) f = rw (evaluate-worth x f, evaluate-worth y f)
@@ -241,7 +241,7 @@ knows-after (receive p q vs) xs h f = knows-take vs xs h f
 knows-after (setting v e) xs {o} {l} h f = rw (evaluate-worth e f) (go (worth e l))
   where
     go : (x : Value) → Knows (setTo v x o) (setGives v x l)
-    go fault = f
+    go (fault n) = f
     go (value n) = knows-binding v n h f
 knows-after raise xs h f = f
 knows-after leave xs h f = f
@@ -502,16 +502,16 @@ taken-as-known bytes p next e calls t c = go (planIn s) refl
     T : Tally
     T = after calls (loaded bytes) t .1
 
-    at : (x : Offer) (d : End) → choosing (offersOf p s) c ≡ chosen x → Full bytes p calls t s (answering x d)
-    at x d y z l q a b vs u i h k v g =
-        let f : Along p next (x .slot) s (toldFrom bytes p calls (x .slot) t) = run-along bytes e calls (x .slot) t in
-        let w : Knows (getD (s .orders) (x .slot) noOrder) l = subst (Tells (getD (s .orders) (x .slot) noOrder)) q (f .tells) in
+    at : (x : Offer) (d : End) (f : ℕ) → choosing (offersOf p s) c ≡ chosen x → Full bytes p calls t s (answering x d f)
+    at x d f y z l q a b vs u i h k v g =
+        let r : Along p next (x .slot) s (toldFrom bytes p calls (x .slot) t) = run-along bytes e calls (x .slot) t in
+        let w : Knows (getD (s .orders) (x .slot) noOrder) l = subst (Tells (getD (s .orders) (x .slot) noOrder)) q (r .tells) in
         let n = known-bound (getD (s .orders) (x .slot) noOrder) (getD vs i 0) v (w .is (getD vs i 0) ∙ g) in
         taken-in-full p s c x y (rw (w .live)) a b vs u i h k (n .0) ∙ n .1
 
     by-choice : (y : Chosen) → choosing (offersOf p s) c ≡ y → Full bytes p calls t s (stepChosen p s T y .answer)
     by-choice (refusedChoice n) y = λ z. absurd (refusal-some (offersOf p s) c n y z)
-    by-choice (chosen x) y = rw (taken-answer p x s T) (at x (taken p x s T .answer .end) y)
+    by-choice (chosen x) y = rw (taken-answer p x s T) (at x (taken p x s T .answer .end) (taken p x s T .answer .fault) y)
 
     go : (g : Found Plan) → planIn s ≡ g → Full bytes p calls t s (by (record { answer = refusing 17; state = s; tally = T; log = [] }) (λ p. stepBy p c s T) g .answer)
     go (refused n k) y = λ z. absurd (omega arith)

@@ -1,6 +1,7 @@
 pub mod Roomy
 pub mod Offering
 pub mod Doing
+pub mod Numbers
 pub mod Staying
 pub mod Keeping
 pub mod Promised

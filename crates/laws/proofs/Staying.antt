@@ -18,8 +18,8 @@ use Rattle.order.specs.declared.End.{End}
 use Rattle.order.specs.declared.End.the-variants.{None, Well, Handled, Failed, Left}
 use Rattle.order.specs.Lists.{every, only, withoutFirst, withoutLast}
 use Rattle.order.specs.Event.{Event}
-use Rattle.order.specs.Expression.{Value, fault, value, evaluate, isTrue}
-use Rattle.order.specs.State.{idle, active, inside, done, faulty, undoing, handling, halted, withdrawing, Name, root, inner, withMarks, withRoot, binding, closingOf, closings, remembering, markAt, marked, markOf, marking, noOrder}
+use Rattle.order.specs.Expression.{isFaultNumber, unboundVariable, conflictingReceive, Value, fault, value, evaluate, isTrue}
+use Rattle.order.specs.State.{idle, active, inside, done, faulty, undoing, handling, halted, withdrawing, Name, root, inner, withMarks, withRoot, binding, closingOf, closings, remembering, markAt, marked, markOf, marking, causing, noOrder}
 use Rattle.order.specs.Begin.{Begun, begin, beginInTurn, beginAll, beginFirst, beginAfter, beginPart, part, partAt, throughout, around, itsBeginning, inTurn, sideBySide, nothingBegun, awaiting, cleared, quiet}
 use Rattle.order.specs.Scope.{Outcome, Scope, Stopped, runs, after, begunIn, scopeAt, rootOf, isFor, listOf, rememberedFor, forgetting, adds, closing, innerRuns, beginUndo, beginUndoFirst, beginUndoIn, whereOver, startUndo, undo, ends, handle, undoes, turns, isOpen, untouched, alsoStopped, withdraws, stop, stopAll, stopFirst, faults, breaks, looksAgain, bodyOver, bodyRaised, undoOver, undoRaised, fromBody, partOver, partRaised, fromFault, goesThrough, fromUndo}
 use Rattle.order.specs.Acting.{finishes, raises, leaves, orRaises, enters, again, repeats, allBound, itself, isPart, arms, goesOn, joins, inScope, combines, stepIn, stepAmong, stepRoot, endOf, movedTo, startedOrder, begunOrder, Actor, itsOwn, inPlace, replaces, performs, Moved, acted}
@@ -31,6 +31,7 @@ use Rattle.order.specs.Room.{hasRoom, roomIn, roomAmong, roomPlan}
 use Rattle.order.specs.Taking.{bindAll}
 use Rattle.order.proofs.MemoryReturns.{closings-are}
 use Rattle.machine.specs.Limits.{rootInLimits, orderInLimits}
+use Rattle.laws.proofs.Numbers.{hasNumber, Numbered, number-step, number-among}
 use Rattle.laws.proofs.Offering.{pick-true, pick-false, Each, each-none, each-more, Does, plan-ready}
 
 -- a test that holds of each holds of each after one is changed to one of which it holds
@@ -164,6 +165,7 @@ pub record Fine (b : Bool) (z : ℕ) (o : Order) : Type 0 where
   pub marks : Small (o .marks)
   pub bound : every (λ b. leb b 1) (o .bound) ≡ true
   pub kept : o .kept ≤ 32
+  pub cause : isFaultNumber (o .cause) ≡ true
 
 abbrev Fines : Bool → ℕ → Outcome → Type 0
 Fines b z r = Fine b z (r .order)
@@ -178,16 +180,16 @@ Marks false m = leb m withdrawing ≡ true
 
 module _ {b : Bool} {z : ℕ} where
   fine-marks : {o : Order} {ms : List ℕ} → Fine b z o → Small ms → Fine b z (withMarks ms o)
-  fine-marks f s = record { root = f .root; marks = s; bound = f .bound; kept = f .kept }
+  fine-marks f s = record { root = f .root; marks = s; bound = f .bound; kept = f .kept; cause = f .cause }
 
   fine-marked : {o : Order} (k m : ℕ) → leb m withdrawing ≡ true → Fine b z o → Fine b z (marked k m o)
   fine-marked k m h f = fine-marks f (small-set k m h (f .marks))
 
   fine-remembering : {o : Order} (l : List Closing) → length l ≤ 32 → Fine b z o → Fine b z (remembering l o)
-  fine-remembering l h f = record { root = f .root; marks = f .marks; bound = f .bound; kept = h }
+  fine-remembering l h f = record { root = f .root; marks = f .marks; bound = f .bound; kept = h; cause = f .cause }
 
   fine-binding : {o : Order} (v x : ℕ) → Fine b z o → Fine b z (binding v x o)
-  fine-binding {o} v x f = record { root = f .root; marks = f .marks; bound = every-set (λ b. leb b 1) (o .bound) v 1 refl (f .bound); kept = f .kept }
+  fine-binding {o} v x f = record { root = f .root; marks = f .marks; bound = every-set (λ b. leb b 1) (o .bound) v 1 refl (f .bound); kept = f .kept; cause = f .cause }
 
   fine-over : (r : Outcome) (g : Order → Outcome) → Fine b z (r .order) → ((q : Order) → Fine b z q → Fine b z (g q .order)) → Fine b z (whereOver g r .order)
   fine-over r g f h = go (r .result)
@@ -195,17 +197,17 @@ module _ {b : Bool} {z : ℕ} where
       go : (w : Way) → Fines b z (elim w [
         | running ↦ r
         | over ↦ after (r .log) (g (r .order))
-        | raising ↦ r
+        | raising n ↦ r
         | leaving ↦ r
         | undone ↦ r
-        | undoRaising ↦ r
+        | undoRaising n ↦ r
       ])
       go running = f
       go over = h (r .order) f
-      go raising = f
+      go (raising n) = f
       go leaving = f
       go undone = f
-      go undoRaising = f
+      go (undoRaising n) = f
 
 -- of two outcomes one
 fine-pick : {b : Bool} {z : ℕ} (t : Bool) (x y : Outcome) → (t ≡ true → Fine b z (x .order)) → (t ≡ false → Fine b z (y .order))
@@ -262,8 +264,13 @@ fine-forgetting {o = o} s f =
 -- the mark of a scope
 fine-marking : {z : ℕ} {o : Order} (n : Name) (m : ℕ) → Marks (isRoot n) m → Fine (isRoot n) z o → Fine (isRoot n) z (marking n m o)
 unfolding Marks RootIs
-fine-marking root m h f = record { root = h; marks = f .marks; bound = f .bound; kept = f .kept }
+fine-marking root m h f = record { root = h; marks = f .marks; bound = f .bound; kept = f .kept; cause = f .cause }
 fine-marking (inner k) m h f = fine-marked k m h f
+
+-- the number of its fault
+fine-causing : {b : Bool} {z : ℕ} {o : Order} (n : Name) (x : ℕ) → isFaultNumber x ≡ true → Fine b z o → Fine b z (causing n x o)
+fine-causing root x h f = record { root = f .root; marks = f .marks; bound = f .bound; kept = f .kept; cause = h }
+fine-causing (inner k) x h f = f
 
 any-mark : (b : Bool) (m : ℕ) → leb m withdrawing ≡ true → rootInLimits m ≡ true → Marks b m
 unfolding Marks
@@ -348,26 +355,26 @@ mutual
 -- what leaves the root's mark as it is leaves it within its limits
 fine-in : {b : Bool} {z : ℕ} {o : Order} → Fine b z o → Fine false (o .root) o
 unfolding RootIs
-fine-in f = record { root = refl; marks = f .marks; bound = f .bound; kept = f .kept }
+fine-in f = record { root = refl; marks = f .marks; bound = f .bound; kept = f .kept; cause = f .cause }
 
 fine-out : {b : Bool} {z : ℕ} {o r : Order} → Fine b z o → Fine false (o .root) r → Fine b z r
 unfolding RootIs
-fine-out {b} {z} {o} {r} f g = record { root = go b (f .root) (g .root); marks = g .marks; bound = g .bound; kept = g .kept }
+fine-out {b} {z} {o} {r} f g = record { root = go b (f .root) (g .root); marks = g .marks; bound = g .bound; kept = g .kept; cause = g .cause }
   where
     go : (b : Bool) → RootIs b z (o .root) → r .root ≡ o .root → RootIs b z (r .root)
     go true x e = rw e x
     go false x e = e ∙ x
 
 module _ {z : ℕ} (s : Scope) where
-  fine-faults : {o : Order} → Fine (isRoot (s .name)) z o → Fine (isRoot (s .name)) z (faults s o .order)
+  fine-faults : {o : Order} (n : ℕ) → isFaultNumber n ≡ true → Fine (isRoot (s .name)) z o → Fine (isRoot (s .name)) z (faults n s o .order)
   unfolding faults rootInLimits among
-  fine-faults f =
-      let g = fine-marking (s .name) faulty (any-mark (isRoot (s .name)) faulty refl refl) f in
+  fine-faults n h f =
+      let g = fine-causing (s .name) n h (fine-marking (s .name) faulty (any-mark (isRoot (s .name)) faulty refl refl) f) in
       fine-turns-fault s (fine-out g (fine-stop (s .body) (s .bodyAt) (fine-in g)))
 
-  fine-breaks : {o : Order} → Fine (isRoot (s .name)) z o → Fine (isRoot (s .name)) z (breaks s o .order)
+  fine-breaks : {o : Order} (n : ℕ) → Fine (isRoot (s .name)) z o → Fine (isRoot (s .name)) z (breaks n s o .order)
   unfolding breaks rootInLimits among
-  fine-breaks f =
+  fine-breaks n f =
       let g = fine-forgetting s (fine-marking (s .name) idle (any-mark (isRoot (s .name)) idle refl refl) f) in
       fine-marks g (small-cleared (s .count) (s .first) (g .marks))
 
@@ -386,9 +393,9 @@ module _ {z : ℕ} (s : Scope) where
       fine-pick (eqb (markOf (s .name) o) faulty) (turns true s o) (elim (eqb (markOf (s .name) o) halted) [ true ↦ turns false s o | false ↦ runs o ]) (λ e. fine-turns-fault s f)
       (λ e. fine-pick (eqb (markOf (s .name) o) halted) (turns false s o) (runs o) (λ d. fine-turns s false (not-root (s .name) halted refl f d) f) (λ d. f))
 
-  fine-raised : {o : Order} → Fine (isRoot (s .name)) z o → Fine (isRoot (s .name)) z (bodyRaised s o .order)
+  fine-raised : {o : Order} (n : ℕ) → isFaultNumber n ≡ true → Fine (isRoot (s .name)) z o → Fine (isRoot (s .name)) z (bodyRaised n s o .order)
   unfolding bodyRaised
-  fine-raised {o} f = fine-pick (isOpen (markOf (s .name) o)) (faults s o) (looksAgain s o) (λ e. fine-faults f) (λ e. fine-looks f)
+  fine-raised {o} n h f = fine-pick (isOpen (markOf (s .name) o)) (faults n s o) (looksAgain s o) (λ e. fine-faults n h f) (λ e. fine-looks f)
 
   fine-undo-over : {o : Order} → Fine (isRoot (s .name)) z o → Fine (isRoot (s .name)) z (undoOver s o .order)
   unfolding undoOver rootInLimits among
@@ -396,9 +403,9 @@ module _ {z : ℕ} (s : Scope) where
       fine-pick (eqb (markOf (s .name) o) undoing) (undoes true s o) (elim (eqb (markOf (s .name) o) withdrawing) [ true ↦ undoes false s o | false ↦ runs o ]) (λ e. fine-undoes-fault s f)
       (λ e. fine-pick (eqb (markOf (s .name) o) withdrawing) (undoes false s o) (runs o) (λ d. fine-undoes s false (not-root (s .name) withdrawing refl f d) f) (λ d. f))
 
-  fine-undo-raised : {o : Order} → Fine (isRoot (s .name)) z o → Fine (isRoot (s .name)) z (undoRaised s o .order)
+  fine-undo-raised : {o : Order} (n : ℕ) → Fine (isRoot (s .name)) z o → Fine (isRoot (s .name)) z (undoRaised n s o .order)
   unfolding undoRaised
-  fine-undo-raised {o} f = fine-pick (eqb (markOf (s .name) o) undoing || eqb (markOf (s .name) o) withdrawing) (breaks s o) (runs o) (λ e. fine-breaks f) (λ e. f)
+  fine-undo-raised {o} n f = fine-pick (eqb (markOf (s .name) o) undoing || eqb (markOf (s .name) o) withdrawing) (breaks n s o) (runs o) (λ e. fine-breaks n f) (λ e. f)
 
   fine-body-over : {o : Order} → Marks (isRoot (s .name)) done → Fine (isRoot (s .name)) z o → Fine (isRoot (s .name)) z (bodyOver s o .order)
   unfolding bodyOver
@@ -408,28 +415,28 @@ module _ {z : ℕ} (s : Scope) where
   unfolding partOver
   fine-part-over {o} f = fine-pick (eqb (markOf (s .name) o) handling) (ends s o) (runs o) (λ e. fine-ends s f) (λ e. f)
 
-  fine-part-raised : {o : Order} → Fine (isRoot (s .name)) z o → Fine (isRoot (s .name)) z (partRaised s o .order)
+  fine-part-raised : {o : Order} (n : ℕ) → Fine (isRoot (s .name)) z o → Fine (isRoot (s .name)) z (partRaised n s o .order)
   unfolding partRaised
-  fine-part-raised {o} f = fine-pick (eqb (markOf (s .name) o) handling) (breaks s o) (runs o) (λ e. fine-breaks f) (λ e. f)
+  fine-part-raised {o} n f = fine-pick (eqb (markOf (s .name) o) handling) (breaks n s o) (runs o) (λ e. fine-breaks n f) (λ e. f)
 
-  fine-from-body : (r : Outcome) → Marks (isRoot (s .name)) done → Fine (isRoot (s .name)) z (r .order) → Fine (isRoot (s .name)) z (fromBody s r .order)
+  fine-from-body : (r : Outcome) → Numbered r → Marks (isRoot (s .name)) done → Fine (isRoot (s .name)) z (r .order) → Fine (isRoot (s .name)) z (fromBody s r .order)
   unfolding fromBody
-  fine-from-body r m f = go (r .result)
+  fine-from-body r x m f = go (r .result) x
     where
-      go : (w : Way) → Fines (isRoot (s .name)) z (elim w [
+      go : (w : Way) → hasNumber w ≡ true → Fines (isRoot (s .name)) z (elim w [
         | running ↦ after (r .log) (looksAgain s (r .order))
         | over ↦ after (r .log) (bodyOver s (r .order))
-        | raising ↦ after (r .log) (bodyRaised s (r .order))
+        | raising n ↦ after (r .log) (bodyRaised n s (r .order))
         | leaving ↦ r
         | undone ↦ after (r .log) (undoOver s (r .order))
-        | undoRaising ↦ after (r .log) (undoRaised s (r .order))
+        | undoRaising n ↦ after (r .log) (undoRaised n s (r .order))
       ])
-      go running = fine-looks f
-      go over = fine-body-over m f
-      go raising = fine-raised f
-      go leaving = f
-      go undone = fine-undo-over f
-      go undoRaising = fine-undo-raised f
+      go running x = fine-looks f
+      go over x = fine-body-over m f
+      go (raising n) x = fine-raised n x f
+      go leaving x = f
+      go undone x = fine-undo-over f
+      go (undoRaising n) x = fine-undo-raised n f
 
   fine-from-fault : (r : Outcome) → Fine (isRoot (s .name)) z (r .order) → Fine (isRoot (s .name)) z (fromFault s r .order)
   unfolding fromFault
@@ -438,17 +445,17 @@ module _ {z : ℕ} (s : Scope) where
       go : (w : Way) → Fines (isRoot (s .name)) z (elim w [
         | running ↦ r
         | over ↦ after (r .log) (partOver s (r .order))
-        | raising ↦ after (r .log) (partRaised s (r .order))
+        | raising n ↦ after (r .log) (partRaised n s (r .order))
         | leaving ↦ r
         | undone ↦ record { result = running; order = r .order; log = r .log }
-        | undoRaising ↦ record { result = running; order = r .order; log = r .log }
+        | undoRaising n ↦ record { result = running; order = r .order; log = r .log }
       ])
       go running = f
       go over = fine-part-over f
-      go raising = fine-part-raised f
+      go (raising n) = fine-part-raised n f
       go leaving = f
       go undone = f
-      go undoRaising = f
+      go (undoRaising n) = f
 
 -- the step that an activity has by itself
 fine-cond : {b : Bool} {z : ℕ} (t : Bool) (x y : Outcome) → Fine b z (x .order) → Fine b z (y .order) → Fines b z (cond t x y)
@@ -457,7 +464,7 @@ fine-cond false x y f g = g
 
 module _ {z : ℕ} where
   fine-or : {o : Order} (k : ℕ) (g : ℕ → Outcome) (v : Value) → Fine false z o → ((n : ℕ) → Fine false z (g n .order)) → Fines false z (orRaises k o g v)
-  fine-or k g fault f h = fine-marked k idle refl f
+  fine-or k g (fault n) f h = fine-marked k idle refl f
   fine-or k g (value n) f h = h n
 
   fine-enters : {o : Order} (k : ℕ) (b : Begun) → Small (b .marks) → Fine false z o → Fine false z (enters k o b .order)
@@ -492,7 +499,7 @@ module _ {z : ℕ} where
   fine-itself : {o : Order} (own : Own) (l : Acts) (c k : ℕ) → hasRoom own l k (closings o) ≡ true → Fine false z o → Fine false z (itself own l c k o .order)
   unfolding itself hasRoom
   fine-itself empty l c k h f = f
-  fine-itself {o} (send p q vs) l c k h f = fine-cond (allBound o vs) (finishes k o) (raises k o) (fine-marked k idle refl f) (fine-marked k idle refl f)
+  fine-itself {o} (send p q vs) l c k h f = fine-cond (allBound o vs) (finishes k o) (raises unboundVariable k o) (fine-marked k idle refl f) (fine-marked k idle refl f)
   fine-itself (receive p q vs) l c k h f = fine-marked k idle refl f
   fine-itself {o} (setting v e) l c k h f =
       fine-or k (λ n. finishes k (binding v n o)) (evaluate e o) f (λ n. fine-marked k idle refl (fine-binding v n f))
@@ -521,31 +528,31 @@ module _ {z : ℕ} where
   unfolding joins
   fine-joins {o} k l f = fine-pick (quiet (k + 1) (sizes l) (o .marks)) (finishes k o) (runs o) (λ e. fine-marked k idle refl f) (λ e. f)
 
-  fine-in-scope : (undo : Bool) (k t : ℕ) (l : Acts) (r : Outcome) → Fine false z (r .order) → Fine false z (inScope undo k t l r .order)
+  fine-in-scope : (undo : Bool) (k t : ℕ) (l : Acts) (r : Outcome) → Numbered r → Fine false z (r .order) → Fine false z (inScope undo k t l r .order)
   unfolding inScope Marks fromUndo
-  fine-in-scope undo k t l r f =
+  fine-in-scope undo k t l r x f =
       fine-pick (ltb t (partAt 1 l (k + 1))) (elim (goesThrough undo k r) [ true ↦ r | false ↦ fromBody (scopeAt k l) r ])
       (elim (ltb t (partAt 2 l (k + 1))) [ true ↦ fromFault (scopeAt k l) r | false ↦ fromUndo r ])
-      (λ e. fine-pick (goesThrough undo k r) r (fromBody (scopeAt k l) r) (λ d. f) (λ d. fine-from-body (scopeAt k l) r refl f))
+      (λ e. fine-pick (goesThrough undo k r) r (fromBody (scopeAt k l) r) (λ d. f) (λ d. fine-from-body (scopeAt k l) r x refl f))
       (λ e. fine-pick (ltb t (partAt 2 l (k + 1))) (fromFault (scopeAt k l) r) (fromUndo r) (λ d. fine-from-fault (scopeAt k l) r f) (λ d. f))
 
-  fine-combines : (own : Own) (l : Acts) (k t : ℕ) (r : Outcome) → Fine false z (r .order) → Fine false z (combines own l k t r .order)
+  fine-combines : (own : Own) (l : Acts) (k t : ℕ) (r : Outcome) → Numbered r → Fine false z (r .order) → Fine false z (combines own l k t r .order)
   unfolding combines
-  fine-combines empty l k t r f = f
-  fine-combines (send p q vs) l k t r f = f
-  fine-combines (receive p q vs) l k t r f = f
-  fine-combines (setting v e) l k t r f = f
-  fine-combines raise l k t r f = f
-  fine-combines leave l k t r f = f
-  fine-combines (choose e) l k t r f = fine-goes k inside (finishes k) r f (λ q g. fine-marked k idle refl g)
-  fine-combines (repeat e) l k t r f = fine-goes k inside (again k) r f (λ q g. fine-marked k active refl g)
-  fine-combines sequence l k t r f =
+  fine-combines empty l k t r x f = f
+  fine-combines (send p q vs) l k t r x f = f
+  fine-combines (receive p q vs) l k t r x f = f
+  fine-combines (setting v e) l k t r x f = f
+  fine-combines raise l k t r x f = f
+  fine-combines leave l k t r x f = f
+  fine-combines (choose e) l k t r x f = fine-goes k inside (finishes k) r f (λ q g. fine-marked k idle refl g)
+  fine-combines (repeat e) l k t r x f = fine-goes k inside (again k) r f (λ q g. fine-marked k active refl g)
+  fine-combines sequence l k t r x f =
       fine-goes k active (λ o. whereOver (finishes k) (begunIn o (beginAfter l (k + 1) t (o .marks)))) r f
       (λ q g. fine-over (begunIn q (beginAfter l (k + 1) t (q .marks))) (finishes k) (fine-marks g (small-after l (k + 1) t (q .marks) (g .marks))) (λ o h. fine-marked k idle refl h))
-  fine-combines flow l k t r f = fine-goes k active (joins k l) r f (λ q g. fine-joins k l g)
-  fine-combines pick l k t r f = fine-goes k inside (finishes k) r f (λ q g. fine-marked k idle refl g)
-  fine-combines (scope u) l k t r f = fine-in-scope u k t l r f
-  fine-combines (arm p q vs) l k t r f = f
+  fine-combines flow l k t r x f = fine-goes k active (joins k l) r f (λ q g. fine-joins k l g)
+  fine-combines pick l k t r x f = fine-goes k inside (finishes k) r f (λ q g. fine-marked k idle refl g)
+  fine-combines (scope u) l k t r x f = fine-in-scope u k t l r x f
+  fine-combines (arm p q vs) l k t r x f = f
 
   fine-arms : {o : Order} (own : Own) (l : Acts) (k t : ℕ) → Fine false z o → Fine false z (arms own l k t o)
   unfolding arms
@@ -568,7 +575,7 @@ fine-performs : {z : ℕ} {o : Order} (y : Actor) (own : Own) (l : Acts) (c k : 
 unfolding performs
 fine-performs {z} {o} y own l c k h f = go (replaces y (kind own))
   where
-    go : (b : Bool) → Fine false z (elim b as (λ _. Outcome) [ true ↦ raises k o | false ↦ itself own l c k o ] .order)
+    go : (b : Bool) → Fine false z (elim b as (λ _. Outcome) [ true ↦ raises conflictingReceive k o | false ↦ itself own l c k o ] .order)
     go true = fine-marked k idle refl f
     go false = fine-itself own l c k h f
 
@@ -579,7 +586,7 @@ mutual
   fine-step-in : {z : ℕ} {o : Order} (y : Actor) (a : Act) (c k t : ℕ) → roomIn a k t (closings o) ≡ true → Fine false z o → Fine false z (stepIn y a c k t o .order)
   fine-step-in {z} {o} y (act own l) c k t h f =
       go (eqb k t) h (λ e. fine-performs y own l c k e f)
-      (λ e. fine-combines own l k t (stepAmong y l (isScope own) c (k + 1) t (arms own l k t o))
+      (λ e. fine-combines own l k t (stepAmong y l (isScope own) c (k + 1) t (arms own l k t o)) (number-among y l (isScope own) c (k + 1) t (arms own l k t o))
       (fine-step-among y l (isScope own) c (k + 1) t (ap (roomAmong l (k + 1) t) (arms-closings own l k t o) ∙ e) (fine-arms own l k t f)))
     where
       go : (b : Bool) → elim b [ true ↦ hasRoom own l k (closings o) | false ↦ roomAmong l (k + 1) t (closings o) ] ≡ true
@@ -609,14 +616,15 @@ limits-fine o e =
     both (rootInLimits (o .root)) _ e (λ a b.
     both (every (λ m. leb m withdrawing) (o .marks)) _ b (λ c d.
     both (every (λ b. leb b 1) (o .bound)) _ d (λ f g.
-    record { root = a; marks = record { is = c }; bound = f; kept = leb-true _ _ g })))
+    both (leb (o .kept) 32) _ g (λ h i.
+    record { root = a; marks = record { is = c }; bound = f; kept = leb-true _ _ h; cause = i }))))
 
 pub fine-limits : {z : ℕ} {o : Order} → Fine true z o → orderInLimits o ≡ true
 unfolding orderInLimits RootIs
-fine-limits f = rw (f .root, f .marks .is, f .bound, le-leb _ _ (f .kept))
+fine-limits f = rw (f .root, f .marks .is, f .bound, le-leb _ _ (f .kept), f .cause)
 
 pub none-limits : orderInLimits noOrder ≡ true
-unfolding orderInLimits noOrder rootInLimits among every
+unfolding orderInLimits noOrder rootInLimits among every isFaultNumber
 none-limits = refl
 
 -- how an order ended
@@ -634,45 +642,45 @@ ended-fine r f = go (r .result)
     go : (w : Way) → orderInLimits (movedTo r (elim w [
       | running ↦ cond (eqb (r .order .root) done) Well None
       | over ↦ Handled
-      | raising ↦ Failed
+      | raising n ↦ Failed
       | leaving ↦ Left
       | undone ↦ None
-      | undoRaising ↦ None
+      | undoRaising n ↦ None
     ]) .order) ≡ true
     go running = root-done (eqb (r .order .root) done)
     go over = none-limits
-    go raising = none-limits
+    go (raising n) = none-limits
     go leaving = none-limits
     go undone = fine-limits f
-    go undoRaising = fine-limits f
+    go (undoRaising n) = fine-limits f
 
 ended-well : (l : List Event) (o : Order) → Ends (after l (runs (withRoot done o)))
 unfolding movedTo endOf
 ended-well l o = none-limits
 
 -- the root's body
-ended-body : {z : ℕ} (p : Plan) (r : Outcome) → Fine true z (r .order) → Ends (fromBody (rootOf p) r)
+ended-body : {z : ℕ} (p : Plan) (r : Outcome) → Numbered r → Fine true z (r .order) → Ends (fromBody (rootOf p) r)
 unfolding fromBody bodyOver
-ended-body p r f = go (r .result)
+ended-body p r x f = go (r .result) x
   where
     body-over : (b : Bool) → Ends (after (r .log) (elim b [ true ↦ runs (marking root done (r .order)) | false ↦ looksAgain (rootOf p) (r .order) ]))
     body-over true = ended-well (r .log) (r .order)
     body-over false = ended-fine (after (r .log) (looksAgain (rootOf p) (r .order))) (fine-looks (rootOf p) f)
 
-    go : (w : Way) → Ends (elim w [
+    go : (w : Way) → hasNumber w ≡ true → Ends (elim w [
       | running ↦ after (r .log) (looksAgain (rootOf p) (r .order))
       | over ↦ after (r .log) (bodyOver (rootOf p) (r .order))
-      | raising ↦ after (r .log) (bodyRaised (rootOf p) (r .order))
+      | raising n ↦ after (r .log) (bodyRaised n (rootOf p) (r .order))
       | leaving ↦ r
       | undone ↦ after (r .log) (undoOver (rootOf p) (r .order))
-      | undoRaising ↦ after (r .log) (undoRaised (rootOf p) (r .order))
+      | undoRaising n ↦ after (r .log) (undoRaised n (rootOf p) (r .order))
     ])
-    go running = ended-fine (after (r .log) (looksAgain (rootOf p) (r .order))) (fine-looks (rootOf p) f)
-    go over = body-over (eqb (r .order .root) active)
-    go raising = ended-fine (after (r .log) (bodyRaised (rootOf p) (r .order))) (fine-raised (rootOf p) f)
-    go leaving = ended-fine r f
-    go undone = ended-fine (after (r .log) (undoOver (rootOf p) (r .order))) (fine-undo-over (rootOf p) f)
-    go undoRaising = ended-fine (after (r .log) (undoRaised (rootOf p) (r .order))) (fine-undo-raised (rootOf p) f)
+    go running x = ended-fine (after (r .log) (looksAgain (rootOf p) (r .order))) (fine-looks (rootOf p) f)
+    go over x = body-over (eqb (r .order .root) active)
+    go (raising n) x = ended-fine (after (r .log) (bodyRaised n (rootOf p) (r .order))) (fine-raised (rootOf p) n x f)
+    go leaving x = ended-fine r f
+    go undone x = ended-fine (after (r .log) (undoOver (rootOf p) (r .order))) (fine-undo-over (rootOf p) f)
+    go (undoRaising n) x = ended-fine (after (r .log) (undoRaised n (rootOf p) (r .order))) (fine-undo-raised (rootOf p) n f)
 
 -- An order within its limits that an activity acts in, or a raise in its place, stays so.
 acted-limits : (y : Actor) (p : Plan) (t : ℕ) (o : Order) → t < size (p .body) + size (p .fault) → roomPlan p t (closings o) ≡ true → orderInLimits o ≡ true
@@ -698,7 +706,7 @@ acted-limits y p t o h e f =
           | true ↦ fromBody (rootOf p) (stepIn y (p .body) 0 0 t o)
           | false ↦ fromFault (rootOf p) (stepIn y (p .fault) (size (p .body)) (size (p .body)) t o)
         ])
-    go true b q r = ended-body p (stepIn y (p .body) 0 0 t o) (fine-out fine (fine-step-in y (p .body) 0 0 t r (fine-in fine)))
+    go true b q r = ended-body p (stepIn y (p .body) 0 0 t o) (number-step y (p .body) 0 0 t o) (fine-out fine (fine-step-in y (p .body) 0 0 t r (fine-in fine)))
     go false true q r =
         ended-fine (fromFault (rootOf p) (stepIn y (p .fault) (size (p .body)) (size (p .body)) t o))
         (fine-from-fault (rootOf p) (stepIn y (p .fault) (size (p .body)) (size (p .body)) t o) (fine-out fine (fine-step-in y (p .fault) (size (p .body)) (size (p .body)) t r (fine-in fine))))
@@ -763,7 +771,7 @@ unfolding startedOrder begunOrder RootIs rootInLimits among
 start-limits p =
     let f = limits-fine noOrder none-limits in
     let s = small-begin (p .body) 0 (noOrder .marks) (f .marks) in
-    fine-limits {z = 0} (record { root = refl; marks = s; bound = f .bound; kept = f .kept })
+    fine-limits {z = 0} (record { root = refl; marks = s; bound = f .bound; kept = f .kept; cause = f .cause })
 
 pub bind-limits : (vs xs : List ℕ) (o : Order) → orderInLimits o ≡ true → orderInLimits (bindAll vs xs o) ≡ true
 unfolding bindAll
