@@ -97,7 +97,11 @@ fn put_rivals(out: &mut [u8; 4096], used: usize, k: usize, rival: usize) -> usiz
 fn put_contested(out: &mut [u8; 4096], used: usize, k: usize, rival: usize) -> usize {
     let mut at = put(out, used, b" faulted");
     at = put_rivals(out, at, k, rival);
-    put(out, at, b", and where both were open that alone faults it\n")
+    put(
+        out,
+        at,
+        b", and where both were open that alone faults it\n",
+    )
 }
 
 fn put_scope(out: &mut [u8; 4096], used: usize, n: usize) -> usize {
@@ -136,13 +140,7 @@ pub(crate) fn put_root_faulted(
 
 // Scope n, which has this mark: where it has faulted, which receives for one thing it may have faulted by. The state keeps by which fault the root faulted, and
 // not by which a scope did.
-fn put_faulted(
-    out: &mut [u8; 4096],
-    used: usize,
-    table: &Table,
-    n: usize,
-    mark: u8,
-) -> usize {
+fn put_faulted(out: &mut [u8; 4096], used: usize, table: &Table, n: usize, mark: u8) -> usize {
     if !has_faulted(mark) {
         return used;
     }
