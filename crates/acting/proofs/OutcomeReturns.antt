@@ -68,13 +68,13 @@ module _ (t : List ℕ) (z : Spot) (o : Order) {m : ℕ} (e : m ≡ markOf (name
   body-looks h y = record { is = λ b f k. y .is b f k ∙ sym (ap went (no _ _ _ (no-mark 1 h))) }
 
   -- `body_raised`
-  pub raised-faults : {v : Bool} → v ≡ isOpen m → v ≡ true → {r : Went} → {x : ℕ} → Leads t z (faults x) o r → Leads t z (bodyRaised x) o r
+  pub raised-faults : (x : ℕ) {v : Bool} → v ≡ isOpen m → v ≡ true → {r : Went} → Leads t z (faults x) o r → Leads t z (bodyRaised x) o r
   unfolding bodyRaised
-  raised-faults j g y = record { is = λ b f k. y .is b f k ∙ sym (ap went (yes (isOpen (markOf (nameOf z) o)) _ _ (rw (← e) (sym j ∙ g)))) }
+  raised-faults x j g y = record { is = λ b f k. y .is b f k ∙ sym (ap went (yes (isOpen (markOf (nameOf z) o)) _ _ (rw (← e) (sym j ∙ g)))) }
 
-  pub raised-absorbed : {v : Bool} → v ≡ isOpen m → v ≡ false → {r : Went} → {x : ℕ} → Leads t z looksAgain o r → Leads t z (bodyRaised x) o r
+  pub raised-absorbed : (x : ℕ) {v : Bool} → v ≡ isOpen m → v ≡ false → {r : Went} → Leads t z looksAgain o r → Leads t z (bodyRaised x) o r
   unfolding bodyRaised
-  raised-absorbed j g y = record { is = λ b f k. y .is b f k ∙ sym (ap went (no (isOpen (markOf (nameOf z) o)) _ _ (rw (← e) (sym j ∙ g)))) }
+  raised-absorbed x j g y = record { is = λ b f k. y .is b f k ∙ sym (ap went (no (isOpen (markOf (nameOf z) o)) _ _ (rw (← e) (sym j ∙ g)))) }
 
   -- `undo_over`
   pub undone-next : m ≡ 5 → {r : Went} → Undoes t true z o r → Leads t z undoOver o r
@@ -90,17 +90,17 @@ module _ (t : List ℕ) (z : Spot) (o : Order) {m : ℕ} (e : m ≡ markOf (name
   undone-not g h y = record { is = λ b f k. y ∙ sym (ap went (no _ _ _ (no-mark 5 g) ∙ no _ _ _ (no-mark 8 h))) }
 
   -- `undo_raised`
-  pub undo-breaks : m ≡ 5 → {r : Went} → {x : ℕ} → Leads t z (breaks x) o r → Leads t z (undoRaised x) o r
+  pub undo-breaks : (x : ℕ) → m ≡ 5 → {r : Went} → Leads t z (breaks x) o r → Leads t z (undoRaised x) o r
   unfolding undoRaised
-  undo-breaks h y = record { is = λ b f k. y .is b f k ∙ sym (ap went (yes (eqb (markOf (nameOf z) o) 5 || eqb (markOf (nameOf z) o) 8) _ _ (rw (is-mark 5 h)))) }
+  undo-breaks x h y = record { is = λ b f k. y .is b f k ∙ sym (ap went (yes (eqb (markOf (nameOf z) o) 5 || eqb (markOf (nameOf z) o) 8) _ _ (rw (is-mark 5 h)))) }
 
-  pub undo-breaks-too : (m ≡ 5 → ⊥) → m ≡ 8 → {r : Went} → {x : ℕ} → Leads t z (breaks x) o r → Leads t z (undoRaised x) o r
+  pub undo-breaks-too : (x : ℕ) → (m ≡ 5 → ⊥) → m ≡ 8 → {r : Went} → Leads t z (breaks x) o r → Leads t z (undoRaised x) o r
   unfolding undoRaised
-  undo-breaks-too g h y = record { is = λ b f k. y .is b f k ∙ sym (ap went (yes (eqb (markOf (nameOf z) o) 5 || eqb (markOf (nameOf z) o) 8) _ _ (rw (no-mark 5 g, is-mark 8 h)))) }
+  undo-breaks-too x g h y = record { is = λ b f k. y .is b f k ∙ sym (ap went (yes (eqb (markOf (nameOf z) o) 5 || eqb (markOf (nameOf z) o) 8) _ _ (rw (no-mark 5 g, is-mark 8 h)))) }
 
-  pub undo-absorbed : (m ≡ 5 → ⊥) → (m ≡ 8 → ⊥) → {r : Went} → {x : ℕ} → r ≡ runsOf o → Leads t z (undoRaised x) o r
+  pub undo-absorbed : (x : ℕ) → (m ≡ 5 → ⊥) → (m ≡ 8 → ⊥) → {r : Went} → r ≡ runsOf o → Leads t z (undoRaised x) o r
   unfolding undoRaised
-  undo-absorbed g h y = record { is = λ b f k. y ∙ sym (ap went (no (eqb (markOf (nameOf z) o) 5 || eqb (markOf (nameOf z) o) 8) _ _ (rw (no-mark 5 g, no-mark 8 h)))) }
+  undo-absorbed x g h y = record { is = λ b f k. y ∙ sym (ap went (no (eqb (markOf (nameOf z) o) 5 || eqb (markOf (nameOf z) o) 8) _ _ (rw (no-mark 5 g, no-mark 8 h)))) }
 
   -- `part_over`, `part_raised`
   pub part-ends : m ≡ 6 → {r : Went} → r ≡ endsOf z o → PartOver z o r
@@ -111,13 +111,13 @@ module _ (t : List ℕ) (z : Spot) (o : Order) {m : ℕ} (e : m ≡ markOf (name
   unfolding partOver
   part-not h y = record { is = λ b f. y ∙ sym (ap went (no _ _ _ (no-mark 6 h))) }
 
-  pub part-breaks : m ≡ 6 → {r : Went} → {x : ℕ} → Leads t z (breaks x) o r → Leads t z (partRaised x) o r
+  pub part-breaks : (x : ℕ) → m ≡ 6 → {r : Went} → Leads t z (breaks x) o r → Leads t z (partRaised x) o r
   unfolding partRaised
-  part-breaks h y = record { is = λ b f k. y .is b f k ∙ sym (ap went (yes _ _ _ (is-mark 6 h))) }
+  part-breaks x h y = record { is = λ b f k. y .is b f k ∙ sym (ap went (yes _ _ _ (is-mark 6 h))) }
 
-  pub part-absorbed : (m ≡ 6 → ⊥) → {r : Went} → {x : ℕ} → r ≡ runsOf o → Leads t z (partRaised x) o r
+  pub part-absorbed : (x : ℕ) → (m ≡ 6 → ⊥) → {r : Went} → r ≡ runsOf o → Leads t z (partRaised x) o r
   unfolding partRaised
-  part-absorbed h y = record { is = λ b f k. y ∙ sym (ap went (no _ _ _ (no-mark 6 h))) }
+  part-absorbed x h y = record { is = λ b f k. y ∙ sym (ap went (no _ _ _ (no-mark 6 h))) }
 
 -- `from_body`, `from_fault`, `from_undo`: by how what ran stands
 module _ (t : List ℕ) (z : Spot) (r : Went) where

@@ -9,9 +9,9 @@ use Rattle.order.specs.declared.Order.{Order}
 use Rattle.order.specs.declared.Way.{Way}
 use Rattle.order.specs.declared.Way.the-variants.{Running as running, Over as over, Raising as raising, Leaving as leaving, Undone as undone, UndoRaising as undoRaising}
 use Rattle.order.specs.Expression.{isFaultNumber, unboundVariable, sumTooLarge, belowZero, conflictingReceive, Value, fault, value, truth, applied, both, evaluate, isTrue}
-use Rattle.order.specs.State.{active, inside, done, faulty, undoing, handling, halted, withdrawing, isBound, valueOf, closings, remembering, markAt, marked, markOf, marking, causing}
+use Rattle.order.specs.State.{active, inside, done, faulty, undoing, handling, halted, withdrawing, withMarks, isBound, valueOf, closings, remembering, markAt, marked, markOf, marking, causing}
 use Rattle.order.specs.Lists.{withoutLast}
-use Rattle.order.specs.Begin.{Begun, begin, beginAfter, beginPart, partAt, quiet}
+use Rattle.order.specs.Begin.{Begun, begin, beginAfter, beginPart, partAt, cleared, quiet}
 use Rattle.order.specs.Scope.{Outcome, Scope, runs, after, begunIn, whereOver, scopeAt, isFor, isOpen, closing, innerRuns, rememberedFor, beginUndo, startUndo, undo, stop, ends, handle, undoes, turns, faults, breaks, looksAgain, bodyOver, bodyRaised, undoOver, undoRaised, fromBody, partOver, partRaised, fromFault, goesThrough, fromUndo}
 use Rattle.order.specs.Acting.{finishes, raises, orRaises, enters, again, repeats, allBound, itself, arms, goesOn, joins, inScope, combines, Actor, replaces, performs, stepIn, stepAmong}
 
@@ -184,9 +184,15 @@ number-or k o g (fault n) x f = x
 number-or k o g (value n) x f = f n
 
 -- the step that an activity has by itself
+calm-enters : (k : ℕ) (o : Order) (b : Begun) → Calm (enters k o b)
+calm-enters k o b = calm-where (finishes k) (begunIn (marked k inside o) b) (calm-begun (marked k inside o) b) (λ q. refl)
+
 calm-repeats : (k : ℕ) (l : Acts) (o : Order) → Calm (repeats k l o)
 unfolding repeats
-calm-repeats k l o = calm-where (again k) (begunIn _ _) (calm-begun _ _) (λ q. refl)
+calm-repeats k l o =
+    let o′ = marked k inside (withMarks (cleared (k + 1) (sizes l) (o .marks)) o) in
+    let b = beginPart 0 l (k + 1) (o′ .marks) in
+    calm-where (again k) (begunIn o′ b) (calm-begun o′ b) (λ q. refl)
 
 number-itself : (own : Own) (l : Acts) (c k : ℕ) (o : Order) → Numbered (itself own l c k o)
 unfolding itself closing isFaultNumber
@@ -198,7 +204,7 @@ number-itself raise l c k o = refl
 number-itself leave l c k o = refl
 number-itself (choose e) l c k o =
     number-or k o (λ n. enters k o (beginPart (cond (isTrue n) 0 1) l (k + 1) (marked k inside o .marks))) (evaluate e o) (number-evaluate e o)
-    (λ n. calm-number (enters k o (beginPart (cond (isTrue n) 0 1) l (k + 1) (marked k inside o .marks))) (calm-where (finishes k) (begunIn (marked k inside o) _) (calm-begun (marked k inside o) _) (λ q. refl)))
+    (λ n. let b = beginPart (cond (isTrue n) 0 1) l (k + 1) (marked k inside o .marks) in calm-number (enters k o b) (calm-enters k o b))
 number-itself (repeat e) l c k o =
     number-or k o (λ n. elim (isTrue n) [ true ↦ repeats k l o | false ↦ finishes k o ]) (evaluate e o) (number-evaluate e o)
     (λ n. number-pick (isTrue n) (repeats k l o) (finishes k o) (calm-number (repeats k l o) (calm-repeats k l o)) refl)

@@ -3,7 +3,7 @@ use Prim.Native.Nat.{ℕ, zero, suc, _+_, _≤_, _<_}
 use native.Mathlib.Omega.{arith}
 use mathlib.Core.Path.{_≡_, refl, sym, ap, subst, _∙_}
 use mathlib.Core.Bool.{Bool, true, false, cond, _&&_, _||_, false≢true, or-true}
-use mathlib.Core.List.{List, [], _∷_, _++_}
+use mathlib.Core.List.{List, _∷_, _++_}
 use lib.ListN.{getD, set}
 use lib.Seq.{getD-set-other}
 use lib.Dec.{eqb, ltb}
@@ -12,18 +12,18 @@ use Rattle.plan.specs.Tree.{Exp, Own, empty, send, receive, set as setting, rai
 use Rattle.order.specs.declared.Order.{Order}
 use Rattle.order.specs.declared.Way.{Way as Result}
 use Rattle.order.specs.declared.Way.the-variants.{Running as running, Over as over, Raising as raising, Leaving as leaving, Undone as undone, UndoRaising as undoRaising}
-use Rattle.order.specs.State.{idle, active, inside, done, faulty, undoing, handling, halted, withdrawing, Name, root, inner, withMarks, marked, markAt, markOf, marking, causing, closings, remembering}
-use Rattle.order.specs.Lists.{withoutLast}
+use Rattle.order.specs.State.{idle, active, inside, done, undoing, handling, withdrawing, Name, root, inner, withMarks, marked, markAt, markOf}
 use Rattle.order.specs.Event.{Event}
 use Rattle.order.specs.Expression.{conflictingReceive}
-use Rattle.order.specs.Begin.{Begun, begin, beginAfter, part, partAt, quiet, cleared}
-use Rattle.order.specs.Scope.{Outcome, runs, after, begunIn, whereOver, Scope, scopeAt, rootOf, isFor, isOpen, innerRuns, rememberedFor, beginUndo, startUndo, undo, stop, ends, handle, undoes, turns, faults, breaks, looksAgain, bodyOver, bodyRaised, undoRaised, fromBody, partRaised, fromFault, goesThrough, fromUndo}
+use Rattle.order.specs.Begin.{Begun, beginAfter, part, partAt, quiet, cleared}
+use Rattle.order.specs.Scope.{Outcome, runs, after, begunIn, whereOver, Scope, scopeAt, rootOf, breaks, looksAgain, bodyOver, bodyRaised, undoRaised, fromBody, partRaised, fromFault, goesThrough, fromUndo}
 use Rattle.order.specs.Acting.{finishes, raises, again, isPart, arms, goesOn, joins, inScope, combines, inPlace, replaces, performs, stepIn, stepAmong}
 use Rattle.order.specs.Awaited.{Doing, doingOf, awaits}
 use Rattle.order.specs.Judging.{rank}
 use Rattle.machine.specs.Calls.{doingIn, doingAmong}
 use Rattle.plan.proofs.ByKind.{kind-pick}
 use Rattle.order.proofs.Standing.{first-at}
+use Rattle.laws.proofs.Numbers.{isCalm, Calm, calm-looks, calm-body-over, calm-body-raised}
 use Rattle.settling.proofs.Parts.{both, decide, first-of, second-of}
 use Rattle.settling.proofs.Formed.{parts, Formed, formed-part, formed-scope, FormedIn, formed-none, formed-more}
 use Rattle.settling.proofs.Waiting.{opens, Waits, waits-itself, waits-within, WaitsIn, waits-first, waits-later}
@@ -220,71 +220,16 @@ fell-combines f h own within k t o r s n w = go own s n
 -- Scopes.
 
 -- the results of what a scope does of itself
-plain-where : (g : Order → Outcome) (r : Outcome) → isPlain (r .result) ≡ true → ((o₁ : Order) → isPlain (g o₁ .result) ≡ true) → isPlain (whereOver g r .result) ≡ true
-plain-where g r x f = go (r .result) x
+plain-calm : (r : Outcome) → Calm r → isPlain (r .result) ≡ true
+plain-calm r x = go (r .result) x
   where
-    go : (z : Result) → isPlain z ≡ true → isPlain (whereOver g (record { result = z; order = r .order; log = r .log }) .result) ≡ true
-    go running x = x
-    go over x = f (r .order)
-    go (raising n) x = x
-    go leaving x = x
-    go undone x = x
-    go (undoRaising n) x = x
-
-plain-begun : (o : Order) (b : Begun) → isPlain (begunIn o b .result) ≡ true
-plain-begun o b = go (b .over)
-  where
-    go : (v : Bool) → isPlain (cond v over running) ≡ true
-    go true = refl
-    go false = refl
-
-plain-undo : (l : List ℕ) (s : Scope) (o : Order) → isPlain (undo l s o .result) ≡ true
-unfolding undo startUndo
-plain-undo [] s o = refl
-plain-undo (e ∷ l) s o =
-    let o′ = remembering (withoutLast (isFor s) (closings o)) o in
-    plain-where (undo l s) (startUndo e s o) (plain-begun o′ (beginUndo (s .body) (s .bodyAt) e (o′ .marks))) (λ o₁. plain-undo l s o₁)
-
-plain-handle : (s : Scope) (o : Order) → isPlain (handle s o .result) ≡ true
-unfolding handle
-plain-handle s o =
-    let o′ = marking (s .name) handling o in
-    let b = begin (s .fault) (s .faultAt) (o′ .marks) in
-    plain-where (ends s) (begunIn o′ b) (plain-begun o′ b) (λ o₁. refl)
-
-plain-undoes : (w : Bool) (s : Scope) (o : Order) → isPlain (undoes w s o .result) ≡ true
-unfolding undoes
-plain-undoes true s o =
-    let o′ = marking (s .name) undoing o in
-    plain-where (handle s) (undo (rememberedFor s o′) s o′) (plain-undo (rememberedFor s o′) s o′) (λ o₁. plain-handle s o₁)
-plain-undoes false s o =
-    let o′ = marking (s .name) withdrawing o in
-    plain-where (ends s) (undo (rememberedFor s o′) s o′) (plain-undo (rememberedFor s o′) s o′) (λ o₁. refl)
-
-plain-turns : (w : Bool) (s : Scope) (o : Order) → isPlain (turns w s o .result) ≡ true
-unfolding turns
-plain-turns w s o = go (innerRuns (s .body) (s .bodyAt) (o .marks))
-  where
-    go : (v : Bool) → isPlain (elim v as (λ _. Outcome) [ true ↦ runs o | false ↦ undoes w s o ] .result) ≡ true
-    go true = refl
-    go false = plain-undoes w s o
-
-plain-again : (s : Scope) (o : Order) → isPlain (looksAgain s o .result) ≡ true
-unfolding looksAgain
-plain-again s o =
-    decide (eqb (markOf (s .name) o) faulty) (λ e. rw (e, looksAgain) (plain-turns true s o))
-    (λ e. decide (eqb (markOf (s .name) o) halted) (λ d. rw (e, looksAgain, d) (plain-turns false s o)) (λ d. rw (e, looksAgain, d) refl))
-
-plain-over : (s : Scope) (o : Order) → isPlain (bodyOver s o .result) ≡ true
-unfolding bodyOver
-plain-over s o = decide (eqb (markOf (s .name) o) active) (λ e. rw (e, bodyOver) refl) (λ e. rw (e, bodyOver) (plain-again s o))
-
-plain-raised : (x : ℕ) (s : Scope) (o : Order) → isPlain (bodyRaised x s o .result) ≡ true
-unfolding bodyRaised faults
-plain-raised x s o =
-    decide (isOpen (markOf (s .name) o))
-    (λ e. rw (e, bodyRaised) (plain-turns true s (stop (s .body) (s .bodyAt) (causing (s .name) x (marking (s .name) faulty o)) .order)))
-    (λ e. rw (e, bodyRaised) (plain-again s o))
+    go : (z : Result) → isCalm z ≡ true → isPlain z ≡ true
+    go running x = refl
+    go over x = refl
+    go (raising n) x = refl
+    go leaving x = absurd (false≢true x)
+    go undone x = absurd (false≢true x)
+    go (undoRaising n) x = refl
 
 -- a scope that a raise in a part ends, or that lets it be
 part-lowered : (x : ℕ) (s : Scope) (b : ℕ) → Owns s b
@@ -320,9 +265,9 @@ module _ (s : Scope) (b : ℕ) (h : Owns s b)
     where
       go : (z : Result) → isPlain z ≡ true
           → Lowered s b (r .order) (fromBody s (record { result = z; order = r .order; log = r .log })) × (isPlain (fromBody s (record { result = z; order = r .order; log = r .log }) .result) ≡ true)
-      go running x = (lowered-after (r .log) (r .order) (looksAgain s (r .order)) (again-lowered s b h (r .order)), plain-again s (r .order))
-      go over x = (lowered-after (r .log) (r .order) (bodyOver s (r .order)) (over-lowered s b h (r .order)), plain-over s (r .order))
-      go (raising n) x = (lowered-after (r .log) (r .order) (bodyRaised n s (r .order)) (raised-lowered n s b h (r .order)), plain-raised n s (r .order))
+      go running x = (lowered-after (r .log) (r .order) (looksAgain s (r .order)) (again-lowered s b h (r .order)), plain-calm (looksAgain s (r .order)) (calm-looks s (r .order)))
+      go over x = (lowered-after (r .log) (r .order) (bodyOver s (r .order)) (over-lowered s b h (r .order)), plain-calm (bodyOver s (r .order)) (calm-body-over s (r .order)))
+      go (raising n) x = (lowered-after (r .log) (r .order) (bodyRaised n s (r .order)) (raised-lowered n s b h (r .order)), plain-calm (bodyRaised n s (r .order)) (calm-body-raised n s (r .order)))
       go leaving x = absurd (false≢true x)
       go undone x = absurd (false≢true x)
       go (undoRaising n) x = let u = undo-lowered n s b h f (r .order) in (lowered-after (r .log) (r .order) (undoRaised n s (r .order)) (u .0), u .1)

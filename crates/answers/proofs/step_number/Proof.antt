@@ -34,4 +34,4 @@ step-number-spec =
     -- add-result-5
     (λ c. search needs)
     -- returns
-    (λ c. let a = c .before in let b = a .before in step-is (b .args .x) (a .end-of .ensures)))
+    (λ c. let a = c .before .before in let b = a .before in step-is (b .args .x) (a .end-of .ensures)))
