@@ -156,7 +156,7 @@ module _ (p : Plan) (s : State) (t : Tally) (x y : Offer) (d : x .slot ≡ y .sl
   second-answer : takenInTurn p x y s t .answer ≡ taken p y s t .answer
   unfolding steppedAlone
   second-answer =
-      ap (λ (r : Stepped). r .answer) both-taken ∙ ap (λ (m : Moved). answering y (m .end)) second-moves ∙ ap (λ (r : Stepped). r .answer) (sym (alone p s t y b g))
+      ap (λ (r : Stepped). r .answer) both-taken ∙ ap (λ (m : Moved). answering y (m .end) (m .fault)) second-moves ∙ ap (λ (r : Stepped). r .answer) (sym (alone p s t y b g))
 
 -- what a pair of entries is, taken apart
 pub apart : {A : Type 0} (p : Plan) (x y : Offer) → independentPair p x y ≡ true
