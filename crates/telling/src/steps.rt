@@ -17,14 +17,21 @@ use plan::table::EXPRESSION;
 use plan::table::KIND;
 use plan::table::Table;
 use plan::table::VARIABLE;
+use sayings::put_by_fault;
 
-// How an order ended, if it did.
-pub fn put_end(out: &mut [u8; 4096], used: usize, end: End) -> usize {
+// An end by a fault.
+fn put_ended_by(out: &mut [u8; 4096], used: usize, words: &[u8], fault: u8) -> usize {
+    let at = put(out, used, words);
+    put_by_fault(out, at, fault)
+}
+
+// How an order ended, if it did, and by which fault, where it was by one.
+fn put_end(out: &mut [u8; 4096], used: usize, end: End, fault: u8) -> usize {
     match end {
         End::None => used,
         End::Well => put(out, used, b"; it ended well"),
-        End::Handled => put(out, used, b"; it ended handled"),
-        End::Failed => put(out, used, b"; it failed"),
+        End::Handled => put_ended_by(out, used, b"; it ended handled", fault),
+        End::Failed => put_ended_by(out, used, b"; it failed", fault),
         End::Left => put(out, used, b"; it left"),
     }
 }
@@ -90,14 +97,10 @@ fn put_set(
             at = put(out, at, b" to");
             put_next(out, at, value as u64)
         }
-        Worth::Fault => {
+        Worth::Fault { number } => {
             let mut at = put(out, used, b"faulted: it could not set ");
             at = put_variable(out, at, names, variable);
-            put(
-                out,
-                at,
-                b", since a variable is not bound or the result is no number",
-            )
+            put_by_fault(out, at, number)
         }
     }
 }
@@ -110,11 +113,10 @@ fn put_chosen(out: &mut [u8; 4096], used: usize, w: Worth, yes: &[u8], no: &[u8]
             }
             put(out, used, yes)
         }
-        Worth::Fault => put(
-            out,
-            used,
-            b"faulted: it could not decide, since a variable is not bound or a result is no number",
-        ),
+        Worth::Fault { number } => {
+            let at = put(out, used, b"faulted: it could not decide");
+            put_by_fault(out, at, number)
+        }
     }
 }
 
@@ -218,5 +220,5 @@ pub fn put_step(
         m,
     );
     at = put_behind(out, at, table, activities, order, m, x.activity);
-    put_end(out, at, end)
+    put_end(out, at, end, x.fault)
 }
