@@ -15,6 +15,7 @@ use order::Worth;
 use plan::kind;
 use plan::table::EXPRESSION;
 use plan::table::KIND;
+use plan::table::NUMBER;
 use plan::table::Table;
 use plan::table::VARIABLE;
 use sayings::put_by_fault;
@@ -135,6 +136,12 @@ fn put_handed_on(out: &mut [u8; 4096], used: usize, n: usize) -> usize {
     put(out, at, b", and handed on what closed in it")
 }
 
+// A raise with a number of its own.
+fn put_raised(out: &mut [u8; 4096], used: usize, table: &Table, n: usize) -> usize {
+    let at = put(out, used, b"raised fault");
+    put_next(out, at, entry(table, n, NUMBER) as u64)
+}
+
 // What a step did, by its activity.
 fn put_did(
     out: &mut [u8; 4096],
@@ -158,6 +165,7 @@ fn put_did(
             worth_of(table, n, order),
         ),
         kind::RAISE => put(out, used, b"raised a fault"),
+        kind::NUMBERED_RAISE => put_raised(out, used, table, n),
         kind::LEAVE => put(out, used, b"left what it was doing"),
         kind::CHOOSE => put_chosen(
             out,

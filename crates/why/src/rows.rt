@@ -197,14 +197,12 @@ fn put_active(
     match entry(table, n, KIND) {
         kind::SEND => put_send(out, used, names, table, flags, n, state.waiting, order),
         kind::RECEIVE => put_open(out, used, names, table, flags, n, state, order),
-        kind::SET | kind::RAISE | kind::LEAVE | kind::CHOOSE | kind::REPEAT => put_ready(
-            out,
-            used,
-            names,
-            table,
-            flags,
-            n,
-        ),
+        kind::SET
+        | kind::RAISE
+        | kind::NUMBERED_RAISE
+        | kind::LEAVE
+        | kind::CHOOSE
+        | kind::REPEAT => put_ready(out, used, names, table, flags, n),
         _ => used,
     }
 }
