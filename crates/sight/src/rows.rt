@@ -51,10 +51,13 @@ fn is_cut(table: &Table, k: usize) -> bool
     ensures { λ r. ⌜ CutRow (now (table .entry)) k r ⌝ }
 {
     let kind = table[k * WIDTH];
-    match kind {
-        kind::RAISE | kind::NUMBERED_RAISE => true,
-        _ => kind == kind::LEAVE,
+    if kind == kind::RAISE {
+        return true;
     }
+    if kind == kind::NUMBERED_RAISE {
+        return true;
+    }
+    kind == kind::LEAVE
 }
 
 // Whether row k is an active raise or leave, or one was before.

@@ -12,7 +12,7 @@ use Rattle.order.specs.declared.Order.{Order}
 use Rattle.order.specs.State.{Name, root, inner, idle, active, inside, faulty, undoing, handling, withdrawing, marked, markAt, markOf, marking, binding, causing}
 use Rattle.order.specs.Event.{Event}
 use Rattle.order.specs.Lists.{some}
-use Rattle.order.specs.Expression.{plainRaise, unboundVariable, conflictingReceive, Value, fault, value, evaluate, isTrue}
+use Rattle.order.specs.Expression.{unboundVariable, conflictingReceive, Value, fault, value, evaluate, isTrue}
 use Rattle.order.specs.Begin.{part, partAt, beginPart, beginAfter}
 use Rattle.order.specs.declared.Way.{Way as Result}
 use Rattle.order.specs.declared.Way.the-variants.{Running as running, Over as over, Raising as raising, Leaving as leaving, Undone as undone, UndoRaising as undoRaising}
@@ -96,8 +96,7 @@ itself-drops empty within q k o = mild-drops o (runs o) refl
 itself-drops (send a b vs) within q k o = decide (allBound o vs) (λ e. rw e (mild-drops o (finishes k o) refl)) (λ e. rw e (raises-drops unboundVariable k o))
 itself-drops (receive a b vs) within q k o = mild-drops o (finishes k o) refl
 itself-drops (setting v e) within q k o = or-drops k o _ (evaluate e o) (λ n. mild-finishes k (binding v n o))
-itself-drops (raise zero) within q k o = raises-drops plainRaise k o
-itself-drops (raise (suc number)) within q k o = raises-drops plainRaise k o
+itself-drops (raise number) within q k o = raises-drops number k o
 itself-drops leave within q k o = record { stays = λ e. absurd (false≢true e); rash = λ e. refl }
 itself-drops (choose e) within q k o =
     or-drops k o _ (evaluate e o) (λ n. mild-enters k o (beginPart (cond (isTrue n) 0 1) within (k + 1) (marked k inside o .marks)) (part-silent isGrave graves-aside (cond (isTrue n) 0 1) within (k + 1) (marked k inside o .marks)))

@@ -10,7 +10,7 @@ use Rattle.plan.specs.Tree.{Own, empty, send, receive, set as setting, raise, l
 use Rattle.order.specs.declared.Order.{Order}
 use Rattle.order.specs.State.{idle, active, inside, faulty, undoing, handling, halted, withdrawing, done, withMarks, markAt, marked, markOf, marking, binding, causing}
 use Rattle.order.specs.Event.{Event, began, closed, faulted, stopped, raised, left, ended}
-use Rattle.order.specs.Expression.{plainRaise, unboundVariable, conflictingReceive, Value, fault, value, evaluate, isTrue}
+use Rattle.order.specs.Expression.{unboundVariable, conflictingReceive, Value, fault, value, evaluate, isTrue}
 use Rattle.order.specs.Begin.{Begun, nothingBegun, begin, beginInTurn, beginAfter, part, partAt, beginPart, cleared, quiet}
 use Rattle.order.specs.declared.Way.{Way as Result}
 use Rattle.order.specs.declared.Way.the-variants.{Running as running, Over as over, Raising as raising, Leaving as leaving, Undone as undone, UndoRaising as undoRaising}
@@ -572,7 +572,8 @@ module _ (f : ℕ → ℕ) where
         decide (allBound o vs) (λ e. rw e (silent (act (send a b vs) within) k (finishes k o) (λ j. refl))) (λ e. rw e (silent (act (send a b vs) within) k (raises unboundVariable k o) (λ j. refl)))
     itself-at (receive a b vs) within q₀ k o n r y = silent (act (receive a b vs) within) k (finishes k o) (λ j. refl)
     itself-at (setting v e) within q₀ k o n r y = or-at (act (setting v e) within) k o _ (evaluate e o) (λ i. silent (act (setting v e) within) k (finishes k (binding v i o)) (λ j. refl))
-    itself-at raise within q₀ k o n r y = silent (act raise within) k (raises plainRaise k o) (λ j. refl)
+    itself-at (raise zero) within q₀ k o n r y = silent (act (raise zero) within) k (raises 0 k o) (λ j. refl)
+    itself-at (raise (suc number)) within q₀ k o n r y = silent (act (raise (suc number)) within) k (raises (suc number) k o) (λ j. refl)
     itself-at leave within q₀ k o n r y = silent (act leave within) k (itself leave within q₀ k o) (λ j. refl)
     itself-at (choose e) within q₀ k o n r y =
         or-at (act (choose e) within) k o _ (evaluate e o) (λ z. let o₁ = marked k inside o in

@@ -13,7 +13,7 @@ use Rattle.order.specs.declared.Order.{Order}
 use Rattle.order.specs.declared.End.the-variants.{None}
 use Rattle.order.specs.State.{root, inner, idle, active, inside, withMarks, marked, binding}
 use Rattle.order.specs.Event.{Event}
-use Rattle.order.specs.Expression.{plainRaise, unboundVariable, Value, fault, value, evaluate, isTrue}
+use Rattle.order.specs.Expression.{unboundVariable, Value, fault, value, evaluate, isTrue}
 use Rattle.order.specs.Begin.{Begun, begin, beginInTurn, beginAfter, part, partAt, beginPart, cleared, quiet}
 use Rattle.order.specs.declared.Way.{Way as Result}
 use Rattle.order.specs.declared.Way.the-variants.{Running as running, Over as over, Raising as raising, Leaving as leaving, Undone as undone, UndoRaising as undoRaising}
@@ -254,8 +254,8 @@ module _ (p : Plan) where
   acts-itself (setting v x) within q₀ k o s a i c z u f l e q m =
       acts-or-raises (setting v x) within k o _ (evaluate x o) u f s z q
       (λ n. go-run k (go-finishes (setting v x) within k o (binding v n o) refl refl (bound-everywhere v n o) z q (omega arith)))
-  acts-itself (raise zero) within q₀ k o s a i c z u f l e q m = acts-raises plainRaise (raise zero) within k o u f s z q
-  acts-itself (raise (suc number)) within q₀ k o s a i c z u f l e q m = acts-raises plainRaise (raise (suc number)) within k o u f s z q
+  acts-itself (raise zero) within q₀ k o s a i c z u f l e q m = acts-raises 0 (raise zero) within k o u f s z q
+  acts-itself (raise (suc number)) within q₀ k o s a i c z u f l e q m = acts-raises (suc number) (raise (suc number)) within k o u f s z q
   acts-itself leave within q₀ k o s a i c z u f l e q m = acts-leaves leave within k o
   acts-itself (choose x) within q₀ k o s a i c z u f l e q m =
       acts-or-raises (choose x) within k o _ (evaluate x o) u f s z q (λ n. go-run k (go-enters x within k (cond (isTrue n) 0 1) o (u .before) f l (omega (arith, first-two (isTrue n))) z q m))

@@ -15,7 +15,7 @@ use Rattle.order.specs.declared.End.the-variants.{None, Well, Handled, Failed, 
 use Rattle.order.specs.Lists.{some}
 use Rattle.order.specs.State.{isLive, noOrder, idle, active, inside, done, faulty, undoing, handling, withdrawing, withMarks, markAt, marked, markOf, marking, binding}
 use Rattle.order.specs.Event.{Event}
-use Rattle.order.specs.Expression.{plainRaise, unboundVariable, conflictingReceive, Value, fault, value, evaluate, isTrue}
+use Rattle.order.specs.Expression.{unboundVariable, conflictingReceive, Value, fault, value, evaluate, isTrue}
 use Rattle.order.specs.Begin.{Begun, begin, beginAfter, part, partAt, beginPart, cleared, quiet}
 use Rattle.order.specs.declared.Way.{Way as Result}
 use Rattle.order.specs.declared.Way.the-variants.{Running as running, Over as over, Raising as raising, Leaving as leaving, Undone as undone, UndoRaising as undoRaising}
@@ -560,7 +560,7 @@ module _ (f : ℕ → ℕ) where
         decide (allBound o vs) (λ t. rw t (idle-steps k o (finishes k o) refl (λ j. refl) (λ j z. h j z .0))) (λ t. rw t (idle-steps k o (raises unboundVariable k o) refl (λ j. refl) (λ j z. h j z .0)))
     itself-steps (receive b c vs) within q₀ k o e n a y m q h = idle-steps k o (finishes k o) refl (λ j. refl) (λ j z. h j z .0)
     itself-steps (setting v x) within q₀ k o e n a y m q h = or-steps k o _ (evaluate x o) (λ j z. h j z .0) (λ i. idle-steps k o (finishes k (binding v i o)) refl (λ j. refl) (λ j z. h j z .0))
-    itself-steps raise within q₀ k o e n a y m q h = idle-steps k o (raises plainRaise k o) refl (λ j. refl) (λ j z. h j z .0)
+    itself-steps (raise number) within q₀ k o e n a y m q h = idle-steps k o (raises number k o) refl (λ j. refl) (λ j z. h j z .0)
     itself-steps leave within q₀ k o e n a y m q h = idle-steps k o (leaves k o) refl (λ j. refl) (λ j z. h j z .0)
     itself-steps (choose x) within q₀ k o e n a y m q h = or-steps k o _ (evaluate x o) (λ j z. h j z .0) (λ z. enters-steps (cond (isTrue z) 0 1) (first-two (isTrue z)))
       where

@@ -14,7 +14,7 @@ use Rattle.order.specs.declared.End.the-variants.{None, Well, Handled, Failed, 
 use Rattle.order.specs.Lists.{some}
 use Rattle.order.specs.State.{root, idle, active, inside, faulty, undoing, handling, halted, withdrawing, done, withMarks, markAt, marked, markOf, marking, causing}
 use Rattle.order.specs.Event.{Event, began, closed, faulted, stopped, raised, left, ended}
-use Rattle.order.specs.Expression.{plainRaise, unboundVariable, conflictingReceive, Value, fault, value, evaluate, isTrue}
+use Rattle.order.specs.Expression.{unboundVariable, conflictingReceive, Value, fault, value, evaluate, isTrue}
 use Rattle.order.specs.Begin.{Begun, throughout, around, itsBeginning, inTurn, begin, beginInTurn, beginAll, beginAfter, part, partAt, beginPart, cleared, quiet, nothingBegun}
 use Rattle.order.specs.declared.Way.{Way as Result}
 use Rattle.order.specs.declared.Way.the-variants.{Running as running, Over as over, Raising as raising, Leaving as leaving, Undone as undone, UndoRaising as undoRaising}
@@ -443,7 +443,7 @@ module _ (lead : ℕ → Lead) where
     itself-fine (send a b vs) within q k o s n y e = decide (allBound o vs) (λ d. rw d fine-none) (λ d. rw d (fine-event (raised k unboundVariable) [] (λ j. refl) fine-none))
     itself-fine (receive a b vs) within q k o s n y e = fine-none
     itself-fine (setting v x) within q k o s n y e = or-fine k o _ (evaluate x o) (λ i. fine-none)
-    itself-fine raise within q k o s n y e = fine-event (raised k plainRaise) [] (λ j. refl) fine-none
+    itself-fine (raise number) within q k o s n y e = fine-event (raised k number) [] (λ j. refl) fine-none
     itself-fine leave within q k o s n y e = fine-event left [] (λ j. refl) fine-none
     itself-fine (choose x) within q k o s n y e = or-fine k o _ (evaluate x o) (λ z. let o₁ = marked k inside o in where-fine (finishes k) (begunIn o₁ (beginPart (cond (isTrue z) 0 1) within (k + 1) (o₁ .marks))) (step-part e y (cond (isTrue z) 0 1) (second (isTrue z)) (o₁ .marks)) (λ o₂. fine-none))
       where

@@ -13,7 +13,7 @@ use Rattle.order.specs.declared.End.the-variants.{None, Well, Handled, Failed, 
 use Rattle.machine.specs.declared.Message.{Message}
 use Rattle.order.specs.Lists.{only, withoutLast}
 use Rattle.order.specs.State.{Name, root, inner, idle, active, inside, done, faulty, undoing, handling, halted, withdrawing, withMarks, binding, remembering, closings, markOf, markAt, marked, marking, causing, noOrder}
-use Rattle.order.specs.Expression.{unboundVariable, plainRaise, conflictingReceive, Value, fault, value, evaluate, isTrue}
+use Rattle.order.specs.Expression.{unboundVariable, conflictingReceive, Value, fault, value, evaluate, isTrue}
 use Rattle.order.specs.Event.{Event, started, began, closed, faulted, stopped, ended, raised, left}
 use Rattle.order.specs.Begin.{Begun, begin, beginAfter, beginPart, partAt, cleared, quiet}
 use Rattle.order.specs.declared.Way.{Way as Result}
@@ -305,8 +305,7 @@ itself-goes empty within q k o = runs-goes o
 itself-goes (send x y vs) within q k o = decide (allBound o vs) (λ e. rw e (finishes-goes k o)) (λ e. rw e (raises-goes unboundVariable k o))
 itself-goes (receive x y vs) within q k o = finishes-goes k o
 itself-goes (setting v x) within q k o = or-goes k o _ (evaluate x o) (λ n. finishes-goes k (binding v n o))
-itself-goes (raise zero) within q k o = raises-goes plainRaise k o
-itself-goes (raise (suc number)) within q k o = raises-goes plainRaise k o
+itself-goes (raise number) within q k o = raises-goes number k o
 itself-goes leave within q k o = silent-follows (left ∷ []) (marked k idle o) refl refl
 itself-goes (choose x) within q k o =
     or-goes k o _ (evaluate x o) (λ n. let p = marked k inside o in

@@ -12,7 +12,7 @@ use Rattle.order.specs.declared.Order.{Order}
 use Rattle.order.specs.Lists.{some}
 use Rattle.order.specs.State.{Name, root, inner, idle, active, inside, faulty, undoing, handling, halted, withdrawing, done, withMarks, markAt, marked, markOf, marking, binding}
 use Rattle.order.specs.Event.{Event, began, faulted, ended}
-use Rattle.order.specs.Expression.{plainRaise, unboundVariable, conflictingReceive, Value, fault, value, evaluate, isTrue}
+use Rattle.order.specs.Expression.{unboundVariable, conflictingReceive, Value, fault, value, evaluate, isTrue}
 use Rattle.order.specs.Begin.{Begun, begin, beginInTurn, beginAfter, part, partAt, beginPart, cleared, quiet}
 use Rattle.order.specs.declared.Way.{Way as Result}
 use Rattle.order.specs.declared.Way.the-variants.{Running as running, Over as over, Raising as raising, Leaving as leaving, Undone as undone, UndoRaising as undoRaising}
@@ -153,7 +153,7 @@ module _ (f : ℕ → ℕ) where
   itself-lone (send a b vs) within q₀ k o n y = decide (allBound o vs) (λ e. rw e (lone-zero f (finishes k o) (λ j. refl))) (λ e. rw e (lone-zero f (raises unboundVariable k o) (λ j. refl)))
   itself-lone (receive a b vs) within q₀ k o n y = lone-zero f (finishes k o) (λ j. refl)
   itself-lone (setting v e) within q₀ k o n y = or-lone k o _ (evaluate e o) (λ i. lone-zero f (finishes k (binding v i o)) (λ j. refl))
-  itself-lone raise within q₀ k o n y = lone-zero f (raises plainRaise k o) (λ j. refl)
+  itself-lone (raise number) within q₀ k o n y = lone-zero f (raises number k o) (λ j. refl)
   itself-lone leave within q₀ k o n y = lone-zero f (itself leave within q₀ k o) (λ j. refl)
   itself-lone (choose e) within q₀ k o n y =
       or-lone k o _ (evaluate e o) (λ z. let o₁ = marked k inside o in

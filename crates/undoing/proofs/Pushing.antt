@@ -10,7 +10,7 @@ use Rattle.plan.specs.Tree.{Own, empty, send, receive, set as setting, raise, l
 use Rattle.order.specs.declared.Order.{Order}
 use Rattle.order.specs.Lists.{every, some, only, each}
 use Rattle.order.specs.State.{Name, root, inner, same}
-use Rattle.order.specs.Expression.{plainRaise, unboundVariable, conflictingReceive, Value, fault, value, evaluate}
+use Rattle.order.specs.Expression.{unboundVariable, conflictingReceive, Value, fault, value, evaluate}
 use Rattle.order.specs.Event.{Event, started, began, closed, faulted, stopped, ended, raised, left}
 use Rattle.order.specs.Scope.{rootOf}
 use Rattle.order.specs.Acting.{allBound, Actor, itsOwn, inPlace, stepIn}
@@ -240,8 +240,7 @@ module _ (p : Plan) (h : Seat p (rootOf p)) where
   other-own (send x y vs) k o d e = if-raised k unboundVariable d (not (allBound o vs))
   other-own (receive x y vs) k o d e = refl
   other-own (setting v x) k o d e = by-raised k d (evaluate x o)
-  other-own (raise zero) k o d e = nothing-closed k plainRaise d
-  other-own (raise (suc number)) k o d e = nothing-closed k plainRaise d
+  other-own (raise number) k o d e = nothing-closed k number d
   other-own leave k o d e = left-closed d
   other-own (choose x) k o d e = by-raised k d (evaluate x o)
   other-own (repeat x) k o d e = by-raised k d (evaluate x o)

@@ -14,7 +14,7 @@ use Rattle.order.specs.declared.End.{End}
 use Rattle.order.specs.declared.End.the-variants.{None, Well, Handled, Failed, Left}
 use Rattle.order.specs.Lists.{only, withoutLast}
 use Rattle.order.specs.State.{Name, root, inner, closings, remembering, idle, inside, binding, marked, markOf, marking, markAt, withMarks, faulty, halted, active, undoing, withdrawing, handling, done, causing}
-use Rattle.order.specs.Expression.{plainRaise, unboundVariable, conflictingReceive, Value, fault, value, evaluate, isTrue}
+use Rattle.order.specs.Expression.{unboundVariable, conflictingReceive, Value, fault, value, evaluate, isTrue}
 use Rattle.order.specs.Event.{Event, started, began, closed, faulted, stopped, ended, raised, left}
 use Rattle.order.specs.Begin.{Begun, begin, beginAfter, beginPart, part, partAt, quiet, cleared}
 use Rattle.order.specs.declared.Way.{Way as Result}
@@ -258,8 +258,7 @@ module _ (p : Plan) (t : ℕ) (φ : Name → Bool) (b : Bool) (q : Place) (k : �
   out-itself (send x op vs) within q₀ s e l = decide (allBound o vs) (λ d. rw d (out-mild (finishes k o) (mild-finishes k o))) (λ d. rw d (out-raises unboundVariable e l))
   out-itself (receive x op vs) within q₀ s e l = out-mild (finishes k o) (mild-finishes k o)
   out-itself (setting v x) within q₀ s e l = out-or e l (λ n. finishes k (binding v n o)) (evaluate x o) (λ n. mild-finishes k (binding v n o))
-  out-itself (raise zero) within q₀ s e l = out-raises plainRaise e l
-  out-itself (raise (suc number)) within q₀ s e l = out-raises plainRaise e l
+  out-itself (raise number) within q₀ s e l = out-raises number e l
   out-itself leave within q₀ s e l = record { comes = shape-calm refl }
   out-itself (choose x) within q₀ s e l =
       out-or e l (λ n. enters k o (beginPart (cond (isTrue n) 0 1) within (k + 1) (marked k inside o .marks))) (evaluate x o)
