@@ -83,3 +83,4 @@ pub mod Booked
 pub mod TakenBack
 pub mod AsOften
 pub mod Firmly
+pub mod Shrinking
