@@ -84,3 +84,4 @@ pub mod TakenBack
 pub mod AsOften
 pub mod Firmly
 pub mod Shrinking
+pub mod Finding

@@ -244,7 +244,7 @@ module _ (f : ℕ → ℕ) (lead : ℕ → Lead) (own? : ℕ → Bool) (t : ℕ)
   not-here s c n h o = decide (eqb s t) (λ e. let z = eqb-true s t e in absurd (false≢true (sym (o .at s (h .0) (h .1)) ∙ eq-eqb t s (sym z)))) (λ e. e)
 
   -- in an activity in which the step is not
-  fewer-off : {a : Act} {k : ℕ} → Leads lead a k → Knows f a k → bare a ≡ true → Stretch k (size a) → Off t k (size a) → hasBegan k l ≡ false → (s : ℕ) → Fewer (leftIn a k) s
+  pub fewer-off : {a : Act} {k : ℕ} → Leads lead a k → Knows f a k → bare a ≡ true → Stretch k (size a) → Off t k (size a) → hasBegan k l ≡ false → (s : ℕ) → Fewer (leftIn a k) s
   fewer-off {a} {k} d g b w o n s h = (mono a k s g w (unbegun d b o n) h, not-here s k (size a) (surely-range a k s (left-surely a k s ns h)) o)
 
   -- one in a sequence begins with the sequence or after a step before it
@@ -283,7 +283,7 @@ module _ (f : ℕ → ℕ) (lead : ℕ → Lead) (own? : ℕ → Bool) (t : ℕ)
   mutual
     unfolding size leftIn isSure some bare kind isDoer
 
-    fewer-on : (a : Act) (k : ℕ) {b : Bool} → Leads lead a k → Knows f a k → bare a ≡ true → Stretch k (size a) → (acts (f t) ≡ true → own? t ≡ true)
+    pub fewer-on : (a : Act) (k : ℕ) {b : Bool} → Leads lead a k → Knows f a k → bare a ≡ true → Stretch k (size a) → (acts (f t) ≡ true → own? t ≡ true)
         → Run ms a k → Waits ms a k t b → b ≡ false → hasBegan k l ≡ false → (s : ℕ) → Fewer (leftIn a k) s
     fewer-on (act empty within) k d g b w o r x e n s h = absurd (false≢true h)
     fewer-on (act (send y z vs) within) k d g b w o r x e n s h = sure-fewer (send y z vs) within k s o refl g w n h
