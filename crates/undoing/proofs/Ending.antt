@@ -104,7 +104,7 @@ mutual
   deed-among-starts (more a l) c t o = either-starts (ltb t _) (deedIn a c t o) (deedAmong l _ t o) _ refl (deed-in-starts a c t o) (deed-among-starts l _ t o)
 
 -- nor has the log of a walk one
-log-starts : (actor : Actor) (p : Plan) (t : ℕ) (o : Order) → Fitting actor p t → some isStart (acted actor p t o .log) ≡ false
+pub log-starts : (actor : Actor) (p : Plan) (t : ℕ) (o : Order) → Fitting actor p t → some isStart (acted actor p t o .log) ≡ false
 unfolding deedAt some isStart
 log-starts itsOwn p t o y =
     start-kept (acted itsOwn p t o .log)

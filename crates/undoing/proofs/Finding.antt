@@ -74,27 +74,27 @@ backs-is : (own : Own) (within : Acts) (k e : ℕ) (b : Bool) → (isScope own &
 unfolding hasBack backPart backAt backIn
 backs-is own within k e b t = subst (λ (z : Bool). backs (act own within) k e ≡ oneOf z (itsBack own within k) (backsIn within (k + 1) e)) t refl
 
-backs-in-is : (a : Act) (l : Acts) (c e : ℕ) (b : Bool) → ltb e (c + size a) ≡ b → backsIn (more a l) c e ≡ oneOf b (backs a c e) (backsIn l (c + size a) e)
+pub backs-in-is : (a : Act) (l : Acts) (c e : ℕ) (b : Bool) → ltb e (c + size a) ≡ b → backsIn (more a l) c e ≡ oneOf b (backs a c e) (backsIn l (c + size a) e)
 unfolding hasBack backPart backAt backIn
 backs-in-is a l c e b t = subst (λ (z : Bool). backsIn (more a l) c e ≡ oneOf z (backs a c e) (backsIn l (c + size a) e)) t refl
 
-backs-none : (c e : ℕ) → hasBackIn none c e ≡ true → ⊥
+pub backs-none : (c e : ℕ) → hasBackIn none c e ≡ true → ⊥
 unfolding hasBack
 backs-none c e h = false≢true h
 
 -- of an activity other than a scope, of one that is another, and of the scope
-backs-part : (own : Own) (within : Acts) (k e : ℕ) → isScope own ≡ false → backs (act own within) k e ≡ backsIn within (k + 1) e
+pub backs-part : (own : Own) (within : Acts) (k e : ℕ) → isScope own ≡ false → backs (act own within) k e ≡ backsIn within (k + 1) e
 backs-part own within k e s = backs-is own within k e false (rw s)
 
-backs-other : (own : Own) (within : Acts) (k e : ℕ) → eqb k e ≡ false → backs (act own within) k e ≡ backsIn within (k + 1) e
+pub backs-other : (own : Own) (within : Acts) (k e : ℕ) → eqb k e ≡ false → backs (act own within) k e ≡ backsIn within (k + 1) e
 backs-other own within k e t = backs-is own within k e false (decide (isScope own) (λ s. rw (s, t)) (λ s. rw s))
 
-backs-own : (b f u : Act) (k e : ℕ) → eqb k e ≡ true
+pub backs-own : (b f u : Act) (k e : ℕ) → eqb k e ≡ true
     → backs (act (scope true) (trio b f (more u none))) k e ≡ record { has = true; tree = u; at = k + 1 + size b + size f; sure = surely u (k + 1 + size b + size f) }
 unfolding part partAt kind
 backs-own b f u k e t = backs-is (scope true) (trio b f (more u none)) k e true t
 
-backs-without : (b f : Act) (k e : ℕ) → eqb k e ≡ true → hasBack (act (scope false) (trio b f none)) k e ≡ false
+pub backs-without : (b f : Act) (k e : ℕ) → eqb k e ≡ true → hasBack (act (scope false) (trio b f none)) k e ≡ false
 unfolding kind
 backs-without b f k e t = ap (λ (z : Back). z .has) (backs-is (scope false) (trio b f none) k e true t)
 
@@ -102,7 +102,7 @@ backs-without b f k e t = ap (λ (z : Back). z .has) (backs-is (scope false) (tr
 mutual
   unfolding bare
 
-  bare-backs : (a : Act) (k e : ℕ) → bare a ≡ true → hasBack a k e ≡ false
+  pub bare-backs : (a : Act) (k e : ℕ) → bare a ≡ true → hasBack a k e ≡ false
   bare-backs (act own within) k e h =
       both (not (isScope own)) (bareIn within) h (λ x y. ap (λ (z : Back). z .has) (backs-part own within k e (not-true (isScope own) x)) ∙ bare-backs-in within (k + 1) e y)
 
@@ -122,7 +122,7 @@ rest-backs (rest-none {k = c}) e h = backs-none c e h
 
 -- Where the undo part of scope e is: of a scope, its own, or one in its body.
 pub data Whose (b f : Act) (u : Acts) (v : Bool) (k e : ℕ) : Type 0 where
-  own-back : (w : Act) → v ≡ true → u ≡ more w none → backs (act (scope v) (trio b f u)) k e ≡ record { has = true; tree = w; at = k + 1 + size b + size f; sure = surely w (k + 1 + size b + size f) }
+  own-back : (w : Act) → k ≡ e → v ≡ true → u ≡ more w none → backs (act (scope v) (trio b f u)) k e ≡ record { has = true; tree = w; at = k + 1 + size b + size f; sure = surely w (k + 1 + size b + size f) }
       → Whose b f u v k e
   body-back : hasBack b (k + 1) e ≡ true → backs (act (scope v) (trio b f u)) k e ≡ backs b (k + 1) e → Whose b f u v k e
 
@@ -137,17 +137,17 @@ whose-other {b = b} {f = f} {u = u} {v = v} {k = k} sf su e h t =
     (λ j. absurd (false≢true (sym (bare-backs f (k + 1 + size b) e (remedy-bare sf)) ∙ (ap (λ (z : Back). z .has) (sym (y ∙ backs-in-is f u (k + 1 + size b) e true j)) ∙ h))))
     (λ j. absurd (rest-backs su e (ap (λ (z : Back). z .has) (sym (y ∙ backs-in-is f u (k + 1 + size b) e false j)) ∙ h))))
 
-whose-true : {p : Plan} {q q₁ : Place} {b f u : Act} {k : ℕ} → Remedy p q f (k + 1 + size b) → Remedy p q₁ u (k + 1 + size b + size f) → (e : ℕ)
+pub whose-true : {p : Plan} {q q₁ : Place} {b f u : Act} {k : ℕ} → Remedy p q f (k + 1 + size b) → Remedy p q₁ u (k + 1 + size b + size f) → (e : ℕ)
     → hasBack (act (scope true) (trio b f (more u none))) k e ≡ true → Whose b f (more u none) true k e
-whose-true {b = b} {f = f} {u = u} {k = k} sf su e h = decide (eqb k e) (λ t. own-back u refl refl (backs-own b f u k e t)) (λ t. whose-other sf (rest-undo su) e h t)
+whose-true {b = b} {f = f} {u = u} {k = k} sf su e h = decide (eqb k e) (λ t. own-back u (eqb-true k e t) refl refl (backs-own b f u k e t)) (λ t. whose-other sf (rest-undo su) e h t)
 
-whose-false : {p : Plan} {q : Place} (b f : Act) (k : ℕ) → Remedy p q f (k + 1 + size b) → (e : ℕ) → hasBack (act (scope false) (trio b f none)) k e ≡ true
+pub whose-false : {p : Plan} {q : Place} (b f : Act) (k : ℕ) → Remedy p q f (k + 1 + size b) → (e : ℕ) → hasBack (act (scope false) (trio b f none)) k e ≡ true
     → (hasBack b (k + 1) e ≡ true) × (backs (act (scope false) (trio b f none)) k e ≡ backs b (k + 1) e)
 whose-false {p} {q} b f k sf e h =
     decide (eqb k e) (λ t. absurd (false≢true (sym (backs-without b f k e t) ∙ h))) (λ t. go (whose-other {q₁ = q} sf rest-none e h t))
   where
     go : Whose b f none false k e → (hasBack b (k + 1) e ≡ true) × (backs (act (scope false) (trio b f none)) k e ≡ backs b (k + 1) e)
-    go (own-back u d d₁ x) = absurd (false≢true d)
+    go (own-back u n d d₁ x) = absurd (false≢true d)
     go (body-back hb x) = (hb, x)
 
 -- its numbers are those of the activity, after the first
@@ -167,7 +167,7 @@ mutual
       go : Whose b f (more u none) true k e → (hasBack b (k + 1) e ≡ true → Spans (k + 1 + 1) (size b) (backs b (k + 1) e) × (backAt b (k + 1) e + size (backPart b (k + 1) e) ≤ k + 1 + size b))
           → Spans (k + 1) (1 + (size b + (size f + (size u + 0)))) (backs (act (scope true) (trio b f (more u none))) k e)
           × (backAt (act (scope true) (trio b f (more u none))) k e + size (backPart (act (scope true) (trio b f (more u none))) k e) ≤ k + (1 + (size b + (size f + (size u + 0)))))
-      go (own-back w d y x) r =
+      go (own-back w o d y x) r =
           let n : u ≡ w = cc in
           let m : size w ≡ size u = ap size (sym n) in
           subst (λ (z : Back). Spans (k + 1) (1 + (size b + (size f + (size u + 0)))) z × (z .at + size (z .tree) ≤ k + (1 + (size b + (size f + (size u + 0)))))) (sym x) ((omega arith, omega arith), omega arith)
@@ -235,7 +235,7 @@ within-shapes s (shape-undoing (undoing-through _ _ _)) = absurd (not-scope s)
 within-shapes {within = within} {k} s (shape-quiet q) = quiet-shapes within (k + 1) (quiet-part q (omega arith) (omega arith))
 
 -- the body of a scope
-turned-shape : {ms : List ℕ} {m kb kf : ℕ} {b f : Act} → Turned ms m b kb f kf → Shape ms b kb
+pub turned-shape : {ms : List ℕ} {m kb kf : ℕ} {b f : Act} → Turned ms m b kb f kf → Shape ms b kb
 turned-shape (turned-waits _ r _ _) = shape-stopped r
 turned-shape (turned-undoes _ r _) = shape-undoing r
 turned-shape (turned-heals _ q _) = shape-quiet q
@@ -294,9 +294,9 @@ mutual
           → (Waits ms b (k + 1) t false → hasBack b (k + 1) e ≡ true → Inside t (backs b (k + 1) e) → Runs ms t (backs b (k + 1) e))
           → (hasBack b (k + 1) e ≡ true → Spans (k + 1 + 1) (size b) (backs b (k + 1) e) × (backAt b (k + 1) e + size (backPart b (k + 1) e) ≤ k + 1 + size b))
           → Runs ms t (backs (act (scope true) (trio b f (more u none))) k e)
-      go (own-back u₁ d d₁ x) (waits-first m n) r r₁ = let i₁ = subst (Inside t) x i in absurd (omega arith)
-      go (own-back u₁ d d₁ x) (waits-later m (waits-first n o)) r r₁ = let i₁ = subst (Inside t) x i in absurd (omega arith)
-      go (own-back u₁ d d₁ x) (waits-later m (waits-later n (waits-first o c))) r r₁ =
+      go (own-back u₁ o₁ d d₁ x) (waits-first m n) r r₁ = let i₁ = subst (Inside t) x i in absurd (omega arith)
+      go (own-back u₁ o₁ d d₁ x) (waits-later m (waits-first n o)) r r₁ = let i₁ = subst (Inside t) x i in absurd (omega arith)
+      go (own-back u₁ o₁ d d₁ x) (waits-later m (waits-later n (waits-first o c))) r r₁ =
           let y₁ : u ≡ u₁ = cc in
           subst (Runs ms t) (sym x) (subst (λ (c : Act). Runs ms t (record { has = true; tree = c; at = k + 1 + size b + size f; sure = surely c (k + 1 + size b + size f) })) y₁ (record { runs = undo-runs sh c; waits = c }))
       go (body-back hb x) (waits-first m n) r r₁ = subst (Runs ms t) (sym x) (r n hb (subst (Inside t) x i))

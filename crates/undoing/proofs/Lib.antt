@@ -85,3 +85,6 @@ pub mod AsOften
 pub mod Firmly
 pub mod Shrinking
 pub mod Finding
+pub mod Locating
+pub mod OfOrder
+pub mod OneTime
