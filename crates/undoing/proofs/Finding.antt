@@ -2,21 +2,18 @@
 use Prim.Native.Nat.{ℕ, _+_, _≤_, _<_}
 use native.Mathlib.Omega.{arith}
 use mathlib.Core.Path.{_≡_, refl, sym, ap, subst, _∙_}
-use mathlib.Core.Bool.{Bool, true, false, cond, not, _&&_, _||_, false≢true}
-use mathlib.Core.List.{List, [], _∷_}
-use lib.ListN.{getD}
+use mathlib.Core.Bool.{Bool, true, false, not, _&&_, false≢true}
+use mathlib.Core.List.{List}
 use lib.Dec.{eqb, ltb}
-use borrow.Author.Tests.{eqb-true, eqb-false, eq-eqb, ne-eqb, lt-ltb, le-ltb, ltb-true, ltb-false, not-true}
-use Rattle.plan.specs.Tree.{Own, empty, send, receive, set as setting, raise, leave, choose, repeat, sequence, flow, pick, scope, arm, kind, isScope, isPick, hasUndo, Act, act, Acts, none, more, Plan, size, sizes}
-use Rattle.order.specs.Lists.{some}
-use Rattle.order.specs.State.{active}
+use borrow.Author.Tests.{eqb-true, not-true}
+use Rattle.plan.specs.Tree.{Own, empty, scope, kind, isScope, hasUndo, Act, act, Acts, none, more, Plan, size, sizes}
 use Rattle.order.specs.Begin.{part, partAt}
 use Rattle.undoing.specs.Ties.{Place}
-use Rattle.undoing.specs.Answered.{isSure, hasAll, surely, backIn, backAmong}
+use Rattle.undoing.specs.Answered.{surely, backIn, backAmong}
 use Rattle.undoing.proofs.Parts.{both, decide}
-use Rattle.undoing.proofs.Marks.{trio, isDoer, Quiet, Run, run-awaits, run-one, run-all, run-body, run-done, run-turned, One, one-here, one-later, All, all-none, all-run, all-quiet, Turned, turned-waits, turned-undoes, turned-heals, Stopped, stopped-part, stopped-quiet, stopped-scope, StoppedIn, stopped-none, stopped-more, Undoing, undoing-part, undoing-scope, undoing-through, UndoingIn, undoing-here, undoing-later, quiet-part, holding}
-use Rattle.undoing.proofs.Orders.{bare, bareIn, Sits, sits-part, sits-scope, SitsIn, sits-none, sits-more, Remedy, remedy, remedy-bare, Rest, rest-undo, rest-none}
-use Rattle.undoing.proofs.Waiting.{opens, Waits, waits-itself, waits-within, WaitsIn, waits-first, waits-later, waits-from, opens-idle, quiet-waits, quiet-waits-in}
+use Rattle.undoing.proofs.Marks.{trio, Quiet, Run, run-awaits, run-one, run-all, run-body, run-done, run-turned, All, all-none, all-run, all-quiet, Turned, turned-waits, turned-undoes, turned-heals, Stopped, stopped-part, stopped-quiet, stopped-scope, StoppedIn, stopped-none, stopped-more, Undoing, undoing-part, undoing-scope, undoing-through, UndoingIn, undoing-here, undoing-later, quiet-part}
+use Rattle.undoing.proofs.Orders.{bare, bareIn, Sits, sits-part, sits-scope, SitsIn, sits-none, sits-more, Remedy, remedy-bare, Rest, rest-undo, rest-none}
+use Rattle.undoing.proofs.Waiting.{Waits, waits-itself, waits-within, WaitsIn, waits-first, waits-later, quiet-waits}
 use Rattle.undoing.proofs.Lessening.{one-each}
 use Rattle.undoing.proofs.Owing.{not-scope}
 

@@ -88,3 +88,5 @@ pub mod Finding
 pub mod Locating
 pub mod OfOrder
 pub mod OneTime
+pub mod NeverTwice
+pub mod AnyScopeExamples

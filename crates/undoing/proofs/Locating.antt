@@ -1,12 +1,11 @@
 -- The undo part of a scope that has one: the plan's own words of it, and its tree as it sits, with its kinds and leads. Assumes nothing.
 use Prim.Native.Nat.{ℕ, _+_}
-use native.Mathlib.Omega.{arith}
 use mathlib.Core.Path.{_≡_, refl, sym, ap, subst, _∙_}
 use mathlib.Core.Bool.{Bool, true, false, not, false≢true}
 use mathlib.Core.List.{List, []}
 use lib.Dec.{eqb, ltb}
 use borrow.Author.Tests.{not-true}
-use Rattle.plan.specs.Tree.{Own, scope, kind, isScope, Act, act, Acts, none, more, Plan, size}
+use Rattle.plan.specs.Tree.{scope, kind, isScope, Act, act, Acts, none, more, Plan, size}
 use Rattle.order.specs.Lists.{some}
 use Rattle.order.specs.Begin.{part, partAt}
 use Rattle.undoing.specs.Demand3.{Inner}
@@ -19,11 +18,11 @@ use Rattle.undoing.proofs.Marks.{trio}
 use Rattle.undoing.proofs.Orders.{bare, bareIn, innerAt, Sits, sits-part, sits-scope, SitsIn, sits-none, sits-more, Remedy, remedy-bare, Rest, rest-undo, rest-none}
 use Rattle.undoing.proofs.Planning.{Promised}
 use Rattle.undoing.proofs.Truly.{Knows, knows, KnowsIn, knows-none, knows-more}
-use Rattle.undoing.proofs.Leading.{Leads, leads-part, leads-scope, LeadsIn, leads-none, leads-more, LeadsRest, leads-undo, leads-no}
+use Rattle.undoing.proofs.Leading.{Leads, leads-part, leads-scope, LeadsIn, leads-more, leads-undo, leads-no}
 use Rattle.undoing.proofs.BegunTold.{body-knows, lb}
 use Rattle.undoing.proofs.Owing.{not-scope}
 use Rattle.undoing.proofs.Repaying.{back-without}
-use Rattle.undoing.proofs.Finding.{hasBack, hasBackIn, backPart, backAt, Back, backs, backsIn, backs-part, backs-other, backs-own, backs-without, backs-in-is, backs-none, bare-backs, Whose, own-back, body-back, whose-true, whose-false}
+use Rattle.undoing.proofs.Finding.{hasBack, hasBackIn, Back, backs, backsIn, backs-part, backs-other, backs-own, backs-in-is, backs-none, Whose, own-back, body-back, whose-true, whose-false}
 
 pub record Located (p : Plan) (e : ℕ) (x : Back) : Type 0 where
   pub inner : Inner

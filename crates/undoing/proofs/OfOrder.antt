@@ -1,26 +1,25 @@
 -- At most once for each closing, of the order that runs: what an earlier order in the slot closed counts for nothing. Assumes nothing.
-use Prim.Native.Nat.{ℕ, suc, _+_, _≤_}
+use Prim.Native.Nat.{ℕ, _+_, _≤_}
 use native.Mathlib.Omega.{arith}
-use mathlib.Core.Path.{_≡_, refl, sym, ap, subst, _∙_}
-use mathlib.Core.Bool.{Bool, true, false, cond, not, _&&_, _||_, false≢true}
+use mathlib.Core.Path.{_≡_, refl, ap, subst, _∙_}
+use mathlib.Core.Bool.{Bool, true, false, cond, not, _||_}
 use mathlib.Core.List.{List, [], _∷_}
-use lib.ListN.{length}
 use lib.Dec.{eqb}
 use borrow.Author.Tests.{eqb-true, eq-eqb, not-true}
 use Rattle.plan.specs.Tree.{Plan}
-use Rattle.order.specs.Lists.{some, only}
+use Rattle.order.specs.Lists.{only}
 use Rattle.order.specs.State.{Name, root, inner, same}
 use Rattle.order.specs.Event.{Event, started, began, closed, faulted, stopped, ended, raised, left}
-use Rattle.undoing.specs.Demand3.{Inner, scopesOf, isBegin, isTurn, isFinish, isLeft, since, closedBy, undoneBy, runnerOf, hasTurned, noneNow, mayTurn, mayClose, mayUndo, allowed, rightAfter}
+use Rattle.undoing.specs.Demand3.{Inner, scopesOf, isBegin, isFinish, isLeft, since, closedBy, undoneBy, runnerOf, hasTurned, noneNow, mayTurn, mayClose, mayUndo, allowed, rightAfter}
 use Rattle.undoing.specs.Orderly.{isBeganOf}
 use Rattle.undoing.specs.Ties.{isName}
-use Rattle.undoing.specs.Buyer.{howMany, isClosedOf}
+use Rattle.undoing.specs.Buyer.{isClosedOf}
 use Rattle.undoing.proofs.Parts.{both, decide, same-itself, same-equal}
 use Rattle.undoing.proofs.Accounts.{Known, left-unfinished}
 use Rattle.undoing.proofs.Moves.{not-begun, runner-name}
 use Rattle.undoing.proofs.Orders.{onto}
 use Rattle.undoing.proofs.Offered.{Each}
-use Rattle.undoing.proofs.Bought.{may-undo, sums, at, Which, here, nowhere, which, counts, undos, closes, finished, turned, begun, shut, brings, takes, openCloses, openUndos, total, total-so, total-most, total-least, Paid, fresh-since, more-since, point, total-zero, own-closed, hands-on, other-closed, none-closed, own-undo, other-undo, its-undo, pays, none-paid, undone-less}
+use Rattle.undoing.proofs.Bought.{may-undo, at, Which, here, nowhere, which, closes, finished, turned, begun, shut, brings, takes, openCloses, openUndos, total, total-so, total-most, total-least, Paid, fresh-since, more-since, point, total-zero, own-closed, hands-on, other-closed, none-closed, own-undo, other-undo, its-undo, pays, none-paid, undone-less}
 
 abbrev pub oneIf : Bool → ℕ
 oneIf b = cond b 1 0

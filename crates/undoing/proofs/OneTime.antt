@@ -3,24 +3,21 @@
 use Prim.Native.Nat.{ℕ, _+_, _≤_, _<_}
 use native.Mathlib.Omega.{arith}
 use mathlib.Core.Path.{_≡_, refl, sym, ap, subst, _∙_}
-use mathlib.Core.Bool.{Bool, true, false, cond, not, _&&_, _||_, false≢true, or-true, and-false}
-use mathlib.Core.List.{List, [], _∷_, _++_}
+use mathlib.Core.Bool.{Bool, true, false, _&&_, false≢true, and-false}
+use mathlib.Core.List.{List}
 use lib.ListN.{length, getD}
 use lib.Dec.{eqb, ltb}
-use borrow.Author.Tests.{eqb-true, eqb-false, eq-eqb, ne-eqb, lt-ltb, le-ltb, ltb-true, ltb-false}
-use Rattle.plan.specs.Tree.{Own, kind, isPick, isArm, Act, act, Acts, none, more, Plan, size, sizes}
+use borrow.Author.Tests.{eqb-true, eq-eqb, lt-ltb, le-ltb, ltb-true, ltb-false}
+use Rattle.plan.specs.Tree.{kind, isPick, Act, act, Acts, Plan, size}
 use Rattle.order.specs.declared.Order.{Order}
 use Rattle.order.specs.Lists.{some}
-use Rattle.order.specs.State.{idle, active, inside, isLive, noOrder}
-use Rattle.order.specs.Event.{Event, started}
+use Rattle.order.specs.State.{idle, active, isLive, noOrder}
 use Rattle.order.specs.declared.Way.the-variants.{Running as running}
 use Rattle.order.specs.Scope.{rootOf}
 use Rattle.order.specs.Acting.{isPart, Actor, Moved, acted, begunOrder, startedOrder}
-use Rattle.undoing.specs.Ties.{Place, isName}
 use Rattle.undoing.specs.Begun.{acts, ownsIn, ownsAmong, ownsAt, hasBegan, goesIn, kindAt, leadAt, alone, isScopeKind}
-use Rattle.undoing.specs.Answered.{surely, backOf, backIn}
+use Rattle.undoing.specs.Answered.{surely, backOf}
 use Rattle.undoing.proofs.Parts.{both, decide}
-use Rattle.undoing.proofs.Marks.{Quiet, quiet-part}
 use Rattle.undoing.proofs.Orders.{remedy-bare, remedy-names}
 use Rattle.undoing.proofs.Waiting.{Waits, waits-itself, waits-within, WaitsIn, waits-first, waits-later}
 use Rattle.undoing.proofs.Scoping.{scope-live, scope-done, scope-turned, Running}
@@ -34,7 +31,7 @@ use Rattle.undoing.proofs.BegunTold.{body-knows, fault-knows, plan-name
 use Rattle.undoing.proofs.Sure.{leftIn, left-quiet, Off, off-below, off-above}
 use Rattle.undoing.proofs.Lessening.{due-left}
 use Rattle.undoing.proofs.Shrinking.{Stretch, fewer-off, fewer-on, surely-range}
-use Rattle.undoing.proofs.Finding.{hasBack, backPart, backAt, Back, backs, back-spans, Shape, shape-run, shape-quiet, turned-shape, Inside, Runs, find}
+use Rattle.undoing.proofs.Finding.{hasBack, backPart, backAt, backs, back-spans, Shape, shape-run, shape-quiet, turned-shape, Inside, Runs, find}
 use Rattle.undoing.proofs.Locating.{Located, located}
 
 -- one of the arms of a pick
@@ -136,12 +133,12 @@ module _ (p : Plan) (h : Promised p) (e t : ℕ) (takes : some (eqb t) (backOf p
     stretch =
         record {
           ups = λ j x y b u. decide (ownsAt p k j)
-          (λ d. awaited-up k j p (body-knows p h) (fault-knows p h) w d)
-          (λ d. went .keeps j (plain j x y) d b u .0);
+              (λ d. awaited-up k j p (body-knows p h) (fault-knows p h) w d)
+              (λ d. went .keeps j (plain j x y) d b u .0);
           still = λ j x y b s d. let u : Up (acted actor p k o′ .order .marks) j = ap (λ (v : ℕ). eqb v idle) d in
-          decide (ownsAt p k j)
-          (λ c. absurd (not-in (kindAt p j) (getD (acted actor p k o′ .order .marks) j 0) (hasBegan (j + 1) (acted actor p k o′ .log)) s d (went .its j (plain j x y) c b u)))
-          (λ c. (sym (went .keeps j (plain j x y) c b u .1 s) ∙ d, c));
+              decide (ownsAt p k j)
+              (λ c. absurd (not-in (kindAt p j) (getD (acted actor p k o′ .order .marks) j 0) (hasBegan (j + 1) (acted actor p k o′ .log)) s d (went .its j (plain j x y) c b u)))
+              (λ c. (sym (went .keeps j (plain j x y) c b u .1 s) ∙ d, c));
         }
 
     pub time-fewer : hasBegan first (acted actor p k o′ .log) ≡ false → isLeft (acted actor p k o′ .order .marks) ≡ true → (isLeft (o .marks) ≡ true) × (eqb t k ≡ false)

@@ -7,22 +7,22 @@ use mathlib.Core.Bool.{Bool, true, false, cond, not, _&&_, _||_, false≢true, o
 use mathlib.Core.List.{List, [], _∷_, _++_}
 use lib.ListN.{getD}
 use lib.Dec.{eqb, ltb}
-use borrow.Author.Tests.{eqb-true, eqb-false, eq-eqb, ne-eqb, ltb-true, ltb-false, not-true}
-use Rattle.plan.specs.Tree.{Own, empty, send, receive, set as setting, raise, leave, choose, repeat, sequence, flow, pick, scope, arm, kind, isScope, isPick, isArm, Act, act, Acts, none, more, size, sizes}
+use borrow.Author.Tests.{eqb-true, eqb-false, eq-eqb, ltb-true, ltb-false}
+use Rattle.plan.specs.Tree.{Own, empty, send, receive, set as setting, raise, leave, choose, repeat, sequence, flow, pick, scope, arm, kind, isScope, Act, act, Acts, none, more, size, sizes}
 use Rattle.order.specs.Lists.{some}
-use Rattle.order.specs.State.{idle, active, inside}
+use Rattle.order.specs.State.{idle, active}
 use Rattle.order.specs.Event.{Event}
 use Rattle.order.specs.Begin.{quiet}
-use Rattle.undoing.specs.Begun.{acts, hasBegan, Lead, alone, together, inOrder, inStep, leadOf, mayLead, goesIn, isScopeKind}
+use Rattle.undoing.specs.Begun.{acts, hasBegan, Lead, together, inOrder, leadOf, mayLead}
 use Rattle.undoing.specs.Answered.{isSure, hasAll, surely, surelyAmong}
-use Rattle.undoing.proofs.Parts.{both, decide, neither, some-append}
-use Rattle.undoing.proofs.Marks.{isDoer, run-loud, Quiet, Run, run-awaits, run-one, run-all, One, one-here, one-later, All, all-run, all-quiet, quiet-part, holding}
+use Rattle.undoing.proofs.Parts.{both, decide, some-append}
+use Rattle.undoing.proofs.Marks.{isDoer, run-loud, Quiet, Run, run-awaits, run-one, run-all, One, one-here, one-later, All, all-run, all-quiet}
 use Rattle.undoing.proofs.Orders.{bare, bareIn}
-use Rattle.undoing.proofs.Waiting.{waits-from, opens, Waits, waits-itself, waits-within, WaitsIn, waits-first, waits-later, quiet-waits, quiet-waits-in}
+use Rattle.undoing.proofs.Waiting.{waits-from, Waits, waits-itself, waits-within, WaitsIn, waits-first, waits-later, quiet-waits, quiet-waits-in}
 use Rattle.undoing.proofs.Combining.{quiet-told, quiet-found}
 use Rattle.undoing.proofs.Truly.{or-case, Up, Knows, knows, KnowsIn, knows-none, knows-more}
 use Rattle.undoing.proofs.Leading.{Leads, leads-part, leads-scope, LeadsIn, leads-none, leads-more, Fine}
-use Rattle.undoing.proofs.Sure.{leftIn, leftInTurn, leftOfAll, left-quiet, Off, off-part, off-below, off-above, surely-none, surely-none-in}
+use Rattle.undoing.proofs.Sure.{leftIn, leftInTurn, leftOfAll, Off, off-part, off-below, off-above, surely-none, surely-none-in}
 use Rattle.undoing.proofs.Lessening.{one-each}
 
 -- one of two lists has a number
@@ -126,7 +126,7 @@ module _ (f : ℕ → ℕ) (lead : ℕ → Lead) (own? : ℕ → Bool) (t : ℕ)
   quiet-mono s b q =
       record {
         at = λ i x y. decide (eqb (getD ns i 0) idle) (λ e. eqb-true (getD ns i 0) idle e)
-        (λ e. absurd (false≢true (sym (s .ups i x y (b i x y) e) ∙ ap (λ (m : ℕ). eqb m idle) (q .at i x y))));
+            (λ e. absurd (false≢true (sym (s .ups i x y (b i x y) e) ∙ ap (λ (m : ℕ). eqb m idle) (q .at i x y))));
       }
 
   -- what stands in an activity in which the step is not begins with it
@@ -233,11 +233,13 @@ module _ (f : ℕ → ℕ) (lead : ℕ → Lead) (own? : ℕ → Bool) (t : ℕ)
   sure-fewer : (own : Own) (within : Acts) (k s : ℕ) → (acts (f t) ≡ true → own? t ≡ true) → isSure own ≡ true → Knows f (act own within) k → Stretch k (size (act own within)) → hasBegan k l ≡ false
       → Fewer (λ z. cond (eqb (getD z k 0) active) (k ∷ []) []) s
   sure-fewer own within k s o i g w b h =
-      let y = sure-mono own within k s i g w b h in
-      (y .0, decide (eqb s t)
-      (λ e. let z : k ≡ t = sym (y .2) ∙ eqb-true s t e in
-      absurd (false≢true (sym (y .1) ∙ subst (λ (j : ℕ). own? j ≡ true) (sym z) (o (subst (λ (j : ℕ). acts (f j) ≡ true) z (ap acts (knows-kind g) ∙ sure-acts own i .0))))))
-      (λ e. e))
+      let y = sure-mono own within k s i g w b h in (
+        y .0,
+        decide (eqb s t)
+            (λ e. let z : k ≡ t = sym (y .2) ∙ eqb-true s t e in
+            absurd (false≢true (sym (y .1) ∙ subst (λ (j : ℕ). own? j ≡ true) (sym z) (o (subst (λ (j : ℕ). acts (f j) ≡ true) z (ap acts (knows-kind g) ∙ sure-acts own i .0))))))
+            (λ e. e),
+      )
 
   -- out of a stretch
   not-here : (s c n : ℕ) → (c ≤ s) × (s < c + n) → Off t c n → eqb s t ≡ false
@@ -293,15 +295,17 @@ module _ (f : ℕ → ℕ) (lead : ℕ → Lead) (own? : ℕ → Bool) (t : ℕ)
     fewer-on (act leave within) k d g b w o r x e n s h = sure-fewer leave within k s o refl g w n h
     fewer-on (act (choose y) within) k d g b w o r x e n s h = sure-fewer (choose y) within k s o refl g w n h
     fewer-on (act (repeat y) within) k d g b w o r x e n s h = absurd (false≢true h)
-    fewer-on (act sequence within) k (leads-part _ _ d) g b w o r (waits-itself z v) e n s h =
-        (turn-mono within (k + 1) s (knows-within g) (stretch-part w (omega arith) (omega arith)) (own-turn k z d b n) h,
-        not-here s (k + 1) (sizes within) (among-range within (k + 1) s (turn-surely within (k + 1) s ns h)) (off-below t (k + 1) (sizes within) (omega arith)))
+    fewer-on (act sequence within) k (leads-part _ _ d) g b w o r (waits-itself z v) e n s h = (
+      turn-mono within (k + 1) s (knows-within g) (stretch-part w (omega arith) (omega arith)) (own-turn k z d b n) h,
+      not-here s (k + 1) (sizes within) (among-range within (k + 1) s (turn-surely within (k + 1) s ns h)) (off-below t (k + 1) (sizes within) (omega arith)),
+    )
     fewer-on (act sequence within) k (leads-part _ _ d) g b w o (run-awaits _ y _ _) (waits-within z v) e n s h = absurd (no-doer y)
     fewer-on (act sequence within) k (leads-part _ _ d) g b w o (run-one _ _ r) (waits-within z v) e n s h =
         fewer-turn within (k + 1) k d (knows-within g) b (stretch-part w (omega arith) (omega arith)) o r v refl n s h
-    fewer-on (act flow within) k (leads-part _ _ d) g b w o r (waits-itself z v) e n s h =
-        (all-mono within (k + 1) s (knows-within g) (stretch-part w (omega arith) (omega arith)) (beside d b (off-below t (k + 1) (sizes within) (omega arith)) n) h,
-        not-here s (k + 1) (sizes within) (among-range within (k + 1) s (all-surely within (k + 1) s ns h)) (off-below t (k + 1) (sizes within) (omega arith)))
+    fewer-on (act flow within) k (leads-part _ _ d) g b w o r (waits-itself z v) e n s h = (
+      all-mono within (k + 1) s (knows-within g) (stretch-part w (omega arith) (omega arith)) (beside d b (off-below t (k + 1) (sizes within) (omega arith)) n) h,
+      not-here s (k + 1) (sizes within) (among-range within (k + 1) s (all-surely within (k + 1) s ns h)) (off-below t (k + 1) (sizes within) (omega arith)),
+    )
     fewer-on (act flow within) k (leads-part _ _ d) g b w o (run-awaits _ y _ _) (waits-within z v) e n s h = absurd (no-doer y)
     fewer-on (act flow within) k (leads-part _ _ d) g b w o (run-one _ _ r) (waits-within z v) e n s h =
         fewer-all within (k + 1) k d (knows-within g) b (stretch-part w (omega arith) (omega arith)) o (one-each r) v refl n s h
@@ -337,9 +341,11 @@ module _ (f : ℕ → ℕ) (lead : ℕ → Lead) (own? : ℕ → Bool) (t : ℕ)
         both (bare a) (bareIn v) b (λ b₁ b₂.
         either-some s (leftIn a c ns) (leftOfAll v (c + size a) ns) h
         (λ m. let y₁ = fewer-on a c x g b₁ (stretch-part w (omega arith) (omega arith)) o r j e (not-beside k c d n) s m in (in-first s (leftIn a c ms) (leftOfAll v (c + size a) ms) (y₁ .0), y₁ .1))
-        (λ m. (in-second s (leftIn a c ms) (leftOfAll v (c + size a) ms)
-        (all-mono v (c + size a) s i (stretch-part w (omega arith) (omega arith)) (beside y b₂ (off-below t (c + size a) (sizes v) z) n) m),
-        not-here s (c + size a) (sizes v) (among-range v (c + size a) s (all-surely v (c + size a) s ns m)) (off-below t (c + size a) (sizes v) z))))
+        (λ m. (
+          in-second s (leftIn a c ms) (leftOfAll v (c + size a) ms)
+              (all-mono v (c + size a) s i (stretch-part w (omega arith) (omega arith)) (beside y b₂ (off-below t (c + size a) (sizes v) z) n) m),
+          not-here s (c + size a) (sizes v) (among-range v (c + size a) s (all-surely v (c + size a) s ns m)) (off-below t (c + size a) (sizes v) z),
+        )))
     fewer-all (more a v) c k (leads-more d x y) (knows-more g i) b w o (all-quiet q r) (waits-first z j) e n s h = absurd (quiet-waits j e q)
     fewer-all (more a v) c k (leads-more d x y) (knows-more g i) b w o (all-run r q) (waits-later z j) e n s h =
         both (bare a) (bareIn v) b (λ b₁ b₂.
