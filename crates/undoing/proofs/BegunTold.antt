@@ -132,7 +132,7 @@ size-some (act own within) c = omega arith
 
 -- And whose leads it knows.
 module _ (lead : ℕ → Lead) where
-  lead-here : (a : Act) (k : ℕ) (q : Lead) → leadIn a k k q ≡ q
+  pub lead-here : (a : Act) (k : ℕ) (q : Lead) → leadIn a k k q ≡ q
   unfolding leadIn
   lead-here (act own within) k q =
       first-of (eqb k k) q (elim (isScope own) [ true ↦ leadParts within (k + 1) k (together k) | false ↦ leadAmong within (k + 1) k (leadOf own k) ]) (leadIn (act own within) k k q) refl (eq-eqb k k refl)
@@ -197,7 +197,7 @@ module _ (lead : ℕ → Lead) where
         let e : Knowing a c q = λ j u v. d j u (omega arith) ∙ lead-first a l c j q v in
         leads-more (e c (omega arith) (size-some a c) ∙ lead-here a c q) (leads-in x c q e) (leads-all y (c + size a) q (λ j u v. d j (omega arith) (omega arith) ∙ lead-later a l c j q u))
 
-body-lead : (p : Plan) (j : ℕ) → j < size (p .body) → leadAt p j ≡ leadIn (p .body) 0 j alone
+pub body-lead : (p : Plan) (j : ℕ) → j < size (p .body) → leadAt p j ≡ leadIn (p .body) 0 j alone
 unfolding leadAt
 body-lead p j v = first-of (ltb j (size (p .body))) (leadIn (p .body) 0 j alone) (leadIn (p .fault) (size (p .body)) j alone) (leadAt p j) refl (lt-ltb j (size (p .body)) v)
 
@@ -228,7 +228,7 @@ mutual
       (λ e. rw (scope-named a c t n ns (ap isScopeKind (sym (first-of (ltb t (c + size a)) (kindIn a c t) (kindAmong l (c + size a) t) (kindAmong (more a l) c t) refl e)) ∙ h)))
       (λ e. rw (among-named l (c + size a) t n ns (ap isScopeKind (sym (second-of (ltb t (c + size a)) (kindIn a c t) (kindAmong l (c + size a) t) (kindAmong (more a l) c t) refl e)) ∙ h), or-true))
 
-plan-named : (p : Plan) (t : ℕ) → isScopeKind (kindAt p t) ≡ true → isName p (inner t) ≡ true
+pub plan-named : (p : Plan) (t : ℕ) → isScopeKind (kindAt p t) ≡ true → isName p (inner t) ≡ true
 unfolding scopesOf kindAt
 plan-named p t h =
     some-append (λ x. eqb (x .number) t) (scopesIn (p .body) 0 root []) (scopesIn (p .fault) (size (p .body)) root [])
@@ -340,13 +340,13 @@ module _ (p : Plan) (h : Promised p) where
           false≢true (sym (stay-up (start-began .stays k (ns .0)) x) ∙ ap (λ (i : ℕ). eqb i idle) (idle-marks p h k 1 .at k (omega arith) (omega arith)))
 
   -- what is begun begins in its turn, in a step and with an order that starts
-  lb : Leads (leadAt p) (p .body) 0
+  pub lb : Leads (leadAt p) (p .body) 0
   lb = leads-in (leadAt p) (h .body) 0 alone (λ j u v. body-lead p j (omega arith))
 
-  lf : Leads (leadAt p) (p .fault) (size (p .body))
+  pub lf : Leads (leadAt p) (p .fault) (size (p .body))
   lf = leads-in (leadAt p) (h .fault) (size (p .body)) alone (λ j u v. fault-lead p j u)
 
-  steps-fine : (actor : Actor) (t : ℕ) (o : Order) → Fine (leadAt p) t (acted actor p t o .log)
+  pub steps-fine : (actor : Actor) (t : ℕ) (o : Order) → Fine (leadAt p) t (acted actor p t o .log)
   steps-fine actor t o = order-fine (leadAt p) t actor p lb lf (fault-lead p (size (p .body)) (omega arith) ∙ lead-here (leadAt p) (p .fault) (size (p .body)) alone) o
 
   starts-fine : (t : ℕ) (o : Order) → Fine (leadAt p) t ((started ∷ begunOrder p .log) ++ acted itsOwn p t o .log)

@@ -60,7 +60,7 @@ pick-kind pick e = refl
 pick-kind (scope v) e = absurd (false≢true e)
 pick-kind (arm x y vs) e = absurd (false≢true e)
 
-arm-kind : (own : Own) → isArm own ≡ true → kind own ≡ 255
+pub arm-kind : (own : Own) → isArm own ≡ true → kind own ≡ 255
 unfolding kind
 arm-kind empty e = absurd (false≢true e)
 arm-kind (send x y vs) e = absurd (false≢true e)
@@ -118,7 +118,7 @@ part-from (more a l) c t h =
     or-case (eqb c t) (isPart l (c + size a) t) h (λ e. let z = eqb-true c t e in omega arith) (λ e. let z = part-from l (c + size a) t e in omega arith)
 
 module _ (t j : ℕ) where
-  owns-itself : (own : Own) (within : Acts) (k : ℕ) → k ≡ t → ownsIn (act own within) k t j ≡ (eqb k j && acts (kind own))
+  pub owns-itself : (own : Own) (within : Acts) (k : ℕ) → k ≡ t → ownsIn (act own within) k t j ≡ (eqb k j && acts (kind own))
   unfolding ownsIn
   owns-itself own within k e =
       first-of (eqb k t) (eqb k j && acts (kind own)) (elim (isPick own && isPart within (k + 1) t) [ true ↦ eqb k j | false ↦ ownsAmong within (k + 1) t j ]) (ownsIn (act own within) k t j) refl (eq-eqb k t e)
@@ -133,15 +133,15 @@ module _ (t j : ℕ) where
       → ownsIn (act own within) k t j ≡ eqb k j
   owns-arm own within k e h = owns-else own within k e ∙ first-of (isPick own && isPart within (k + 1) t) (eqb k j) (ownsAmong within (k + 1) t j) _ refl h
 
-  owns-within : (own : Own) (within : Acts) (k : ℕ) → (k ≡ t → ⊥) → (isPick own && isPart within (k + 1) t) ≡ false
+  pub owns-within : (own : Own) (within : Acts) (k : ℕ) → (k ≡ t → ⊥) → (isPick own && isPart within (k + 1) t) ≡ false
       → ownsIn (act own within) k t j ≡ ownsAmong within (k + 1) t j
   owns-within own within k e h = owns-else own within k e ∙ second-of (isPick own && isPart within (k + 1) t) (eqb k j) (ownsAmong within (k + 1) t j) _ refl h
 
-  owns-first : (a : Act) (l : Acts) (c : ℕ) → ltb t (c + size a) ≡ true → ownsAmong (more a l) c t j ≡ ownsIn a c t j
+  pub owns-first : (a : Act) (l : Acts) (c : ℕ) → ltb t (c + size a) ≡ true → ownsAmong (more a l) c t j ≡ ownsIn a c t j
   unfolding ownsIn
   owns-first a l c h = first-of (ltb t (c + size a)) (ownsIn a c t j) (ownsAmong l (c + size a) t j) (ownsAmong (more a l) c t j) refl h
 
-  owns-later : (a : Act) (l : Acts) (c : ℕ) → ltb t (c + size a) ≡ false → ownsAmong (more a l) c t j ≡ ownsAmong l (c + size a) t j
+  pub owns-later : (a : Act) (l : Acts) (c : ℕ) → ltb t (c + size a) ≡ false → ownsAmong (more a l) c t j ≡ ownsAmong l (c + size a) t j
   unfolding ownsIn
   owns-later a l c h = second-of (ltb t (c + size a)) (ownsIn a c t j) (ownsAmong l (c + size a) t j) (ownsAmong (more a l) c t j) refl h
 

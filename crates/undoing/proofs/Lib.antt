@@ -86,3 +86,10 @@ pub mod Booked
 pub mod TakenBack
 pub mod AsOften
 pub mod Firmly
+pub mod Shrinking
+pub mod Finding
+pub mod Locating
+pub mod OfOrder
+pub mod OneTime
+pub mod NeverTwice
+pub mod AnyScopeExamples

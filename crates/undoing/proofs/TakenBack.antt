@@ -53,11 +53,11 @@ Next p Failed o b = Unit {0}
 Next p Left o b = Unit {0}
 
 -- an answer's end, by its list
-abbrev endIn : List End → End
+abbrev pub endIn : List End → End
 endIn [] = None
 endIn (e ∷ l) = e
 
-end-in : (e : End) → endIn (endList e) ≡ e
+pub end-in : (e : End) → endIn (endList e) ≡ e
 end-in None = refl
 end-in Well = refl
 end-in Handled = refl
@@ -238,7 +238,7 @@ module _ (p : Plan) (h : Promised p) where
         (λ a₁ b₁. all-noted l (r .state) (r .tally) (onto (logOf i r) past) a₁ (step-after p bytes next i accepted h c s t past g .1) b₁)
 
 -- nothing stands in a fresh slot
-fresh-free : (bytes : List ℕ) (i : ℕ) → isLive (orderIn (fresh bytes) i) ≡ false
+pub fresh-free : (bytes : List ℕ) (i : ℕ) → isLive (orderIn (fresh bytes) i) ≡ false
 unfolding noOrder fresh
 fresh-free bytes i = ap isLive (fresh-order i)
 
