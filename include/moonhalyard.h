@@ -23,7 +23,7 @@ extern "C" {
 #endif
 
 /* The version of this header: 10,000 for each first number, 100 for each second, and the third. The first changes where a host that was built before
-   could no longer be linked or run. moonhalyard_version() is that of the library. */
+   could no longer be linked or run, from the first release on. moonhalyard_version() is that of the library. */
 #define MOONHALYARD_VERSION 10000
 #define MOONHALYARD_VERSION_TEXT "1.0.0"
 uint32_t moonhalyard_version(void);
