@@ -161,12 +161,16 @@ static int print_step(const char *word, uint64_t answer)
 {
     static const char *const ends[] = {"", ", the order ended well", ", the order ended handled", ", the order failed", ", the order left"};
     uint32_t refusal = moonhalyard_step_refusal(answer), end = moonhalyard_step_end(answer);
-    if (refusal)
+    if (refusal) {
         printf("%s: refused, %u: %s\n", word, refusal, moonhalyard_says(refusal));
-    else
-        printf("%s: slot %u, activity %u, message place %u%s\n", word, moonhalyard_step_slot(answer), moonhalyard_step_activity(answer),
-               moonhalyard_step_place(answer), end < 5 ? ends[end] : "");
-    return refusal != 0;
+        return 1;
+    }
+    printf("%s: slot %u, activity %u, message place %u%s", word, moonhalyard_step_slot(answer), moonhalyard_step_activity(answer), moonhalyard_step_place(answer),
+           end < 5 ? ends[end] : "");
+    if (end == MOONHALYARD_END_HANDLED || end == MOONHALYARD_END_FAILED)
+        printf(", fault %u", moonhalyard_step_fault(answer));
+    printf("\n");
+    return 0;
 }
 
 static int load(const char *plan_name)

@@ -15,7 +15,8 @@ TAKES = {"post": (3, 1024), "offers": (0, 0), "step": (1, 1), "run": (1, 1024), 
 
 
 def told(step: Step) -> str:
-    return "slot %d, activity %d, message place %d%s" % (step.slot, step.activity, step.place, ENDS[step.end])
+    fault = ", fault %d" % step.fault if step.end in ("handled", "failed") else ""
+    return "slot %d, activity %d, message place %d%s%s" % (step.slot, step.activity, step.place, ENDS[step.end], fault)
 
 
 def load(name: str, plan_name: str) -> int:

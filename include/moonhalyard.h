@@ -2,7 +2,7 @@
 
    Link with libmoonhalyard (`pkg-config --cflags --libs moonhalyard`), which is for x86-64 Linux and needs nothing but memcpy, memmove and memset.
 
-   A plan is bytes. A state is 12,476 bytes that the caller keeps: it holds the plan, the orders, the messages that wait and the tally. No call
+   A plan is bytes. A state is 12,492 bytes that the caller keeps: it holds the plan, the orders, the messages that wait and the tally. No call
    keeps anything of its own, so a state may be copied, written to a file and read back, and two states have nothing to do with each other.
 
    Every call answers on every input; there is nothing that a caller must have checked before. What a caller must see to:
@@ -23,7 +23,7 @@ extern "C" {
 #endif
 
 /* The version of this header: 10,000 for each first number, 100 for each second, and the third. The first changes where a host that was built before
-   could no longer be linked or run. moonhalyard_version() is that of the library. */
+   could no longer be linked or run, from the first release on. moonhalyard_version() is that of the library. */
 #define MOONHALYARD_VERSION 10000
 #define MOONHALYARD_VERSION_TEXT "1.0.0"
 uint32_t moonhalyard_version(void);
@@ -65,12 +65,13 @@ const char *moonhalyard_says(uint32_t refusal);
    waiting for inner scopes, 5 faulted and undoing, 6 running its fault part, 7 stopped and waiting for inner scopes, 8 stopped and undoing. Arms have 0.
 
    Within its limit is: a plan's length up to 4,096; up to 64 messages that wait, each with a partner and an operation up to 63, a count of 1 to 4, and 0
-   in the values beyond it; a root's mark of those above; marks up to 8; bound 0 or 1; up to 32 closings.
+   in the values beyond it; a root's mark of those above; marks up to 8; bound 0 or 1; up to 32 closings; a cause that
+   is the number of a fault.
 
    Bytes of another length or with another mark in front hold no state: every call but load and upgrade answers 17 for them and leaves them as they
    are. */
 /* layout: written by tools/layout from data/layout.txt */
-#define MOONHALYARD_MARK "MOONHAL2"
+#define MOONHALYARD_MARK "MOONHAL3"
 #define MOONHALYARD_TALLY_STARTED 8
 #define MOONHALYARD_TALLY_WELL 12
 #define MOONHALYARD_TALLY_HANDLED 16
@@ -83,7 +84,7 @@ const char *moonhalyard_says(uint32_t refusal);
 #define MOONHALYARD_MESSAGES_MOST 64
 #define MOONHALYARD_ORDERS 5932
 #define MOONHALYARD_ORDERS_MOST 16
-#define MOONHALYARD_STATE 12476
+#define MOONHALYARD_STATE 12492
 #define MOONHALYARD_MESSAGE_PARTNER 0
 #define MOONHALYARD_MESSAGE_OPERATION 4
 #define MOONHALYARD_MESSAGE_COUNT 8
@@ -100,7 +101,8 @@ const char *moonhalyard_says(uint32_t refusal);
 #define MOONHALYARD_ORDER_REMEMBERED 337
 #define MOONHALYARD_ORDER_REMEMBERED_MOST 32
 #define MOONHALYARD_ORDER_KEPT 401
-#define MOONHALYARD_ORDER 409
+#define MOONHALYARD_ORDER_CAUSE 409
+#define MOONHALYARD_ORDER 410
 #define MOONHALYARD_CLOSING_SCOPE 0
 #define MOONHALYARD_CLOSING_PART 1
 #define MOONHALYARD_CLOSING 2
@@ -129,7 +131,7 @@ static inline const uint8_t *moonhalyard_order(const uint8_t *state, uint32_t sl
    These read them, each named for the calls whose answers it reads:
 
      answer   accept, load, list, text, draw, write, rows, mend   the refusal; where it is 0, what the call says of itself; else the place in trouble
-     step     step, offer; each number of list, tell   the refusal, the slot, the activity, the message place, the order's end
+     step     step, offer; each number of list, tell   the refusal, the slot, the activity, the message place, the order's end, its fault
      offers   offers                                   the refusal, how many steps are offered, whether something is held
      show     show                                     the refusal, where the activity starts, how many bytes spell it */
 static inline uint32_t moonhalyard_answer_refusal(uint64_t answer) { return (uint32_t)(answer >> 32); }
@@ -137,11 +139,12 @@ static inline uint32_t moonhalyard_answer_place(uint64_t answer) { return answer
 static inline uint32_t moonhalyard_answer_many(uint64_t answer) { return answer >> 32 ? 0 : (uint32_t)answer; }
 static inline uint32_t moonhalyard_mend_length(uint64_t answer) { return answer >> 32 ? 0 : (uint32_t)(answer & 65535); }
 static inline uint32_t moonhalyard_mend_cut(uint64_t answer) { return answer >> 32 ? 0 : (uint32_t)(answer >> 16 & 65535); }
-static inline uint32_t moonhalyard_step_refusal(uint64_t answer) { return (uint32_t)(answer >> 32); }
+static inline uint32_t moonhalyard_step_refusal(uint64_t answer) { return (uint32_t)(answer >> 32 & 255); }
 static inline uint32_t moonhalyard_step_slot(uint64_t answer) { return (uint32_t)(answer >> 24 & 255); }
 static inline uint32_t moonhalyard_step_activity(uint64_t answer) { return (uint32_t)(answer >> 16 & 255); }
 static inline uint32_t moonhalyard_step_place(uint64_t answer) { return (uint32_t)(answer >> 8 & 255); }
 static inline uint32_t moonhalyard_step_end(uint64_t answer) { return (uint32_t)(answer & 255); }
+static inline uint32_t moonhalyard_step_fault(uint64_t answer) { return (uint32_t)(answer >> 40 & 255); }
 static inline uint32_t moonhalyard_offers_refusal(uint64_t answer) { return (uint32_t)(answer >> 40); }
 static inline uint32_t moonhalyard_offers_many(uint64_t answer) { return (uint32_t)answer; }
 static inline int moonhalyard_offers_held(uint64_t answer) { return (int)(answer >> 32 & 1); }
@@ -156,6 +159,16 @@ enum moonhalyard_end {
     MOONHALYARD_END_HANDLED = 2,
     MOONHALYARD_END_FAILED = 3,
     MOONHALYARD_END_LEFT = 4
+};
+
+/* The number of a fault. A step's answer has it where the order ended handled (that of the fault that the root handled) or failed (that of the fault that went
+   out of the root), and 0 where not. An expression has the number of what it met first, its left operand before its right. */
+enum moonhalyard_fault {
+    MOONHALYARD_FAULT_PLAIN = 0,      /* a raise */
+    MOONHALYARD_FAULT_UNBOUND = 1,    /* a variable that is not bound */
+    MOONHALYARD_FAULT_SUM = 2,        /* a sum above 4,294,967,295 */
+    MOONHALYARD_FAULT_DIFFERENCE = 3, /* a difference below zero */
+    MOONHALYARD_FAULT_CONFLICT = 4    /* two receives or arms open with the same partner, operation and variables */
 };
 
 /* To last. The state in memory is all there is, and it is the host's to save: written whole under a new name, brought to disk, renamed over the old, and
@@ -177,12 +190,13 @@ uint64_t moonhalyard_show(const uint8_t *plan, size_t n, uint32_t k);
 
 /* Loads a plan. The answer is 0; or its refusal (1 to 9, 21) times 2^32, and the refusal's place. The state is a fresh one with the plan, with no
    order and no message, or, where the plan is refused, one with no plan; nothing is counted. Whatever `state` held before does not matter.
-   Where `size` is not 12,476 the answer is 18 times 2^32, and nothing is written. */
+   Where `size` is not 12,492 the answer is 18 times 2^32, and nothing is written. */
 uint64_t moonhalyard_load(const uint8_t *plan, size_t n, uint8_t *state, size_t size);
 
 /* Brings a state of this or an older version, as it was saved, up to date: `old` is read, `state` is written. The answer is 0 or a refusal (18 where `size`
-   is not 12,476, 17 where `old` holds no state), and where it is refused nothing is written. A state of this version, MOONHAL2, comes out as it is; one of the
-   first, MOONHAL1, of 11,964 bytes, as the same state of this one. Whether its plan is accepted and its numbers are within their limits the other calls see. */
+   is not 12,492, 17 where `old` holds no state), and where it is refused nothing is written. A state of this version, MOONHAL3, comes out as it is; one of the
+   second, MOONHAL2, of 12,476 bytes, or of the first, MOONHAL1, of 11,964, as the same state of this one, where no cause is known: each is 0. Whether its plan is
+   accepted and its numbers are within their limits the other calls see. */
 uint32_t moonhalyard_upgrade(const uint8_t *old, size_t n, uint8_t *state, size_t size);
 
 /* The seal of `n` bytes, to be kept behind them: read again, they are whole where their seal is the one that was kept. Bytes that differ in one place
@@ -221,7 +235,7 @@ uint64_t moonhalyard_list(const uint8_t *state, size_t size, uint32_t first, uin
 
 /* Takes the step with a choice. The answer is as for moonhalyard_offer, with the order's end added:
      0 none, 1 well, 2 handled, 3 failed, 4 left
-   Where the step leaves two receives or arms of its order open with the same partner, operation and variables, the one with the higher number faults with
+   and, where that is handled or failed, the number of the fault times 2^40. Where the step leaves two receives or arms of its order open with the same partner, operation and variables, the one with the higher number faults with
    it, as a raise in its place would, and what is open then is judged again: the order may end by it. The tally in the state is brought up to date.
    Refused (17, 10, 11, 12, times 2^32), the state is left as it is. */
 uint64_t moonhalyard_step(uint8_t *state, size_t size, uint64_t choice);

@@ -31,7 +31,7 @@ static size_t contents(const char *name, uint8_t *to, size_t room)
 
 static void readers(void)
 {
-    uint64_t step = (uint64_t)5 << 24 | 6 << 16 | 7 << 8 | 4, refused = (uint64_t)12 << 32;
+    uint64_t step = (uint64_t)5 << 24 | 6 << 16 | 7 << 8 | 4, refused = (uint64_t)12 << 32, failed = (uint64_t)255 << 40 | MOONHALYARD_END_FAILED;
     same(moonhalyard_step_refusal(step), 0);
     same(moonhalyard_step_slot(step), 5);
     same(moonhalyard_step_activity(step), 6);
@@ -39,6 +39,10 @@ static void readers(void)
     same(moonhalyard_step_end(step), MOONHALYARD_END_LEFT);
     same(moonhalyard_step_refusal(refused), MOONHALYARD_CHOICE);
     same(moonhalyard_step_end(refused), 0);
+    same(moonhalyard_step_fault(step), 0);
+    same(moonhalyard_step_fault(refused), 0);
+    same(moonhalyard_step_fault(failed), 255);
+    same(moonhalyard_step_refusal(failed), 0);
     same(moonhalyard_step_slot((uint64_t)255 << 24), 255);
     same(moonhalyard_offers_many((uint64_t)1 << 32 | 16384), 16384);
     same(moonhalyard_offers_held((uint64_t)1 << 32 | 16384), 1);
@@ -132,6 +136,7 @@ static void offsets(void)
     same(moonhalyard_number(order + MOONHALYARD_ORDER_VALUES + 4), 40);
     same(moonhalyard_number(state + MOONHALYARD_TALLY_STARTED), 1);
     same(moonhalyard_long(order + MOONHALYARD_ORDER_KEPT), 0);
+    same(order[MOONHALYARD_ORDER_CAUSE], 0);
     same(MOONHALYARD_ORDERS + MOONHALYARD_ORDERS_MOST * MOONHALYARD_ORDER, MOONHALYARD_STATE);
 }
 

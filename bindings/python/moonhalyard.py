@@ -25,7 +25,7 @@ __all__ = [
 ]
 
 # layout: written by tools/layout from data/layout.txt
-MARK = b"MOONHAL2"
+MARK = b"MOONHAL3"
 TALLY_STARTED = 8
 TALLY_WELL = 12
 TALLY_HANDLED = 16
@@ -38,7 +38,7 @@ MESSAGES = 4140
 MESSAGES_MOST = 64
 ORDERS = 5932
 ORDERS_MOST = 16
-STATE = 12476
+STATE = 12492
 MESSAGE_PARTNER = 0
 MESSAGE_OPERATION = 4
 MESSAGE_COUNT = 8
@@ -55,13 +55,15 @@ ORDER_BOUND_MOST = 16
 ORDER_REMEMBERED = 337
 ORDER_REMEMBERED_MOST = 32
 ORDER_KEPT = 401
-ORDER = 409
+ORDER_CAUSE = 409
+ORDER = 410
 CLOSING_SCOPE = 0
 CLOSING_PART = 1
 CLOSING = 2
 # layout end
 ROW = 20
 ENDS = ("none", "well", "handled", "failed", "left")
+FAULTS = ("plain", "unbound", "sum", "difference", "conflict")
 VERSION = 10000
 
 
@@ -120,12 +122,14 @@ class NoState(Refused):
 
 
 class Step(NamedTuple):
-    """A step: its order's slot, its activity, the place of the message that it takes, and the order's end (one of ENDS)."""
+    """A step: its order's slot, its activity, the place of the message that it takes, the order's end (one of ENDS), and the number of the fault that it ended handled
+    or failed by (0 to 4: FAULTS), 0 where it did not."""
 
     slot: int
     activity: int
     place: int
     end: str
+    fault: int = 0
 
 
 class Offers(NamedTuple):
@@ -154,13 +158,15 @@ class Tally(NamedTuple):
 
 
 class Order(NamedTuple):
-    """A live order: its slot, its root's mark, the marks of activities and arms, the values of its bound variables, the scopes that it remembers."""
+    """A live order: its slot, its root's mark, the marks of activities and arms, the values of its bound variables, the scopes that it remembers, and the number
+    of the fault that its root faulted with, 0 where it has not."""
 
     slot: int
     root: int
     marks: bytes
     variables: Dict[int, int]
     remembered: Tuple[int, ...]
+    cause: int
 
 
 class Ran(NamedTuple):
@@ -254,8 +260,10 @@ def mend(plan: bytes) -> Tuple[bytes, int]:
 
 
 def _step(answer: int) -> Step:
-    _told(answer)
-    return Step(answer >> 24 & 255, answer >> 16 & 255, answer >> 8 & 255, ENDS[answer & 255])
+    refusal = answer >> 32 & 255
+    if refusal:
+        raise Refused(refusal)
+    return Step(answer >> 24 & 255, answer >> 16 & 255, answer >> 8 & 255, ENDS[answer & 255], answer >> 40 & 255)
 
 
 class State:
@@ -381,6 +389,7 @@ class State:
                     order[ORDER_MARKS : ORDER_MARKS + ORDER_MARKS_MOST],
                     {i: _number(order, ORDER_VALUES + 4 * i) for i in bound},
                     tuple(order[ORDER_REMEMBERED + CLOSING_SCOPE + CLOSING * i] for i in range(kept)),
+                    order[ORDER_CAUSE],
                 ))
         return found
 

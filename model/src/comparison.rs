@@ -251,6 +251,11 @@ fn bare(bytes: &[u8]) -> Vec<Vec<u8>> {
                 add(&less);
             }
         }
+        if order.cause != 0 {
+            let mut less = state.clone();
+            less.orders[slot].cause = 0;
+            add(&less);
+        }
         if (1..=32).contains(&order.kept) {
             for at in 0..order.kept as usize {
                 let mut less = state.clone();

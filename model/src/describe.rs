@@ -52,7 +52,10 @@ pub fn fields(state: &State) -> Vec<String> {
         if *order == crate::state::NO_ORDER {
             continue;
         }
-        lines.push(format!("order {slot} root {}", order.root));
+        lines.push(format!(
+            "order {slot} root {} cause {}",
+            order.root, order.cause
+        ));
         for (k, mark) in order
             .marks
             .iter()

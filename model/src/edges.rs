@@ -69,6 +69,8 @@ const RECEIVE: &[u8] = &[2, 3, 5, 1, 0];
 /// A sequence of that receive and one more activity: put at place 4, the other is at place 11.
 const THEN: &[u8] = &[8, 2, 2, 3, 5, 1, 0];
 const EMPTY: &[u8] = &[0];
+/// The first code that is none.
+const UNKNOWN: u8 = 14;
 
 /// A plan whose body is a receive and then `activity`, at depth 2 and place 11.
 fn after_receive(activity: &[u8]) -> Vec<u8> {
@@ -242,7 +244,7 @@ pub fn every_code() -> Sheet {
     sheet.header(5, &[0, 3]);
     let body = sheet.begin();
     sheet.put(Kind::Code, 8);
-    sheet.put(Kind::ListCount, 11);
+    sheet.put(Kind::ListCount, 12);
 
     let receive = sheet.begin();
     sheet.message(Some(2), 63, 0, &[4, 0, 3, 1]);
@@ -325,6 +327,10 @@ pub fn every_code() -> Sheet {
 
     one(&mut sheet, 4);
     one(&mut sheet, 5);
+    let raise = sheet.begin();
+    sheet.put(Kind::Code, 13);
+    sheet.put(Kind::FaultNumber, 200);
+    sheet.end(raise);
     sheet.end(body);
     one(&mut sheet, 0);
     sheet
@@ -351,6 +357,7 @@ pub fn all() -> Vec<Case> {
     crowds(&mut cases);
     scopes(&mut cases);
     start_forms(&mut cases);
+    raises(&mut cases);
     orders(&mut cases);
     agreement(&mut cases);
     swaps(&mut cases);
@@ -796,7 +803,7 @@ fn lists(cases: &mut Cases) {
         cases.add(format!("pick of {count}, then no bytes"), bytes, answer);
     }
     for code in TELLING {
-        if code > 12 {
+        if code >= u32::from(UNKNOWN) {
             let name = format!("code {code}");
             cases.add(
                 format!("{name} as body"),
@@ -853,10 +860,11 @@ fn depths(cases: &mut Cases) {
         if holder.before.len() == first_of(holder) {
             for (inner, number) in [
                 (&[0x80, 0x00][..], 3),
-                (&[13], 4),
+                (&[UNKNOWN], 4),
                 (&[11, 0, 0, 0], 8),
                 (&[12, 0, 0], 8),
                 (&[9, 1, 0], 6),
+                (&[13, 5], 6),
             ] {
                 let (nested, place) = nest(holder, 16, inner);
                 let name = format!("{inner:02x?} at depth 17, {}", holder.name);
@@ -1001,10 +1009,12 @@ fn crowds(cases: &mut Cases) {
     for (more, number) in [
         (&[0x80][..], 2),
         (&[0x80, 0x00], 3),
-        (&[13], 4),
+        (&[UNKNOWN], 4),
         (&[11, 0, 0, 0], 8),
         (&[12, 0, 0], 8),
         (&[0], 6),
+        (&[13], 6),
+        (&[13, 5], 6),
         (&[1, 64], 6),
         (&[0, 0], 6),
     ] {
@@ -1040,7 +1050,8 @@ fn crowds(cases: &mut Cases) {
         for (value, arm, other) in [
             (&[64][..], 5, 6),
             (&[0x80, 0x00], 3, 3),
-            (&[13], 6, 4),
+            (&[UNKNOWN], 6, 4),
+            (&[13], 6, 6),
             (&[12], 6, 6),
             (&[63], 6, 4),
             (&[11], 6, 6),
@@ -1206,6 +1217,7 @@ fn start_forms(cases: &mut Cases) {
         (set.to_vec(), 1, false),
         (vec![4], 1, false),
         (vec![5], 1, false),
+        (vec![13, 16], 1, false),
         (join(&[&[6, 0, 1], RECEIVE, RECEIVE]), 3, false),
         (join(&[&[7, 0, 1], RECEIVE]), 2, false),
     ];
@@ -1214,7 +1226,7 @@ fn start_forms(cases: &mut Cases) {
         let known = forms.clone();
         for (at, (bytes, count, starts)) in known.iter().enumerate() {
             // The second round builds on what the first one built, and not on all of it.
-            if round == 1 && (at < 9 || at % 5 != 0) {
+            if round == 1 && (at < 10 || at % 5 != 0) {
                 continue;
             }
             let (count, starts) = (*count, *starts);
@@ -1260,7 +1272,7 @@ fn start_forms(cases: &mut Cases) {
         );
         cases.add(
             format!("body {bytes:02x?}, bad fault part"),
-            join(&[&plan[..length - 1], &[13]]),
+            join(&[&plan[..length - 1], &[UNKNOWN]]),
             Refused(4, length - 1),
         );
     }
@@ -1276,9 +1288,72 @@ fn start_forms(cases: &mut Cases) {
     }
 }
 
+/// Document 02, request 4: a raise has a number of 16 to 255.
+fn raises(cases: &mut Cases) {
+    for value in TELLING {
+        let number = spell(value);
+        let fits = (16..=255).contains(&value);
+        let raise = join(&[&[13], &number]);
+        let name = format!("raise with number {value}");
+        if fits {
+            cases.good(&name, &after_receive(&raise), 4);
+            cases.good(&format!("{name}, as fault part"), &as_fault(&raise), 2);
+        } else {
+            cases.add(&name, after_receive(&raise), Refused(5, 12));
+            let bytes = join(&[HEAD, THEN, &raise]);
+            cases.add(format!("{name}, then no bytes"), bytes, Refused(5, 12));
+            cases.add(
+                format!("{name}, as fault part"),
+                as_fault(&raise),
+                Refused(5, 10),
+            );
+        }
+        let (nested, inner) = nest(&HOLDERS[2], 14, &raise);
+        let answer = if fits {
+            Accepted(4 + 14)
+        } else {
+            Refused(5, 12 + inner)
+        };
+        cases.add(
+            format!("{name}, at depth 16"),
+            after_receive(&nested),
+            answer,
+        );
+    }
+    for wrong in MISSPELT {
+        let bytes = after_receive(&join(&[&[13], wrong]));
+        cases.add(
+            format!("raise with number {wrong:02x?}"),
+            bytes,
+            Refused(3, 12),
+        );
+    }
+    // In each part of a scope, and more than one.
+    cases.good(
+        "raises with numbers in a scope",
+        &after_receive(&[8, 2, 11, 13, 16, 13, 17, 13, 0xFF, 1, 13, 16]),
+        9,
+    );
+    cases.add(
+        "raise with a wrong number, then a scope in a fault part",
+        join(&[HEAD, THEN, &[13, 15], &[11, 0, 0, 0]]),
+        Refused(5, 12),
+    );
+    cases.add(
+        "raise with a number as body",
+        join(&[HEAD, &[13, 16, 0]]),
+        Refused(7, 4),
+    );
+    cases.add(
+        "raise with a wrong number as body",
+        join(&[HEAD, &[13, 4, 0]]),
+        Refused(5, 5),
+    );
+}
+
 /// Two troubles in one plan: the first from the left decides.
 fn orders(cases: &mut Cases) {
-    cases.add("V 0 and a bad code", [1, 0, 0, 13], Refused(5, 1));
+    cases.add("V 0 and a bad code", [1, 0, 0, UNKNOWN], Refused(5, 1));
     cases.add("bad version and V 0", [2, 0], Refused(4, 0));
     cases.add("V 17 and then no bytes", [1, 17], Refused(5, 1));
     cases.add("V 1, count 2 and then no bytes", [1, 1, 2], Refused(5, 2));
@@ -1387,7 +1462,7 @@ fn agreement(cases: &mut Cases) {
     );
     cases.add(
         "another count, and a bad code after it",
-        join(&[HEAD, THEN, &[2, 3, 5, 2, 0, 1], &[13]]),
+        join(&[HEAD, THEN, &[2, 3, 5, 2, 0, 1], &[UNKNOWN]]),
         Refused(4, 17),
     );
 }

@@ -1,7 +1,7 @@
 //! The calls of the engine on a state: load, post, collect, offer, offers, step and run, written from documents 01 and 02 alone.
 
-use crate::order::{Running, kept_after_close};
-use crate::plan::{Kind, Part, Plan, Tuple};
+use crate::order::{Faults, Running, kept_after_close};
+use crate::plan::{CONFLICT, Fault, Kind, Part, Plan, Tuple, UNBOUND};
 use crate::reader::{self, Refusal};
 use crate::state::*;
 
@@ -20,6 +20,11 @@ pub struct Step {
 pub struct Taken {
     pub step: Step,
     pub end: Option<End>,
+    /// The number of the fault that the root handled, or that went out of it, where the order ended so.
+    pub fault: Option<Fault>,
+    /// How many faults went out of a part of an inner scope, and how many were absorbed.
+    pub outward: Faults,
+    pub absorbed: Faults,
     /// How many undo parts it started, how many of them for a scope further out than the nearest, and how many closings it handed on.
     pub undone: usize,
     pub through: usize,
@@ -189,7 +194,7 @@ fn offered(plan: &Plan, state: &State) -> Offer {
 
     for (slot, order) in live() {
         let eager = |k: usize| {
-            matches!(plan.kind(k), Kind::Raise | Kind::Leave) && order.marks[k] == ACTIVE
+            matches!(plan.kind(k), Kind::Raise(_) | Kind::Leave) && order.marks[k] == ACTIVE
         };
         let hurries = (0..plan.count()).any(eager);
         for k in 0..plan.count() {
@@ -237,7 +242,7 @@ fn acts(plan: &Plan, state: &State, order: &Order, k: usize, held: &mut Held) ->
             held.closes += usize::from(full);
             !full
         }
-        Kind::Set(..) | Kind::Choose(_) | Kind::Repeat(_) | Kind::Raise | Kind::Leave => {
+        Kind::Set(..) | Kind::Choose(_) | Kind::Repeat(_) | Kind::Raise(_) | Kind::Leave => {
             mark == ACTIVE
         }
         _ => false,
@@ -296,13 +301,16 @@ fn take(plan: &Plan, state: &mut State, step: Step, tally: &mut Tally) -> Taken 
             }
             running.taken(k);
         }
-        Kind::Send(_) if unbound => running.raise(k),
+        Kind::Send(_) if unbound => running.raise(k, UNBOUND),
         Kind::Send(_) => running.over(k),
         _ => running.act(k),
     }
     running.settle_around(k);
     let Running {
         mut end,
+        mut fault,
+        mut outward,
+        mut absorbed,
         mut undone,
         mut through,
         handed,
@@ -314,9 +322,14 @@ fn take(plan: &Plan, state: &mut State, step: Step, tally: &mut Tally) -> Taken 
         && let Some(higher) = conflict(plan, order)
     {
         let mut running = Running::new(plan, order);
-        running.raise_in_place(higher);
+        running.raise_in_place(higher, CONFLICT);
         running.settle_around(higher);
         end = running.end;
+        fault = running.fault;
+        for number in 0..outward.len() {
+            outward[number] += running.outward[number];
+            absorbed[number] += running.absorbed[number];
+        }
         undone += running.undone;
         through += running.through;
         conflicts += 1;
@@ -328,6 +341,9 @@ fn take(plan: &Plan, state: &mut State, step: Step, tally: &mut Tally) -> Taken 
     Taken {
         step,
         end,
+        fault,
+        outward,
+        absorbed,
         undone,
         through,
         handed,

@@ -60,6 +60,7 @@ pub enum Kind {
     TupleCount,
     Variable,
     ListCount,
+    FaultNumber,
     Form,
     Constant,
 }
@@ -209,6 +210,18 @@ impl Writer<'_> {
         self.random.below(self.variables as usize) as u32
     }
 
+    /// The number of a raise.
+    fn fault_number(&mut self) -> u32 {
+        if self.slip() {
+            return [0, 4, 5, 15, 256, 257][self.random.below(6)];
+        }
+        match self.random.below(8) {
+            0 => 16,
+            1 => 255,
+            _ => self.random.from_to(16, 255) as u32,
+        }
+    }
+
     /// Random counts, each from `low` to `high`, that add up to `total`.
     fn split(&mut self, total: usize, into: usize, low: usize, high: usize) -> Vec<usize> {
         let mut shares = vec![low; into];
@@ -336,7 +349,7 @@ impl Writer<'_> {
         if start {
             return self.message(Some(2), true);
         }
-        let code = self.random.below(6) as u32;
+        let code = self.random.below(7) as u32;
         match code {
             1 => self.message(Some(1), false),
             2 => self.message(Some(2), true),
@@ -348,6 +361,11 @@ impl Writer<'_> {
                 self.expression(1);
             }
             3 => self.sheet.put(Kind::Code, 0),
+            6 => {
+                let number = self.fault_number();
+                self.sheet.put(Kind::Code, 13);
+                self.sheet.put(Kind::FaultNumber, number);
+            }
             _ => self.sheet.put(Kind::Code, code),
         }
     }
@@ -458,7 +476,10 @@ fn shape(random: &mut Random, large: bool) -> Shape {
 /// A legal plan. Most are small, some near the limits.
 pub fn legal(random: &mut Random) -> Sheet {
     if random.below(100) == 0 {
-        let length = random.from_to(4000, 4096);
+        let length = match random.below(8) {
+            0 => 4096,
+            _ => random.from_to(4000, 4096),
+        };
         return legal_of_length(random, length);
     }
     loop {
@@ -656,8 +677,8 @@ pub fn wild(random: &mut Random) -> Vec<u8> {
         match manner {
             0 | 1 => bytes.push(random.byte()),
             2 => bytes.push(random.below(4) as u8),
-            3 => bytes.push(random.below(14) as u8),
-            _ => bytes.extend(spell(TELLING[random.below(13)])),
+            3 => bytes.push(random.below(17) as u8),
+            _ => bytes.extend(spell(TELLING[random.below(17)])),
         }
     }
     bytes

@@ -1,6 +1,6 @@
 //! The bytes of a state: offsets, sizes, and how many there are at most (data/layout.txt).
 // layout: written by tools/layout
-pub const MARK: &[u8; 8] = b"MOONHAL2";
+pub const MARK: &[u8; 8] = b"MOONHAL3";
 pub const TALLY_STARTED: usize = 8;
 pub const TALLY_WELL: usize = 12;
 pub const TALLY_HANDLED: usize = 16;
@@ -13,7 +13,7 @@ pub const MESSAGES: usize = 4140;
 pub const MESSAGES_MOST: usize = 64;
 pub const ORDERS: usize = 5932;
 pub const ORDERS_MOST: usize = 16;
-pub const STATE: usize = 12476;
+pub const STATE: usize = 12492;
 pub const MESSAGE_PARTNER: usize = 0;
 pub const MESSAGE_OPERATION: usize = 4;
 pub const MESSAGE_COUNT: usize = 8;
@@ -30,7 +30,8 @@ pub const ORDER_BOUND_MOST: usize = 16;
 pub const ORDER_REMEMBERED: usize = 337;
 pub const ORDER_REMEMBERED_MOST: usize = 32;
 pub const ORDER_KEPT: usize = 401;
-pub const ORDER: usize = 409;
+pub const ORDER_CAUSE: usize = 409;
+pub const ORDER: usize = 410;
 pub const CLOSING_SCOPE: usize = 0;
 pub const CLOSING_PART: usize = 1;
 pub const CLOSING: usize = 2;

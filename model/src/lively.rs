@@ -183,8 +183,24 @@ impl Writer<'_> {
                 self.sheet.put(Kind::Constant, count as u32);
             }
         }
-        let last = if self.random.percent(raises) { 4 } else { 0 };
-        self.code(last);
+        if self.random.percent(raises) {
+            self.raise();
+        } else {
+            self.code(0);
+        }
+    }
+
+    /// A raise, plain or with a number.
+    fn raise(&mut self) {
+        if self.random.percent(40) {
+            return self.code(4);
+        }
+        let number = match self.random.below(3) {
+            0 => self.random.from_to(16, 255),
+            _ => [16, 17, 18, 255][self.random.below(4)],
+        };
+        self.code(13);
+        self.sheet.put(Kind::FaultNumber, number as u32);
     }
 
     fn small_scope(&mut self, depth: u32) {
@@ -285,7 +301,7 @@ impl Writer<'_> {
             self.activity((size - 1) / count, depth + 1, handler);
         }
         if raises {
-            self.code(4);
+            self.raise();
         }
     }
 
@@ -310,10 +326,10 @@ impl Writer<'_> {
                 self.expression(1);
             }
             77..=78 => self.code(5),
-            79..=84 => self.code(4),
+            79..=84 => self.raise(),
             // Handlers raise less.
             _ if handler => self.message(Some(1), false),
-            _ => self.code(4),
+            _ => self.raise(),
         }
     }
 
@@ -321,7 +337,23 @@ impl Writer<'_> {
         self.random.below(self.variables) as u32
     }
 
+    /// A sum too large, or a difference below zero.
+    fn faulty(&mut self) {
+        let (form, operands) = match self.random.below(2) {
+            0 => (2, [u32::MAX, 1]),
+            _ => (3, [0, 1]),
+        };
+        self.sheet.put(Kind::Form, form);
+        for value in operands {
+            self.sheet.put(Kind::Form, 0);
+            self.sheet.put(Kind::Constant, value);
+        }
+    }
+
     fn expression(&mut self, depth: u32) {
+        if depth < 4 && self.random.percent(6) {
+            return self.faulty();
+        }
         match self.random.below(if depth < 4 { 100 } else { 70 }) {
             0..=39 => {
                 let value = match self.random.below(12) {

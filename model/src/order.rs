@@ -9,14 +9,22 @@
 //! - a flow is over where every mark within it is idle; an empty that is over at once keeps its mark;
 //! - a list that is looked through for what to forget is 0 beyond its end.
 
-use crate::plan::{Faulty, Kind, Part, Plan, Scope};
+use crate::plan::{Fault, Kind, Part, Plan, Scope};
 use crate::state::*;
+
+/// How many faults there were by their numbers: 0 to 4, and 16 to 255 together.
+pub type Faults = [u64; 6];
 
 /// An order while a step changes it.
 pub struct Running<'a> {
     pub plan: &'a Plan,
     pub order: &'a mut Order,
     pub end: Option<End>,
+    /// The number of the fault that the root handled, or that went out of it, where the order ended so.
+    pub fault: Option<Fault>,
+    /// How many faults went out of a part of an inner scope, and how many were absorbed.
+    pub outward: Faults,
+    pub absorbed: Faults,
     /// How many undo parts were started.
     pub undone: usize,
     /// How many of these by a scope further out than the nearest.
@@ -33,6 +41,9 @@ impl Running<'_> {
             plan,
             order,
             end: None,
+            fault: None,
+            outward: [0; 6],
+            absorbed: [0; 6],
             undone: 0,
             through: 0,
             handed: 0,
@@ -194,12 +205,12 @@ impl Running<'_> {
                     self.order.bind(variable, value);
                     self.over(k);
                 }
-                Err(Faulty) => self.raise(k),
+                Err(fault) => self.raise(k, fault),
             },
             Kind::Choose(place) => match self.value(place) {
                 Ok(0) => self.go_inside(k, plan.end(k + 1)),
                 Ok(_) => self.go_inside(k, k + 1),
-                Err(Faulty) => self.raise(k),
+                Err(fault) => self.raise(k, fault),
             },
             Kind::Repeat(place) => match self.value(place) {
                 Ok(0) => self.over(k),
@@ -207,15 +218,16 @@ impl Running<'_> {
                     self.order.marks[k + 1..plan.end(k)].fill(IDLE);
                     self.go_inside(k, k + 1);
                 }
-                Err(Faulty) => self.raise(k),
+                Err(fault) => self.raise(k, fault),
             },
             Kind::Leave => self.end = Some(End::Left),
             Kind::Scope(_) => self.close(k),
-            _ => self.raise(k),
+            Kind::Raise(number) => self.raise(k, number),
+            _ => {}
         }
     }
 
-    fn value(&self, place: usize) -> Result<u32, Faulty> {
+    fn value(&self, place: usize) -> Result<u32, Fault> {
         self.plan
             .value(place, &|variable| self.order.variable(variable))
     }
@@ -258,23 +270,23 @@ impl Running<'_> {
         }
     }
 
-    /// A raise at k.
-    pub fn raise(&mut self, k: usize) {
+    /// A raise at k. What goes out of a part has its number.
+    pub fn raise(&mut self, k: usize, number: Fault) {
         self.order.marks[k] = IDLE;
         let mut at = k;
         loop {
             match self.plan.activities[at].part {
                 Part::Within(around) => at = around,
-                Part::Body(scope) => return self.fault(scope),
+                Part::Body(scope) => return self.fault(scope, number),
                 Part::Fault(scope) => {
                     if self.mark(scope) == HANDLING {
-                        self.break_off(scope);
+                        self.break_off(scope, number);
                     }
                     return;
                 }
                 Part::Undo(s) => {
                     return match self.runner(s) {
-                        Ok(scope) => self.break_off(scope),
+                        Ok(scope) => self.break_off(scope, number),
                         Err(asked) => self.unheard = Some((s, asked)),
                     };
                 }
@@ -283,32 +295,41 @@ impl Running<'_> {
     }
 
     /// A raise in place of a receive or an arm, which is over with it: an arm with its pick.
-    pub fn raise_in_place(&mut self, k: usize) {
+    pub fn raise_in_place(&mut self, k: usize, number: Fault) {
         if let (Kind::Arm(_), Part::Within(pick)) =
             (self.plan.kind(k), self.plan.activities[k].part)
         {
             self.order.marks[pick] = INSIDE;
         }
-        self.raise(k);
+        self.raise(k, number);
     }
 
     /// A fault reaches a scope. One already stopped or faulted absorbs it, and may have waited for what just ended.
-    fn fault(&mut self, scope: Scope) {
+    fn fault(&mut self, scope: Scope, number: Fault) {
         if matches!(self.mark(scope), ACTIVE | DONE) {
             self.stop(self.plan.body(scope));
             self.set_mark(scope, FAULTED);
+            if scope.is_none() {
+                self.order.cause = number;
+            }
+        } else {
+            self.absorbed[usize::from(number.min(5))] += 1;
         }
         self.settle(scope);
     }
 
     /// A raise in an undo or fault part that the scope runs.
-    fn break_off(&mut self, scope: Scope) {
+    fn break_off(&mut self, scope: Scope, number: Fault) {
         match scope {
-            None => self.end = Some(End::Failed),
+            None => {
+                self.end = Some(End::Failed);
+                self.fault = Some(number);
+            }
             Some(s) => {
+                self.outward[usize::from(number.min(5))] += 1;
                 self.order.marks[s..self.plan.end(s)].fill(IDLE);
                 self.forget(scope);
-                self.fault(self.plan.activities[s].around);
+                self.fault(self.plan.activities[s].around, number);
             }
         }
     }
@@ -390,7 +411,10 @@ impl Running<'_> {
     /// A scope that faulted or was stopped is done. It is not remembered.
     fn finish(&mut self, scope: Scope) {
         match scope {
-            None => self.end = Some(End::Handled),
+            None => {
+                self.end = Some(End::Handled);
+                self.fault = Some(self.order.cause);
+            }
             Some(s) => {
                 self.over(s);
                 self.settle(self.plan.activities[s].around);

@@ -1,7 +1,8 @@
-//! The engine over packed states: a state with its tally as 12,476 bytes, and each call as the library's C function of that name answers it.
+//! The engine over packed states: a state with its tally as 12,492 bytes, and each call as the library's C function of that name answers it.
 
 use crate::engine::{self, Step, Taken};
 use crate::layout::{self, MARK, ORDER};
+use crate::plan::Plan;
 use crate::reader::{self, Refusal};
 use crate::state::*;
 
@@ -15,6 +16,7 @@ const AT_ORDER_VALUES: usize = layout::ORDER_VALUES;
 const AT_BOUND: usize = layout::ORDER_BOUND;
 const AT_REMEMBERED: usize = layout::ORDER_REMEMBERED;
 const AT_KEPT: usize = layout::ORDER_KEPT;
+const AT_CAUSE: usize = layout::ORDER_CAUSE;
 
 fn long(bytes: &[u8]) -> u64 {
     u64::from_le_bytes(bytes[..8].try_into().expect("eight bytes"))
@@ -63,6 +65,7 @@ fn unpack_order(bytes: &[u8]) -> Order {
             }
         }),
         kept: long(&bytes[AT_KEPT..]),
+        cause: bytes[AT_CAUSE],
     }
 }
 
@@ -76,7 +79,8 @@ fn pack_order(order: &Order, bytes: &mut [u8]) {
         two[layout::CLOSING_SCOPE] = closing.scope;
         two[layout::CLOSING_PART] = closing.part;
     }
-    bytes[AT_KEPT..ORDER].copy_from_slice(&order.kept.to_le_bytes());
+    bytes[AT_KEPT..AT_CAUSE].copy_from_slice(&order.kept.to_le_bytes());
+    bytes[AT_CAUSE] = order.cause;
 }
 
 /// A state and its tally, where the bytes have the length and the mark.
@@ -92,6 +96,56 @@ pub fn unpack(bytes: &[u8]) -> Option<(State, Tally)> {
         orders: std::array::from_fn(|at| unpack_order(&bytes[AT_ORDERS + ORDER * at..])),
     };
     Some((state, Tally(numbers(&bytes[layout::TALLY_STARTED..]))))
+}
+
+/// Brings a state of any version up to date, as `moonhalyard_upgrade` does. The orders of older ones have no cause, and those of the first have for a
+/// closing its scope alone, which closed for the nearest scope around it.
+pub fn upgrade(old: &[u8], state: &mut [u8]) -> u32 {
+    if state.len() != SIZE {
+        return 18;
+    }
+    if unpack(old).is_some() {
+        state.copy_from_slice(old);
+        return 0;
+    }
+    let (order, first) = match (old.len(), old.get(..8)) {
+        (11_964, Some(b"MOONHAL1")) => (377, true),
+        (12_476, Some(b"MOONHAL2")) => (409, false),
+        _ => return 17,
+    };
+    state[..AT_ORDERS].copy_from_slice(&old[..AT_ORDERS]);
+    state[..8].copy_from_slice(MARK);
+    let length = usize::try_from(long(&old[layout::PLAN_LENGTH..])).unwrap_or(usize::MAX);
+    let bytes = old[AT_PLAN..AT_WAITING].get(..length).unwrap_or(&[]);
+    let plan = reader::read(bytes).ok().map(|_| Plan::of(bytes));
+    let orders = old[AT_ORDERS..].chunks_exact(order);
+    for (from, to) in orders.zip(state[AT_ORDERS..].chunks_exact_mut(ORDER)) {
+        to[..AT_REMEMBERED].copy_from_slice(&from[..AT_REMEMBERED]);
+        let (closings, kept) = from[AT_REMEMBERED..].split_at(order - 8 - AT_REMEMBERED);
+        if first {
+            for (&k, two) in closings.iter().zip(to[AT_REMEMBERED..].chunks_exact_mut(2)) {
+                two[layout::CLOSING_SCOPE] = k;
+                two[layout::CLOSING_PART] = part_around(plan.as_ref(), usize::from(k));
+            }
+        } else {
+            to[AT_REMEMBERED..AT_KEPT].copy_from_slice(closings);
+        }
+        to[AT_KEPT..AT_CAUSE].copy_from_slice(kept);
+        to[AT_CAUSE] = 0;
+    }
+    0
+}
+
+/// The body of the nearest scope around k, of those that plans had at first; or the root's.
+fn part_around(plan: Option<&Plan>, k: usize) -> u8 {
+    let around = |plan: &Plan| {
+        let before = 0..k.min(plan.count());
+        before
+            .rev()
+            .find(|&s| plan.has_undo(s) && k < plan.end(s))
+            .map(|s| s + 1)
+    };
+    plan.and_then(around).unwrap_or(0) as u8
 }
 
 /// The marks of an order in a packed state.
@@ -193,9 +247,11 @@ pub fn stepped(state: &mut [u8], choice: u64) -> Result<Taken, u32> {
     engine::step(&mut now, choice, &mut tally).inspect(|_| pack(&now, &tally, state))
 }
 
-/// The answer of `step`, in one number.
+/// The answer of `step`, in one number: fault * 2^40 + refusal * 2^32 + slot * 2^24 + activity * 2^16 + place * 2^8 + end.
 pub fn told(stepped: Result<Taken, u32>) -> u64 {
-    stepped.map_or_else(refused, |taken| answer(&taken.step, taken.end))
+    stepped.map_or_else(refused, |taken| {
+        u64::from(taken.fault.unwrap_or(0)) << 40 | answer(&taken.step, taken.end)
+    })
 }
 
 pub fn step(state: &mut [u8], choice: u64) -> u64 {

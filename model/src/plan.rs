@@ -10,7 +10,8 @@ pub enum Kind {
     Receive(Tuple),
     /// The variable, and where its expression begins.
     Set(usize, usize),
-    Raise,
+    /// Its number: 0 for a plain one.
+    Raise(Fault),
     Leave,
     /// Where the expression begins.
     Choose(usize),
@@ -69,9 +70,18 @@ pub struct Plan {
     bytes: Vec<u8>,
 }
 
-/// Why a step acts as a raise: a sum above the range, a difference below zero, an unbound variable.
-#[derive(Clone, Copy, Debug, PartialEq, Eq)]
-pub struct Faulty;
+/// The number of a fault (document 02, request 4): one of these, or that of a raise with a number.
+pub type Fault = u8;
+pub const PLAIN: Fault = 0;
+pub const UNBOUND: Fault = 1;
+pub const TOO_LARGE: Fault = 2;
+pub const BELOW_ZERO: Fault = 3;
+pub const CONFLICT: Fault = 4;
+
+/// Whether a fault may have this number.
+pub fn is_fault(number: u8) -> bool {
+    number <= CONFLICT || number >= 16
+}
 
 impl Plan {
     /// The tree of bytes that the reader accepts.
@@ -147,12 +157,12 @@ impl Plan {
                 .any(|around| around == scope)
     }
 
-    /// The value of the expression at `place`, given the variables that are bound.
+    /// The value of the expression at `place`, given the variables that are bound; or the first fault in it: the left operand's, the right one's, its own.
     pub fn value(
         &self,
         place: usize,
         variable: &dyn Fn(usize) -> Option<u32>,
-    ) -> Result<u32, Faulty> {
+    ) -> Result<u32, Fault> {
         self.valued(place, variable).map(|(value, _)| value)
     }
 
@@ -160,22 +170,22 @@ impl Plan {
         &self,
         place: usize,
         variable: &dyn Fn(usize) -> Option<u32>,
-    ) -> Result<(u32, usize), Faulty> {
+    ) -> Result<(u32, usize), Fault> {
         let (form, place) = self.number_at(place);
         if form < 2 {
             let (number, next) = self.number_at(place);
             let value = if form == 0 {
                 number
             } else {
-                variable(number as usize).ok_or(Faulty)?
+                variable(number as usize).ok_or(UNBOUND)?
             };
             return Ok((value, next));
         }
         let (left, place) = self.valued(place, variable)?;
         let (right, place) = self.valued(place, variable)?;
         let value = match form {
-            2 => left.checked_add(right).ok_or(Faulty)?,
-            3 => left.checked_sub(right).ok_or(Faulty)?,
+            2 => left.checked_add(right).ok_or(TOO_LARGE)?,
+            3 => left.checked_sub(right).ok_or(BELOW_ZERO)?,
             4 => u32::from(left == right),
             _ => u32::from(left < right),
         };
@@ -217,7 +227,8 @@ impl Reading {
             1 => Kind::Send(self.tuple()),
             2 => Kind::Receive(self.received()),
             3 => Kind::Set(self.number(), self.expression()),
-            4 => Kind::Raise,
+            4 => Kind::Raise(PLAIN),
+            13 => Kind::Raise(self.number() as Fault),
             5 => Kind::Leave,
             6 => {
                 inside = 2;

@@ -1,4 +1,4 @@
-//! The model of the plan reader: one pass over the bytes, written from document 01 and from requests 8 and 13 of document 02.
+//! The model of the plan reader: one pass over the bytes, written from document 01 and from requests 4, 8 and 13 of document 02.
 
 pub const MAX_BYTES: usize = 4096;
 pub const MAX_ACTIVITIES: usize = 256;
@@ -207,7 +207,7 @@ impl<N: Numbers> Reading<'_, N> {
     fn activity(&mut self, depth: u32, handler: bool) -> Result<bool, Refusal> {
         let start = self.place;
         let code = self.number()?;
-        if code > 12 {
+        if code > 13 {
             return refuse(4, start);
         }
         if matches!(code, 11 | 12) && handler {
@@ -287,6 +287,11 @@ impl<N: Numbers> Reading<'_, N> {
                     self.activity(depth + 1, true)?;
                 }
                 body
+            }
+            // a raise with its number
+            13 => {
+                self.within(16, 255)?;
+                false
             }
             // empty, raise, leave
             _ => false,

@@ -125,6 +125,10 @@ impl Cutting<'_> {
                     self.activity();
                 }
             }
+            13 => {
+                let number = self.number();
+                self.put(&[code, number]);
+            }
             _ => {
                 self.put(&[code]);
                 let parts = match code {
@@ -274,7 +278,7 @@ impl<'a> Rows<'a> {
     fn activity(&mut self, level: u32, handler: bool) -> Result<bool, Refusal> {
         let (at, row) = self.row()?;
         let code = row[1];
-        if code > 12 {
+        if code > 13 {
             return refuse(4, at);
         }
         let scope = code == 11 || code == 12;
@@ -292,6 +296,7 @@ impl<'a> Rows<'a> {
                 row[2] < self.variables && !self.correlation.contains(&row[2]) && self.spell(row, 2)
             }
             8..=10 => (1..=most).contains(&row[2]) && self.spell(row, 2),
+            13 => (16..=255).contains(&row[2]) && self.spell(row, 2),
             _ => self.spell(row, 1),
         };
         if !legal {
@@ -409,6 +414,27 @@ mod tests {
         let mut other = table.clone();
         other[20..40].copy_from_slice(&row(&[0]));
         tried(&other, 0, 7, 1);
+    }
+
+    #[test]
+    fn raises_with_a_number() {
+        let plan = |raise: &[u32]| -> Vec<u32> {
+            let rows: [&[u32]; 4] = [&[1, 2, 0], &[8, 2], &[2, 3, 5, 1, 0], raise];
+            let all = rows.iter().copied().chain([&[0][..]]);
+            all.flat_map(row).collect()
+        };
+        let bytes = [1, 2, 0, 8, 2, 2, 3, 5, 1, 0, 13, 0xC8, 1, 0];
+        assert_eq!(table_of(&bytes), Ok(plan(&[13, 200])));
+        let mut out = [9; 14];
+        assert_eq!(write(&plan(&[13, 200]), &mut out), Ok(14));
+        assert_eq!(out, bytes);
+        for raise in [&[13, 15][..], &[13, 256], &[13], &[13, 16, 0], &[4, 16]] {
+            let refused = Refusal {
+                number: 5,
+                place: 3,
+            };
+            assert_eq!(write(&plan(raise), &mut out[..0]), Err(refused));
+        }
     }
 
     #[test]

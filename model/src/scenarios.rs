@@ -112,9 +112,13 @@ fn call_of(words: &[&str], plan: &mut Vec<u8>, state: &mut State, tally: &mut Ta
         },
         "step" => match engine::step(state, number(1), tally) {
             Err(refusal) => refusal.to_string(),
-            Ok(Taken { step, end, .. }) => {
+            Ok(Taken {
+                step, end, fault, ..
+            }) => {
                 let end = end.map_or(0, |end| end as usize);
-                joined([0, step.slot, step.activity, step.place, end])
+                let fault = fault.map_or("-".to_string(), |fault| fault.to_string());
+                let taken = joined([0, step.slot, step.activity, step.place, end]);
+                format!("{taken} {fault}")
             }
         },
         "run" => {

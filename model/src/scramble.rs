@@ -1,7 +1,7 @@
 //! States that no run reaches: a state with marks, variables, lists and messages changed at random, within their limits or beyond.
 
 use crate::generate::Random;
-use crate::plan::Plan;
+use crate::plan::{Fault, Plan};
 use crate::state::*;
 
 /// Changes a state that a run reached. The plan is its own.
@@ -67,6 +67,14 @@ fn root(random: &mut Random) -> u8 {
     [ACTIVE, ACTIVE, FAULTED, UNDOING, HANDLING][random.below(5)]
 }
 
+fn fault(random: &mut Random) -> Fault {
+    match random.below(4) {
+        0 => random.from_to(16, 255) as Fault,
+        1 => [16, 255][random.below(2)],
+        _ => random.below(5) as Fault,
+    }
+}
+
 fn mark(random: &mut Random, plan: &Plan, k: usize) -> u8 {
     if plan.is_scope(k) || random.percent(20) {
         random.below(9) as u8
@@ -77,8 +85,9 @@ fn mark(random: &mut Random, plan: &Plan, k: usize) -> u8 {
 
 /// One number of an order changed, within its limit.
 fn touch(random: &mut Random, plan: &Plan, order: &mut Order) {
-    match random.below(12) {
+    match random.below(13) {
         0 => order.root = root(random),
+        12 => order.cause = fault(random),
         1 => {
             let variable = random.below(16);
             order.bound[variable] ^= 1;
@@ -99,6 +108,7 @@ fn touch(random: &mut Random, plan: &Plan, order: &mut Order) {
 /// An order of which nothing need fit the rest.
 fn wild(random: &mut Random, plan: &Plan, order: &mut Order, density: usize) {
     order.root = root(random);
+    order.cause = fault(random);
     for k in 0..plan.count() {
         order.marks[k] = IDLE;
         if random.percent(density) {
@@ -110,6 +120,23 @@ fn wild(random: &mut Random, plan: &Plan, order: &mut Order, density: usize) {
         order.values[variable] = random.below(4) as u32;
     }
     remember(random, plan, order);
+    if random.percent(5) {
+        hand_on(random, plan, order);
+    }
+}
+
+/// A scope with no undo part that may close and hand something on, where 32 are remembered.
+fn hand_on(random: &mut Random, plan: &Plan, order: &mut Order) {
+    let scopes: Vec<usize> = (0..plan.count()).filter(|&k| plan.is_scope(k)).collect();
+    let bare = scopes.iter().find(|&&k| !plan.has_undo(k));
+    if let Some(&k) = bare {
+        order.marks[k] = DONE;
+        order.kept = REMEMBERED as u64;
+        for each in &mut order.remembered {
+            *each = closing(random, plan, &scopes);
+        }
+        order.remembered[random.below(REMEMBERED)].part = plan.body(Some(k)) as u8;
+    }
 }
 
 /// Another list of closings; now and then such as no scope has.
@@ -175,8 +202,10 @@ impl Message {
 /// One number past its limit.
 fn beyond(random: &mut Random, state: &mut State) {
     let order = &mut state.orders[random.below(ORDERS)];
-    match random.below(10) {
+    match random.below(11) {
         0 => order.root = [2, 3, 7, 8, 9, 255][random.below(6)],
+        // On both sides of the limit.
+        10 => order.cause = [4, 5, 6, 14, 15, 16][random.below(6)],
         1 => order.marks[random.below(MARKS)] = [9, 10, 128, 255][random.below(4)],
         2 => order.bound[random.below(16)] = [2, 3, 255][random.below(3)],
         3 => order.kept = [33, 34, 256, u64::MAX][random.below(4)],

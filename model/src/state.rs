@@ -1,6 +1,6 @@
 //! What the engine keeps: the plan's bytes, the waiting messages and the orders; which of it 17 limits; and the tally.
 
-use crate::plan::Plan;
+use crate::plan::{Fault, Plan, is_fault};
 use crate::reader;
 
 pub const BYTES: usize = 4096;
@@ -68,6 +68,8 @@ pub struct Order {
     /// Oldest first.
     pub remembered: [Closing; REMEMBERED],
     pub kept: u64,
+    /// The number that the root faulted with; 0 where it has not.
+    pub cause: Fault,
 }
 
 pub const NO_ORDER: Order = Order {
@@ -77,6 +79,7 @@ pub const NO_ORDER: Order = Order {
     bound: [0; 16],
     remembered: [NO_CLOSING; REMEMBERED],
     kept: 0,
+    cause: 0,
 };
 
 impl Order {
@@ -98,6 +101,7 @@ impl Order {
             && self.marks.iter().all(|&mark| mark <= STOPPED_UNDOING)
             && self.bound.iter().all(|&bound| bound <= 1)
             && self.kept <= REMEMBERED as u64
+            && is_fault(self.cause)
     }
 }
 

@@ -249,6 +249,7 @@ fn activity(names: &Names, tokens: &[Token]) -> Option<(u32, Vec<Vec<u32>>)> {
         [Word(b"set"), Word(word), Word(b"to"), rest @ ..] => {
             judged(3, vec![3, names.variable(word)?], rest)
         }
+        [Word(b"raise"), Word(number)] => Some((13, vec![vec![13, decimal(number)?]])),
         [Word(b"choose"), Word(b"by"), rest @ ..] => judged(6, vec![6], rest),
         [Word(b"repeat"), Word(b"while"), rest @ ..] => judged(7, vec![7], rest),
         [Word(word)] => {

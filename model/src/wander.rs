@@ -8,7 +8,7 @@ use crate::lively;
 use crate::packed::{self, SIZE};
 use crate::plan::{Kind, Plan, Tuple};
 use crate::scramble;
-use crate::state::{Message, REMEMBERED, State, Tally};
+use crate::state::{End, Message, REMEMBERED, State, Tally};
 
 /// How often things were seen.
 #[derive(Default)]
@@ -29,6 +29,12 @@ pub struct Seen {
     /// Receives and arms that raised because another was open for the same thing, and steps with several of them.
     pub conflicts: u64,
     pub many_conflicts: u64,
+    /// Orders that ended handled, and failed, by the number of the fault: 0 to 4, and one of 16 to 255.
+    pub handled: [u64; 6],
+    pub failed: [u64; 6],
+    /// Faults out of a part of an inner scope, and faults that were absorbed, by their numbers.
+    pub outward: [u64; 6],
+    pub absorbed: [u64; 6],
     pub taken: u64,
     /// Scopes by their mark, in the order of each step taken in a run.
     pub scopes: [u64; 9],
@@ -207,7 +213,7 @@ impl Wander {
         }
         let choice = self.choice(&offer);
         let told = self.comparison.make(Call::Step(choice));
-        self.refused(told.answer >> 32);
+        self.refused(told.answer >> 32 & 0xFF);
         if let Some(taken) = told.taken {
             self.scopes(taken.step.slot);
             self.seen.taken += 1;
@@ -223,6 +229,18 @@ impl Wander {
             self.seen.conflicts += taken.conflicts as u64;
             self.seen.many_conflicts += u64::from(taken.conflicts > 1);
             self.seen.ends[taken.end.map_or(0, |end| end as usize)] += 1;
+            let ended = match taken.end {
+                Some(End::Handled) => Some(&mut self.seen.handled),
+                Some(End::Failed) => Some(&mut self.seen.failed),
+                _ => None,
+            };
+            if let (Some(by), Some(fault)) = (ended, taken.fault) {
+                by[usize::from(fault.min(5))] += 1;
+            }
+            for number in 0..6 {
+                self.seen.outward[number] += taken.outward[number];
+                self.seen.absorbed[number] += taken.absorbed[number];
+            }
         }
     }
 
@@ -386,7 +404,7 @@ impl Wander {
             Kind::Set(..) => Some(0),
             Kind::Choose(_) => Some(1),
             Kind::Repeat(_) => Some(2),
-            Kind::Raise => Some(3),
+            Kind::Raise(_) => Some(3),
             Kind::Leave => Some(4),
             Kind::Scope(_) => Some(5),
             _ => None,

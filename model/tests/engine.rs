@@ -9,7 +9,7 @@ plan 0102010002030502000100 = 0 2
 step 0 = 10
 post 3 5 7 9 = 0
 step 1 = 12
-step 0 = 0 0 0 0 1
+step 0 = 0 0 0 0 1 -
 step 0 = 10
 tally = 1 1 0 0 0
 post 3 5 7 9 1 = 0
@@ -18,21 +18,21 @@ post 3 64 7 9 = 13
 # scenario: plan B
 plan 01020100080202000502000102000602000100 = 0 4
 post 0 5 7 1 = 0
-step 0 = 0 0 1 0 0
+step 0 = 0 0 1 0 0 -
 post 0 6 8 2 = 0
 step 0 = 10
 post 0 6 7 2 = 0
-step 0 = 0 0 2 1 1
+step 0 = 0 0 2 1 1 -
 waiting = 0 6 2 8 2
 # scenario: plan C
 plan 010100080402000001000b000001000101000b000001000201000400 = 0 12
 post 0 0 5 = 0
-step 0 = 0 0 1 0 0
-step 0 = 0 0 2 0 0
-step 0 = 0 0 6 0 0
-step 0 = 0 0 10 0 0
-step 0 = 0 0 9 0 0
-step 0 = 0 0 5 0 2
+step 0 = 0 0 1 0 0 -
+step 0 = 0 0 2 0 0 -
+step 0 = 0 0 6 0 0 -
+step 0 = 0 0 10 0 0 -
+step 0 = 0 0 9 0 0 -
+step 0 = 0 0 5 0 2 0
 waiting = 0 2 1 5 | 0 1 1 5
 # scenario: a scope that closes three times in a repeat is undone three times
 plan 01020008040200000100030100030705000001010802030103010100010b000001090101010400 = 0 12
@@ -54,7 +54,7 @@ fn plays(text: &str, scenarios: usize) {
 
 #[test]
 fn every_scenario() {
-    plays(TEXT, 40);
+    plays(TEXT, 42);
 }
 
 #[test]
@@ -64,7 +64,7 @@ fn every_scenario_of_held_steps() {
 
 #[test]
 fn every_scenario_by_hand() {
-    plays(HAND, 11);
+    plays(HAND, 28);
 }
 
 #[test]
@@ -84,6 +84,70 @@ fn examples_of_document_01() {
     plays(EXAMPLES, 4);
 }
 
+/// Document 02, request 4: a receive, and behind it what faults. The word behind the end is the number.
+const NUMBERS: &str = "# scenario: two raises side by side, of which the second is stopped
+plan 0101000802020000010009020d140d1500 = 0 6
+post 0 0 5 = 0
+step 0 = 0 0 1 0 0 -
+offer = 2 free 0:3:0 0:4:0
+step 1 = 0 0 4 0 2 21
+# scenario: a raise in a fault part that the root waits for is absorbed, and leaves the number that was there
+plan 0101000802020000010009020b040d14000d1500 = 0 9
+post 0 0 5 = 0
+step 0 = 0 0 1 0 0 -
+offer = 2 free 0:4:0 0:7:0
+step 0 = 0 0 4 0 0 -
+offer = 2 free 0:5:0 0:7:0
+step 1 = 0 0 7 0 0 -
+offer = 1 free 0:5:0
+step 0 = 0 0 5 0 2 21
+# scenario: a raise in a fault part goes on with its own number, through two scopes
+plan 010100080202000001000b0b0d140d15000d160000 = 0 10
+post 0 0 5 = 0
+step 0 = 0 0 1 0 0 -
+step 0 = 0 0 4 0 0 -
+step 0 = 0 0 5 0 0 -
+step 0 = 0 0 7 0 2 22
+# scenario: a raise in an undo part of a list that has one more goes on with its own number
+plan 010100080202000001000b08030b000001090101000b00000d170d18000000 = 0 16
+post 0 0 5 = 0
+step 0 = 0 0 1 0 0 -
+step 0 = 0 0 4 0 0 -
+step 0 = 0 0 8 0 0 -
+step 0 = 0 0 12 0 0 -
+step 0 = 0 0 11 0 2 23
+# scenario: a send of an unbound variable
+plan 01020008020200000100010101010100 = 0 4
+post 0 0 5 = 0
+step 0 = 0 0 1 0 0 -
+step 0 = 0 0 2 0 2 1
+# scenario: two receives open for one thing, in the body and in the fault part
+plan 01010008020200000100090202010101000201010100090202010101000201010100 = 0 8
+post 0 0 5 = 0
+step 0 = 0 0 1 0 3 4
+tally = 1 0 0 1 0
+# scenario: what the root handles is what it faulted with, and not a fault in an inner scope since
+plan 010100080202000001000d200109010100 = 0 4
+post 0 0 5 = 0
+step 0 = 0 0 1 0 0 -
+step 0 = 0 0 2 0 0 -
+step 0 = 0 0 3 0 2 32
+# scenario: a choose and a repeat whose expressions fault, the left operand first
+plan 01020008020200000100060201010300000001000000 = 0 6
+post 0 0 5 = 0
+step 0 = 0 0 1 0 0 -
+step 0 = 0 0 2 0 2 1
+plan 010200080202000001000703030000000101010000 = 0 5
+post 0 0 5 = 0
+step 0 = 0 0 1 0 0 -
+step 0 = 0 0 2 0 2 3
+";
+
+#[test]
+fn which_fault_it_was() {
+    plays(NUMBERS, 8);
+}
+
 /// A scope whose repeat closes an inner one so often, then a receive.
 fn closes(times: u8) -> String {
     let bytes = [
@@ -101,7 +165,7 @@ fn thirty_two_closings_and_the_one_around_them() {
     let played = play(&text);
     assert!(played.wrong.is_empty(), "{:?}", played.wrong);
     assert_eq!(played.state.orders[0].kept, 32);
-    let played = play(&format!("{text}\nstep 0 = 0 0 3 0 0\noffer = 0 free"));
+    let played = play(&format!("{text}\nstep 0 = 0 0 3 0 0 -\noffer = 0 free"));
     assert!(played.wrong.is_empty(), "{:?}", played.wrong);
     assert_eq!(played.state.orders[0].kept, 1);
 }
@@ -113,6 +177,79 @@ fn a_thirty_third_closing_is_held() {
         "plan {plan} = 0 15\npost 0 0 5 = 0\nrun 200{zeros} = 100 11\noffer = 0 held"
     ));
     assert!(played.wrong.is_empty(), "{:?}", played.wrong);
+}
+
+/// What `library/test.c` says of a state that was kept: it is brought up to date, and goes on to its end.
+fn kept(name: &str, old: &[u8]) -> String {
+    let mut state = vec![7; packed::SIZE];
+    assert_eq!(packed::upgrade(old, &mut state), 0, "{name}");
+    let many = packed::offers(&state) as u32;
+    let mut steps = 0;
+    loop {
+        while packed::collect(&mut state, &mut [0; packed::MESSAGE]) == 0 {}
+        if packed::offers(&state) as u32 == 0 {
+            break;
+        }
+        assert_eq!(packed::step(&mut state, 0) >> 32 & 0xFF, 0);
+        steps += 1;
+    }
+    let (_, tally) = packed::unpack(&state).expect("a state");
+    let tally = tally.0.map(|count| count.to_string()).join(" ");
+    format!("{name}: {many} offered, {steps} steps, {tally}\n")
+}
+
+#[test]
+fn states_of_every_version() {
+    let folder = concat!(env!("CARGO_MANIFEST_DIR"), "/../data/states/");
+    let expected = std::fs::read_to_string(format!("{folder}expected")).unwrap();
+    let mut said = String::new();
+    for line in expected.lines() {
+        let name = line.split(':').next().unwrap();
+        let old = std::fs::read(format!("{folder}{name}")).unwrap();
+        said += &kept(name, &old);
+        let mut state = vec![7; packed::SIZE];
+        assert_eq!(packed::upgrade(&old[1..], &mut state), 17);
+        assert_eq!(packed::upgrade(&old, &mut state[1..]), 18);
+    }
+    assert_eq!(said, expected);
+    // Beside them a file of the desk's, which tools/check-manners opens.
+    let states = std::fs::read_dir(folder).unwrap().filter(|entry| {
+        let name = entry.as_ref().unwrap().file_name();
+        name.to_str().unwrap().contains(".MOONHAL")
+    });
+    assert_eq!(states.count(), expected.lines().count());
+}
+
+#[test]
+fn the_number_that_the_root_faulted_with() {
+    // A receive, raise 200, and a fault part that sends.
+    let plan = [1, 1, 0, 8, 2, 2, 0, 0, 1, 0, 13, 0xC8, 1, 1, 9, 1, 1, 0];
+    let mut state = vec![0; packed::SIZE];
+    assert_eq!(packed::load(&plan, &mut state), 0);
+    let message = model::state::Message {
+        count: 1,
+        ..Default::default()
+    };
+    assert_eq!(packed::post(&mut state, message), 0);
+    for _ in 0..2 {
+        assert_eq!(packed::step(&mut state, 0) >> 32, 0);
+    }
+    let at = model::layout::ORDERS + model::layout::ORDER_CAUSE;
+    assert_eq!(state[at], 200);
+    // It is answered as it stands there, and 17 limits it, in a free slot too.
+    for cause in 0..=255u8 {
+        let legal = cause < 5 || cause > 15;
+        for slot in [0, 7] {
+            let mut other = state.clone();
+            other[at + model::layout::ORDER * slot] = cause;
+            let (answer, number) = match (legal, slot) {
+                (false, _) => (17 << 32, 0),
+                (true, 0) => (3 << 16 | 2, u64::from(cause)),
+                (true, _) => (3 << 16 | 2, 200),
+            };
+            assert_eq!(packed::step(&mut other, 0), number << 40 | answer);
+        }
+    }
 }
 
 #[test]

@@ -241,6 +241,46 @@ fn write(lines: &[&str]) -> Result<Vec<u8>, Wrong> {
 }
 
 #[test]
+fn raises_with_a_number_as_text() {
+    let with = |raise: &str| {
+        write(&[
+            "variable a",
+            "root body: sequence",
+            "  receive from partner 0, operation 0: a",
+            raise,
+            "root fault part: empty",
+        ])
+    };
+    let bytes = |raise: &[u8]| Ok([&[1, 1, 0, 8, 2, 2, 0, 0, 1, 0], raise, &[0]].concat());
+    assert_eq!(with("  raise"), bytes(&[4]));
+    assert_eq!(with("  raise 16"), bytes(&[13, 16]));
+    assert_eq!(with("  raise 255 # why"), bytes(&[13, 255, 1]));
+    for number in ["0", "4", "15", "256", "4294967295"] {
+        assert_eq!(
+            with(&format!("  raise {number}")),
+            Err(Wrong::Refused(5, 4))
+        );
+    }
+    for wrong in [
+        "raise 4294967296",
+        "raise a",
+        "raise 16 17",
+        "raise 16:",
+        "raise (16)",
+    ] {
+        assert_eq!(with(&format!("  {wrong}")), Err(Wrong::Line(4)));
+    }
+    assert_eq!(
+        write(&[
+            "variable a",
+            "root body: receive from partner 0, operation 0: a",
+            "root fault part: raise 17",
+        ]),
+        Ok(vec![1, 1, 0, 2, 0, 0, 1, 0, 13, 17])
+    );
+}
+
+#[test]
 fn scopes_without_an_undo_part_as_text() {
     let front = [
         "variable a",

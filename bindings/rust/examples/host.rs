@@ -8,11 +8,11 @@ use std::process::ExitCode;
 
 fn told(word: &str, step: &Step) -> String {
     let end = match step.end {
-        End::None => "",
-        End::Well => ", the order ended well",
-        End::Handled => ", the order ended handled",
-        End::Failed => ", the order failed",
-        End::Left => ", the order left",
+        End::None => String::new(),
+        End::Well => ", the order ended well".into(),
+        End::Handled => format!(", the order ended handled, fault {}", step.fault),
+        End::Failed => format!(", the order failed, fault {}", step.fault),
+        End::Left => ", the order left".into(),
     };
     format!("{word}: slot {}, activity {}, message place {}{end}\n", step.slot, step.activity, step.place)
 }

@@ -2,7 +2,7 @@
 //! offsets in a message and in an order count from its first byte.
 #![allow(missing_docs)]
 // layout: written by tools/layout from data/layout.txt
-pub const MARK: &[u8; 8] = b"MOONHAL2";
+pub const MARK: &[u8; 8] = b"MOONHAL3";
 pub const TALLY_STARTED: usize = 8;
 pub const TALLY_WELL: usize = 12;
 pub const TALLY_HANDLED: usize = 16;
@@ -15,7 +15,7 @@ pub const MESSAGES: usize = 4140;
 pub const MESSAGES_MOST: usize = 64;
 pub const ORDERS: usize = 5932;
 pub const ORDERS_MOST: usize = 16;
-pub const STATE: usize = 12476;
+pub const STATE: usize = 12492;
 pub const MESSAGE_PARTNER: usize = 0;
 pub const MESSAGE_OPERATION: usize = 4;
 pub const MESSAGE_COUNT: usize = 8;
@@ -32,7 +32,8 @@ pub const ORDER_BOUND_MOST: usize = 16;
 pub const ORDER_REMEMBERED: usize = 337;
 pub const ORDER_REMEMBERED_MOST: usize = 32;
 pub const ORDER_KEPT: usize = 401;
-pub const ORDER: usize = 409;
+pub const ORDER_CAUSE: usize = 409;
+pub const ORDER: usize = 410;
 pub const CLOSING_SCOPE: usize = 0;
 pub const CLOSING_PART: usize = 1;
 pub const CLOSING: usize = 2;

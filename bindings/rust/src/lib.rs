@@ -51,13 +51,15 @@ pub enum End {
     Left,
 }
 
-/// A step: its order's slot, its activity, the place of the message that it takes, and the order's end.
+/// A step: its order's slot, its activity, the place of the message that it takes, the order's end, and the number of the fault that it ended handled or failed
+/// by: 0 a raise, 1 a variable that is not bound, 2 a sum too large, 3 a difference below zero, 4 conflicting receives; 0 where it did not end so.
 #[derive(Clone, Copy, Debug, PartialEq, Eq)]
 pub struct Step {
     pub slot: u8,
     pub activity: u8,
     pub place: u8,
     pub end: End,
+    pub fault: u8,
 }
 
 /// How many steps are offered, and whether something is held for want of room.
@@ -85,7 +87,8 @@ pub struct Tally {
     pub left: u32,
 }
 
-/// A live order: its slot, its root's mark, the marks of activities and arms, its variables, the scopes that it remembers.
+/// A live order: its slot, its root's mark, the marks of activities and arms, its variables, the scopes that it remembers, and the number of the fault that its
+/// root faulted with, 0 where it has not.
 #[derive(Clone, Debug, PartialEq, Eq)]
 pub struct Order {
     pub slot: usize,
@@ -93,6 +96,7 @@ pub struct Order {
     pub marks: Vec<u8>,
     pub variables: Vec<Option<u32>>,
     pub remembered: Vec<u8>,
+    pub cause: u8,
 }
 
 /// How many steps a run took, and the refusal that stopped it, or 0.
@@ -228,11 +232,12 @@ fn step_of(answer: u64) -> Step {
             3 => End::Failed,
             _ => End::Left,
         },
+        fault: (answer >> 40) as u8,
     }
 }
 
 fn step(answer: u64) -> Result<Step, Refused> {
-    told(answer)?;
+    refused(u32::from((answer >> 32) as u8))?;
     Ok(step_of(answer))
 }
 
@@ -374,5 +379,6 @@ fn order(slot: usize, bytes: &[u8]) -> Order {
         marks: bytes[layout::ORDER_MARKS..][..layout::ORDER_MARKS_MOST].to_vec(),
         variables: (0..layout::ORDER_VALUES_MOST).map(variable).collect(),
         remembered: (0..kept).map(|i| bytes[layout::ORDER_REMEMBERED + layout::CLOSING_SCOPE + layout::CLOSING * i]).collect(),
+        cause: bytes[layout::ORDER_CAUSE],
     }
 }

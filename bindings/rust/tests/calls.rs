@@ -41,7 +41,7 @@ fn an_order() {
     assert_eq!(number(state.post(0, 64, &[1])), 13);
     assert_eq!(number(state.post(0, 0, &[1, 2, 3, 4, 5])), 13);
     assert_eq!(state.waiting(), [Message { partner: 0, operation: 0, values: vec![7, 9] }]);
-    let first = Step { slot: 0, activity: 1, place: 0, end: End::None };
+    let first = Step { slot: 0, activity: 1, place: 0, end: End::None, fault: 0 };
     assert_eq!(state.offer(0), Ok(first));
     assert_eq!(state.step(0), Ok(first));
     assert_eq!(state.orders()[0].variables[..3], [Some(7), Some(9), None]);

@@ -2,7 +2,7 @@
 use mathlib.Core.Path.{_≡_, refl, sym, ap, subst, _∙_}
 use mathlib.Core.Bool.{Bool, true, false, cond, not, _&&_, false≢true, and-false}
 use mathlib.Core.List.{List, []}
-use Prim.Native.Nat.{ℕ, _+_, _<_, _≤_}
+use Prim.Native.Nat.{ℕ, zero, suc, _+_, _<_, _≤_}
 use native.Mathlib.Omega.{arith}
 use borrow.Author.Tests.{eq-eqb, ne-eqb, lt-ltb, le-ltb, ltb-true}
 use lib.Dec.{eqb, ltb}
@@ -17,6 +17,7 @@ use Rattle.order.specs.Acting.{finishes, raises, again, isPart, joins, goesOn, 
 use Rattle.order.specs.Answering.{KindOf, scopeKind, went, outcome, isOver, ofUndo, scopeAct, SpotAt, Makes, runsOf, finishesOf, StepsAt, Among, ChildWith, Arms, Follows, JoinsAt, Through, InScope, hasParts, GoesOn, Combines, raisesOf, actorOf, Performs, PartOf, StepsIn}
 use Rattle.order.specs.Begin.{part, partAt, beginAfter}
 use Rattle.order.specs.Event.{Event}
+use Rattle.order.specs.Expression.{conflictingReceive}
 use Rattle.order.specs.Lists.{only}
 use Rattle.order.specs.Room.{hasRoom, roomIn, roomAmong}
 use Rattle.order.specs.Scope.{Scope, Outcome, runs, begunIn, whereOver, isFor, forgetting, scopeAt, fromBody, fromFault, goesThrough, fromUndo}
@@ -44,7 +45,7 @@ module _ {w : Way} where
   unfolding ofUndo
   undo-over e = rw e
 
-  pub undo-raising : w ≡ Raising → false ≡ ofUndo w
+  pub undo-raising : {x : ℕ} → w ≡ Raising x → false ≡ ofUndo w
   unfolding ofUndo
   undo-raising e = rw e
 
@@ -56,7 +57,7 @@ module _ {w : Way} where
   unfolding ofUndo
   undo-undone e = rw e
 
-  pub undo-undoRaising : w ≡ UndoRaising → true ≡ ofUndo w
+  pub undo-undoRaising : {x : ℕ} → w ≡ UndoRaising x → true ≡ ofUndo w
   unfolding ofUndo
   undo-undoRaising e = rw e
 
@@ -66,10 +67,10 @@ through-is : (v : Bool) (k : ℕ) (w : Way) (o : Order)
 unfolding goesThrough ofUndo
 through-is v k Running o = refl
 through-is v k Over o = refl
-through-is v k Raising o = refl
+through-is v k (Raising x) o = refl
 through-is v k Leaving o = refl
 through-is v k Undone o = refl
-through-is v k UndoRaising o = refl
+through-is v k (UndoRaising x) o = refl
 
 undo-part : (v : Bool) → kind (scope v) ≡ cond v 11 12
 unfolding kind
@@ -233,7 +234,8 @@ module _ (t : List ℕ) (k e child : ℕ) (o : Order) {kd : ℕ} (q : KindOf t k
     inside-over (send p q vs) l x h d = absurd (false≢true d)
     inside-over (receive p q vs) l x h d = absurd (false≢true d)
     inside-over (setting v e) l x h d = absurd (false≢true d)
-    inside-over raise l x h d = absurd (false≢true d)
+    inside-over (raise zero) l x h d = absurd (false≢true d)
+    inside-over (raise (suc number)) l x h d = absurd (false≢true d)
     inside-over leave l x h d = absurd (false≢true d)
     inside-over (choose e) l x h d = refl
     inside-over (repeat e) l x h d = absurd (h7 h)
@@ -263,10 +265,10 @@ over-is : (w : Way) → isOver w ≡ true → w ≡ Over
 unfolding isOver
 over-is Running h = absurd (false≢true h)
 over-is Over h = refl
-over-is Raising h = absurd (false≢true h)
+over-is (Raising x) h = absurd (false≢true h)
 over-is Leaving h = absurd (false≢true h)
 over-is Undone h = absurd (false≢true h)
-over-is UndoRaising h = absurd (false≢true h)
+over-is (UndoRaising x) h = absurd (false≢true h)
 
 goes-waits : (k m : ℕ) (f : Order → Outcome) (R : Outcome) → isOver (R .result) ≡ false → went (goesOn k m f R) ≡ went R
 unfolding goesOn
@@ -278,7 +280,8 @@ combines-waits empty l k x R n h = refl
 combines-waits (send p q vs) l k x R n h = refl
 combines-waits (receive p q vs) l k x R n h = refl
 combines-waits (setting v e) l k x R n h = refl
-combines-waits raise l k x R n h = refl
+combines-waits (raise zero) l k x R n h = refl
+combines-waits (raise (suc number)) l k x R n h = refl
 combines-waits leave l k x R n h = refl
 combines-waits (choose e) l k x R n h = goes-waits k 2 (finishes k) R h
 combines-waits (repeat e) l k x R n h = goes-waits k 2 (again k) R h
@@ -294,7 +297,8 @@ combines-plain empty l k x R n h = refl
 combines-plain (send p q vs) l k x R n h = refl
 combines-plain (receive p q vs) l k x R n h = refl
 combines-plain (setting v e) l k x R n h = refl
-combines-plain raise l k x R n h = refl
+combines-plain (raise zero) l k x R n h = refl
+combines-plain (raise (suc number)) l k x R n h = refl
 combines-plain leave l k x R n h = refl
 combines-plain (choose e) l k x R n h = absurd (false≢true (sym h))
 combines-plain (repeat e) l k x R n h = absurd (false≢true (sym h))
@@ -341,33 +345,33 @@ module _ (t : List ℕ) (k e child x : ℕ) (r : Went) {kd : ℕ} (q : KindOf t 
 abbrev Same : (Outcome → Outcome) → Way → Type 0
 Same F w = (o : Order) (g : List Event) → went (F (record { result = w; order = o; log = g })) ≡ went (F (record { result = w; order = o; log = [] }))
 
-by-way : (F : Outcome → Outcome) → Same F Running → Same F Over → Same F Raising → Same F Leaving → Same F Undone → Same F UndoRaising
+by-way : (F : Outcome → Outcome) → Same F Running → Same F Over → ((x : ℕ) → Same F (Raising x)) → Same F Leaving → Same F Undone → ((x : ℕ) → Same F (UndoRaising x))
     → (R : Outcome) → went (F R) ≡ went (F (outcome (went R)))
 by-way F a b c d e f R = go (R .result) (R .order) (R .log)
   where
     go : (w : Way) → Same F w
     go Running = a
     go Over = b
-    go Raising = c
+    go (Raising x) = c x
     go Leaving = d
     go Undone = e
-    go UndoRaising = f
+    go (UndoRaising x) = f x
 
 goes-same : (k m : ℕ) (f : Order → Outcome) (R : Outcome) → went (goesOn k m f R) ≡ went (goesOn k m f (outcome (went R)))
 unfolding goesOn
-goes-same k m f = by-way (goesOn k m f) (λ o g. refl) (λ o g. refl) (λ o g. refl) (λ o g. refl) (λ o g. refl) (λ o g. refl)
+goes-same k m f = by-way (goesOn k m f) (λ o g. refl) (λ o g. refl) (λ x o g. refl) (λ o g. refl) (λ o g. refl) (λ x o g. refl)
 
 pub body-same : (s : Scope) (R : Outcome) → went (fromBody s R) ≡ went (fromBody s (outcome (went R)))
 unfolding fromBody
-body-same s = by-way (fromBody s) (λ o g. refl) (λ o g. refl) (λ o g. refl) (λ o g. refl) (λ o g. refl) (λ o g. refl)
+body-same s = by-way (fromBody s) (λ o g. refl) (λ o g. refl) (λ x o g. refl) (λ o g. refl) (λ o g. refl) (λ x o g. refl)
 
 pub fault-same : (s : Scope) (R : Outcome) → went (fromFault s R) ≡ went (fromFault s (outcome (went R)))
 unfolding fromFault
-fault-same s = by-way (fromFault s) (λ o g. refl) (λ o g. refl) (λ o g. refl) (λ o g. refl) (λ o g. refl) (λ o g. refl)
+fault-same s = by-way (fromFault s) (λ o g. refl) (λ o g. refl) (λ x o g. refl) (λ o g. refl) (λ o g. refl) (λ x o g. refl)
 
 undo-same : (R : Outcome) → went (fromUndo R) ≡ went (fromUndo (outcome (went R)))
 unfolding fromUndo
-undo-same = by-way fromUndo (λ o g. refl) (λ o g. refl) (λ o g. refl) (λ o g. refl) (λ o g. refl) (λ o g. refl)
+undo-same = by-way fromUndo (λ o g. refl) (λ o g. refl) (λ x o g. refl) (λ o g. refl) (λ o g. refl) (λ x o g. refl)
 
 scope-same : (v : Bool) (k x : ℕ) (l : Acts) (R : Outcome) → went (inScope v k x l R) ≡ went (inScope v k x l (outcome (went R)))
 unfolding inScope goesThrough
@@ -393,7 +397,8 @@ combines-same empty l k x R = refl
 combines-same (send p q vs) l k x R = refl
 combines-same (receive p q vs) l k x R = refl
 combines-same (setting v e) l k x R = refl
-combines-same raise l k x R = refl
+combines-same (raise zero) l k x R = refl
+combines-same (raise (suc number)) l k x R = refl
 combines-same leave l k x R = refl
 combines-same (choose e) l k x R = goes-same k 2 (finishes k) R
 combines-same (repeat e) l k x R = goes-same k 2 (again k) R
@@ -414,21 +419,21 @@ room-of own l k o h e =
 
 -- `replaced`, `performs`
 in-place : (own : Own) (l : Acts) (q k : ℕ) (o : Order) (b : Bool) → replaces inPlace (kind own) ≡ b
-    → performs inPlace own l q k o ≡ elim b [ true ↦ raises k o | false ↦ itself own l q k o ]
+    → performs inPlace own l q k o ≡ elim b [ true ↦ raises conflictingReceive k o | false ↦ itself own l q k o ]
 unfolding performs
 in-place own l q k o b e =
-    subst (λ (z : Bool). performs inPlace own l q k o ≡ elim z [ true ↦ raises k o | false ↦ itself own l q k o ]) e refl
+    subst (λ (z : Bool). performs inPlace own l q k o ≡ elim z [ true ↦ raises conflictingReceive k o | false ↦ itself own l q k o ]) e refl
 
 kind-there : {t : List ℕ} {k : ℕ} (own : Own) (l : Acts) {n : ℕ} → KindOf t k n → Stands (act own l) k t → kind own ≡ n
 unfolding Stands size
 kind-there {t} {k} own l {n} a s = sym (a .is (omega (arith, stands-inside (act own l) k t s)) ∙ s .first .row .kind)
 
 module _ {t : List ℕ} {q k : ℕ} {o : Order} where
-  pub replaced-receive : {n : ℕ} → KindOf t k n → n ≡ 2 → {r : Went} → r ≡ raisesOf k o → Performs t inPlace q k o r
+  pub replaced-receive : {n : ℕ} → KindOf t k n → n ≡ 2 → {r : Went} → r ≡ raisesOf conflictingReceive k o → Performs t inPlace q k o r
   unfolding replaces
   replaced-receive a e y = record { is = λ own l d s g. y ∙ sym (ap went (in-place own l q k o true (rw (kind-there own l a s ∙ e)))) }
 
-  pub replaced-arm : {n : ℕ} → KindOf t k n → n ≡ 255 → {r : Went} → r ≡ raisesOf k o → Performs t inPlace q k o r
+  pub replaced-arm : {n : ℕ} → KindOf t k n → n ≡ 255 → {r : Went} → r ≡ raisesOf conflictingReceive k o → Performs t inPlace q k o r
   unfolding replaces
   replaced-arm a e y = record { is = λ own l d s g. y ∙ sym (ap went (in-place own l q k o true (rw (kind-there own l a s ∙ e)))) }
 

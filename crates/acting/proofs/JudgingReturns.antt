@@ -106,5 +106,5 @@ step-settles {t} {n} {x} {o} {m} {r} a b =
     record {
       is = λ p s h.
           let q = acted itsOwn p x o in
-          b .is p s ∙ (ap (λ (y : Next). nextOf (settled p (movedAs y))) (a .is p s h) ∙ any-log p (spare p (q .order)) (q .end) (q .order) [] (q .log));
+          b .is p s ∙ (ap (λ (y : Next). nextOf (settled p (movedAs y))) (a .is p s h) ∙ any-log p (spare p (q .order)) (q .end) (q .fault) (q .order) [] (q .log));
     }

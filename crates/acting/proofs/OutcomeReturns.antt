@@ -12,26 +12,26 @@ use Rattle.order.specs.declared.Went.{Went}
 use Rattle.order.specs.Answering.{runsOf, went, outcome, nameOf, scopeOf, Clears, Stops, Turns, Undoes, Forgets, endsOf, Leads, Makes, PartOver}
 use Rattle.order.specs.Scope.{forgetting, isOpen, stop, faults, breaks, looksAgain, bodyOver, bodyRaised, undoOver, undoRaised, fromBody, partOver, partRaised, fromFault, fromUndo}
 use Rattle.order.proofs.Deciding.{yes, no}
-use Rattle.order.specs.State.{markOf, marking, withMarks}
+use Rattle.order.specs.State.{markOf, marking, causing, withMarks}
 
 -- `faults`
-pub faults-is : (t : List ℕ) (z : Spot) (o : Order) {o₁ : Order} → o₁ ≡ marking (nameOf z) 4 o → {p : Order} → Stops t (z .body) o₁ p
-    → {r : Went} → Turns t true z p r → Leads t z faults o r
+pub faults-is : (t : List ℕ) (n : ℕ) (z : Spot) (o : Order) {o₁ : Order} → o₁ ≡ marking (nameOf z) 4 o → {o₂ : Order} → o₂ ≡ causing (nameOf z) n o₁
+    → {p : Order} → Stops t (z .body) o₂ p → {r : Went} → Turns t true z p r → Leads t z (faults n) o r
 unfolding faults
-faults-is t z o {o₁} e {p} x {r} y = record {
+faults-is t n z o {o₁} e {o₂} g {p} x {r} y = record {
   is = λ b f h.
-      let a : p ≡ stop b (z .body) (marking (nameOf z) 4 o) .order = rw e at (x .is b (h .body)) in
+      let a : p ≡ stop b (z .body) (causing (nameOf z) n (marking (nameOf z) 4 o)) .order = rw (g, e) at (x .is b (h .body)) in
       rw a at (y .is b f h);
 }
 
 -- `breaks`
-pub breaks-is : (t : List ℕ) (z : Spot) (o : Order) {o₁ : Order} → o₁ ≡ marking (nameOf z) 0 o → {p : Order} → Forgets (z .body) o₁ p
+pub breaks-is : (t : List ℕ) (x : ℕ) (z : Spot) (o : Order) {o₁ : Order} → o₁ ≡ marking (nameOf z) 0 o → {p : Order} → Forgets (z .body) o₁ p
     → {n : List ℕ} → Clears (z .first) (z .end) (p .marks) n → {q : Order} → q ≡ withMarks n p
-    → Leads t z breaks o (record { way = Raising; order = q })
+    → Leads t z (breaks x) o (record { way = Raising x; order = q })
 unfolding breaks forgetting
-breaks-is t z o {o₁} e {p} x {n} i {q} j = record {
+breaks-is t x z o {o₁} e {p} y {n} i {q} j = record {
   is = λ b f h.
-      let a : p ≡ forgetting (scopeOf z b f) o₁ = x .is in
+      let a : p ≡ forgetting (scopeOf z b f) o₁ = y .is in
       rw (j, i .is (h .end), a, e);
 }
 
@@ -68,13 +68,13 @@ module _ (t : List ℕ) (z : Spot) (o : Order) {m : ℕ} (e : m ≡ markOf (name
   body-looks h y = record { is = λ b f k. y .is b f k ∙ sym (ap went (no _ _ _ (no-mark 1 h))) }
 
   -- `body_raised`
-  pub raised-faults : {v : Bool} → v ≡ isOpen m → v ≡ true → {r : Went} → Leads t z faults o r → Leads t z bodyRaised o r
+  pub raised-faults : (x : ℕ) {v : Bool} → v ≡ isOpen m → v ≡ true → {r : Went} → Leads t z (faults x) o r → Leads t z (bodyRaised x) o r
   unfolding bodyRaised
-  raised-faults j g y = record { is = λ b f k. y .is b f k ∙ sym (ap went (yes (isOpen (markOf (nameOf z) o)) _ _ (rw (← e) (sym j ∙ g)))) }
+  raised-faults x j g y = record { is = λ b f k. y .is b f k ∙ sym (ap went (yes (isOpen (markOf (nameOf z) o)) _ _ (rw (← e) (sym j ∙ g)))) }
 
-  pub raised-absorbed : {v : Bool} → v ≡ isOpen m → v ≡ false → {r : Went} → Leads t z looksAgain o r → Leads t z bodyRaised o r
+  pub raised-absorbed : (x : ℕ) {v : Bool} → v ≡ isOpen m → v ≡ false → {r : Went} → Leads t z looksAgain o r → Leads t z (bodyRaised x) o r
   unfolding bodyRaised
-  raised-absorbed j g y = record { is = λ b f k. y .is b f k ∙ sym (ap went (no (isOpen (markOf (nameOf z) o)) _ _ (rw (← e) (sym j ∙ g)))) }
+  raised-absorbed x j g y = record { is = λ b f k. y .is b f k ∙ sym (ap went (no (isOpen (markOf (nameOf z) o)) _ _ (rw (← e) (sym j ∙ g)))) }
 
   -- `undo_over`
   pub undone-next : m ≡ 5 → {r : Went} → Undoes t true z o r → Leads t z undoOver o r
@@ -90,17 +90,17 @@ module _ (t : List ℕ) (z : Spot) (o : Order) {m : ℕ} (e : m ≡ markOf (name
   undone-not g h y = record { is = λ b f k. y ∙ sym (ap went (no _ _ _ (no-mark 5 g) ∙ no _ _ _ (no-mark 8 h))) }
 
   -- `undo_raised`
-  pub undo-breaks : m ≡ 5 → {r : Went} → Leads t z breaks o r → Leads t z undoRaised o r
+  pub undo-breaks : (x : ℕ) → m ≡ 5 → {r : Went} → Leads t z (breaks x) o r → Leads t z (undoRaised x) o r
   unfolding undoRaised
-  undo-breaks h y = record { is = λ b f k. y .is b f k ∙ sym (ap went (yes (eqb (markOf (nameOf z) o) 5 || eqb (markOf (nameOf z) o) 8) _ _ (rw (is-mark 5 h)))) }
+  undo-breaks x h y = record { is = λ b f k. y .is b f k ∙ sym (ap went (yes (eqb (markOf (nameOf z) o) 5 || eqb (markOf (nameOf z) o) 8) _ _ (rw (is-mark 5 h)))) }
 
-  pub undo-breaks-too : (m ≡ 5 → ⊥) → m ≡ 8 → {r : Went} → Leads t z breaks o r → Leads t z undoRaised o r
+  pub undo-breaks-too : (x : ℕ) → (m ≡ 5 → ⊥) → m ≡ 8 → {r : Went} → Leads t z (breaks x) o r → Leads t z (undoRaised x) o r
   unfolding undoRaised
-  undo-breaks-too g h y = record { is = λ b f k. y .is b f k ∙ sym (ap went (yes (eqb (markOf (nameOf z) o) 5 || eqb (markOf (nameOf z) o) 8) _ _ (rw (no-mark 5 g, is-mark 8 h)))) }
+  undo-breaks-too x g h y = record { is = λ b f k. y .is b f k ∙ sym (ap went (yes (eqb (markOf (nameOf z) o) 5 || eqb (markOf (nameOf z) o) 8) _ _ (rw (no-mark 5 g, is-mark 8 h)))) }
 
-  pub undo-absorbed : (m ≡ 5 → ⊥) → (m ≡ 8 → ⊥) → {r : Went} → r ≡ runsOf o → Leads t z undoRaised o r
+  pub undo-absorbed : (x : ℕ) → (m ≡ 5 → ⊥) → (m ≡ 8 → ⊥) → {r : Went} → r ≡ runsOf o → Leads t z (undoRaised x) o r
   unfolding undoRaised
-  undo-absorbed g h y = record { is = λ b f k. y ∙ sym (ap went (no (eqb (markOf (nameOf z) o) 5 || eqb (markOf (nameOf z) o) 8) _ _ (rw (no-mark 5 g, no-mark 8 h)))) }
+  undo-absorbed x g h y = record { is = λ b f k. y ∙ sym (ap went (no (eqb (markOf (nameOf z) o) 5 || eqb (markOf (nameOf z) o) 8) _ _ (rw (no-mark 5 g, no-mark 8 h)))) }
 
   -- `part_over`, `part_raised`
   pub part-ends : m ≡ 6 → {r : Went} → r ≡ endsOf z o → PartOver z o r
@@ -111,13 +111,13 @@ module _ (t : List ℕ) (z : Spot) (o : Order) {m : ℕ} (e : m ≡ markOf (name
   unfolding partOver
   part-not h y = record { is = λ b f. y ∙ sym (ap went (no _ _ _ (no-mark 6 h))) }
 
-  pub part-breaks : m ≡ 6 → {r : Went} → Leads t z breaks o r → Leads t z partRaised o r
+  pub part-breaks : (x : ℕ) → m ≡ 6 → {r : Went} → Leads t z (breaks x) o r → Leads t z (partRaised x) o r
   unfolding partRaised
-  part-breaks h y = record { is = λ b f k. y .is b f k ∙ sym (ap went (yes _ _ _ (is-mark 6 h))) }
+  part-breaks x h y = record { is = λ b f k. y .is b f k ∙ sym (ap went (yes _ _ _ (is-mark 6 h))) }
 
-  pub part-absorbed : (m ≡ 6 → ⊥) → {r : Went} → r ≡ runsOf o → Leads t z partRaised o r
+  pub part-absorbed : (x : ℕ) → (m ≡ 6 → ⊥) → {r : Went} → r ≡ runsOf o → Leads t z (partRaised x) o r
   unfolding partRaised
-  part-absorbed h y = record { is = λ b f k. y ∙ sym (ap went (no _ _ _ (no-mark 6 h))) }
+  part-absorbed x h y = record { is = λ b f k. y ∙ sym (ap went (no _ _ _ (no-mark 6 h))) }
 
 -- `from_body`, `from_fault`, `from_undo`: by how what ran stands
 module _ (t : List ℕ) (z : Spot) (r : Went) where
@@ -129,7 +129,7 @@ module _ (t : List ℕ) (z : Spot) (r : Went) where
   unfolding fromBody
   from-over e y = record { is = λ b f k. rw e (y .is b f k) }
 
-  pub from-raising : r .way ≡ Raising → {p : Went} → Leads t z bodyRaised (r .order) p → Makes t z fromBody r p
+  pub from-raising : {x : ℕ} → r .way ≡ Raising x → {p : Went} → Leads t z (bodyRaised x) (r .order) p → Makes t z fromBody r p
   unfolding fromBody
   from-raising e y = record { is = λ b f k. rw e (y .is b f k) }
 
@@ -141,7 +141,7 @@ module _ (t : List ℕ) (z : Spot) (r : Went) where
   unfolding fromBody
   from-undone e y = record { is = λ b f k. rw e (y .is b f k) }
 
-  pub from-undoRaising : r .way ≡ UndoRaising → {p : Went} → Leads t z undoRaised (r .order) p → Makes t z fromBody r p
+  pub from-undoRaising : {x : ℕ} → r .way ≡ UndoRaising x → {p : Went} → Leads t z (undoRaised x) (r .order) p → Makes t z fromBody r p
   unfolding fromBody
   from-undoRaising e y = record { is = λ b f k. rw e (y .is b f k) }
 
@@ -153,7 +153,7 @@ module _ (t : List ℕ) (z : Spot) (r : Went) where
   unfolding fromFault
   fault-over e y = record { is = λ b f k. rw e (y .is b f) }
 
-  pub fault-raising : r .way ≡ Raising → {p : Went} → Leads t z partRaised (r .order) p → Makes t z fromFault r p
+  pub fault-raising : {x : ℕ} → r .way ≡ Raising x → {p : Went} → Leads t z (partRaised x) (r .order) p → Makes t z fromFault r p
   unfolding fromFault
   fault-raising e y = record { is = λ b f k. rw e (y .is b f k) }
 
@@ -165,7 +165,7 @@ module _ (t : List ℕ) (z : Spot) (r : Went) where
   unfolding fromFault
   fault-undone e y = record { is = λ b f k. rw e y }
 
-  pub fault-undoRaising : r .way ≡ UndoRaising → {p : Went} → p ≡ runsOf (r .order) → Makes t z fromFault r p
+  pub fault-undoRaising : {x : ℕ} → r .way ≡ UndoRaising x → {p : Went} → p ≡ runsOf (r .order) → Makes t z fromFault r p
   unfolding fromFault
   fault-undoRaising e y = record { is = λ b f k. rw e y }
 
@@ -178,7 +178,7 @@ module _ (r : Went) where
   unfolding fromUndo
   up-over e = rw e
 
-  pub up-raising : r .way ≡ Raising → _≡_ {A = Went} (record { way = UndoRaising; order = r .order }) (went (fromUndo (outcome r)))
+  pub up-raising : {x : ℕ} → r .way ≡ Raising x → _≡_ {A = Went} (record { way = UndoRaising x; order = r .order }) (went (fromUndo (outcome r)))
   unfolding fromUndo
   up-raising e = rw e
 
@@ -190,6 +190,6 @@ module _ (r : Went) where
   unfolding fromUndo
   up-undone e = rw e
 
-  pub up-undoRaising : r .way ≡ UndoRaising → _≡_ {A = Went} (record { way = UndoRaising; order = r .order }) (went (fromUndo (outcome r)))
+  pub up-undoRaising : {x : ℕ} → r .way ≡ UndoRaising x → _≡_ {A = Went} (record { way = UndoRaising x; order = r .order }) (went (fromUndo (outcome r)))
   unfolding fromUndo
   up-undoRaising e = rw e

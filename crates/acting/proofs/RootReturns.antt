@@ -16,7 +16,7 @@ use Rattle.order.specs.declared.Spot.{Spot}
 use Rattle.order.specs.declared.Way.{Way}
 use Rattle.order.specs.declared.Way.the-variants.{Running, Over, Raising, Leaving, Undone, UndoRaising}
 use Rattle.order.specs.declared.Went.{Went}
-use Rattle.order.specs.Acting.{Actor, stepIn, stepRoot, endOf, movedTo, acted}
+use Rattle.order.specs.Acting.{Actor, stepIn, stepRoot, endOf, faultOf, movedTo, acted}
 use Rattle.order.specs.Answering.{went, outcome, nextOf, endedOf, Makes, StepsIn, RootSpot, ActsOrder}
 use Rattle.order.specs.Event.{Event}
 use Rattle.order.specs.Room.{hasRoom, roomIn, roomAmong, roomPlan}
@@ -31,37 +31,37 @@ use Rattle.order.proofs.Standing.{size-pos, stands-end, stands-inside}
 
 -- `moved_to`
 module _ (r : Went) where
-  pub moved-well : r .way ≡ Running → r .order .root ≡ 3 → {p : Next} → p ≡ endedOf Well → p ≡ nextOf (movedTo (outcome r) (endOf (outcome r)))
-  unfolding movedTo endOf
+  pub moved-well : r .way ≡ Running → r .order .root ≡ 3 → {p : Next} → p ≡ endedOf Well 0 → p ≡ nextOf (movedTo (outcome r) (endOf (outcome r)))
+  unfolding movedTo endOf faultOf
   moved-well e h i = rw (e, eq-eqb _ _ h) i
 
-  pub moved-handled : r .way ≡ Over → {p : Next} → p ≡ endedOf Handled → p ≡ nextOf (movedTo (outcome r) (endOf (outcome r)))
-  unfolding movedTo endOf
+  pub moved-handled : r .way ≡ Over → {p : Next} → p ≡ endedOf Handled (r .order .cause) → p ≡ nextOf (movedTo (outcome r) (endOf (outcome r)))
+  unfolding movedTo endOf faultOf
   moved-handled e i = rw e i
 
-  pub moved-failed : r .way ≡ Raising → {p : Next} → p ≡ endedOf Failed → p ≡ nextOf (movedTo (outcome r) (endOf (outcome r)))
-  unfolding movedTo endOf
+  pub moved-failed : {x : ℕ} → r .way ≡ Raising x → {p : Next} → p ≡ endedOf Failed x → p ≡ nextOf (movedTo (outcome r) (endOf (outcome r)))
+  unfolding movedTo endOf faultOf
   moved-failed e i = rw e i
 
-  pub moved-left : r .way ≡ Leaving → {p : Next} → p ≡ endedOf Left → p ≡ nextOf (movedTo (outcome r) (endOf (outcome r)))
-  unfolding movedTo endOf
+  pub moved-left : r .way ≡ Leaving → {p : Next} → p ≡ endedOf Left 0 → p ≡ nextOf (movedTo (outcome r) (endOf (outcome r)))
+  unfolding movedTo endOf faultOf
   moved-left e i = rw e i
 
-  pub moved-on : r .way ≡ Running → (r .order .root ≡ 3 → ⊥) → _≡_ {A = Next} (record { end = None; order = r .order }) (nextOf (movedTo (outcome r) (endOf (outcome r))))
-  unfolding movedTo endOf
+  pub moved-on : r .way ≡ Running → (r .order .root ≡ 3 → ⊥) → _≡_ {A = Next} (record { end = None; fault = 0; order = r .order }) (nextOf (movedTo (outcome r) (endOf (outcome r))))
+  unfolding movedTo endOf faultOf
   moved-on e h = rw (e, ne-eqb _ _ h)
 
-  pub moved-undone : r .way ≡ Undone → _≡_ {A = Next} (record { end = None; order = r .order }) (nextOf (movedTo (outcome r) (endOf (outcome r))))
-  unfolding movedTo endOf
+  pub moved-undone : r .way ≡ Undone → _≡_ {A = Next} (record { end = None; fault = 0; order = r .order }) (nextOf (movedTo (outcome r) (endOf (outcome r))))
+  unfolding movedTo endOf faultOf
   moved-undone e = rw e
 
-  pub moved-undoRaising : r .way ≡ UndoRaising → _≡_ {A = Next} (record { end = None; order = r .order }) (nextOf (movedTo (outcome r) (endOf (outcome r))))
-  unfolding movedTo endOf
+  pub moved-undoRaising : {x : ℕ} → r .way ≡ UndoRaising x → _≡_ {A = Next} (record { end = None; fault = 0; order = r .order }) (nextOf (movedTo (outcome r) (endOf (outcome r))))
+  unfolding movedTo endOf faultOf
   moved-undoRaising e = rw e
 
 -- the end and the order do not hang on what happened
 moved-same : (R : Outcome) → nextOf (movedTo R (endOf R)) ≡ nextOf (movedTo (outcome (went R)) (endOf (outcome (went R))))
-unfolding movedTo endOf
+unfolding movedTo endOf faultOf
 moved-same R = go (R .result) (R .order) (R .log)
   where
     by-test : (b : Bool) (o : Order) (g : List Event)
@@ -75,10 +75,10 @@ moved-same R = go (R .result) (R .order) (R .log)
         ≡ nextOf (movedTo (record { result = w; order = o; log = [] }) (endOf (record { result = w; order = o; log = [] })))
     go Running o g = by-test (eqb (o .root) 3) o g
     go Over o g = refl
-    go Raising o g = refl
+    go (Raising x) o g = refl
     go Leaving o g = refl
     go Undone o g = refl
-    go UndoRaising o g = refl
+    go (UndoRaising x) o g = refl
 
 -- `root_spot`
 pub root-is : (t : List ℕ) (activities : ℕ) {e : ℕ} → e ≤ 256 → (activities ≤ 256 → e ≡ activities) → {n f : ℕ} → standing.End t 0 n → f < 256 → (n < 256 → f ≡ n)
@@ -169,5 +169,5 @@ module _ (t : List ℕ) (activities : ℕ) (v : Actor) (x : ℕ) (o : Order) {z 
   }
 
 -- `ended`
-pub ended-is : (e : End) {o : Order} → o ≡ noOrder → _≡_ {A = Next} (record { end = e; order = o }) (endedOf e)
-ended-is e i = rw i
+pub ended-is : (e : End) (x : ℕ) {o : Order} → o ≡ noOrder → _≡_ {A = Next} (record { end = e; fault = x; order = o }) (endedOf e x)
+ended-is e x i = rw i

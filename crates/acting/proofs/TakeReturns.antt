@@ -2,7 +2,7 @@
 use mathlib.Core.Path.{_≡_, refl, sym, ap, _∙_}
 use mathlib.Core.Bool.{true, not}
 use mathlib.Core.List.{List, _∷_}
-use Prim.Native.Nat.{ℕ, _+_, _<_, _≤_}
+use Prim.Native.Nat.{ℕ, zero, suc, _+_, _<_, _≤_}
 use native.Mathlib.Numerals.{add-one}
 use native.Mathlib.Omega.{arith}
 use borrow.Author.Tests.{le-ltb}
@@ -115,7 +115,8 @@ module _ (t : List ℕ) (n x : ℕ) (xs : List ℕ) (o : Order) where
     no-take h i (send p y vs) e = refl
     no-take h i (receive p y vs) e = absurd (h (sym e))
     no-take h i (setting v d) e = refl
-    no-take h i raise e = refl
+    no-take h i (raise zero) e = refl
+    no-take h i (raise (suc number)) e = refl
     no-take h i leave e = refl
     no-take h i (choose d) e = refl
     no-take h i (repeat d) e = refl

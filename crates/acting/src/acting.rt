@@ -11,6 +11,7 @@ use order::Entered;
 use order::Order;
 use order::Way;
 use order::Went;
+use order::fault;
 use order::kind::is_scope;
 use order::mark;
 use order::marks::begun_in;
@@ -102,10 +103,10 @@ fn of_undo(way: Way) -> bool
     match way {
         Way::Running => false,
         Way::Over => false,
-        Way::Raising => false,
+        Way::Raising { number: _ } => false,
         Way::Leaving => false,
         Way::Undone => true,
-        Way::UndoRaising => true,
+        Way::UndoRaising { number: _ } => true,
     }
 }
 
@@ -207,10 +208,10 @@ fn replaced(table: &Table, q: usize, k: usize, order: Order) -> Went
 {
     let kind = kind_of(table, k);
     if kind == kind::RECEIVE {
-        return raises(k, order);
+        return raises(fault::CONFLICTING_RECEIVE, k, order);
     }
     if kind == kind::ARM {
-        return raises(k, order);
+        return raises(fault::CONFLICTING_RECEIVE, k, order);
     }
     itself(table, q, k, order)
 }

@@ -4,6 +4,7 @@ use order::Spot;
 use order::Way;
 use order::Went;
 use order::mark;
+use order::marks::causing;
 use order::marks::cleared;
 use order::marks::mark_of;
 use order::marks::marking;
@@ -20,25 +21,25 @@ ghost use mathlib.Core.Path.{_≡_};
 ghost use Rattle.order.specs.Answering.{Leads, Makes, PartOver, went, outcome};
 ghost use Rattle.order.specs.Scope.{faults as faultsOf, breaks as breaksOf, looksAgain, bodyOver, bodyRaised, undoOver, undoRaised, fromBody, partOver, partRaised, fromFault, fromUndo};
 
-// The scope faults.
-fn faults(table: &Table, spot: Spot, order: Order) -> Went
-    ensures { λ p. ⌜ Leads (now (table .entry)) spot faultsOf order p ⌝ }
+// The scope faults, with a fault of that number.
+fn faults(table: &Table, number: u8, spot: Spot, order: Order) -> Went
+    ensures { λ p. ⌜ Leads (now (table .entry)) spot (faultsOf number) order p ⌝ }
 {
-    let o = marking(spot, mark::FAULTY, order);
+    let o = causing(spot, number, marking(spot, mark::FAULTY, order));
     let p = stop(table, spot.body, o);
     turns(table, true, spot, p)
 }
 
-// The scope ends with a fault that goes on to the scope around it.
-fn breaks(table: &Table, spot: Spot, order: Order) -> Went
-    ensures { λ p. ⌜ Leads (now (table .entry)) spot breaksOf order p ⌝ }
+// The scope ends with a fault of that number, which goes on to the scope around it.
+fn breaks(table: &Table, number: u8, spot: Spot, order: Order) -> Went
+    ensures { λ p. ⌜ Leads (now (table .entry)) spot (breaksOf number) order p ⌝ }
 {
     let o = forgetting(spot.body, marking(spot, mark::IDLE, order));
     let m = o.marks;
     let n = cleared(spot.first, spot.end, m);
     let p = with_marks(n, o);
     Went {
-        way: Way::Raising,
+        way: Way::Raising { number },
         order: p,
     }
 }
@@ -68,12 +69,12 @@ fn body_over(table: &Table, spot: Spot, order: Order) -> Went
     looks_again(table, spot, order)
 }
 
-// A fault came out of the body.
-fn body_raised(table: &Table, spot: Spot, order: Order) -> Went
-    ensures { λ p. ⌜ Leads (now (table .entry)) spot bodyRaised order p ⌝ }
+// A fault of that number came out of the body.
+fn body_raised(table: &Table, number: u8, spot: Spot, order: Order) -> Went
+    ensures { λ p. ⌜ Leads (now (table .entry)) spot (bodyRaised number) order p ⌝ }
 {
     if is_open(mark_of(spot, order)) {
-        return faults(table, spot, order);
+        return faults(table, number, spot, order);
     }
     looks_again(table, spot, order)
 }
@@ -92,16 +93,16 @@ fn undo_over(table: &Table, spot: Spot, order: Order) -> Went
     runs(order)
 }
 
-// A fault came out of an undo part that the scope is running.
-fn undo_raised(table: &Table, spot: Spot, order: Order) -> Went
-    ensures { λ p. ⌜ Leads (now (table .entry)) spot undoRaised order p ⌝ }
+// A fault of that number came out of an undo part that the scope is running.
+fn undo_raised(table: &Table, number: u8, spot: Spot, order: Order) -> Went
+    ensures { λ p. ⌜ Leads (now (table .entry)) spot (undoRaised number) order p ⌝ }
 {
     let m = mark_of(spot, order);
     if m == mark::UNDOING {
-        return breaks(table, spot, order);
+        return breaks(table, number, spot, order);
     }
     if m == mark::WITHDRAWING {
-        return breaks(table, spot, order);
+        return breaks(table, number, spot, order);
     }
     runs(order)
 }
@@ -115,13 +116,13 @@ pub(crate) fn from_body(table: &Table, spot: Spot, r: Went) -> Went
     match w {
         Way::Running => looks_again(table, spot, o),
         Way::Over => body_over(table, spot, o),
-        Way::Raising => body_raised(table, spot, o),
+        Way::Raising { number } => body_raised(table, number, spot, o),
         Way::Leaving => Went {
             way: Way::Leaving,
             order: o,
         },
         Way::Undone => undo_over(table, spot, o),
-        Way::UndoRaising => undo_raised(table, spot, o),
+        Way::UndoRaising { number } => undo_raised(table, number, spot, o),
     }
 }
 
@@ -135,12 +136,12 @@ fn part_over(spot: Spot, order: Order) -> Went
     runs(order)
 }
 
-// A fault came out of the fault part that the scope is running.
-fn part_raised(table: &Table, spot: Spot, order: Order) -> Went
-    ensures { λ p. ⌜ Leads (now (table .entry)) spot partRaised order p ⌝ }
+// A fault of that number came out of the fault part that the scope is running.
+fn part_raised(table: &Table, number: u8, spot: Spot, order: Order) -> Went
+    ensures { λ p. ⌜ Leads (now (table .entry)) spot (partRaised number) order p ⌝ }
 {
     if mark_of(spot, order) == mark::HANDLING {
-        return breaks(table, spot, order);
+        return breaks(table, number, spot, order);
     }
     runs(order)
 }
@@ -154,13 +155,13 @@ pub(crate) fn from_fault(table: &Table, spot: Spot, r: Went) -> Went
     match w {
         Way::Running => runs(o),
         Way::Over => part_over(spot, o),
-        Way::Raising => part_raised(table, spot, o),
+        Way::Raising { number } => part_raised(table, number, spot, o),
         Way::Leaving => Went {
             way: Way::Leaving,
             order: o,
         },
         Way::Undone => runs(o),
-        Way::UndoRaising => runs(o),
+        Way::UndoRaising { number: _ } => runs(o),
     }
 }
 
@@ -179,8 +180,8 @@ pub(crate) fn from_undo(r: Went) -> Went
             way: Way::Undone,
             order: o,
         },
-        Way::Raising => Went {
-            way: Way::UndoRaising,
+        Way::Raising { number } => Went {
+            way: Way::UndoRaising { number },
             order: o,
         },
         Way::Leaving => Went {
@@ -191,8 +192,8 @@ pub(crate) fn from_undo(r: Went) -> Went
             way: Way::Undone,
             order: o,
         },
-        Way::UndoRaising => Went {
-            way: Way::UndoRaising,
+        Way::UndoRaising { number } => Went {
+            way: Way::UndoRaising { number },
             order: o,
         },
     }

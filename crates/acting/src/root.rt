@@ -17,12 +17,16 @@ ghost use mathlib.Core.Path.{_≡_};
 ghost use Rattle.order.specs.Acting.{endOf, movedTo};
 ghost use Rattle.order.specs.Answering.{outcome, nextOf, endedOf, actorOf, RootSpot, ActsOrder};
 
-// An order that ended so: its slot is free.
-fn ended(end: End) -> Next
-    ensures { λ r. ⌜ r ≡ endedOf end ⌝ }
+// An order that ended so, by a fault of that number where it is one: its slot is free.
+fn ended(end: End, fault: u8) -> Next
+    ensures { λ r. ⌜ r ≡ endedOf end fault ⌝ }
 {
     let o = no_order();
-    Next { end, order: o }
+    Next {
+        end,
+        fault,
+        order: o,
+    }
 }
 
 // The order after a step that led to this.
@@ -34,22 +38,25 @@ pub(crate) fn moved_to(r: Went) -> Next
     match w {
         Way::Running => {
             if o.root == mark::DONE {
-                return ended(End::Well);
+                return ended(End::Well, 0);
             }
             Next {
                 end: End::None,
+                fault: 0,
                 order: o,
             }
         }
-        Way::Over => ended(End::Handled),
-        Way::Raising => ended(End::Failed),
-        Way::Leaving => ended(End::Left),
+        Way::Over => ended(End::Handled, o.cause),
+        Way::Raising { number } => ended(End::Failed, number),
+        Way::Leaving => ended(End::Left, 0),
         Way::Undone => Next {
             end: End::None,
+            fault: 0,
             order: o,
         },
-        Way::UndoRaising => Next {
+        Way::UndoRaising { number: _ } => Next {
             end: End::None,
+            fault: 0,
             order: o,
         },
     }

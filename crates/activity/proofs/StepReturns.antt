@@ -13,7 +13,7 @@ use Rattle.plan.specs.Found.{among}
 use Rattle.plan.specs.Spells.{SpellsOwn, variablesOf}
 use Rattle.plan.specs.Table.{rowOf}
 use Rattle.plan.specs.Tree.{Exp, Own, empty, send, receive, set as setting, raise, leave, choose, repeat, sequence, flow, pick, scope, arm, kind, Act, act, Acts, none, more, size, sizes, count}
-use Rattle.plan.specs.Within.{ownWithin, exchangeWithin, variablesWithin}
+use Rattle.plan.specs.Within.{ownWithin, exchangeWithin, variablesWithin, raiseWithin}
 use Rattle.plan.proofs.Accepts.{both}
 use Rattle.order.specs.declared.Closing.{Closing}
 use Rattle.order.specs.declared.Entered.{Entered}
@@ -24,7 +24,7 @@ use Rattle.order.specs.declared.Worth.{Worth}
 use Rattle.order.specs.Acting.{finishes, enters, again, repeats, itself}
 use Rattle.order.specs.Answering.{went, isOver, worthOf, Evaluates, begunOf, Begins, Clears, KindOf, forPart, notFor, handed, Forgets, Remembers, Hands, runsOf, finishesOf, raisesOf, leavesOf, Bound, CountOf, VariableOf, Names, AllBound, Binds, Enters, StepOf, Roomy, Closes, HandsOn, StepsAt, Repeats, WorthAt}
 use Rattle.order.specs.Begin.{begin, part, partAt, beginPart}
-use Rattle.order.specs.Expression.{Value, fault, value, evaluate, isTrue}
+use Rattle.order.specs.Expression.{plainRaise, unboundVariable, Value, fault, value, evaluate, isTrue}
 use Rattle.order.specs.Lists.{only, every}
 use Rattle.order.specs.Scope.{begunIn, whereOver, scopeAt, isFor, listOf, forgetting, adds, closing}
 use Rattle.order.specs.Stands.{End, Line, Stands}
@@ -40,8 +40,8 @@ module _ (k : ℕ) (o : Order) where
   pub finish-is : {p : Order} → p ≡ marked k 0 o → _≡_ {A = Went} (record { way = Over; order = p }) (finishesOf k o)
   finish-is e = rw e
 
-  pub raise-is : {p : Order} → p ≡ marked k 0 o → _≡_ {A = Went} (record { way = Raising; order = p }) (raisesOf k o)
-  raise-is e = rw e
+  pub raise-is : (x : ℕ) {p : Order} → p ≡ marked k 0 o → _≡_ {A = Went} (record { way = Raising x; order = p }) (raisesOf x k o)
+  raise-is x e = rw e
 
   pub leave-is : {p : Order} → p ≡ marked k 0 o → _≡_ {A = Went} (record { way = Leaving; order = p }) (leavesOf k o)
   leave-is e = rw e
@@ -160,7 +160,7 @@ module _ (t : List ℕ) (k : ℕ) (o : Order) {b : Bool} (x : AllBound t k o b) 
         (λ p q vs s. rw (← x .is vs (send-names t k p q vs l s), e) g) own n s;
   }
 
-  pub send-raises : b ≡ false → {r : Went} → r ≡ raisesOf k o → StepOf 1 t k o r
+  pub send-raises : b ≡ false → {r : Went} → r ≡ raisesOf unboundVariable k o → StepOf 1 t k o r
   unfolding itself
   send-raises e {r} g = record {
     is = λ own l pt n s.
@@ -187,7 +187,7 @@ set-row t k v o e l x s =
     }))))
 
 module _ (t : List ℕ) (k : ℕ) (o : Order) {w : Worth} (x : WorthAt t k o w) where
-  pub set-raises : w ≡ Worth.Fault → {r : Went} → r ≡ raisesOf k o → StepOf 3 t k o r
+  pub set-raises : {f : ℕ} → w ≡ Worth.Fault f → {r : Went} → r ≡ raisesOf f k o → StepOf 3 t k o r
   unfolding itself
   set-raises h {r} g = record {
     is = λ own l pt n s.
@@ -205,6 +205,34 @@ module _ (t : List ℕ) (k : ℕ) (o : Order) {w : Worth} (x : WorthAt t k o w) 
         let j : v ≡ u = q ∙ i .variable in
         let m : p ≡ binding u y o = rw j at (z .is (omega (arith, i .small))) in
         rw (value-known (evaluate e o) (i .worth) h) (rw m at g)) own n s;
+  }
+
+-- `raises_its_number`
+pub record NumberRow (t : List ℕ) (k number : ℕ) : Type 0 where
+  pub is : getD t (k * 13 + 1) 0 ≡ number
+  pub small : number ≤ 255
+
+number-row : (t : List ℕ) (k number : ℕ) (l : Acts) → Stands (act (raise (suc number)) l) k t → NumberRow t k (suc number)
+unfolding Stands rowOf ownWithin raiseWithin
+number-row t k number l s =
+    both (not (s .first .arms)) _ (s .first .limits) (λ a b.
+    both (eqb (count l) 0) _ b (λ c d.
+    both (leb 16 (suc number)) _ (rw (ne-eqb (suc number) 0 (λ z. omega (arith, z))) at d) (λ e f. record { is = s .first .row .partner; small = leb-true (suc number) 255 f })))
+
+module _ (t : List ℕ) (k : ℕ) (o : Order) {n : ℕ} (q : n ≡ getD t (k * 13 + 1) 0) where
+  pub numbered-raises : {r : Went} → r ≡ raisesOf n k o → StepOf 13 t k o r
+  unfolding itself
+  numbered-raises {r} g = record {
+    is = λ own l pt h s.
+        of-kind 13 (λ y. Stands (act y l) k t → r ≡ went (itself y l pt k o))
+        (λ m s. rw (q ∙ number-row t k m l s .is) at g) own h s;
+  }
+
+  pub numbered-none : 255 < n → {r : Went} → StepOf 13 t k o r
+  numbered-none i {r} = record {
+    is = λ own l pt h s.
+        of-kind 13 (λ y. Stands (act y l) k t → r ≡ went (itself y l pt k o))
+        (λ m s. absurd (omega (arith, i, q, number-row t k m l s .is, number-row t k m l s .small))) own h s;
   }
 
 -- `chooses`
@@ -229,7 +257,7 @@ chosen e a b pt k o y h true i = rw (h, i)
 chosen e a b pt k o y h false i = rw (h, i)
 
 module _ (t : List ℕ) (k : ℕ) (o : Order) {w : Worth} (x : WorthAt t k o w) where
-  pub choose-raises : w ≡ Worth.Fault → {r : Went} → r ≡ raisesOf k o → StepOf 6 t k o r
+  pub choose-raises : {f : ℕ} → w ≡ Worth.Fault f → {r : Went} → r ≡ raisesOf f k o → StepOf 6 t k o r
   unfolding itself
   choose-raises h {r} g = record {
     is = λ own l pt n s.
@@ -311,7 +339,7 @@ decided e l pt k o y h true i = rw h (yes (isTrue y) (repeats k l o) (finishes k
 decided e l pt k o y h false i = rw h (no (isTrue y) (repeats k l o) (finishes k o) i)
 
 module _ (t : List ℕ) (k : ℕ) (o : Order) {w : Worth} (x : WorthAt t k o w) where
-  pub decide-raises : w ≡ Worth.Fault → {r : Went} → r ≡ raisesOf k o → StepOf 7 t k o r
+  pub decide-raises : {f : ℕ} → w ≡ Worth.Fault f → {r : Went} → r ≡ raisesOf f k o → StepOf 7 t k o r
   unfolding itself
   decide-raises h {r} g = record {
     is = λ own l pt n s.
@@ -424,7 +452,7 @@ module _ (t : List ℕ) (pt k : ℕ) (o : Order) {kd : ℕ} (q : KindOf t k kd) 
     is = λ own l d s room. of-kind 2 (λ w. r ≡ went (itself w l pt k o)) (λ p q vs. g) own (sym (row-kind q own l s) ∙ e);
   }
 
-  pub itself-raises : kd ≡ 4 → {r : Went} → r ≡ raisesOf k o → StepsAt t pt k o r
+  pub itself-raises : kd ≡ 4 → {r : Went} → r ≡ raisesOf plainRaise k o → StepsAt t pt k o r
   unfolding itself
   itself-raises e {r} g = record { is = λ own l d s room. of-kind 4 (λ w. r ≡ went (itself w l pt k o)) g own (sym (row-kind q own l s) ∙ e) }
 
@@ -433,14 +461,15 @@ module _ (t : List ℕ) (pt k : ℕ) (o : Order) {kd : ℕ} (q : KindOf t k kd) 
   itself-leaves e {r} g = record { is = λ own l d s room. of-kind 5 (λ w. r ≡ went (itself w l pt k o)) g own (sym (row-kind q own l s) ∙ e) }
 
   module _ (h1 : kd ≡ 1 → ⊥) (h2 : kd ≡ 2 → ⊥) (h3 : kd ≡ 3 → ⊥) (h4 : kd ≡ 4 → ⊥) (h5 : kd ≡ 5 → ⊥) (h6 : kd ≡ 6 → ⊥) (h7 : kd ≡ 7 → ⊥)
-      (h11 : kd ≡ 11 → ⊥) (h12 : kd ≡ 12 → ⊥) (h255 : kd ≡ 255 → ⊥) where
+      (h11 : kd ≡ 11 → ⊥) (h12 : kd ≡ 12 → ⊥) (h13 : kd ≡ 13 → ⊥) (h255 : kd ≡ 255 → ⊥) where
     runs-itself : {r : Went} → r ≡ runsOf o → (own : Own) (l : Acts) → kd ≡ kind own → r ≡ went (itself own l pt k o)
     unfolding itself kind
     runs-itself g empty l e = g
     runs-itself g (send p q vs) l e = absurd (h1 e)
     runs-itself g (receive p q vs) l e = absurd (h2 e)
     runs-itself g (setting v x) l e = absurd (h3 e)
-    runs-itself g raise l e = absurd (h4 e)
+    runs-itself g (raise zero) l e = absurd (h4 e)
+    runs-itself g (raise (suc number)) l e = absurd (h13 e)
     runs-itself g leave l e = absurd (h5 e)
     runs-itself g (choose x) l e = absurd (h6 e)
     runs-itself g (repeat x) l e = absurd (h7 e)

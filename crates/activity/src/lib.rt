@@ -5,6 +5,7 @@ use order::Way;
 use order::Went;
 use order::Worth;
 use order::evaluation::evaluate_at;
+use order::fault;
 use order::mark;
 use order::marks::begun_in;
 use order::marks::cleared;
@@ -21,6 +22,7 @@ use order::rows::kind_of;
 use order::rows::variable_of;
 use plan::kind;
 use plan::table::EXPRESSION;
+use plan::table::PARTNER;
 use plan::table::Table;
 use plan::table::VARIABLE;
 use plan::table::WIDTH;
@@ -40,13 +42,13 @@ pub fn finishes(k: usize, order: Order) -> Went
     }
 }
 
-// Activity k raises.
-pub fn raises(k: usize, order: Order) -> Went
-    ensures { λ r. ⌜ r ≡ raisesOf k order ⌝ }
+// Activity k raises a fault of that number.
+pub fn raises(number: u8, k: usize, order: Order) -> Went
+    ensures { λ r. ⌜ r ≡ raisesOf number k order ⌝ }
 {
     let o = marked(k, mark::IDLE, order);
     Went {
-        way: Way::Raising,
+        way: Way::Raising { number },
         order: o,
     }
 }
@@ -178,7 +180,7 @@ fn sends(table: &Table, k: usize, order: Order) -> Went
     if all_bound(table, k, order) {
         return finishes(k, order);
     }
-    raises(k, order)
+    raises(fault::UNBOUND_VARIABLE, k, order)
 }
 
 // The number of a node, as an index.
@@ -205,12 +207,24 @@ fn sets(table: &Table, k: usize, order: Order) -> Went
     let v = table[k * WIDTH + VARIABLE];
     let w = worth_at(table, k, order);
     match w {
-        Worth::Fault => raises(k, order),
+        Worth::Fault { number } => raises(number, k, order),
         Worth::Value { value } => {
             let o = binding(v, value, order);
             finishes(k, o)
         }
     }
+}
+
+// A raise with a number of its own, which stands where a send has its partner.
+fn raises_its_number(table: &Table, k: usize, order: Order) -> Went
+    requires { ⌜ k < 256 ⌝ }
+    ensures { λ r. ⌜ StepOf 13 (now (table .entry)) k order r ⌝ }
+{
+    let n = table[k * WIDTH + PARTNER];
+    if 255 < n {
+        return raises(fault::PLAIN_RAISE, k, order);
+    }
+    raises(n as u8, k, order)
 }
 
 // A choose decides.
@@ -220,7 +234,7 @@ fn chooses(table: &Table, k: usize, order: Order) -> Went
 {
     let w = worth_at(table, k, order);
     match w {
-        Worth::Fault => raises(k, order),
+        Worth::Fault { number } => raises(number, k, order),
         Worth::Value { value } => {
             if value == 0 {
                 let c = end_of(table, k + 1);
@@ -238,7 +252,7 @@ fn decides(table: &Table, k: usize, order: Order) -> Went
 {
     let w = worth_at(table, k, order);
     match w {
-        Worth::Fault => raises(k, order),
+        Worth::Fault { number } => raises(number, k, order),
         Worth::Value { value } => {
             if value == 0 {
                 return finishes(k, order);
@@ -269,7 +283,8 @@ pub fn itself(table: &Table, q: usize, k: usize, order: Order) -> Went
         kind::SEND => sends(table, k, order),
         kind::RECEIVE => finishes(k, order),
         kind::SET => sets(table, k, order),
-        kind::RAISE => raises(k, order),
+        kind::RAISE => raises(fault::PLAIN_RAISE, k, order),
+        kind::NUMBERED_RAISE => raises_its_number(table, k, order),
         kind::LEAVE => leaves(k, order),
         kind::CHOOSE => chooses(table, k, order),
         kind::REPEAT => decides(table, k, order),

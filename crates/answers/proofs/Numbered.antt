@@ -31,6 +31,6 @@ module _ {e : End} where
 
 -- `step_number`
 pub step-is : (x : Step) {e : ℕ} → e ≡ endNumber (x .end)
-    → x .refusal * 4294967296 + x .slot % 256 * 16777216 + x .activity % 256 * 65536 + x .place % 256 * 256 + e % 256 ≡ stepNumber x
+    → x .fault * 1099511627776 + x .refusal % 256 * 4294967296 + x .slot % 256 * 16777216 + x .activity % 256 * 65536 + x .place % 256 * 256 + e % 256 ≡ stepNumber x
 unfolding stepNumber
 step-is x q = rw q

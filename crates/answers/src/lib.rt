@@ -25,7 +25,8 @@ pub fn step_number(x: Step) -> u64
 {
     let end = x.end;
     let e = end_of(end);
-    (x.refusal as u64) * 4294967296
+    (x.fault as u64) * 1099511627776
+        + (x.refusal as u64) % 256 * 4294967296
         + (x.slot as u64) % 256 * 16777216
         + (x.activity as u64) % 256 * 65536
         + (x.place as u64) % 256 * 256

@@ -2,7 +2,7 @@
 use mathlib.Core.Path.{_≡_, refl, sym, ap, _∙_}
 use mathlib.Core.Bool.{Bool, true, false, cond, _&&_, false≢true, and-assoc, and-true}
 use mathlib.Core.List.{List}
-use Prim.Native.Nat.{ℕ, _+_, _<_, _≤_}
+use Prim.Native.Nat.{ℕ, zero, suc, _+_, _<_, _≤_}
 use native.Mathlib.Omega.{arith}
 use borrow.Author.Tests.{ne-eqb}
 use lib.Dec.{eqb}
@@ -63,7 +63,8 @@ by-kind empty l k ms = refl
 by-kind (send p o vs) l k ms = refl
 by-kind (receive p o vs) l k ms = refl
 by-kind (setting v e) l k ms = refl
-by-kind raise l k ms = refl
+by-kind (raise zero) l k ms = refl
+by-kind (raise (suc number)) l k ms = refl
 by-kind leave l k ms = refl
 by-kind (choose e) l k ms = refl
 by-kind (repeat e) l k ms = refl
@@ -221,7 +222,7 @@ module _ {t : List ℕ} {e c : ℕ} {ms : List ℕ} {j : ℕ} {m : List ℕ} {o 
 
 -- `no_order`, `started_order`
 pub no-order-is : _≡_ {A = Order}
-    (record { root = 0; marks = replicate 256 0; values = replicate 16 0; bound = replicate 16 0; remembered = replicate 32 (closingOf 0 0); kept = 0 })
+    (record { root = 0; marks = replicate 256 0; values = replicate 16 0; bound = replicate 16 0; remembered = replicate 32 (closingOf 0 0); kept = 0; cause = 0 })
     noOrder
 unfolding noOrder
 no-order-is = refl

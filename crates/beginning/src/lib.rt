@@ -159,6 +159,7 @@ pub fn no_order() -> Order
         bound: [0u8; 16],
         remembered: [nothing; 32],
         kept: 0,
+        cause: 0,
     }
 }
 

@@ -52,7 +52,7 @@ unfolding updated
 undone {n} s t l z = rw (ne-eqb n 0 z)
 
 -- `moonhalyard_load`
-module _ (s l : List ℕ) {r : Loaded} {t : Tally} {b : Bool} {o : List ℕ} (e : r ≡ calls.load s) (f : t ≡ noTally) (g : b ≡ eqb (length l) 12476)
+module _ (s l : List ℕ) {r : Loaded} {t : Tally} {b : Bool} {o : List ℕ} (e : r ≡ calls.load s) (f : t ≡ noTally) (g : b ≡ eqb (length l) 12492)
     (h : o ≡ packedInto (r .state) t l) where
   loaded : o ≡ loadBytes s l
   unfolding loadBytes
@@ -61,13 +61,13 @@ module _ (s l : List ℕ) {r : Loaded} {t : Tally} {b : Bool} {o : List ℕ} (e 
   pub load-taken : {n : ℕ} → b ≡ true → n ≡ pairOf (r .refusal) (r .place) → (n ≡ loadNumber s l) × (o ≡ loadBytes s l)
   unfolding loadNumber
   load-taken q k =
-      let z : eqb (length l) 12476 ≡ true = sym g ∙ q in
+      let z : eqb (length l) 12492 ≡ true = sym g ∙ q in
       (rw z (k ∙ rw e), loaded)
 
   pub load-short : {n : ℕ} → b ≡ false → n ≡ pairOf 18 0 → (n ≡ loadNumber s l) × (o ≡ loadBytes s l)
   unfolding loadNumber
   load-short q k =
-      let z : eqb (length l) 12476 ≡ false = sym g ∙ q in
+      let z : eqb (length l) 12492 ≡ false = sym g ∙ q in
       (rw z k, loaded)
 
 -- `moonhalyard_post`

@@ -34,7 +34,7 @@ updated n s t l = cond (eqb n 0) (packedInto s t l) l
 
 -- load: the refusal and its place; 18 where there is no room for a state. A fresh state, or one with no plan, with nothing counted
 unfoldable pub loadNumber : (plan : List ℕ) → List ℕ → ℕ
-loadNumber s l = cond (eqb (length l) 12476) (pairOf (calls.load s .refusal) (calls.load s .place)) (pairOf 18 0)
+loadNumber s l = cond (eqb (length l) 12492) (pairOf (calls.load s .refusal) (calls.load s .place)) (pairOf 18 0)
 
 unfoldable pub loadBytes : (plan : List ℕ) → List ℕ → List ℕ
 loadBytes s l = packedInto (calls.load s .state) noTally l

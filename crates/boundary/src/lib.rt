@@ -76,7 +76,7 @@ fn offers_number(x: Offered) -> u64
     n
 }
 
-// Loads the plan that some bytes spell. The refusal's number times 2^32, and its place; 18 times 2^32 where `state` has not 12,476 bytes.
+// Loads the plan that some bytes spell. The refusal's number times 2^32, and its place; 18 times 2^32 where `state` has not 12,492 bytes.
 #[no_mangle]
 pub extern "C" fn moonhalyard_load(plan: &[u8], state: &mut [u8]) -> u64
     ensures is { λ r. ⌜ r ≡ engine.loadNumber (now (plan .entry)) (now (state .entry)) ⌝ }
@@ -192,7 +192,7 @@ pub extern "C" fn moonhalyard_list(state: &[u8], first: u32, out: &mut [u64]) ->
     pair_of(r.refusal, r.many)
 }
 
-// Takes the step with a choice: as `moonhalyard_offer` answers, with the number of the order's end, if any.
+// Takes the step with a choice: as `moonhalyard_offer` answers, with the number of the order's end, if any, and 2^40 times that of the fault by which it ended so.
 #[no_mangle]
 pub extern "C" fn moonhalyard_step(state: &mut [u8], choice: usize) -> u64
     ensures is { λ r. ⌜ r ≡ engine.stepOf choice (now (state .entry)) ⌝ }

@@ -1,2 +1,3 @@
 pub mod Renewing
 pub mod Upgrading
+pub mod Laws

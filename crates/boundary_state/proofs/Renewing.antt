@@ -1,4 +1,4 @@
--- A state of the first version byte by byte as one of today: what each function answers, at each of its returns. Assumes nothing.
+-- A state of an older version byte by byte as one of the next: what each function answers, at each of its returns. Assumes nothing.
 use mathlib.Core.Path.{_≡_, refl, sym, ap, _∙_}
 use mathlib.Core.Bool.{Bool, true, false, cond, _&&_}
 use mathlib.Core.List.{List, [], _∷_}
@@ -7,21 +7,23 @@ use native.Mathlib.Numerals.{add-one, sub-one}
 use native.Mathlib.Omega.{arith}
 use borrow.Author.Tests.{eq-eqb, ne-eqb, lt-ltb, le-ltb, le-leb, lt-leb}
 use lib.Dec.{eqb, leb, ltb}
-use lib.ListN.{length, getD, take, drop, set}
+use lib.ListN.{length, getD, take, drop, set, drop-of-length-le}
+use lib.Seq.{drop-cons}
 use Rattle.plan.specs.Answers.{tableFor}
 use Rattle.plan.specs.Read.{readPlan}
-use Rattle.store.specs.Bytes.{valued, eightAt}
+use Rattle.store.specs.Bytes.{eightAt}
 use Rattle.store.proofs.Fills.{Filling, filling-starts, filling-more, filling-ends}
-use Rattle.boundary_state.specs.Older.{holdsOld, planEnd, PlanEnds, oldPlan, isAround, partAround, closingByte, orderByte, byteOf, placed, renewedBy, renewed}
+use Rattle.boundary_state.specs.Older.{marked, placed, planEnd, PlanEnds, oldPlan, isAround, partAround, closingByte, orderByte, byteOf, renewedBy, renewed, causeByte, byteWith, withCauses}
 
--- `is_old`
-pub old-long : (s : List ℕ) {n : ℕ} → length s ≡ 11964 → n ≡ eightAt s 0 → eqb n 3552285984895749965 ≡ holdsOld s
-unfolding holdsOld valued
-old-long s e f = rw (e, f)
+-- `is_marked`
+module _ (s : List ℕ) (n m : ℕ) where
+  pub marked-long : {x : ℕ} → length s ≡ n → x ≡ eightAt s 0 → eqb x m ≡ marked n m s
+  unfolding marked
+  marked-long e f = rw (eq-eqb _ _ e, f)
 
-pub old-not : (s : List ℕ) → (length s ≡ 11964 → ⊥) → false ≡ holdsOld s
-unfolding holdsOld
-old-not s e = rw (ne-eqb (length s) 11964 e)
+  pub marked-not : (length s ≡ n → ⊥) → false ≡ marked n m s
+  unfolding marked
+  marked-not e = rw (ne-eqb (length s) n e)
 
 -- `plan_end`
 pub end-there : (s : List ℕ) {n : ℕ} → n ≡ eightAt s 28 → n ≤ 4096 → PlanEnds s (n + 36)
@@ -105,8 +107,33 @@ module _ (s t : List ℕ) (i : ℕ) where
     unfolding byteOf
     byte-order h f = f ∙ rw (ne-eqb _ _ e, le-ltb _ _ h)
 
--- `fill`: i bytes are written
-placed-long : (f : ℕ → ℕ) (n i : ℕ) → length (placed f n i) ≡ n
+-- `cause_byte`
+module _ (s : List ℕ) (at r : ℕ) where
+  pub cause-before : r < 409 → getD s (at + r) 0 ≡ causeByte s at r
+  unfolding causeByte
+  cause-before h = rw (lt-ltb _ _ h)
+
+  pub cause-none : 409 ≤ r → 0 ≡ causeByte s at r
+  unfolding causeByte
+  cause-none h = rw (le-ltb _ _ h)
+
+-- `byte_with`
+module _ (s : List ℕ) (i : ℕ) where
+  pub with-mark : i ≡ 7 → 51 ≡ byteWith s i
+  unfolding byteWith
+  with-mark e = rw (eq-eqb _ _ e)
+
+  module _ (e : i ≡ 7 → ⊥) where
+    pub with-before : i < 5932 → getD s i 0 ≡ byteWith s i
+    unfolding byteWith
+    with-before h = rw (ne-eqb _ _ e, lt-ltb _ _ h)
+
+    pub with-order : {b : ℕ} → 5932 ≤ i → b ≡ causeByte s (5932 + (i - 5932) / 410 * 409) ((i - 5932) % 410) → b ≡ byteWith s i
+    unfolding byteWith
+    with-order h f = f ∙ rw (ne-eqb _ _ e, le-ltb _ _ h)
+
+-- `fill`, `cause`: i bytes are written
+pub placed-long : (f : ℕ → ℕ) (n i : ℕ) → length (placed f n i) ≡ n
 unfolding placed
 placed-long f zero i = refl
 placed-long f (suc n) i = ap suc (placed-long f n (i + 1))
@@ -115,22 +142,46 @@ placed-more : (f : ℕ → ℕ) (n i : ℕ) → i < n → placed f (n - i) i ≡
 unfolding placed
 placed-more f n i h = let e : n - i ≡ suc (n - (i + 1)) = omega arith in rw e
 
-pub record Renewing (s t out : List ℕ) (i : ℕ) : Type 0 where
-  pub filling : Filling 12476 out i (placed (byteOf s t) (12476 - i) i) (renewedBy s t)
+pub record Placing (f : ℕ → ℕ) (n : ℕ) (out : List ℕ) (i : ℕ) : Type 0 where
+  pub filling : Filling n out i (placed f (n - i) i) (placed f n 0)
 
-pub renewing-starts : (s t out : List ℕ) → length out ≡ 12476 → Renewing s t out 0
-unfolding renewedBy
-renewing-starts s t out e = record { filling = filling-starts 12476 out (renewedBy s t) (placed (byteOf s t) 12476 0) e (placed-long (byteOf s t) 12476 0) refl }
+pub placing-starts : (f : ℕ → ℕ) (n : ℕ) (out : List ℕ) → length out ≡ n → Placing f n out 0
+placing-starts f n out e =
+    let z : n - 0 ≡ n = omega arith in
+    record { filling = filling-starts n out (placed f n 0) (placed f (n - 0) 0) e (placed-long f n 0) (rw z) }
 
-module _ {s t out : List ℕ} {i : ℕ} (w : Renewing s t out i) where
-  pub renewing-again : {b : ℕ} → i < 12476 → b ≡ byteOf s t i → Renewing s t (set out i b) (i + 1)
-  renewing-again h e = record { filling = rw e (filling-more (w .filling) (placed-more (byteOf s t) 12476 i h)) }
+module _ {f : ℕ → ℕ} {n : ℕ} {out : List ℕ} {i : ℕ} (w : Placing f n out i) where
+  pub placing-again : {b : ℕ} → i < n → b ≡ f i → Placing f n (set out i b) (i + 1)
+  placing-again h e = record { filling = rw e (filling-more (w .filling) (placed-more f n i h)) }
 
-  pub renewing-done : 12476 ≤ i → out ≡ renewedBy s t
+  pub placing-done : n ≤ i → out ≡ placed f n 0
   unfolding placed
-  renewing-done h = let e : 12476 - i ≡ 0 = omega arith in filling-ends (w .filling) (rw e)
+  placing-done h = let e : n - i ≡ 0 = omega arith in filling-ends (w .filling) (rw e)
 
 -- `renew`
 pub renew-is : (s t : List ℕ) {o : List ℕ} {e : ℕ} → PlanEnds s e → t ≡ tableFor (readPlan (take (e - 36) (drop 36 s))) → o ≡ renewedBy s t → o ≡ renewed s
 unfolding renewed
 renew-is s t e f g = rw (g, f, e .is)
+
+pub renewed-long : (s : List ℕ) {o : List ℕ} → o ≡ renewed s → length o ≡ 12476
+unfolding renewed
+renewed-long s e = rw e (placed-long (byteOf s (tableFor (readPlan (oldPlan s)))) 12476 0)
+
+-- `renew_twice`
+pub twice-is : (s : List ℕ) {m o : List ℕ} → m ≡ renewed s → o ≡ withCauses m → o ≡ withCauses (renewed s)
+twice-is s e f = rw (← e) f
+
+-- `copy`: i bytes are copied
+pub record Same (s out : List ℕ) (i : ℕ) : Type 0 where
+  pub filling : Filling 12492 out i (drop i s) s
+  pub long : length s ≡ 12492
+
+pub same-starts : (s out : List ℕ) → length s ≡ 12492 → length out ≡ 12492 → Same s out 0
+same-starts s out e f = record { filling = filling-starts 12492 out s s f e refl; long = e }
+
+module _ {s out : List ℕ} {i : ℕ} (w : Same s out i) where
+  pub same-again : i < 12492 → Same s (set out i (getD s i 0)) (i + 1)
+  same-again h = record { filling = filling-more (w .filling) (rw (add-one, drop-cons s i 0 (omega (arith, w .long)))); long = w .long }
+
+  pub same-done : 12492 ≤ i → out ≡ s
+  same-done h = let k : length s ≤ i = omega (arith, w .long) in filling-ends (w .filling) (drop-of-length-le s k)

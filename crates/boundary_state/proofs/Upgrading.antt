@@ -1,46 +1,74 @@
--- What bringing a state up to date answers and leaves, at each of its returns. Assumes nothing.
+-- What bringing a state up to date answers and leaves, at each of its returns; and that a state of today comes out as it is. Assumes nothing.
 use mathlib.Core.Path.{_≡_, refl, sym, ap, _∙_}
-use mathlib.Core.Bool.{Bool, true, false, _&&_}
+use mathlib.Core.Bool.{Bool, true, false, cond, _&&_}
 use mathlib.Core.List.{List}
 use Prim.Native.Nat.{ℕ}
 use borrow.Author.Tests.{ne-eqb, eqb-true}
 use lib.Dec.{eqb}
 use lib.ListN.{length}
-use Rattle.store.specs.declared.Kept.{Kept}
-use Rattle.store.specs.Packed.{packedInto, unpacked}
-use Rattle.boundary_state.specs.Older.{holdsOld, renewed}
-use Rattle.boundary_state.specs.Upgrade.{upgradeNumber, upgradeBytes}
+use Rattle.store.specs.Bytes.{valued, numberIn, eightAt}
+use Rattle.store.specs.Packed.{mark, holds}
+use Rattle.boundary_state.specs.Older.{marked, firstMark, secondMark, holdsFirst, holdsSecond, renewed, withCauses}
+use Rattle.boundary_state.specs.Upgrade.{broughtUp, upgradeNumber, upgradeBytes}
 
--- a state of the first version has its length
-and-first : (a b : Bool) → (a && b) ≡ true → a ≡ true
+-- bytes of a version are as many as it has
+pub and-first : (a b : Bool) → (a && b) ≡ true → a ≡ true
 and-first true b e = refl
 and-first false b e = e
 
-pub old-length : (s : List ℕ) {b : Bool} → b ≡ holdsOld s → b ≡ true → length s ≡ 11964
-unfolding holdsOld
-old-length s e q = eqb-true (length s) 11964 (and-first (eqb (length s) 11964) _ (sym e ∙ q))
+pub marked-length : (s : List ℕ) (n m : ℕ) {b : Bool} → b ≡ marked n m s → b ≡ true → length s ≡ n
+unfolding marked
+marked-length s n m e q = eqb-true (length s) n (and-first (eqb (length s) n) _ (sym e ∙ q))
+
+-- the marks as numbers
+first-number : (s : List ℕ) → marked 11964 3552285984895749965 s ≡ holdsFirst s
+unfolding valued
+first-number s = refl
+
+second-number : (s : List ℕ) → marked 12476 3624343578933677901 s ≡ holdsSecond s
+unfolding valued
+second-number s = refl
+
+-- what is marked as today's is what is read as such
+today-number : (s : List ℕ) → marked 12492 3696401172971605837 s ≡ holds s
+unfolding marked holds valued eightAt
+today-number s = by-length (eqb (length s) 12492) refl
+  where
+    by-length : (b : Bool) → eqb (length s) 12492 ≡ b → (b && eqb (eightAt s 0) 3696401172971605837) ≡ (b && eqb (numberIn 8 s) 3696401172971605837)
+    by-length true e = let q : length s ≡ 12492 = eqb-true (length s) 12492 e in rw q
+    by-length false e = refl
 
 module _ (s l : List ℕ) where
-  pub short : (length l ≡ 12476 → ⊥) → (18 ≡ upgradeNumber s l) × (l ≡ upgradeBytes s l)
+  pub short : (length l ≡ 12492 → ⊥) → (18 ≡ upgradeNumber s l) × (l ≡ upgradeBytes s l)
   unfolding upgradeNumber upgradeBytes
-  short h = let z = ne-eqb (length l) 12476 h in (rw z, rw z)
+  short h = let z = ne-eqb (length l) 12492 h in (rw z, rw z)
 
-  module _ (h : length l ≡ 12476) {b : Bool} (d : b ≡ holdsOld s) where
-    pub older : {o : List ℕ} → b ≡ true → o ≡ renewed s → (0 ≡ upgradeNumber s l) × (o ≡ upgradeBytes s l)
-    unfolding upgradeNumber upgradeBytes
-    older q g = let y = sym d ∙ q in (rw (h, y), rw (h, y) g)
+  module _ (h : length l ≡ 12492) {a : Bool} (ea : a ≡ marked 11964 3552285984895749965 s) where
+    pub first : {o : List ℕ} → a ≡ true → o ≡ withCauses (renewed s) → (0 ≡ upgradeNumber s l) × (o ≡ upgradeBytes s l)
+    unfolding upgradeNumber upgradeBytes broughtUp
+    first q g = let y : holdsFirst s ≡ true = sym (ea ∙ first-number s) ∙ q in (rw (h, y), rw (h, y) g)
 
-    module _ (u : b ≡ false) {k : Kept} (e : k ≡ unpacked s) where
-      pub none : k .refused ≡ true → (17 ≡ upgradeNumber s l) × (l ≡ upgradeBytes s l)
-      unfolding upgradeNumber upgradeBytes
-      none q =
-          let y = sym d ∙ u in
-          let z : unpacked s .refused ≡ true = sym (ap (λ (x : Kept). x .refused) e) ∙ q in
-          (rw (h, y, z), rw (h, y, z))
+    module _ {b : Bool} (qa : a ≡ false) (eb : b ≡ marked 12476 3624343578933677901 s) where
+      pub second : {o : List ℕ} → b ≡ true → o ≡ withCauses s → (0 ≡ upgradeNumber s l) × (o ≡ upgradeBytes s l)
+      unfolding upgradeNumber upgradeBytes broughtUp
+      second q g =
+          let y : holdsFirst s ≡ false = sym (ea ∙ first-number s) ∙ qa in
+          let z : holdsSecond s ≡ true = sym (eb ∙ second-number s) ∙ q in
+          (rw (h, y, z), rw (h, y, z) g)
 
-      pub brought : {o : List ℕ} → k .refused ≡ false → o ≡ packedInto (k .state) (k .tally) l → (0 ≡ upgradeNumber s l) × (o ≡ upgradeBytes s l)
-      unfolding upgradeNumber upgradeBytes
-      brought q g =
-          let y = sym d ∙ u in
-          let z : unpacked s .refused ≡ false = sym (ap (λ (x : Kept). x .refused) e) ∙ q in
-          (rw (h, y, z), rw (h, y, z) (g ∙ ap (λ (x : Kept). packedInto (x .state) (x .tally) l) e))
+      module _ {c : Bool} (qb : b ≡ false) (ec : c ≡ marked 12492 3696401172971605837 s) where
+        pub today : {o : List ℕ} → c ≡ true → o ≡ s → (0 ≡ upgradeNumber s l) × (o ≡ upgradeBytes s l)
+        unfolding upgradeNumber upgradeBytes broughtUp
+        today q g =
+            let y : holdsFirst s ≡ false = sym (ea ∙ first-number s) ∙ qa in
+            let z : holdsSecond s ≡ false = sym (eb ∙ second-number s) ∙ qb in
+            let x : holds s ≡ true = sym (ec ∙ today-number s) ∙ q in
+            (rw (h, y, z, x), rw (h, y, z, x) g)
+
+        pub none : c ≡ false → (17 ≡ upgradeNumber s l) × (l ≡ upgradeBytes s l)
+        unfolding upgradeNumber upgradeBytes
+        none q =
+            let y : holdsFirst s ≡ false = sym (ea ∙ first-number s) ∙ qa in
+            let z : holdsSecond s ≡ false = sym (eb ∙ second-number s) ∙ qb in
+            let x : holds s ≡ false = sym (ec ∙ today-number s) ∙ q in
+            (rw (h, y, z, x), rw (h, y, z, x))

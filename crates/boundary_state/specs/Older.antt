@@ -1,6 +1,5 @@
--- Meaning: a state of the first version, MOONHAL1, as one of today. Assumes nothing: these are definitions.
--- The first version has 11,964 bytes. All stands at the same place up to the orders, from 5,932 on; an order has 377 bytes there and 409 now, since a closing has one
--- byte there, the number of the scope that closed, and two now, with the part that it is remembered for.
+-- Meaning: a state of an older version as one of the next: of the first, MOONHAL1, as one of the second, MOONHAL2, and of that as one of today. Assumes nothing: these are
+-- definitions. All stands at the same place up to the orders, from 5,932 on.
 use Prim.Native.Nat.{ℕ, zero, suc, _+_, _*_, _-_, _/_, _%_, _≤_}
 use mathlib.Core.Bool.{Bool, cond, _&&_}
 use mathlib.Core.List.{List, [], _∷_}
@@ -11,12 +10,30 @@ use Rattle.plan.specs.Answers.{tableFor}
 use Rattle.plan.specs.Read.{readPlan}
 use Rattle.store.specs.Bytes.{valued, eightAt}
 
--- in front stood the mark, "MOONHAL1"
-abbrev pub oldMark : List ℕ
-oldMark = 77 ∷ 79 ∷ 79 ∷ 78 ∷ 72 ∷ 65 ∷ 76 ∷ 49 ∷ []
+-- bytes of a version: as many as it has, with its mark in front
+unfoldable pub marked : (size mark : ℕ) → List ℕ → Bool
+marked n m s = eqb (length s) n && eqb (eightAt s 0) m
 
-unfoldable pub holdsOld : List ℕ → Bool
-holdsOld s = eqb (length s) 11964 && eqb (eightAt s 0) (valued oldMark)
+-- "MOONHAL1" and "MOONHAL2"
+abbrev pub firstMark : List ℕ
+firstMark = 77 ∷ 79 ∷ 79 ∷ 78 ∷ 72 ∷ 65 ∷ 76 ∷ 49 ∷ []
+
+abbrev pub secondMark : List ℕ
+secondMark = 77 ∷ 79 ∷ 79 ∷ 78 ∷ 72 ∷ 65 ∷ 76 ∷ 50 ∷ []
+
+abbrev pub holdsFirst : List ℕ → Bool
+holdsFirst s = marked 11964 (valued firstMark) s
+
+abbrev pub holdsSecond : List ℕ → Bool
+holdsSecond s = marked 12476 (valued secondMark) s
+
+-- n bytes from the place i on
+unfoldable pub placed : (byte : ℕ → ℕ) → (n i : ℕ) → List ℕ
+placed f zero i = []
+placed f (suc n) i = f i ∷ placed f n (i + 1)
+
+-- FROM THE FIRST TO THE SECOND. An order has 377 bytes in the first and 409 in the second, since a closing has one byte there, the number of the scope that closed,
+-- and two then, with the part that it is remembered for.
 
 -- the plan: its length in the 8 bytes from 28 on, its bytes from 36 on, up to 4,096
 unfoldable pub planEnd : List ℕ → ℕ
@@ -43,7 +60,7 @@ partAround t k (suc j) = cond (isAround t j k) (j + 1) (partAround t k j)
 abbrev pub closingByte : (table : List ℕ) → (k half : ℕ) → ℕ
 closingByte t k half = cond (eqb half 0) k (partAround t k k)
 
--- a byte of an order, whose bytes start at `at` in the old state; 337 stand before its closings, and then 8 more
+-- a byte of an order, whose bytes start at `at` in the first version; 337 stand before its closings, and then 8 more
 unfoldable pub orderByte : List ℕ → (table : List ℕ) → (at within : ℕ) → ℕ
 orderByte s t at r =
     cond (ltb r 337) (getD s (at + r) 0)
@@ -54,14 +71,23 @@ unfoldable pub byteOf : List ℕ → (table : List ℕ) → (place : ℕ) → �
 byteOf s t i =
     cond (eqb i 7) 50 (cond (ltb i 5932) (getD s i 0) (orderByte s t (5932 + (i - 5932) / 409 * 377) ((i - 5932) % 409)))
 
--- n bytes from the place i on
-unfoldable pub placed : (byte : ℕ → ℕ) → (n i : ℕ) → List ℕ
-placed f zero i = []
-placed f (suc n) i = f i ∷ placed f n (i + 1)
-
-unfoldable pub renewedBy : List ℕ → (table : List ℕ) → List ℕ
+abbrev pub renewedBy : List ℕ → (table : List ℕ) → List ℕ
 renewedBy s t = placed (byteOf s t) 12476 0
 
 -- by the table of the plan, which is empty where the plan is refused
 unfoldable pub renewed : List ℕ → List ℕ
 renewed s = renewedBy s (tableFor (readPlan (oldPlan s)))
+
+-- FROM THE SECOND TO THIS. An order has 409 bytes there and 410 now: behind them stands the number of the fault that the root faulted with. None was kept, so it is 0, also
+-- where the root has faulted.
+
+-- a byte of an order, whose bytes start at `at` in the second version
+unfoldable pub causeByte : List ℕ → (at within : ℕ) → ℕ
+causeByte s at r = cond (ltb r 409) (getD s (at + r) 0) 0
+
+-- a byte of the state: the mark ends in 3, and all before the orders is as it was
+unfoldable pub byteWith : List ℕ → (place : ℕ) → ℕ
+byteWith s i = cond (eqb i 7) 51 (cond (ltb i 5932) (getD s i 0) (causeByte s (5932 + (i - 5932) / 410 * 409) ((i - 5932) % 410)))
+
+abbrev pub withCauses : List ℕ → List ℕ
+withCauses s = placed (byteWith s) 12492 0

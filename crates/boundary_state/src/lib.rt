@@ -1,5 +1,5 @@
-// For callers in other languages: the version of the library, a state of any version brought up to date, and the seal of bytes that are kept. A state of today comes out as it is, and one of
-// the first version as the same state of today. Built as a static library.
+// For callers in other languages: the version of the library, a state of any version brought up to date, and the seal of bytes that are kept. A state of today
+// comes out as it is, and one of an older version as the same state of today. Built as a static library.
 mod older;
 
 ghost use mathlib.Core.Path.{_≡_};
@@ -14,25 +14,28 @@ pub extern "C" fn moonhalyard_version() -> u32
     10000
 }
 
-// Brings the state that `old` holds, of whatever version, into `state`. 0; 17 where it holds none; 18 where `state` has not 12,476 bytes.
+// Brings the state that `old` holds, of whatever version, into `state`. 0; 17 where it holds none; 18 where `state` has not 12,492 bytes.
 #[no_mangle]
 pub extern "C" fn moonhalyard_upgrade(old: &[u8], state: &mut [u8]) -> u32
     ensures is { λ r. ⌜ r ≡ upgradeNumber (now (old .entry)) (now (state .entry)) ⌝ }
     ensures bytes { λ _. ⌜ now (state .exit) ≡ upgradeBytes (now (old .entry)) (now (state .entry)) ⌝ }
 {
-    if state.len() != 12476 {
+    if state.len() != 12492 {
         return 18;
     }
-    if older::is_old(old) {
-        older::renew(old, state);
+    if older::is_marked(old, 11964, 3552285984895749965) {
+        older::renew_twice(old, state);
         return 0;
     }
-    let k = store::unpack(old);
-    if k.refused {
-        return 17;
+    if older::is_marked(old, 12476, 3624343578933677901) {
+        older::cause(old, state);
+        return 0;
     }
-    store::pack(k.state, k.tally, state);
-    0
+    if older::is_marked(old, 12492, 3696401172971605837) {
+        older::copy(old, state);
+        return 0;
+    }
+    17
 }
 
 // The seal of these bytes, to be kept behind them: read again, they are whole where their seal is the one that was kept.

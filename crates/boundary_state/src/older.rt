@@ -1,5 +1,5 @@
-// A state of the first version, MOONHAL1, as one of today: a closing was one byte there, the number of its scope, and takes two now, the second the part that
-// it is remembered for, which the plan tells.
+// A state of an older version as one of the next. In the first, MOONHAL1, a closing was one byte, the number of its scope, and takes two in the second, MOONHAL2, the
+// other the part that it is remembered for, which the plan tells. In that an order has no cause, which takes a byte now.
 use plan::kind;
 use plan::table::END;
 use plan::table::LENGTH;
@@ -10,14 +10,14 @@ ghost use lib.Dec.{eqb, leb, ltb};
 ghost use lib.ListN.{length};
 ghost use mathlib.Core.Bool.{cond, _&&_};
 ghost use mathlib.Core.Path.{_≡_};
-ghost use Rattle.boundary_state.specs.Older.{holdsOld, PlanEnds, isAround, partAround, closingByte, orderByte, byteOf, renewedBy, renewed};
+ghost use Rattle.boundary_state.specs.Older.{marked, PlanEnds, isAround, partAround, closingByte, orderByte, byteOf, renewedBy, renewed, causeByte, byteWith, withCauses};
 
-// Whether bytes hold a state of the first version.
-pub(crate) fn is_old(old: &[u8]) -> bool
-    ensures { λ r. ⌜ r ≡ holdsOld (now (old .entry)) ⌝ }
+// Whether there are `size` bytes, with this mark in front.
+pub(crate) fn is_marked(old: &[u8], size: usize, mark: usize) -> bool
+    ensures { λ r. ⌜ r ≡ marked size mark (now (old .entry)) ⌝ }
 {
-    if old.len() == 11964 {
-        return store::number_at(old, 0) == 3552285984895749965;
+    if old.len() == size {
+        return store::number_at(old, 0) == mark;
     }
     false
 }
@@ -70,7 +70,7 @@ fn closing_byte(table: &Table, scope: u8, half: usize) -> u8
     part_around(table, scope)
 }
 
-// A byte of an order, whose bytes start at `at` in the old state.
+// A byte of an order, whose bytes start at `at` in the first version.
 fn order_byte(old: &[u8], table: &Table, at: usize, within: usize) -> u8
     requires { ⌜ (length (now old) ≡ 11964) × (at ≤ 11587) × (within < 409) ⌝ }
     ensures { λ r. ⌜ r ≡ orderByte (now (old .entry)) (now (table .entry)) at within ⌝ }
@@ -85,7 +85,7 @@ fn order_byte(old: &[u8], table: &Table, at: usize, within: usize) -> u8
     old[at + within - 32]
 }
 
-// A byte of the state.
+// A byte of the state of the second version.
 fn byte_of(old: &[u8], table: &Table, i: usize) -> u8
     requires { ⌜ (length (now old) ≡ 11964) × (i < 12476) ⌝ }
     ensures { λ r. ⌜ r ≡ byteOf (now (old .entry)) (now (table .entry)) i ⌝ }
@@ -112,8 +112,8 @@ fn fill(old: &[u8], table: &Table, state: &mut [u8])
     }
 }
 
-// The state that old bytes hold, as one of today.
-pub(crate) fn renew(old: &[u8], state: &mut [u8])
+// A state of the first version as one of the second.
+fn renew(old: &[u8], state: &mut [u8])
     requires { ⌜ (length (now old) ≡ 11964) × (length (now state) ≡ 12476) ⌝ }
     ensures { λ _. ⌜ now (state .exit) ≡ renewed (now (old .entry)) ⌝ }
 {
@@ -122,4 +122,64 @@ pub(crate) fn renew(old: &[u8], state: &mut [u8])
     let end = plan_end(old);
     plan::accept(&old[36..end], &mut table, &mut flags);
     fill(old, &table, state);
+}
+
+// A byte of an order, whose bytes start at `at` in the second version.
+fn cause_byte(old: &[u8], at: usize, within: usize) -> u8
+    requires { ⌜ (length (now old) ≡ 12476) × (at ≤ 12067) × (within < 410) ⌝ }
+    ensures { λ r. ⌜ r ≡ causeByte (now (old .entry)) at within ⌝ }
+{
+    if within < 409 {
+        return old[at + within];
+    }
+    0
+}
+
+// A byte of the state of today.
+fn byte_with(old: &[u8], i: usize) -> u8
+    requires { ⌜ (length (now old) ≡ 12476) × (i < 12492) ⌝ }
+    ensures { λ r. ⌜ r ≡ byteWith (now (old .entry)) i ⌝ }
+{
+    if i == 7 {
+        return 51;
+    }
+    if i < 5932 {
+        return old[i];
+    }
+    let n = i - 5932;
+    cause_byte(old, 5932 + n / 410 * 409, n % 410)
+}
+
+// A state of the second version as one of today.
+pub(crate) fn cause(old: &[u8], state: &mut [u8])
+    requires { ⌜ (length (now old) ≡ 12476) × (length (now state) ≡ 12492) ⌝ }
+    ensures { λ _. ⌜ now (state .exit) ≡ withCauses (now (old .entry)) ⌝ }
+{
+    let mut i: usize = 0;
+    while i < 12492 {
+        state[i] = byte_with(old, i);
+        i += 1;
+    }
+}
+
+// A state of the first version as one of today.
+pub(crate) fn renew_twice(old: &[u8], state: &mut [u8])
+    requires { ⌜ (length (now old) ≡ 11964) × (length (now state) ≡ 12492) ⌝ }
+    ensures { λ _. ⌜ now (state .exit) ≡ withCauses (renewed (now (old .entry))) ⌝ }
+{
+    let mut second = [0u8; 12476];
+    renew(old, &mut second);
+    cause(&second, state);
+}
+
+// A state of today as it is.
+pub(crate) fn copy(old: &[u8], state: &mut [u8])
+    requires { ⌜ (length (now old) ≡ 12492) × (length (now state) ≡ 12492) ⌝ }
+    ensures { λ _. ⌜ now (state .exit) ≡ now (old .entry) ⌝ }
+{
+    let mut i: usize = 0;
+    while i < 12492 {
+        state[i] = old[i];
+        i += 1;
+    }
 }

@@ -55,12 +55,12 @@ fn is_ordinary(fd: i32) -> bool {
     libc::lseek(fd, 2147483647, SEEK_SET) == 2147483647
 }
 
-// Whether an ordinary file begins with a saved state that has a plan.
+// Whether an ordinary file begins with a saved state, of whatever version, that has a plan.
 fn has_plan(fd: i32) -> bool {
-    let mut packed = [0u8; 12476];
+    let mut front = [0u8; 12492];
     libc::lseek(fd, 0, SEEK_SET);
-    let n = io::read_full(fd, &mut packed);
-    let kept = store::unpack(&packed[..n]);
+    let n = io::read_full(fd, &mut front);
+    let kept = papers::kept_front(&front[..n]);
     if kept.refused {
         return false;
     }
@@ -115,7 +115,7 @@ pub(crate) fn kind_of(file: &[u8]) -> Kind {
 }
 
 fn sum_in(fd: i32) -> u64 {
-    let mut packed = [0u8; 17245];
+    let mut packed = [0u8; 17261];
     let n = io::read_full(fd, &mut packed);
     libc::close(fd);
     papers::sum_of(&packed[..n])

@@ -25,7 +25,7 @@ fn goes_by(table: &Table, n: usize, zero: bool) -> bool {
 // Whether nothing runs behind activity n in its sequence: a raise, a leave, or a repeat that never ends.
 fn is_last(table: &Table, n: usize) -> bool {
     match entry(table, n, KIND) {
-        kind::RAISE | kind::LEAVE => true,
+        kind::RAISE | kind::NUMBERED_RAISE | kind::LEAVE => true,
         kind::REPEAT => goes_by(table, n, false),
         _ => false,
     }

@@ -12,9 +12,17 @@ use plan::kind;
 use plan::table::KIND;
 use plan::table::Table;
 
+// Whether an activity of this kind is a raise, plain or with a number.
+fn is_raise(kind: u32) -> bool {
+    match kind {
+        kind::RAISE | kind::NUMBERED_RAISE => true,
+        _ => false,
+    }
+}
+
 // Whether activity n may fault: a raise, a sum or difference, a variable that may be unbound, or a receive beside another for the same thing.
 fn may_fault(table: &Table, n: usize) -> bool {
-    if entry(table, n, KIND) == kind::RAISE {
+    if is_raise(entry(table, n, KIND)) {
         return true;
     }
     if computes(table, n) {

@@ -79,6 +79,14 @@ fn number_of(end: End) -> u64 {
     }
 }
 
+// The number of the fault by which an order ended handled or failed; where it did not, a dash.
+fn put_fault(out: &mut [u8; 4096], used: usize, end: End, fault: u8) -> usize {
+    match end {
+        End::Handled | End::Failed => put_next(out, used, fault as u64),
+        End::None | End::Well | End::Left => put(out, used, b" -"),
+    }
+}
+
 // What a step answers.
 pub fn put_step(out: &mut [u8; 4096], used: usize, x: Step) -> usize {
     if x.refusal != 0 {
@@ -90,6 +98,7 @@ pub fn put_step(out: &mut [u8; 4096], used: usize, x: Step) -> usize {
     at = put_next(out, at, x.activity as u64);
     at = put_next(out, at, x.place as u64);
     at = put_next(out, at, number_of(end));
+    at = put_fault(out, at, end, x.fault);
     put_byte(out, at, 10)
 }
 

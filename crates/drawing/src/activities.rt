@@ -18,6 +18,7 @@ use plan::kind;
 use plan::table::COUNT;
 use plan::table::EXPRESSION;
 use plan::table::KIND;
+use plan::table::NUMBER;
 use plan::table::OPERATION;
 use plan::table::PARTNER;
 use plan::table::Table;
@@ -230,6 +231,12 @@ fn put_set(
     put_with_expression(out, at, names, b" to ", table, n)
 }
 
+// A raise with its number.
+fn put_raise(out: &mut [u8; 4096], used: usize, table: &Table, n: usize) -> usize {
+    let at = put(out, used, b"raise ");
+    put_number(out, at, entry(table, n, NUMBER) as u64)
+}
+
 // Activity or arm n in words.
 pub fn put_activity(
     out: &mut [u8; 4096],
@@ -246,6 +253,7 @@ pub fn put_activity(
         kind::RECEIVE => put_exchange(out, used, names, b"receive from", table, correlation, n),
         kind::SET => put_set(out, used, names, table, n),
         kind::RAISE => put(out, used, b"raise"),
+        kind::NUMBERED_RAISE => put_raise(out, used, table, n),
         kind::LEAVE => put(out, used, b"leave"),
         kind::CHOOSE => put_with_expression(out, used, names, b"choose by ", table, n),
         kind::REPEAT => put_with_expression(out, used, names, b"repeat while ", table, n),

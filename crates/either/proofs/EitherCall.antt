@@ -39,15 +39,15 @@ module _ (p : Plan) {next : ℕ} (s : State) (e : planIn s ≡ found p next) whe
   unfolding step stepBy stepChosen
   step-takes c t f = rw (e, f)
 
-  chosen-shown : (c : ℕ) {x : Offer} → choosing (offersOf p s) c ≡ chosen x → preview c s ≡ answering x None
+  chosen-shown : (c : ℕ) {x : Offer} → choosing (offersOf p s) c ≡ chosen x → preview c s ≡ answering x None 0
   unfolding preview previewBy
   chosen-shown c f = rw (e, f)
 
-  shown-chosen : (c : ℕ) {x : Offer} → preview c s ≡ answering x None → choosing (offersOf p s) c ≡ chosen x
+  shown-chosen : (c : ℕ) {x : Offer} → preview c s ≡ answering x None 0 → choosing (offersOf p s) c ≡ chosen x
   unfolding preview previewBy
   shown-chosen c {x} f = go (choosing (offersOf p s) c) refl (rw e at f)
     where
-      go : (y : Chosen) → choosing (offersOf p s) c ≡ y → previewed y ≡ answering x None → y ≡ chosen x
+      go : (y : Chosen) → choosing (offersOf p s) c ≡ y → previewed y ≡ answering x None 0 → y ≡ chosen x
       go (refusedChoice n) g h =
           let z : n ≡ 0 = ap (λ (r : Step). r .refusal) h in absurd (never-0 (offersOf p s) c (g ∙ ap refusedChoice z))
       go (chosen y) g h = ap (λ (r : Step). chosen (record { slot = r .slot; activity = r .activity; place = r .place })) h

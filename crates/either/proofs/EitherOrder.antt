@@ -13,6 +13,8 @@ use Rattle.plan.specs.Found.{refused, found}
 use Rattle.plan.specs.Read.{readPlan}
 use Rattle.plan.specs.Tree.{Plan}
 use Rattle.plan.proofs.Accepts.{both}
+use Rattle.plan.specs.Within.{planWithin}
+use Rattle.plan.proofs.Limits.{accepted-is-within}
 use Rattle.order.specs.declared.End.{End}
 use Rattle.order.specs.declared.End.the-variants.{None, Well, Handled, Failed, Left}
 use Rattle.order.specs.declared.Order.{Order}
@@ -111,16 +113,16 @@ module _ (p : Plan) (s : State) (t : Tally) (x : Offer) (c : Offered p s x) (h :
   unfolding OwnSlotChanges
   alone = own-slot-changes p s t x c h
 
-  moved-limits : every orderInLimits (s .orders) ≡ true → orderInLimits (stepOrder p (x .activity) (orderOf s x) .order) ≡ true
-  moved-limits l =
+  moved-limits : planWithin p ≡ true → every orderInLimits (s .orders) ≡ true → orderInLimits (stepOrder p (x .activity) (orderOf s x) .order) ≡ true
+  moved-limits w l =
       let o : actor p (s .orders) (x .slot) ≡ orderOf s x = pick-true (isLive (orderOf s x)) _ _ (has-live p (orderOf s x) x has) in
       let g = subst (λ (q : Order). Good p (s .waiting) q (x .activity) (x .place)) o (chosen-fine p s (c .choice) x (c .is) .good) in
-      step-limits p (x .activity) (orderOf s x) (g .inside) (good-room g) (order-limits (s .orders) (x .slot) l)
+      step-limits p (x .activity) (orderOf s x) w (g .inside) (good-room g) (order-limits (s .orders) (x .slot) l)
 
   -- the state after it passes 17
   after-passes : {next : ℕ} → planIn s ≡ found p next → planIn (taken p x s t .state) ≡ found p next
   unfolding steppedAlone
-  after-passes e = rw alone (put-passes s (x .slot) _ (moved-limits (limited s e (λ f g. orders-limited s f))) e)
+  after-passes e = rw alone (put-passes s (x .slot) _ (moved-limits (limited s e (λ f g. accepted-is-within _ g)) (limited s e (λ f g. orders-limited s f))) e)
 
   still-offered : (y : Offer) → (x .slot ≡ y .slot → ⊥) → Offered p s y → independentAt p y ≡ true → Offered p (taken p x s t .state) y
   unfolding OwnOrderOffers
@@ -156,7 +158,7 @@ module _ (p : Plan) (s : State) (t : Tally) (x y : Offer) (d : x .slot ≡ y .sl
   second-answer : takenInTurn p x y s t .answer ≡ taken p y s t .answer
   unfolding steppedAlone
   second-answer =
-      ap (λ (r : Stepped). r .answer) both-taken ∙ ap (λ (m : Moved). answering y (m .end)) second-moves ∙ ap (λ (r : Stepped). r .answer) (sym (alone p s t y b g))
+      ap (λ (r : Stepped). r .answer) both-taken ∙ ap (λ (m : Moved). answering y (m .end) (m .fault)) second-moves ∙ ap (λ (r : Stepped). r .answer) (sym (alone p s t y b g))
 
 -- what a pair of entries is, taken apart
 pub apart : {A : Type 0} (p : Plan) (x y : Offer) → independentPair p x y ≡ true

@@ -29,10 +29,10 @@ independent moves = true
 independent cuts = true
 independent (closes undo s) = true
 
--- These are the steps of codes 3 to 7, 11 and 12: set, raise, leave, choose, repeat and scope.
+-- These are the steps of codes 3 to 7 and 11 to 13: set, raise, leave, choose, repeat and scope.
 unfoldable pub IndependentCodes : Type 0
 IndependentCodes =
-    (own : Own) (within : Acts) (k : ℕ) → independent (doingOf own within k) ≡ among (kind own) (3 ∷ 4 ∷ 5 ∷ 6 ∷ 7 ∷ 11 ∷ 12 ∷ [])
+    (own : Own) (within : Acts) (k : ℕ) → independent (doingOf own within k) ≡ among (kind own) (3 ∷ 4 ∷ 5 ∷ 6 ∷ 7 ∷ 11 ∷ 12 ∷ 13 ∷ [])
 
 -- an entry of the offer, by the step that its activity is there for
 abbrev pub independentAt : Plan → Offer → Bool
@@ -90,7 +90,7 @@ unfoldable pub steppedAlone : Plan → Offer → State → Tally → Stepped
 steppedAlone p x s t =
     let m = stepOrder p (x .activity) (orderOf s x) in
     record {
-      answer = answering x (m .end);
+      answer = answering x (m .end) (m .fault);
       state = withOrder (x .slot) (m .order) s;
       tally = countEnd (m .end) t;
       log = m .log;

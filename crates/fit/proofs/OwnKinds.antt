@@ -1,7 +1,7 @@
 -- Arms are known by their kind, and what awaits its step is told by kinds. Assumes nothing.
 use mathlib.Core.Path.{_≡_, refl}
 use mathlib.Core.Bool.{Bool, true, false, cond, _||_}
-use Prim.Native.Nat.{ℕ}
+use Prim.Native.Nat.{ℕ, zero, suc}
 use lib.Dec.{eqb}
 use Rattle.plan.specs.Tree.{Own, empty, send, receive, set, raise, leave, choose, repeat, sequence, flow, pick, scope, arm, kind, isArm}
 use Rattle.plan.proofs.ByKind.{kind-scope}
@@ -14,7 +14,8 @@ kind-arm empty = refl
 kind-arm (send a b vs) = refl
 kind-arm (receive a b vs) = refl
 kind-arm (set v e) = refl
-kind-arm raise = refl
+kind-arm (raise zero) = refl
+kind-arm (raise (suc number)) = refl
 kind-arm leave = refl
 kind-arm (choose e) = refl
 kind-arm (repeat e) = refl

@@ -2,7 +2,7 @@
 use mathlib.Core.Path.{_≡_, refl, sym, ap, _∙_}
 use mathlib.Core.Bool.{Bool, true, false, false≢true, cond, not, _&&_}
 use mathlib.Core.List.{List, [], _∷_}
-use Prim.Native.Nat.{ℕ, _+_, _<_, _≤_}
+use Prim.Native.Nat.{ℕ, zero, suc, _+_, _<_, _≤_}
 use native.Mathlib.Omega.{arith}
 use lib.ListN.{length, getD, drop}
 use Rattle.plan.specs.Tree.{Own, empty, send, receive, set, raise, leave, choose, repeat, sequence, flow, pick, scope, arm, Acts, Plan}
@@ -47,7 +47,8 @@ fitting-own p o m empty l k = refl
 fitting-own p o m (send a b vs) l k = refl
 fitting-own p o m (receive a b vs) l k = one-empties (fits p o a b vs m) (unchecked p o vs)
 fitting-own p o m (set v e) l k = refl
-fitting-own p o m raise l k = refl
+fitting-own p o m (raise zero) l k = refl
+fitting-own p o m (raise (suc number)) l k = refl
 fitting-own p o m leave l k = refl
 fitting-own p o m (choose e) l k = refl
 fitting-own p o m (repeat e) l k = refl

@@ -155,7 +155,7 @@ own-exchanges t (send p o vs) l k s =
     both (leb (length vs) 4) _ j (λ m n. rw (e, g, i, m)))))))
 own-exchanges t (receive p o vs) l k s = tt
 own-exchanges t (setting v e) l k s = tt
-own-exchanges t raise l k s = tt
+own-exchanges t (raise number) l k s = tt
 own-exchanges t leave l k s = tt
 own-exchanges t (choose e) l k s = tt
 own-exchanges t (repeat e) l k s = tt
@@ -217,7 +217,7 @@ stepped-passes p x {s} t o l w g e f =
     let m = getD (s .messages) (x .place) noMessage in
     let q = orderTaking d m o in
     let r : roomPlan p (x .activity) (closings q) ≡ true = ap (roomPlan p (x .activity)) (take-closings d m o) ∙ good-room g in
-    put-passes (x .slot) (stepOrder p (x .activity) q .order) (step-limits p (x .activity) q (g .inside) r (taking-limits d m o e))
+    put-passes (x .slot) (stepOrder p (x .activity) q .order) (step-limits p (x .activity) q w (g .inside) r (taking-limits d m o e))
     (messages-pass d (x .place) o (plan-exchanges p (x .activity) w (g .inside)) (g .allowed) f)
 
 taken-passes : (p : Plan) (x : Offer) (s : State) (t : Tally) → planWithin p ≡ true → Good p (s .waiting) (actor p (s .orders) (x .slot)) (x .activity) (x .place)

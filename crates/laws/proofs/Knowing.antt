@@ -20,7 +20,7 @@ use Rattle.order.specs.declared.End.{End}
 use Rattle.order.specs.declared.End.the-variants.{None, Well, Handled, Failed, Left}
 use Rattle.order.specs.Acting.{startedOrder, allBound}
 use Rattle.order.specs.Judging.{stepOrder}
-use Rattle.order.specs.Expression.{Value, fault, value, evaluate}
+use Rattle.order.specs.Expression.{unboundVariable, Value, fault, value, evaluate}
 use Rattle.order.specs.Lists.{every, stored}
 use Rattle.order.specs.Stands.{Stands}
 use Rattle.order.specs.State.{idle, isLive, isBound, valueOf, binding, noOrder}
@@ -55,7 +55,8 @@ set-taken empty xs o = refl
 set-taken (send p q vs) xs o = refl
 set-taken (receive p q vs) xs o = refl
 set-taken (setting v e) xs o = refl
-set-taken raise xs o = refl
+set-taken (raise zero) xs o = refl
+set-taken (raise (suc number)) xs o = refl
 set-taken leave xs o = refl
 set-taken (choose e) xs o = refl
 set-taken (repeat e) xs o = refl
@@ -171,7 +172,7 @@ unfolding evaluate worth knownIn
 evaluate-worth (constant n) f = refl
 evaluate-worth (variable v) {o} f = go (isBound o v) ∙ ap toValue (f .is v)
   where
-    go : (b : Bool) → cond b (value (valueOf o v)) fault ≡ toValue (cond b (known (valueOf o v)) unknown)
+    go : (b : Bool) → cond b (value (valueOf o v)) (fault unboundVariable) ≡ toValue (cond b (known (valueOf o v)) unknown)
     go true = refl
     go false = refl
 evaluate-worth (binary op x y) f = rw (evaluate-worth x f, evaluate-worth y f)
@@ -182,7 +183,7 @@ Lower empty = Unit
 Lower (send p q vs) = Unit
 Lower (receive p q vs) = every (λ v. ltb v 16) vs ≡ true
 Lower (setting v e) = v < 16
-Lower raise = Unit
+Lower (raise number) = Unit
 Lower leave = Unit
 Lower (choose e) = Unit
 Lower (repeat e) = Unit
@@ -210,7 +211,7 @@ lower-own vars cs h r empty n f e = tt
 lower-own vars cs h r (send p q vs) n f e = tt
 lower-own vars cs h r (receive p q vs) n f e = both (not r) _ e (λ a b. both (eqb n 0) _ b (λ c d. lower-exchange vars true p q vs f d))
 lower-own vars cs h r (setting v x) n f e = both (not r) _ e (λ a b. both (eqb n 0) _ b (λ c d. both (ltb v vars) _ d (λ g i. omega (arith, ltb-true v vars g, f))))
-lower-own vars cs h r raise n f e = tt
+lower-own vars cs h r (raise number) n f e = tt
 lower-own vars cs h r leave n f e = tt
 lower-own vars cs h r (choose x) n f e = tt
 lower-own vars cs h r (repeat x) n f e = tt
@@ -241,9 +242,9 @@ knows-after (receive p q vs) xs h f = knows-take vs xs h f
 knows-after (setting v e) xs {o} {l} h f = rw (evaluate-worth e f) (go (worth e l))
   where
     go : (x : Value) → Knows (setTo v x o) (setGives v x l)
-    go fault = f
+    go (fault n) = f
     go (value n) = knows-binding v n h f
-knows-after raise xs h f = f
+knows-after (raise number) xs h f = f
 knows-after leave xs h f = f
 knows-after (choose e) xs h f = f
 knows-after (repeat e) xs h f = f
@@ -502,16 +503,16 @@ taken-as-known bytes p next e calls t c = go (planIn s) refl
     T : Tally
     T = after calls (loaded bytes) t .1
 
-    at : (x : Offer) (d : End) → choosing (offersOf p s) c ≡ chosen x → Full bytes p calls t s (answering x d)
-    at x d y z l q a b vs u i h k v g =
-        let f : Along p next (x .slot) s (toldFrom bytes p calls (x .slot) t) = run-along bytes e calls (x .slot) t in
-        let w : Knows (getD (s .orders) (x .slot) noOrder) l = subst (Tells (getD (s .orders) (x .slot) noOrder)) q (f .tells) in
+    at : (x : Offer) (d : End) (f : ℕ) → choosing (offersOf p s) c ≡ chosen x → Full bytes p calls t s (answering x d f)
+    at x d f y z l q a b vs u i h k v g =
+        let r : Along p next (x .slot) s (toldFrom bytes p calls (x .slot) t) = run-along bytes e calls (x .slot) t in
+        let w : Knows (getD (s .orders) (x .slot) noOrder) l = subst (Tells (getD (s .orders) (x .slot) noOrder)) q (r .tells) in
         let n = known-bound (getD (s .orders) (x .slot) noOrder) (getD vs i 0) v (w .is (getD vs i 0) ∙ g) in
         taken-in-full p s c x y (rw (w .live)) a b vs u i h k (n .0) ∙ n .1
 
     by-choice : (y : Chosen) → choosing (offersOf p s) c ≡ y → Full bytes p calls t s (stepChosen p s T y .answer)
     by-choice (refusedChoice n) y = λ z. absurd (refusal-some (offersOf p s) c n y z)
-    by-choice (chosen x) y = rw (taken-answer p x s T) (at x (taken p x s T .answer .end) y)
+    by-choice (chosen x) y = rw (taken-answer p x s T) (at x (taken p x s T .answer .end) (taken p x s T .answer .fault) y)
 
     go : (g : Found Plan) → planIn s ≡ g → Full bytes p calls t s (by (record { answer = refusing 17; state = s; tally = T; log = [] }) (λ p. stepBy p c s T) g .answer)
     go (refused n k) y = λ z. absurd (omega arith)

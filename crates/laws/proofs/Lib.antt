@@ -1,6 +1,8 @@
 pub mod Roomy
 pub mod Offering
 pub mod Doing
+pub mod Limited
+pub mod Numbers
 pub mod Staying
 pub mod Keeping
 pub mod Promised

@@ -98,11 +98,11 @@ taken-as p x s t = go (isLive o) refl
       is = pick-false (isLive o) _ _ e ∙ ap (λ (q : Order). stepped p x s (countStart t) q (started ∷ begunOrder p .log)) (sym (pick-false (isLive o) o (startedOrder p) e));
     }
 
-stepped-answer : (p : Plan) (x : Offer) (s : State) (t : Tally) (o : Order) (l : List Event) → stepped p x s t o l .answer ≡ answering x (stepped p x s t o l .answer .end)
+stepped-answer : (p : Plan) (x : Offer) (s : State) (t : Tally) (o : Order) (l : List Event) → stepped p x s t o l .answer ≡ answering x (stepped p x s t o l .answer .end) (stepped p x s t o l .answer .fault)
 unfolding stepped
 stepped-answer p x s t o l = refl
 
-pub taken-answer : (p : Plan) (x : Offer) (s : State) (t : Tally) → taken p x s t .answer ≡ answering x (taken p x s t .answer .end)
+pub taken-answer : (p : Plan) (x : Offer) (s : State) (t : Tally) → taken p x s t .answer ≡ answering x (taken p x s t .answer .end) (taken p x s t .answer .fault)
 taken-answer p x s t = let w = taken-as p x s t in rw (w .is) (stepped-answer p x s (w .tally) (actor p (s .orders) (x .slot)) (w .log))
 
 pub offered-is-taken : OfferedIsTaken

@@ -2,7 +2,7 @@
 use mathlib.Core.Path.{_≡_, refl, sym, ap, _∙_, subst}
 use mathlib.Core.Bool.{Bool, true, false, not, _||_, false≢true}
 use mathlib.Core.List.{List, [], _∷_}
-use Prim.Native.Nat.{ℕ, _+_, _<_, _≤_}
+use Prim.Native.Nat.{ℕ, zero, suc, _+_, _<_, _≤_}
 use native.Mathlib.Omega.{arith}
 use borrow.Author.Tests.{ltb-false, lt-ltb}
 use lib.Dec.{eqb, ltb}
@@ -40,7 +40,8 @@ own-room empty l k xs = refl
 own-room (send p o vs) l k xs = refl
 own-room (receive p o vs) l k xs = refl
 own-room (setting v e) l k xs = refl
-own-room raise l k xs = refl
+own-room (raise zero) l k xs = refl
+own-room (raise (suc number)) l k xs = refl
 own-room leave l k xs = refl
 own-room (choose e) l k xs = refl
 own-room (repeat e) l k xs = refl
@@ -108,7 +109,8 @@ own-takes empty l k m o = refl
 own-takes (send p q vs) l k m o = refl
 own-takes (receive p q vs) l k m o = refl
 own-takes (setting v e) l k m o = refl
-own-takes raise l k m o = refl
+own-takes (raise zero) l k m o = refl
+own-takes (raise (suc number)) l k m o = refl
 own-takes leave l k m o = refl
 own-takes (choose e) l k m o = refl
 own-takes (repeat e) l k m o = refl

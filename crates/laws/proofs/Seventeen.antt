@@ -48,6 +48,7 @@ withBound v b =
       bound = set (noOrder .bound) v b;
       remembered = noOrder .remembered;
       kept = 0;
+      cause = 0;
     }
 
 abbrev withKept : (number : ℕ) → Order
@@ -59,12 +60,26 @@ withKept n =
       bound = noOrder .bound;
       remembered = noOrder .remembered;
       kept = n;
+      cause = 0;
     }
 
--- a mark, the mark of the root, a bound variable, the closings, the messages, one message, the plan
+abbrev withCause : (number : ℕ) → Order
+withCause n =
+    record {
+      root = 0;
+      marks = noOrder .marks;
+      values = noOrder .values;
+      bound = noOrder .bound;
+      remembered = noOrder .remembered;
+      kept = 0;
+      cause = n;
+    }
+
+-- a mark, the mark of the root, a bound variable, the closings, the number of a fault, the messages, one message, the plan
 wrong : List State
 wrong =
     holding (marked 255 9 noOrder) ∷ holding (withRoot 2 noOrder) ∷ holding (withRoot 9 noOrder) ∷ holding (withBound 15 2) ∷ holding (withKept 33)
+    ∷ holding (withCause 5) ∷ holding (withCause 15) ∷ holding (withCause 256)
     ∷ withMessages (fresh planA .messages) 65 (fresh planA)
     ∷ having (letter 64 5 1 (7 ∷ 0 ∷ 0 ∷ 0 ∷ []))
     ∷ having (letter 3 64 1 (7 ∷ 0 ∷ 0 ∷ 0 ∷ []))
@@ -81,6 +96,7 @@ wrong =
 within : List State
 within =
     fresh planA ∷ holding (marked 255 8 noOrder) ∷ holding (withRoot 6 noOrder) ∷ holding (withBound 15 1) ∷ holding (withKept 32)
+    ∷ holding (withCause 4) ∷ holding (withCause 16) ∷ holding (withCause 255)
     ∷ having (letter 63 63 1 (7 ∷ 0 ∷ 0 ∷ 0 ∷ []))
     ∷ having (letter 3 5 4 (7 ∷ 9 ∷ 0 ∷ 1 ∷ []))
     ∷ []

@@ -110,7 +110,7 @@ spoils f c s t =
     }
 
 abbrev withVariables : (values bound : List ℕ) → Order → Order
-withVariables xs bs o = record { root = o .root; marks = o .marks; values = xs; bound = bs; remembered = o .remembered; kept = o .kept }
+withVariables xs bs o = record { root = o .root; marks = o .marks; values = xs; bound = bs; remembered = o .remembered; kept = o .kept; cause = o .cause }
 
 -- a take and a set bind nothing: the premise of TakenInFull is then never met; nothing is bound anew; a step forgets another variable; only the first is bound;
 -- the values stand at each other's places; a set leaves its variable; a variable is bound that nothing gave; a step forgets all; and an order

@@ -11,6 +11,7 @@ use Rattle.plan.specs.Found.{among}
 use Rattle.plan.specs.Tree.{Exp, Own, empty, send, receive, set as setting, raise, leave, choose, repeat, sequence, flow, pick, scope, arm, kind, isScope, hasUndo, isPick, Act, act, Acts, none, more, Plan, size, sizes}
 use Rattle.plan.proofs.Accepts.{both}
 use Rattle.order.specs.declared.Closing.{Closing}
+use Rattle.plan.specs.Within.{planWithin}
 use Rattle.order.specs.declared.Order.{Order}
 use Rattle.order.specs.declared.Way.{Way}
 use Rattle.order.specs.declared.Way.the-variants.{Running as running, Over as over, Raising as raising, Leaving as leaving, Undone as undone, UndoRaising as undoRaising}
@@ -18,8 +19,8 @@ use Rattle.order.specs.declared.End.{End}
 use Rattle.order.specs.declared.End.the-variants.{None, Well, Handled, Failed, Left}
 use Rattle.order.specs.Lists.{every, only, withoutFirst, withoutLast}
 use Rattle.order.specs.Event.{Event}
-use Rattle.order.specs.Expression.{Value, fault, value, evaluate, isTrue}
-use Rattle.order.specs.State.{idle, active, inside, done, faulty, undoing, handling, halted, withdrawing, Name, root, inner, withMarks, withRoot, binding, closingOf, closings, remembering, markAt, marked, markOf, marking, noOrder}
+use Rattle.order.specs.Expression.{isFaultNumber, unboundVariable, conflictingReceive, Value, fault, value, evaluate, isTrue}
+use Rattle.order.specs.State.{idle, active, inside, done, faulty, undoing, handling, halted, withdrawing, Name, root, inner, withMarks, withRoot, binding, closingOf, closings, remembering, markAt, marked, markOf, marking, causing, noOrder}
 use Rattle.order.specs.Begin.{Begun, begin, beginInTurn, beginAll, beginFirst, beginAfter, beginPart, part, partAt, throughout, around, itsBeginning, inTurn, sideBySide, nothingBegun, awaiting, cleared, quiet}
 use Rattle.order.specs.Scope.{Outcome, Scope, Stopped, runs, after, begunIn, scopeAt, rootOf, isFor, listOf, rememberedFor, forgetting, adds, closing, innerRuns, beginUndo, beginUndoFirst, beginUndoIn, whereOver, startUndo, undo, ends, handle, undoes, turns, isOpen, untouched, alsoStopped, withdraws, stop, stopAll, stopFirst, faults, breaks, looksAgain, bodyOver, bodyRaised, undoOver, undoRaised, fromBody, partOver, partRaised, fromFault, goesThrough, fromUndo}
 use Rattle.order.specs.Acting.{finishes, raises, leaves, orRaises, enters, again, repeats, allBound, itself, isPart, arms, goesOn, joins, inScope, combines, stepIn, stepAmong, stepRoot, endOf, movedTo, startedOrder, begunOrder, Actor, itsOwn, inPlace, replaces, performs, Moved, acted}
@@ -31,6 +32,8 @@ use Rattle.order.specs.Room.{hasRoom, roomIn, roomAmong, roomPlan}
 use Rattle.order.specs.Taking.{bindAll}
 use Rattle.order.proofs.MemoryReturns.{closings-are}
 use Rattle.machine.specs.Limits.{rootInLimits, orderInLimits}
+use Rattle.laws.proofs.Limited.{Limited, LimitedAll, limited-within, limited-first, limited-rest, limited-parts}
+use Rattle.laws.proofs.Numbers.{hasNumber, Numbered, number-step, number-among}
 use Rattle.laws.proofs.Offering.{pick-true, pick-false, Each, each-none, each-more, Does, plan-ready}
 
 -- a test that holds of each holds of each after one is changed to one of which it holds
@@ -85,7 +88,8 @@ mutual
   small-begin (act (send p o vs) l) k ms s = small-set k active refl s
   small-begin (act (receive p o vs) l) k ms s = small-set k active refl s
   small-begin (act (setting v e) l) k ms s = small-set k active refl s
-  small-begin (act raise l) k ms s = small-set k active refl s
+  small-begin (act (raise zero) l) k ms s = small-set k active refl s
+  small-begin (act (raise (suc number)) l) k ms s = small-set k active refl s
   small-begin (act leave l) k ms s = small-set k active refl s
   small-begin (act (choose e) l) k ms s = small-set k active refl s
   small-begin (act (repeat e) l) k ms s = small-set k active refl s
@@ -164,6 +168,7 @@ pub record Fine (b : Bool) (z : ℕ) (o : Order) : Type 0 where
   pub marks : Small (o .marks)
   pub bound : every (λ b. leb b 1) (o .bound) ≡ true
   pub kept : o .kept ≤ 32
+  pub cause : isFaultNumber (o .cause) ≡ true
 
 abbrev Fines : Bool → ℕ → Outcome → Type 0
 Fines b z r = Fine b z (r .order)
@@ -178,16 +183,16 @@ Marks false m = leb m withdrawing ≡ true
 
 module _ {b : Bool} {z : ℕ} where
   fine-marks : {o : Order} {ms : List ℕ} → Fine b z o → Small ms → Fine b z (withMarks ms o)
-  fine-marks f s = record { root = f .root; marks = s; bound = f .bound; kept = f .kept }
+  fine-marks f s = record { root = f .root; marks = s; bound = f .bound; kept = f .kept; cause = f .cause }
 
   fine-marked : {o : Order} (k m : ℕ) → leb m withdrawing ≡ true → Fine b z o → Fine b z (marked k m o)
   fine-marked k m h f = fine-marks f (small-set k m h (f .marks))
 
   fine-remembering : {o : Order} (l : List Closing) → length l ≤ 32 → Fine b z o → Fine b z (remembering l o)
-  fine-remembering l h f = record { root = f .root; marks = f .marks; bound = f .bound; kept = h }
+  fine-remembering l h f = record { root = f .root; marks = f .marks; bound = f .bound; kept = h; cause = f .cause }
 
   fine-binding : {o : Order} (v x : ℕ) → Fine b z o → Fine b z (binding v x o)
-  fine-binding {o} v x f = record { root = f .root; marks = f .marks; bound = every-set (λ b. leb b 1) (o .bound) v 1 refl (f .bound); kept = f .kept }
+  fine-binding {o} v x f = record { root = f .root; marks = f .marks; bound = every-set (λ b. leb b 1) (o .bound) v 1 refl (f .bound); kept = f .kept; cause = f .cause }
 
   fine-over : (r : Outcome) (g : Order → Outcome) → Fine b z (r .order) → ((q : Order) → Fine b z q → Fine b z (g q .order)) → Fine b z (whereOver g r .order)
   fine-over r g f h = go (r .result)
@@ -195,17 +200,17 @@ module _ {b : Bool} {z : ℕ} where
       go : (w : Way) → Fines b z (elim w [
         | running ↦ r
         | over ↦ after (r .log) (g (r .order))
-        | raising ↦ r
+        | raising n ↦ r
         | leaving ↦ r
         | undone ↦ r
-        | undoRaising ↦ r
+        | undoRaising n ↦ r
       ])
       go running = f
       go over = h (r .order) f
-      go raising = f
+      go (raising n) = f
       go leaving = f
       go undone = f
-      go undoRaising = f
+      go (undoRaising n) = f
 
 -- of two outcomes one
 fine-pick : {b : Bool} {z : ℕ} (t : Bool) (x y : Outcome) → (t ≡ true → Fine b z (x .order)) → (t ≡ false → Fine b z (y .order))
@@ -262,8 +267,13 @@ fine-forgetting {o = o} s f =
 -- the mark of a scope
 fine-marking : {z : ℕ} {o : Order} (n : Name) (m : ℕ) → Marks (isRoot n) m → Fine (isRoot n) z o → Fine (isRoot n) z (marking n m o)
 unfolding Marks RootIs
-fine-marking root m h f = record { root = h; marks = f .marks; bound = f .bound; kept = f .kept }
+fine-marking root m h f = record { root = h; marks = f .marks; bound = f .bound; kept = f .kept; cause = f .cause }
 fine-marking (inner k) m h f = fine-marked k m h f
+
+-- the number of its fault
+fine-causing : {b : Bool} {z : ℕ} {o : Order} (n : Name) (x : ℕ) → isFaultNumber x ≡ true → Fine b z o → Fine b z (causing n x o)
+fine-causing root x h f = record { root = f .root; marks = f .marks; bound = f .bound; kept = f .kept; cause = h }
+fine-causing (inner k) x h f = f
 
 any-mark : (b : Bool) (m : ℕ) → leb m withdrawing ≡ true → rootInLimits m ≡ true → Marks b m
 unfolding Marks
@@ -348,26 +358,26 @@ mutual
 -- what leaves the root's mark as it is leaves it within its limits
 fine-in : {b : Bool} {z : ℕ} {o : Order} → Fine b z o → Fine false (o .root) o
 unfolding RootIs
-fine-in f = record { root = refl; marks = f .marks; bound = f .bound; kept = f .kept }
+fine-in f = record { root = refl; marks = f .marks; bound = f .bound; kept = f .kept; cause = f .cause }
 
 fine-out : {b : Bool} {z : ℕ} {o r : Order} → Fine b z o → Fine false (o .root) r → Fine b z r
 unfolding RootIs
-fine-out {b} {z} {o} {r} f g = record { root = go b (f .root) (g .root); marks = g .marks; bound = g .bound; kept = g .kept }
+fine-out {b} {z} {o} {r} f g = record { root = go b (f .root) (g .root); marks = g .marks; bound = g .bound; kept = g .kept; cause = g .cause }
   where
     go : (b : Bool) → RootIs b z (o .root) → r .root ≡ o .root → RootIs b z (r .root)
     go true x e = rw e x
     go false x e = e ∙ x
 
 module _ {z : ℕ} (s : Scope) where
-  fine-faults : {o : Order} → Fine (isRoot (s .name)) z o → Fine (isRoot (s .name)) z (faults s o .order)
+  fine-faults : {o : Order} (n : ℕ) → isFaultNumber n ≡ true → Fine (isRoot (s .name)) z o → Fine (isRoot (s .name)) z (faults n s o .order)
   unfolding faults rootInLimits among
-  fine-faults f =
-      let g = fine-marking (s .name) faulty (any-mark (isRoot (s .name)) faulty refl refl) f in
+  fine-faults n h f =
+      let g = fine-causing (s .name) n h (fine-marking (s .name) faulty (any-mark (isRoot (s .name)) faulty refl refl) f) in
       fine-turns-fault s (fine-out g (fine-stop (s .body) (s .bodyAt) (fine-in g)))
 
-  fine-breaks : {o : Order} → Fine (isRoot (s .name)) z o → Fine (isRoot (s .name)) z (breaks s o .order)
+  fine-breaks : {o : Order} (n : ℕ) → Fine (isRoot (s .name)) z o → Fine (isRoot (s .name)) z (breaks n s o .order)
   unfolding breaks rootInLimits among
-  fine-breaks f =
+  fine-breaks n f =
       let g = fine-forgetting s (fine-marking (s .name) idle (any-mark (isRoot (s .name)) idle refl refl) f) in
       fine-marks g (small-cleared (s .count) (s .first) (g .marks))
 
@@ -386,9 +396,9 @@ module _ {z : ℕ} (s : Scope) where
       fine-pick (eqb (markOf (s .name) o) faulty) (turns true s o) (elim (eqb (markOf (s .name) o) halted) [ true ↦ turns false s o | false ↦ runs o ]) (λ e. fine-turns-fault s f)
       (λ e. fine-pick (eqb (markOf (s .name) o) halted) (turns false s o) (runs o) (λ d. fine-turns s false (not-root (s .name) halted refl f d) f) (λ d. f))
 
-  fine-raised : {o : Order} → Fine (isRoot (s .name)) z o → Fine (isRoot (s .name)) z (bodyRaised s o .order)
+  fine-raised : {o : Order} (n : ℕ) → isFaultNumber n ≡ true → Fine (isRoot (s .name)) z o → Fine (isRoot (s .name)) z (bodyRaised n s o .order)
   unfolding bodyRaised
-  fine-raised {o} f = fine-pick (isOpen (markOf (s .name) o)) (faults s o) (looksAgain s o) (λ e. fine-faults f) (λ e. fine-looks f)
+  fine-raised {o} n h f = fine-pick (isOpen (markOf (s .name) o)) (faults n s o) (looksAgain s o) (λ e. fine-faults n h f) (λ e. fine-looks f)
 
   fine-undo-over : {o : Order} → Fine (isRoot (s .name)) z o → Fine (isRoot (s .name)) z (undoOver s o .order)
   unfolding undoOver rootInLimits among
@@ -396,9 +406,9 @@ module _ {z : ℕ} (s : Scope) where
       fine-pick (eqb (markOf (s .name) o) undoing) (undoes true s o) (elim (eqb (markOf (s .name) o) withdrawing) [ true ↦ undoes false s o | false ↦ runs o ]) (λ e. fine-undoes-fault s f)
       (λ e. fine-pick (eqb (markOf (s .name) o) withdrawing) (undoes false s o) (runs o) (λ d. fine-undoes s false (not-root (s .name) withdrawing refl f d) f) (λ d. f))
 
-  fine-undo-raised : {o : Order} → Fine (isRoot (s .name)) z o → Fine (isRoot (s .name)) z (undoRaised s o .order)
+  fine-undo-raised : {o : Order} (n : ℕ) → Fine (isRoot (s .name)) z o → Fine (isRoot (s .name)) z (undoRaised n s o .order)
   unfolding undoRaised
-  fine-undo-raised {o} f = fine-pick (eqb (markOf (s .name) o) undoing || eqb (markOf (s .name) o) withdrawing) (breaks s o) (runs o) (λ e. fine-breaks f) (λ e. f)
+  fine-undo-raised {o} n f = fine-pick (eqb (markOf (s .name) o) undoing || eqb (markOf (s .name) o) withdrawing) (breaks n s o) (runs o) (λ e. fine-breaks n f) (λ e. f)
 
   fine-body-over : {o : Order} → Marks (isRoot (s .name)) done → Fine (isRoot (s .name)) z o → Fine (isRoot (s .name)) z (bodyOver s o .order)
   unfolding bodyOver
@@ -408,28 +418,28 @@ module _ {z : ℕ} (s : Scope) where
   unfolding partOver
   fine-part-over {o} f = fine-pick (eqb (markOf (s .name) o) handling) (ends s o) (runs o) (λ e. fine-ends s f) (λ e. f)
 
-  fine-part-raised : {o : Order} → Fine (isRoot (s .name)) z o → Fine (isRoot (s .name)) z (partRaised s o .order)
+  fine-part-raised : {o : Order} (n : ℕ) → Fine (isRoot (s .name)) z o → Fine (isRoot (s .name)) z (partRaised n s o .order)
   unfolding partRaised
-  fine-part-raised {o} f = fine-pick (eqb (markOf (s .name) o) handling) (breaks s o) (runs o) (λ e. fine-breaks f) (λ e. f)
+  fine-part-raised {o} n f = fine-pick (eqb (markOf (s .name) o) handling) (breaks n s o) (runs o) (λ e. fine-breaks n f) (λ e. f)
 
-  fine-from-body : (r : Outcome) → Marks (isRoot (s .name)) done → Fine (isRoot (s .name)) z (r .order) → Fine (isRoot (s .name)) z (fromBody s r .order)
+  fine-from-body : (r : Outcome) → Numbered r → Marks (isRoot (s .name)) done → Fine (isRoot (s .name)) z (r .order) → Fine (isRoot (s .name)) z (fromBody s r .order)
   unfolding fromBody
-  fine-from-body r m f = go (r .result)
+  fine-from-body r x m f = go (r .result) x
     where
-      go : (w : Way) → Fines (isRoot (s .name)) z (elim w [
+      go : (w : Way) → hasNumber w ≡ true → Fines (isRoot (s .name)) z (elim w [
         | running ↦ after (r .log) (looksAgain s (r .order))
         | over ↦ after (r .log) (bodyOver s (r .order))
-        | raising ↦ after (r .log) (bodyRaised s (r .order))
+        | raising n ↦ after (r .log) (bodyRaised n s (r .order))
         | leaving ↦ r
         | undone ↦ after (r .log) (undoOver s (r .order))
-        | undoRaising ↦ after (r .log) (undoRaised s (r .order))
+        | undoRaising n ↦ after (r .log) (undoRaised n s (r .order))
       ])
-      go running = fine-looks f
-      go over = fine-body-over m f
-      go raising = fine-raised f
-      go leaving = f
-      go undone = fine-undo-over f
-      go undoRaising = fine-undo-raised f
+      go running x = fine-looks f
+      go over x = fine-body-over m f
+      go (raising n) x = fine-raised n x f
+      go leaving x = f
+      go undone x = fine-undo-over f
+      go (undoRaising n) x = fine-undo-raised n f
 
   fine-from-fault : (r : Outcome) → Fine (isRoot (s .name)) z (r .order) → Fine (isRoot (s .name)) z (fromFault s r .order)
   unfolding fromFault
@@ -438,17 +448,17 @@ module _ {z : ℕ} (s : Scope) where
       go : (w : Way) → Fines (isRoot (s .name)) z (elim w [
         | running ↦ r
         | over ↦ after (r .log) (partOver s (r .order))
-        | raising ↦ after (r .log) (partRaised s (r .order))
+        | raising n ↦ after (r .log) (partRaised n s (r .order))
         | leaving ↦ r
         | undone ↦ record { result = running; order = r .order; log = r .log }
-        | undoRaising ↦ record { result = running; order = r .order; log = r .log }
+        | undoRaising n ↦ record { result = running; order = r .order; log = r .log }
       ])
       go running = f
       go over = fine-part-over f
-      go raising = fine-part-raised f
+      go (raising n) = fine-part-raised n f
       go leaving = f
       go undone = f
-      go undoRaising = f
+      go (undoRaising n) = f
 
 -- the step that an activity has by itself
 fine-cond : {b : Bool} {z : ℕ} (t : Bool) (x y : Outcome) → Fine b z (x .order) → Fine b z (y .order) → Fines b z (cond t x y)
@@ -457,7 +467,7 @@ fine-cond false x y f g = g
 
 module _ {z : ℕ} where
   fine-or : {o : Order} (k : ℕ) (g : ℕ → Outcome) (v : Value) → Fine false z o → ((n : ℕ) → Fine false z (g n .order)) → Fines false z (orRaises k o g v)
-  fine-or k g fault f h = fine-marked k idle refl f
+  fine-or k g (fault n) f h = fine-marked k idle refl f
   fine-or k g (value n) f h = h n
 
   fine-enters : {o : Order} (k : ℕ) (b : Begun) → Small (b .marks) → Fine false z o → Fine false z (enters k o b .order)
@@ -492,11 +502,12 @@ module _ {z : ℕ} where
   fine-itself : {o : Order} (own : Own) (l : Acts) (c k : ℕ) → hasRoom own l k (closings o) ≡ true → Fine false z o → Fine false z (itself own l c k o .order)
   unfolding itself hasRoom
   fine-itself empty l c k h f = f
-  fine-itself {o} (send p q vs) l c k h f = fine-cond (allBound o vs) (finishes k o) (raises k o) (fine-marked k idle refl f) (fine-marked k idle refl f)
+  fine-itself {o} (send p q vs) l c k h f = fine-cond (allBound o vs) (finishes k o) (raises unboundVariable k o) (fine-marked k idle refl f) (fine-marked k idle refl f)
   fine-itself (receive p q vs) l c k h f = fine-marked k idle refl f
   fine-itself {o} (setting v e) l c k h f =
       fine-or k (λ n. finishes k (binding v n o)) (evaluate e o) f (λ n. fine-marked k idle refl (fine-binding v n f))
-  fine-itself raise l c k h f = fine-marked k idle refl f
+  fine-itself (raise zero) l c k h f = fine-marked k idle refl f
+  fine-itself (raise (suc number)) l c k h f = fine-marked k idle refl f
   fine-itself leave l c k h f = fine-marked k idle refl f
   fine-itself {o} (choose e) l c k h f =
       fine-or k (λ n. enters k o (beginPart (cond (isTrue n) 0 1) l (k + 1) (marked k inside o .marks))) (evaluate e o) f
@@ -521,31 +532,31 @@ module _ {z : ℕ} where
   unfolding joins
   fine-joins {o} k l f = fine-pick (quiet (k + 1) (sizes l) (o .marks)) (finishes k o) (runs o) (λ e. fine-marked k idle refl f) (λ e. f)
 
-  fine-in-scope : (undo : Bool) (k t : ℕ) (l : Acts) (r : Outcome) → Fine false z (r .order) → Fine false z (inScope undo k t l r .order)
+  fine-in-scope : (undo : Bool) (k t : ℕ) (l : Acts) (r : Outcome) → Numbered r → Fine false z (r .order) → Fine false z (inScope undo k t l r .order)
   unfolding inScope Marks fromUndo
-  fine-in-scope undo k t l r f =
+  fine-in-scope undo k t l r x f =
       fine-pick (ltb t (partAt 1 l (k + 1))) (elim (goesThrough undo k r) [ true ↦ r | false ↦ fromBody (scopeAt k l) r ])
       (elim (ltb t (partAt 2 l (k + 1))) [ true ↦ fromFault (scopeAt k l) r | false ↦ fromUndo r ])
-      (λ e. fine-pick (goesThrough undo k r) r (fromBody (scopeAt k l) r) (λ d. f) (λ d. fine-from-body (scopeAt k l) r refl f))
+      (λ e. fine-pick (goesThrough undo k r) r (fromBody (scopeAt k l) r) (λ d. f) (λ d. fine-from-body (scopeAt k l) r x refl f))
       (λ e. fine-pick (ltb t (partAt 2 l (k + 1))) (fromFault (scopeAt k l) r) (fromUndo r) (λ d. fine-from-fault (scopeAt k l) r f) (λ d. f))
 
-  fine-combines : (own : Own) (l : Acts) (k t : ℕ) (r : Outcome) → Fine false z (r .order) → Fine false z (combines own l k t r .order)
+  fine-combines : (own : Own) (l : Acts) (k t : ℕ) (r : Outcome) → Numbered r → Fine false z (r .order) → Fine false z (combines own l k t r .order)
   unfolding combines
-  fine-combines empty l k t r f = f
-  fine-combines (send p q vs) l k t r f = f
-  fine-combines (receive p q vs) l k t r f = f
-  fine-combines (setting v e) l k t r f = f
-  fine-combines raise l k t r f = f
-  fine-combines leave l k t r f = f
-  fine-combines (choose e) l k t r f = fine-goes k inside (finishes k) r f (λ q g. fine-marked k idle refl g)
-  fine-combines (repeat e) l k t r f = fine-goes k inside (again k) r f (λ q g. fine-marked k active refl g)
-  fine-combines sequence l k t r f =
+  fine-combines empty l k t r x f = f
+  fine-combines (send p q vs) l k t r x f = f
+  fine-combines (receive p q vs) l k t r x f = f
+  fine-combines (setting v e) l k t r x f = f
+  fine-combines (raise number) l k t r x f = f
+  fine-combines leave l k t r x f = f
+  fine-combines (choose e) l k t r x f = fine-goes k inside (finishes k) r f (λ q g. fine-marked k idle refl g)
+  fine-combines (repeat e) l k t r x f = fine-goes k inside (again k) r f (λ q g. fine-marked k active refl g)
+  fine-combines sequence l k t r x f =
       fine-goes k active (λ o. whereOver (finishes k) (begunIn o (beginAfter l (k + 1) t (o .marks)))) r f
       (λ q g. fine-over (begunIn q (beginAfter l (k + 1) t (q .marks))) (finishes k) (fine-marks g (small-after l (k + 1) t (q .marks) (g .marks))) (λ o h. fine-marked k idle refl h))
-  fine-combines flow l k t r f = fine-goes k active (joins k l) r f (λ q g. fine-joins k l g)
-  fine-combines pick l k t r f = fine-goes k inside (finishes k) r f (λ q g. fine-marked k idle refl g)
-  fine-combines (scope u) l k t r f = fine-in-scope u k t l r f
-  fine-combines (arm p q vs) l k t r f = f
+  fine-combines flow l k t r x f = fine-goes k active (joins k l) r f (λ q g. fine-joins k l g)
+  fine-combines pick l k t r x f = fine-goes k inside (finishes k) r f (λ q g. fine-marked k idle refl g)
+  fine-combines (scope u) l k t r x f = fine-in-scope u k t l r x f
+  fine-combines (arm p q vs) l k t r x f = f
 
   fine-arms : {o : Order} (own : Own) (l : Acts) (k t : ℕ) → Fine false z o → Fine false z (arms own l k t o)
   unfolding arms
@@ -568,7 +579,7 @@ fine-performs : {z : ℕ} {o : Order} (y : Actor) (own : Own) (l : Acts) (c k : 
 unfolding performs
 fine-performs {z} {o} y own l c k h f = go (replaces y (kind own))
   where
-    go : (b : Bool) → Fine false z (elim b as (λ _. Outcome) [ true ↦ raises k o | false ↦ itself own l c k o ] .order)
+    go : (b : Bool) → Fine false z (elim b as (λ _. Outcome) [ true ↦ raises conflictingReceive k o | false ↦ itself own l c k o ] .order)
     go true = fine-marked k idle refl f
     go false = fine-itself own l c k h f
 
@@ -576,11 +587,11 @@ fine-performs {z} {o} y own l c k h f = go (replaces y (kind own))
 mutual
   unfolding stepIn roomIn size
 
-  fine-step-in : {z : ℕ} {o : Order} (y : Actor) (a : Act) (c k t : ℕ) → roomIn a k t (closings o) ≡ true → Fine false z o → Fine false z (stepIn y a c k t o .order)
-  fine-step-in {z} {o} y (act own l) c k t h f =
+  fine-step-in : {z : ℕ} {o : Order} (y : Actor) (a : Act) (c k t : ℕ) → Limited a → roomIn a k t (closings o) ≡ true → Fine false z o → Fine false z (stepIn y a c k t o .order)
+  fine-step-in {z} {o} y (act own l) c k t w h f =
       go (eqb k t) h (λ e. fine-performs y own l c k e f)
-      (λ e. fine-combines own l k t (stepAmong y l (isScope own) c (k + 1) t (arms own l k t o))
-      (fine-step-among y l (isScope own) c (k + 1) t (ap (roomAmong l (k + 1) t) (arms-closings own l k t o) ∙ e) (fine-arms own l k t f)))
+      (λ e. fine-combines own l k t (stepAmong y l (isScope own) c (k + 1) t (arms own l k t o)) (number-among y l (isScope own) c (k + 1) t (arms own l k t o) (limited-within own l w))
+      (fine-step-among y l (isScope own) c (k + 1) t (limited-within own l w) (ap (roomAmong l (k + 1) t) (arms-closings own l k t o) ∙ e) (fine-arms own l k t f)))
     where
       go : (b : Bool) → elim b [ true ↦ hasRoom own l k (closings o) | false ↦ roomAmong l (k + 1) t (closings o) ] ≡ true
           → (hasRoom own l k (closings o) ≡ true → Fine false z (performs y own l c k o .order))
@@ -589,11 +600,11 @@ mutual
       go true e u v = u e
       go false e u v = v e
 
-  fine-step-among : {z : ℕ} {o : Order} (y : Actor) (l : Acts) (w : Bool) (q c t : ℕ) → roomAmong l c t (closings o) ≡ true → Fine false z o
+  fine-step-among : {z : ℕ} {o : Order} (y : Actor) (l : Acts) (w : Bool) (q c t : ℕ) → LimitedAll l → roomAmong l c t (closings o) ≡ true → Fine false z o
       → Fine false z (stepAmong y l w q c t o .order)
-  fine-step-among y none w q c t h f = f
-  fine-step-among {z} {o} y (more a l) w q c t h f =
-      go (ltb t (c + size a)) h (λ e. fine-step-in y a (cond w c q) c t e f) (λ e. fine-step-among y l w q (c + size a) t e f)
+  fine-step-among y none w q c t v h f = f
+  fine-step-among {z} {o} y (more a l) w q c t v h f =
+      go (ltb t (c + size a)) h (λ e. fine-step-in y a (cond w c q) c t (limited-first a l v) e f) (λ e. fine-step-among y l w q (c + size a) t (limited-rest a l v) e f)
     where
       go : (b : Bool) → elim b [ true ↦ roomIn a c t (closings o) | false ↦ roomAmong l (c + size a) t (closings o) ] ≡ true
           → (roomIn a c t (closings o) ≡ true → Fine false z (stepIn y a (cond w c q) c t o .order))
@@ -609,14 +620,15 @@ limits-fine o e =
     both (rootInLimits (o .root)) _ e (λ a b.
     both (every (λ m. leb m withdrawing) (o .marks)) _ b (λ c d.
     both (every (λ b. leb b 1) (o .bound)) _ d (λ f g.
-    record { root = a; marks = record { is = c }; bound = f; kept = leb-true _ _ g })))
+    both (leb (o .kept) 32) _ g (λ h i.
+    record { root = a; marks = record { is = c }; bound = f; kept = leb-true _ _ h; cause = i }))))
 
 pub fine-limits : {z : ℕ} {o : Order} → Fine true z o → orderInLimits o ≡ true
 unfolding orderInLimits RootIs
-fine-limits f = rw (f .root, f .marks .is, f .bound, le-leb _ _ (f .kept))
+fine-limits f = rw (f .root, f .marks .is, f .bound, le-leb _ _ (f .kept), f .cause)
 
 pub none-limits : orderInLimits noOrder ≡ true
-unfolding orderInLimits noOrder rootInLimits among every
+unfolding orderInLimits noOrder rootInLimits among every isFaultNumber
 none-limits = refl
 
 -- how an order ended
@@ -634,62 +646,63 @@ ended-fine r f = go (r .result)
     go : (w : Way) → orderInLimits (movedTo r (elim w [
       | running ↦ cond (eqb (r .order .root) done) Well None
       | over ↦ Handled
-      | raising ↦ Failed
+      | raising n ↦ Failed
       | leaving ↦ Left
       | undone ↦ None
-      | undoRaising ↦ None
+      | undoRaising n ↦ None
     ]) .order) ≡ true
     go running = root-done (eqb (r .order .root) done)
     go over = none-limits
-    go raising = none-limits
+    go (raising n) = none-limits
     go leaving = none-limits
     go undone = fine-limits f
-    go undoRaising = fine-limits f
+    go (undoRaising n) = fine-limits f
 
 ended-well : (l : List Event) (o : Order) → Ends (after l (runs (withRoot done o)))
 unfolding movedTo endOf
 ended-well l o = none-limits
 
 -- the root's body
-ended-body : {z : ℕ} (p : Plan) (r : Outcome) → Fine true z (r .order) → Ends (fromBody (rootOf p) r)
+ended-body : {z : ℕ} (p : Plan) (r : Outcome) → Numbered r → Fine true z (r .order) → Ends (fromBody (rootOf p) r)
 unfolding fromBody bodyOver
-ended-body p r f = go (r .result)
+ended-body p r x f = go (r .result) x
   where
     body-over : (b : Bool) → Ends (after (r .log) (elim b [ true ↦ runs (marking root done (r .order)) | false ↦ looksAgain (rootOf p) (r .order) ]))
     body-over true = ended-well (r .log) (r .order)
     body-over false = ended-fine (after (r .log) (looksAgain (rootOf p) (r .order))) (fine-looks (rootOf p) f)
 
-    go : (w : Way) → Ends (elim w [
+    go : (w : Way) → hasNumber w ≡ true → Ends (elim w [
       | running ↦ after (r .log) (looksAgain (rootOf p) (r .order))
       | over ↦ after (r .log) (bodyOver (rootOf p) (r .order))
-      | raising ↦ after (r .log) (bodyRaised (rootOf p) (r .order))
+      | raising n ↦ after (r .log) (bodyRaised n (rootOf p) (r .order))
       | leaving ↦ r
       | undone ↦ after (r .log) (undoOver (rootOf p) (r .order))
-      | undoRaising ↦ after (r .log) (undoRaised (rootOf p) (r .order))
+      | undoRaising n ↦ after (r .log) (undoRaised n (rootOf p) (r .order))
     ])
-    go running = ended-fine (after (r .log) (looksAgain (rootOf p) (r .order))) (fine-looks (rootOf p) f)
-    go over = body-over (eqb (r .order .root) active)
-    go raising = ended-fine (after (r .log) (bodyRaised (rootOf p) (r .order))) (fine-raised (rootOf p) f)
-    go leaving = ended-fine r f
-    go undone = ended-fine (after (r .log) (undoOver (rootOf p) (r .order))) (fine-undo-over (rootOf p) f)
-    go undoRaising = ended-fine (after (r .log) (undoRaised (rootOf p) (r .order))) (fine-undo-raised (rootOf p) f)
+    go running x = ended-fine (after (r .log) (looksAgain (rootOf p) (r .order))) (fine-looks (rootOf p) f)
+    go over x = body-over (eqb (r .order .root) active)
+    go (raising n) x = ended-fine (after (r .log) (bodyRaised n (rootOf p) (r .order))) (fine-raised (rootOf p) n x f)
+    go leaving x = ended-fine r f
+    go undone x = ended-fine (after (r .log) (undoOver (rootOf p) (r .order))) (fine-undo-over (rootOf p) f)
+    go (undoRaising n) x = ended-fine (after (r .log) (undoRaised n (rootOf p) (r .order))) (fine-undo-raised (rootOf p) n f)
 
 -- An order within its limits that an activity acts in, or a raise in its place, stays so.
-acted-limits : (y : Actor) (p : Plan) (t : ℕ) (o : Order) → t < size (p .body) + size (p .fault) → roomPlan p t (closings o) ≡ true → orderInLimits o ≡ true
+acted-limits : (y : Actor) (p : Plan) (t : ℕ) (o : Order) → planWithin p ≡ true → t < size (p .body) + size (p .fault) → roomPlan p t (closings o) ≡ true → orderInLimits o ≡ true
     → orderInLimits (acted y p t o .order) ≡ true
 unfolding acted stepRoot roomIn
-acted-limits y p t o h e f =
+acted-limits y p t o w h e f =
+    limited-parts p w (λ v u.
     let z : 0 + size (p .body) ≡ size (p .body) = omega arith in
-    go (ltb t (size (p .body))) (ltb t (size (p .body) + size (p .fault))) (lt-ltb t (size (p .body) + size (p .fault)) h)
+    go v u (ltb t (size (p .body))) (ltb t (size (p .body) + size (p .fault))) (lt-ltb t (size (p .body) + size (p .fault)) h)
     (subst (λ (n : ℕ). _≡_ {A = Bool} (elim (ltb t n) [
       | true ↦ roomIn (p .body) 0 t (closings o)
       | false ↦ elim (ltb t (n + size (p .fault))) [ true ↦ roomIn (p .fault) n t (closings o) | false ↦ true ]
-    ]) true) z e)
+    ]) true) z e))
   where
     fine : Fine true 0 o
     fine = limits-fine o f
 
-    go : (a b : Bool) → b ≡ true
+    go : Limited (p .body) → Limited (p .fault) → (a b : Bool) → b ≡ true
         → _≡_ {A = Bool} (elim a [
           | true ↦ roomIn (p .body) 0 t (closings o)
           | false ↦ elim b [ true ↦ roomIn (p .fault) (size (p .body)) t (closings o) | false ↦ true ]
@@ -698,11 +711,11 @@ acted-limits y p t o h e f =
           | true ↦ fromBody (rootOf p) (stepIn y (p .body) 0 0 t o)
           | false ↦ fromFault (rootOf p) (stepIn y (p .fault) (size (p .body)) (size (p .body)) t o)
         ])
-    go true b q r = ended-body p (stepIn y (p .body) 0 0 t o) (fine-out fine (fine-step-in y (p .body) 0 0 t r (fine-in fine)))
-    go false true q r =
+    go v u true b q r = ended-body p (stepIn y (p .body) 0 0 t o) (number-step y (p .body) 0 0 t o v) (fine-out fine (fine-step-in y (p .body) 0 0 t v r (fine-in fine)))
+    go v u false true q r =
         ended-fine (fromFault (rootOf p) (stepIn y (p .fault) (size (p .body)) (size (p .body)) t o))
-        (fine-from-fault (rootOf p) (stepIn y (p .fault) (size (p .body)) (size (p .body)) t o) (fine-out fine (fine-step-in y (p .fault) (size (p .body)) (size (p .body)) t r (fine-in fine))))
-    go false false q r = absurd (let w : _≡_ {A = ℕ} 0 1 = cc in omega arith)
+        (fine-from-fault (rootOf p) (stepIn y (p .fault) (size (p .body)) (size (p .body)) t o) (fine-out fine (fine-step-in y (p .fault) (size (p .body)) (size (p .body)) t u r (fine-in fine))))
+    go v u false false q r = absurd (let w : _≡_ {A = ℕ} 0 1 = cc in omega arith)
 
 -- what is for the same thing as one before it closes nothing
 second-room : (before : List Ready) (d : Doing) (xs : List Closing) → isSecond before d ≡ true → roomOf d xs ≡ true
@@ -733,15 +746,15 @@ unfolding conflict
 conflict-room p o = clash-room p (closings o) [] (readyOf p o) (plan-ready p o)
 
 -- An order within its limits that is judged stays so.
-judged-limits : (n : ℕ) (p : Plan) (m : Moved) → orderInLimits (m .order) ≡ true → orderInLimits (judged n p m .order) ≡ true
+judged-limits : (n : ℕ) (p : Plan) (m : Moved) → planWithin p ≡ true → orderInLimits (m .order) ≡ true → orderInLimits (judged n p m .order) ≡ true
 unfolding judged
-judged-limits zero p m f = f
-judged-limits (suc n) p m f = go (λ m′ f′. judged-limits n p m′ f′) (m .end)
+judged-limits zero p m w f = f
+judged-limits (suc n) p m w f = go (λ m′ f′. judged-limits n p m′ w f′) (m .end)
   where
     on : ((m′ : Moved) → orderInLimits (m′ .order) ≡ true → orderInLimits (judged n p m′ .order) ≡ true) → (v : Verdict) → Roomed p (closings (m .order)) v
         → orderInLimits (upon (judged n p) p m v .order) ≡ true
     on g clear c = f
-    on g (clash k) c = g (following (m .log) (acted inPlace p k (m .order))) (acted-limits inPlace p k (m .order) (c .0) (c .1) f)
+    on g (clash k) c = g (following (m .log) (acted inPlace p k (m .order))) (acted-limits inPlace p k (m .order) w (c .0) (c .1) f)
 
     go : ((m′ : Moved) → orderInLimits (m′ .order) ≡ true → orderInLimits (judged n p m′ .order) ≡ true) → (e : End)
         → orderInLimits (elim e as (λ _. Moved) [ None ↦ upon (judged n p) p m (conflict p (m .order)) | Well ↦ m | Handled ↦ m | Failed ↦ m | Left ↦ m ] .order) ≡ true
@@ -752,10 +765,10 @@ judged-limits (suc n) p m f = go (λ m′ f′. judged-limits n p m′ f′) (m 
     go g Left = f
 
 -- A step of an order within its limits leaves it so.
-pub step-limits : (p : Plan) (t : ℕ) (o : Order) → t < size (p .body) + size (p .fault) → roomPlan p t (closings o) ≡ true → orderInLimits o ≡ true
+pub step-limits : (p : Plan) (t : ℕ) (o : Order) → planWithin p ≡ true → t < size (p .body) + size (p .fault) → roomPlan p t (closings o) ≡ true → orderInLimits o ≡ true
     → orderInLimits (stepOrder p t o .order) ≡ true
 unfolding stepOrder settled
-step-limits p t o h e f = judged-limits (spare p (acted itsOwn p t o .order)) p (acted itsOwn p t o) (acted-limits itsOwn p t o h e f)
+step-limits p t o w h e f = judged-limits (spare p (acted itsOwn p t o .order)) p (acted itsOwn p t o) w (acted-limits itsOwn p t o w h e f)
 
 -- an order as it starts, and one that takes its values
 pub start-limits : (p : Plan) → orderInLimits (startedOrder p) ≡ true
@@ -763,7 +776,7 @@ unfolding startedOrder begunOrder RootIs rootInLimits among
 start-limits p =
     let f = limits-fine noOrder none-limits in
     let s = small-begin (p .body) 0 (noOrder .marks) (f .marks) in
-    fine-limits {z = 0} (record { root = refl; marks = s; bound = f .bound; kept = f .kept })
+    fine-limits {z = 0} (record { root = refl; marks = s; bound = f .bound; kept = f .kept; cause = f .cause })
 
 pub bind-limits : (vs xs : List ℕ) (o : Order) → orderInLimits o ≡ true → orderInLimits (bindAll vs xs o) ≡ true
 unfolding bindAll

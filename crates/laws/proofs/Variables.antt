@@ -14,8 +14,8 @@ use Rattle.order.specs.declared.Way.the-variants.{Running as running, Over as o
 use Rattle.order.specs.declared.End.{End}
 use Rattle.order.specs.declared.End.the-variants.{None, Well, Handled, Failed, Left}
 use Rattle.order.specs.Event.{Event, faulted}
-use Rattle.order.specs.Expression.{Value, fault, value, evaluate, isTrue}
-use Rattle.order.specs.State.{idle, active, inside, done, faulty, undoing, handling, halted, withdrawing, Name, root, inner, withMarks, binding, closings, remembering, markAt, marked, markOf, marking, noOrder}
+use Rattle.order.specs.Expression.{unboundVariable, conflictingReceive, Value, fault, value, evaluate, isTrue}
+use Rattle.order.specs.State.{idle, active, inside, done, faulty, undoing, handling, halted, withdrawing, Name, root, inner, withMarks, binding, closings, remembering, markAt, marked, markOf, marking, causing, noOrder}
 use Rattle.order.specs.Begin.{Begun, begin, beginAfter, beginPart, partAt, cleared, quiet}
 use Rattle.order.specs.Scope.{Outcome, Scope, Stopped, runs, after, begunIn, scopeAt, rootOf, rememberedFor, forgetting, adds, closing, innerRuns, whereOver, startUndo, undo, ends, handle, undoes, turns, isOpen, untouched, withdraws, stop, stopAll, stopFirst, faults, breaks, looksAgain, bodyOver, bodyRaised, undoOver, undoRaised, fromBody, partOver, partRaised, fromFault, goesThrough, fromUndo}
 use Rattle.order.specs.Acting.{finishes, raises, orRaises, enters, again, repeats, allBound, itself, isPart, arms, goesOn, joins, inScope, combines, stepIn, stepAmong, stepRoot, endOf, Moved, movedTo, Actor, itsOwn, inPlace, replaces, performs, acted}
@@ -35,10 +35,10 @@ isRoot (inner k) = false
 unfoldable lasts : Way → Bool
 lasts running = true
 lasts over = false
-lasts raising = false
+lasts (raising n) = false
 lasts leaving = false
 lasts undone = true
-lasts undoRaising = true
+lasts (undoRaising n) = true
 
 -- The root's mark: where the root is what changes (b), it is live; else it is what it was (z).
 unfoldable RootIs : Bool → (was mark : ℕ) → Type 0
@@ -122,17 +122,17 @@ module _ {xs bs : List ℕ} {b : Bool} {z : ℕ} where
       go : (w : Way) → Out xs bs b z r → Out xs bs b z (g (r .order)) → Out xs bs b z (elim w [
         | running ↦ r
         | over ↦ after (r .log) (g (r .order))
-        | raising ↦ r
+        | raising n ↦ r
         | leaving ↦ r
         | undone ↦ r
-        | undoRaising ↦ r
+        | undoRaising n ↦ r
       ])
       go running x y = x
       go over x y = record { values = y .values; bound = y .bound; root = y .root }
-      go raising x y = x
+      go (raising n) x y = x
       go leaving x y = x
       go undone x y = x
-      go undoRaising x y = x
+      go (undoRaising n) x y = x
 
   as-where : (r : Outcome) (g : Order → Outcome) → As xs bs b z (r .order) → ((q : Order) → As xs bs b z q → As xs bs b z (g q .order)) → As xs bs b z (whereOver g r .order)
   as-where r g f h = go (r .result)
@@ -140,17 +140,17 @@ module _ {xs bs : List ℕ} {b : Bool} {z : ℕ} where
       go : (w : Way) → AsOutcome xs bs b z (elim w [
         | running ↦ r
         | over ↦ after (r .log) (g (r .order))
-        | raising ↦ r
+        | raising n ↦ r
         | leaving ↦ r
         | undone ↦ r
-        | undoRaising ↦ r
+        | undoRaising n ↦ r
       ])
       go running = f
       go over = h (r .order) f
-      go raising = f
+      go (raising n) = f
       go leaving = f
       go undone = f
-      go undoRaising = f
+      go (undoRaising n) = f
 
   -- of two outcomes one
   as-pick : (t : Bool) (x y : Outcome) → As xs bs b z (x .order) → As xs bs b z (y .order) → AsOutcome xs bs b z (elim t [ true ↦ x | false ↦ y ])
@@ -179,6 +179,11 @@ module _ {xs bs : List ℕ} {z : ℕ} where
   unfolding RootIs RootLoose
   marking-as root m h f = record { values = f .values; bound = f .bound; root = h }
   marking-as (inner k) m h f = record { values = f .values; bound = f .bound; root = f .root }
+
+  -- the number of its fault
+  causing-as : {b : Bool} {q : Order} (n : Name) (x : ℕ) → As xs bs b z q → As xs bs b z (causing n x q)
+  causing-as root x f = record { values = f .values; bound = f .bound; root = f .root }
+  causing-as (inner k) x f = f
 
   marking-loose : {q : Order} (n : Name) (m : ℕ) → Loose xs bs (isRoot n) z q → Loose xs bs (isRoot n) z (marking n m q)
   unfolding RootLoose
@@ -259,17 +264,17 @@ as-out {b = b} {z = z} {q = q} {r = r} f g = record { values = g .values; bound 
     go false x e = e ∙ x
 
 module _ {xs bs : List ℕ} {z : ℕ} (s : Scope) where
-  out-faults : (q : Order) → Loose xs bs (isRoot (s .name)) z q → Out xs bs (isRoot (s .name)) z (faults s q)
+  out-faults : (n : ℕ) (q : Order) → Loose xs bs (isRoot (s .name)) z q → Out xs bs (isRoot (s .name)) z (faults n s q)
   unfolding faults
-  out-faults q f =
-      let o = marking (s .name) faulty q in
-      let g : As xs bs (isRoot (s .name)) z o = marking-as (s .name) faulty refl f in
+  out-faults n q f =
+      let o = causing (s .name) n (marking (s .name) faulty q) in
+      let g : As xs bs (isRoot (s .name)) z o = causing-as (s .name) n (marking-as (s .name) faulty refl f) in
       let r = stop (s .body) (s .bodyAt) o in
-      out-after (faulted (s .name) ∷ r .log) (turns true s (r .order)) (out-turns s true (r .order) (as-out g (as-stop (s .body) (s .bodyAt) o (as-in g))))
+      out-after (faulted (s .name) n ∷ r .log) (turns true s (r .order)) (out-turns s true (r .order) (as-out g (as-stop (s .body) (s .bodyAt) o (as-in g))))
 
-  out-breaks : (q : Order) → Loose xs bs (isRoot (s .name)) z q → Out xs bs (isRoot (s .name)) z (breaks s q)
+  out-breaks : (n : ℕ) (q : Order) → Loose xs bs (isRoot (s .name)) z q → Out xs bs (isRoot (s .name)) z (breaks n s q)
   unfolding breaks lasts
-  out-breaks q f = over-out (breaks s q) refl (loose-marks _ (loose-forgetting s (marking-loose (s .name) idle f)))
+  out-breaks n q f = over-out (breaks n s q) refl (loose-marks _ (loose-forgetting s (marking-loose (s .name) idle f)))
 
   out-looks : (q : Order) → As xs bs (isRoot (s .name)) z q → Out xs bs (isRoot (s .name)) z (looksAgain s q)
   unfolding looksAgain
@@ -283,9 +288,9 @@ module _ {xs bs : List ℕ} {z : ℕ} (s : Scope) where
       out-pick (eqb (markOf (s .name) q) active) (runs (marking (s .name) done q)) (looksAgain s q)
       (λ e. out (runs (marking (s .name) done q)) (marking-as (s .name) done refl (loosely f))) (λ e. out-looks q f)
 
-  out-body-raised : (q : Order) → As xs bs (isRoot (s .name)) z q → Out xs bs (isRoot (s .name)) z (bodyRaised s q)
+  out-body-raised : (n : ℕ) (q : Order) → As xs bs (isRoot (s .name)) z q → Out xs bs (isRoot (s .name)) z (bodyRaised n s q)
   unfolding bodyRaised
-  out-body-raised q f = out-pick (isOpen (markOf (s .name) q)) (faults s q) (looksAgain s q) (λ e. out-faults q (loosely f)) (λ e. out-looks q f)
+  out-body-raised n q f = out-pick (isOpen (markOf (s .name) q)) (faults n s q) (looksAgain s q) (λ e. out-faults n q (loosely f)) (λ e. out-looks q f)
 
   out-undo-over : (q : Order) → As xs bs (isRoot (s .name)) z q → Out xs bs (isRoot (s .name)) z (undoOver s q)
   unfolding undoOver
@@ -293,18 +298,18 @@ module _ {xs bs : List ℕ} {z : ℕ} (s : Scope) where
       out-pick (eqb (markOf (s .name) q) undoing) (undoes true s q) (elim (eqb (markOf (s .name) q) withdrawing) [ true ↦ undoes false s q | false ↦ runs q ]) (λ e. out-undoes s true q (loosely f))
       (λ e. out-pick (eqb (markOf (s .name) q) withdrawing) (undoes false s q) (runs q) (λ d. out-undoes s false q (loosely f)) (λ d. out (runs q) f))
 
-  out-undo-raised : (q : Order) → As xs bs (isRoot (s .name)) z q → Out xs bs (isRoot (s .name)) z (undoRaised s q)
+  out-undo-raised : (n : ℕ) (q : Order) → As xs bs (isRoot (s .name)) z q → Out xs bs (isRoot (s .name)) z (undoRaised n s q)
   unfolding undoRaised
-  out-undo-raised q f =
-      out-pick (eqb (markOf (s .name) q) undoing || eqb (markOf (s .name) q) withdrawing) (breaks s q) (runs q) (λ e. out-breaks q (loosely f)) (λ e. out (runs q) f)
+  out-undo-raised n q f =
+      out-pick (eqb (markOf (s .name) q) undoing || eqb (markOf (s .name) q) withdrawing) (breaks n s q) (runs q) (λ e. out-breaks n q (loosely f)) (λ e. out (runs q) f)
 
   out-part-over : (q : Order) → As xs bs (isRoot (s .name)) z q → Out xs bs (isRoot (s .name)) z (partOver s q)
   unfolding partOver
   out-part-over q f = out-pick (eqb (markOf (s .name) q) handling) (ends s q) (runs q) (λ e. out-ends s q (loosely f)) (λ e. out (runs q) f)
 
-  out-part-raised : (q : Order) → As xs bs (isRoot (s .name)) z q → Out xs bs (isRoot (s .name)) z (partRaised s q)
+  out-part-raised : (n : ℕ) (q : Order) → As xs bs (isRoot (s .name)) z q → Out xs bs (isRoot (s .name)) z (partRaised n s q)
   unfolding partRaised
-  out-part-raised q f = out-pick (eqb (markOf (s .name) q) handling) (breaks s q) (runs q) (λ e. out-breaks q (loosely f)) (λ e. out (runs q) f)
+  out-part-raised n q f = out-pick (eqb (markOf (s .name) q) handling) (breaks n s q) (runs q) (λ e. out-breaks n q (loosely f)) (λ e. out (runs q) f)
 
   out-from-body : (r : Outcome) → As xs bs (isRoot (s .name)) z (r .order) → Out xs bs (isRoot (s .name)) z (fromBody s r)
   unfolding fromBody
@@ -313,17 +318,17 @@ module _ {xs bs : List ℕ} {z : ℕ} (s : Scope) where
       go : (w : Way) → Out xs bs (isRoot (s .name)) z (elim w [
         | running ↦ after (r .log) (looksAgain s (r .order))
         | over ↦ after (r .log) (bodyOver s (r .order))
-        | raising ↦ after (r .log) (bodyRaised s (r .order))
+        | raising n ↦ after (r .log) (bodyRaised n s (r .order))
         | leaving ↦ r
         | undone ↦ after (r .log) (undoOver s (r .order))
-        | undoRaising ↦ after (r .log) (undoRaised s (r .order))
+        | undoRaising n ↦ after (r .log) (undoRaised n s (r .order))
       ])
       go running = out-after (r .log) _ (out-looks (r .order) f)
       go over = out-after (r .log) _ (out-body-over (r .order) f)
-      go raising = out-after (r .log) _ (out-body-raised (r .order) f)
+      go (raising n) = out-after (r .log) _ (out-body-raised n (r .order) f)
       go leaving = out r f
       go undone = out-after (r .log) _ (out-undo-over (r .order) f)
-      go undoRaising = out-after (r .log) _ (out-undo-raised (r .order) f)
+      go (undoRaising n) = out-after (r .log) _ (out-undo-raised n (r .order) f)
 
   out-from-fault : (r : Outcome) → As xs bs (isRoot (s .name)) z (r .order) → Out xs bs (isRoot (s .name)) z (fromFault s r)
   unfolding fromFault
@@ -332,17 +337,17 @@ module _ {xs bs : List ℕ} {z : ℕ} (s : Scope) where
       go : (w : Way) → Out xs bs (isRoot (s .name)) z (elim w [
         | running ↦ r
         | over ↦ after (r .log) (partOver s (r .order))
-        | raising ↦ after (r .log) (partRaised s (r .order))
+        | raising n ↦ after (r .log) (partRaised n s (r .order))
         | leaving ↦ r
         | undone ↦ record { result = running; order = r .order; log = r .log }
-        | undoRaising ↦ record { result = running; order = r .order; log = r .log }
+        | undoRaising n ↦ record { result = running; order = r .order; log = r .log }
       ])
       go running = out r f
       go over = out-after (r .log) _ (out-part-over (r .order) f)
-      go raising = out-after (r .log) _ (out-part-raised (r .order) f)
+      go (raising n) = out-after (r .log) _ (out-part-raised n (r .order) f)
       go leaving = out r f
       go undone = out (record { result = running; order = r .order; log = r .log }) f
-      go undoRaising = out (record { result = running; order = r .order; log = r .log }) f
+      go (undoRaising n) = out (record { result = running; order = r .order; log = r .log }) f
 
 -- What a set does: the order with its variable bound, where its expression comes to a value.
 unfoldable pub setBy : Own → Order → Order
@@ -350,7 +355,7 @@ setBy empty o = o
 setBy (send p q vs) o = o
 setBy (receive p q vs) o = o
 setBy (setting v e) o = setTo v (evaluate e o) o
-setBy raise o = o
+setBy (raise number) o = o
 setBy leave o = o
 setBy (choose e) o = o
 setBy (repeat e) o = o
@@ -383,9 +388,9 @@ set-alike (receive a b vs) o q f = f
 set-alike (setting v e) o q f = rw (evaluate-alike e o q f) (go (evaluate e o))
   where
     go : (x : Value) → Alike (setTo v x o) (setTo v x q)
-    go fault = f
+    go (fault n) = f
     go (value n) = record { values = rw (f .values); bound = rw (f .bound); root = f .root }
-set-alike raise o q f = f
+set-alike (raise number) o q f = f
 set-alike leave o q f = f
 set-alike (choose e) o q f = f
 set-alike (repeat e) o q f = f
@@ -397,7 +402,7 @@ set-alike (arm a b vs) o q f = f
 
 -- the step that an activity has by itself
 alike-or : (o : Order) (k : ℕ) (g : ℕ → Outcome) (v : Value) → ((n : ℕ) → Alike o (g n .order)) → Alike o (orRaises k o g v .order)
-alike-or o k g fault h = as-marks _ (alike o)
+alike-or o k g (fault n) h = as-marks _ (alike o)
 alike-or o k g (value n) h = h n
 
 alike-enters : (o : Order) (k : ℕ) (b : Begun) → Alike o (enters k o b .order)
@@ -416,14 +421,15 @@ alike-cond o false x y f g = g
 alike-itself : (own : Own) (l : Acts) (c k : ℕ) (o : Order) → Alike (setBy own o) (itself own l c k o .order)
 unfolding itself setBy closing forgetting
 alike-itself empty l c k o = alike o
-alike-itself (send p q vs) l c k o = alike-cond o (allBound o vs) (finishes k o) (raises k o) (as-marks _ (alike o)) (as-marks _ (alike o))
+alike-itself (send p q vs) l c k o = alike-cond o (allBound o vs) (finishes k o) (raises unboundVariable k o) (as-marks _ (alike o)) (as-marks _ (alike o))
 alike-itself (receive p q vs) l c k o = as-marks _ (alike o)
 alike-itself (setting v e) l c k o = go (evaluate e o)
   where
     go : (x : Value) → Alike (setTo v x o) (orRaises k o (λ n. finishes k (binding v n o)) x .order)
-    go fault = as-marks _ (alike o)
+    go (fault n) = as-marks _ (alike o)
     go (value n) = as-marks _ (alike (binding v n o))
-alike-itself raise l c k o = as-marks _ (alike o)
+alike-itself (raise zero) l c k o = as-marks _ (alike o)
+alike-itself (raise (suc number)) l c k o = as-marks _ (alike o)
 alike-itself leave l c k o = as-marks _ (alike o)
 alike-itself (choose e) l c k o =
     alike-or o k (λ n. enters k o (beginPart (cond (isTrue n) 0 1) l (k + 1) (marked k inside o .marks))) (evaluate e o)
@@ -462,7 +468,7 @@ module _ {xs bs : List ℕ} {z : ℕ} where
   as-combines (send p q vs) l k t r f = f
   as-combines (receive p q vs) l k t r f = f
   as-combines (setting v e) l k t r f = f
-  as-combines raise l k t r f = f
+  as-combines (raise number) l k t r f = f
   as-combines leave l k t r f = f
   as-combines (choose e) l k t r f = as-goes k inside (finishes k) r f (λ q g. as-marks _ g)
   as-combines (repeat e) l k t r f = as-goes k inside (again k) r f (λ q g. as-marks _ g)
@@ -497,7 +503,8 @@ replaced-set y (send p q vs) o h = refl
 replaced-set y (receive p q vs) o h = refl
 replaced-set itsOwn (setting v e) o h = absurd (false≢true h)
 replaced-set inPlace (setting v e) o h = absurd (false≢true h)
-replaced-set y raise o h = refl
+replaced-set y (raise zero) o h = refl
+replaced-set y (raise (suc number)) o h = refl
 replaced-set y leave o h = refl
 replaced-set y (choose e) o h = refl
 replaced-set y (repeat e) o h = refl
@@ -512,7 +519,7 @@ alike-performs : (y : Actor) (own : Own) (l : Acts) (c k : ℕ) (o : Order) → 
 unfolding performs
 alike-performs y own l c k o = go (replaces y (kind own)) refl
   where
-    go : (b : Bool) → replaces y (kind own) ≡ b → AlikeOutcome (setBy own o) (elim b [ true ↦ raises k o | false ↦ itself own l c k o ])
+    go : (b : Bool) → replaces y (kind own) ≡ b → AlikeOutcome (setBy own o) (elim b [ true ↦ raises conflictingReceive k o | false ↦ itself own l c k o ])
     go true e = subst (λ (q : Order). Alike q (marked k idle o)) (sym (replaced-set y own o e)) (as-marks _ (alike o))
     go false e = alike-itself own l c k o
 
@@ -575,17 +582,17 @@ moved-goes o z r f = go (r .result) (f .root)
     go : (w : Way) → RootOut true z w (r .order .root) → (let e : End = elim w [
       | running ↦ cond (eqb (r .order .root) done) Well None
       | over ↦ Handled
-      | raising ↦ Failed
+      | raising n ↦ Failed
       | leaving ↦ Left
       | undone ↦ None
-      | undoRaising ↦ None
+      | undoRaising n ↦ None
     ] in Goes (movedTo r e .end) o (movedTo r e .order))
     go running h = root-done (eqb (r .order .root) done) (h refl)
     go over h = refl
-    go raising h = refl
+    go (raising n) h = refl
     go leaving h = refl
     go undone h = (f .values, f .bound, h refl)
-    go undoRaising h = (f .values, f .bound, h refl)
+    go (undoRaising n) h = (f .values, f .bound, h refl)
 
 set-live : (own : Own) (o : Order) → setBy own o .root ≡ o .root
 unfolding setBy
@@ -595,9 +602,10 @@ set-live (receive p q vs) o = refl
 set-live (setting v e) o = go (evaluate e o)
   where
     go : (x : Value) → setTo v x o .root ≡ o .root
-    go fault = refl
+    go (fault n) = refl
     go (value n) = refl
-set-live raise o = refl
+set-live (raise zero) o = refl
+set-live (raise (suc number)) o = refl
 set-live leave o = refl
 set-live (choose e) o = refl
 set-live (repeat e) o = refl
@@ -688,7 +696,8 @@ taking-sets (act empty l) k o h = refl
 taking-sets (act (send p q vs) l) k o h = refl
 taking-sets (act (receive p q vs) l) k o h = refl
 taking-sets (act (setting v e) l) k o h = absurd (false≢true h)
-taking-sets (act raise l) k o h = refl
+taking-sets (act (raise zero) l) k o h = refl
+taking-sets (act (raise (suc number)) l) k o h = refl
 taking-sets (act leave l) k o h = refl
 taking-sets (act (choose e) l) k o h = refl
 taking-sets (act (repeat e) l) k o h = refl

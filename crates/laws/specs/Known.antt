@@ -12,7 +12,7 @@ use Rattle.plan.specs.Tree.{Exp, constant, variable, binary, Own, empty, send, 
 use Rattle.order.specs.declared.Order.{Order}
 use Rattle.order.specs.declared.End.{End}
 use Rattle.order.specs.declared.End.the-variants.{None, Well, Handled, Failed, Left}
-use Rattle.order.specs.Expression.{Value, fault, value, both, evaluate}
+use Rattle.order.specs.Expression.{unboundVariable, Value, fault, value, both, evaluate}
 use Rattle.order.specs.State.{isLive, isBound, valueOf, binding, noOrder}
 use Rattle.order.specs.Taking.{actAt, bindAll}
 use Rattle.machine.specs.declared.State.{State}
@@ -50,7 +50,7 @@ takeGives (v ∷ vs) xs l = takeGives vs (drop 1 xs) (record { variable = v; val
 
 -- what an expression comes to where this was given; "an unbound variable makes its step act as a raise"
 abbrev pub toValue : Known → Value
-toValue unknown = fault
+toValue unknown = fault unboundVariable
 toValue (known n) = value n
 
 unfoldable pub worth : Exp → List Given → Value
@@ -60,7 +60,7 @@ worth (binary op x y) l = both op (worth x l) (worth y l)
 
 -- a set gives its variable the value of its expression; one that faults gives nothing
 abbrev pub setGives : (variable : ℕ) → Value → List Given → List Given
-setGives v fault l = l
+setGives v (fault x) l = l
 setGives v (value n) l = record { variable = v; value = n } ∷ l
 
 -- what the step of an activity or arm gives: a receive and an arm give what their message has, a set its value, any other nothing
@@ -69,7 +69,7 @@ ownGives empty xs l = l
 ownGives (send p q vs) xs l = l
 ownGives (receive p q vs) xs l = takeGives vs xs l
 ownGives (setting v e) xs l = setGives v (worth e l) l
-ownGives raise xs l = l
+ownGives (raise n) xs l = l
 ownGives leave xs l = l
 ownGives (choose e) xs l = l
 ownGives (repeat e) xs l = l
@@ -167,7 +167,7 @@ TakenAsKnown =
 -- LettersMove): a take binds those of its receive or arm to what the message has at their places, a set its variable to what its expression comes to, unless
 -- that faults, and no other step changes any; an order that ends leaves its slot with no order.
 abbrev pub setTo : (variable : ℕ) → Value → Order → Order
-setTo v fault o = o
+setTo v (fault x) o = o
 setTo v (value n) o = binding v n o
 
 unfoldable pub variablesAfter : Own → (values : List ℕ) → Order → Order
@@ -175,7 +175,7 @@ variablesAfter empty xs o = o
 variablesAfter (send p q vs) xs o = o
 variablesAfter (receive p q vs) xs o = bindAll vs xs o
 variablesAfter (setting v e) xs o = setTo v (evaluate e o) o
-variablesAfter raise xs o = o
+variablesAfter (raise n) xs o = o
 variablesAfter leave xs o = o
 variablesAfter (choose e) xs o = o
 variablesAfter (repeat e) xs o = o

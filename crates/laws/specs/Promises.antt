@@ -29,7 +29,7 @@ use Rattle.laws.specs.Good.{actor}
 unfoldable pub OfferedIsTaken : Type 0
 OfferedIsTaken =
     (p : Plan) (next : ℕ) (s : State) (t : Tally) (c : ℕ) → planIn s ≡ found p next → c < length (offersOf p s .offered)
-    → step c s t .answer ≡ answering (getD (offersOf p s .offered) c (offering 0 0 0)) (step c s t .answer .end)
+    → step c s t .answer ≡ answering (getD (offersOf p s .offered) c (offering 0 0 0)) (step c s t .answer .end) (step c s t .answer .fault)
 
 unfoldable pub TakenIsOffered : Type 0
 TakenIsOffered =

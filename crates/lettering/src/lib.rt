@@ -10,6 +10,7 @@ use plan::kind;
 use plan::table::COUNT;
 use plan::table::EXPRESSION;
 use plan::table::KIND;
+use plan::table::NUMBER;
 use plan::table::OPERATION;
 use plan::table::PARTNER;
 use plan::table::Table;
@@ -206,6 +207,12 @@ fn put_set(out: &mut [u8; 65536], used: usize, table: &Table, n: usize) -> usize
     put_with_expression(out, named, b" to ", table, n)
 }
 
+// A raise with its number.
+fn put_raise(out: &mut [u8; 65536], used: usize, table: &Table, n: usize) -> usize {
+    let at = put(out, used, b"raise ");
+    put_number(out, at, entry(table, n, NUMBER))
+}
+
 // Activity or arm n in words.
 fn put_activity(
     out: &mut [u8; 65536],
@@ -221,6 +228,7 @@ fn put_activity(
         kind::RECEIVE => put_exchange(out, used, b"receive from partner ", table, correlation, n),
         kind::SET => put_set(out, used, table, n),
         kind::RAISE => put(out, used, b"raise"),
+        kind::NUMBERED_RAISE => put_raise(out, used, table, n),
         kind::LEAVE => put(out, used, b"leave"),
         kind::CHOOSE => put_with_expression(out, used, b"choose by ", table, n),
         kind::REPEAT => put_with_expression(out, used, b"repeat while ", table, n),

@@ -30,7 +30,7 @@ use Rattle.listing.specs.declared.Listed.{Listed}
 
 -- an offer as one number: the step that it is, not taken
 abbrev pub offerNumber : Offer → ℕ
-offerNumber x = stepNumber (answering x None)
+offerNumber x = stepNumber (answering x None 0)
 
 -- THE WINDOW, as a caller has it: the offers from the choice `first` on, as numbers, one after the other from the front of the buffer, as far as there is
 -- room; with a state that earns 17 the buffer stays as it is

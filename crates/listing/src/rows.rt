@@ -32,6 +32,7 @@ pub(crate) fn pointer_number(p: Pointer) -> u64
         activity: p.activity,
         place: p.place,
         end: End::None,
+        fault: 0,
     })
 }
 

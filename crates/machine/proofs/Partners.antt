@@ -15,7 +15,7 @@ use Rattle.plan.specs.Read.{readPlan, startForm}
 use Rattle.plan.specs.Spell.{spelling, operationCode}
 use Rattle.plan.specs.Store.{store}
 use Rattle.plan.specs.Table.{row, rowOf, noted, putRow, nodesOf, putNode, putNodes, putOwnNodes, putOwn, putClose, put, putAll, blankTable, bodyPlace, tableOver, tableOf}
-use Rattle.plan.specs.Tree.{Exp, constant, variable, binary, Own, empty, send, receive, set, raise, leave, choose, repeat, sequence, flow, pick, scope, arm, Act, act, Acts, none, more, Plan, size, sizes}
+use Rattle.plan.specs.Tree.{Exp, constant, variable, binary, Own, empty, send, receive, set, raise, leave, choose, repeat, sequence, flow, pick, scope, arm, kind, Act, act, Acts, none, more, Plan, size, sizes}
 use Rattle.plan.specs.Within.{from1, ascending, actWithin, planWithin}
 use Rattle.plan.proofs.Accepts.{both, among-append}
 use Rattle.plan.proofs.Kept.{But, store-but}
@@ -94,14 +94,15 @@ module _ (q : ℕ) (small : q < 64) where
 
   module _ (l : Acts) (at n m : ℕ) (t : List ℕ) (long : length t ≡ 11584) (h : n < 256) where
     own-flag : (own : Own) → Flag q (partnerOf (doingOf own l 0)) t (putOwn own at n m t)
-    unfolding putOwn putRow rowOf noted putOwnNodes partnerOf doingOf
+    unfolding putOwn putRow rowOf kind noted putOwnNodes partnerOf doingOf
     own-flag empty = row-flag _ n t (omega arith) h
     own-flag (send p o vs) = row-flag _ n t (omega arith) h
     own-flag (receive p o vs) =
         let a = row-flag (row 2 p o vs 0 0 at) n t (omega arith) h in
         flag-then a (partner-flag p _ (a .long ∙ long))
     own-flag (set v x) = flag-then (nodes-flag x m t) (row-flag _ n _ (omega arith) h)
-    own-flag raise = row-flag _ n t (omega arith) h
+    own-flag (raise zero) = row-flag _ n t (omega arith) h
+    own-flag (raise (suc number)) = row-flag _ n t (omega arith) h
     own-flag leave = row-flag _ n t (omega arith) h
     own-flag (choose x) = flag-then (nodes-flag x m t) (row-flag _ n _ (omega arith) h)
     own-flag (repeat x) = flag-then (nodes-flag x m t) (row-flag _ n _ (omega arith) h)

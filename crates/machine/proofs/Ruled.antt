@@ -13,6 +13,7 @@ use Rattle.plan.specs.Found.{among}
 use Rattle.machine.specs.declared.Message.{Message}
 use Rattle.order.specs.declared.Order.{Order}
 use Rattle.machine.specs.declared.State.{State}
+use Rattle.order.specs.Expression.{isFaultNumber}
 use Rattle.order.specs.Lists.{every}
 use Rattle.order.specs.State.{idle, active, faulty, undoing, handling, withdrawing}
 use Rattle.machine.specs.State.{letters}
@@ -168,6 +169,19 @@ module _ (m : Message) {r : Bool} (e : r ≡ exchanged (m .partner) (m .operatio
   unfolding messageInLimits
   message-not t = rw (sym e ∙ t)
 
+-- `fault_ruled`
+pub fault-own : (n : ℕ) → n ≤ 4 → true ≡ isFaultNumber n
+unfolding isFaultNumber
+fault-own n h = rw (le-leb n 4 h)
+
+pub fault-given : (n : ℕ) → n < 256 → 4 < n → leb 16 n ≡ isFaultNumber n
+unfolding isFaultNumber
+fault-given n l h = rw (lt-leb n 4 h, le-leb n 255 (omega arith)) (sym (alone (leb 16 n)))
+  where
+    alone : (x : Bool) → (x && true) ≡ x
+    alone true = refl
+    alone false = refl
+
 -- `order_ruled`
 module _ (o : Order) {a : Bool} (ea : a ≡ rootInLimits (o .root)) where
   pub order-root : not a ≡ true → false ≡ orderInLimits o
@@ -184,9 +198,14 @@ module _ (o : Order) {a : Bool} (ea : a ≡ rootInLimits (o .root)) where
       unfolding orderInLimits
       order-bound t = rw (sym ea ∙ not-false a ta, sym eb ∙ not-false b tb, sym ec ∙ not-true c t)
 
-      pub order-kept : not c ≡ false → leb (o .kept) 32 ≡ orderInLimits o
-      unfolding orderInLimits
-      order-kept t = rw (sym ea ∙ not-false a ta, sym eb ∙ not-false b tb, sym ec ∙ not-false c t)
+      module _ (tc : not c ≡ false) where
+        pub order-kept : 32 < o .kept → false ≡ orderInLimits o
+        unfolding orderInLimits
+        order-kept h = rw (sym ea ∙ not-false a ta, sym eb ∙ not-false b tb, sym ec ∙ not-false c tc, lt-leb _ _ h)
+
+        pub order-cause : {d : Bool} → o .kept ≤ 32 → d ≡ isFaultNumber (o .cause) → d ≡ orderInLimits o
+        unfolding orderInLimits
+        order-cause h e = rw (sym ea ∙ not-false a ta, sym eb ∙ not-false b tb, sym ec ∙ not-false c tc, le-leb _ _ h) e
 
 -- `messages_ruled`
 module _ {f : Message → Bool} (l : List Message) (n : ℕ) where

@@ -100,10 +100,10 @@ dropAt i s = by (record { refusal = 17; message = noMessage; state = s }) (λ p.
 
 -- a step's answer where it is refused; where an offer is shown
 abbrev pub refusing : ℕ → Step
-refusing n = record { refusal = n; slot = 0; activity = 0; place = 0; end = None }
+refusing n = record { refusal = n; slot = 0; activity = 0; place = 0; end = None; fault = 0 }
 
-abbrev pub answering : Offer → End → Step
-answering x e = record { refusal = 0; slot = x .slot; activity = x .activity; place = x .place; end = e }
+abbrev pub answering : Offer → End → (fault : ℕ) → Step
+answering x e n = record { refusal = 0; slot = x .slot; activity = x .activity; place = x .place; end = e; fault = n }
 
 -- document 01's number for an end: 0 where there is none, then "one of well, handled, failed or left"
 unfoldable pub endNumber : End → ℕ
@@ -131,7 +131,7 @@ choosing a c = nth (cond (empties (a .offered)) (cond (a .held) 11 10) 12) (a .o
 -- The offer shown without taking it.
 abbrev pub previewed : Chosen → Step
 previewed (refusedChoice n) = refusing n
-previewed (chosen x) = answering x None
+previewed (chosen x) = answering x None 0
 
 unfoldable pub previewBy : Plan → (choice : ℕ) → State → Step
 previewBy p c s = previewed (choosing (offersOf p s) c)
@@ -206,7 +206,7 @@ stepped p x s t o l =
     let step = doingAt p (x .activity) in
     let m = stepOrder p (x .activity) (orderTaking step (getD (s .messages) (x .place) noMessage) o) in
     record {
-      answer = answering x (m .end);
+      answer = answering x (m .end) (m .fault);
       state = withOrder (x .slot) (m .order) (messagesAfter step (x .place) o s);
       tally = countEnd (m .end) t;
       log = l ++ m .log;

@@ -33,13 +33,15 @@ pub struct State {
     pub waiting: usize,
 }
 
-// What a step answers: where `refusal` is 0, the slot, the activity and the message place (0 where none) of the step taken, and the end.
+// What a step answers: where `refusal` is 0, the slot, the activity and the message place (0 where none) of the step taken, and the end; where that is
+// handled or failed, the number of the fault that the root handled, or that went out of the root, and 0 where not.
 pub struct Step {
     pub refusal: u32,
     pub slot: usize,
     pub activity: usize,
     pub place: usize,
     pub end: End,
+    pub fault: u8,
 }
 
 // What loading bytes gives: the refusal and its place, or 0 and 0, and the state.

@@ -12,6 +12,7 @@ ghost use mathlib.Core.Bool.{_&&_};
 ghost use mathlib.Core.Path.{_≡_};
 ghost use Rattle.plan.specs.Answers.{answerOf, tableInto, flagsFor};
 ghost use Rattle.plan.specs.Read.{readPlan};
+ghost use Rattle.order.specs.Expression.{isFaultNumber};
 ghost use Rattle.order.specs.Lists.{every};
 ghost use Rattle.machine.specs.Limits.{exchanged, messageInLimits, rootInLimits, orderInLimits, inLimits, planIn};
 
@@ -92,6 +93,16 @@ fn at_most(s: &[u8], most: u8) -> bool
     largest <= most
 }
 
+// The number of a fault: 0 to 4, and 16 and beyond.
+fn fault_ruled(number: u8) -> bool
+    ensures { λ r. ⌜ r ≡ isFaultNumber number ⌝ }
+{
+    if number <= 4 {
+        return true;
+    }
+    16 <= number
+}
+
 // An order.
 fn order_ruled(o: Order) -> bool
     ensures { λ r. ⌜ r ≡ orderInLimits o ⌝ }
@@ -105,7 +116,10 @@ fn order_ruled(o: Order) -> bool
     if !at_most(&o.bound, 1) {
         return false;
     }
-    o.kept <= 32
+    if 32 < o.kept {
+        return false;
+    }
+    fault_ruled(o.cause)
 }
 
 // The orders, live or not.

@@ -23,6 +23,7 @@ pub fn no_order() -> Order
         bound: [0u8; 16],
         remembered,
         kept: 0,
+        cause: 0,
     }
 }
 

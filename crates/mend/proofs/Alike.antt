@@ -18,7 +18,7 @@ use Rattle.numbers.proofs.Laws.{shortest-is-read, shortest-long}
 use Rattle.plan.specs.Found.{Found, refused, found, andThen, foundNumber, numberIn, fieldIn, among}
 use Rattle.plan.specs.Spell.{spell}
 use Rattle.plan.specs.Tree.{Exp, Own, send, receive, set, choose, repeat, sequence, flow, pick, arm, isPick, Act, Plan, size}
-use Rattle.plan.specs.Read.{expressionCodeIn, operationOf, leafIn, expressionIn, variablesIn, tupleIn, Head, head, exchangeIn, armIn, partnerIn, withExpressionIn, setIn, listIn, codeIn, partsIn, headIn, manyIn, wholeIn, readArm, readsIn, laterOf, readAct, startForm, correlationIn, versionIn, closing, rootIn, readAny}
+use Rattle.plan.specs.Read.{expressionCodeIn, operationOf, leafIn, expressionIn, variablesIn, tupleIn, Head, head, exchangeIn, armIn, partnerIn, withExpressionIn, setIn, listIn, raiseIn, codeIn, partsIn, headIn, manyIn, wholeIn, readArm, readsIn, laterOf, readAct, startForm, correlationIn, versionIn, closing, rootIn, readAny}
 use Rattle.mend.specs.Padded.{groupsAt, paddedAt, numbersFrom, numbersOf, shortened, placeFrom, placeOf, lastPlace, noNumber, original, readPadded}
 use Rattle.mend.proofs.PaddedLaws.{next-below, padded-bounds, padded-end}
 use Rattle.mend.proofs.RunReturns.{None, short, bad, none-as, end-none, numbers-none, spell-some, place-none, place-there, place-further, Left, left-over}
@@ -241,11 +241,15 @@ module _ (o : List ℕ) where
   unfolding listIn
   list own limit r = goes-then (field 1 limit r) (λ count next p m. same m)
 
+  in-raise : {at q : ℕ} → Stands o at q → Goes o (raiseIn o at) (raiseIn (shortened o) q)
+  unfolding raiseIn
+  in-raise r = goes-then (field 16 256 r) (λ n next p m. same m)
+
   code : (handler : Bool) (depth n : ℕ) {at q : ℕ} → Stands o at q → Goes o (codeIn o handler depth n at) (codeIn (shortened o) handler depth n q)
   unfolding codeIn
   code handler depth n r =
       goes-then (number r) (λ c next p m.
-      goes-cond (ltb 12 c) (kept refl refl r)
+      goes-cond (ltb 13 c) (kept refl refl r)
       (goes-cond (handler && (eqb c 11 || eqb c 12)) (kept refl refl r)
       (goes-cond (eqb depth 0 || leb 256 n) (kept refl refl r) (same m))))
 
@@ -264,7 +268,8 @@ module _ (o : List ℕ) where
       (goes-cond (eqb c 9) (list flow 33 r)
       (goes-cond (eqb c 10) (list pick 9 r)
       (goes-cond (eqb c 11) (same r)
-      (same r))))))))))))
+      (goes-cond (eqb c 12) (same r)
+      (in-raise r)))))))))))))
 
   in-head : (vars : ℕ) (cs : List ℕ) (handler : Bool) (depth n : ℕ) {at q : ℕ} → Stands o at q
       → Goes o (headIn vars cs o handler depth n at) (headIn vars cs (shortened o) handler depth n q)

@@ -135,7 +135,7 @@ own-within (send p o vs) within at m = no-one m
 own-within (receive p o vs) within at m =
     only-one (λ x. Within (2 ∷ p ∷ o ∷ length vs ∷ vs) at (x .place)) _ (record { before = 2 ∷ p ∷ o ∷ []; after = length vs ∷ vs; is = refl; place = refl }) m
 own-within (set v e) within at m = no-one m
-own-within raise within at m = no-one m
+own-within (raise n) within at m = no-one m
 own-within leave within at m = no-one m
 own-within (choose e) within at m = no-one m
 own-within (repeat e) within at m = no-one m

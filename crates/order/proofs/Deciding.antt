@@ -27,10 +27,10 @@ where-over f r e = go (r .result) (r .order) (r .log) e
     go : (w : Way) (o : Order) (g : List Event) → isOver w ≡ true → went (whereOver f (record { result = w; order = o; log = g })) ≡ went (f o)
     go Running o g e = absurd (false≢true e)
     go Over o g e = refl
-    go Raising o g e = absurd (false≢true e)
+    go (Raising n) o g e = absurd (false≢true e)
     go Leaving o g e = absurd (false≢true e)
     go Undone o g e = absurd (false≢true e)
-    go UndoRaising o g e = absurd (false≢true e)
+    go (UndoRaising n) o g e = absurd (false≢true e)
 
 pub where-not : (f : Order → Outcome) (r : Outcome) → isOver (r .result) ≡ false → went (whereOver f r) ≡ went r
 unfolding isOver
@@ -39,10 +39,10 @@ where-not f r e = go (r .result) (r .order) (r .log) e
     go : (w : Way) (o : Order) (g : List Event) → isOver w ≡ false → went (whereOver f (record { result = w; order = o; log = g })) ≡ record { way = w; order = o }
     go Running o g e = refl
     go Over o g e = absurd (false≢true (sym e))
-    go Raising o g e = refl
+    go (Raising n) o g e = refl
     go Leaving o g e = refl
     go Undone o g e = refl
-    go UndoRaising o g e = refl
+    go (UndoRaising n) o g e = refl
 
 -- what goes on where the outcome is over, by what the code knows of it
 module _ (f : Order → Outcome) (R : Outcome) {r : Went} (e : r ≡ went R) {v : Bool} (q : v ≡ isOver (r .way)) where

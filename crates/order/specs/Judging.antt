@@ -48,7 +48,7 @@ conflict p o = clashAfter [] (readyOf p o)
 
 -- what happened before comes first
 abbrev pub following : List Event → Moved → Moved
-following l m = record { end = m .end; order = m .order; log = l ++ m .log }
+following l m = record { end = m .end; fault = m .fault; order = m .order; log = l ++ m .log }
 
 -- "it also does what a raise standing in place of the higher-numbered of the two would do"
 abbrev pub upon : (Moved → Moved) → Plan → Moved → Verdict → Moved

@@ -1,5 +1,6 @@
 // One order: what it holds, what the rows of its plan say, how its marks and what it remembers change, and what expressions come to.
 pub mod evaluation;
+pub mod fault;
 pub mod inside;
 pub mod kind;
 pub mod mark;
@@ -9,7 +10,8 @@ pub mod rows;
 
 // An order. Where `root` is 0 the slot is free; else `root` is the mark of the root, which counts as a scope and has no number.
 // `marks` has the mark of each activity by its number. `bound` is 1 where the variable of that number is bound and 0 where it is not.
-// The first `kept` places of `remembered` are the closings, oldest first, and the places beyond hold 0.
+// The first `kept` places of `remembered` are the closings, oldest first, and the places beyond hold 0. `cause` is the number of the fault that the root
+// faulted with, 0 where it has not faulted.
 pub struct Order {
     pub root: u8,
     pub marks: [u8; 256],
@@ -17,6 +19,7 @@ pub struct Order {
     pub bound: [u8; 16],
     pub remembered: [Closing; 32],
     pub kept: usize,
+    pub cause: u8,
 }
 
 // A closing that is remembered: the number of the scope that closed, and the part that it is remembered for, by the number of that part's first
@@ -35,21 +38,21 @@ pub enum End {
     Left,
 }
 
-// What an expression comes to.
+// What an expression comes to: a fault with its number, or a value.
 pub enum Worth {
-    Fault,
+    Fault { number: u8 },
     Value { value: u32 },
 }
 
 // How what runs stands after a step in it: it runs on; it is over; a fault came out of it; the order leaves; and of what stands around an undo
-// part that is running, the undo part is over, or a fault came out of it.
+// part that is running, the undo part is over, or a fault came out of it. A fault has its number.
 pub enum Way {
     Running,
     Over,
-    Raising,
+    Raising { number: u8 },
     Leaving,
     Undone,
-    UndoRaising,
+    UndoRaising { number: u8 },
 }
 
 // An order after a step in part of it, and how that part stands.
@@ -74,9 +77,10 @@ pub struct Spot {
     pub fault: usize,
 }
 
-// An order after a step, and how it ended, if it did.
+// An order after a step, how it ended, if it did, and the number of the fault that the root handled, or that went out of the root, where it ended so.
 pub struct Next {
     pub end: End,
+    pub fault: u8,
     pub order: Order,
 }
 

@@ -205,7 +205,7 @@ fn filed(desk: Desk, file: u64, seen: u64) -> Desk {
 
 // The bytes of a file that the desk saves.
 fn put_desk(desk: Desk, names: &[u8; 4752], file: &mut [u8]) {
-    let mut packed = [0u8; 12476];
+    let mut packed = [0u8; 12492];
     let state = desk.state;
     let tally = desk.tally;
     store::pack(state, tally, &mut packed);
@@ -226,7 +226,7 @@ pub fn save(
     if drawing::is_lost(used) {
         return before;
     }
-    let mut bytes = [0u8; 17244];
+    let mut bytes = [0u8; 17260];
     put_desk(desk, names, &mut bytes);
     let e = saved(file, &bytes);
     filed(
@@ -336,17 +336,18 @@ fn put_changed(desk: Desk, number: u64, out: &mut [u8; 4096]) -> Desk {
 
 // The state that bytes hold, of whatever version.
 fn kept_in(bytes: &[u8]) -> Kept {
-    let mut packed = [0u8; 12476];
+    let mut packed = [0u8; 12492];
     boundary_state::moonhalyard_upgrade(bytes, &mut packed);
     store::unpack(&packed)
 }
 
-// The state that a file of the desk's own begins with.
-fn kept_whole(file: &[u8]) -> Kept {
-    if file.len() < 12476 {
-        return kept_in(file);
+// The state that bytes begin with, of whatever version.
+pub fn kept_front(bytes: &[u8]) -> Kept {
+    let end = sealed::state_size(bytes);
+    if bytes.len() < end {
+        return kept_in(bytes);
     }
-    kept_in(&file[..12476])
+    kept_in(&bytes[..end])
 }
 
 // The state and the names of a file that is whole.
@@ -358,7 +359,7 @@ fn taken_whole(
     names: &mut [u8; 4752],
     out: &mut [u8; 4096],
 ) -> Desk {
-    let kept = kept_whole(file);
+    let kept = kept_front(file);
     let d = taken(desk, kept, number, bytes, names, out);
     if d.said == 0 {
         sealed::take_names(file, names);
@@ -399,7 +400,7 @@ fn read(
     out: &mut [u8; 4096],
 ) -> Desk {
     // one byte more than a file has, so that a longer one is known
-    let mut held = [0u8; 17245];
+    let mut held = [0u8; 17261];
     let n = io::read_full(fd, &mut held);
     let e = unread(fd, n);
     libc::close(fd);

@@ -17,6 +17,7 @@ pub use brakes::put_lost;
 pub use checks::check;
 pub use checks::warn;
 pub use files::failure;
+pub use files::kept_front;
 pub use files::open;
 pub use files::put_failed;
 pub use files::put_name;

@@ -1,4 +1,7 @@
-// A saved file as bytes: the state with its tally (12,476), the names (4,752), the version of the file (8) and the seal of all before it (8).
+// A saved file as bytes: the state with its tally (12,492), the names (4,752), the version of the file (8) and the seal of all before it (8). In a file of the first
+// version, MOONDSK1, the state has 12,476 bytes, and all else is as in one of this, MOONDSK2.
+
+ghost use Prim.Native.Nat.{_≤_};
 
 fn wide(b: u8) -> u64 {
     b as u64
@@ -17,66 +20,80 @@ fn put_at(file: &mut [u8], at: usize, bytes: &[u8]) {
     let mut i = 0;
     while i < bytes.len() {
         set_byte(file, place, bytes[i]);
-        if place < 17244 {
+        if place < 17260 {
             place += 1;
         }
         i += 1;
     }
 }
 
-// The seal of all but the last eight bytes of a file; 0 of what is too short for one.
-fn seal_of(file: &[u8]) -> u64 {
-    if file.len() < 17236 {
+// The seal of all before a place of a file; 0 of what is too short for one.
+fn seal_of(file: &[u8], end: usize) -> u64 {
+    if file.len() < end {
         return 0;
     }
-    seal::seal(&file[..17236])
+    seal::seal(&file[..end])
 }
 
 // That seal into the last eight bytes, the lowest first.
 fn put_seal(file: &mut [u8]) {
-    let mut left = seal_of(&file[..]);
-    let mut place: usize = 17236;
-    while place < 17244 {
+    let mut left = seal_of(&file[..], 17252);
+    let mut place: usize = 17252;
+    while place < 17260 {
         set_byte(file, place, (left % 256) as u8);
         left /= 256;
         place += 1;
     }
 }
 
-// The file of a packed state and the names, in 17,244 bytes.
+// The file of a packed state and the names, in 17,260 bytes.
 pub(crate) fn put_file(file: &mut [u8], packed: &[u8], names: &[u8]) {
     put_at(file, 0, packed);
-    put_at(file, 12476, names);
-    put_at(file, 17228, b"MOONDSK1");
+    put_at(file, 12492, names);
+    put_at(file, 17244, b"MOONDSK2");
     put_seal(file);
 }
 
-// Whether the last eight bytes of a file are this seal.
-fn ends_with(file: &[u8], seal: u64) -> bool {
+// Whether the eight bytes from a place of a file on are this seal.
+fn ends_with(file: &[u8], end: usize, seal: u64) -> bool {
     let mut left = seal;
     let mut same = true;
-    let mut place: usize = 17236;
-    while place < 17244 {
+    let mut place = end;
+    let mut i: usize = 0;
+    while i < 8 {
         if place < file.len() {
             if wide(file[place]) != left % 256 {
                 same = false;
             }
+            place += 1;
         }
         left /= 256;
-        place += 1;
+        i += 1;
     }
     same
 }
 
+// Whether bytes are a file of this size that a desk of this version saved, whole and unchanged.
+fn is_whole(file: &[u8], size: usize, version: &[u8]) -> bool
+    requires { ⌜ 16 ≤ size ⌝ }
+{
+    if file.len() != size {
+        return false;
+    }
+    let at = size - 16;
+    let end = size - 8;
+    if !text::same(&file[at..end], version) {
+        return false;
+    }
+    ends_with(file, end, seal_of(file, end))
+}
+
 // Whether bytes are a file that a desk saved, whole and unchanged.
 pub(crate) fn is_sealed(file: &[u8]) -> bool {
-    if file.len() != 17244 {
-        return false;
+    if is_whole(file, 17260, b"MOONDSK2") {
+        return true;
     }
-    if !text::same(&file[17228..17236], b"MOONDSK1") {
-        return false;
-    }
-    ends_with(file, seal_of(file))
+    is_whole(file, 17244, b"MOONDSK1")
 }
 
 // Whether bytes begin as a saved state of any version does: then, where they are none, they were cut or changed.
@@ -87,12 +104,36 @@ pub(crate) fn begins_as_state(file: &[u8]) -> bool {
     text::same(&file[..7], b"MOONHAL")
 }
 
+// How many bytes the state has that bytes begin with, by the last figure of its mark.
+pub(crate) fn state_size(bytes: &[u8]) -> usize {
+    if bytes.len() < 8 {
+        return 0;
+    }
+    if bytes[7] == b'1' {
+        return 11964;
+    }
+    if bytes[7] == b'2' {
+        return 12476;
+    }
+    12492
+}
+
+// Where the names start in a file of this size.
+fn names_start(size: usize) -> usize {
+    if size == 17244 {
+        return 12476;
+    }
+    12492
+}
+
 // The names that a file has.
 pub(crate) fn take_names(file: &[u8], names: &mut [u8; 4752]) {
+    let mut place = names_start(file.len());
     let mut i: usize = 0;
     while i < 4752 {
-        if 12476 + i < file.len() {
-            names[i] = file[12476 + i];
+        if place < file.len() {
+            names[i] = file[place];
+            place += 1;
         }
         i += 1;
     }

@@ -14,10 +14,11 @@ use Rattle.numbers.specs.Shortest.{shortest}
 use Rattle.numbers.specs.declared.Number.the-variants.{Value}
 use Rattle.numbers.proofs.Laws.{shortest-is-read}
 use Rattle.plan.specs.Found.{Found, found, andThen, numberIn, fieldIn, among}
-use Rattle.plan.specs.Read.{expressionCodeIn, operationOf, leafIn, expressionIn, variablesIn, tupleIn, Head, head, exchangeIn, armIn, partnerIn, withExpressionIn, setIn, listIn, codeIn, partsIn, headIn, manyIn, readArm, laterOf, readAct, startForm, correlationIn, versionIn, rootIn, readAny}
+use Rattle.plan.specs.Read.{expressionCodeIn, operationOf, leafIn, expressionIn, variablesIn, tupleIn, Head, head, exchangeIn, armIn, partnerIn, withExpressionIn, setIn, listIn, raiseIn, codeIn, partsIn, headIn, manyIn, readArm, laterOf, readAct, startForm, correlationIn, versionIn, rootIn, readAny}
 use Rattle.plan.specs.Spell.{spell, operationCode, expressionNumbers, exchangeNumbers, ownNumbers, actNumbers, actsNumbers, planNumbers, spelling}
 use Rattle.plan.specs.Tree.{Operation, sum, difference, equal, less, Exp, constant, variable, binary, Own, empty, send, receive, set, raise, leave, choose, repeat, sequence, flow, pick, scope, arm, kind, Act, act, Acts, none, more, Plan, size, sizes, count, isPick, isScope}
 use Rattle.plan.specs.Within.{expressionWithin, variablesWithin, exchangeWithin, from1, ownWithin, actWithin, actsWithin, ascending, planWithin}
+use Rattle.plan.proofs.ByKind.{raise-limits}
 
 -- both of two tests hold
 pub both : (a b : Bool) {P : Type 0} → (a && b) ≡ true → (a ≡ true → b ≡ true → P) → P
@@ -210,8 +211,13 @@ module _ {rest s : List ℕ} (vars : ℕ) (few : vars ≤ 16) where
       let m = leb-true within limit y in
       and-then _ (field l (omega arith) (omega arith) t) (λ p u. ends u))
 
+  a-raise : (number : ℕ) {at : ℕ} {ns : List ℕ} → (16 ≤ number) × (number < 256) → Left rest s at (number ∷ ns)
+      → Gives rest s (raiseIn s at) (head (raise number) 0) ns
+  unfolding raiseIn
+  a-raise number l t = and-then _ (field (l .0) (l .1) (omega (arith, l .1)) t) (λ p u. ends u)
+
   module _ (handler : Bool) {depth n : ℕ} (levels : 0 < depth) (room : n < 256) where
-    code : {code at : ℕ} {ns : List ℕ} → code ≤ 12 → (handler && (eqb code 11 || eqb code 12)) ≡ false → Left rest s at (code ∷ ns)
+    code : {code at : ℕ} {ns : List ℕ} → code ≤ 13 → (handler && (eqb code 11 || eqb code 12)) ≡ false → Left rest s at (code ∷ ns)
         → Gives rest s (codeIn s handler depth n at) code ns
     unfolding codeIn
     code h k t =
@@ -237,7 +243,10 @@ module _ {rest s : List ℕ} (vars : ℕ) (few : vars ≤ 16) where
     an-own cs (set v e) within h t =
         both (eqb within 0) _ h (λ z h1. both (ltb v vars) _ h1 (λ x h2. both (not (among v cs)) _ h2 (λ y w. rw (eqb-true within 0 z)
         (coded cs (omega arith) t (λ p u. a-set cs v e x (not-true _ y) w u)))))
-    an-own cs raise within h t = rw (eqb-true within 0 h) (coded cs (omega arith) t (λ p u. ends u))
+    an-own cs (raise zero) within h t =
+        both (eqb within 0) _ h (λ z x. rw (eqb-true within 0 z) (coded cs (omega arith) t (λ p u. ends u)))
+    an-own cs (raise (suc number)) within h t =
+        both (eqb within 0) _ h (λ z x. rw (eqb-true within 0 z) (and-then _ (code (omega arith) (and-false handler) t) (λ p u. a-raise (suc number) (raise-limits number x) u)))
     an-own cs leave within h t = rw (eqb-true within 0 h) (coded cs (omega arith) t (λ p u. ends u))
     an-own cs (choose e) within h t =
         both (eqb within 2) _ h (λ z x. rw (eqb-true within 2 z) (coded cs (omega arith) t (λ p u. with-expression choose 2 e x u)))
@@ -264,7 +273,7 @@ module _ {rest s : List ℕ} (vars : ℕ) (few : vars ≤ 16) where
   an-arm-own cs handler (send partner operation l) within room h t = absurd (false≢true h)
   an-arm-own cs handler (receive partner operation l) within room h t = absurd (false≢true h)
   an-arm-own cs handler (set v e) within room h t = absurd (false≢true h)
-  an-arm-own cs handler raise within room h t = absurd (false≢true h)
+  an-arm-own cs handler (raise n) within room h t = absurd (false≢true h)
   an-arm-own cs handler leave within room h t = absurd (false≢true h)
   an-arm-own cs handler (choose e) within room h t = absurd (false≢true h)
   an-arm-own cs handler (repeat e) within room h t = absurd (false≢true h)

@@ -1,7 +1,13 @@
--- Scopes and picks are known by their kinds. Assumes nothing.
+-- Scopes, picks and raises are known by their kinds. Assumes nothing.
 use mathlib.Core.Path.{_≡_, refl}
-use mathlib.Core.Bool.{Bool, true, false, cond, _||_}
-use lib.Dec.{eqb}
+use mathlib.Core.Bool.{Bool, true, false, cond, _||_, _&&_, false≢true}
+use mathlib.Core.List.{[], _∷_}
+use Prim.Native.Nat.{ℕ, zero, suc, _≤_, _<_}
+use native.Mathlib.Omega.{arith}
+use borrow.Author.Tests.{leb-true, le-leb, ne-eqb}
+use lib.Dec.{leb, eqb}
+use Rattle.plan.specs.Spell.{ownNumbers}
+use Rattle.plan.specs.Within.{raiseWithin}
 use Rattle.plan.specs.Tree.{Own, empty, send, receive, set, raise, leave, choose, repeat, sequence, flow, pick, scope, arm, kind, isScope, isPick}
 
 pub kind-scope : (own : Own) → (eqb (kind own) 11 || eqb (kind own) 12) ≡ isScope own
@@ -10,7 +16,8 @@ kind-scope empty = refl
 kind-scope (send p o vs) = refl
 kind-scope (receive p o vs) = refl
 kind-scope (set v e) = refl
-kind-scope raise = refl
+kind-scope (raise zero) = refl
+kind-scope (raise (suc n)) = refl
 kind-scope leave = refl
 kind-scope (choose e) = refl
 kind-scope (repeat e) = refl
@@ -27,7 +34,8 @@ kind-pick empty = refl
 kind-pick (send p o vs) = refl
 kind-pick (receive p o vs) = refl
 kind-pick (set v e) = refl
-kind-pick raise = refl
+kind-pick (raise zero) = refl
+kind-pick (raise (suc n)) = refl
 kind-pick leave = refl
 kind-pick (choose e) = refl
 kind-pick (repeat e) = refl
@@ -37,3 +45,26 @@ kind-pick pick = refl
 kind-pick (scope true) = refl
 kind-pick (scope false) = refl
 kind-pick (arm p o vs) = refl
+
+-- a raise with a number, by its code and its numbers; and the numbers that a raise may have
+pub raise-kind : (n : ℕ) → 16 ≤ n → kind (raise n) ≡ 13
+unfolding kind
+raise-kind zero h = absurd (omega arith)
+raise-kind (suc n) h = refl
+
+pub raise-numbers : (n within : ℕ) → 16 ≤ n → ownNumbers (raise n) within ≡ 13 ∷ n ∷ []
+unfolding ownNumbers
+raise-numbers zero within h = absurd (omega arith)
+raise-numbers (suc n) within h = refl
+
+pub raise-allowed : (n : ℕ) → 16 ≤ n → n < 256 → raiseWithin n ≡ true
+unfolding raiseWithin
+raise-allowed n h l = rw (ne-eqb n 0 (λ z. omega arith), le-leb 16 n h, le-leb n 255 (omega arith))
+
+pub raise-limits : (n : ℕ) → raiseWithin (suc n) ≡ true → (16 ≤ suc n) × (suc n < 256)
+unfolding raiseWithin
+raise-limits n e = go (leb 16 (suc n)) (leb (suc n) 255) (rw (ne-eqb (suc n) 0 (λ z. omega arith)) at e) (leb-true 16 (suc n)) (leb-true (suc n) 255)
+  where
+    go : (a b : Bool) → (a && b) ≡ true → (a ≡ true → 16 ≤ suc n) → (b ≡ true → suc n ≤ 255) → (16 ≤ suc n) × (suc n < 256)
+    go true b e f g = (f refl, omega (arith, g e))
+    go false b e f g = absurd (false≢true e)

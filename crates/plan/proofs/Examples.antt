@@ -9,10 +9,10 @@ use Rattle.numbers.specs.Number.{lastGroup, groups, numberAt}
 use Rattle.plan.specs.Agree.{inBytes, askedOwn, spanOf, spanAll, askedIn, askedAll, asked, agreesWith, judged}
 use Rattle.plan.specs.Found as found
 use Rattle.plan.specs.Found.{Found, numberIn, fieldIn, among}
-use Rattle.plan.specs.Read.{expressionCodeIn, leafIn, expressionIn, variablesIn, tupleIn, exchangeIn, armIn, partnerIn, withExpressionIn, setIn, listIn, codeIn, partsIn, headIn, manyIn, readArm, readAct, starts, startForm, firstStarts, everyStarts, correlationIn, versionIn, rootIn, readAny, readPlan}
+use Rattle.plan.specs.Read.{expressionCodeIn, leafIn, expressionIn, variablesIn, tupleIn, exchangeIn, armIn, partnerIn, withExpressionIn, setIn, listIn, raiseIn, codeIn, partsIn, headIn, manyIn, readArm, readAct, starts, startForm, firstStarts, everyStarts, correlationIn, versionIn, rootIn, readAny, readPlan}
 use Rattle.plan.specs.Spell.{spell, operationCode, expressionNumbers, exchangeNumbers, ownNumbers, actNumbers, actsNumbers, planNumbers, spelling}
 use Rattle.plan.specs.Tree.{less, Exp, constant, variable, binary, Own, empty, send, receive, set, raise, leave, choose, sequence, flow, pick, scope, arm, kind, Act, act, Acts, none, more, Plan, size, sizes, count}
-use Rattle.plan.specs.Within.{expressionWithin, variablesWithin, exchangeWithin, ownWithin, actWithin, actsWithin, ascending, planWithin}
+use Rattle.plan.specs.Within.{expressionWithin, variablesWithin, exchangeWithin, ownWithin, raiseWithin, actWithin, actsWithin, ascending, planWithin}
 
 abbrev alone : Own → Act
 alone own = act own none
@@ -44,7 +44,7 @@ deep zero = variable 1
 deep (suc n) = binary less (constant 4294967295) (deep n)
 
 abbrev arms : Act
-arms = one pick (one (arm 63 0 (1 ∷ 0 ∷ [])) (alone raise))
+arms = one pick (one (arm 63 0 (1 ∷ 0 ∷ [])) (alone (raise 0)))
 
 -- plan A: 01 02 01 00 02 03 05 02 00 01 00
 a-is-spelled : spelling (of ask) ≡ 1 ∷ 2 ∷ 1 ∷ 0 ∷ 2 ∷ 3 ∷ 5 ∷ 2 ∷ 0 ∷ 1 ∷ 0 ∷ []
@@ -64,22 +64,23 @@ flagged [] = []
 flagged (p ∷ l) = planWithin p ∷ flagged l
 
 -- plan A; plan C's form; 16 deep; an expression 8 deep; an arm whose activity is 16 deep; 256 activities; a scope
--- with no undo part around one that has it; a body that is one
+-- with no undo part around one that has it; a body that is one; raises with the numbers 16 and 255
 abbrev allowed : List Plan
 allowed =
     of ask
-    ∷ of (act sequence (more ask (more (undone (alone (send 0 1 (0 ∷ 0 ∷ [])))) (more (alone raise) none))))
+    ∷ of (act sequence (more ask (more (undone (alone (send 0 1 (0 ∷ 0 ∷ [])))) (more (alone (raise 0)) none))))
     ∷ of (nested 15 ask)
     ∷ of (act sequence (more ask (more (act (choose (deep 7)) (more (alone leave) (more (alone (set 1 (deep 0))) none))) none)))
     ∷ of (nested 14 arms)
     ∷ broad 21
-    ∷ of (act sequence (more ask (more (handing (undone (alone empty)) (alone raise)) none)))
+    ∷ of (act sequence (more ask (more (handing (undone (alone empty)) (alone (raise 0))) none)))
     ∷ of (handing ask (alone empty))
+    ∷ of (act sequence (more ask (more (alone (raise 16)) (more (alone (raise 255)) none))))
     ∷ []
 
 -- a scope in an undo part; a scope in the fault part; a variable twice in a receive; 17 deep; an expression 9 deep; an arm's activity 17 deep;
 -- a variable for correlation set; body no start form; an arm where an activity is due; an empty sequence; 257 activities; a scope
--- with no undo part in the fault part of one; one with three parts; one whose body is no start form
+-- with no undo part in the fault part of one; one with three parts; one whose body is no start form; raises with the numbers 1, 15 and 256
 abbrev refused : List Plan
 refused =
     of (act sequence (more ask (more (undone (undone (alone empty))) none)))
@@ -96,10 +97,13 @@ refused =
     ∷ of (handing ask (handing (alone empty) (alone empty)))
     ∷ of (act (scope false) (more ask (more (alone empty) (more (alone empty) none))))
     ∷ of (handing (alone empty) ask)
+    ∷ of (act sequence (more ask (more (alone (raise 1)) none)))
+    ∷ of (act sequence (more ask (more (alone (raise 15)) none)))
+    ∷ of (act sequence (more ask (more (alone (raise 256)) none)))
     ∷ []
 
-pub both-sides : (flagged allowed ≡ replicate 8 true) × (flagged refused ≡ replicate 14 false)
-unfolding planWithin spelling planNumbers actNumbers actsNumbers ownNumbers exchangeNumbers spell shortest spelled count ascending actWithin actsWithin ownWithin exchangeWithin variablesWithin among size sizes startForm firstStarts everyStarts starts kind expressionNumbers operationCode expressionWithin
+pub both-sides : (flagged allowed ≡ replicate 9 true) × (flagged refused ≡ replicate 17 false)
+unfolding planWithin spelling planNumbers actNumbers actsNumbers ownNumbers exchangeNumbers spell shortest spelled count ascending actWithin actsWithin ownWithin raiseWithin exchangeWithin variablesWithin among size sizes startForm firstStarts everyStarts starts kind expressionNumbers operationCode expressionWithin
 both-sides = (refl, refl)
 
 -- Receives that disagree: document 02, request 8.
@@ -133,7 +137,7 @@ pub disagree : all (
     ∷ unstarted (0 ∷ [])
     ∷ [])
     ≡ (21 ∷ 14 ∷ []) ∷ (0 ∷ 17 ∷ []) ∷ (0 ∷ 17 ∷ []) ∷ (21 ∷ 15 ∷ []) ∷ (0 ∷ 17 ∷ []) ∷ (9 ∷ 17 ∷ []) ∷ (7 ∷ 3 ∷ []) ∷ (9 ∷ 18 ∷ []) ∷ []
-unfolding lastGroup groups numberAt numberIn fieldIn among kind size count expressionCodeIn leafIn expressionIn variablesIn tupleIn exchangeIn armIn partnerIn withExpressionIn setIn listIn codeIn partsIn headIn manyIn readArm readAct starts startForm firstStarts everyStarts correlationIn versionIn rootIn readAny readPlan inBytes askedOwn spanOf spanAll askedIn askedAll asked agreesWith judged spelled shortest spell operationCode expressionNumbers exchangeNumbers ownNumbers
+unfolding lastGroup groups numberAt numberIn fieldIn among kind size count expressionCodeIn leafIn expressionIn variablesIn tupleIn exchangeIn armIn partnerIn withExpressionIn setIn listIn raiseIn codeIn partsIn headIn manyIn readArm readAct starts startForm firstStarts everyStarts correlationIn versionIn rootIn readAny readPlan inBytes askedOwn spanOf spanAll askedIn askedAll asked agreesWith judged spelled shortest spell operationCode expressionNumbers exchangeNumbers ownNumbers
 disagree = refl
 
 -- Code 12: document 02, request 13.
@@ -142,18 +146,38 @@ disagree = refl
 abbrev from : ℕ → List ℕ → List ℕ
 from code l = 1 ∷ 1 ∷ 0 ∷ code ∷ 2 ∷ 0 ∷ 0 ∷ 1 ∷ 0 ∷ l
 
--- a body of code 12 has two parts, and then comes the root's fault part; three: 9, at the byte after the plan; code 11 has three; code 13: 4; code 12 in
+-- a body of code 12 has two parts, and then comes the root's fault part; three: 9, at the byte after the plan; code 11 has three; code 14: 4; code 12 in
 -- the fault part, in the undo part of one of code 11, in the root's fault part: 8; a body of code 12 that is no start form: 7
 pub coded : all (
     from 12 (0 ∷ 0 ∷ [])
     ∷ from 12 (0 ∷ 0 ∷ 0 ∷ [])
     ∷ from 11 (0 ∷ 0 ∷ 0 ∷ [])
-    ∷ from 13 (0 ∷ 0 ∷ [])
+    ∷ from 14 (0 ∷ 0 ∷ [])
     ∷ from 12 (12 ∷ 0 ∷ 0 ∷ 0 ∷ [])
     ∷ from 11 (0 ∷ 12 ∷ 0 ∷ 0 ∷ 0 ∷ [])
     ∷ from 12 (0 ∷ 12 ∷ 0 ∷ 0 ∷ [])
     ∷ (1 ∷ 1 ∷ 0 ∷ 12 ∷ 0 ∷ 0 ∷ 0 ∷ [])
     ∷ [])
     ≡ (0 ∷ 11 ∷ []) ∷ (9 ∷ 11 ∷ []) ∷ (0 ∷ 12 ∷ []) ∷ (4 ∷ 3 ∷ []) ∷ (8 ∷ 9 ∷ []) ∷ (8 ∷ 10 ∷ []) ∷ (8 ∷ 10 ∷ []) ∷ (7 ∷ 3 ∷ []) ∷ []
-unfolding lastGroup groups numberAt numberIn fieldIn among kind size count expressionCodeIn leafIn expressionIn variablesIn tupleIn exchangeIn armIn partnerIn withExpressionIn setIn listIn codeIn partsIn headIn manyIn readArm readAct starts startForm firstStarts everyStarts correlationIn versionIn rootIn readAny readPlan inBytes askedOwn spanOf spanAll askedIn askedAll asked agreesWith judged spelled shortest spell operationCode expressionNumbers exchangeNumbers ownNumbers
+unfolding lastGroup groups numberAt numberIn fieldIn among kind size count expressionCodeIn leafIn expressionIn variablesIn tupleIn exchangeIn armIn partnerIn withExpressionIn setIn listIn raiseIn codeIn partsIn headIn manyIn readArm readAct starts startForm firstStarts everyStarts correlationIn versionIn rootIn readAny readPlan inBytes askedOwn spanOf spanAll askedIn askedAll asked agreesWith judged spelled shortest spell operationCode expressionNumbers exchangeNumbers ownNumbers
 coded = refl
+
+-- Code 13: document 02, request 4.
+
+-- raises with the numbers 16 and 255, and with 16 in the root's fault part; with 15, 0 and 256: 5, at that number; cut after the code, and in the
+-- number: 2, at the end; a number not in the shortest form: 3; a body that is such a raise: 7
+pub numbered : all (
+    after (13 ∷ 16 ∷ 0 ∷ [])
+    ∷ after (13 ∷ 255 ∷ 1 ∷ 0 ∷ [])
+    ∷ after (0 ∷ 13 ∷ 16 ∷ [])
+    ∷ after (13 ∷ 15 ∷ 0 ∷ [])
+    ∷ after (13 ∷ 0 ∷ 0 ∷ [])
+    ∷ after (13 ∷ 128 ∷ 2 ∷ 0 ∷ [])
+    ∷ after (13 ∷ [])
+    ∷ after (13 ∷ 255 ∷ [])
+    ∷ after (13 ∷ 144 ∷ 0 ∷ 0 ∷ [])
+    ∷ (1 ∷ 1 ∷ 0 ∷ 13 ∷ 16 ∷ 0 ∷ [])
+    ∷ [])
+    ≡ (0 ∷ 14 ∷ []) ∷ (0 ∷ 15 ∷ []) ∷ (0 ∷ 14 ∷ []) ∷ (5 ∷ 12 ∷ []) ∷ (5 ∷ 12 ∷ []) ∷ (5 ∷ 12 ∷ []) ∷ (2 ∷ 12 ∷ []) ∷ (2 ∷ 13 ∷ []) ∷ (3 ∷ 12 ∷ []) ∷ (7 ∷ 3 ∷ []) ∷ []
+unfolding lastGroup groups numberAt numberIn fieldIn among kind size count expressionCodeIn leafIn expressionIn variablesIn tupleIn exchangeIn armIn partnerIn withExpressionIn setIn listIn raiseIn codeIn partsIn headIn manyIn readArm readAct starts startForm firstStarts everyStarts correlationIn versionIn rootIn readAny readPlan inBytes askedOwn spanOf spanAll askedIn askedAll asked agreesWith judged spelled shortest spell operationCode expressionNumbers exchangeNumbers ownNumbers
+numbered = refl

@@ -68,13 +68,17 @@ kept-then a b = record {
   nodesAbove = λ i h. b .nodesAbove i h ∙ a .nodesAbove i h;
 }
 
--- the partner that an activity names, and that each one named in a tree has a flag
+-- the partner that an activity names, or a raise's number, which stands in its place
 abbrev pub partnerOf : Own → ℕ
 partnerOf own = getD (rowOf own 0 0) 1 0
 
+-- that what is noted has a flag: the partner of a receive or an arm; and that each one noted in a tree has
+abbrev pub Noting : (kind partner : ℕ) → Type 0
+Noting k p = (eqb k 2 || eqb k 255) ≡ true → p < 64
+
 unfoldable mutual
   pub Partners : Act → Type 0
-  Partners (act own l) = (partnerOf own < 64) × PartnersAll l
+  Partners (act own l) = Noting (kind own) (partnerOf own) × PartnersAll l
 
   pub PartnersAll : Acts → Type 0
   PartnersAll none = Unit
@@ -88,7 +92,7 @@ row-is empty m at = refl
 row-is (send p o vs) m at = refl
 row-is (receive p o vs) m at = refl
 row-is (set v e) m at = refl
-row-is raise m at = refl
+row-is (raise number) m at = refl
 row-is leave m at = refl
 row-is (choose e) m at = refl
 row-is (repeat e) m at = refl
@@ -102,8 +106,8 @@ row-is (arm p o vs) m at = refl
 pub row-length : (own : Own) (m at : ℕ) → length (rowOf own m at) ≡ 11
 row-length own m at = ap length (row-is own m at)
 
-pub row-partner : (own : Own) (m at : ℕ) → getD (rowOf own m at) 1 0 ≡ partnerOf own
-row-partner own m at = ap (λ r. getD r 1 0) (row-is own m at)
+pub row-noting : (own : Own) (m at : ℕ) → Noting (kind own) (partnerOf own) → Noting (getD (rowOf own m at) 0 0) (getD (rowOf own m at) 1 0)
+row-noting own m at p = rw (row-is own m at) p
 
 -- Whatever is written between the rows n and e and the nodes m and f is written nowhere else. In each law k is the number of the row and j that of
 -- the first node that it writes.
@@ -135,15 +139,15 @@ module _ (n e m f : ℕ) (ordered : n ≤ e) (small : e ≤ 256) where
     nodesAbove = λ i x. b .above i (omega arith);
   }
 
-  pub noted-kept : (k p : ℕ) (t : List ℕ) → p < 64 → Kept n e m f t (noted k p t)
+  pub noted-kept : (k p : ℕ) (t : List ℕ) → Noting k p → Kept n e m f t (noted k p t)
   unfolding noted
-  noted-kept k p t h = go (eqb k 2 || eqb k 255)
+  noted-kept k p t h = go (eqb k 2 || eqb k 255) h
     where
-      go : (b : Bool) → Kept n e m f t (cond b (store (1 ∷ []) (3328 + p) 0 t) t)
-      go true = flags-kept (3328 + p + 0) (3328 + p + 0 + 1) (store-but (1 ∷ []) (3328 + p) 0 t) (omega arith) (omega arith)
-      go false = kept-same n e m f t
+      go : (b : Bool) → (b ≡ true → p < 64) → Kept n e m f t (cond b (store (1 ∷ []) (3328 + p) 0 t) t)
+      go true g = flags-kept (3328 + p + 0) (3328 + p + 0 + 1) (store-but (1 ∷ []) (3328 + p) 0 t) (omega arith) (omega (arith, g refl))
+      go false g = kept-same n e m f t
 
-  pub putRow-kept : (k : ℕ) (r t : List ℕ) → length r ≤ 13 → getD r 1 0 < 64 → n ≤ k → k < e → Kept n e m f t (putRow k r t)
+  pub putRow-kept : (k : ℕ) (r t : List ℕ) → length r ≤ 13 → Noting (getD r 0 0) (getD r 1 0) → n ≤ k → k < e → Kept n e m f t (putRow k r t)
   unfolding putRow
   putRow-kept k r t w p h g =
       kept-then
@@ -177,7 +181,7 @@ module _ (n e m f : ℕ) (ordered : n ≤ e) (small : e ≤ 256) where
   putOwnNodes-kept (send p o vs) j t h g = kept-same n e m f t
   putOwnNodes-kept (receive p o vs) j t h g = kept-same n e m f t
   putOwnNodes-kept (set v x) j t h g = putNodes-kept x j t h g
-  putOwnNodes-kept raise j t h g = kept-same n e m f t
+  putOwnNodes-kept (raise number) j t h g = kept-same n e m f t
   putOwnNodes-kept leave j t h g = kept-same n e m f t
   putOwnNodes-kept (choose x) j t h g = putNodes-kept x j t h g
   putOwnNodes-kept (repeat x) j t h g = putNodes-kept x j t h g
@@ -187,14 +191,14 @@ module _ (n e m f : ℕ) (ordered : n ≤ e) (small : e ≤ 256) where
   putOwnNodes-kept (scope undo) j t h g = kept-same n e m f t
   putOwnNodes-kept (arm p o vs) j t h g = kept-same n e m f t
 
-  pub putOwn-kept : (own : Own) (at k j : ℕ) (t : List ℕ) → partnerOf own < 64 → n ≤ k → k < e → m ≤ j → j + ownNodes own ≤ f
+  pub putOwn-kept : (own : Own) (at k j : ℕ) (t : List ℕ) → Noting (kind own) (partnerOf own) → n ≤ k → k < e → m ≤ j → j + ownNodes own ≤ f
       → Kept n e m f t (putOwn own at k j t)
   unfolding putOwn
   putOwn-kept own at k j t p h g x y =
       let w = row-length own j at in
       kept-then
       (putOwnNodes-kept own j t x y)
-      (putRow-kept k (rowOf own j at) (putOwnNodes own j t) (omega arith) (rw row-partner p) h g)
+      (putRow-kept k (rowOf own j at) (putOwnNodes own j t) (omega arith) (row-noting own j at p) h g)
 
   mutual
     unfolding put size nodes Partners

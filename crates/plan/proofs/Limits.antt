@@ -16,21 +16,17 @@ use Rattle.numbers.specs.declared.Number.the-variants.{Value, Short, Bad}
 use Rattle.numbers.proofs.Laws.{value-bounds}
 use Rattle.plan.specs.Agree.{agree}
 use Rattle.plan.specs.Found.{Found, found, foundNumber, numberIn, fieldIn, among}
-use Rattle.plan.specs.Read.{expressionCodeIn, leafIn, expressionIn, variablesIn, tupleIn, Head, head, exchangeIn, armIn, partnerIn, withExpressionIn, setIn, listIn, codeIn, partsIn, headIn, manyIn, readArm, laterOf, readAct, startForm, correlationIn, versionIn, rootIn, readAny, readPlan}
+use Rattle.plan.specs.Read.{expressionCodeIn, leafIn, expressionIn, variablesIn, tupleIn, Head, head, exchangeIn, armIn, partnerIn, withExpressionIn, setIn, listIn, raiseIn, codeIn, partsIn, headIn, manyIn, readArm, laterOf, readAct, startForm, correlationIn, versionIn, rootIn, readAny, readPlan}
 use Rattle.plan.specs.Spell.{spelling}
 use Rattle.plan.specs.Tree.{Exp, Own, send, receive, set, choose, repeat, sequence, flow, pick, arm, kind, Act, Plan, size, isPick, isScope}
-use Rattle.plan.specs.Within.{expressionWithin, variablesWithin, exchangeWithin, from1, ownWithin, actWithin, actsWithin, ascending, planWithin}
+use Rattle.plan.specs.Within.{expressionWithin, variablesWithin, exchangeWithin, from1, raiseWithin, ownWithin, actWithin, actsWithin, ascending, planWithin}
 use Rattle.plan.proofs.Accepts.{both, among-append, reader, spelled-is-read}
 use Rattle.plan.proofs.Agreeing.{accepted-any, accepted-agrees, spelled-is-accepted}
 use Rattle.plan.proofs.Finds.{Finds, finds-refused, finds-itself, finds-found, finds-cond, finds-code, finds-then, finds-both, finds-so}
-use Rattle.plan.proofs.Stands.{many-count, plan-stands}
+use Rattle.plan.proofs.Stands.{neither, field-within, many-count, plan-stands}
 use Rattle.plan.proofs.Spelled.{accepted-is-spelled}
 use Rattle.plan.proofs.Bounds.{act-numbered}
-
--- of two tests of which one would be enough neither holds
-neither : (a b : Bool) → (a || b) ≡ false → (a ≡ false) × (b ≡ false)
-neither true b e = absurd (false≢true (sym e))
-neither false b e = (refl, e)
+use Rattle.plan.proofs.ByKind.{raise-allowed}
 
 small-number : (s : List ℕ) (at : ℕ) (r : Number) → numberAt s at ≡ r → Finds (λ v next. v ≤ 4294967295) (foundNumber s at r)
 small-number s at Short e = finds-refused
@@ -40,13 +36,6 @@ small-number s at (Value v next) e = finds-found (value-bounds s at e .small)
 number-within : (s : List ℕ) (at : ℕ) → Finds (λ v next. v ≤ 4294967295) (numberIn s at)
 unfolding numberIn
 number-within s at = small-number s at (numberAt s at) refl
-
-field-within : (s : List ℕ) (least limit at : ℕ) → Finds (λ v next. (least ≤ v) × (v < limit)) (fieldIn s least limit at)
-unfolding fieldIn
-field-within s least limit at =
-    finds-then (finds-itself (numberIn s at))
-    (λ v next h. finds-cond (ltb v least || leb limit v) (λ t. finds-refused)
-    (λ t. let n = neither (ltb v least) (leb limit v) t in finds-found (ltb-false v least (n .0), leb-false limit v (n .1))))
 
 -- Expressions.
 
@@ -160,9 +149,13 @@ module _ (vars : ℕ) (cs s : List ℕ) (handler : Bool) where
       (λ v p h. finds-cond (among v cs) (λ t. finds-refused)
       (λ t. with-expression-within vars s (HeadWithin vars cs handler false) (set v) 0 p (λ e x. rw (lt-ltb v vars (h .1), t, x))))
 
+  raise-within : (at : ℕ) → Finds (λ h next. HeadWithin vars cs handler false h) (raiseIn s at)
+  unfolding raiseIn ownWithin
+  raise-within at = finds-then (field-within s 16 256 at) (λ n p h. finds-found (raise-allowed n (h .0) (h .1)))
+
   -- the table of codes
-  parts-within : (code at : ℕ) → code ≤ 12 → (handler && (eqb code 11 || eqb code 12)) ≡ false → Finds (λ h next. HeadWithin vars cs handler false h) (partsIn vars cs s code at)
-  unfolding partsIn ownWithin
+  parts-within : (code at : ℕ) → code ≤ 13 → (handler && (eqb code 11 || eqb code 12)) ≡ false → Finds (λ h next. HeadWithin vars cs handler false h) (partsIn vars cs s code at)
+  unfolding partsIn ownWithin raiseWithin
   parts-within code at m k =
       finds-code code 0 (omega arith) (λ e. finds-found refl)
       (λ l. finds-code code 1 l (λ e. partner-within false send at (λ partner operation variables x. x))
@@ -176,16 +169,17 @@ module _ (vars : ℕ) (cs s : List ℕ) (handler : Bool) where
       (λ l. finds-code code 9 l (λ e. list-within vars s (HeadWithin vars cs handler false) flow 32 at (λ x h. h))
       (λ l. finds-code code 10 l (λ e. list-within vars s (HeadWithin vars cs handler false) pick 8 at (λ x h. h))
       (λ l. finds-code code 11 l (λ e. finds-found (rw (sym (and-true handler) ∙ rw e at k)))
-      (λ l. let e : code ≡ 12 = omega arith in finds-found (rw (sym (and-true handler) ∙ rw e at k))))))))))))))
+      (λ l. finds-code code 12 l (λ e. finds-found (rw (sym (and-true handler) ∙ rw e at k)))
+      (λ l. raise-within at)))))))))))))
 
   pub head-within : (depth n at : ℕ) → Finds (λ h next. HeadWithin vars cs handler false h) (headIn vars cs s handler depth n at)
   unfolding headIn codeIn
   head-within depth n at =
       finds-then
-      (finds-then {Q = λ code next. (code ≤ 12) × ((handler && (eqb code 11 || eqb code 12)) ≡ false)} (finds-itself (numberIn s at))
-      (λ code next h. finds-cond (ltb 12 code) (λ t. finds-refused)
+      (finds-then {Q = λ code next. (code ≤ 13) × ((handler && (eqb code 11 || eqb code 12)) ≡ false)} (finds-itself (numberIn s at))
+      (λ code next h. finds-cond (ltb 13 code) (λ t. finds-refused)
       (λ t. finds-cond (handler && (eqb code 11 || eqb code 12)) (λ u. finds-refused)
-      (λ u. finds-cond (eqb depth 0 || leb 256 n) (λ w. finds-refused) (λ w. finds-found (ltb-false 12 code t, u))))))
+      (λ u. finds-cond (eqb depth 0 || leb 256 n) (λ w. finds-refused) (λ w. finds-found (ltb-false 13 code t, u))))))
       (λ code next h. parts-within code next (h .0) (h .1))
 
 -- Activities and arms with those within them.

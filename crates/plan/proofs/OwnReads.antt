@@ -17,11 +17,12 @@ use Rattle.plan.specs.Answers.{fieldOf, tupleOf, NodesRead, messageOwn, 
 use Rattle.plan.specs.Fits.{Ahead, NumberFits, FieldFits}
 use Rattle.plan.specs.Found.{Found, refused, found, andThen, numberIn, fieldIn, among}
 use Rattle.plan.specs.Nodes.{Base, Room, IsMessage, sends, receives, isArm, IsExpression, sets, chooses, repeats, IsList, isSequence, isFlow, isPick, nodeHeadIn}
-use Rattle.plan.specs.Read.{Head, head, expressionIn, tupleIn, exchangeIn, armIn, partnerIn, withExpressionIn, setIn, listIn, codeIn, partsIn, headIn}
+use Rattle.plan.specs.Read.{Head, head, expressionIn, tupleIn, exchangeIn, armIn, partnerIn, withExpressionIn, setIn, listIn, raiseIn, codeIn, partsIn, headIn}
 use Rattle.plan.specs.Store.{chosen}
 use Rattle.plan.specs.Table.{row, rowOf, putRow, putOwn, putOwnNodes, putNodes, ownNodes, nodesOf}
 use Rattle.plan.specs.Tree.{Exp, Own, empty, raise, leave, scope, kind}
 use Rattle.plan.proofs.Finds.{Finds, finds-refused, finds-itself, finds-found, finds-cond, finds-then}
+use Rattle.plan.proofs.ByKind.{raise-kind}
 use Rattle.plan.proofs.ExpressionReads.{nodes-no, nodes-got}
 use Rattle.plan.proofs.Stores.{chosen-at}
 use Rattle.plan.proofs.TupleReads.{tuple-got, tuple-no}
@@ -39,11 +40,11 @@ module _ {r : Field} (s : List ℕ) (handler : Bool) (depth n at : ℕ) (e : r �
   activity-code-handed o = handed (numberIn s at) _ e o
 
   module _ {value next : ℕ} (o : r ≡ Got value next) where
-    pub code-unknown : 12 < value → Field.Refused 4 at ≡ fieldOf (codeIn s handler depth n at)
+    pub code-unknown : 13 < value → Field.Refused 4 at ≡ fieldOf (codeIn s handler depth n at)
     unfolding codeIn fieldOf
     code-unknown h = rw (field-got (numberIn s at) e o, lt-ltb _ _ h)
 
-    module _ (h : value ≤ 12) {x : Bool} (i : x ≡ (handler && (eqb value 11 || eqb value 12))) where
+    module _ (h : value ≤ 13) {x : Bool} (i : x ≡ (handler && (eqb value 11 || eqb value 12))) where
       pub code-misplaced : x ≡ true → Field.Refused 8 at ≡ fieldOf (codeIn s handler depth n at)
       unfolding codeIn fieldOf
       code-misplaced t = rw (field-got (numberIn s at) e o, le-ltb _ _ h, sym i ∙ t)
@@ -59,7 +60,7 @@ module _ {r : Field} (s : List ℕ) (handler : Bool) (depth n at : ℕ) (e : r �
 
 -- what holds of a code that is read
 pub record Coded (depth n code : ℕ) : Type 0 where
-  pub known : code ≤ 12
+  pub known : code ≤ 13
   pub deep : depth ≡ 0 → ⊥
   pub numbered : n < 256
 
@@ -70,10 +71,10 @@ pub code-numbered : (s : List ℕ) (handler : Bool) (depth n at : ℕ) → Finds
 unfolding codeIn
 code-numbered s handler depth n at =
     finds-then (finds-itself (numberIn s at))
-    (λ code next h. finds-cond (ltb 12 code) (λ t. finds-refused)
+    (λ code next h. finds-cond (ltb 13 code) (λ t. finds-refused)
     (λ t. finds-cond (handler && (eqb code 11 || eqb code 12)) (λ u. finds-refused)
     (λ u. finds-cond (eqb depth 0 || leb 256 n) (λ w. finds-refused)
-    (λ w. finds-found (record { known = ltb-false 12 code t; deep = none-over depth n w .0; numbered = none-over depth n w .1 })))))
+    (λ w. finds-found (record { known = ltb-false 13 code t; deep = none-over depth n w .0; numbered = none-over depth n w .1 })))))
 
 -- what an activity says of itself comes to, where what is found is known
 module _ (g : Found Head) (at n m : ℕ) (t u : List ℕ) where
@@ -139,6 +140,19 @@ pub list-counted : {c : Field} {r : code.Own} (s : List ℕ) (k limit at place n
     → OwnRead (listIn s (listOwn k) limit at) place n m r t u
 unfolding listIn
 list-counted s k limit at place n m t u l e o i w = rw i (list-row _ place n m t u l (rw (field-got (fieldIn s 1 limit at) e o)) w)
+
+-- `raise_own`
+module _ (s : List ℕ) (at place n m : ℕ) (t u : List ℕ) {f : Field} (e : f ≡ fieldOf (fieldIn s 16 256 at)) where
+  pub raise-no-number : {number p : ℕ} → f ≡ Field.Refused number p → OwnRead (raiseIn s at) place n m (code.Own.Refused number p) t u
+  unfolding raiseIn
+  raise-no-number o = own-no-field (fieldIn s 16 256 at) _ place n m t u e o
+
+  pub raise-number : {number next : ℕ} → FieldFits s at 16 256 f → f ≡ Got number next → u ≡ putRow n (row 13 number 0 [] 0 0 place) t
+      → OwnRead (raiseIn s at) place n m (code.Own.Read 13 0 next m) t u
+  unfolding raiseIn ownNodes putOwnNodes rowOf
+  raise-number {number} b o w =
+      let k = raise-kind number (field-fits s at 16 256 b o .1 .0) in
+      own-row _ place n m t u (raise number) (rw (field-got (fieldIn s 16 256 at) e o)) (sym k) refl refl (rw k w)
 
 message-row : (g : Found Head) (at n m : ℕ) (t u : List ℕ) (p o : ℕ) (vs : List ℕ) {k within next : ℕ} → IsMessage k
     → g ≡ found (head (messageOwn k p o vs) within) next → u ≡ putRow n (row k p o vs 0 0 at) t
@@ -307,7 +321,7 @@ module _ (vars : ℕ) (cs s : List ℕ) (k at place n m : ℕ) (t u : List ℕ) 
 
   pub parts-raise : k ≡ 4 → r ≡ code.Own.Read 4 0 at m → u ≡ putRow n (row 4 0 0 [] 0 0 place) t → OwnRead (partsIn vars cs s k at) place n m r t u
   unfolding partsIn kind ownNodes putOwnNodes rowOf
-  parts-raise h i w = rw (h, i) (own-row _ place n m t u raise refl refl refl refl w)
+  parts-raise h i w = rw (h, i) (own-row _ place n m t u (raise 0) refl refl refl refl w)
 
   pub parts-leave : k ≡ 5 → r ≡ code.Own.Read 5 0 at m → u ≡ putRow n (row 5 0 0 [] 0 0 place) t → OwnRead (partsIn vars cs s k at) place n m r t u
   unfolding partsIn kind ownNodes putOwnNodes rowOf
@@ -317,13 +331,17 @@ module _ (vars : ℕ) (cs s : List ℕ) (k at place n m : ℕ) (t u : List ℕ) 
   unfolding partsIn kind ownNodes putOwnNodes rowOf
   parts-scope h i w = rw (h, i) (own-row _ place n m t u (scope true) refl refl refl refl w)
 
-  pub parts-open : (k ≡ 0 → ⊥) → 3 ≤ k → (k ≡ 3 → ⊥) → (k ≡ 4 → ⊥) → (k ≡ 5 → ⊥) → (k ≡ 6 → ⊥) → (k ≡ 7 → ⊥) → (k ≡ 8 → ⊥) → (k ≡ 9 → ⊥) → (k ≡ 10 → ⊥)
-      → (k ≡ 11 → ⊥) → r ≡ code.Own.Read 12 2 at m → u ≡ putRow n (row 12 0 0 [] 0 0 place) t → OwnRead (partsIn vars cs s k at) place n m r t u
+  pub parts-open : k ≡ 12 → r ≡ code.Own.Read 12 2 at m → u ≡ putRow n (row 12 0 0 [] 0 0 place) t → OwnRead (partsIn vars cs s k at) place n m r t u
   unfolding partsIn kind ownNodes putOwnNodes rowOf
-  parts-open n0 l n3 n4 n5 n6 n7 n8 n9 n10 n11 i w =
+  parts-open h i w = rw (h, i) (own-row _ place n m t u (scope false) refl refl refl refl w)
+
+  pub parts-number : (k ≡ 0 → ⊥) → 3 ≤ k → (k ≡ 3 → ⊥) → (k ≡ 4 → ⊥) → (k ≡ 5 → ⊥) → (k ≡ 6 → ⊥) → (k ≡ 7 → ⊥) → (k ≡ 8 → ⊥) → (k ≡ 9 → ⊥) → (k ≡ 10 → ⊥)
+      → (k ≡ 11 → ⊥) → (k ≡ 12 → ⊥) → OwnRead (raiseIn s at) place n m r t u → OwnRead (partsIn vars cs s k at) place n m r t u
+  unfolding partsIn
+  parts-number n0 l n3 n4 n5 n6 n7 n8 n9 n10 n11 n12 a =
       let n1 : k ≡ 1 → ⊥ = λ e. omega (arith, l, e) in
       let n2 : k ≡ 2 → ⊥ = λ e. omega (arith, l, e) in
-      rw i (simp (ne-eqb _ _ n0, ne-eqb _ _ n1, ne-eqb _ _ n2, ne-eqb _ _ n3, ne-eqb _ _ n4, ne-eqb _ _ n5, ne-eqb _ _ n6, ne-eqb _ _ n7, ne-eqb _ _ n8, ne-eqb _ _ n9, ne-eqb _ _ n10, ne-eqb _ _ n11) (own-row _ place n m t u (scope false) refl refl refl refl w))
+      simp (ne-eqb _ _ n0, ne-eqb _ _ n1, ne-eqb _ _ n2, ne-eqb _ _ n3, ne-eqb _ _ n4, ne-eqb _ _ n5, ne-eqb _ _ n6, ne-eqb _ _ n7, ne-eqb _ _ n8, ne-eqb _ _ n9, ne-eqb _ _ n10, ne-eqb _ _ n11, ne-eqb _ _ n12) a
 
   pub parts-message : (k ≡ 0 → ⊥) → k < 3 → OwnRead (partnerIn vars (eqb k 2) s (messageOwn k) at) place n m r t u
       → OwnRead (partsIn vars cs s k at) place n m r t u

@@ -1,9 +1,9 @@
 -- Whatever is read of a plan stands there in its spelling. Assumes nothing.
 use native.Mathlib.Omega.{arith}
 use native.Mathlib.Decide.{decLt}
-use borrow.Author.Tests.{ltb-true, ltb-false, eqb-true}
+use borrow.Author.Tests.{ltb-true, ltb-false, leb-false, eqb-true}
 use mathlib.Core.Path.{_≡_, refl, sym, ap, _∙_}
-use mathlib.Core.Bool.{Bool, true, false, cond, _&&_, _||_}
+use mathlib.Core.Bool.{Bool, true, false, cond, _&&_, _||_, false≢true}
 use mathlib.Core.List.{List, [], _∷_, _++_, append-assoc, append-nil}
 use Prim.Native.Nat.{ℕ, zero, suc, _+_, _≤_, _<_}
 use lib.ListN.{length, take, drop, length-append}
@@ -17,8 +17,9 @@ use Rattle.numbers.proofs.Laws.{read-ends, read-is-shortest, value-bounds, shor
 use Rattle.plan.specs.Found.{Found, foundNumber, numberIn, fieldIn, among}
 use Rattle.plan.specs.Tree.{Exp, constant, variable, binary, Own, empty, send, receive, set, raise, leave, choose, repeat, sequence, flow, pick, scope, arm, kind, Act, act, Plan, size, count, isPick}
 use Rattle.plan.specs.Spell.{spell, operationCode, expressionNumbers, exchangeNumbers, ownNumbers, actNumbers, actsNumbers, planNumbers}
-use Rattle.plan.specs.Read.{expressionCodeIn, operationOf, leafIn, expressionIn, variablesIn, tupleIn, Head, exchangeIn, armIn, partnerIn, withExpressionIn, setIn, listIn, codeIn, partsIn, headIn, manyIn, wholeIn, readArm, readsIn, laterOf, readAct, startForm, correlationIn, versionIn, rootIn, readAny}
+use Rattle.plan.specs.Read.{expressionCodeIn, operationOf, leafIn, expressionIn, variablesIn, tupleIn, Head, exchangeIn, armIn, partnerIn, withExpressionIn, setIn, listIn, raiseIn, codeIn, partsIn, headIn, manyIn, wholeIn, readArm, readsIn, laterOf, readAct, startForm, correlationIn, versionIn, rootIn, readAny}
 use Rattle.plan.proofs.Finds.{Finds, finds-refused, finds-itself, finds-found, finds-cond, finds-code, finds-then, finds-both, finds-so, cond-case, code-case}
+use Rattle.plan.proofs.ByKind.{raise-numbers}
 
 -- From `at` to `next` the numbers ns stand in their spelling, each in the shortest form.
 pub record Stands (s : List ℕ) (at : ℕ) (ns : List ℕ) (next : ℕ) : Type 0 where
@@ -74,7 +75,8 @@ own-some empty within = omega arith
 own-some (send partner operation variables) within = omega arith
 own-some (receive partner operation variables) within = omega arith
 own-some (set v e) within = omega arith
-own-some raise within = omega arith
+own-some (raise zero) within = omega arith
+own-some (raise (suc n)) within = omega arith
 own-some leave within = omega arith
 own-some (choose e) within = omega arith
 own-some (repeat e) within = omega arith
@@ -118,6 +120,19 @@ unfolding fieldIn
 field-stands s least limit at =
     finds-then (number-stands s at)
     (λ v next h. finds-cond (ltb v least || leb limit v) (λ t. finds-refused) (λ t. finds-found h))
+
+-- of two tests of which one would be enough neither holds
+pub neither : (a b : Bool) → (a || b) ≡ false → (a ≡ false) × (b ≡ false)
+neither true b e = absurd (false≢true (sym e))
+neither false b e = (refl, e)
+
+-- a field keeps its rule
+pub field-within : (s : List ℕ) (least limit at : ℕ) → Finds (λ v next. (least ≤ v) × (v < limit)) (fieldIn s least limit at)
+unfolding fieldIn
+field-within s least limit at =
+    finds-then (finds-itself (numberIn s at))
+    (λ v next h. finds-cond (ltb v least || leb limit v) (λ t. finds-refused)
+    (λ t. let n = neither (ltb v least) (leb limit v) t in finds-found (ltb-false v least (n .0), leb-false limit v (n .1))))
 
 pub code-stands : (s : List ℕ) (at : ℕ) → Finds (λ code next. Stands s at (code ∷ []) next × (code ≤ 5)) (expressionCodeIn s at)
 unfolding expressionCodeIn
@@ -244,8 +259,14 @@ module _ (vars : ℕ) (cs s : List ℕ) {start at code : ℕ} (a : Stands s star
       (λ v p h. finds-cond (among v cs) (λ t. finds-refused)
       (λ t. with-expression-stands vars s (3 ∷ v ∷ []) (stands-code 3 e a h) (set v) 0 (λ x. refl)))
 
+  pub raise-stands : code ≡ 13 → Standing s start headNumbers (raiseIn s at)
+  unfolding raiseIn
+  raise-stands e =
+      finds-then (finds-both (field-stands s 16 256 at) (field-within s 16 256 at))
+      (λ n p h. finds-found (rw (raise-numbers n 0 (h .1 .0)) (stands-code 13 e a (h .0))))
+
   -- the table of codes
-  pub parts-stand : code ≤ 12 → Standing s start headNumbers (partsIn vars cs s code at)
+  pub parts-stand : code ≤ 13 → Standing s start headNumbers (partsIn vars cs s code at)
   unfolding partsIn ownNumbers
   parts-stand m =
       finds-code code 0 (omega arith) (λ e. finds-found (rw e at a))
@@ -260,16 +281,17 @@ module _ (vars : ℕ) (cs s : List ℕ) {start at code : ℕ} (a : Stands s star
       (λ l. finds-code code 9 l (λ e. list-stands vars s (code ∷ []) a flow 33 (λ k. rw e))
       (λ l. finds-code code 10 l (λ e. list-stands vars s (code ∷ []) a pick 9 (λ k. rw e))
       (λ l. finds-code code 11 l (λ e. finds-found (rw e at a))
-      (λ l. let e : code ≡ 12 = omega arith in finds-found (rw e at a)))))))))))))
+      (λ l. finds-code code 12 l (λ e. finds-found (rw e at a))
+      (λ l. raise-stands (omega arith))))))))))))))
 
 pub head-stands : (vars : ℕ) (cs s : List ℕ) (handler : Bool) (depth n at : ℕ) → Standing s at headNumbers (headIn vars cs s handler depth n at)
 unfolding headIn codeIn
 head-stands vars cs s handler depth n at =
     finds-then
-    (finds-then {Q = λ code next. Stands s at (code ∷ []) next × (code ≤ 12)} (number-stands s at)
-    (λ code next h. finds-cond (ltb 12 code) (λ t. finds-refused)
+    (finds-then {Q = λ code next. Stands s at (code ∷ []) next × (code ≤ 13)} (number-stands s at)
+    (λ code next h. finds-cond (ltb 13 code) (λ t. finds-refused)
     (λ t. finds-cond (handler && (eqb code 11 || eqb code 12)) (λ u. finds-refused)
-    (λ u. finds-cond (eqb depth 0 || leb 256 n) (λ w. finds-refused) (λ w. finds-found (h, ltb-false 12 code t))))))
+    (λ u. finds-cond (eqb depth 0 || leb 256 n) (λ w. finds-refused) (λ w. finds-found (h, ltb-false 13 code t))))))
     (λ code next h. parts-stand vars cs s (h .0) (h .1))
 
 -- whatever a reader of an activity or arm finds stands where it was read

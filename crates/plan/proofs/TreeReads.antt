@@ -42,7 +42,7 @@ few vars cs handler arms empty within e = let z = eqb-true within 0 (halves (not
 few vars cs handler arms (send p o vs) within e = let z = eqb-true within 0 (halves (eqb within 0) _ (halves (not arms) _ e .1) .0) in omega arith
 few vars cs handler arms (receive p o vs) within e = let z = eqb-true within 0 (halves (eqb within 0) _ (halves (not arms) _ e .1) .0) in omega arith
 few vars cs handler arms (set v x) within e = let z = eqb-true within 0 (halves (eqb within 0) _ (halves (not arms) _ e .1) .0) in omega arith
-few vars cs handler arms raise within e = let z = eqb-true within 0 (halves (not arms) _ e .1) in omega arith
+few vars cs handler arms (raise n) within e = let z = eqb-true within 0 (halves (eqb within 0) _ (halves (not arms) _ e .1) .0) in omega arith
 few vars cs handler arms leave within e = let z = eqb-true within 0 (halves (not arms) _ e .1) in omega arith
 few vars cs handler arms (choose x) within e = let z = eqb-true within 2 (halves (eqb within 2) _ (halves (not arms) _ e .1) .0) in omega arith
 few vars cs handler arms (repeat x) within e = let z = eqb-true within 1 (halves (eqb within 1) _ (halves (not arms) _ e .1) .0) in omega arith

@@ -90,11 +90,15 @@ setIn vars cs s at =
 unfoldable pub listIn : List ℕ → Own → (limit at : ℕ) → Found Head
 listIn s own limit at = andThen (fieldIn s 1 limit at) (λ count next. found (head own count) next)
 
+-- "Code 13 is a raise with a number 16 to 255."
+unfoldable pub raiseIn : List ℕ → (at : ℕ) → Found Head
+raiseIn s at = andThen (fieldIn s 16 256 at) (λ n next. found (head (raise n) 0) next)
+
 -- the code of an activity: 4 unknown code; 8 scope in a fault or undo part; 6 depth 17 or activity 257; in that order, at that number
 unfoldable pub codeIn : List ℕ → (handler : Bool) → (depth n at : ℕ) → Found ℕ
 codeIn s handler depth n at =
     andThen (numberIn s at) (λ code next.
-    cond (ltb 12 code) (refused 4 at)
+    cond (ltb 13 code) (refused 4 at)
     (cond (handler && (eqb code 11 || eqb code 12)) (refused 8 at)
     (cond (eqb depth 0 || leb 256 n) (refused 6 at)
     (found code next))))
@@ -106,7 +110,7 @@ partsIn vars cs s code at =
     (cond (eqb code 1) (partnerIn vars false s send at)
     (cond (eqb code 2) (partnerIn vars true s receive at)
     (cond (eqb code 3) (setIn vars cs s at)
-    (cond (eqb code 4) (found (head raise 0) at)
+    (cond (eqb code 4) (found (head (raise 0) 0) at)
     (cond (eqb code 5) (found (head leave 0) at)
     (cond (eqb code 6) (withExpressionIn vars s choose 2 at)
     (cond (eqb code 7) (withExpressionIn vars s repeat 1 at)
@@ -114,7 +118,8 @@ partsIn vars cs s code at =
     (cond (eqb code 9) (listIn s flow 33 at)
     (cond (eqb code 10) (listIn s pick 9 at)
     (cond (eqb code 11) (found (head (scope true) 3) at)
-    (found (head (scope false) 2) at))))))))))))
+    (cond (eqb code 12) (found (head (scope false) 2) at)
+    (raiseIn s at)))))))))))))
 
 unfoldable pub headIn : (vars : ℕ) → List ℕ → List ℕ → (handler : Bool) → (depth n at : ℕ) → Found Head
 headIn vars cs s handler depth n at = andThen (codeIn s handler depth n at) (λ code next. partsIn vars cs s code next)

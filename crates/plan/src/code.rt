@@ -26,6 +26,8 @@ pub const SCOPE: usize = super::kind::SCOPE as usize;
 
 pub const OPEN_SCOPE: usize = super::kind::OPEN_SCOPE as usize;
 
+pub const NUMBERED_RAISE: usize = super::kind::NUMBERED_RAISE as usize;
+
 pub const LAST: usize = super::kind::LAST as usize;
 
 pub const ARM: usize = super::kind::ARM as usize;

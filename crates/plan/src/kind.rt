@@ -27,7 +27,10 @@ pub const SCOPE: u32 = 11;
 // A scope with no undo part of its own.
 pub const OPEN_SCOPE: u32 = 12;
 
+// A raise with the number of its fault.
+pub const NUMBERED_RAISE: u32 = 13;
+
 // The last code of an activity: what stands on file above it is no activity.
-pub const LAST: u32 = OPEN_SCOPE;
+pub const LAST: u32 = NUMBERED_RAISE;
 
 pub const ARM: u32 = 255;

@@ -18,7 +18,7 @@ ghost use mathlib.Core.Path.{_≡_};
 ghost use Rattle.plan.specs.Answers.{fieldOf, messageOwn, expressionOwn, listOwn, OwnRead};
 ghost use Rattle.plan.specs.Fits.{NumberFits};
 ghost use Rattle.plan.specs.Nodes.{Base, Room, IsMessage, IsExpression, IsList, nodeHeadIn};
-ghost use Rattle.plan.specs.Read.{exchangeIn, partnerIn, armIn, withExpressionIn, setIn, listIn, codeIn, partsIn, headIn};
+ghost use Rattle.plan.specs.Read.{exchangeIn, partnerIn, armIn, withExpressionIn, setIn, listIn, raiseIn, codeIn, partsIn, headIn};
 ghost use Rattle.plan.specs.Store.{chosen};
 ghost use Rattle.plan.specs.Table.{row, putRow};
 
@@ -233,6 +233,40 @@ fn list_own(
     }
 }
 
+// A raise with a number.
+fn raise_own(s: &[u8], at: usize, n: usize, m: usize, place: usize, table: &mut Table) -> Own
+    requires { ⌜ (n < 256) × (place ≤ 4096) ⌝ }
+    ensures { λ r. ⌜ OwnRead (raiseIn (now (s .entry)) at) place n m r (now (table .entry)) (now (table .exit)) ⌝ }
+{
+    let f = field_at(s, at, 16, 256);
+    match f {
+        Field::Refused { number, place } => Own::Refused { number, place },
+        Field::Got {
+            value: number,
+            next,
+        } => {
+            write_row(
+                table,
+                n,
+                kind::NUMBERED_RAISE,
+                number,
+                0,
+                0,
+                [0u32; 4],
+                0,
+                0,
+                place,
+            );
+            Own::Read {
+                kind: kind::NUMBERED_RAISE,
+                within: 0,
+                next,
+                nodes: m,
+            }
+        }
+    }
+}
+
 // Whether a scope stands where none may.
 fn misplaced(code: u32, handler: bool) -> bool
     ensures { λ r. ⌜ r ≡ (handler && (eqb code 11 || eqb code 12)) ⌝ }
@@ -319,7 +353,8 @@ fn parts_own(
         kind::FLOW => list_own(s, at, kind::FLOW, 33, n, m, place, table),
         kind::PICK => list_own(s, at, kind::PICK, 9, n, m, place, table),
         kind::SCOPE => plain_own(at, kind::SCOPE, 3, n, m, place, table),
-        _ => plain_own(at, kind::OPEN_SCOPE, 2, n, m, place, table),
+        kind::OPEN_SCOPE => plain_own(at, kind::OPEN_SCOPE, 2, n, m, place, table),
+        _ => raise_own(s, at, n, m, place, table),
     }
 }
 

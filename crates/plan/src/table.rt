@@ -22,6 +22,9 @@ pub const KIND: usize = 0;
 // What a send, a receive or an arm is about: the partner, the operation, how many variables, and these, of which there are at most four.
 pub const PARTNER: usize = 1;
 
+// A raise has the number of its fault where those have their partner.
+pub const NUMBER: usize = PARTNER;
+
 pub const OPERATION: usize = 2;
 
 pub const COUNT: usize = 3;
@@ -59,9 +62,9 @@ fn receives(kind: u32) -> bool
     }
 }
 
-// Flags the partner of a receive or an arm.
+// Flags the partner of a receive or an arm; what stands in a raise's row in its place is below 256, and no partner.
 fn note(table: &mut Table, kind: u32, partner: u32)
-    requires { ⌜ partner < 64 ⌝ }
+    requires { ⌜ partner < 256 ⌝ }
     ensures { λ _. ⌜ now (table .exit) ≡ noted kind partner (now (table .entry)) ⌝ }
 {
     if receives(kind) {
@@ -83,7 +86,7 @@ pub(crate) fn write_row(
     expression: usize,
     place: usize,
 )
-    requires { ⌜ ((n < 256) × (partner < 64)) × ((expression ≤ 4096) × (place ≤ 4096)) ⌝ }
+    requires { ⌜ ((n < 256) × (partner < 256)) × ((expression ≤ 4096) × (place ≤ 4096)) ⌝ }
     ensures { λ _. ⌜ now (table .exit) ≡ putRow n (kind ∷ partner ∷ operation ∷ count ∷ getD variables 0 0 ∷ getD variables 1 0 ∷ getD variables 2 0 ∷ getD variables 3 0 ∷ variable ∷ expression ∷ place ∷ []) (now (table .entry)) ⌝ }
 {
     let b = n * WIDTH;

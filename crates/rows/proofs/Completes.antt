@@ -17,6 +17,7 @@ use Rattle.plan.specs.Tree.{Operation, sum, difference, equal, less, Exp, const
 use Rattle.plan.specs.Agree.{askedFrom, agree, judged}
 use Rattle.plan.specs.Within.{expressionWithin, variablesWithin, exchangeWithin, from1, ownWithin, actWithin, actsWithin, ascending, planWithin}
 use Rattle.plan.proofs.Accepts.{both}
+use Rattle.plan.proofs.ByKind.{raise-limits}
 use Rattle.writer.specs.Rows.{line, lines, expressionRows, ownRows, actRows, actsRows, planRows, rowsOf}
 use Rattle.plan.proofs.Agreeing.{judged-agrees}
 use Rattle.writer.specs.Reading.{cell, zeros, shaped, tuple, rowIn, expressionFits, expressionHead, expressionAt, exchangeFits, armAt, codeAt, partsFit, withExpression, partsAt, headAt, armWith, readsAt, actAt, rootAt, headFits, planAt, inRows, agreedAt, readRows}
@@ -202,9 +203,9 @@ message-read vars once {t} {r} {k} {p} {o} {vs} h w =
     rw (y .all, y .two, x .partner, y .three, x .operation, y .four, x .some, x .most, x .each, n) (w .shape)
 
 module _ (vars : ℕ) (cs t : List ℕ) (handler : Bool) (d n : ℕ) (room : n < 256) where
-  code-read : {r k : ℕ} {ns : List ℕ} → Row t r (k ∷ ns) → k ≤ 12 → (handler && (eqb k 11 || eqb k 12)) ≡ false → codeAt t handler (suc d) n r ≡ found k (r + 1)
+  code-read : {r k : ℕ} {ns : List ℕ} → Row t r (k ∷ ns) → k ≤ 13 → (handler && (eqb k 11 || eqb k 12)) ≡ false → codeAt t handler (suc d) n r ≡ found k (r + 1)
   unfolding codeAt
-  code-read {k = k} w h f = rw (row-read w, le-ltb 12 k h, f, ne-eqb (suc d) 0 (λ z. omega arith), lt-leb 256 n room)
+  code-read {k = k} w h f = rw (row-read w, le-ltb 13 k h, f, ne-eqb (suc d) 0 (λ z. omega arith), lt-leb 256 n room)
 
   known-read : {r k : ℕ} {ns : List ℕ} → Row t r (k ∷ ns) → k ≤ 10 → partsFit vars cs t r k ≡ true
       → headAt vars cs t handler (suc d) n r ≡ partsAt vars t r k (r + 1)
@@ -224,7 +225,10 @@ module _ (vars : ℕ) (cs t : List ℕ) (handler : Bool) (d n : ℕ) (room : n <
   own-read (set v e) within h (cons w x) =
       both (eqb within 0) _ h (λ z h1. both (ltb v vars) _ h1 (λ a h2. both (not (among v cs)) _ h2 (λ b q.
       known-read w (omega arith) (rw (second-read w, a, b) (w .shape)) ∙ rw (expression-read vars t e 8 q x, second-read w, eqb-true within 0 z))))
-  own-read raise within h (cons w nil) = known-read w (omega arith) (w .shape) ∙ rw (eqb-true within 0 h)
+  own-read (raise zero) within h (cons w nil) = both (eqb within 0) _ h (λ z x. known-read w (omega arith) (w .shape) ∙ rw (eqb-true within 0 z))
+  own-read (raise (suc number)) within h (cons w nil) =
+      both (eqb within 0) _ h (λ z x. let y = raise-limits number x in
+      rw (code-read w (omega arith) (and-false handler), second-read w, le-leb 16 (suc number) (y .0), le-leb (suc number) 255 (omega (arith, y .1)), w .shape, eqb-true within 0 z))
   own-read leave within h (cons w nil) = known-read w (omega arith) (w .shape) ∙ rw (eqb-true within 0 h)
   own-read (choose e) within h (cons w x) =
       both (eqb within 2) _ h (λ z q. known-read w (omega arith) (w .shape) ∙ rw (expression-read vars t e 8 q x, eqb-true within 2 z))
@@ -252,7 +256,7 @@ module _ (vars : ℕ) (cs t : List ℕ) (handler : Bool) (d n : ℕ) (room : n <
   arm-own-read (send p o vs) within h x = absurd (false≢true h)
   arm-own-read (receive p o vs) within h x = absurd (false≢true h)
   arm-own-read (set v e) within h x = absurd (false≢true h)
-  arm-own-read raise within h x = absurd (false≢true h)
+  arm-own-read (raise number) within h x = absurd (false≢true h)
   arm-own-read leave within h x = absurd (false≢true h)
   arm-own-read (choose e) within h x = absurd (false≢true h)
   arm-own-read (repeat e) within h x = absurd (false≢true h)
@@ -410,7 +414,8 @@ short-own vars cs handler arms (send p o vs) within h =
 short-own vars cs handler arms (receive p o vs) within h =
     both (not arms) _ h (λ a h1. both (eqb within 0) _ h1 (λ b x. (omega (arith, short-exchange vars true p o vs x), tt)))
 short-own vars cs handler arms (set v e) within h = (omega arith, short-expression e)
-short-own vars cs handler arms raise within h = (omega arith, tt)
+short-own vars cs handler arms (raise zero) within h = (omega arith, tt)
+short-own vars cs handler arms (raise (suc number)) within h = (omega arith, tt)
 short-own vars cs handler arms leave within h = (omega arith, tt)
 short-own vars cs handler arms (choose e) within h = (omega arith, short-expression e)
 short-own vars cs handler arms (repeat e) within h = (omega arith, short-expression e)

@@ -175,10 +175,14 @@ module _ {kind : ℕ} (count : ℕ) where
   unfolding widthOf
   width-pick e = rw e
 
-  pub width-code : (kind ≡ 1 → ⊥) → (kind ≡ 2 → ⊥) → (kind ≡ 3 → ⊥) → (kind ≡ 8 → ⊥) → (kind ≡ 9 → ⊥) → (kind ≡ 10 → ⊥) → (kind ≡ 255 → ⊥)
+  pub width-raise : kind ≡ 13 → 2 ≡ widthOf kind count
+  unfolding widthOf
+  width-raise e = rw e
+
+  pub width-code : (kind ≡ 1 → ⊥) → (kind ≡ 2 → ⊥) → (kind ≡ 3 → ⊥) → (kind ≡ 8 → ⊥) → (kind ≡ 9 → ⊥) → (kind ≡ 10 → ⊥) → (kind ≡ 13 → ⊥) → (kind ≡ 255 → ⊥)
       → 1 ≡ widthOf kind count
   unfolding widthOf
-  width-code a b c d e f g = rw (ne-eqb _ _ a, ne-eqb _ _ b, ne-eqb _ _ c, ne-eqb _ _ d, ne-eqb _ _ e, ne-eqb _ _ f, ne-eqb _ _ g)
+  width-code a b c d e f g h = rw (ne-eqb _ _ a, ne-eqb _ _ b, ne-eqb _ _ c, ne-eqb _ _ d, ne-eqb _ _ e, ne-eqb _ _ f, ne-eqb _ _ g, ne-eqb _ _ h)
 
 -- `opens_of`
 module _ {kind : ℕ} where

@@ -21,6 +21,7 @@ use Rattle.plan.specs.Table.{nodesOf, ownNodes, nodes, nodesAll, bodyPlace}
 use Rattle.plan.specs.Tree.{Operation, sum, difference, equal, less, Exp, constant, variable, binary, Own, empty, send, receive, set, raise, leave, choose, repeat, sequence, flow, pick, scope, arm, kind, Act, act, Acts, none, more, Plan, size, sizes, count}
 use Rattle.plan.specs.Within.{expressionWithin, variablesWithin, exchangeWithin, from1, ownWithin, actWithin, actsWithin, ascending}
 use Rattle.plan.proofs.Accepts.{both}
+use Rattle.plan.proofs.ByKind.{raise-limits}
 use Rattle.writer.specs.Rows.{used, expressionRows, ownRows, actRows, actsRows, planRows, rowsOf}
 use Rattle.rows.specs.Cut.{valueOf, nextOf, valueIn, nextIn, numbersIn, placeAfter, kindIn, countIn, widthOf, opens, rowWidth, dueAfter, kAfter, cutRows, headWidth, cutPlan}
 use Rattle.rows.proofs.Completes.{Short, Limits, Exchange, exchange-of, ascending-few, short-plan, lines-long}
@@ -183,7 +184,9 @@ module _ (s t : List ℕ) where
       cut-more k 0 0 (2 ∷ exchangeNumbers p o vs) l (own-next k (receive p o vs) a b (2 ∷ exchangeNumbers p o vs) 0 (λ h. exchange-wide p o vs (omega arith)) refl (flat l)) c
   cut-own (set v x) within k l a b c =
       cut-more k 0 1 (3 ∷ v ∷ []) (expressionRows x ++ l) (own-next k (set v x) a b (3 ∷ v ∷ []) 1 (λ h. refl) refl _) (cut-expression (k + 1) x 0 l c)
-  cut-own raise within k l a b c = cut-more k 0 0 (4 ∷ []) l (own-next k raise a b (4 ∷ []) 0 (λ h. refl) refl (flat l)) c
+  cut-own (raise zero) within k l a b c = cut-more k 0 0 (4 ∷ []) l (own-next k (raise zero) a b (4 ∷ []) 0 (λ h. refl) refl (flat l)) c
+  cut-own (raise (suc n)) within k l a b c =
+      cut-more k 0 0 (13 ∷ suc n ∷ []) l (own-next k (raise (suc n)) a b (13 ∷ suc n ∷ []) 0 (λ h. refl) refl (flat l)) c
   cut-own leave within k l a b c = cut-more k 0 0 (5 ∷ []) l (own-next k leave a b (5 ∷ []) 0 (λ h. refl) refl (flat l)) c
   cut-own (choose x) within k l a b c =
       cut-more k 0 1 (6 ∷ []) (expressionRows x ++ l) (own-next k (choose x) a b (6 ∷ []) 1 (λ h. refl) refl _) (cut-expression (k + 1) x 0 l c)
@@ -237,7 +240,8 @@ own-rows empty within = refl
 own-rows (send p o vs) within = refl
 own-rows (receive p o vs) within = refl
 own-rows (set v e) within = omega (arith, expression-rows e)
-own-rows raise within = refl
+own-rows (raise zero) within = refl
+own-rows (raise (suc n)) within = refl
 own-rows leave within = refl
 own-rows (choose e) within = omega (arith, expression-rows e)
 own-rows (repeat e) within = omega (arith, expression-rows e)
@@ -320,7 +324,9 @@ module _ (vars : ℕ) (cs : List ℕ) (k : vars ≤ 16) where
   small-own handler arms (set v e) within h =
       both (not arms) _ h (λ a h1. both (eqb within 0) _ h1 (λ b h2. both (ltb v vars) _ h2 (λ c h3. both (not (among v cs)) _ h3 (λ d x.
       ((omega arith, (omega (arith, ltb-true v vars c), tt)), small-expression vars e 8 k x)))))
-  small-own handler arms raise within h = ((omega arith, tt), tt)
+  small-own handler arms (raise zero) within h = ((omega arith, tt), tt)
+  small-own handler arms (raise (suc n)) within h =
+      both (not arms) _ h (λ a h1. both (eqb within 0) _ h1 (λ b x. ((omega arith, (omega (arith, raise-limits n x .1), tt)), tt)))
   small-own handler arms leave within h = ((omega arith, tt), tt)
   small-own handler arms (choose e) within h =
       both (not arms) _ h (λ a h1. both (eqb within 2) _ h1 (λ b x. ((omega arith, tt), small-expression vars e 8 k x)))

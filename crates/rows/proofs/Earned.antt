@@ -17,7 +17,7 @@ use Rattle.plan.specs.Agree.{Asked, agreesWith, agreeAfter, agree, asked, asked
 use Rattle.plan.specs.Found.{Found, refused, found, andThen, numberIn, fieldIn, among}
 use Rattle.plan.specs.Spell.{spell}
 use Rattle.plan.specs.Tree.{Exp, Own, send, receive, set, choose, repeat, sequence, flow, pick, arm, isPick, Act, Plan, size}
-use Rattle.plan.specs.Read.{expressionCodeIn, leafIn, expressionIn, variablesIn, tupleIn, Head, head, exchangeIn, armIn, partnerIn, withExpressionIn, setIn, listIn, codeIn, partsIn, headIn, manyIn, wholeIn, readArm, readsIn, laterOf, readAct, startForm, correlationIn, versionIn, closing, rootIn, readAny, readPlan}
+use Rattle.plan.specs.Read.{expressionCodeIn, leafIn, expressionIn, variablesIn, tupleIn, Head, head, exchangeIn, armIn, partnerIn, withExpressionIn, setIn, listIn, raiseIn, codeIn, partsIn, headIn, manyIn, wholeIn, readArm, readsIn, laterOf, readAct, startForm, correlationIn, versionIn, closing, rootIn, readAny, readPlan}
 use Rattle.plan.specs.Within.{variablesWithin, from1, ascending}
 use Rattle.plan.proofs.Accepts.{both, among-append}
 use Rattle.plan.proofs.Agreeing.{judged-agrees}
@@ -154,7 +154,7 @@ module _ (t s : List ℕ) (words : Words t) where
   asks-some aHead r = omega arith
   asks-some anActivity r =
       cond-some (eqb (cell t r 1) 1 || eqb (cell t r 1) 2) _ _ (omega arith)
-      (cond-some (eqb (cell t r 1) 3 || (eqb (cell t r 1) 8 || (eqb (cell t r 1) 9 || eqb (cell t r 1) 10))) 2 1 (omega arith) (omega arith))
+      (cond-some (eqb (cell t r 1) 3 || (eqb (cell t r 1) 8 || (eqb (cell t r 1) 9 || (eqb (cell t r 1) 10 || eqb (cell t r 1) 13)))) 2 1 (omega arith) (omega arith))
   asks-some anArm r = omega arith
   asks-some anExpression r = cond-some (leb (cell t r 1) 1) 2 1 (omega arith) (omega arith)
 
@@ -515,6 +515,20 @@ module _ (t s : List ℕ) (words : Words t) where
     unfolding activityAsks activityHas partsFit partsAt partsIn
     coded-receive k sh e w = partner-heads true receive k sh e w
 
+    -- a raise with its number
+    coded-number : Coded 13
+    unfolding activityAsks activityHas partsFit partsAt partsIn raiseIn fieldIn
+    coded-number k sh e w =
+        let v = cell t r 2 in
+        let y : Inside ps r 2 1 q = inside-as refl (omega (arith, e)) w in
+        let x = cell-read y in
+        rw (x .is, sh)
+        (decide (leb 16 v)
+        (λ i. decide (leb v 255)
+        (λ j. rw (i, j, le-ltb v 16 (leb-true 16 v i), lt-leb 256 v (omega (arith, leb-true v 255 j))) (head-met (leaves (x .inside))))
+        (λ j. rw (i, j, le-ltb v 16 (leb-true 16 v i), le-leb 256 v (omega (arith, leb-false v 255 j))) head-same))
+        (λ i. rw (i, lt-ltb v 16 (omega (arith, leb-false 16 v i))) head-same))
+
     -- a list with its count
     list-from : (own : Own) (most : ℕ) (qs : List Part) → (x : Cell qs r 2 0 q) → shaped t r 2 ≡ true
         → (leb (cell t r 2) most ≡ true → qs ≡ replicate (cell t r 2) (within-of own) ++ ps)
@@ -551,7 +565,7 @@ module _ (t s : List ℕ) (words : Words t) where
     unfolding activityAsks activityHas partsFit partsAt partsIn
     coded-pick k sh e w = list-heads pick 8 k sh e w
 
-    coded : (c : ℕ) → c ≤ 12 → Coded c
+    coded : (c : ℕ) → c ≤ 13 → Coded c
     coded zero h = coded-empty
     coded (suc zero) h = coded-send
     coded (suc (suc zero)) h = coded-receive
@@ -565,7 +579,8 @@ module _ (t s : List ℕ) (words : Words t) where
     coded (suc (suc (suc (suc (suc (suc (suc (suc (suc (suc zero)))))))))) h = coded-pick
     coded (suc (suc (suc (suc (suc (suc (suc (suc (suc (suc (suc zero))))))))))) h = coded-scope
     coded (suc (suc (suc (suc (suc (suc (suc (suc (suc (suc (suc (suc zero)))))))))))) h = coded-open
-    coded (suc (suc (suc (suc (suc (suc (suc (suc (suc (suc (suc (suc (suc n))))))))))))) h = absurd (omega arith)
+    coded (suc (suc (suc (suc (suc (suc (suc (suc (suc (suc (suc (suc (suc zero))))))))))))) h = coded-number
+    coded (suc (suc (suc (suc (suc (suc (suc (suc (suc (suc (suc (suc (suc (suc n)))))))))))))) h = absurd (omega arith)
 
   -- an activity before those within it
   activity-heads : (vars : ℕ) (cs : List ℕ) (handler : Bool) (depth n : ℕ) (ps : List Part) (r q : ℕ) → Here (anActivity ∷ ps) r q
@@ -577,10 +592,10 @@ module _ (t s : List ℕ) (words : Words t) where
       go (ends a b) = rw (a, b) head-same
       go (begins w a k e x) =
           rw (a, x .is)
-          (decide (ltb 12 (cell t r 1)) (λ i. rw i head-same)
+          (decide (ltb 13 (cell t r 1)) (λ i. rw i head-same)
           (λ i. rw i (decide (handler && (eqb (cell t r 1) 11 || eqb (cell t r 1) 12)) (λ j. rw j head-same)
           (λ j. rw j (decide (eqb depth 0 || leb 256 n) (λ b. rw b head-same)
-          (λ b. rw b (coded vars cs ps r (x .next) (cell t r 1) (ltb-false 12 (cell t r 1) i) k (w .shape) e (x .inside))))))))
+          (λ b. rw b (coded vars cs ps r (x .next) (cell t r 1) (ltb-false 13 (cell t r 1) i) k (w .shape) e (x .inside))))))))
 
   -- Those within: two readers of one that go side by side.
   abbrev Ones : Part → (one two : Bool → ℕ → ℕ → Found Act) → Type 0

@@ -43,7 +43,7 @@ module _ (c d : Places) where
   own-alike (send p o vs) at bt = nil
   own-alike (receive p o vs) at bt = cons (record { partner = refl; operation = refl; many = refl }) nil
   own-alike (set v e) at bt = nil
-  own-alike raise at bt = nil
+  own-alike (raise n) at bt = nil
   own-alike leave at bt = nil
   own-alike (choose e) at bt = nil
   own-alike (repeat e) at bt = nil

@@ -13,8 +13,9 @@ use Rattle.plan.specs.Found.{Found, refused, found, andThen, among}
 use Rattle.plan.specs.Read.{operationOf, Head, head, manyIn, wholeIn, laterOf, startForm, readPlan}
 use Rattle.plan.specs.Spell.{spelling}
 use Rattle.plan.specs.Tree.{Exp, constant, variable, binary, Own, empty, send, receive, set, raise, leave, choose, repeat, sequence, flow, pick, scope, arm, isScope, isPick, Act, act, Acts, none, more, Plan, size, count}
-use Rattle.plan.specs.Within.{expressionWithin, variablesWithin, exchangeWithin, from1, ownWithin, levelsBelow, actWithin, actsWithin, ascending, planWithin}
+use Rattle.plan.specs.Within.{expressionWithin, variablesWithin, exchangeWithin, from1, raiseWithin, ownWithin, levelsBelow, actWithin, actsWithin, ascending, planWithin}
 use Rattle.plan.proofs.Accepts.{both}
+use Rattle.plan.proofs.ByKind.{raise-allowed}
 use Rattle.plan.proofs.Agreeing.{judged-found, spelled-is-accepted}
 use Rattle.plan.proofs.Bounds.{Numbered, whole-numbered}
 use Rattle.plan.proofs.Finds.{Finds, finds-refused, finds-itself, finds-found, finds-cond, finds-code, finds-then, finds-so, finds-both, cond-case}
@@ -90,8 +91,12 @@ module _ (t : List ℕ) (words : Words t) where
     list-within : (most x : ℕ) (s : Bool) → (from1 most x && s) ≡ true → from1 most x ≡ true
     list-within most x s h = both (from1 most x) s h (λ a b. a)
 
-    parts-within : (r k next : ℕ) → There t r k next → k ≤ 12 → (handler && (eqb k 11 || eqb k 12)) ≡ false → partsFit vars cs t r k ≡ true → Finds Kept (partsAt vars t r k next)
-    unfolding partsAt partsFit ownWithin
+    raise-within : (x : ℕ) (s : Bool) → (leb 16 x && (leb x 255 && s)) ≡ true → raiseWithin x ≡ true
+    raise-within x s h =
+        both (leb 16 x) _ h (λ a h1. both (leb x 255) _ h1 (λ b c. raise-allowed x (leb-true 16 x a) (omega (arith, leb-true x 255 b))))
+
+    parts-within : (r k next : ℕ) → There t r k next → k ≤ 13 → (handler && (eqb k 11 || eqb k 12)) ≡ false → partsFit vars cs t r k ≡ true → Finds Kept (partsAt vars t r k next)
+    unfolding partsAt partsFit ownWithin raiseWithin
     parts-within r k next w l g h =
         finds-code k 0 (omega arith) (λ e. finds-found refl) (λ z.
         finds-code k 1 (omega arith) (λ e. finds-found (message-within r k next w false (rw e at h))) (λ z.
@@ -108,7 +113,8 @@ module _ (t : List ℕ) (words : Words t) where
         finds-code k 9 (omega arith) (λ e. finds-found (list-within 32 (cell t r 2) _ (rw e at h))) (λ z.
         finds-code k 10 (omega arith) (λ e. finds-found (list-within 8 (cell t r 2) _ (rw e at h))) (λ z.
         finds-code k 11 (omega arith) (λ e. finds-found (rw (sym (and-true handler) ∙ rw e at g))) (λ z.
-        let e : k ≡ 12 = omega arith in finds-found (rw (sym (and-true handler) ∙ rw e at g))))))))))))))
+        finds-code k 12 (omega arith) (λ e. finds-found (rw (sym (and-true handler) ∙ rw e at g))) (λ z.
+        let e : k ≡ 13 = omega arith in finds-found (raise-within (cell t r 2) _ (rw e at h)))))))))))))))
 
     head-within : (depth n r : ℕ) → Finds (λ h q. Kept h q × (n < 256)) (headAt vars cs t handler depth n r)
     unfolding headAt

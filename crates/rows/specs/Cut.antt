@@ -45,7 +45,7 @@ unfoldable pub countIn : List ℕ → (k : ℕ) → ℕ
 countIn t k = cond (ltb k 256) (getD t (k * 13 + 3) 0) 0
 
 -- how many numbers the row of an activity or arm has: a send or a receive four before its variables, an arm, which has no code, three; a set, a
--- sequence, a flow and a pick two; all others their code alone
+-- sequence, a flow, a pick and a raise with a number two; all others their code alone
 unfoldable pub widthOf : (kind count : ℕ) → ℕ
 widthOf kind count =
     cond (eqb kind 1) (used (4 + count))
@@ -54,8 +54,9 @@ widthOf kind count =
     (cond (eqb kind 8) 2
     (cond (eqb kind 9) 2
     (cond (eqb kind 10) 2
+    (cond (eqb kind 13) 2
     (cond (eqb kind 255) (used (3 + count))
-    1))))))
+    1)))))))
 
 -- how many expressions follow the row of an activity: one after a set, a choose and a repeat
 unfoldable pub opens : (kind : ℕ) → ℕ

@@ -105,6 +105,7 @@ fn width_of(kind: usize, count: usize) -> usize
         code::SEQUENCE => 2,
         code::FLOW => 2,
         code::PICK => 2,
+        code::NUMBERED_RAISE => 2,
         code::ARM => at_most_19(3 + count),
         _ => 1,
     }

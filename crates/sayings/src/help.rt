@@ -137,7 +137,7 @@ fn put_second(out: &mut [u8; 4096], used: usize, k: usize) -> usize {
         25 => put(
             out,
             used,
-            b"help [WORD]                     this list, or more on one command; \"help refusals\" for what the refusals mean",
+            b"help [WORD]                     this list, or more on one command; \"help refusals\" and \"help faults\" for what their numbers mean",
         ),
         _ => used,
     }
@@ -159,7 +159,7 @@ fn put_more_first(out: &mut [u8; 4096], used: usize, k: usize) -> usize {
         2 => put(
             out,
             used,
-            b"  The answer is \"step 0 SLOT ACTIVITY PLACE END\", and what was done in words.",
+            b"  The answer is \"step 0 SLOT ACTIVITY PLACE END FAULT\", and what was done in words.",
         ),
         3 => put(
             out,

@@ -1,7 +1,11 @@
-// What the desk says to a person beside its numbers: a sentence for each refusal, and the help.
+// What the desk says to a person beside its numbers: a sentence for each refusal, what each fault is called, and the help.
+mod faults;
 mod help;
 mod refusals;
 
+pub use faults::put_by_fault;
+pub use faults::put_fault;
+pub use faults::put_faults;
 pub use help::has_help;
 pub use help::put_help;
 pub use help::put_help_on;

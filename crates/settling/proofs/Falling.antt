@@ -3,7 +3,7 @@ use Prim.Native.Nat.{ℕ, zero, suc, _+_, _≤_, _<_}
 use native.Mathlib.Omega.{arith}
 use mathlib.Core.Path.{_≡_, refl, sym, ap, subst, _∙_}
 use mathlib.Core.Bool.{Bool, true, false, cond, _&&_, _||_, false≢true, or-true}
-use mathlib.Core.List.{List, [], _∷_, _++_}
+use mathlib.Core.List.{List, _∷_, _++_}
 use lib.ListN.{getD, set}
 use lib.Seq.{getD-set-other}
 use lib.Dec.{eqb, ltb}
@@ -12,17 +12,18 @@ use Rattle.plan.specs.Tree.{Exp, Own, empty, send, receive, set as setting, rai
 use Rattle.order.specs.declared.Order.{Order}
 use Rattle.order.specs.declared.Way.{Way as Result}
 use Rattle.order.specs.declared.Way.the-variants.{Running as running, Over as over, Raising as raising, Leaving as leaving, Undone as undone, UndoRaising as undoRaising}
-use Rattle.order.specs.State.{idle, active, inside, done, faulty, undoing, handling, halted, withdrawing, Name, root, inner, withMarks, marked, markAt, markOf, marking, closings, remembering}
-use Rattle.order.specs.Lists.{withoutLast}
+use Rattle.order.specs.State.{idle, active, inside, done, undoing, handling, withdrawing, Name, root, inner, withMarks, marked, markAt, markOf}
 use Rattle.order.specs.Event.{Event}
-use Rattle.order.specs.Begin.{Begun, begin, beginAfter, part, partAt, quiet, cleared}
-use Rattle.order.specs.Scope.{Outcome, runs, after, begunIn, whereOver, Scope, scopeAt, rootOf, isFor, isOpen, innerRuns, rememberedFor, beginUndo, startUndo, undo, stop, ends, handle, undoes, turns, faults, breaks, looksAgain, bodyOver, bodyRaised, undoRaised, fromBody, partRaised, fromFault, goesThrough, fromUndo}
+use Rattle.order.specs.Expression.{conflictingReceive}
+use Rattle.order.specs.Begin.{Begun, beginAfter, part, partAt, quiet, cleared}
+use Rattle.order.specs.Scope.{Outcome, runs, after, begunIn, whereOver, Scope, scopeAt, rootOf, breaks, looksAgain, bodyOver, bodyRaised, undoRaised, fromBody, partRaised, fromFault, goesThrough, fromUndo}
 use Rattle.order.specs.Acting.{finishes, raises, again, isPart, arms, goesOn, joins, inScope, combines, inPlace, replaces, performs, stepIn, stepAmong}
 use Rattle.order.specs.Awaited.{Doing, doingOf, awaits}
 use Rattle.order.specs.Judging.{rank}
 use Rattle.machine.specs.Calls.{doingIn, doingAmong}
 use Rattle.plan.proofs.ByKind.{kind-pick}
 use Rattle.order.proofs.Standing.{first-at}
+use Rattle.laws.proofs.Numbers.{isCalm, Calm, calm-looks, calm-body-over, calm-body-raised}
 use Rattle.settling.proofs.Parts.{both, decide, first-of, second-of}
 use Rattle.settling.proofs.Formed.{parts, Formed, formed-part, formed-scope, FormedIn, formed-none, formed-more}
 use Rattle.settling.proofs.Waiting.{opens, Waits, waits-itself, waits-within, WaitsIn, waits-first, waits-later}
@@ -60,17 +61,17 @@ falls-below x = same-less (x .from) (x .same)
 abbrev pub isPlain : Result → Bool
 isPlain running = true
 isPlain over = true
-isPlain raising = true
+isPlain (raising x) = true
 isPlain leaving = false
 isPlain undone = false
-isPlain undoRaising = true
+isPlain (undoRaising x) = true
 
 -- what a raise in a tree comes to; in a handler, h, it comes out of it
 pub record Fell (f : ℕ → ℕ) (h : Bool) (b e : ℕ) (o : Order) (r : Outcome) : Type 0 where
   pub falls : Falls f b e (o .marks) (r .order .marks)
   pub root : r .order .root ≡ o .root
   pub plain : isPlain (r .result) ≡ true
-  pub out : h ≡ true → r .result ≡ raising
+  pub out : h ≡ true → r .result ≡ raising conflictingReceive
 
 pub fell-wider : {f : ℕ → ℕ} {h : Bool} {b c d e : ℕ} {o : Order} {r : Outcome} → c ≤ b → e ≤ d → Fell f h b e o r → Fell f h c d o r
 fell-wider x y z = record { falls = falls-wider x y (z .falls); root = z .root; plain = z .plain; out = z .out }
@@ -103,10 +104,10 @@ fell-goes f h k m c d o g r i v j w = go (r .result) (w .plain) (w .out)
     r₁ : Result → Outcome
     r₁ x = record { result = x; order = r .order; log = r .log }
 
-    same : (x : Result) → isPlain x ≡ true → (h ≡ true → x ≡ raising) → Fell f h k d o (r₁ x)
+    same : (x : Result) → isPlain x ≡ true → (h ≡ true → x ≡ raising conflictingReceive) → Fell f h k d o (r₁ x)
     same x y z = record { falls = falls-wider (omega arith) i (w .falls); root = w .root; plain = y; out = z }
 
-    on : (b : Bool) → eqb (markAt k (r .order)) m ≡ b → (h ≡ true → over ≡ raising)
+    on : (b : Bool) → eqb (markAt k (r .order)) m ≡ b → (h ≡ true → over ≡ raising conflictingReceive)
         → Fell f h k d o (record { result = elim b as (λ _. Outcome) [ true ↦ g (r .order) | false ↦ runs (r .order) ] .result; order = elim b as (λ _. Outcome) [ true ↦ g (r .order) | false ↦ runs (r .order) ] .order; log = r .log ++ elim b as (λ _. Outcome) [ true ↦ g (r .order) | false ↦ runs (r .order) ] .log })
     on true e z = by (j (r .order) (eqb-true (markAt k (r .order)) m e))
       where
@@ -131,13 +132,13 @@ fell-goes f h k m c d o g r i v j w = go (r .result) (w .plain) (w .out)
             record { falls = falls-wider (omega arith) i (falls-behind (w .falls) (b .marks)); root = b .root ∙ w .root; plain = y; out = never }
     on false e z = record { falls = falls-wider (omega arith) i (w .falls); root = w .root; plain = refl; out = λ y. let q : _≡_ {A = ℕ} 0 1 = let p = z y in cc in absurd (omega arith) }
 
-    go : (x : Result) → isPlain x ≡ true → (h ≡ true → x ≡ raising) → Fell f h k d o (whereOver (λ o₁. elim (eqb (markAt k o₁) m) [ true ↦ g o₁ | false ↦ runs o₁ ]) (r₁ x))
+    go : (x : Result) → isPlain x ≡ true → (h ≡ true → x ≡ raising conflictingReceive) → Fell f h k d o (whereOver (λ o₁. elim (eqb (markAt k o₁) m) [ true ↦ g o₁ | false ↦ runs o₁ ]) (r₁ x))
     go running y z = same running y z
     go over y z = on (eqb (markAt k (r .order)) m) refl z
-    go raising y z = same raising y z
+    go (raising n) y z = same (raising n) y z
     go leaving y z = absurd (false≢true y)
     go undone y z = absurd (false≢true y)
-    go undoRaising y z = same undoRaising y z
+    go (undoRaising n) y z = same (undoRaising n) y z
 
 -- a sequence goes on
 goes-sequence : (f : ℕ → ℕ) (k t : ℕ) (within : Acts) (o : Order) → k < endWith within (k + 1) t → markAt k o ≡ active
@@ -205,7 +206,7 @@ fell-combines f h own within k t o r s n w = go own s n
     go (send a b vs) s n = plainly
     go (receive a b vs) s n = plainly
     go (setting v x) s n = plainly
-    go raise s n = plainly
+    go (raise number) s n = plainly
     go leave s n = plainly
     go (choose x) s n = goes inside (finishes k) (λ o₁ d. goes-finishes f k _ inside o₁ (inside-some (f k)) d)
     go (repeat x) s n = goes inside (again k) (λ o₁ d. goes-again f k _ o₁ n d)
@@ -219,88 +220,36 @@ fell-combines f h own within k t o r s n w = go own s n
 -- Scopes.
 
 -- the results of what a scope does of itself
-plain-where : (g : Order → Outcome) (r : Outcome) → isPlain (r .result) ≡ true → ((o₁ : Order) → isPlain (g o₁ .result) ≡ true) → isPlain (whereOver g r .result) ≡ true
-plain-where g r x f = go (r .result) x
+plain-calm : (r : Outcome) → Calm r → isPlain (r .result) ≡ true
+plain-calm r x = go (r .result) x
   where
-    go : (z : Result) → isPlain z ≡ true → isPlain (whereOver g (record { result = z; order = r .order; log = r .log }) .result) ≡ true
-    go running x = x
-    go over x = f (r .order)
-    go raising x = x
-    go leaving x = x
-    go undone x = x
-    go undoRaising x = x
-
-plain-begun : (o : Order) (b : Begun) → isPlain (begunIn o b .result) ≡ true
-plain-begun o b = go (b .over)
-  where
-    go : (v : Bool) → isPlain (cond v over running) ≡ true
-    go true = refl
-    go false = refl
-
-plain-undo : (l : List ℕ) (s : Scope) (o : Order) → isPlain (undo l s o .result) ≡ true
-unfolding undo startUndo
-plain-undo [] s o = refl
-plain-undo (e ∷ l) s o =
-    let o′ = remembering (withoutLast (isFor s) (closings o)) o in
-    plain-where (undo l s) (startUndo e s o) (plain-begun o′ (beginUndo (s .body) (s .bodyAt) e (o′ .marks))) (λ o₁. plain-undo l s o₁)
-
-plain-handle : (s : Scope) (o : Order) → isPlain (handle s o .result) ≡ true
-unfolding handle
-plain-handle s o =
-    let o′ = marking (s .name) handling o in
-    let b = begin (s .fault) (s .faultAt) (o′ .marks) in
-    plain-where (ends s) (begunIn o′ b) (plain-begun o′ b) (λ o₁. refl)
-
-plain-undoes : (w : Bool) (s : Scope) (o : Order) → isPlain (undoes w s o .result) ≡ true
-unfolding undoes
-plain-undoes true s o =
-    let o′ = marking (s .name) undoing o in
-    plain-where (handle s) (undo (rememberedFor s o′) s o′) (plain-undo (rememberedFor s o′) s o′) (λ o₁. plain-handle s o₁)
-plain-undoes false s o =
-    let o′ = marking (s .name) withdrawing o in
-    plain-where (ends s) (undo (rememberedFor s o′) s o′) (plain-undo (rememberedFor s o′) s o′) (λ o₁. refl)
-
-plain-turns : (w : Bool) (s : Scope) (o : Order) → isPlain (turns w s o .result) ≡ true
-unfolding turns
-plain-turns w s o = go (innerRuns (s .body) (s .bodyAt) (o .marks))
-  where
-    go : (v : Bool) → isPlain (elim v as (λ _. Outcome) [ true ↦ runs o | false ↦ undoes w s o ] .result) ≡ true
-    go true = refl
-    go false = plain-undoes w s o
-
-plain-again : (s : Scope) (o : Order) → isPlain (looksAgain s o .result) ≡ true
-unfolding looksAgain
-plain-again s o =
-    decide (eqb (markOf (s .name) o) faulty) (λ e. rw (e, looksAgain) (plain-turns true s o))
-    (λ e. decide (eqb (markOf (s .name) o) halted) (λ d. rw (e, looksAgain, d) (plain-turns false s o)) (λ d. rw (e, looksAgain, d) refl))
-
-plain-over : (s : Scope) (o : Order) → isPlain (bodyOver s o .result) ≡ true
-unfolding bodyOver
-plain-over s o = decide (eqb (markOf (s .name) o) active) (λ e. rw (e, bodyOver) refl) (λ e. rw (e, bodyOver) (plain-again s o))
-
-plain-raised : (s : Scope) (o : Order) → isPlain (bodyRaised s o .result) ≡ true
-unfolding bodyRaised faults
-plain-raised s o = decide (isOpen (markOf (s .name) o)) (λ e. rw (e, bodyRaised) (plain-turns true s (stop (s .body) (s .bodyAt) (marking (s .name) faulty o) .order))) (λ e. rw (e, bodyRaised) (plain-again s o))
+    go : (z : Result) → isCalm z ≡ true → isPlain z ≡ true
+    go running x = refl
+    go over x = refl
+    go (raising n) x = refl
+    go leaving x = absurd (false≢true x)
+    go undone x = absurd (false≢true x)
+    go (undoRaising n) x = refl
 
 -- a scope that a raise in a part ends, or that lets it be
-part-lowered : (s : Scope) (b : ℕ) → Owns s b
+part-lowered : (x : ℕ) (s : Scope) (b : ℕ) → Owns s b
     → ((o₁ : Order) → rank 11 (markOf (s .name) (withMarks (cleared (s .first) (s .count) (o₁ .marks)) o₁)) ≤ rank 11 (markOf (s .name) o₁))
-    → (o : Order) → Lowered s b o (partRaised s o) × (isPlain (partRaised s o .result) ≡ true)
+    → (o : Order) → Lowered s b o (partRaised x s o) × (isPlain (partRaised x s o .result) ≡ true)
 unfolding partRaised breaks rank
-part-lowered s b h f o =
+part-lowered x s b h f o =
     decide (eqb (markOf (s .name) o) handling)
-    (λ e. rw (e, partRaised) (breaks-lowered s b h o (subst (λ (m : ℕ). 0 < rank 11 m) (sym (eqb-true (markOf (s .name) o) handling e)) (omega arith)) f, refl))
+    (λ e. rw (e, partRaised) (breaks-lowered s b h x o (subst (λ (m : ℕ). 0 < rank 11 m) (sym (eqb-true (markOf (s .name) o) handling e)) (omega arith)) f, refl))
     (λ e. rw (e, partRaised) (stays refl, refl))
 
-undo-lowered : (s : Scope) (b : ℕ) → Owns s b
+undo-lowered : (x : ℕ) (s : Scope) (b : ℕ) → Owns s b
     → ((o₁ : Order) → rank 11 (markOf (s .name) (withMarks (cleared (s .first) (s .count) (o₁ .marks)) o₁)) ≤ rank 11 (markOf (s .name) o₁))
-    → (o : Order) → Lowered s b o (undoRaised s o) × (isPlain (undoRaised s o .result) ≡ true)
+    → (o : Order) → Lowered s b o (undoRaised x s o) × (isPlain (undoRaised x s o .result) ≡ true)
 unfolding undoRaised breaks rank
-undo-lowered s b h f o =
+undo-lowered x s b h f o =
     decide (eqb (markOf (s .name) o) undoing)
-    (λ e. rw (e, undoRaised) (breaks-lowered s b h o (subst (λ (m : ℕ). 0 < rank 11 m) (sym (eqb-true (markOf (s .name) o) undoing e)) (omega arith)) f, refl))
+    (λ e. rw (e, undoRaised) (breaks-lowered s b h x o (subst (λ (m : ℕ). 0 < rank 11 m) (sym (eqb-true (markOf (s .name) o) undoing e)) (omega arith)) f, refl))
     (λ e. decide (eqb (markOf (s .name) o) withdrawing)
-    (λ d. rw (e, undoRaised, d) (breaks-lowered s b h o (subst (λ (m : ℕ). 0 < rank 11 m) (sym (eqb-true (markOf (s .name) o) withdrawing d)) (omega arith)) f, refl))
+    (λ d. rw (e, undoRaised, d) (breaks-lowered s b h x o (subst (λ (m : ℕ). 0 < rank 11 m) (sym (eqb-true (markOf (s .name) o) withdrawing d)) (omega arith)) f, refl))
     (λ d. rw (e, undoRaised, d) (stays refl, refl)))
 
 -- what a scope makes of a raise in its body, and of one in its fault part: from the order that the raise left
@@ -316,17 +265,17 @@ module _ (s : Scope) (b : ℕ) (h : Owns s b)
     where
       go : (z : Result) → isPlain z ≡ true
           → Lowered s b (r .order) (fromBody s (record { result = z; order = r .order; log = r .log })) × (isPlain (fromBody s (record { result = z; order = r .order; log = r .log }) .result) ≡ true)
-      go running x = (lowered-after (r .log) (r .order) (looksAgain s (r .order)) (again-lowered s b h (r .order)), plain-again s (r .order))
-      go over x = (lowered-after (r .log) (r .order) (bodyOver s (r .order)) (over-lowered s b h (r .order)), plain-over s (r .order))
-      go raising x = (lowered-after (r .log) (r .order) (bodyRaised s (r .order)) (raised-lowered s b h (r .order)), plain-raised s (r .order))
+      go running x = (lowered-after (r .log) (r .order) (looksAgain s (r .order)) (again-lowered s b h (r .order)), plain-calm (looksAgain s (r .order)) (calm-looks s (r .order)))
+      go over x = (lowered-after (r .log) (r .order) (bodyOver s (r .order)) (over-lowered s b h (r .order)), plain-calm (bodyOver s (r .order)) (calm-body-over s (r .order)))
+      go (raising n) x = (lowered-after (r .log) (r .order) (bodyRaised n s (r .order)) (raised-lowered n s b h (r .order)), plain-calm (bodyRaised n s (r .order)) (calm-body-raised n s (r .order)))
       go leaving x = absurd (false≢true x)
       go undone x = absurd (false≢true x)
-      go undoRaising x = let u = undo-lowered s b h f (r .order) in (lowered-after (r .log) (r .order) (undoRaised s (r .order)) (u .0), u .1)
+      go (undoRaising n) x = let u = undo-lowered n s b h f (r .order) in (lowered-after (r .log) (r .order) (undoRaised n s (r .order)) (u .0), u .1)
 
-  pub fault-lowered : (r : Outcome) → r .result ≡ raising → Lowered s b (r .order) (fromFault s r) × (isPlain (fromFault s r .result) ≡ true)
+  pub fault-lowered : {n : ℕ} (r : Outcome) → r .result ≡ raising n → Lowered s b (r .order) (fromFault s r) × (isPlain (fromFault s r .result) ≡ true)
   unfolding fromFault
-  fault-lowered r x = subst (λ (z : Result). Lowered s b (r .order) (fromFault s (record { result = z; order = r .order; log = r .log })) × (isPlain (fromFault s (record { result = z; order = r .order; log = r .log }) .result) ≡ true)) (sym x)
-      (let u = part-lowered s b h f (r .order) in (lowered-after (r .log) (r .order) (partRaised s (r .order)) (u .0), u .1))
+  fault-lowered {n} r x = subst (λ (z : Result). Lowered s b (r .order) (fromFault s (record { result = z; order = r .order; log = r .log })) × (isPlain (fromFault s (record { result = z; order = r .order; log = r .log }) .result) ≡ true)) (sym x)
+      (let u = part-lowered n s b h f (r .order) in (lowered-after (r .log) (r .order) (partRaised n s (r .order)) (u .0), u .1))
 
 -- a scope with a number: what fell in it still does, or it does itself
 fell-scope : (f : ℕ → ℕ) (k d : ℕ) (within : Acts) (o : Order) (h : Bool) (r r₁ : Outcome) → ((m : ℕ) → rank (f k) m ≡ rank 11 m) → k < d → Fell f h (k + 1) d o r
@@ -362,13 +311,14 @@ cleared-rank (suc n) k ms =
     subst (λ (m : ℕ). rank 11 m ≤ rank 11 (getD ms k 0)) (sym x) (omega (arith, rank-set 11 k idle ms))
 
 -- what acts in a raise's place, and what an arm does then
-raised-receive : (own : Own) (within : Acts) (q k : ℕ) (o : Order) → isTake (doingOf own within k) ≡ true → performs inPlace own within q k o ≡ raises k o
+raised-receive : (own : Own) (within : Acts) (q k : ℕ) (o : Order) → isTake (doingOf own within k) ≡ true → performs inPlace own within q k o ≡ raises conflictingReceive k o
 unfolding isTake doingOf performs replaces kind
 raised-receive empty within q k o h = absurd (false≢true h)
 raised-receive (send x y vs) within q k o h = absurd (false≢true h)
 raised-receive (receive x y vs) within q k o h = refl
 raised-receive (setting v x) within q k o h = absurd (false≢true h)
-raised-receive raise within q k o h = absurd (false≢true h)
+raised-receive (raise zero) within q k o h = absurd (false≢true h)
+raised-receive (raise (suc number)) within q k o h = absurd (false≢true h)
 raised-receive leave within q k o h = absurd (false≢true h)
 raised-receive (choose x) within q k o h = absurd (false≢true h)
 raised-receive (repeat x) within q k o h = absurd (false≢true h)
@@ -385,7 +335,8 @@ receive-active empty within k b m h a w = absurd (false≢true h)
 receive-active (send x y vs) within k b m h a w = absurd (false≢true h)
 receive-active (receive x y vs) within k b m h a w = eqb-true m active w
 receive-active (setting v x) within k b m h a w = absurd (false≢true h)
-receive-active raise within k b m h a w = absurd (false≢true h)
+receive-active (raise zero) within k b m h a w = absurd (false≢true h)
+receive-active (raise (suc number)) within k b m h a w = absurd (false≢true h)
 receive-active leave within k b m h a w = absurd (false≢true h)
 receive-active (choose x) within k b m h a w = absurd (false≢true h)
 receive-active (repeat x) within k b m h a w = absurd (false≢true h)
@@ -429,7 +380,7 @@ unfolding endWith
 later-end a l c t e = second-of (ltb t (c + size a)) (c + size a) (endWith l (c + size a) t) (endWith (more a l) c t) refl (le-ltb t (c + size a) e)
 
 -- an arm of an open pick raises
-arm-raises : (l : Acts) (p : Bool) (q c t : ℕ) (o : Order) → isPart l c t ≡ true → isTake (doingAmong l c t) ≡ true → stepAmong inPlace l p q c t o ≡ raises t o
+arm-raises : (l : Acts) (p : Bool) (q c t : ℕ) (o : Order) → isPart l c t ≡ true → isTake (doingAmong l c t) ≡ true → stepAmong inPlace l p q c t o ≡ raises conflictingReceive t o
 unfolding isPart size
 arm-raises none p q c t o e h = absurd (false≢true e)
 arm-raises (more (act own within) l) p q c t o e h =
@@ -438,7 +389,7 @@ arm-raises (more (act own within) l) p q c t o e h =
     first-among p q (act own within) l c t o (omega arith)
     ∙ (here own within (cond p c q) c t o z
     ∙ (raised-receive own within (cond p c q) c o (subst (λ (x : Doing). isTake x ≡ true) (doing-among (act own within) l c t (omega arith) ∙ (ap (λ (j : ℕ). doingIn (act own within) c j) (sym z) ∙ doing-here own within c)) h)
-    ∙ ap (λ (j : ℕ). raises j o) z)))
+    ∙ ap (λ (j : ℕ). raises conflictingReceive j o) z)))
     (λ d. let z = part-from l (c + (1 + sizes within)) t (rw d at e) in
     later-among p q (act own within) l c t o (omega (arith, z))
     ∙ arm-raises l p q (c + (1 + sizes within)) t o (rw d at e) (subst (λ (x : Doing). isTake x ≡ true) (doing-later (act own within) l c t (omega (arith, z))) h))
@@ -466,13 +417,14 @@ unfolding isPart
 deep-rest r a l c t d = deep-later r (eqb c t) (isPart l (c + size a) t) d
 
 -- a raise goes through what is no scope
-raise-through : (own : Own) (within : Acts) (k t : ℕ) (o : Order) → isScope own ≡ false → combines own within k t (raises t o) ≡ raises t o
+raise-through : (own : Own) (within : Acts) (k t : ℕ) (o : Order) → isScope own ≡ false → combines own within k t (raises conflictingReceive t o) ≡ raises conflictingReceive t o
 unfolding combines goesOn
 raise-through empty within k t o s = refl
 raise-through (send x y vs) within k t o s = refl
 raise-through (receive x y vs) within k t o s = refl
 raise-through (setting v x) within k t o s = refl
-raise-through raise within k t o s = refl
+raise-through (raise zero) within k t o s = refl
+raise-through (raise (suc number)) within k t o s = refl
 raise-through leave within k t o s = refl
 raise-through (choose x) within k t o s = refl
 raise-through (repeat x) within k t o s = refl

@@ -1,5 +1,5 @@
 -- The form of a plan within its limits: where its scopes stand, and how much stands within what. Assumes nothing.
-use Prim.Native.Nat.{ℕ, _+_, _≤_, _<_}
+use Prim.Native.Nat.{ℕ, zero, suc, _+_, _≤_, _<_}
 use native.Mathlib.Omega.{arith}
 use mathlib.Core.Path.{_≡_, refl, sym, ap, subst}
 use mathlib.Core.Bool.{Bool, true, false, cond, not, _&&_, _||_, false≢true}
@@ -35,7 +35,8 @@ own-formed vars cs h r empty n e s = sym (not-true r (both (not r) _ e (λ x y. 
 own-formed vars cs h r (send x y vs) n e s = sym (not-true r (both (not r) _ e (λ x y. x)))
 own-formed vars cs h r (receive x y vs) n e s = sym (not-true r (both (not r) _ e (λ x y. x)))
 own-formed vars cs h r (setting v x) n e s = sym (not-true r (both (not r) _ e (λ x y. x)))
-own-formed vars cs h r raise n e s = sym (not-true r (both (not r) _ e (λ x y. x)))
+own-formed vars cs h r (raise zero) n e s = sym (not-true r (both (not r) _ e (λ x y. x)))
+own-formed vars cs h r (raise (suc number)) n e s = sym (not-true r (both (not r) _ e (λ x y. x)))
 own-formed vars cs h r leave n e s = sym (not-true r (both (not r) _ e (λ x y. x)))
 own-formed vars cs h r (choose x) n e s = sym (not-true r (both (not r) _ e (λ x y. x)))
 own-formed vars cs h r (repeat x) n e s = sym (not-true r (both (not r) _ e (λ x y. x)))

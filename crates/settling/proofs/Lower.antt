@@ -14,7 +14,7 @@ use Rattle.order.specs.declared.Order.{Order}
 use Rattle.order.specs.declared.Way.{Way as Result}
 use Rattle.order.specs.declared.Way.the-variants.{Running as running, Over as over, Raising as raising, Leaving as leaving, Undone as undone, UndoRaising as undoRaising}
 use Rattle.order.specs.Lists.{only, withoutLast}
-use Rattle.order.specs.State.{idle, active, done, faulty, undoing, handling, halted, withdrawing, Name, root, inner, withMarks, marked, markAt, markOf, marking, closings, remembering}
+use Rattle.order.specs.State.{idle, active, done, faulty, undoing, handling, halted, withdrawing, Name, root, inner, withMarks, marked, markAt, markOf, marking, causing, closings, remembering}
 use Rattle.order.specs.Begin.{Begun, nothingBegun, awaiting, throughout, around, itsBeginning, inTurn, sideBySide, begin, beginInTurn, beginAll, beginFirst, beginAfter, part, partAt, beginPart, cleared}
 use Rattle.order.specs.Scope.{Outcome, runs, after, begunIn, whereOver, Scope, scopeAt, rootOf, isFor, isOpen, innerRuns, rememberedFor, forgetting, beginUndo, beginUndoFirst, beginUndoIn, startUndo, undo, ends, handle, undoes, turns, withdraws, faults, breaks, looksAgain, bodyOver, bodyRaised, Stopped, untouched, alsoStopped, stop, stopAll, stopFirst}
 use Rattle.order.specs.Judging.{rank}
@@ -72,7 +72,8 @@ mutual
   same-begin (act (send p o vs) within) b k ms e = same-set b k active ms e
   same-begin (act (receive p o vs) within) b k ms e = same-set b k active ms e
   same-begin (act (setting v x) within) b k ms e = same-set b k active ms e
-  same-begin (act raise within) b k ms e = same-set b k active ms e
+  same-begin (act (raise zero) within) b k ms e = same-set b k active ms e
+  same-begin (act (raise (suc number)) within) b k ms e = same-set b k active ms e
   same-begin (act leave within) b k ms e = same-set b k active ms e
   same-begin (act (choose x) within) b k ms e = same-set b k active ms e
   same-begin (act (repeat x) within) b k ms e = same-set b k active ms e
@@ -176,10 +177,10 @@ low-where b o g r f x = go (r .result)
     go : (z : Result) → Low b o (whereOver g (record { result = z; order = r .order; log = r .log }) .order)
     go running = x
     go over = low-then x (f (r .order))
-    go raising = x
+    go (raising y) = x
     go leaving = x
     go undone = x
-    go undoRaising = x
+    go (undoRaising y) = x
 
 -- the undo parts of a scope start, behind where its body stands
 pub low-undo : (l : List ℕ) (s : Scope) (o : Order) → Low (s .bodyAt) o (undo l s o .order)
@@ -269,10 +270,10 @@ module _ (s : Scope) (b : ℕ) (h : Owns s b) where
       go : (z : Result) → Under n s b o (whereOver g (record { result = z; order = r .order; log = r .log }) .order)
       go running = x
       go over = under-then x (f (r .order))
-      go raising = x
+      go (raising y) = x
       go leaving = x
       go undone = x
-      go undoRaising = x
+      go (undoRaising y) = x
 
   under-ends : (o : Order) → Under 0 s b o (ends s o .order)
   unfolding rank
@@ -328,10 +329,10 @@ module _ (s : Scope) (b : ℕ) (h : Owns s b) where
       (λ e. rw (e, bodyOver) (lowers {n = 6} (subst (λ (m : ℕ). 6 < rank 11 m) (sym (eqb-true (markOf (s .name) o) active e)) (omega arith)) (under-put done o)))
       (λ e. rw (e, bodyOver) (again-lowered o))
 
-  pub breaks-lowered : (o : Order) → 0 < rank 11 (markOf (s .name) o) → ((o₁ : Order) → rank 11 (markOf (s .name) (withMarks (cleared (s .first) (s .count) (o₁ .marks)) o₁)) ≤ rank 11 (markOf (s .name) o₁))
-      → Lowered s b o (breaks s o)
+  pub breaks-lowered : (x : ℕ) (o : Order) → 0 < rank 11 (markOf (s .name) o) → ((o₁ : Order) → rank 11 (markOf (s .name) (withMarks (cleared (s .first) (s .count) (o₁ .marks)) o₁)) ≤ rank 11 (markOf (s .name) o₁))
+      → Lowered s b o (breaks x s o)
   unfolding breaks forgetting rank
-  breaks-lowered o e f =
+  breaks-lowered x o e f =
       let o′ = forgetting s (marking (s .name) idle o) in
       lowers {n = 0} e
       (record {
@@ -405,18 +406,25 @@ mutual
   low-stop-first none b c o e = low-itself b o
   low-stop-first (more a l) b c o e = low-stop a b c o e
 
--- A scope faults: its rank falls.
-pub faults-under : (s : Scope) (b : ℕ) → Owns s b → (o : Order) → Under 5 s b o (faults s o .order)
-unfolding faults rank
-faults-under s b h o =
-    let o′ = marking (s .name) faulty o in
-    under-turns s b h 5 true o (stop (s .body) (s .bodyAt) o′ .order) (omega arith) (under-body s b h (under-put s b h faulty o) (low-stop (s .body) (s .bodyAt) (s .bodyAt) o′ (omega arith)))
+-- the number of a fault is no mark
+low-causing : (n : Name) (x b : ℕ) (o : Order) → Low b o (causing n x o)
+low-causing root x b o = record { root = refl; marks = same-itself b (o .marks) }
+low-causing (inner k) x b o = low-itself b o
 
-pub raised-lowered : (s : Scope) (b : ℕ) → Owns s b → (o : Order) → Lowered s b o (bodyRaised s o)
+-- A scope faults: its rank falls.
+pub faults-under : (x : ℕ) (s : Scope) (b : ℕ) → Owns s b → (o : Order) → Under 5 s b o (faults x s o .order)
+unfolding faults rank
+faults-under x s b h o =
+    let o′ = marking (s .name) faulty o in
+    let o″ = causing (s .name) x o′ in
+    under-turns s b h 5 true o (stop (s .body) (s .bodyAt) o″ .order) (omega arith)
+    (under-body s b h (under-body s b h (under-put s b h faulty o) (low-causing (s .name) x (s .bodyAt) o′)) (low-stop (s .body) (s .bodyAt) (s .bodyAt) o″ (omega arith)))
+
+pub raised-lowered : (x : ℕ) (s : Scope) (b : ℕ) → Owns s b → (o : Order) → Lowered s b o (bodyRaised x s o)
 unfolding bodyRaised rank
-raised-lowered s b h o =
+raised-lowered x s b h o =
     decide (eqb (markOf (s .name) o) active)
-    (λ e. rw (e, bodyRaised) (lowers {n = 5} (subst (λ (m : ℕ). 5 < rank 11 m) (sym (eqb-true (markOf (s .name) o) active e)) (omega arith)) (faults-under s b h o)))
+    (λ e. rw (e, bodyRaised) (lowers {n = 5} (subst (λ (m : ℕ). 5 < rank 11 m) (sym (eqb-true (markOf (s .name) o) active e)) (omega arith)) (faults-under x s b h o)))
     (λ e. decide (eqb (markOf (s .name) o) done)
-    (λ d. rw (e, bodyRaised, d) (lowers {n = 5} (subst (λ (m : ℕ). 5 < rank 11 m) (sym (eqb-true (markOf (s .name) o) done d)) (omega arith)) (faults-under s b h o)))
+    (λ d. rw (e, bodyRaised, d) (lowers {n = 5} (subst (λ (m : ℕ). 5 < rank 11 m) (sym (eqb-true (markOf (s .name) o) done d)) (omega arith)) (faults-under x s b h o)))
     (λ d. rw (e, bodyRaised, d) (again-lowered s b h o)))

@@ -22,37 +22,37 @@ use Rattle.settling.proofs.Clashing.{OnClash, Higher, conflict-awaited}
 use Rattle.settling.proofs.Settling.{acted-falls, empty-clear, judged-as-is, judged-enough}
 
 -- an order after a step
-abbrev so : End → Order → List Event → Moved
-so e o l = record { end = e; order = o; log = l }
+abbrev so : End → (fault : ℕ) → Order → List Event → Moved
+so e x o l = record { end = e; fault = x; order = o; log = l }
 
 -- Where it ends, and which order it leaves, does not hang on what happened before.
-pub any-log : (p : Plan) (n : ℕ) (e : End) (o : Order) (l m : List Event) → nextOf (judged n p (so e o l)) ≡ nextOf (judged n p (so e o m))
+pub any-log : (p : Plan) (n : ℕ) (e : End) (x : ℕ) (o : Order) (l m : List Event) → nextOf (judged n p (so e x o l)) ≡ nextOf (judged n p (so e x o m))
 unfolding judged
-any-log p zero e o l m = refl
-any-log p (suc n) None o l m = go (λ e o l m. any-log p n e o l m) (conflict p o)
+any-log p zero e x o l m = refl
+any-log p (suc n) None x o l m = go (λ e x o l m. any-log p n e x o l m) (conflict p o)
   where
-    go : ((e : End) (o : Order) (l m : List Event) → nextOf (judged n p (so e o l)) ≡ nextOf (judged n p (so e o m))) → (v : Verdict)
-        → nextOf (upon (judged n p) p (so None o l) v) ≡ nextOf (upon (judged n p) p (so None o m) v)
+    go : ((e : End) (x : ℕ) (o : Order) (l m : List Event) → nextOf (judged n p (so e x o l)) ≡ nextOf (judged n p (so e x o m))) → (v : Verdict)
+        → nextOf (upon (judged n p) p (so None x o l) v) ≡ nextOf (upon (judged n p) p (so None x o m) v)
     go f clear = refl
-    go f (clash k) = f (acted inPlace p k o .end) (acted inPlace p k o .order) (l ++ acted inPlace p k o .log) (m ++ acted inPlace p k o .log)
-any-log p (suc n) Well o l m = refl
-any-log p (suc n) Handled o l m = refl
-any-log p (suc n) Failed o l m = refl
-any-log p (suc n) Left o l m = refl
+    go f (clash k) = f (acted inPlace p k o .end) (acted inPlace p k o .fault) (acted inPlace p k o .order) (l ++ acted inPlace p k o .log) (m ++ acted inPlace p k o .log)
+any-log p (suc n) Well x o l m = refl
+any-log p (suc n) Handled x o l m = refl
+any-log p (suc n) Failed x o l m = refl
+any-log p (suc n) Left x o l m = refl
 
 -- one that has ended
-ended-still : (p : Plan) (n : ℕ) (e : End) (o : Order) (l : List Event) → goesOnAfter e ≡ false → judged n p (so e o l) ≡ so e o l
+ended-still : (p : Plan) (n : ℕ) (e : End) (x : ℕ) (o : Order) (l : List Event) → goesOnAfter e ≡ false → judged n p (so e x o l) ≡ so e x o l
 unfolding judged goesOnAfter
-ended-still p zero e o l d = refl
-ended-still p (suc n) None o l d = absurd (false≢true (sym d))
-ended-still p (suc n) Well o l d = refl
-ended-still p (suc n) Handled o l d = refl
-ended-still p (suc n) Failed o l d = refl
-ended-still p (suc n) Left o l d = refl
+ended-still p zero e x o l d = refl
+ended-still p (suc n) None x o l d = absurd (false≢true (sym d))
+ended-still p (suc n) Well x o l d = refl
+ended-still p (suc n) Handled x o l d = refl
+ended-still p (suc n) Failed x o l d = refl
+ended-still p (suc n) Left x o l d = refl
 
 pub settled-ended : (p : Plan) (m : Next) → goesOnAfter (m .end) ≡ false → nextOf (settled p (movedAs m)) ≡ m
 unfolding settled
-settled-ended p m d = ap nextOf (ended-still p (spare p (m .order)) (m .end) (m .order) [] d)
+settled-ended p m d = ap nextOf (ended-still p (spare p (m .order)) (m .end) (m .fault) (m .order) [] d)
 
 pub goes-none : (e : End) → goesOnAfter e ≡ true → e ≡ None
 unfolding goesOnAfter
@@ -79,16 +79,16 @@ module _ (p : Plan) (h : Shaped p) where
   clash-room o k e = subst (λ (v : Verdict). Roomed p (closings o) v) e (conflict-room p o) .1
 
   -- one with no conflict
-  clear-still : (n : ℕ) (o : Order) → conflict p o ≡ clear → judged n p (so None o []) ≡ so None o []
+  clear-still : (n x : ℕ) (o : Order) → conflict p o ≡ clear → judged n p (so None x o []) ≡ so None x o []
   unfolding judged
-  clear-still zero o e = refl
-  clear-still (suc n) o e = judged-as-is p h n (so None o []) (λ d. e)
+  clear-still zero x o e = refl
+  clear-still (suc n) x o e = judged-as-is p h n (so None x o []) (λ d. e)
 
   pub settled-clear : (m : Next) → m .end ≡ None → (k : ℕ) → k ≡ numberOf (conflict p (m .order)) → 256 ≤ k → nextOf (settled p (movedAs m)) ≡ m
   unfolding settled
   settled-clear m d k e g =
       let c : conflict p (m .order) ≡ clear = verdict-few (m .order) (conflict p (m .order)) (conflict-room p (m .order)) (omega arith) in
-      ap (λ (x : End). nextOf (judged (spare p (m .order)) p (so x (m .order) []))) d ∙ (ap nextOf (clear-still (spare p (m .order)) (m .order) c) ∙ ap (λ (x : End). nextOf (so x (m .order) [])) (sym d))
+      ap (λ (x : End). nextOf (judged (spare p (m .order)) p (so x (m .fault) (m .order) []))) d ∙ (ap nextOf (clear-still (spare p (m .order)) (m .fault) (m .order) c) ∙ ap (λ (x : End). nextOf (so x (m .fault) (m .order) [])) (sym d))
 
   higher : (o : Order) (k : ℕ) → conflict p o ≡ clash k → Higher p o k
   higher o k e = subst (λ (v : Verdict). OnClash (Higher p o) v) e (conflict-awaited p o)
@@ -97,18 +97,19 @@ module _ (p : Plan) (h : Shaped p) where
   pub raise-falls : (o : Order) (k : ℕ) → conflict p o ≡ clash k → acted inPlace p k o .end ≡ None → spare p (acted inPlace p k o .order) < spare p o
   raise-falls o k e d = acted-falls p h k o (higher o k e) d
 
-  clash-once : (n : ℕ) (o : Order) (k : ℕ) → spare p o ≡ n → conflict p o ≡ clash k
-      → nextOf (judged n p (so None o [])) ≡ nextOf (judged (spare p (acted inPlace p k o .order)) p (so (acted inPlace p k o .end) (acted inPlace p k o .order) []))
+  clash-once : (n x : ℕ) (o : Order) (k : ℕ) → spare p o ≡ n → conflict p o ≡ clash k
+      → nextOf (judged n p (so None x o []))
+      ≡ nextOf (judged (spare p (acted inPlace p k o .order)) p (so (acted inPlace p k o .end) (acted inPlace p k o .fault) (acted inPlace p k o .order) []))
   unfolding judged
-  clash-once zero o k s e = absurd (let c = empty-clear p h o (omega arith) in let q : clear ≡ clash k = sym c ∙ e in let z : _≡_ {A = ℕ} 0 1 = cc in omega arith)
-  clash-once (suc n) o k s e =
+  clash-once zero x o k s e = absurd (let c = empty-clear p h o (omega arith) in let q : clear ≡ clash k = sym c ∙ e in let z : _≡_ {A = ℕ} 0 1 = cc in omega arith)
+  clash-once (suc n) x o k s e =
       let m = acted inPlace p k o in
-      ap (λ (v : Verdict). nextOf (upon (judged n p) p (so None o []) v)) e
+      ap (λ (v : Verdict). nextOf (upon (judged n p) p (so None x o []) v)) e
       ∙ (ap nextOf (judged-enough p h n (spare p (m .order)) (following [] m) (λ d. omega (arith, raise-falls o k e d)) (λ d. omega arith))
-      ∙ any-log p (spare p (m .order)) (m .end) (m .order) ([] ++ m .log) [])
+      ∙ any-log p (spare p (m .order)) (m .end) (m .fault) (m .order) ([] ++ m .log) [])
 
   pub settled-clash : (m : Next) → m .end ≡ None → (k : ℕ) → conflict p (m .order) ≡ clash k
       → nextOf (settled p (movedAs m)) ≡ nextOf (settled p (movedAs (nextOf (acted inPlace p k (m .order)))))
   unfolding settled
   settled-clash m d k e =
-      ap (λ (x : End). nextOf (judged (spare p (m .order)) p (so x (m .order) []))) d ∙ clash-once (spare p (m .order)) (m .order) k refl e
+      ap (λ (x : End). nextOf (judged (spare p (m .order)) p (so x (m .fault) (m .order) []))) d ∙ clash-once (spare p (m .order)) (m .fault) (m .order) k refl e

@@ -410,7 +410,26 @@ fn arm_of(s: &[u8], stop: usize, at: usize, rows: &mut [u32; 87100], r: usize) -
     message(s, stop, after_word(s, receive, b"from"), code::ARM, rows, r)
 }
 
-// An activity of one word.
+// A raise, plain or with its number from `at` on.
+fn raised(s: &[u8], at: usize, rows: &mut [u32; 87100], r: usize) -> Own {
+    if is_over(s, at) {
+        return plain(s, at, code::RAISE, rows, r);
+    }
+    let from = past_blanks(s, at);
+    let to = word_end(s, from);
+    let number = decimal(s, from, to);
+    if 4294967295 < number {
+        return bad(10);
+    }
+    if is_over(s, to) {
+        add(rows, r, kind_code(code::NUMBERED_RAISE));
+        add(rows, r, narrow(number));
+        return own_of(code::NUMBERED_RAISE, r);
+    }
+    bad(25)
+}
+
+// An activity of one word, or a raise with its number.
 fn worded(s: &[u8], at: usize, rows: &mut [u32; 87100], r: usize) -> Own {
     let empty = after_word(s, at, b"empty");
     if 0 < empty {
@@ -418,7 +437,7 @@ fn worded(s: &[u8], at: usize, rows: &mut [u32; 87100], r: usize) -> Own {
     }
     let raise = after_word(s, at, b"raise");
     if 0 < raise {
-        return plain(s, raise, code::RAISE, rows, r);
+        return raised(s, raise, rows, r);
     }
     let leave = after_word(s, at, b"leave");
     if 0 < leave {

@@ -2,7 +2,7 @@
 use mathlib.Core.Path.{_≡_, refl, sym, ap, _∙_}
 use mathlib.Core.Bool.{Bool, true, false, false≢true, cond, _||_}
 use mathlib.Core.List.{List, [], _∷_, map}
-use Prim.Native.Nat.{ℕ, _+_, _*_, _<_, _≤_}
+use Prim.Native.Nat.{ℕ, zero, suc, _+_, _*_, _<_, _≤_}
 use native.Mathlib.Omega.{arith}
 use borrow.Author.Tests.{eqb-true, ne-eqb, le-leb, lt-leb}
 use lib.Dec.{eqb}
@@ -62,7 +62,8 @@ doing-own empty w k q at = refl
 doing-own (send a b vs) w k q at = refl
 doing-own (receive a b vs) w k q at = refl
 doing-own (setting v e) w k q at = refl
-doing-own raise w k q at = refl
+doing-own (raise zero) w k q at = refl
+doing-own (raise (suc number)) w k q at = refl
 doing-own leave w k q at = refl
 doing-own (choose e) w k q at = refl
 doing-own (repeat e) w k q at = refl
@@ -89,15 +90,16 @@ doing-moves n a b vs s h g =
       ne-eqb n 255 (λ q. omega arith),
       ne-eqb n 11 (λ q. omega arith),
       ne-eqb n 12 (λ q. omega arith),
+      ne-eqb n 13 (λ q. omega arith),
       le-leb 3 n h,
       le-leb n 7 g,
     )
 
-doing-nothing : (n a b : ℕ) (vs : List ℕ) (s : Scope) → 7 < n → (n ≡ 255 → ⊥) → (eqb n 11 || eqb n 12) ≡ false → doingBy n a b vs s ≡ noStep
+doing-nothing : (n a b : ℕ) (vs : List ℕ) (s : Scope) → 7 < n → (n ≡ 255 → ⊥) → (n ≡ 13 → ⊥) → (eqb n 11 || eqb n 12) ≡ false → doingBy n a b vs s ≡ noStep
 unfolding doingBy
-doing-nothing n a b vs s h x e =
+doing-nothing n a b vs s h x v e =
     let y = or-neither (eqb n 11) (eqb n 12) e in
-    rw (ne-eqb n 1 (λ q. omega arith), ne-eqb n 2 (λ q. omega arith), ne-eqb n 255 x, y .0, y .1, le-leb 3 n (omega arith), lt-leb n 7 h)
+    rw (ne-eqb n 1 (λ q. omega arith), ne-eqb n 2 (λ q. omega arith), ne-eqb n 255 x, y .0, y .1, ne-eqb n 13 v, le-leb 3 n (omega arith), lt-leb n 7 h)
 
 -- a scope's step is its close
 scope-kind : (n : ℕ) → (eqb n 11 || eqb n 12) ≡ true → n ≡ cond (eqb n 11) 11 12
@@ -185,6 +187,10 @@ module _ (t known bound parts : List ℕ) (kept i k : ℕ) (letters : List ℕ) 
       let z : getD t (k * 13) 0 ≡ 0 = omega (arith, x1, x2) in
       record { is = λ o p l x g y. sym (doing-says 0 z o p l x y ∙ seen-none s) }
 
+  pub raise-shown : {r : Sight} → getD t (k * 13) 0 ≡ 13 → r ≡ showing i k 0 s → Rows t k (Serving known bound parts kept letters wait least) (doingLine wait i) s r
+  unfolding stepOffers doingBy
+  raise-shown z q = record { is = λ o p l x g y. q ∙ sym (doing-says 13 z o p l x y ∙ seen-show i k 0 s) }
+
   pub doing-step : {r : Sight} → 3 ≤ getD t (k * 13) 0 → getD t (k * 13) 0 ≤ 7 → r ≡ showing i k 0 s
       → Rows t k (Serving known bound parts kept letters wait least) (doingLine wait i) s r
   unfolding stepOffers
@@ -199,13 +205,13 @@ module _ (t known bound parts : List ℕ) (kept i k : ℕ) (letters : List ℕ) 
       by-test o p l true = seen-show i k 0 s
       by-test o p l false = seen-show i k 0 s
 
-  pub doing-none : {b : Bool} → 7 < getD t (k * 13) 0 → (getD t (k * 13) 0 ≡ 255 → ⊥) → b ≡ (eqb (getD t (k * 13) 0) 11 || eqb (getD t (k * 13) 0) 12) → b ≡ false
+  pub doing-none : {b : Bool} → 7 < getD t (k * 13) 0 → (getD t (k * 13) 0 ≡ 255 → ⊥) → (getD t (k * 13) 0 ≡ 13 → ⊥) → b ≡ (eqb (getD t (k * 13) 0) 11 || eqb (getD t (k * 13) 0) 12) → b ≡ false
       → Rows t k (Serving known bound parts kept letters wait least) (doingLine wait i) s s
   unfolding stepOffers
-  doing-none h x1 x2 e = record {
+  doing-none h x1 x13 x2 e = record {
     is = λ o p l x v y.
         sym (doing-says (getD t (k * 13) 0) refl o p l x y
-        ∙ (ap (λ d. seen (stepOffers p wait l i o k d) s) (doing-nothing (getD t (k * 13) 0) _ _ (variablesOf (x .own)) (scopeAt k (x .within)) h x1 (sym x2 ∙ e))
+        ∙ (ap (λ d. seen (stepOffers p wait l i o k d) s) (doing-nothing (getD t (k * 13) 0) _ _ (variablesOf (x .own)) (scopeAt k (x .within)) h x1 x13 (sym x2 ∙ e))
         ∙ seen-none s));
   }
 

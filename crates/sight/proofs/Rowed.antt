@@ -56,13 +56,14 @@ module _ (t picks ms : List ℕ) (k : ℕ) where
     }
 
 -- `is_cut`
-cut-own : (own : Own) (w : Acts) (k : ℕ) → isCut (record { activity = k; step = doingOf own w k }) ≡ (eqb (kind own) 4 || eqb (kind own) 5)
+cut-own : (own : Own) (w : Acts) (k : ℕ) → isCut (record { activity = k; step = doingOf own w k }) ≡ (eqb (kind own) 4 || (eqb (kind own) 13 || eqb (kind own) 5))
 unfolding doingOf kind
 cut-own empty w k = refl
 cut-own (send a b vs) w k = refl
 cut-own (receive a b vs) w k = refl
 cut-own (setting v e) w k = refl
-cut-own raise w k = refl
+cut-own (raise zero) w k = refl
+cut-own (raise (suc number)) w k = refl
 cut-own leave w k = refl
 cut-own (choose e) w k = refl
 cut-own (repeat e) w k = refl
@@ -76,10 +77,14 @@ cut-own (arm a b vs) w k = refl
 pub cut-raise : (t : List ℕ) (k : ℕ) → getD t (k * 13) 0 ≡ 4 → CutRow t k true
 cut-raise t k z = record { is = λ ms x y. sym (cut-own (x .own) (x .within) (x .activity) ∙ rw (sym (stands-kind y) ∙ z)) }
 
-pub cut-leave : (t : List ℕ) (k : ℕ) → (getD t (k * 13) 0 ≡ 4 → ⊥) → CutRow t k (eqb (getD t (k * 13) 0) 5)
-cut-leave t k z = record {
+pub cut-numbered : (t : List ℕ) (k : ℕ) → getD t (k * 13) 0 ≡ 13 → CutRow t k true
+cut-numbered t k z = record { is = λ ms x y. sym (cut-own (x .own) (x .within) (x .activity) ∙ rw (sym (stands-kind y) ∙ z)) }
+
+pub cut-leave : (t : List ℕ) (k : ℕ) → (getD t (k * 13) 0 ≡ 4 → ⊥) → (getD t (k * 13) 0 ≡ 13 → ⊥) → CutRow t k (eqb (getD t (k * 13) 0) 5)
+cut-leave t k z v = record {
   is = λ ms x y.
-      sym (cut-own (x .own) (x .within) (x .activity) ∙ rw (ne-eqb (kind (x .own)) 4 (λ q. z (stands-kind y ∙ q)), stands-kind y));
+      sym (cut-own (x .own) (x .within) (x .activity)
+      ∙ rw (ne-eqb (kind (x .own)) 4 (λ q. z (stands-kind y ∙ q)), ne-eqb (kind (x .own)) 13 (λ q. v (stands-kind y ∙ q)), stands-kind y));
 }
 
 -- `cut_row`
@@ -89,7 +94,8 @@ cut-awaits empty w k b m e = refl
 cut-awaits (send a d vs) w k b m e = refl
 cut-awaits (receive a d vs) w k b m e = refl
 cut-awaits (setting v x) w k b m e = refl
-cut-awaits raise w k b m e = refl
+cut-awaits (raise zero) w k b m e = refl
+cut-awaits (raise (suc number)) w k b m e = refl
 cut-awaits leave w k b m e = refl
 cut-awaits (choose x) w k b m e = refl
 cut-awaits (repeat x) w k b m e = refl

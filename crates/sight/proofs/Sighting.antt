@@ -48,7 +48,7 @@ unseen-is c = record { is = refl }
 -- `answer`
 module _ (n : ℕ) (s : Sight) where
   pub answer-found : s .pointer .found ≡ true
-      → _≡_ {A = Step} (record { refusal = 0; slot = s .pointer .slot; activity = s .pointer .activity; place = s .pointer .place; end = End.None }) (answered n s)
+      → _≡_ {A = Step} (record { refusal = 0; slot = s .pointer .slot; activity = s .pointer .activity; place = s .pointer .place; end = End.None; fault = 0 }) (answered n s)
   unfolding answered chosenBy
   answer-found e = rw e
 

@@ -108,7 +108,8 @@ doingBy n a b vs s =
     (cond (eqb n 2 || eqb n 255) (takes a b vs)
     (cond (eqb n 11) (closes true s)
     (cond (eqb n 12) (closes false s)
-    (cond (leb 3 n && leb n 7) (cond (eqb n 4 || eqb n 5) cuts moves) noStep))))
+    (cond (eqb n 13) cuts
+    (cond (leb 3 n && leb n 7) (cond (eqb n 4 || eqb n 5) cuts moves) noStep)))))
 
 -- r says whether row k awaits its step
 pub record AwaitsRow (t picks ms : List ℕ) (k : ℕ) (r : Bool) : Type 0 where

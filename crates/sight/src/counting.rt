@@ -82,6 +82,7 @@ pub fn refused(number: u32) -> Step
         activity: 0,
         place: 0,
         end: End::None,
+        fault: 0,
     }
 }
 
@@ -97,6 +98,7 @@ pub fn answer(choice: usize, s: Sight) -> Step
             activity: p.activity,
             place: p.place,
             end: End::None,
+            fault: 0,
         };
     }
     if p.left == choice {

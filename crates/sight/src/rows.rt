@@ -54,6 +54,9 @@ fn is_cut(table: &Table, k: usize) -> bool
     if kind == kind::RAISE {
         return true;
     }
+    if kind == kind::NUMBERED_RAISE {
+        return true;
+    }
     kind == kind::LEAVE
 }
 
@@ -233,6 +236,9 @@ fn doing_row(
         if close_held(kind, parts, kept, k) {
             return withheld(s);
         }
+        return shown(s, slot, k, 0);
+    }
+    if kind == kind::NUMBERED_RAISE {
         return shown(s, slot, k, 0);
     }
     if kind < kind::SET {

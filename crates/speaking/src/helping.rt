@@ -26,10 +26,14 @@ pub(crate) fn help(desk: Desk, out: &mut [u8; 4096]) -> Desk {
     shown(desk, used)
 }
 
-// Help on a command, or on refusals.
+// Help on a command, on refusals or on faults.
 pub(crate) fn help_on(desk: Desk, word: &[u8], number: u64, out: &mut [u8; 4096]) -> Desk {
     if text::same(word, b"refusals") {
         let used = sayings::put_refusals(out, desk.used);
+        return shown(desk, used);
+    }
+    if text::same(word, b"faults") {
+        let used = sayings::put_faults(out, desk.used);
         return shown(desk, used);
     }
     if sayings::has_help(word) {

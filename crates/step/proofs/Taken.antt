@@ -168,7 +168,8 @@ module _ (t : List ℕ) (n : ℕ) (s : State) (o : Order) (x j : ℕ) where
       go (send a b vs) l e = absurd (f (sym e))
       go (receive a b vs) l e = absurd (g (sym e))
       go (setting v d) l e = refl
-      go raise l e = refl
+      go (raise zero) l e = refl
+      go (raise (suc number)) l e = refl
       go leave l e = refl
       go (choose d) l e = refl
       go (repeat d) l e = refl
@@ -249,7 +250,7 @@ next-is {xs = xs} {q} e a b = record { values = xs; between = q; read = e; takes
 -- `moved_from`
 pub moves-from : {t : List ℕ} {n : ℕ} {l : List Message} {w : ℕ} {o : Order} {m : Next} (i : ℕ) {k j : ℕ} {y : Tally} {v : Mail} {c : Tally}
     → Nexts t n l o k j m → MovesMail t n l w o k j v → c ≡ countEnd (m .end) y
-    → MovesFrom t n o l w i k j y (record { answer = answering (offering i k j) (m .end); order = m .order; messages = v .messages; waiting = v .waiting; tally = c })
+    → MovesFrom t n o l w i k j y (record { answer = answering (offering i k j) (m .end) (m .fault); order = m .order; messages = v .messages; waiting = v .waiting; tally = c })
 unfolding calls.stepped
 moves-from {o = o} {m} i {k} {j} {y} {v} next c e = record {
   is = λ s b d. record {
@@ -261,7 +262,7 @@ moves-from {o = o} {m} i {k} {j} {y} {v} next c e = record {
         let x : closings q ≡ closings o = ap closings h ∙ take-closings (doingAt p k) a o in
         let f : m ≡ nextOf (stepOrder p k q) = next .moves .is p sp (ap (roomPlan p k) x ∙ good-room g) in
         let z : m ≡ nextOf (stepOrder p k (orderTaking (doingAt p k) a o)) = f ∙ ap (λ (d : Order). nextOf (stepOrder p k d)) h in
-        ap (λ (r : Tally). changed s (record { answer = answering (offering i k j) (m .end); order = m .order; messages = v .messages; waiting = v .waiting; tally = r })) e
+        ap (λ (r : Tally). changed s (record { answer = answering (offering i k j) (m .end) (m .fault); order = m .order; messages = v .messages; waiting = v .waiting; tally = r })) e
         ∙ ap (λ (u : State). movedIn u i k j m y) (c .is s b d .is p sp w g)
         ∙ ap (λ (r : Next). movedIn (messagesAfter (doingAt p k) j o s) i k j r y) z;
   };

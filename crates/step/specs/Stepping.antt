@@ -78,7 +78,7 @@ pub record Nexts (t : List ℕ) (activities : ℕ) (messages : List Message) (o 
 abbrev pub movedIn : State → (slot activity place : ℕ) → Next → Tally → Stepped
 movedIn s i k j m y =
     record {
-      answer = answering (offering i k j) (m .end);
+      answer = answering (offering i k j) (m .end) (m .fault);
       state = withOrder i (m .order) s;
       tally = countEnd (m .end) y;
     }

@@ -44,6 +44,7 @@ fn refused(number: u32) -> Step
         activity: 0,
         place: 0,
         end: End::None,
+        fault: 0,
     }
 }
 

@@ -228,6 +228,7 @@ fn moved_from(
             activity,
             place,
             end,
+            fault: n.fault,
         },
         order: o,
         messages: rest,

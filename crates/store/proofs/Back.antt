@@ -6,8 +6,8 @@ use Prim.Native.Nat.{ℕ, zero, suc, _+_, _*_, _<_}
 use native.Mathlib.Nat.{suc-mul, zero-mul, add-comm}
 use native.Mathlib.Omega.{arith}
 use lib.Dec.{eqb}
-use lib.ListN.{length, take, drop, length-append}
-use lib.Seq.{take-at, drop-at, drop-append-add, length-take-le}
+use lib.ListN.{length, getD, take, drop, length-append}
+use lib.Seq.{take-at, drop-at, drop-append-add, getD-drop, length-take-le}
 use borrow.Author.Tests.{eqb-true}
 use Rattle.order.specs.declared.Closing.{Closing}
 use Rattle.order.specs.declared.Order.{Order}
@@ -89,7 +89,7 @@ closings-back : (l : List Closing) (n : ℕ) (r : List ℕ) → length l ≡ n �
 unfolding closingBytes closingIn
 closings-back l n r e = many-back closingIn closingBytes (λ x. Unit) 2 (λ x r h. refl) (λ x h. refl) l n r (always l) e
 
-order-long : (o : Order) → WholeOrder o → length (orderBytes o) ≡ 409
+order-long : (o : Order) → WholeOrder o → length (orderBytes o) ≡ 410
 unfolding orderBytes
 order-long o w =
     simp (length-append, spelled-long, words-long (o .values) 16 (w .values) (w .values-long), w .marks-long, w .bound-long, closings-long (o .remembered), w .remembered-long)
@@ -98,7 +98,8 @@ order-back : (o : Order) (r : List ℕ) → WholeOrder o → orderIn (orderBytes
 unfolding orderIn orderBytes
 order-back o r w =
     let v = each (spelled 4) (o .values) in
-    let k = spelled 8 (o .kept) ++ r in
+    let j = o .cause ∷ r in
+    let k = spelled 8 (o .kept) ++ j in
     let l = words-long (o .values) 16 (w .values) (w .values-long) in
     let h = each closingBytes (o .remembered) in
     let g : length h ≡ 64 = closings-long (o .remembered) ∙ rw (w .remembered-long) in
@@ -113,14 +114,17 @@ order-back o r w =
     let b : manyIn (numberIn 4) 4 16 (drop 256 s) ≡ o .values = rw p (words-back (o .values) 16 _ (w .values) (w .values-long)) in
     let c : take 16 (drop 320 s) ≡ o .bound = rw q (take-at (o .bound) _ 16 (w .bound-long)) in
     let d : manyIn closingIn 2 32 (drop 336 s) ≡ o .remembered = rw t (closings-back (o .remembered) 32 _ (w .remembered-long)) in
-    let f : numberIn 8 (drop 400 s) ≡ o .kept = rw u (number-back 8 (o .kept) r (w .kept)) in
-    ap orderIn e ∙ (λ i. record { root = o .root; marks = m i; values = b i; bound = c i; remembered = d i; kept = f i })
+    let f : numberIn 8 (drop 400 s) ≡ o .kept = rw u (number-back 8 (o .kept) j (w .kept)) in
+    let y : drop 408 s ≡ j =
+    past 256 152 (o .marks) _ (w .marks-long) ∙ past 64 88 v _ l ∙ past 16 72 (o .bound) _ (w .bound-long) ∙ past 64 8 h _ g ∙ past 8 0 (spelled 8 (o .kept)) _ (spelled-long 8 (o .kept)) in
+    let x : getD s 408 0 ≡ o .cause = sym (getD-drop 408 s 0 0) ∙ ap (λ (t : List ℕ). getD t 0 0) y in
+    ap orderIn e ∙ (λ i. record { root = o .root; marks = m i; values = b i; bound = c i; remembered = d i; kept = f i; cause = x i })
 
-state-long : (s : State) → WholeState s → length (stateBytes s) ≡ 12448
+state-long : (s : State) → WholeState s → length (stateBytes s) ≡ 12464
 unfolding stateBytes
 state-long s w =
     let m = each-long messageBytes WholeMessage 28 message-long (s .messages) (w .messages) in
-    let o = each-long orderBytes WholeOrder 409 order-long (s .orders) (w .orders) in
+    let o = each-long orderBytes WholeOrder 410 order-long (s .orders) (w .orders) in
     simp (length-append, spelled-long, m, o, w .plan-long, w .messages-long, w .orders-long)
 
 state-back : (s : State) (r : List ℕ) → WholeState s → stateIn (stateBytes s ++ r) ≡ s
@@ -144,16 +148,16 @@ state-back s r w =
     let d : numberIn 8 (drop 4104 b) ≡ s .waiting = rw q (number-back 8 (s .waiting) _ (w .waiting)) in
     let f : manyIn messageIn 28 64 (drop 4112 b) ≡ s .messages =
     rw t (many-back messageIn messageBytes WholeMessage 28 message-back message-long (s .messages) 64 o (w .messages) (w .messages-long)) in
-    let g : manyIn orderIn 409 16 (drop 5904 b) ≡ s .orders =
-    rw u (many-back orderIn orderBytes WholeOrder 409 order-back order-long (s .orders) 16 r (w .orders) (w .orders-long)) in
+    let g : manyIn orderIn 410 16 (drop 5904 b) ≡ s .orders =
+    rw u (many-back orderIn orderBytes WholeOrder 410 order-back order-long (s .orders) 16 r (w .orders) (w .orders-long)) in
     ap stateIn e ∙ (λ x. record { plan = a x; length = c x; orders = g x; messages = f x; waiting = d x })
 
-packed-long : (s : State) (t : Tally) → WholeState s → length (packed s t) ≡ 12476
+packed-long : (s : State) (t : Tally) → WholeState s → length (packed s t) ≡ 12492
 unfolding packed tallyBytes
 packed-long s t w = simp (length-append, spelled-long, state-long s w)
 
 -- in front stands the mark, then the tally, then the state
-packed-mark : (s : State) (t : Tally) → numberIn 8 (packed s t) ≡ 3624343578933677901
+packed-mark : (s : State) (t : Tally) → numberIn 8 (packed s t) ≡ 3696401172971605837
 unfolding packed numberIn valued
 packed-mark s t = refl
 
@@ -191,9 +195,9 @@ and-right false b h = let z : _≡_ {A = Bool} false true = h in cc
 pub held-marked : (s : List ℕ) → Each (λ b. b < 256) (take 8 s) → holds s ≡ true → take 8 s ≡ mark
 unfolding holds
 held-marked s p h =
-    let a = eqb (length s) 12476 in
+    let a = eqb (length s) 12492 in
     let b = eqb (numberIn 8 s) (valued mark) in
-    let l : length s ≡ 12476 = eqb-true (length s) 12476 (and-left a b h) in
+    let l : length s ≡ 12492 = eqb-true (length s) 12492 (and-left a b h) in
     let e : numberIn 8 s ≡ valued mark = eqb-true (numberIn 8 s) (valued mark) (and-right a b h) in
     let n : length (take 8 s) ≡ 8 = length-take-le 8 s (omega arith) in
     sym (spelled-valued (take 8 s) p) ∙ rw n (ap (spelled 8) (first-valued s ∙ e) ∙ mark-spelled)

@@ -6,6 +6,7 @@ use Prim.Native.Nat.{ℕ}
 use Rattle.numbers.specs.Number.{numberAt, groups}
 use Rattle.plan.specs.Found.{refused, among, numberIn}
 use Rattle.plan.specs.Read.{readAny, readPlan, versionIn}
+use Rattle.order.specs.Expression.{isFaultNumber}
 use Rattle.order.specs.Lists.{every}
 use Rattle.order.specs.State.{noOrder}
 use Rattle.machine.specs.declared.Message.{Message}
@@ -20,7 +21,7 @@ unfolding unpacked
 unpacked-none l h = rw h
 
 no-plan : planIn unplanned ≡ refused 2 0
-unfolding planIn inLimits fresh every orderInLimits rootInLimits among noOrder readAny readPlan versionIn numberIn numberAt groups
+unfolding planIn inLimits fresh every orderInLimits rootInLimits isFaultNumber among noOrder readAny readPlan versionIn numberIn numberAt groups
 no-plan = refl
 
 -- what the calls answer for such bytes

@@ -38,20 +38,21 @@ module _ {l m n o p : List ℕ} {at : ℕ} where
     tally-put t a b c d e =
         then (then (then (then a b refl (refl {a = 8})) c refl (refl {a = 12})) d refl (refl {a = 16})) e refl refl
 
-    pub order-put : {j : List ℕ} (x : Order) → WholeOrder x
+    pub order-put : {j s : List ℕ} (x : Order) → WholeOrder x
         → Put l j at 1 (x .root ∷ []) → Put j m (at + 1) (length (x .marks)) (x .marks) → Put m n (at + 257) (length (x .values) * 4) (each (spelled 4) (x .values)) → Put n o (at + 321) (length (x .bound)) (x .bound)
-        → Put o p (at + 337) 64 (each closingBytes (x .remembered)) → Put p q (at + 401) 8 (spelled 8 (x .kept))
-        → Put l q at 409 (orderBytes x)
+        → Put o p (at + 337) 64 (each closingBytes (x .remembered)) → Put p q (at + 401) 8 (spelled 8 (x .kept)) → Put q s (at + 409) 1 (x .cause ∷ [])
+        → Put l s at 410 (orderBytes x)
     unfolding orderBytes
-    order-put x w r a b c d e =
+    order-put x w r a b c d e h =
         let f = then {r = 257} r a refl (omega arith) in
         let g = then {r = 321} f b refl (omega arith) in
-        then (then {r = 401} (then {r = 337} g c refl (omega arith)) d refl refl) e refl refl
+        let i = then {r = 401} (then {r = 337} g c refl (omega arith)) d refl refl in
+        then (then {r = 409} i e refl refl) h refl refl
 
     pub state-put : (x : State) → WholeState x → Put l m at 8 (spelled 8 (x .length))
         → Put m n (at + 8) (length (x .plan)) (x .plan) → Put n o (at + 4104) 8 (spelled 8 (x .waiting))
-        → Put o p (at + 4112) 1792 (each messageBytes (x .messages)) → Put p q (at + 5904) 6544 (each orderBytes (x .orders))
-        → Put l q at 12448 (stateBytes x)
+        → Put o p (at + 4112) 1792 (each messageBytes (x .messages)) → Put p q (at + 5904) 6560 (each orderBytes (x .orders))
+        → Put l q at 12464 (stateBytes x)
     unfolding stateBytes
     state-put x w a b c d e =
         let f = then {r = 4104} a b refl (omega arith) in
@@ -66,14 +67,14 @@ room-fours k p l e h = omega arith
 
 -- `pack`
 module _ {l m n o : List ℕ} (s : State) (t : Tally) where
-  pub pack-is : length l ≡ 12476 → Put l m 0 8 (spelled 8 3624343578933677901) → Put m n 8 20 (tallyBytes t) → Put n o 28 12448 (stateBytes s)
+  pub pack-is : length l ≡ 12492 → Put l m 0 8 (spelled 8 3696401172971605837) → Put m n 8 20 (tallyBytes t) → Put n o 28 12464 (stateBytes s)
       → o ≡ packedInto s t l
   unfolding packedInto packed spelled
   pack-is e a b c = rw e (put-all (then (then a b refl (refl {a = 28})) c refl refl) e)
 
-pub pack-no : (s : State) (t : Tally) (l : List ℕ) → (length l ≡ 12476 → ⊥) → l ≡ packedInto s t l
+pub pack-no : (s : State) (t : Tally) (l : List ℕ) → (length l ≡ 12492 → ⊥) → l ≡ packedInto s t l
 unfolding packedInto
-pack-no s t l e = rw (ne-eqb (length l) 12476 e)
+pack-no s t l e = rw (ne-eqb (length l) 12492 e)
 
 -- `write_message`
 pub message-fits : (m : Message) (l : List ℕ) {o : List ℕ} → 28 ≤ length l → Put l o 0 28 (messageBytes m) → o ≡ messageInto m l

@@ -37,12 +37,12 @@ module _ (s : List ℕ) (at : ℕ) where
 
   pub order-is : {m v b : List ℕ} {r : List Closing} {k : ℕ} → m ≡ take 256 (drop (at + 1) s) → v ≡ manyIn (numberIn 4) 4 16 (drop (at + 257) s)
       → b ≡ take 16 (drop (at + 321) s) → r ≡ manyIn closingIn 2 32 (drop (at + 337) s) → k ≡ numberIn 8 (drop (at + 401) s)
-      → _≡_ {A = Order} (record { root = getD s at 0; marks = m; values = v; bound = b; remembered = r; kept = k }) (orderIn (drop at s))
+      → _≡_ {A = Order} (record { root = getD s at 0; marks = m; values = v; bound = b; remembered = r; kept = k; cause = getD s (at + 409) 0 }) (orderIn (drop at s))
   unfolding orderIn
   order-is f g h i j = simp (drop-drop, getD-drop, add-zero, f, g, h, i, j)
 
   pub state-is : {p : List ℕ} {n w : ℕ} {o : List Order} {m : List Message} → p ≡ take 4096 (drop (at + 8) s) → n ≡ numberIn 8 (drop at s)
-      → w ≡ numberIn 8 (drop (at + 4104) s) → m ≡ manyIn messageIn 28 64 (drop (at + 4112) s) → o ≡ manyIn orderIn 409 16 (drop (at + 5904) s)
+      → w ≡ numberIn 8 (drop (at + 4104) s) → m ≡ manyIn messageIn 28 64 (drop (at + 4112) s) → o ≡ manyIn orderIn 410 16 (drop (at + 5904) s)
       → _≡_ {A = State} (record { plan = p; length = n; orders = o; messages = m; waiting = w }) (stateIn (drop at s))
   unfolding stateIn
   state-is f g h i j = simp (drop-drop, f, g, h, i, j)
@@ -66,15 +66,15 @@ pub nothing-is : {s : State} {t : Tally} → s ≡ unplanned → t ≡ noTally �
 nothing-is e f = rw (e, f)
 
 module _ (s : List ℕ) where
-  pub unpack-is : {x : State} {t : Tally} → length s ≡ 12476 → numberIn 8 s ≡ 3624343578933677901 → t ≡ tallyIn (drop 8 s) → x ≡ stateIn (drop 28 s)
+  pub unpack-is : {x : State} {t : Tally} → length s ≡ 12492 → numberIn 8 s ≡ 3696401172971605837 → t ≡ tallyIn (drop 8 s) → x ≡ stateIn (drop 28 s)
       → keptAs false x t ≡ unpacked s
   unfolding unpacked holds valued
   unpack-is e f g h = rw (e, f, g, h)
 
-  pub unpack-mark : {k : Kept} → length s ≡ 12476 → (numberIn 8 s ≡ 3624343578933677901 → ⊥) → k ≡ keptAs true unplanned noTally → k ≡ unpacked s
+  pub unpack-mark : {k : Kept} → length s ≡ 12492 → (numberIn 8 s ≡ 3696401172971605837 → ⊥) → k ≡ keptAs true unplanned noTally → k ≡ unpacked s
   unfolding unpacked holds valued
-  unpack-mark e f g = rw (e, ne-eqb (numberIn 8 s) 3624343578933677901 f, g)
+  unpack-mark e f g = rw (e, ne-eqb (numberIn 8 s) 3696401172971605837 f, g)
 
-  pub unpack-size : {k : Kept} → (length s ≡ 12476 → ⊥) → k ≡ keptAs true unplanned noTally → k ≡ unpacked s
+  pub unpack-size : {k : Kept} → (length s ≡ 12492 → ⊥) → k ≡ keptAs true unplanned noTally → k ≡ unpacked s
   unfolding unpacked holds
-  unpack-size e g = rw (ne-eqb (length s) 12476 e, g)
+  unpack-size e g = rw (ne-eqb (length s) 12492 e, g)

@@ -1,4 +1,4 @@
--- Meaning: a state with its tally as 12,476 bytes, and what bytes hold. Assumes nothing: these are definitions.
+-- Meaning: a state with its tally as 12,492 bytes, and what bytes hold. Assumes nothing: these are definitions.
 use Prim.Native.Nat.{ℕ}
 use mathlib.Core.Bool.{Bool, true, false, cond, _&&_}
 use mathlib.Core.List.{List, [], _∷_, _++_}
@@ -14,9 +14,9 @@ use Rattle.machine.specs.State.{unplanned, noTally}
 use Rattle.store.specs.declared.Kept.{Kept}
 use Rattle.store.specs.Bytes.{spelled, valued, numberIn, manyIn}
 
--- in front stands the mark, "MOONHAL2": its last figure is the version of these bytes
+-- in front stands the mark, "MOONHAL3": its last figure is the version of these bytes
 abbrev pub mark : List ℕ
-mark = 77 ∷ 79 ∷ 79 ∷ 78 ∷ 72 ∷ 65 ∷ 76 ∷ 50 ∷ []
+mark = 77 ∷ 79 ∷ 79 ∷ 78 ∷ 72 ∷ 65 ∷ 76 ∷ 51 ∷ []
 
 -- 20 bytes
 unfoldable pub tallyBytes : Tally → List ℕ
@@ -32,12 +32,12 @@ messageBytes m =
 unfoldable pub closingBytes : Closing → List ℕ
 closingBytes c = c .scope ∷ c .part ∷ []
 
--- 409 bytes
+-- 410 bytes
 unfoldable pub orderBytes : Order → List ℕ
 orderBytes o =
-    (o .root ∷ o .marks) ++ each (spelled 4) (o .values) ++ o .bound ++ each closingBytes (o .remembered) ++ spelled 8 (o .kept)
+    (o .root ∷ o .marks) ++ each (spelled 4) (o .values) ++ o .bound ++ each closingBytes (o .remembered) ++ spelled 8 (o .kept) ++ (o .cause ∷ [])
 
--- 12,448 bytes
+-- 12,464 bytes
 unfoldable pub stateBytes : State → List ℕ
 stateBytes s =
     spelled 8 (s .length) ++ s .plan ++ spelled 8 (s .waiting) ++ each messageBytes (s .messages) ++ each orderBytes (s .orders)
@@ -81,6 +81,7 @@ orderIn s =
       bound = take 16 (drop 321 s);
       remembered = manyIn closingIn 2 32 (drop 337 s);
       kept = numberIn 8 (drop 401 s);
+      cause = getD s 409 0;
     }
 
 unfoldable pub stateIn : List ℕ → State
@@ -88,14 +89,14 @@ stateIn s =
     record {
       plan = take 4096 (drop 8 s);
       length = numberIn 8 s;
-      orders = manyIn orderIn 409 16 (drop 5904 s);
+      orders = manyIn orderIn 410 16 (drop 5904 s);
       messages = manyIn messageIn 28 64 (drop 4112 s);
       waiting = numberIn 8 (drop 4104 s);
     }
 
--- bytes hold a state where there are 12,476 of them, with the mark in front
+-- bytes hold a state where there are 12,492 of them, with the mark in front
 unfoldable pub holds : List ℕ → Bool
-holds s = eqb (length s) 12476 && eqb (numberIn 8 s) (valued mark)
+holds s = eqb (length s) 12492 && eqb (numberIn 8 s) (valued mark)
 
 abbrev pub keptAs : (refused : Bool) → State → Tally → Kept
 keptAs r s t = record { refused = r; state = s; tally = t }
@@ -106,7 +107,7 @@ unpacked s = cond (holds s) (keptAs false (stateIn (drop 28 s)) (tallyIn (drop 8
 
 -- a state with its tally is written where there is just room for it
 unfoldable pub packedInto : State → Tally → List ℕ → List ℕ
-packedInto s t l = cond (eqb (length l) 12476) (packed s t) l
+packedInto s t l = cond (eqb (length l) 12492) (packed s t) l
 
 -- a message is written into the first 28 bytes, where there are as many
 unfoldable pub messageInto : Message → List ℕ → List ℕ

@@ -1,4 +1,4 @@
-// A state with its tally as 12,476 bytes, and back.
+// A state with its tally as 12,492 bytes, and back.
 mod reading;
 mod writing;
 
@@ -22,15 +22,15 @@ pub struct Kept {
     pub tally: Tally,
 }
 
-// Writes a state with its tally into the caller's bytes, and says whether there are 12,476 of them; it writes nothing where there are not.
+// Writes a state with its tally into the caller's bytes, and says whether there are 12,492 of them; it writes nothing where there are not.
 // What it writes is read back as the same, for every state and tally there is.
 pub fn pack(state: State, tally: Tally, out: &mut [u8]) -> bool
-    ensures fits { λ r. ⌜ r ≡ eqb (length (now (out .entry))) 12476 ⌝ }
+    ensures fits { λ r. ⌜ r ≡ eqb (length (now (out .entry))) 12492 ⌝ }
     ensures is { λ _. ⌜ now (out .exit) ≡ packedInto state tally (now (out .entry)) ⌝ }
     ensures back { λ _. ⌜ unpacked (packed state tally) ≡ keptAs false state tally ⌝ }
 {
-    if out.len() == 12476 {
-        writing::put_number(out, 0, 8, 3624343578933677901);
+    if out.len() == 12492 {
+        writing::put_number(out, 0, 8, 3696401172971605837);
         writing::put_tally(out, 8, tally);
         writing::put_state(out, 28, state);
         return true;
@@ -76,6 +76,7 @@ fn no_state() -> State
         bound: [0u8; 16],
         remembered,
         kept: 0,
+        cause: 0,
     };
     let m = Message {
         partner: 0,
@@ -111,8 +112,8 @@ fn nothing() -> Kept
 pub fn unpack(s: &[u8]) -> Kept
     ensures { λ r. ⌜ r ≡ unpacked (now (s .entry)) ⌝ }
 {
-    if s.len() == 12476 {
-        if reading::eight_at(s, 0) == 3624343578933677901 {
+    if s.len() == 12492 {
+        if reading::eight_at(s, 0) == 3696401172971605837 {
             let tally = reading::tally_at(s, 8);
             let state = reading::state_at(s, 28);
             return Kept {

@@ -133,7 +133,7 @@ fn closings_at(s: &[u8], at: usize) -> [Closing; 32]
 
 // An order.
 fn order_at(s: &[u8], at: usize) -> Order
-    requires { ⌜ at + 409 ≤ length (now s) ⌝ }
+    requires { ⌜ at + 410 ≤ length (now s) ⌝ }
     ensures { λ r. ⌜ r ≡ orderIn (drop at (now (s .entry))) ⌝ }
 {
     let mut marks = [0u8; 256];
@@ -145,6 +145,7 @@ fn order_at(s: &[u8], at: usize) -> Order
     let root = s[at];
     let remembered = closings_at(s, at + 337);
     let kept = eight_at(s, at + 401);
+    let cause = s[at + 409];
     Order {
         root,
         marks,
@@ -152,6 +153,7 @@ fn order_at(s: &[u8], at: usize) -> Order
         bound,
         remembered,
         kept,
+        cause,
     }
 }
 
@@ -173,14 +175,14 @@ fn messages_at(s: &[u8], at: usize) -> [Message; 64]
 
 // The orders.
 fn orders_at(s: &[u8], at: usize) -> [Order; 16]
-    requires { ⌜ at + 6544 ≤ length (now s) ⌝ }
-    ensures { λ r. ⌜ r ≡ manyIn orderIn 409 16 (drop at (now (s .entry))) ⌝ }
+    requires { ⌜ at + 6560 ≤ length (now s) ⌝ }
+    ensures { λ r. ⌜ r ≡ manyIn orderIn 410 16 (drop at (now (s .entry))) ⌝ }
 {
     let o = order_at(s, at);
     let mut out = [o; 16];
     let mut i = 0;
     while i < 16 {
-        let n = order_at(s, at + i * 409);
+        let n = order_at(s, at + i * 410);
         out[i] = n;
         i += 1;
     }
@@ -189,7 +191,7 @@ fn orders_at(s: &[u8], at: usize) -> [Order; 16]
 
 // A state.
 pub(crate) fn state_at(s: &[u8], at: usize) -> State
-    requires { ⌜ at + 12448 ≤ length (now s) ⌝ }
+    requires { ⌜ at + 12464 ≤ length (now s) ⌝ }
     ensures { λ r. ⌜ r ≡ stateIn (drop at (now (s .entry))) ⌝ }
 {
     let mut bytes = [0u8; 4096];

@@ -122,8 +122,8 @@ fn put_closings(out: &mut [u8], at: usize, closings: [Closing; 32])
 
 // An order.
 fn put_order(out: &mut [u8], at: usize, o: Order)
-    requires { ⌜ at + 409 ≤ length (now out) ⌝ }
-    ensures { λ _. ⌜ Put (now (out .entry)) (now (out .exit)) at 409 (orderBytes o) ⌝ }
+    requires { ⌜ at + 410 ≤ length (now out) ⌝ }
+    ensures { λ _. ⌜ Put (now (out .entry)) (now (out .exit)) at 410 (orderBytes o) ⌝ }
 {
     put_byte(out, at, o.root);
     let marks = o.marks;
@@ -135,6 +135,7 @@ fn put_order(out: &mut [u8], at: usize, o: Order)
     let remembered = o.remembered;
     put_closings(out, at + 337, remembered);
     put_eight(out, at + 401, o.kept);
+    put_byte(out, at + 409, o.cause);
 }
 
 // The messages.
@@ -152,21 +153,21 @@ fn put_messages(out: &mut [u8], at: usize, messages: [Message; 64])
 
 // The orders.
 fn put_orders(out: &mut [u8], at: usize, orders: [Order; 16])
-    requires { ⌜ at + 6544 ≤ length (now out) ⌝ }
-    ensures { λ _. ⌜ Put (now (out .entry)) (now (out .exit)) at 6544 (each orderBytes orders) ⌝ }
+    requires { ⌜ at + 6560 ≤ length (now out) ⌝ }
+    ensures { λ _. ⌜ Put (now (out .entry)) (now (out .exit)) at 6560 (each orderBytes orders) ⌝ }
 {
     let mut i = 0;
     while i < 16 {
         let o = orders[i];
-        put_order(out, at + i * 409, o);
+        put_order(out, at + i * 410, o);
         i += 1;
     }
 }
 
 // A state.
 pub(crate) fn put_state(out: &mut [u8], at: usize, state: State)
-    requires { ⌜ at + 12448 ≤ length (now out) ⌝ }
-    ensures { λ _. ⌜ Put (now (out .entry)) (now (out .exit)) at 12448 (stateBytes state) ⌝ }
+    requires { ⌜ at + 12464 ≤ length (now out) ⌝ }
+    ensures { λ _. ⌜ Put (now (out .entry)) (now (out .exit)) at 12464 (stateBytes state) ⌝ }
 {
     put_eight(out, at, state.length);
     put_bytes(out, at + 8, &state.plan);

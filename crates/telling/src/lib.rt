@@ -11,5 +11,4 @@ pub use letters::put_letter;
 pub use ready::put_known;
 pub use ready::put_sent;
 pub use ready::value_in;
-pub use steps::put_end;
 pub use steps::put_step;

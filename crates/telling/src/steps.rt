@@ -15,16 +15,24 @@ use order::Worth;
 use plan::kind;
 use plan::table::EXPRESSION;
 use plan::table::KIND;
+use plan::table::NUMBER;
 use plan::table::Table;
 use plan::table::VARIABLE;
+use sayings::put_by_fault;
 
-// How an order ended, if it did.
-pub fn put_end(out: &mut [u8; 4096], used: usize, end: End) -> usize {
+// An end by a fault.
+fn put_ended_by(out: &mut [u8; 4096], used: usize, words: &[u8], fault: u8) -> usize {
+    let at = put(out, used, words);
+    put_by_fault(out, at, fault)
+}
+
+// How an order ended, if it did, and by which fault, where it was by one.
+fn put_end(out: &mut [u8; 4096], used: usize, end: End, fault: u8) -> usize {
     match end {
         End::None => used,
         End::Well => put(out, used, b"; it ended well"),
-        End::Handled => put(out, used, b"; it ended handled"),
-        End::Failed => put(out, used, b"; it failed"),
+        End::Handled => put_ended_by(out, used, b"; it ended handled", fault),
+        End::Failed => put_ended_by(out, used, b"; it failed", fault),
         End::Left => put(out, used, b"; it left"),
     }
 }
@@ -90,14 +98,10 @@ fn put_set(
             at = put(out, at, b" to");
             put_next(out, at, value as u64)
         }
-        Worth::Fault => {
+        Worth::Fault { number } => {
             let mut at = put(out, used, b"faulted: it could not set ");
             at = put_variable(out, at, names, variable);
-            put(
-                out,
-                at,
-                b", since a variable is not bound or the result is no number",
-            )
+            put_by_fault(out, at, number)
         }
     }
 }
@@ -110,11 +114,10 @@ fn put_chosen(out: &mut [u8; 4096], used: usize, w: Worth, yes: &[u8], no: &[u8]
             }
             put(out, used, yes)
         }
-        Worth::Fault => put(
-            out,
-            used,
-            b"faulted: it could not decide, since a variable is not bound or a result is no number",
-        ),
+        Worth::Fault { number } => {
+            let at = put(out, used, b"faulted: it could not decide");
+            put_by_fault(out, at, number)
+        }
     }
 }
 
@@ -131,6 +134,12 @@ fn put_closed(out: &mut [u8; 4096], used: usize, n: usize) -> usize {
 fn put_handed_on(out: &mut [u8; 4096], used: usize, n: usize) -> usize {
     let at = put_closed(out, used, n);
     put(out, at, b", and handed on what closed in it")
+}
+
+// A raise with a number of its own.
+fn put_raised(out: &mut [u8; 4096], used: usize, table: &Table, n: usize) -> usize {
+    let at = put(out, used, b"raised fault");
+    put_next(out, at, entry(table, n, NUMBER) as u64)
 }
 
 // What a step did, by its activity.
@@ -156,6 +165,7 @@ fn put_did(
             worth_of(table, n, order),
         ),
         kind::RAISE => put(out, used, b"raised a fault"),
+        kind::NUMBERED_RAISE => put_raised(out, used, table, n),
         kind::LEAVE => put(out, used, b"left what it was doing"),
         kind::CHOOSE => put_chosen(
             out,
@@ -218,5 +228,5 @@ pub fn put_step(
         m,
     );
     at = put_behind(out, at, table, activities, order, m, x.activity);
-    put_end(out, at, end)
+    put_end(out, at, end, x.fault)
 }

@@ -246,10 +246,10 @@ module _ (p : Plan) (f : ℕ → ℕ) (A : ℕ → Type 0) (ms : List ℕ) where
       go : (x : Result) → Fresh (whereOver g (record { result = x; order = o .order; log = o .log }) .log)
       go running = w
       go over = fresh-append (o .log) (g (o .order) .log) w (h (o .order))
-      go raising = w
+      go (raising x) = w
       go leaving = w
       go undone = w
-      go undoRaising = w
+      go (undoRaising x) = w
 
   pub fresh-either : (v : Bool) (x y z : Outcome) → z ≡ elim v [ true ↦ x | false ↦ y ] → (v ≡ true → Fresh (x .log)) → (v ≡ false → Fresh (y .log)) → Fresh (z .log)
   fresh-either true x y z e g h = subst (λ (q : Outcome). Fresh (q .log)) (sym e) (g refl)
@@ -310,13 +310,13 @@ module _ (p : Plan) (f : ℕ → ℕ) (A : ℕ → Type 0) (ms : List ℕ) where
       unfolding bodyOver
       over-fresh o c = fresh-either (eqb (markOf (s .name) o) active) (runs (marking (s .name) done o)) (looksAgain s o) (bodyOver s o) refl (λ v. fresh-runs (marking (s .name) done o)) (λ v. looks-fresh o c)
 
-  breaks-fresh : (s : Scope) (o : Order) → Fresh (breaks s o .log)
+  breaks-fresh : (s : Scope) (number : ℕ) (o : Order) → Fresh (breaks number s o .log)
   unfolding breaks some isBeganOf
-  breaks-fresh s o = fresh-none (breaks s o .log) (λ j. refl)
+  breaks-fresh s number o = fresh-none (breaks number s o .log) (λ j. refl)
 
-  pub undo-raised-fresh : (s : Scope) (o : Order) → Fresh (undoRaised s o .log)
+  pub undo-raised-fresh : (s : Scope) (number : ℕ) (o : Order) → Fresh (undoRaised number s o .log)
   unfolding undoRaised
-  undo-raised-fresh s o = fresh-either (eqb (markOf (s .name) o) undoing || eqb (markOf (s .name) o) withdrawing) (breaks s o) (runs o) (undoRaised s o) refl (λ v. breaks-fresh s o) (λ v. fresh-runs o)
+  undo-raised-fresh s number o = fresh-either (eqb (markOf (s .name) o) undoing || eqb (markOf (s .name) o) withdrawing) (breaks number s o) (runs o) (undoRaised number s o) refl (λ v. breaks-fresh s number o) (λ v. fresh-runs o)
 
   -- what a scope makes of a step in its fault part
   pub fault-fresh : (s : Scope) (r : Outcome) → Fresh (r .log) → Fresh (fromFault s r .log)
@@ -326,10 +326,10 @@ module _ (p : Plan) (f : ℕ → ℕ) (A : ℕ → Type 0) (ms : List ℕ) where
       go : (x : Result) → Fresh (fromFault s (record { result = x; order = r .order; log = r .log }) .log)
       go running = w
       go over = fresh-append (r .log) (partOver s (r .order) .log) w (fresh-either (eqb (markOf (s .name) (r .order)) handling) (ends s (r .order)) (runs (r .order)) _ refl (λ v. fresh-none (ends s (r .order) .log) (λ j. refl)) (λ v. fresh-runs (r .order)))
-      go raising = fresh-append (r .log) (partRaised s (r .order) .log) w (fresh-either (eqb (markOf (s .name) (r .order)) handling) (breaks s (r .order)) (runs (r .order)) _ refl (λ v. breaks-fresh s (r .order)) (λ v. fresh-runs (r .order)))
+      go (raising x) = fresh-append (r .log) (partRaised x s (r .order) .log) w (fresh-either (eqb (markOf (s .name) (r .order)) handling) (breaks x s (r .order)) (runs (r .order)) _ refl (λ v. breaks-fresh s x (r .order)) (λ v. fresh-runs (r .order)))
       go leaving = w
       go undone = w
-      go undoRaising = w
+      go (undoRaising x) = w
 
   -- Stopping: the scopes that are open were so before the step.
   pub record Opened (k n : ℕ) (ns : List ℕ) : Type 0 where

@@ -25,6 +25,7 @@ use Rattle.undoing.specs.Ties.{Place, bodyOf, faultOf, undoOf, nameOf, b
 use Rattle.undoing.specs.Orderly.{isBeganOf}
 use Rattle.undoing.specs.Begun.{hasBegan}
 use Rattle.undoing.specs.Entirely.{isUndo, times, isRash}
+use Rattle.undoing.proofs.Causing.{caused, caused-mark, faults-is}
 use Rattle.undoing.proofs.Parts.{decide, one-some}
 use Rattle.undoing.proofs.Accounts.{Phase, live, waits, heals, phase}
 use Rattle.undoing.proofs.Places.{first-of, second-of}
@@ -64,34 +65,34 @@ other-mark m v q e f = decide (eqb m v) (λ t. absurd (f (ap phase (sym (eqb-tru
 abbrev pub isUndone : Result → Bool
 isUndone running = false
 isUndone over = false
-isUndone raising = false
+isUndone (raising x) = false
 isUndone leaving = false
 isUndone undone = true
-isUndone undoRaising = false
+isUndone (undoRaising x) = false
 
 abbrev pub isOver : Result → Bool
 isOver running = false
 isOver over = true
-isOver raising = false
+isOver (raising x) = false
 isOver leaving = false
 isOver undone = false
-isOver undoRaising = false
+isOver (undoRaising x) = false
 
 over-is : (x : Result) → isOver x ≡ true → x ≡ over
 over-is running e = absurd (false≢true e)
 over-is over e = refl
-over-is raising e = absurd (false≢true e)
+over-is (raising x) e = absurd (false≢true e)
 over-is leaving e = absurd (false≢true e)
 over-is undone e = absurd (false≢true e)
-over-is undoRaising e = absurd (false≢true e)
+over-is (undoRaising x) e = absurd (false≢true e)
 
 mild-not-undone : (x : Result) → isMild x ≡ true → isUndone x ≡ true → ⊥
 mild-not-undone running m e = false≢true e
 mild-not-undone over m e = false≢true e
-mild-not-undone raising m e = false≢true e
+mild-not-undone (raising x) m e = false≢true e
 mild-not-undone leaving m e = false≢true e
 mild-not-undone undone m e = false≢true m
-mild-not-undone undoRaising m e = false≢true e
+mild-not-undone (undoRaising x) m e = false≢true e
 
 -- what goes on is undone, or over, only where what ran in it is
 on-undone : (k m : ℕ) (g : Order → Outcome) (r : Outcome) → ((q : Order) → Mild (g q)) → isUndone (goesOn k m g r .result) ≡ true → isUndone (r .result) ≡ true
@@ -105,10 +106,10 @@ on-undone k m g r h = go (r .result)
     go : (x : Result) → isUndone (whereOver (λ q. elim (eqb (markAt k q) m) [ true ↦ g q | false ↦ runs q ]) (record { result = x; order = r .order; log = r .log }) .result) ≡ true → isUndone x ≡ true
     go running e = e
     go over e = absurd (on (eqb (markAt k (r .order)) m) e)
-    go raising e = e
+    go (raising x) e = e
     go leaving e = e
     go undone e = e
-    go undoRaising e = e
+    go (undoRaising x) e = e
 
 on-over : (k m : ℕ) (g : Order → Outcome) (r : Outcome) → isOver (goesOn k m g r .result) ≡ true → isOver (r .result) ≡ true
 unfolding goesOn
@@ -117,10 +118,10 @@ on-over k m g r = go (r .result)
     go : (x : Result) → isOver (whereOver (λ q. elim (eqb (markAt k q) m) [ true ↦ g q | false ↦ runs q ]) (record { result = x; order = r .order; log = r .log }) .result) ≡ true → isOver x ≡ true
     go running e = e
     go over e = refl
-    go raising e = e
+    go (raising x) e = e
     go leaving e = e
     go undone e = e
-    go undoRaising e = e
+    go (undoRaising x) e = e
 
 combines-undone : (own : Own) (within : Acts) (k t : ℕ) (r : Outcome) → isScope own ≡ false → isUndone (combines own within k t r .result) ≡ true → isUndone (r .result) ≡ true
 unfolding combines kind
@@ -128,7 +129,7 @@ combines-undone empty within k t r s e = e
 combines-undone (send a b vs) within k t r s e = e
 combines-undone (receive a b vs) within k t r s e = e
 combines-undone (setting v x) within k t r s e = e
-combines-undone raise within k t r s e = e
+combines-undone (raise number) within k t r s e = e
 combines-undone leave within k t r s e = e
 combines-undone (choose x) within k t r s e = on-undone k inside (finishes k) r (mild-finishes k) e
 combines-undone (repeat x) within k t r s e = on-undone k inside (again k) r (mild-again k) e
@@ -144,7 +145,7 @@ combines-over empty within k t r s e = e
 combines-over (send a b vs) within k t r s e = e
 combines-over (receive a b vs) within k t r s e = e
 combines-over (setting v x) within k t r s e = e
-combines-over raise within k t r s e = e
+combines-over (raise number) within k t r s e = e
 combines-over leave within k t r s e = e
 combines-over (choose x) within k t r s e = on-over k inside (finishes k) r e
 combines-over (repeat x) within k t r s e = on-over k inside (again k) r e
@@ -170,10 +171,10 @@ joins-marks k within r j h = go (r .result)
     go : (x : Result) → getD (whereOver (λ q. elim (eqb (markAt k q) active) [ true ↦ joins k within q | false ↦ runs q ]) (record { result = x; order = r .order; log = r .log }) .order .marks) j 0 ≡ getD (r .order .marks) j 0
     go running = refl
     go over = on (eqb (markAt k (r .order)) active)
-    go raising = refl
+    go (raising x) = refl
     go leaving = refl
     go undone = refl
-    go undoRaising = refl
+    go (undoRaising x) = refl
 
 -- the step, where it is the activity's own, or in what stands within
 pub its-own : (actor : Actor) (own : Own) (within : Acts) (y₀ k t : ℕ) (o : Order) → k ≡ t → stepIn actor (act own within) y₀ k t o ≡ performs actor own within y₀ k o
@@ -293,10 +294,10 @@ module _ (p : Plan) (actor : Actor) (f : ℕ → ℕ) (t : ℕ) (o : Order) (A :
       go : (x : Result) → Newly (whereOver (λ q. elim (eqb (markAt k q) m) [ true ↦ g q | false ↦ runs q ]) (record { result = x; order = r .order; log = r .log }) .log)
       go running = w
       go over = on
-      go raising = w
+      go (raising x) = w
       go leaving = w
       go undone = w
-      go undoRaising = w
+      go (undoRaising x) = w
 
   pub none-fresh : Newly []
   unfolding some
@@ -313,7 +314,7 @@ module _ (p : Plan) (actor : Actor) (f : ℕ → ℕ) (t : ℕ) (o : Order) (A :
   combines-fresh (send a b vs) within k r s w h = w
   combines-fresh (receive a b vs) within k r s w h = w
   combines-fresh (setting v e) within k r s w h = w
-  combines-fresh raise within k r s w h = w
+  combines-fresh (raise number) within k r s w h = w
   combines-fresh leave within k r s w h = w
   combines-fresh (choose e) within k r s w h = on-fresh k inside (finishes k) r w (λ d. none-fresh)
   combines-fresh (repeat e) within k r s w h = on-fresh k inside (again k) r w (λ d. none-fresh)
@@ -338,21 +339,22 @@ module _ (p : Plan) (actor : Actor) (f : ℕ → ℕ) (t : ℕ) (o : Order) (A :
     later : (x : Outcome) → Newly (x .log) → Newly (its .log ++ x .log)
     later x v = fresh-append p f A (o .marks) (its .log) (x .log) w v
 
-    faults-fresh : (o₁ : Order) → Calm p f A (o .marks) (s .body) (s .bodyAt) → Stoppable (o₁ .marks) (s .body) (s .bodyAt) → length (o₁ .marks) ≡ length (o .marks)
-        → ((j : ℕ) → Wane (o .marks) (o₁ .marks) j) → Newly (faults s o₁ .log)
-    unfolding faults isBeganOf
-    faults-fresh o₁ c y n st =
-        let o₂ = marking (s .name) faulty o₁ in
+    faults-fresh : (number : ℕ) (o₁ : Order) → Calm p f A (o .marks) (s .body) (s .bodyAt) → Stoppable (o₁ .marks) (s .body) (s .bodyAt) → length (o₁ .marks) ≡ length (o .marks)
+        → ((j : ℕ) → Wane (o .marks) (o₁ .marks) j) → Newly (faults number s o₁ .log)
+    unfolding isBeganOf
+    faults-fresh number o₁ c y n st =
+        let o₂ = caused (s .name) number (marking (s .name) faulty o₁) in
         let r = stop (s .body) (s .bodyAt) o₂ in
         let g : Agree (s .bodyAt) (size (s .body)) (o₁ .marks) (o₂ .marks) = marking-agree (s .name) faulty o₁ (h .before) in
-        fresh-event p f A (o .marks) (faulted (s .name)) _ (λ j. refl)
+        subst (λ (z : Outcome). Newly (z .log)) (sym (faults-is number s o₁))
+        (fresh-event p f A (o .marks) (faulted (s .name) number) _ (λ j. refl)
         (fresh-append p f A (o .marks) (r .log) (turns true s (r .order) .log)
-        (stop-fresh p f A (o .marks) (h .body) kb c o₂ (ap phase (marking-mark (s .name) (s .bodyAt) faulty o₁ (h .before) (omega arith))) (stoppable-agree y g) (omega (arith, marking-length (s .name) faulty o₁))
+        (stop-fresh p f A (o .marks) (h .body) kb c o₂ (ap phase (caused-mark (s .name) (s .name) number (marking (s .name) faulty o₁) ∙ marking-mark (s .name) (s .bodyAt) faulty o₁ (h .before) (omega arith))) (stoppable-agree y g) (omega (arith, marking-length (s .name) faulty o₁))
         (record {
           at = λ j x z e. let d : isOpen (getD (o₁ .marks) j 0) ≡ true = subst (λ (i : ℕ). isOpen i ≡ true) (g .at j x z) e in
               st j .was d;
         }))
-        (turns-fresh p f A (o .marks) s kb kf named true (λ e. quiet-news p f A (o .marks) q) (r .order) (λ v. c)))
+        (turns-fresh p f A (o .marks) s kb kf named true (λ e. quiet-news p f A (o .marks) q) (r .order) (λ v. c))))
 
     pub live-fresh : markOf (s .name) o ≡ active → Run (o .marks) (s .body) (s .bodyAt) → Acted (s .bodyAt) (size (s .body)) o (RunAs p (s .body) (s .bodyAt) t o) its → Newly (fromBody s its .log)
     unfolding fromBody bodyRaised bodyOver
@@ -366,17 +368,17 @@ module _ (p : Plan) (actor : Actor) (f : ℕ → ℕ) (t : ℕ) (o : Order) (A :
         go over e d =
             later (bodyOver s (its .order))
             (fresh-either p f A (o .marks) (eqb (markOf (s .name) (its .order)) active) (runs (marking (s .name) done (its .order))) (looksAgain s (its .order)) (bodyOver s (its .order)) refl (λ z. none-fresh) (λ z. still))
-        go raising e d =
-            later (bodyRaised s (its .order))
-            (fresh-either p f A (o .marks) (isOpen (markOf (s .name) (its .order))) (faults s (its .order)) (looksAgain s (its .order)) (bodyRaised s (its .order)) refl
-            (λ z. faults-fresh (its .order) (run-calm p f A (o .marks) (ex (drops .rash (subst (λ (y : Result). isBad y ≡ true) (sym e) refl))) (h .body) run) (d .0) (v .kept .many) (drops .stays (subst (λ (y : Result). isRaising y ≡ true) (sym e) refl)))
+        go (raising x) e d =
+            later (bodyRaised x s (its .order))
+            (fresh-either p f A (o .marks) (isOpen (markOf (s .name) (its .order))) (faults x s (its .order)) (looksAgain s (its .order)) (bodyRaised x s (its .order)) refl
+            (λ z. faults-fresh x (its .order) (run-calm p f A (o .marks) (ex (drops .rash (subst (λ (y : Result). isBad y ≡ true) (sym e) refl))) (h .body) run) (d .0) (v .kept .many) (drops .stays (subst (λ (y : Result). isRaising y ≡ true) (sym e) refl)))
             (λ z. still))
           where
             drops : Drops o its
             drops = step-drops f t actor kb (s .bodyAt) o
         go leaving e d = w
         go undone e d = absurd d
-        go undoRaising e d = absurd d
+        go (undoRaising x) e d = absurd d
 
     pub waits-fresh : (z : Bool) → phase (markOf (s .name) o) ≡ waits z → Stopped (o .marks) (s .body) (s .bodyAt)
         → (some isRash (its .log) ≡ false → innerRuns (s .body) (s .bodyAt) (its .order .marks) ≡ false → Calm p f A (o .marks) (s .body) (s .bodyAt))
@@ -393,14 +395,14 @@ module _ (p : Plan) (actor : Actor) (f : ℕ → ℕ) (t : ℕ) (o : Order) (A :
         go : (x : Result) → StopAs p (s .body) (s .bodyAt) o (its .log) (its .order) x → Newly (fromBody s (record { result = x; order = its .order; log = its .log }) .log)
         go running d = later (looksAgain s (its .order)) (looks-fresh p f A (o .marks) s kb kf named nf (its .order) c)
         go over d = later (bodyOver s (its .order)) (over-fresh p f A (o .marks) s kb kf named nf (its .order) c)
-        go raising d =
-            later (bodyRaised s (its .order))
-            (fresh-either p f A (o .marks) (isOpen (markOf (s .name) (its .order))) (faults s (its .order)) (looksAgain s (its .order)) (bodyRaised s (its .order)) refl
+        go (raising x) d =
+            later (bodyRaised x s (its .order))
+            (fresh-either p f A (o .marks) (isOpen (markOf (s .name) (its .order))) (faults x s (its .order)) (looksAgain s (its .order)) (bodyRaised x s (its .order)) refl
             (λ y. absurd (false≢true (sym (not-open (markOf (s .name) (its .order)) (waits z) (ap phase (its-mark v) ∙ ph) (λ d. let z : _≡_ {A = ℕ} 0 1 = cc in omega arith)) ∙ y)))
             (λ y. looks-fresh p f A (o .marks) s kb kf named nf (its .order) c))
         go leaving d = w
         go undone d = absurd d
-        go undoRaising d = absurd d
+        go (undoRaising x) d = absurd d
 
     pub undoes-fresh : (z : Bool) → phase (markOf (s .name) o) ≡ Phase.undoes z → (isUndone (its .result) ≡ true → Calm p f A (o .marks) (s .body) (s .bodyAt))
         → Acted (s .bodyAt) (size (s .body)) o (UndoAs p (s .name) (s .body) (s .bodyAt) t o) its → Newly (fromBody s its .log)
@@ -416,10 +418,10 @@ module _ (p : Plan) (actor : Actor) (f : ℕ → ℕ) (t : ℕ) (o : Order) (A :
         go : (x : Result) → its .result ≡ x → UndoAs p (s .name) (s .body) (s .bodyAt) t o (its .log) (its .order) x → Newly (fromBody s (record { result = x; order = its .order; log = its .log }) .log)
         go running e d = later (looksAgain s (its .order)) (subst (λ (r : Outcome). Newly (r .log)) (sym still) none-fresh)
         go over e d = absurd d
-        go raising e d = absurd d
+        go (raising x) e d = absurd d
         go leaving e d = w
         go undone e d = later (undoOver s (its .order)) (undone-fresh p f A (o .marks) s kb kf named (c (subst (λ (y : Result). isUndone y ≡ true) (sym e) refl)) (quiet-news p f A (o .marks) q) (its .order))
-        go undoRaising e d = later (undoRaised s (its .order)) (undo-raised-fresh p f A (o .marks) s (its .order))
+        go (undoRaising x) e d = later (undoRaised x s (its .order)) (undo-raised-fresh p f A (o .marks) s x (its .order))
 
 -- neither of two
 neither : (a b : Bool) → (a || b) ≡ false → (a ≡ false) × (b ≡ false)
@@ -526,10 +528,10 @@ module _ (p : Plan) (actor : Actor) (f : ℕ → ℕ) (t : ℕ) (o : Order) (rai
       go : (x : Result) → RunAs p a k t o (stepIn actor a k k t o .log) (stepIn actor a k k t o .order) x → isUndone (fromUndo (record { result = x; order = o; log = [] }) .result) ≡ true → isOver x ≡ true
       go running c e = e
       go over c e = refl
-      go raising c e = absurd (false≢true e)
+      go (raising x) c e = absurd (false≢true e)
       go leaving c e = absurd (false≢true e)
       go undone c e = absurd c
-      go undoRaising c e = absurd (false≢true e)
+      go (undoRaising x) c e = absurd (false≢true e)
 
   no-less : {k : ℕ} → k < t → k ≡ t → ⊥
   no-less y z = omega arith
@@ -592,10 +594,10 @@ module _ (p : Plan) (actor : Actor) (f : ℕ → ℕ) (t : ℕ) (o : Order) (rai
       go : (x : Result) → isBad x ≡ false → isUndone x ≡ false → fromBody s (record { result = x; order = r .order; log = r .log }) .order ≡ r .order
       go running n u = same
       go over n u = ended-so (bodyOver s (r .order)) refl
-      go raising n u = absurd (false≢true (sym n))
+      go (raising x) n u = absurd (false≢true (sym n))
       go leaving n u = absurd (false≢true (sym n))
       go undone n u = absurd (false≢true (sym u))
-      go undoRaising n u = absurd (false≢true (sym n))
+      go (undoRaising x) n u = absurd (false≢true (sym n))
 
   -- where an inner scope is not left running its mark is idle
   at-rest : (v : Bool) (within : Acts) (k : ℕ) (ns : List ℕ) → innerRuns (act (scope v) within) k ns ≡ false → getD ns k 0 ≡ idle
@@ -630,10 +632,10 @@ module _ (p : Plan) (actor : Actor) (f : ℕ → ℕ) (t : ℕ) (o : Order) (rai
       not-undone : (y : Result) → StopAs p b (k + 1) o (stepIn actor b (k + 1) (k + 1) t o .log) (stepIn actor b (k + 1) (k + 1) t o .order) y → isUndone y ≡ false
       not-undone running c = refl
       not-undone over c = refl
-      not-undone raising c = refl
+      not-undone (raising x) c = refl
       not-undone leaving c = refl
       not-undone undone c = absurd c
-      not-undone undoRaising c = refl
+      not-undone (undoRaising x) c = refl
   scope-ended {ns = ns} b g u y₀ k h sb st kb kf m lt (waits-first e w) (turned-undoes {w = a} q z y) x c i ih =
       let s = scopeAt k (trio b g u) in
       let r = stepIn actor b (k + 1) (k + 1) t o in

@@ -1,4 +1,5 @@
 -- The history of every slot over any run breaks none of the statements. Assumes nothing.
+use Prim.Native.Nat.{ℕ}
 use mathlib.Core.Path.{_≡_, refl, sym, subst}
 use mathlib.Core.Bool.{Bool, true, false, not, false≢true}
 use mathlib.Core.List.{List, [], _∷_, _++_, map}
@@ -6,15 +7,15 @@ use lib.Dec.{eqb}
 use Rattle.plan.specs.Tree.{Plan}
 use Rattle.order.specs.declared.Order.{Order}
 use Rattle.order.specs.declared.End.{End}
-use Rattle.order.specs.Lists.{every, each}
+use Rattle.order.specs.Lists.{every, each, alike}
 use Rattle.order.specs.State.{idle, Name, root, inner, markOf, isLive}
 use Rattle.order.specs.Event.{Event}
 use Rattle.order.specs.Scope.{isOpen}
 use Rattle.machine.specs.Calls.{endNumber, loaded}
 use Rattle.undoing.specs.Demand3.{Inner, scopesOf, closingsOf, undoneOf, hasTurned, isLeft, mayTurn, Demand3}
-use Rattle.undoing.specs.Ties.{orderAfter, pastAfter, isName, LiveTold, isTurned, MarksTold, remembered, ListsTold, StepsTold, FaultsTold, EndsTold, PlacesTold, NeverStuck, GoingOn, NoneTwice}
+use Rattle.undoing.specs.Ties.{orderAfter, pastAfter, isName, LiveTold, isTurned, MarksTold, remembered, ListsTold, StepsTold, FaultsTold, EndsTold, HandledBecause, PlacesTold, NeverStuck, GoingOn, NoneTwice}
 use Rattle.undoing.proofs.Settling.{none-twice}
-use Rattle.undoing.specs.Orderly.{Orderly}
+use Rattle.undoing.specs.Orderly.{Orderly, CausesTold}
 use Rattle.undoing.specs.Begun.{BegunAll, BegunInTurn}
 use Rattle.undoing.specs.Entirely.{BegunTrulyEver, BegunOnce, BegunAfresh, BegunEntirely, LeftToFinish, AwaitedTold, Chained, StoppedTold, AllGoOn}
 use Rattle.undoing.specs.Onward.{KeptRunning, PassedOn, Decided}
@@ -27,6 +28,7 @@ use Rattle.undoing.proofs.Told.{live-told, marks-told, lists-told, plac
 use Rattle.undoing.proofs.Stepped.{steps-told}
 use Rattle.undoing.proofs.Heeding.{faults-told}
 use Rattle.undoing.proofs.Ending.{ends-told}
+use Rattle.undoing.proofs.Because.{handled-because, causes-told}
 use Rattle.undoing.proofs.BegunTold.{begun-all, begun-in-turn}
 use Rattle.undoing.proofs.Awaiting.{never-stuck}
 use Rattle.undoing.proofs.Going.{going-on}
@@ -53,6 +55,9 @@ events-same l m e = subst (λ (z : List Event). sameEvents l z ≡ true) e (alik
 ends-same : (l m : List End) → l ≡ m → sameEnds l m ≡ true
 ends-same l m e = subst (λ (z : List End). sameEnds l z ≡ true) e (alike-itself (map endNumber l))
 
+numbers-same : (l m : List ℕ) → l ≡ m → alike l m ≡ true
+numbers-same l m e = subst (λ (z : List ℕ). alike l z ≡ true) e (alike-itself l)
+
 -- a test of each name of the plan holds of the root and of each scope
 every-name : (p : Plan) (f : Name → Bool) → ((n : Name) → isName p n ≡ true → f n ≡ true) → every f (namesOf p) ≡ true
 unfolding namesOf every
@@ -76,7 +81,7 @@ module _ (p : Plan) (o : Order) (past : List Event) where
 
 -- The one statement.
 pub undone-right : UndoneRight
-unfolding UndoneRight broken Demand3 Orderly FaultsTold StepsTold EndsTold BegunTrulyEver BegunAll BegunInTurn BegunOnce BegunAfresh BegunEntirely LeftToFinish KeptRunning PassedOn Decided AwaitedTold Chained LiveTold MarksTold ListsTold PlacesTold GoingOn NeverStuck NoneTwice StoppedTold AllGoOn Stands
+unfolding UndoneRight broken Demand3 Orderly FaultsTold StepsTold EndsTold HandledBecause BegunTrulyEver BegunAll BegunInTurn BegunOnce BegunAfresh BegunEntirely LeftToFinish KeptRunning PassedOn Decided AwaitedTold Chained LiveTold MarksTold CausesTold ListsTold PlacesTold GoingOn NeverStuck NoneTwice StoppedTold AllGoOn Stands
 undone-right bytes p next e calls slot t =
     rw (
       demanded.demand3 bytes p next e calls slot t,
@@ -84,6 +89,7 @@ undone-right bytes p next e calls slot t =
       faults-told bytes p next e calls slot t,
       events-same _ _ (steps-told bytes p next e calls slot t),
       ends-same _ _ (ends-told bytes p next e calls slot t),
+      numbers-same _ _ (handled-because bytes p next e calls slot t),
       begun-truly-ever bytes p next e calls slot t,
       begun-all bytes p next e calls slot t,
       begun-in-turn bytes p next e calls slot t,
@@ -102,6 +108,7 @@ undone-right bytes p next e calls slot t =
     (λ v. rw (
       v,
       every-name p (markTold o past) (λ n i. mark-told p o past n (marks-told bytes p next e calls slot t v n i)),
+      causes-told bytes p next e calls slot t v,
       every-name p (listTold p o past) (λ n i. list-told p o past n (lists-told bytes p next e calls slot t v n i)),
       places-told bytes p next e calls slot t v,
       going-on bytes p next e calls slot t v,

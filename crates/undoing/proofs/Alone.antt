@@ -77,7 +77,7 @@ others-kept = (step-other, (λ m s. post-same m s .orders), (λ s. collect-same 
 order-same : (o : Order) → sameOrder o o ≡ true
 unfolding sameOrder
 order-same o =
-    rw (eq-eqb (o .root) (o .root) refl, eq-eqb (o .kept) (o .kept) refl, alike-itself (o .marks), alike-itself (o .values), alike-itself (o .bound), alike-itself (map (λ c. c .scope) (o .remembered)), alike-itself (map (λ c. c .part) (o .remembered)))
+    rw (eq-eqb (o .root) (o .root) refl, eq-eqb (o .kept) (o .kept) refl, eq-eqb (o .cause) (o .cause) refl, alike-itself (o .marks), alike-itself (o .values), alike-itself (o .bound), alike-itself (map (λ c. c .scope) (o .remembered)), alike-itself (map (λ c. c .part) (o .remembered)))
 
 -- times that follow each other
 chained-append : (o : Order) (l m : List Taken) (q : Order) → chained o l (lastOf o l) ≡ true → chained (lastOf o l) m q ≡ true → chained o (l ++ m) q ≡ true

@@ -14,25 +14,25 @@ use Rattle.machine.specs.Computing.{computing}
 use Rattle.undoing.specs.Computing.{judging}
 use Rattle.undoing.specs.Answered.{isSure, hasAll, surely, backIn, backOf, nothingDue, noted, mayNote, settles, inOrder, answered, asOften, eachAsOften}
 
-abbrev first : Call
+abbrev pub first : Call
 first = posting (record { partner = 0; operation = 0; count = 1; values = 5 ∷ 0 ∷ 0 ∷ 0 ∷ [] })
 
-abbrev next : Call
+abbrev pub next : Call
 next = stepping 0
 
 -- an answer: the step of an activity, and how the order ended with it
-abbrev answers : (activity : ℕ) → End → Step
-answers t e = record { refusal = 0; slot = 0; activity = t; place = 0; end = e }
+abbrev pub answers : (activity : ℕ) → End → Step
+answers t e = record { refusal = 0; slot = 0; activity = t; place = 0; end = e; fault = 0 }
 
-abbrev goes : (activity : ℕ) → Step
+abbrev pub goes : (activity : ℕ) → Step
 goes t = answers t None
 
 -- A plan, calls on a fresh state of it, and what is answered in slot 0: rightly, and otherwise
-record Example : Type 0 where
-  bytes : List ℕ
-  calls : List Call
-  rightly : List Step
-  wrongly : List (List Step)
+pub record Example : Type 0 where
+  pub bytes : List ℕ
+  pub calls : List Call
+  pub rightly : List Step
+  pub wrongly : List (List Step)
 
 -- Document 01's plan C: a receive 1; two scopes 2 and 6, empty but for their undo parts 5 and 9, which send; a raise 10; the root's fault part 11.
 unfoldable twoScopes : Example
@@ -162,7 +162,7 @@ unfoldable examples : List Example
 examples = twoScopes ∷ threeClosings ∷ inSequence ∷ inFlow ∷ failing ∷ handledScope ∷ twiceOpen ∷ twiceOpenBack ∷ []
 
 -- the activity and the end of each
-brief : List Step → List (List ℕ)
+unfoldable pub brief : List Step → List (List ℕ)
 brief l = map (λ x. x .activity ∷ endNumber (x .end) ∷ []) l
 
 -- the right answers are those of the definitions

@@ -63,7 +63,7 @@ kind-once t empty x y e f = omega arith
 kind-once t (send p o vs) x y e f = e
 kind-once t (receive p o vs) x y e f = e
 kind-once t (setting v u) x y e f = e
-kind-once t raise x y e f = e
+kind-once t (raise number) x y e f = e
 kind-once t leave x y e f = e
 kind-once t (choose u) x y e f = e
 kind-once t (repeat u) x y e f = omega arith
@@ -290,12 +290,12 @@ module _ (p : Plan) (h : Promised p) (k j : ℕ) (close : isClose p root k ≡ t
       (even-none t ks a (decide (eqb j t) (λ q. absurd (false≢true (sym b ∙ subst (λ (n : ℕ). isBack p root n ≡ true) (eqb-true j t q) is-back))) (λ q. q)) (unlike t c) g)))
 
 -- what holds of each
-every-named : (f : ℕ → Bool) (l : List Inner) → ((e : ℕ) → some (λ x. eqb (x .number) e) l ≡ true → f e ≡ true) → every (λ x. f (x .number)) l ≡ true
+pub every-named : (f : ℕ → Bool) (l : List Inner) → ((e : ℕ) → some (λ x. eqb (x .number) e) l ≡ true → f e ≡ true) → every (λ x. f (x .number)) l ≡ true
 unfolding every some
 every-named f [] g = refl
 every-named f (x ∷ l) g = rw (g (x .number) (rw (eq-eqb (x .number) (x .number) refl)), every-named f l (λ e i. g e (rw (i, or-true))))
 
-every-among : (f : ℕ → Bool) (l : List ℕ) → ((j : ℕ) → some (eqb j) l ≡ true → f j ≡ true) → every f l ≡ true
+pub every-among : (f : ℕ → Bool) (l : List ℕ) → ((j : ℕ) → some (eqb j) l ≡ true → f j ≡ true) → every f l ≡ true
 unfolding every some
 every-among f [] g = refl
 every-among f (x ∷ l) g = rw (g x (rw (eq-eqb x x refl)), every-among f l (λ j i. g j (rw (i, or-true))))

@@ -1,5 +1,5 @@
 -- An order that stands has an activity that awaits its step. Assumes nothing.
-use Prim.Native.Nat.{ℕ, _+_, _≤_}
+use Prim.Native.Nat.{ℕ, zero, suc, _+_, _≤_}
 use native.Mathlib.Omega.{arith}
 use mathlib.Core.Path.{_≡_, refl, sym, ap, subst, _∙_}
 use mathlib.Core.Bool.{Bool, true, false, _&&_, _||_, false≢true, or-true}
@@ -191,7 +191,8 @@ module _ (ms : List ℕ) where
   arm-ready (send x y vs) within k e = absurd (false≢true e)
   arm-ready (receive x y vs) within k e = absurd (false≢true e)
   arm-ready (setting v x) within k e = absurd (false≢true e)
-  arm-ready raise within k e = absurd (false≢true e)
+  arm-ready (raise zero) within k e = absurd (false≢true e)
+  arm-ready (raise (suc number)) within k e = absurd (false≢true e)
   arm-ready leave within k e = absurd (false≢true e)
   arm-ready (choose x) within k e = absurd (false≢true e)
   arm-ready (repeat x) within k e = absurd (false≢true e)
@@ -216,7 +217,8 @@ module _ (ms : List ℕ) where
   doer-ready (send x y vs) within k b f n i e = own-ready (send x y vs) within k b (rw e) refl
   doer-ready (receive x y vs) within k b f n i e = own-ready (receive x y vs) within k b (rw e) refl
   doer-ready (setting v x) within k b f n i e = own-ready (setting v x) within k b (rw e) refl
-  doer-ready raise within k b f n i e = own-ready raise within k b (rw e) refl
+  doer-ready (raise zero) within k b f n i e = own-ready (raise zero) within k b (rw e) refl
+  doer-ready (raise (suc number)) within k b f n i e = own-ready (raise (suc number)) within k b (rw e) refl
   doer-ready leave within k b f n i e = own-ready leave within k b (rw e) refl
   doer-ready (choose x) within k b f n i e = own-ready (choose x) within k b (rw e) refl
   doer-ready (repeat x) within k b f n i e = own-ready (repeat x) within k b (rw e) refl

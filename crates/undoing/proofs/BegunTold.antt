@@ -132,7 +132,7 @@ size-some (act own within) c = omega arith
 
 -- And whose leads it knows.
 module _ (lead : ℕ → Lead) where
-  lead-here : (a : Act) (k : ℕ) (q : Lead) → leadIn a k k q ≡ q
+  pub lead-here : (a : Act) (k : ℕ) (q : Lead) → leadIn a k k q ≡ q
   unfolding leadIn
   lead-here (act own within) k q =
       first-of (eqb k k) q (elim (isScope own) [ true ↦ leadParts within (k + 1) k (together k) | false ↦ leadAmong within (k + 1) k (leadOf own k) ]) (leadIn (act own within) k k q) refl (eq-eqb k k refl)
@@ -197,7 +197,7 @@ module _ (lead : ℕ → Lead) where
         let e : Knowing a c q = λ j u v. d j u (omega arith) ∙ lead-first a l c j q v in
         leads-more (e c (omega arith) (size-some a c) ∙ lead-here a c q) (leads-in x c q e) (leads-all y (c + size a) q (λ j u v. d j (omega arith) (omega arith) ∙ lead-later a l c j q u))
 
-body-lead : (p : Plan) (j : ℕ) → j < size (p .body) → leadAt p j ≡ leadIn (p .body) 0 j alone
+pub body-lead : (p : Plan) (j : ℕ) → j < size (p .body) → leadAt p j ≡ leadIn (p .body) 0 j alone
 unfolding leadAt
 body-lead p j v = first-of (ltb j (size (p .body))) (leadIn (p .body) 0 j alone) (leadIn (p .fault) (size (p .body)) j alone) (leadAt p j) refl (lt-ltb j (size (p .body)) v)
 
@@ -228,7 +228,7 @@ mutual
       (λ e. rw (scope-named a c t n ns (ap isScopeKind (sym (first-of (ltb t (c + size a)) (kindIn a c t) (kindAmong l (c + size a) t) (kindAmong (more a l) c t) refl e)) ∙ h)))
       (λ e. rw (among-named l (c + size a) t n ns (ap isScopeKind (sym (second-of (ltb t (c + size a)) (kindIn a c t) (kindAmong l (c + size a) t) (kindAmong (more a l) c t) refl e)) ∙ h), or-true))
 
-plan-named : (p : Plan) (t : ℕ) → isScopeKind (kindAt p t) ≡ true → isName p (inner t) ≡ true
+pub plan-named : (p : Plan) (t : ℕ) → isScopeKind (kindAt p t) ≡ true → isName p (inner t) ≡ true
 unfolding scopesOf kindAt
 plan-named p t h =
     some-append (λ x. eqb (x .number) t) (scopesIn (p .body) 0 root []) (scopesIn (p .fault) (size (p .body)) root [])
@@ -242,11 +242,11 @@ unfolding isLeft isBegin isFinish isBeganOf
 left-one k started past n h = absurd (false≢true h)
 left-one k (began j) past n h = rw (isLeft, n) at h
 left-one k (closed j) past n h = decide (eqb k j) (λ t. absurd (false≢true (rw (isLeft, t) at h))) (λ t. rw (isLeft, t) at h)
-left-one k (faulted m) past n h = h
+left-one k (faulted m x) past n h = h
 left-one k (stopped j) past n h = h
 left-one k (ended root) past n h = h
 left-one k (ended (inner j)) past n h = decide (eqb k j) (λ t. absurd (false≢true (rw (isLeft, t) at h))) (λ t. rw (isLeft, t) at h)
-left-one k (raised j) past n h = h
+left-one k (raised j x) past n h = h
 left-one k left past n h = h
 
 left-before : (k : ℕ) (l past : List Event) → hasBegan k l ≡ false → isLeft (inner k) (onto l past) ≡ true → isLeft (inner k) past ≡ true
@@ -340,13 +340,13 @@ module _ (p : Plan) (h : Promised p) where
           false≢true (sym (stay-up (start-began .stays k (ns .0)) x) ∙ ap (λ (i : ℕ). eqb i idle) (idle-marks p h k 1 .at k (omega arith) (omega arith)))
 
   -- what is begun begins in its turn, in a step and with an order that starts
-  lb : Leads (leadAt p) (p .body) 0
+  pub lb : Leads (leadAt p) (p .body) 0
   lb = leads-in (leadAt p) (h .body) 0 alone (λ j u v. body-lead p j (omega arith))
 
-  lf : Leads (leadAt p) (p .fault) (size (p .body))
+  pub lf : Leads (leadAt p) (p .fault) (size (p .body))
   lf = leads-in (leadAt p) (h .fault) (size (p .body)) alone (λ j u v. fault-lead p j u)
 
-  steps-fine : (actor : Actor) (t : ℕ) (o : Order) → Fine (leadAt p) t (acted actor p t o .log)
+  pub steps-fine : (actor : Actor) (t : ℕ) (o : Order) → Fine (leadAt p) t (acted actor p t o .log)
   steps-fine actor t o = order-fine (leadAt p) t actor p lb lf (fault-lead p (size (p .body)) (omega arith) ∙ lead-here (leadAt p) (p .fault) (size (p .body)) alone) o
 
   starts-fine : (t : ℕ) (o : Order) → Fine (leadAt p) t ((started ∷ begunOrder p .log) ++ acted itsOwn p t o .log)
@@ -467,11 +467,11 @@ module _ (p : Plan) (h : Promised p) where
         let o = orderIn s i in
         let o′ = withMessage p t m o in
         let like = taking-alike p (doingAt p t) m o in
-        subst (AllBegun p) (sym (taken-goes s t m r q (standing-live p o st)))
+        subst (AllBegun p) (sym (taken-goes s t m r (q .0, q .1, q .2) (standing-live p o st)))
         (begun-first (time t o (acted itsOwn p t o′)) (raisesOf (spare p (acted itsOwn p t o′ .order)) p (acted itsOwn p t o′)) (time-begun itsOwn t o o′ past like x st y)
         (raises-begun (spare p (acted itsOwn p t o′ .order)) past (acted itsOwn p t o′) (passed-once p h itsOwn t o′ past (alike-awaited like t x) (alike-stands p o o′ like st) (alike-holds like past y))))
     happens-begun s past r (starts-here t m q x z n l e d) =
-        subst (AllBegun p) (sym (taken-starts s t m r q z))
+        subst (AllBegun p) (sym (taken-starts s t m r (q .0, q .1, q .2) z))
         (begun-first one (raisesOf (spare p (m₁ .order)) p m₁) (
           one-taken isMarked one (λ v k. is-marked one k (λ y g. marked v k y g)),
           one-taken hasBegun one (λ v k. has-begun one k (λ y. rw z (may-be (kindAt p k) (ownsAt p t k) (hasBegan (k + 1) (l₀ ++ m₁ .log)) idle (markAt k (m₁ .order)) (λ u. absurd (starts-idle t m past n x slot v k y u))))),

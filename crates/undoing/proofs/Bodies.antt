@@ -1,5 +1,5 @@
 -- What begins with an order that starts stands in no undo part. Assumes nothing.
-use Prim.Native.Nat.{ℕ, _+_}
+use Prim.Native.Nat.{ℕ, zero, suc, _+_}
 use mathlib.Core.Path.{_≡_, refl, sym, ap, subst, _∙_}
 use mathlib.Core.Bool.{Bool, true, false, _||_, false≢true}
 use mathlib.Core.List.{List, [], _∷_, _++_}
@@ -63,7 +63,8 @@ module _ (P : ℕ → Type 0) where
   own-each (send p o vs) within k ms x a b c = each-more k [] x each-none
   own-each (receive p o vs) within k ms x a b c = each-more k [] x each-none
   own-each (setting v e) within k ms x a b c = each-more k [] x each-none
-  own-each raise within k ms x a b c = each-more k [] x each-none
+  own-each (raise zero) within k ms x a b c = each-more k [] x each-none
+  own-each (raise (suc number)) within k ms x a b c = each-more k [] x each-none
   own-each leave within k ms x a b c = each-more k [] x each-none
   own-each (choose e) within k ms x a b c = each-more k [] x each-none
   own-each (repeat e) within k ms x a b c = each-more k [] x each-none

@@ -12,7 +12,8 @@ use Rattle.order.specs.declared.Closing.{Closing}
 use Rattle.order.specs.declared.Order.{Order}
 use Rattle.order.specs.declared.End.the-variants.{None}
 use Rattle.order.specs.Lists.{some, only}
-use Rattle.order.specs.State.{Name, root, inner, idle, active, done, faulty, undoing, handling, halted, withdrawing, withRoot, closings, markOf}
+use Rattle.order.specs.State.{Name, root, inner, idle, active, done, faulty, undoing, handling, halted, withdrawing, withRoot, closings, markOf, causing}
+use Rattle.order.specs.Expression.{conflictingReceive}
 use Rattle.order.specs.Event.{Event, faulted}
 use Rattle.order.specs.Begin.{begin}
 use Rattle.order.specs.declared.Way.{Way as Result}
@@ -27,7 +28,7 @@ use Rattle.undoing.proofs.Accounts.{Phase, live, waits, heals, phase}
 use Rattle.undoing.proofs.Moves.{HoldsAt, tied-at, move-fault}
 use Rattle.undoing.proofs.Marks.{Quiet, Run, Turned, turned-waits, turned-undoes, turned-heals, Stopped, Undoing, Stoppable, quiet-agree, agree-below, agree-above}
 use Rattle.undoing.proofs.Orders.{listOf, momentOf, onto, Does}
-use Rattle.undoing.proofs.Seats.{marking-elsewhere, stopped-rests, remembered-list}
+use Rattle.undoing.proofs.Seats.{faulting-elsewhere, stopped-rests, remembered-list}
 use Rattle.undoing.proofs.Undo.{UndoneAs, Undone, undoes-list}
 use Rattle.undoing.proofs.Turning.{TurnsAs, handles}
 use Rattle.undoing.proofs.Stopping.{Stops, stops}
@@ -66,10 +67,10 @@ pub record Agrees (p : Plan) (o : Order) (a : Book) : Type 0 where
 abbrev pub SettledAs : Plan → (due : List (List ℕ)) → (begun : Bool) → Order → Result → Type 0
 SettledAs p d b o running = (owed p o ≡ d) × (begunMark (o .root) ≡ false → b ≡ false)
 SettledAs p d b o over = d ≡ []
-SettledAs p d b o raising = Unit {0}
+SettledAs p d b o (raising x) = Unit {0}
 SettledAs p d b o leaving = Unit {0}
 SettledAs p d b o undone = Unit {0}
-SettledAs p d b o undoRaising = Unit {0}
+SettledAs p d b o (undoRaising x) = Unit {0}
 
 abbrev pub Settled : Plan → (due : List (List ℕ)) → (begun : Bool) → Outcome → Type 0
 Settled p d b r = SettledAs p d b (r .order) (r .result)
@@ -167,10 +168,10 @@ module _ (p : Plan) (h : Promised p) where
       go over c d =
           subst (λ (e : List (List ℕ)). Settled p e b (after (r .log) (handle s (r .order)))) (sym (ap (duesIn p) (sym i) ∙ d))
           (handle-settles b (r .order) (u .rooted) (c .1) (c .0) (quiet-agree y (agree-above (u .kept) (omega arith))) (omega (arith, u .kept .many)))
-      go raising c d = absurd c
+      go (raising x) c d = absurd c
       go leaving c d = absurd c
       go undone c d = absurd c
-      go undoRaising c d = absurd c
+      go (undoRaising x) c d = absurd c
 
   turns-settles : (o : Order) → Stopped (o .marks) (p .body) 0 → Quiet (o .marks) (size (p .body)) (size (p .fault)) → size (p .body) + size (p .fault) ≤ length (o .marks)
       → Settled p (duesIn p (listOf p root o)) false (turns true (rootOf p) o)
@@ -181,15 +182,15 @@ module _ (p : Plan) (h : Promised p) where
       go true e = (quiet-owed p o (undo-stopped (h .seat .body) t), λ x. refl)
       go false e = undoes-settles false o (stopped-rests t e) y m
 
-  faults-settles : (o : Order) (past : List Event) → o .root ≡ active → Stoppable (o .marks) (p .body) 0 → Quiet (o .marks) (size (p .body)) (size (p .fault))
-      → size (p .body) + size (p .fault) ≤ length (o .marks) → HoldsAt p (momentOf p o) past → Settled p (duesIn p (listOf p root o)) false (faults (rootOf p) o)
+  faults-settles : (number : ℕ) (o : Order) (past : List Event) → o .root ≡ active → Stoppable (o .marks) (p .body) 0 → Quiet (o .marks) (size (p .body)) (size (p .fault))
+      → size (p .body) + size (p .fault) ≤ length (o .marks) → HoldsAt p (momentOf p o) past → Settled p (duesIn p (listOf p root o)) false (faults number (rootOf p) o)
   unfolding faults only isDeed some isStart duesOnto
-  faults-settles o past e t y m g =
+  faults-settles number o past e t y m g =
       subst (λ (d : List (List ℕ)). Settled p d false (turns true (rootOf p) o₂)) same-dues
       (turns-settles o₂ (r .stands) (quiet-agree y (agree-above (r .kept) (omega arith))) (omega (arith, r .kept .many)))
     where
       o₁ : Order
-      o₁ = withRoot faulty o
+      o₁ = causing root number (withRoot faulty o)
 
       o₂ : Order
       o₂ = stop (p .body) 0 o₁ .order
@@ -200,22 +201,22 @@ module _ (p : Plan) (h : Promised p) where
       r : Stops p (λ ms. Stopped ms (p .body) 0) 0 (size (p .body)) o₁ (stop (p .body) 0 o₁)
       r = stops p (h .seat .body) o₁ refl t (omega arith)
 
-      g₁ : HoldsAt p (momentOf p o₁) (faulted root ∷ past)
-      g₁ = move-fault p (momentOf p o) (momentOf p o₁) past g root refl (ap phase e) refl refl (marking-elsewhere p root faulty o) .1
+      g₁ : HoldsAt p (momentOf p o₁) (faulted root number ∷ past)
+      g₁ = move-fault p (momentOf p o) (momentOf p o₁) past g root number refl (ap phase e) refl refl (faulting-elsewhere p root number o) .1
 
-      g₂ : HoldsAt p (momentOf p o₂) (onto l (faulted root ∷ past))
-      g₂ = r .does .does (faulted root ∷ past) g₁ .1
+      g₂ : HoldsAt p (momentOf p o₂) (onto l (faulted root number ∷ past))
+      g₂ = r .does .does (faulted root number ∷ past) g₁ .1
 
       still : only isDeed l ≡ []
       still = stop-silent isDeed deeds-aside (p .body) 0 o₁
 
-      unstarted : some isStart (faulted root ∷ l) ≡ false
+      unstarted : some isStart (faulted root number ∷ l) ≡ false
       unstarted = start-kept l ∙ ap (some isStart) still
 
       same-dues : duesIn p (listOf p root o₂) ≡ duesIn p (listOf p root o)
       same-dues =
-          ap (duesIn p) (sym (tied-at p (momentOf p o₂) (momentOf p o₂) (onto l (faulted root ∷ past)) g₂ (waits true) root refl (ap phase (r .rooted)) .3))
-          ∙ (onto-dues p (h .seat) (faulted root ∷ l) past unstarted ∙ (ap (λ (z : List Event). duesOnto p (h .seat) z (duesIn p (closingsOf p root past))) still
+          ap (duesIn p) (sym (tied-at p (momentOf p o₂) (momentOf p o₂) (onto l (faulted root number ∷ past)) g₂ (waits true) root refl (ap phase (r .rooted)) .3))
+          ∙ (onto-dues p (h .seat) (faulted root number ∷ l) past unstarted ∙ (ap (λ (z : List Event). duesOnto p (h .seat) z (duesIn p (closingsOf p root past))) still
           ∙ ap (duesIn p) (tied-at p (momentOf p o) (momentOf p o) past g live root refl (ap phase e) .3)))
 
   -- Which steps close and take back.
@@ -330,13 +331,13 @@ module _ (p : Plan) (h : Promised p) where
         go over c =
             subst (λ (z : Outcome). Settled p (duesWith p (h .seat) actor t (duesIn p (listOf p root o))) false (after (stepIn actor (p .body) 0 0 t o .log) z)) (sym (over-is (rootOf p) o₁ active d₁))
             (quiet-owed p o₁ (undo-quiet (h .seat .body) (o₁ .marks) (c .0)) ∙ listed (c .1), λ x. refl)
-        go raising c =
-            subst (λ (z : Outcome). Settled p (duesWith p (h .seat) actor t (duesIn p (listOf p root o))) false (after (stepIn actor (p .body) 0 0 t o .log) z)) (sym (raised-is (rootOf p) o₁ true (rw d₁)))
-            (subst (λ (z : List (List ℕ)). Settled p z false (faults (rootOf p) o₁)) (listed (c .1))
-            (faults-settles o₁ (onto (stepIn actor (p .body) 0 0 t o .log) past) d₁ (c .0) q₁ (omega (arith, v .kept .many)) (c .1 .does past g .1)))
+        go (raising x) c =
+            subst (λ (z : Outcome). Settled p (duesWith p (h .seat) actor t (duesIn p (listOf p root o))) false (after (stepIn actor (p .body) 0 0 t o .log) z)) (sym (raised-is x (rootOf p) o₁ true (rw d₁)))
+            (subst (λ (z : List (List ℕ)). Settled p z false (faults x (rootOf p) o₁)) (listed (c .1))
+            (faults-settles x o₁ (onto (stepIn actor (p .body) 0 0 t o .log) past) d₁ (c .0) q₁ (omega (arith, v .kept .many)) (c .1 .does past g .1)))
         go leaving c = tt
         go undone c = absurd c
-        go undoRaising c = absurd c
+        go (undoRaising x) c = absurd c
 
     -- It waits for its inner scopes.
     waits-right : (actor : Actor) → Fitting actor p t → t < size (p .body) → o .root ≡ faulty → Stopped (o .marks) (p .body) 0 → Quiet (o .marks) (size (p .body)) (size (p .fault)) → Waits (o .marks) (p .body) 0 t false → Right actor (fromBody (rootOf p) (its actor))
@@ -368,11 +369,11 @@ module _ (p : Plan) (h : Promised p) where
         go running c = looks (c .0) (c .1)
         go over c =
             subst (λ (z : Outcome). Settled p (duesWith p (h .seat) actor t (duesIn p (listOf p root o))) false (after (stepIn actor (p .body) 0 0 t o .log) z)) (sym (over-is (rootOf p) o₁ faulty d₁)) (looks (c .0) (c .1))
-        go raising c =
-            subst (λ (z : Outcome). Settled p (duesWith p (h .seat) actor t (duesIn p (listOf p root o))) false (after (stepIn actor (p .body) 0 0 t o .log) z)) (sym (raised-is (rootOf p) o₁ false (rw d₁))) (looks (c .0) (c .1))
+        go (raising x) c =
+            subst (λ (z : Outcome). Settled p (duesWith p (h .seat) actor t (duesIn p (listOf p root o))) false (after (stepIn actor (p .body) 0 0 t o .log) z)) (sym (raised-is x (rootOf p) o₁ false (rw d₁))) (looks (c .0) (c .1))
         go leaving c = tt
         go undone c = absurd c
-        go undoRaising c = absurd c
+        go (undoRaising x) c = absurd c
 
     -- the mark of a root that undoes
     undo-mark : (k : ℕ) → k ≡ undoing → (eqb k undoing || eqb k withdrawing) ≡ true
@@ -417,7 +418,7 @@ module _ (p : Plan) (h : Promised p) where
             subst (λ (z : Outcome). Settled p (putting (without t left) (duesIn p (listOf p root o))) (noted p root t a .begun) (after (stepIn itsOwn (p .body) 0 0 t o .log) z)) (sym (looks-is (rootOf p) o₁ undoing d₁))
             (rw (l, same-list), λ x. absurd (false≢true (sym x ∙ ap begunMark d₁)))
         go over c l = absurd c
-        go raising c l = absurd c
+        go (raising x) c l = absurd c
         go leaving c l = tt
         go undone c l =
             subst (λ (z : Bool). Settled p (putting (without t left) (duesIn p (listOf p root o))) (noted p root t a .begun)
@@ -425,14 +426,14 @@ module _ (p : Plan) (h : Promised p) where
             (sym (eq-eqb (o₁ .root) undoing d₁))
             (subst (λ (e : List (List ℕ)). Settled p e (noted p root t a .begun) (undoes true (rootOf p) o₁)) (ap (duesIn p) same-list ∙ ap (λ (i : List ℕ). putting i (duesIn p (listOf p root o))) (sym l))
             (undoes-settles (noted p root t a .begun) o₁ (c .0) (quiet-agree q (agree-above (v .kept) (omega arith))) (omega (arith, v .kept .many))))
-        go undoRaising c l =
-            subst (λ (z : Bool). Settled p (putting (without t left) (duesIn p (listOf p root o))) (noted p root t a .begun) (after (stepIn itsOwn (p .body) 0 0 t o .log) (elim z [ true ↦ breaks (rootOf p) o₁ | false ↦ runs o₁ ])))
+        go (undoRaising x) c l =
+            subst (λ (z : Bool). Settled p (putting (without t left) (duesIn p (listOf p root o))) (noted p root t a .begun) (after (stepIn itsOwn (p .body) 0 0 t o .log) (elim z [ true ↦ breaks x (rootOf p) o₁ | false ↦ runs o₁ ])))
             (sym (undo-mark (o₁ .root) d₁)) tt
     undoing-right inPlace j i d r q w = (
       tt,
       subst (λ (x : Result). Settled p (a .due) (a .begun) (fromBody (rootOf p) (record { result = x; order = o₁; log = stepIn inPlace (p .body) 0 0 t o .log })))
           (sym (undo-raises p (h .seat .body) 0 t o false (h .seat .at) w refl r root (awake-first p inPlace (λ n. markOf n o) root (h .seat .beyond) true (ap phase d)) (true, ap (λ (n : Name). phase (markOf n o)) (awake-first p inPlace (λ n. markOf n o) root (h .seat .beyond) true (ap phase d)) ∙ ap phase d) (omega arith) (ap isTake (sym (doing-body p t i)) ∙ j)))
-          (subst (λ (z : Bool). Settled p (a .due) (a .begun) (after (stepIn inPlace (p .body) 0 0 t o .log) (elim z [ true ↦ breaks (rootOf p) o₁ | false ↦ runs o₁ ]))) (sym (undo-mark (o₁ .root) d₁)) tt),
+          (subst (λ (z : Bool). Settled p (a .due) (a .begun) (after (stepIn inPlace (p .body) 0 0 t o .log) (elim z [ true ↦ breaks conflictingReceive (rootOf p) o₁ | false ↦ runs o₁ ]))) (sym (undo-mark (o₁ .root) d₁)) tt),
     )
       where
         o₁ : Order
@@ -475,11 +476,11 @@ module _ (p : Plan) (h : Promised p) where
         )
         go over c =
             subst (λ (z : Bool). Settled p [] (a .begun) (after (stepIn actor (p .fault) (size (p .body)) (size (p .body)) t o .log) (elim z [ true ↦ ends (rootOf p) o₁ | false ↦ runs o₁ ]))) (sym (eq-eqb (o₁ .root) handling d₁)) refl
-        go raising c =
-            subst (λ (z : Bool). Settled p [] (a .begun) (after (stepIn actor (p .fault) (size (p .body)) (size (p .body)) t o .log) (elim z [ true ↦ breaks (rootOf p) o₁ | false ↦ runs o₁ ]))) (sym (eq-eqb (o₁ .root) handling d₁)) tt
+        go (raising x) c =
+            subst (λ (z : Bool). Settled p [] (a .begun) (after (stepIn actor (p .fault) (size (p .body)) (size (p .body)) t o .log) (elim z [ true ↦ breaks x (rootOf p) o₁ | false ↦ runs o₁ ]))) (sym (eq-eqb (o₁ .root) handling d₁)) tt
         go leaving c = tt
         go undone c = absurd c
-        go undoRaising c = absurd c
+        go (undoRaising x) c = absurd c
 
   -- However it stands.
   pub root-right : (actor : Actor) (t : ℕ) (o : Order) (past : List Event) (a : Book) → Fitting actor p t → Awaited p (o .marks) t → Standing p o → (o .root ≡ halted → ⊥) → (o .root ≡ withdrawing → ⊥) → HoldsAt p (momentOf p o) past → Agrees p o a

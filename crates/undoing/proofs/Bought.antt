@@ -40,7 +40,7 @@ alike-equal (x ∷ l) [] e = absurd (false≢true e)
 alike-equal (x ∷ l) (y ∷ m) e = both (eqb x y) (alike l m) e (λ a b. let p = eqb-true x y a in let q = alike-equal l m b in (cc))
 
 -- how often a number stands in a list
-abbrev times : ℕ → List ℕ → ℕ
+abbrev pub times : ℕ → List ℕ → ℕ
 times e l = length (only (eqb e) l)
 
 times-append : (e : ℕ) (l m : List ℕ) → times e (l ++ m) ≡ times e l + times e m
@@ -51,7 +51,7 @@ times-reverse : (e : ℕ) (l : List ℕ) → times e (reverse l) ≡ times e l
 times-reverse e l = ap length (only-reverse (eqb e) l) ∙ length-reverse (only (eqb e) l)
 
 -- what a right history says of an undo part that starts: the closings begin with those undone and this one
-may-undo : (p : Plan) (past : List Event) (x : Inner) → mayUndo p past x ≡ true
+pub may-undo : (p : Plan) (past : List Event) (x : Inner) → mayUndo p past x ≡ true
     → (hasTurned (runnerOf past x) past ≡ true) × (closingsOf p (runnerOf past x) past
     ≡ (undoneOf p (runnerOf past x) past ++ (x .number ∷ [])) ++ drop (length (undoneOf p (runnerOf past x) past ++ (x .number ∷ []))) (closingsOf p (runnerOf past x) past))
 unfolding mayUndo
@@ -79,12 +79,12 @@ one-more p past x h =
 -- Sums over the scopes of a plan.
 
 -- what each scope of a list counts
-sums : (Name → ℕ) → List Inner → ℕ
+pub sums : (Name → ℕ) → List Inner → ℕ
 sums f [] = 0
 sums f (y ∷ l) = f (inner (y .number)) + sums f l
 
 -- a number where this name is, else none
-abbrev at : Name → ℕ → Name → ℕ
+abbrev pub at : Name → ℕ → Name → ℕ
 at a v n = cond (same a n) v 0
 
 sums-root : (v : ℕ) (l : List Inner) → sums (at root v) l ≡ 0
@@ -128,11 +128,11 @@ sums-so p a b c d e f h each-none = omega arith
 sums-so p a b c d e f h (each-more {a = y} kn l) = let v = h (inner (y .number)) (kn .name) in let w = sums-so p a b c d e f h l in omega arith
 
 -- which scope of a plan has a number, if any
-data Which (p : Plan) (j : ℕ) (l : List Inner) : Type 0 where
+pub data Which (p : Plan) (j : ℕ) (l : List Inner) : Type 0 where
   here : (y : Inner) → Known p y → y .number ≡ j → Which p j l
   nowhere : only (λ y. eqb (y .number) j) l ≡ [] → Which p j l
 
-which : (p : Plan) (j : ℕ) {l : List Inner} → Each (Known p) l → Which p j l
+pub which : (p : Plan) (j : ℕ) {l : List Inner} → Each (Known p) l → Which p j l
 unfolding only
 which p j each-none = nowhere refl
 which p j (each-more {a = y} {l = l} kn r) =
@@ -145,7 +145,7 @@ which p j (each-more {a = y} {l = l} kn r) =
     further t (nowhere e) = nowhere (rw t e)
 
 -- what counts of a scope: nothing once it has finished
-abbrev counts : Bool → ℕ → ℕ
+abbrev pub counts : Bool → ℕ → ℕ
 counts f c = cond f 0 c
 
 counts-begin : (f g : Bool) (c u c′ u′ d : ℕ) → c′ ≡ 0 → u′ ≡ 0 → u ≤ c → counts g c′ + counts f u + 0 ≤ counts f c + counts g u′ + d
@@ -162,44 +162,44 @@ counts-more false false c u c′ u′ d a b h = omega arith
 
 -- At most once for each closing.
 module _ (p : Plan) (all : Each (Known p) (scopesOf p)) (x : Inner) (kn : Known p x) (un : x .undoes ≡ true) where
-  abbrev undos : Name → List Event → ℕ
+  abbrev pub undos : Name → List Event → ℕ
   undos n past = times (x .number) (undoneOf p n past)
 
-  abbrev closes : Name → List Event → ℕ
+  abbrev pub closes : Name → List Event → ℕ
   closes n past = times (x .number) (closingsOf p n past)
 
-  abbrev finished : Name → List Event → Bool
+  abbrev pub finished : Name → List Event → Bool
   finished n past = some (isFinish n) (since n past)
 
-  abbrev turned : Name → List Event → Bool
+  abbrev pub turned : Name → List Event → Bool
   turned n past = some (isTurn n) (since n past)
 
-  abbrev begun : List Event → ℕ
+  abbrev pub begun : List Event → ℕ
   begun l = howMany (isBeganOf (eqb (x .undo))) l
 
-  abbrev shut : List Event → ℕ
+  abbrev pub shut : List Event → ℕ
   shut l = howMany (isClosedOf (x .number)) l
 
   -- what an event closes and undoes of it at a scope
-  abbrev brings : Name → List Event → Event → ℕ
+  abbrev pub brings : Name → List Event → Event → ℕ
   brings n past e = times (x .number) (closedBy (insideOf p n) (λ k. closingsOf p (inner k) past) e)
 
-  abbrev takes : Name → List Event → Event → ℕ
+  abbrev pub takes : Name → List Event → Event → ℕ
   takes n past e = times (x .number) (undoneBy p n past e)
 
-  abbrev openCloses : List Event → Name → ℕ
+  abbrev pub openCloses : List Event → Name → ℕ
   openCloses past n = counts (finished n past) (closes n past)
 
-  abbrev openUndos : List Event → Name → ℕ
+  abbrev pub openUndos : List Event → Name → ℕ
   openUndos past n = counts (finished n past) (undos n past)
 
-  abbrev total : (Name → ℕ) → ℕ
+  abbrev pub total : (Name → ℕ) → ℕ
   total f = f root + sums f (scopesOf p)
 
-  total-so : (a b c d e f : Name → ℕ) → ((n : Name) → isName p n ≡ true → a n + b n + c n ≤ d n + e n + f n) → total a + total b + total c ≤ total d + total e + total f
+  pub total-so : (a b c d e f : Name → ℕ) → ((n : Name) → isName p n ≡ true → a n + b n + c n ≤ d n + e n + f n) → total a + total b + total c ≤ total d + total e + total f
   total-so a b c d e f h = let v = h root refl in let w = sums-so p a b c d e f h all in omega arith
 
-  total-most : (a : Name) (v : ℕ) → total (at a v) ≤ v
+  pub total-most : (a : Name) (v : ℕ) → total (at a v) ≤ v
   total-most root v = rw (sums-root v (scopesOf p)) (omega arith)
   total-most (inner k) v = go (which p k all)
     where
@@ -211,19 +211,19 @@ module _ (p : Plan) (all : Each (Known p) (scopesOf p)) (x : Inner) (kn : Known 
           let z : length (only (λ z. eqb (z .number) k) (scopesOf p)) ≡ 0 = rw e in
           let w = sums-most k v (scopesOf p) (omega arith) in omega arith
 
-  total-least : (a : Name) (v : ℕ) → isName p a ≡ true → v ≤ total (at a v)
+  pub total-least : (a : Name) (v : ℕ) → isName p a ≡ true → v ≤ total (at a v)
   total-least root v i = omega arith
   total-least (inner k) v i = let w = sums-least k v (scopesOf p) i in omega arith
 
   -- each scope has undone no more than closed since it last began, and nothing before it turned; and all that began of it was closed, less what is still to be
   -- undone
-  record Paid (past : List Event) : Type 0 where
-    recent : (n : Name) → undos n past ≤ closes n past
-    unturned : (n : Name) → turned n past ≡ false → undos n past ≡ 0
-    paid : begun past + total (openCloses past) ≤ shut past + total (openUndos past)
+  pub record Paid (past : List Event) : Type 0 where
+    pub recent : (n : Name) → undos n past ≤ closes n past
+    pub unturned : (n : Name) → turned n past ≡ false → undos n past ≡ 0
+    pub paid : begun past + total (openCloses past) ≤ shut past + total (openUndos past)
 
   -- where a scope begins nothing is undone or closed yet
-  fresh-since : (n : Name) (past : List Event) (e : Event) → (isBegin n e || isBegin root e) ≡ true → (undos n (e ∷ past) ≡ 0) × (closes n (e ∷ past) ≡ 0)
+  pub fresh-since : (n : Name) (past : List Event) (e : Event) → (isBegin n e || isBegin root e) ≡ true → (undos n (e ∷ past) ≡ 0) × (closes n (e ∷ past) ≡ 0)
   unfolding only
   fresh-since n past e h =
       decide (isBegin n e)
@@ -237,7 +237,7 @@ module _ (p : Plan) (all : Each (Known p) (scopesOf p)) (x : Inner) (kn : Known 
       ))
 
   -- else what the event undoes and closes is one more
-  more-since : (n : Name) (past : List Event) (e : Event) → (isBegin n e || isBegin root e) ≡ false
+  pub more-since : (n : Name) (past : List Event) (e : Event) → (isBegin n e || isBegin root e) ≡ false
       → (undos n (e ∷ past) ≡ undos n past + takes n past e) × (closes n (e ∷ past) ≡ brings n past e + closes n past)
       × (finished n (e ∷ past) ≡ isFinish n e || finished n past) × (turned n (e ∷ past) ≡ isTurn n e || turned n past)
   more-since n past e h =
@@ -253,7 +253,7 @@ module _ (p : Plan) (all : Each (Known p) (scopesOf p)) (x : Inner) (kn : Known 
       ))
 
   -- a scope that undoes none of it
-  point : (n : Name) (past : List Event) (e : Event) → undos n past ≤ closes n past → takes n past e ≡ 0
+  pub point : (n : Name) (past : List Event) (e : Event) → undos n past ≤ closes n past → takes n past e ≡ 0
       → openCloses (e ∷ past) n + openUndos past n + 0 ≤ openCloses past n + openUndos (e ∷ past) n + brings n past e
   point n past e h u =
       decide (isBegin n e || isBegin root e)
@@ -303,7 +303,7 @@ module _ (p : Plan) (all : Each (Known p) (scopesOf p)) (x : Inner) (kn : Known 
   unfolding only
   shut-grows past e = decide (isClosedOf (x .number) e) (λ t. rw t (omega arith)) (λ t. rw t (omega arith))
 
-  total-zero : total (λ n. 0) ≡ 0
+  pub total-zero : total (λ n. 0) ≡ 0
   total-zero = let a = sums-zero (scopesOf p) in omega arith
 
   -- an event that neither undoes nor closes it
@@ -315,14 +315,14 @@ module _ (p : Plan) (all : Each (Known p) (scopesOf p)) (x : Inner) (kn : Known 
       carry past e g (λ n. takes-none (k n)) (omega arith)
 
   -- its own closing
-  own-closed : (n : Name) (past : List Event) → brings n past (closed (x .number)) ≡ at (x .around) 1 n
+  pub own-closed : (n : Name) (past : List Event) → brings n past (closed (x .number)) ≡ at (x .around) 1 n
   unfolding only each
   own-closed n past =
       ap (times (x .number)) (closed-inside p n (λ k. closingsOf p (inner k) past) (x .number))
       ∙ decide (same (x .around) n) (λ t. rw (kn .byNumber, t, un, eq-eqb (x .number) (x .number) refl)) (λ t. rw (kn .byNumber, t))
 
   -- the closing of a scope with no undo part hands on what closed in it
-  hands-on : (y : Inner) → Known p y → y .undoes ≡ false → (n : Name) (past : List Event)
+  pub hands-on : (y : Inner) → Known p y → y .undoes ≡ false → (n : Name) (past : List Event)
       → brings n past (closed (y .number)) ≡ at (y .around) (closes (inner (y .number)) past) n
   unfolding only each
   hands-on y ky v n past =
@@ -332,25 +332,25 @@ module _ (p : Plan) (all : Each (Known p) (scopesOf p)) (x : Inner) (kn : Known 
       (λ t. rw (ky .byNumber, t))
 
   -- the closing of another scope is none of it
-  other-closed : (y : Inner) → Known p y → y .undoes ≡ true → eqb (x .number) (y .number) ≡ false → (n : Name) (past : List Event) → brings n past (closed (y .number)) ≡ 0
+  pub other-closed : (y : Inner) → Known p y → y .undoes ≡ true → eqb (x .number) (y .number) ≡ false → (n : Name) (past : List Event) → brings n past (closed (y .number)) ≡ 0
   unfolding only each
   other-closed y ky v d n past =
       ap (times (x .number)) (closed-inside p n (λ k. closingsOf p (inner k) past) (y .number))
       ∙ decide (same (y .around) n) (λ t. rw (ky .byNumber, t, v, d)) (λ t. rw (ky .byNumber, t))
 
-  none-closed : (j : ℕ) → only (λ y. eqb (y .number) j) (scopesOf p) ≡ [] → (n : Name) (past : List Event) → brings n past (closed j) ≡ 0
+  pub none-closed : (j : ℕ) → only (λ y. eqb (y .number) j) (scopesOf p) ≡ [] → (n : Name) (past : List Event) → brings n past (closed j) ≡ 0
   unfolding only each
   none-closed j e n past = ap (times (x .number)) (closed-inside p n (λ k. closingsOf p (inner k) past) j) ∙ rw e
 
   -- its undo part, at the scope that runs it
-  own-undo : (n : Name) (past : List Event) → takes n past (began (x .undo)) ≡ at (runnerOf past x) 1 n
+  pub own-undo : (n : Name) (past : List Event) → takes n past (began (x .undo)) ≡ at (runnerOf past x) 1 n
   unfolding only
   own-undo n past =
       ap (times (x .number)) (undone-inside p n past (x .undo))
       ∙ decide (same (runnerOf past x) n) (λ t. rw (kn .byUndo un, t, eq-eqb (x .number) (x .number) refl)) (λ t. rw (kn .byUndo un, t))
 
   -- an undo part other than its own is none of it
-  other-undo : (j : ℕ) → eqb (x .undo) j ≡ false → (n : Name) (past : List Event) → takes n past (began j) ≡ 0
+  pub other-undo : (j : ℕ) → eqb (x .undo) j ≡ false → (n : Name) (past : List Event) → takes n past (began j) ≡ 0
   unfolding only
   other-undo j h n past =
       let l = only (isUndoPart j) (scopesOf p) in
@@ -368,7 +368,7 @@ module _ (p : Plan) (all : Each (Known p) (scopesOf p)) (x : Inner) (kn : Known 
           (λ t. rw (t, ne-eqb (y .number) (x .number) (λ d. eqb-false (x .number) (y .number) t (sym d))) (by-number l))
 
   -- its undo part may begin only as demand 3 says
-  its-undo : (past : List Event) → allowed p past (began (x .undo)) ≡ true → mayUndo p past x ≡ true
+  pub its-undo : (past : List Event) → allowed p past (began (x .undo)) ≡ true → mayUndo p past x ≡ true
   unfolding allowed mayBegin every
   its-undo past h = both (not (noneNow past)) _ h (λ a b. both (mayUndo p past x) true (rw (kn .byUndo un) at b) (λ c d. c))
 
@@ -462,7 +462,7 @@ module _ (p : Plan) (all : Each (Known p) (scopesOf p)) (x : Inner) (kn : Known 
           (λ t. rw t (let q = point n past (began (x .undo)) (g .recent n) (own-undo n past ∙ rw t) in omega arith))
 
   -- one more event that is allowed
-  pays : (past : List Event) (e : Event) → allowed p past e ≡ true → Paid past → Paid (e ∷ past)
+  pub pays : (past : List Event) (e : Event) → allowed p past e ≡ true → Paid past → Paid (e ∷ past)
   unfolding only isBeganOf isClosedOf undoneBy closedBy allowed mayClose
   pays past started h g = still past started (λ n. refl) (λ n. refl) refl g
   pays past (began j) h g =
@@ -480,10 +480,10 @@ module _ (p : Plan) (all : Each (Known p) (scopesOf p)) (x : Inner) (kn : Known 
           (λ d w. decide (y .undoes)
           (λ u. still past (closed (y .number)) (λ n. refl) (λ n. other-closed y ky u d n past) refl g)
           (λ u. both (not (noneNow past)) _ w (λ a b. both (mayTurn (inner (y .number)) past) _ b (λ c f. hand-pays y ky u past c g)))) t h)
-  pays past (faulted n) h g = still past (faulted n) (λ m. refl) (λ m. refl) refl g
+  pays past (faulted n x) h g = still past (faulted n x) (λ m. refl) (λ m. refl) refl g
   pays past (stopped j) h g = still past (stopped j) (λ m. refl) (λ m. refl) refl g
   pays past (ended n) h g = still past (ended n) (λ m. refl) (λ m. refl) refl g
-  pays past (raised j) h g = still past (raised j) (λ m. refl) (λ m. refl) refl g
+  pays past (raised j x) h g = still past (raised j x) (λ m. refl) (λ m. refl) refl g
   pays past left h g = still past left (λ m. refl) (λ m. refl) refl g
 
   -- over a right history, which leaves the same to be counted
@@ -493,12 +493,12 @@ module _ (p : Plan) (all : Each (Known p) (scopesOf p)) (x : Inner) (kn : Known 
   pays-all past (e ∷ l) h g = both (allowed p past e) _ h (λ a b. pays-all (e ∷ past) l b (pays past e a g))
 
   -- in the beginning
-  none-paid : Paid []
+  pub none-paid : Paid []
   unfolding only closingsOf undoneOf startedBy since some
   none-paid = let z = total-zero in record { recent = λ n. omega arith; unturned = λ n h. refl; paid = omega arith }
 
   -- what is undone where it counts is no more than what closed there
-  undone-less : (past : List Event) → Paid past → total (openUndos past) ≤ total (openCloses past)
+  pub undone-less : (past : List Event) → Paid past → total (openUndos past) ≤ total (openCloses past)
   undone-less past g =
       let a = total-so (openUndos past) (λ n. 0) (λ n. 0) (openCloses past) (λ n. 0) (λ n. 0)
       (λ n i. let c = g .recent n in decide (finished n past) (λ t. rw t (omega arith)) (λ t. rw t (omega arith))) in
@@ -568,7 +568,7 @@ placed-known : {p : Plan} {l : List Inner} → Each (Placed p) l → Each (Known
 placed-known each-none = each-none
 placed-known (each-more y l) = each-more (y .known) (placed-known l)
 
-all-known : (p : Plan) → Promised p → Each (Known p) (scopesOf p)
+pub all-known : (p : Plan) → Promised p → Each (Known p) (scopesOf p)
 all-known p h = placed-known (all-placed p h)
 
 pub at-most-once : AtMostOnce
@@ -594,10 +594,10 @@ unfolding isBegin
 begin-is k started h = absurd (false≢true h)
 begin-is k (began j) h = ap began (sym (eqb-true k j h))
 begin-is k (closed j) h = absurd (false≢true h)
-begin-is k (faulted n) h = absurd (false≢true h)
+begin-is k (faulted n x) h = absurd (false≢true h)
 begin-is k (stopped j) h = absurd (false≢true h)
 begin-is k (ended n) h = absurd (false≢true h)
-begin-is k (raised j) h = absurd (false≢true h)
+begin-is k (raised j x) h = absurd (false≢true h)
 begin-is k left h = absurd (false≢true h)
 
 begin-apart : (a : Name) (k : ℕ) → same (inner k) a ≡ false → isBegin a (began k) ≡ false
@@ -612,11 +612,11 @@ finish-none p a past started h v = absurd (false≢true h)
 finish-none p a past (began j) h v = absurd (false≢true h)
 finish-none p a past (closed j) h v =
     both (not (noneNow past)) _ v (λ b c. both (mayTurn (inner j) past) _ c (λ d f. subst (λ (z : Name). noneLeft p z past ≡ true) (sym (same-equal a (inner j) h)) f))
-finish-none p a past (faulted n) h v = absurd (false≢true h)
+finish-none p a past (faulted n x) h v = absurd (false≢true h)
 finish-none p a past (stopped j) h v = absurd (false≢true h)
 finish-none p a past (ended n) h v =
     both (not (noneNow past)) _ v (λ b c. both (noneLeft p n past) _ c (λ d f. subst (λ (z : Name). noneLeft p z past ≡ true) (sym (same-equal a n h)) d))
-finish-none p a past (raised j) h v = absurd (false≢true h)
+finish-none p a past (raised j x) h v = absurd (false≢true h)
 finish-none p a past left h v = absurd (false≢true h)
 
 -- what holds of each in a list holds of the one that a filter finds
@@ -778,10 +778,10 @@ module _ (p : Plan) where
 
       go : Each (Placed p) (scopesOf p) → some (isClosedOf e) (since s past) ≡ true
       go l = find l (λ z. absurd (let b : times e (closedBy (insideOf p s) (λ k. closingsOf p (inner k) past) (closed j)) ≡ 0 = ap (times e) (closed-inside p s (λ k. closingsOf p (inner k) past) j) ∙ rw z in omega arith))
-  brought all past (faulted m) h g w s e c n = absurd (omega arith)
+  brought all past (faulted m x) h g w s e c n = absurd (omega arith)
   brought all past (stopped j) h g w s e c n = absurd (omega arith)
   brought all past (ended m) h g w s e c n = absurd (omega arith)
-  brought all past (raised j) h g w s e c n = absurd (omega arith)
+  brought all past (raised j x) h g w s e c n = absurd (omega arith)
   brought all past left h g w s e c n = absurd (omega arith)
 
   sound-on : (all : Each (Placed p) (scopesOf p)) (past : List Event) (v : Event) → allowed p past v ≡ true → Nest past → Sound past → Sound (v ∷ past)
@@ -804,10 +804,10 @@ module _ (p : Plan) where
   first-closed past (began k) h w =
       both (not (noneNow past)) _ h (λ a b. every-so (mayUndo p past) (wasClosed past) (λ x m. w (runnerOf past x) (x .number) (let d = one-more p past x m in omega arith)) (only (isUndoPart k) (scopesOf p)) b)
   first-closed past (closed k) h w = refl
-  first-closed past (faulted n) h w = refl
+  first-closed past (faulted n x) h w = refl
   first-closed past (stopped k) h w = refl
   first-closed past (ended n) h w = refl
-  first-closed past (raised k) h w = refl
+  first-closed past (raised k x) h w = refl
   first-closed past left h w = refl
 
   all-closed : (all : Each (Placed p) (scopesOf p)) (past l : List Event) → rightAfter p past l ≡ true → orderlyAfter p past l ≡ true → Nest past → Sound past → closedFirstAfter p past l ≡ true
@@ -841,10 +841,10 @@ module _ (p : Plan) (all : Each (Known p) (scopesOf p)) (x : Inner) (kn : Known 
       (omega (arith, own-undo p all x kn un root past, at-most (runnerOf past x) root 1)) in rw t (omega arith))
       (λ t. omega (arith, other-undo p all x kn un j t root past))
   takes-begun past (closed k) = omega arith
-  takes-begun past (faulted n) = omega arith
+  takes-begun past (faulted n x) = omega arith
   takes-begun past (stopped k) = omega arith
   takes-begun past (ended n) = omega arith
-  takes-begun past (raised k) = omega arith
+  takes-begun past (raised k x) = omega arith
   takes-begun past left = omega arith
 
   undone-begun : (past : List Event) → length (only (eqb (x .number)) (undoneOf p root past)) ≤ howMany (isBeganOf (eqb (x .undo))) (since root past)

@@ -13,7 +13,7 @@ use Rattle.machine.specs.declared.Message.{Message}
 use Rattle.order.specs.Lists.{every, some}
 use Rattle.order.specs.State.{inside, root, withMarks, marked}
 use Rattle.order.specs.Event.{Event, started, ended}
-use Rattle.order.specs.Expression.{Value, fault, value, evaluate, isTrue}
+use Rattle.order.specs.Expression.{conflictingReceive, Value, fault, value, evaluate, isTrue}
 use Rattle.order.specs.Begin.{part, partAt, beginPart, cleared}
 use Rattle.order.specs.Scope.{Outcome, begunIn, rootOf, fromBody, fromFault}
 use Rattle.order.specs.Acting.{finishes, raises, orRaises, enters, again, repeats, itself, arms, combines, stepIn, stepAmong, stepRoot, endOf, movedTo, acted, begunOrder, startedOrder, Actor, itsOwn, inPlace, replaces, performs, isPart}
@@ -58,7 +58,8 @@ picks-marked empty within k i n o = refl
 picks-marked (send p op vs) within k i n o = refl
 picks-marked (receive p op vs) within k i n o = refl
 picks-marked (setting v e) within k i n o = refl
-picks-marked raise within k i n o = refl
+picks-marked (raise zero) within k i n o = refl
+picks-marked (raise (suc number)) within k i n o = refl
 picks-marked leave within k i n o = refl
 picks-marked (choose e) within k i n o = ap (λ (w : Value). pickedBy (λ m. partAt (cond (isTrue m) 0 1) within (k + 1) ∷ []) w) (evaluate-marked e i n o)
 picks-marked (repeat e) within k i n o = ap (λ (w : Value). pickedBy (λ m. cond (isTrue m) (partAt 0 within (k + 1) ∷ []) []) w) (evaluate-marked e i n o)
@@ -97,7 +98,8 @@ own-taking empty within k m o = refl
 own-taking (send p op vs) within k m o = refl
 own-taking (receive p op vs) within k m o = refl
 own-taking (setting v e) within k m o = refl
-own-taking raise within k m o = refl
+own-taking (raise zero) within k m o = refl
+own-taking (raise (suc number)) within k m o = refl
 own-taking leave within k m o = refl
 own-taking (choose e) within k m o = refl
 own-taking (repeat e) within k m o = refl
@@ -147,7 +149,8 @@ itself-picks empty within q₀ k o n h = refl
 itself-picks (send p op vs) within q₀ k o n h = refl
 itself-picks (receive p op vs) within q₀ k o n h = refl
 itself-picks (setting v e) within q₀ k o n h = refl
-itself-picks raise within q₀ k o n h = refl
+itself-picks (raise zero) within q₀ k o n h = refl
+itself-picks (raise (suc number)) within q₀ k o n h = refl
 itself-picks leave within q₀ k o n h = refl
 itself-picks (choose e) within q₀ k o n h = go (evaluate e o)
   where
@@ -161,7 +164,7 @@ itself-picks (choose e) within q₀ k o n h = go (evaluate e o)
     first-two false = omega arith
 
     go : (w : Value) → Has (pickedBy (λ m. partAt (cond (isTrue m) 0 1) within (k + 1) ∷ []) w) (orRaises k o (λ m. enters k o (beginPart (cond (isTrue m) 0 1) within (k + 1) (marked k inside o .marks))) w .log)
-    go fault = refl
+    go (fault x) = refl
     go (value m) = rw (into (cond (isTrue m) 0 1) (first-two (isTrue m)))
 itself-picks (repeat e) within q₀ k o n h = go (evaluate e o)
   where
@@ -175,7 +178,7 @@ itself-picks (repeat e) within q₀ k o n h = go (evaluate e o)
     by-truth false z d = refl
 
     go : (w : Value) → Has (pickedBy (λ m. cond (isTrue m) (partAt 0 within (k + 1) ∷ []) []) w) (orRaises k o (λ m. elim (isTrue m) [ true ↦ repeats k within o | false ↦ finishes k o ]) w .log)
-    go fault = refl
+    go (fault x) = refl
     go (value m) = by-truth (isTrue m) _ refl
 itself-picks sequence within q₀ k o n h = refl
 itself-picks flow within q₀ k o n h = refl
@@ -190,7 +193,8 @@ placed-picks empty within k o e = refl
 placed-picks (send p op vs) within k o e = refl
 placed-picks (receive p op vs) within k o e = refl
 placed-picks (setting v x) within k o e = refl
-placed-picks raise within k o e = refl
+placed-picks (raise zero) within k o e = refl
+placed-picks (raise (suc number)) within k o e = refl
 placed-picks leave within k o e = refl
 placed-picks (choose x) within k o e = absurd (let z : _≡_ {A = ℕ} 0 1 = ap (λ (b : Bool). cond b 1 0) e in omega arith)
 placed-picks (repeat x) within k o e = absurd (let z : _≡_ {A = ℕ} 0 1 = ap (λ (b : Bool). cond b 1 0) e in omega arith)
@@ -207,7 +211,7 @@ performs-picks inPlace own within q₀ k o n h =
     decide (eqb (kind own) 2 || eqb (kind own) 255)
     (λ d. subst (λ (js : List ℕ). Has js (performs inPlace own within q₀ k o .log)) (sym (placed-picks own within k o d)) refl)
     (λ d. subst (λ (r : Outcome). Has (picks own within k o) (r .log))
-    (sym (second-of (eqb (kind own) 2 || eqb (kind own) 255) (raises k o) (itself own within q₀ k o) (performs inPlace own within q₀ k o) refl d)) (itself-picks own within q₀ k o n h))
+    (sym (second-of (eqb (kind own) 2 || eqb (kind own) 255) (raises conflictingReceive k o) (itself own within q₀ k o) (performs inPlace own within q₀ k o) refl d)) (itself-picks own within q₀ k o n h))
 
 -- What is made of it has it too.
 module _ (f : ℕ → ℕ) (actor : Actor) where

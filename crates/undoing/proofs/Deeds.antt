@@ -11,8 +11,8 @@ use Rattle.order.specs.declared.End.{End}
 use Rattle.order.specs.declared.End.the-variants.{None, Well, Handled, Failed, Left}
 use Rattle.machine.specs.declared.Message.{Message}
 use Rattle.order.specs.Lists.{only}
-use Rattle.order.specs.State.{root, inside, binding, noOrder, marked, markOf, marking, markAt, withMarks, faulty, halted, active, undoing, withdrawing, handling, done}
-use Rattle.order.specs.Expression.{Value, fault, value, evaluate, isTrue}
+use Rattle.order.specs.State.{root, inside, binding, noOrder, marked, markOf, marking, markAt, withMarks, faulty, halted, active, undoing, withdrawing, handling, done, causing}
+use Rattle.order.specs.Expression.{conflictingReceive, Value, fault, value, evaluate, isTrue}
 use Rattle.order.specs.Event.{Event, started, faulted, ended, raised}
 use Rattle.order.specs.Begin.{Begun, beginAfter, beginPart, partAt, quiet, cleared}
 use Rattle.order.specs.declared.Way.{Way as Result}
@@ -23,7 +23,7 @@ use Rattle.order.specs.Judging.{Verdict, clear, clash, conflict, following, upo
 use Rattle.undoing.proofs.Judged.{isTake, OnClash, Higher, conflict-awaited}
 use Rattle.machine.specs.Fit.{Doing, doingOf}
 use Rattle.machine.specs.Calls.{doingIn, doingAmong, doingAt, orderTaking}
-use Rattle.undoing.specs.Ties.{isDeed, isFault, deedOf, deedIn, deedAmong, deedAt, clashes}
+use Rattle.undoing.specs.Ties.{isDeed, raisedBy, deedOf, deedIn, deedAmong, deedAt, clashes}
 use Rattle.undoing.proofs.Parts.{decide, only-append}
 use Rattle.undoing.proofs.Aside.{Aside, silent-append, silent-after, begin-silent, after-silent, part-silent, where-silent, outcome-either, runs-silent, ends-silent, undoes-silent, turns-on-silent, stop-silent}
 
@@ -37,16 +37,17 @@ abbrev Still : List Event → Type 0
 Still l = only isDeed l ≡ []
 
 -- what a scope does of itself
-faults-still : (s : Scope) (o : Order) → Still (faults s o .log)
+faults-still : (s : Scope) (number : ℕ) (o : Order) → Still (faults number s o .log)
 unfolding faults only isDeed
-faults-still s o =
-    let r = stop (s .body) (s .bodyAt) (marking (s .name) faulty o) in
-    silent-append isDeed deeds-aside (faulted (s .name) ∷ r .log) (turns true s (r .order) .log)
-    (stop-silent isDeed deeds-aside (s .body) (s .bodyAt) (marking (s .name) faulty o)) (turns-on-silent isDeed deeds-aside true s (r .order))
+faults-still s number o =
+    let o₁ = causing (s .name) number (marking (s .name) faulty o) in
+    let r = stop (s .body) (s .bodyAt) o₁ in
+    silent-append isDeed deeds-aside (faulted (s .name) number ∷ r .log) (turns true s (r .order) .log)
+    (stop-silent isDeed deeds-aside (s .body) (s .bodyAt) o₁) (turns-on-silent isDeed deeds-aside true s (r .order))
 
-breaks-still : (s : Scope) (o : Order) → Still (breaks s o .log)
+breaks-still : (s : Scope) (number : ℕ) (o : Order) → Still (breaks number s o .log)
 unfolding breaks only isDeed
-breaks-still s o = refl
+breaks-still s number o = refl
 
 -- one of two
 either : (b : Bool) (x y z : Outcome) → z ≡ elim b [ true ↦ x | false ↦ y ] → Still (x .log) → Still (y .log) → Still (z .log)
@@ -66,9 +67,9 @@ over-still s o =
     either (eqb (markOf (s .name) o) active) (runs (marking (s .name) done o)) (looksAgain s o) (bodyOver s o) refl
     (runs-silent isDeed deeds-aside (marking (s .name) done o)) (looks-still s o)
 
-raised-still : (s : Scope) (o : Order) → Still (bodyRaised s o .log)
+raised-still : (s : Scope) (number : ℕ) (o : Order) → Still (bodyRaised number s o .log)
 unfolding bodyRaised
-raised-still s o = either (isOpen (markOf (s .name) o)) (faults s o) (looksAgain s o) (bodyRaised s o) refl (faults-still s o) (looks-still s o)
+raised-still s number o = either (isOpen (markOf (s .name) o)) (faults number s o) (looksAgain s o) (bodyRaised number s o) refl (faults-still s number o) (looks-still s o)
 
 undo-over-still : (s : Scope) (o : Order) → Still (undoOver s o .log)
 unfolding undoOver
@@ -78,10 +79,10 @@ undo-over-still s o =
     (either (eqb (markOf (s .name) o) withdrawing) (undoes false s o) (runs o) (elim (eqb (markOf (s .name) o) withdrawing) [ true ↦ undoes false s o | false ↦ runs o ]) refl
     (undoes-silent isDeed deeds-aside false s o) (runs-silent isDeed deeds-aside o))
 
-undo-raised-still : (s : Scope) (o : Order) → Still (undoRaised s o .log)
+undo-raised-still : (s : Scope) (number : ℕ) (o : Order) → Still (undoRaised number s o .log)
 unfolding undoRaised
-undo-raised-still s o =
-    either (eqb (markOf (s .name) o) undoing || eqb (markOf (s .name) o) withdrawing) (breaks s o) (runs o) (undoRaised s o) refl (breaks-still s o) (runs-silent isDeed deeds-aside o)
+undo-raised-still s number o =
+    either (eqb (markOf (s .name) o) undoing || eqb (markOf (s .name) o) withdrawing) (breaks number s o) (runs o) (undoRaised number s o) refl (breaks-still s number o) (runs-silent isDeed deeds-aside o)
 
 -- what it makes of a step in it
 pub body-deeds : (s : Scope) (r : Outcome) → only isDeed (fromBody s r .log) ≡ only isDeed (r .log)
@@ -91,18 +92,18 @@ body-deeds s r = go (r .result)
     go : (x : Result) → only isDeed (fromBody s (record { result = x; order = r .order; log = r .log }) .log) ≡ only isDeed (r .log)
     go running = silent-after isDeed deeds-aside (r .log) (looksAgain s (r .order) .log) (looks-still s (r .order))
     go over = silent-after isDeed deeds-aside (r .log) (bodyOver s (r .order) .log) (over-still s (r .order))
-    go raising = silent-after isDeed deeds-aside (r .log) (bodyRaised s (r .order) .log) (raised-still s (r .order))
+    go (raising x) = silent-after isDeed deeds-aside (r .log) (bodyRaised x s (r .order) .log) (raised-still s x (r .order))
     go leaving = refl
     go undone = silent-after isDeed deeds-aside (r .log) (undoOver s (r .order) .log) (undo-over-still s (r .order))
-    go undoRaising = silent-after isDeed deeds-aside (r .log) (undoRaised s (r .order) .log) (undo-raised-still s (r .order))
+    go (undoRaising x) = silent-after isDeed deeds-aside (r .log) (undoRaised x s (r .order) .log) (undo-raised-still s x (r .order))
 
 part-over-still : (s : Scope) (o : Order) → Still (partOver s o .log)
 unfolding partOver
 part-over-still s o = either (eqb (markOf (s .name) o) handling) (ends s o) (runs o) (partOver s o) refl (ends-silent isDeed deeds-aside s o) (runs-silent isDeed deeds-aside o)
 
-part-raised-still : (s : Scope) (o : Order) → Still (partRaised s o .log)
+part-raised-still : (s : Scope) (number : ℕ) (o : Order) → Still (partRaised number s o .log)
 unfolding partRaised
-part-raised-still s o = either (eqb (markOf (s .name) o) handling) (breaks s o) (runs o) (partRaised s o) refl (breaks-still s o) (runs-silent isDeed deeds-aside o)
+part-raised-still s number o = either (eqb (markOf (s .name) o) handling) (breaks number s o) (runs o) (partRaised number s o) refl (breaks-still s number o) (runs-silent isDeed deeds-aside o)
 
 pub fault-deeds : (s : Scope) (r : Outcome) → only isDeed (fromFault s r .log) ≡ only isDeed (r .log)
 unfolding fromFault
@@ -111,10 +112,10 @@ fault-deeds s r = go (r .result)
     go : (x : Result) → only isDeed (fromFault s (record { result = x; order = r .order; log = r .log }) .log) ≡ only isDeed (r .log)
     go running = refl
     go over = silent-after isDeed deeds-aside (r .log) (partOver s (r .order) .log) (part-over-still s (r .order))
-    go raising = silent-after isDeed deeds-aside (r .log) (partRaised s (r .order) .log) (part-raised-still s (r .order))
+    go (raising x) = silent-after isDeed deeds-aside (r .log) (partRaised x s (r .order) .log) (part-raised-still s x (r .order))
     go leaving = refl
     go undone = refl
-    go undoRaising = refl
+    go (undoRaising x) = refl
 
 -- what follows a step where that is over
 where-deeds : (g : Order → Outcome) (r : Outcome) → ((o : Order) → Still (g o .log)) → only isDeed (whereOver g r .log) ≡ only isDeed (r .log)
@@ -123,10 +124,10 @@ where-deeds g r e = go (r .result)
     go : (x : Result) → only isDeed (whereOver g (record { result = x; order = r .order; log = r .log }) .log) ≡ only isDeed (r .log)
     go running = refl
     go over = silent-after isDeed deeds-aside (r .log) (g (r .order) .log) (e (r .order))
-    go raising = refl
+    go (raising x) = refl
     go leaving = refl
     go undone = refl
-    go undoRaising = refl
+    go (undoRaising x) = refl
 
 goes-deeds : (k m : ℕ) (g : Order → Outcome) (r : Outcome) → ((o : Order) → Still (g o .log)) → only isDeed (goesOn k m g r .log) ≡ only isDeed (r .log)
 unfolding goesOn
@@ -156,7 +157,8 @@ combines-deeds empty within k t r = refl
 combines-deeds (send p op vs) within k t r = refl
 combines-deeds (receive p op vs) within k t r = refl
 combines-deeds (setting v e) within k t r = refl
-combines-deeds raise within k t r = refl
+combines-deeds (raise zero) within k t r = refl
+combines-deeds (raise (suc number)) within k t r = refl
 combines-deeds leave within k t r = refl
 combines-deeds (choose e) within k t r = goes-deeds k inside (finishes k) r (finishes-still k)
 combines-deeds (repeat e) within k t r = goes-deeds k inside (again k) r (λ o. refl)
@@ -180,9 +182,9 @@ repeats-still k within o =
 
 -- an expression that faults, or the step itself
 or-raises : (k : ℕ) (o : Order) (g : ℕ → Outcome) (v : Value) → ((n : ℕ) → Still (g n .log))
-    → only isDeed (orRaises k o g v .log) ≡ cond (isFault v) (raised k ∷ []) []
+    → only isDeed (orRaises k o g v .log) ≡ raisedBy k v
 unfolding only isDeed
-or-raises k o g fault h = refl
+or-raises k o g (fault x) h = refl
 or-raises k o g (value n) h = h n
 
 itself-deeds : (own : Own) (within : Acts) (q k : ℕ) (o : Order) → only isDeed (itself own within q k o .log) ≡ deedOf own k o
@@ -191,7 +193,8 @@ itself-deeds empty within q k o = refl
 itself-deeds (send p op vs) within q k o = decide (allBound o vs) (λ e. rw e) (λ e. rw e)
 itself-deeds (receive p op vs) within q k o = refl
 itself-deeds (setting v e) within q k o = or-raises k o (λ n. finishes k (binding v n o)) (evaluate e o) (λ n. refl)
-itself-deeds raise within q k o = refl
+itself-deeds (raise zero) within q k o = refl
+itself-deeds (raise (suc number)) within q k o = refl
 itself-deeds leave within q k o = refl
 itself-deeds (choose e) within q k o =
     or-raises k o (λ n. enters k o (beginPart (cond (isTrue n) 0 1) within (k + 1) (marked k inside o .marks))) (evaluate e o)
@@ -218,7 +221,8 @@ deed-marked empty j k m o = refl
 deed-marked (send p op vs) j k m o = refl
 deed-marked (receive p op vs) j k m o = refl
 deed-marked (setting v e) j k m o = rw (evaluate-marked e k m o)
-deed-marked raise j k m o = refl
+deed-marked (raise zero) j k m o = refl
+deed-marked (raise (suc number)) j k m o = refl
 deed-marked leave j k m o = refl
 deed-marked (choose e) j k m o = rw (evaluate-marked e k m o)
 deed-marked (repeat e) j k m o = rw (evaluate-marked e k m o)
@@ -266,7 +270,7 @@ clashes-of (suc n) p m m′ e d = ap (λ (x : End). found x (m .order)) e ∙ ap
     found : End → Order → List Event
     found x o =
         elim x [
-          | None ↦ elim (conflict p o) [ clear ↦ [] | clash k ↦ raised k ∷ clashes n p (acted inPlace p k o) ]
+          | None ↦ elim (conflict p o) [ clear ↦ [] | clash k ↦ raised k conflictingReceive ∷ clashes n p (acted inPlace p k o) ]
           | Well ↦ []
           | Handled ↦ []
           | Failed ↦ []
@@ -309,13 +313,14 @@ moved-deeds r Failed = refl
 moved-deeds r Left = refl
 
 -- The raise in place of a receive or an arm is its deed.
-raise-deed : (own : Own) (within : Acts) (q k : ℕ) (o : Order) → isTake (doingOf own within k) ≡ true → only isDeed (performs inPlace own within q k o .log) ≡ raised k ∷ []
+raise-deed : (own : Own) (within : Acts) (q k : ℕ) (o : Order) → isTake (doingOf own within k) ≡ true → only isDeed (performs inPlace own within q k o .log) ≡ raised k conflictingReceive ∷ []
 unfolding isTake doingOf performs replaces kind only isDeed
 raise-deed empty within q k o h = absurd (false≢true h)
 raise-deed (send x y vs) within q k o h = absurd (false≢true h)
 raise-deed (receive x y vs) within q k o h = refl
 raise-deed (setting v x) within q k o h = absurd (false≢true h)
-raise-deed raise within q k o h = absurd (false≢true h)
+raise-deed (raise zero) within q k o h = absurd (false≢true h)
+raise-deed (raise (suc number)) within q k o h = absurd (false≢true h)
 raise-deed leave within q k o h = absurd (false≢true h)
 raise-deed (choose x) within q k o h = absurd (false≢true h)
 raise-deed (repeat x) within q k o h = absurd (false≢true h)
@@ -335,28 +340,28 @@ raise-either false d d′ x y g e f h = f refl h
 mutual
   unfolding stepIn doingIn only isTake
 
-  pub raise-deeds : (a : Act) (q k t : ℕ) (o : Order) → isTake (doingIn a k t) ≡ true → only isDeed (stepIn inPlace a q k t o .log) ≡ raised t ∷ []
+  pub raise-deeds : (a : Act) (q k t : ℕ) (o : Order) → isTake (doingIn a k t) ≡ true → only isDeed (stepIn inPlace a q k t o .log) ≡ raised t conflictingReceive ∷ []
   raise-deeds (act own within) q k t o =
       raise-either (eqb k t) (doingOf own within k) (doingAmong within (k + 1) t) (performs inPlace own within q k o)
-      (combines own within k t (stepAmong inPlace within (isScope own) q (k + 1) t (arms own within k t o))) (raised t ∷ [])
-      (λ e h. raise-deed own within q k o h ∙ ap (λ (j : ℕ). raised j ∷ []) (eqb-true k t e))
+      (combines own within k t (stepAmong inPlace within (isScope own) q (k + 1) t (arms own within k t o))) (raised t conflictingReceive ∷ [])
+      (λ e h. raise-deed own within q k o h ∙ ap (λ (j : ℕ). raised j conflictingReceive ∷ []) (eqb-true k t e))
       (λ e h. combines-deeds own within k t (stepAmong inPlace within (isScope own) q (k + 1) t (arms own within k t o)) ∙ raises-among within (isScope own) q (k + 1) t (arms own within k t o) h)
 
-  raises-among : (l : Acts) (b : Bool) (q c t : ℕ) (o : Order) → isTake (doingAmong l c t) ≡ true → only isDeed (stepAmong inPlace l b q c t o .log) ≡ raised t ∷ []
+  raises-among : (l : Acts) (b : Bool) (q c t : ℕ) (o : Order) → isTake (doingAmong l c t) ≡ true → only isDeed (stepAmong inPlace l b q c t o .log) ≡ raised t conflictingReceive ∷ []
   raises-among none b q c t o h = absurd (false≢true h)
   raises-among (more a l) b q c t o h =
-      raise-either (ltb t (c + size a)) (doingIn a c t) (doingAmong l (c + size a) t) (stepIn inPlace a (cond b c q) c t o) (stepAmong inPlace l b q (c + size a) t o) (raised t ∷ [])
+      raise-either (ltb t (c + size a)) (doingIn a c t) (doingAmong l (c + size a) t) (stepIn inPlace a (cond b c q) c t o) (stepAmong inPlace l b q (c + size a) t o) (raised t conflictingReceive ∷ [])
       (λ e g. raise-deeds a (cond b c q) c t o g) (λ e g. raises-among l b q (c + size a) t o g) h
 
-raise-root : (p : Plan) (t : ℕ) (o : Order) → isTake (doingAt p t) ≡ true → only isDeed (stepRoot inPlace p t o .log) ≡ raised t ∷ []
+raise-root : (p : Plan) (t : ℕ) (o : Order) → isTake (doingAt p t) ≡ true → only isDeed (stepRoot inPlace p t o .log) ≡ raised t conflictingReceive ∷ []
 unfolding stepRoot doingAt
 raise-root p t o =
     raise-either (ltb t (size (p .body))) (doingIn (p .body) 0 t) (doingIn (p .fault) (size (p .body)) t)
-    (fromBody (rootOf p) (stepIn inPlace (p .body) 0 0 t o)) (fromFault (rootOf p) (stepIn inPlace (p .fault) (size (p .body)) (size (p .body)) t o)) (raised t ∷ [])
+    (fromBody (rootOf p) (stepIn inPlace (p .body) 0 0 t o)) (fromFault (rootOf p) (stepIn inPlace (p .fault) (size (p .body)) (size (p .body)) t o)) (raised t conflictingReceive ∷ [])
     (λ e h. body-deeds (rootOf p) (stepIn inPlace (p .body) 0 0 t o) ∙ raise-deeds (p .body) 0 0 t o h)
     (λ e h. fault-deeds (rootOf p) (stepIn inPlace (p .fault) (size (p .body)) (size (p .body)) t o) ∙ raise-deeds (p .fault) (size (p .body)) (size (p .body)) t o h)
 
-pub raised-deeds : (p : Plan) (t : ℕ) (o : Order) → isTake (doingAt p t) ≡ true → only isDeed (acted inPlace p t o .log) ≡ raised t ∷ []
+pub raised-deeds : (p : Plan) (t : ℕ) (o : Order) → isTake (doingAt p t) ≡ true → only isDeed (acted inPlace p t o .log) ≡ raised t conflictingReceive ∷ []
 unfolding acted
 raised-deeds p t o h = moved-deeds (stepRoot inPlace p t o) (endOf (stepRoot inPlace p t o)) ∙ raise-root p t o h
 
@@ -372,20 +377,20 @@ judged-deeds zero p m = sym (append-nil (only isDeed (m .log)))
 judged-deeds (suc n) p m = go (λ m′. judged-deeds n p m′) (m .end)
   where
     on : ((m′ : Moved) → only isDeed (judged n p m′ .log) ≡ only isDeed (m′ .log) ++ clashes n p m′) → (v : Verdict) → OnClash (Higher p (m .order)) v
-        → only isDeed (upon (judged n p) p m v .log) ≡ only isDeed (m .log) ++ (elim v [ clear ↦ [] | clash k ↦ raised k ∷ clashes n p (acted inPlace p k (m .order)) ])
+        → only isDeed (upon (judged n p) p m v .log) ≡ only isDeed (m .log) ++ (elim v [ clear ↦ [] | clash k ↦ raised k conflictingReceive ∷ clashes n p (acted inPlace p k (m .order)) ])
     on f clear c = sym (append-nil (only isDeed (m .log)))
     on f (clash k) c =
         f (following (m .log) (acted inPlace p k (m .order)))
         ∙ (ap (λ (l : List Event). l ++ clashes n p (following (m .log) (acted inPlace p k (m .order)))) (only-append isDeed (m .log) (acted inPlace p k (m .order) .log))
         ∙ (ap (λ (l : List Event). (only isDeed (m .log) ++ l) ++ clashes n p (following (m .log) (acted inPlace p k (m .order)))) (raised-deeds p k (m .order) (c .1))
-        ∙ (append-assoc (only isDeed (m .log)) (raised k ∷ []) (clashes n p (following (m .log) (acted inPlace p k (m .order))))
-        ∙ ap (λ (l : List Event). only isDeed (m .log) ++ (raised k ∷ l)) (clashes-of n p (following (m .log) (acted inPlace p k (m .order))) (acted inPlace p k (m .order)) refl refl))))
+        ∙ (append-assoc (only isDeed (m .log)) (raised k conflictingReceive ∷ []) (clashes n p (following (m .log) (acted inPlace p k (m .order))))
+        ∙ ap (λ (l : List Event). only isDeed (m .log) ++ (raised k conflictingReceive ∷ l)) (clashes-of n p (following (m .log) (acted inPlace p k (m .order))) (acted inPlace p k (m .order)) refl refl))))
 
     go : ((m′ : Moved) → only isDeed (judged n p m′ .log) ≡ only isDeed (m′ .log) ++ clashes n p m′) → (e : End)
         → only isDeed (elim e as (λ _. Moved) [ None ↦ upon (judged n p) p m (conflict p (m .order)) | Well ↦ m | Handled ↦ m | Failed ↦ m | Left ↦ m ] .log)
         ≡ only isDeed (m .log)
         ++ (elim e as (λ _. List Event) [
-          | None ↦ elim (conflict p (m .order)) as (λ _. List Event) [ clear ↦ [] | clash k ↦ raised k ∷ clashes n p (acted inPlace p k (m .order)) ]
+          | None ↦ elim (conflict p (m .order)) as (λ _. List Event) [ clear ↦ [] | clash k ↦ raised k conflictingReceive ∷ clashes n p (acted inPlace p k (m .order)) ]
           | Well ↦ []
           | Handled ↦ []
           | Failed ↦ []
@@ -415,7 +420,8 @@ deed-taking empty within k m o = refl
 deed-taking (send p op vs) within k m o = refl
 deed-taking (receive p op vs) within k m o = refl
 deed-taking (setting v e) within k m o = refl
-deed-taking raise within k m o = refl
+deed-taking (raise zero) within k m o = refl
+deed-taking (raise (suc number)) within k m o = refl
 deed-taking leave within k m o = refl
 deed-taking (choose e) within k m o = refl
 deed-taking (repeat e) within k m o = refl

@@ -9,10 +9,10 @@ use lib.Dec.{eqb, ltb}
 use borrow.Author.Tests.{eqb-true, eqb-false}
 use Rattle.plan.specs.Tree.{Own, empty, send, receive, set as setting, raise, leave, choose, repeat, sequence, flow, pick, scope, arm, kind, isScope, isPick, Act, act, Acts, none, more, Plan, size, sizes}
 use Rattle.order.specs.declared.Order.{Order}
-use Rattle.order.specs.State.{Name, root, inner, idle, active, inside, faulty, undoing, handling, withdrawing, marked, markAt, markOf, marking, binding}
+use Rattle.order.specs.State.{Name, root, inner, idle, active, inside, faulty, undoing, handling, withdrawing, marked, markAt, markOf, marking, binding, causing}
 use Rattle.order.specs.Event.{Event}
 use Rattle.order.specs.Lists.{some}
-use Rattle.order.specs.Expression.{Value, fault, value, evaluate, isTrue}
+use Rattle.order.specs.Expression.{unboundVariable, conflictingReceive, Value, fault, value, evaluate, isTrue}
 use Rattle.order.specs.Begin.{part, partAt, beginPart, beginAfter}
 use Rattle.order.specs.declared.Way.{Way as Result}
 use Rattle.order.specs.declared.Way.the-variants.{Running as running, Over as over, Raising as raising, Leaving as leaving, Undone as undone, UndoRaising as undoRaising}
@@ -30,10 +30,10 @@ use Rattle.undoing.proofs.Lasting.{isRaising}
 abbrev pub isBad : Result → Bool
 isBad running = false
 isBad over = false
-isBad raising = true
+isBad (raising x) = true
 isBad leaving = true
 isBad undone = false
-isBad undoRaising = true
+isBad (undoRaising x) = true
 
 -- a scope that is open was open
 pub record Wane (ms ns : List ℕ) (j : ℕ) : Type 0 where
@@ -66,37 +66,37 @@ pub record Drops (o : Order) (r : Outcome) : Type 0 where
 mild-good : (x : Result) → isMild x ≡ true → isBad x ≡ true → ⊥
 mild-good running m e = false≢true e
 mild-good over m e = false≢true e
-mild-good raising m e = false≢true m
+mild-good (raising x) m e = false≢true m
 mild-good leaving m e = false≢true m
 mild-good undone m e = false≢true m
-mild-good undoRaising m e = false≢true m
+mild-good (undoRaising x) m e = false≢true m
 
 mild-calm : (x : Result) → isMild x ≡ true → isRaising x ≡ true → ⊥
 mild-calm running m e = false≢true e
 mild-calm over m e = false≢true e
-mild-calm raising m e = false≢true m
+mild-calm (raising x) m e = false≢true m
 mild-calm leaving m e = false≢true m
 mild-calm undone m e = false≢true m
-mild-calm undoRaising m e = false≢true m
+mild-calm (undoRaising x) m e = false≢true m
 
 mild-drops : (o : Order) (r : Outcome) → isMild (r .result) ≡ true → Drops o r
 mild-drops o r m = record { stays = λ e. absurd (mild-calm (r .result) m e); rash = λ e. absurd (mild-good (r .result) m e) }
 
-raises-drops : (k : ℕ) (o : Order) → Drops o (raises k o)
+raises-drops : (x k : ℕ) (o : Order) → Drops o (raises x k o)
 unfolding some isRash
-raises-drops k o = record { stays = λ e j. wane-so (stay-idle (o .marks) k j); rash = λ e. refl }
+raises-drops x k o = record { stays = λ e j. wane-so (stay-idle (o .marks) k j); rash = λ e. refl }
 
 or-drops : (k : ℕ) (o : Order) (g : ℕ → Outcome) (v : Value) → ((n : ℕ) → Mild (g n)) → Drops o (orRaises k o g v)
-or-drops k o g fault h = raises-drops k o
+or-drops k o g (fault x) h = raises-drops x k o
 or-drops k o g (value n) h = mild-drops o (g n) (h n .goes)
 
 itself-drops : (own : Own) (within : Acts) (q k : ℕ) (o : Order) → Drops o (itself own within q k o)
 unfolding itself closing some isRash
 itself-drops empty within q k o = mild-drops o (runs o) refl
-itself-drops (send a b vs) within q k o = decide (allBound o vs) (λ e. rw e (mild-drops o (finishes k o) refl)) (λ e. rw e (raises-drops k o))
+itself-drops (send a b vs) within q k o = decide (allBound o vs) (λ e. rw e (mild-drops o (finishes k o) refl)) (λ e. rw e (raises-drops unboundVariable k o))
 itself-drops (receive a b vs) within q k o = mild-drops o (finishes k o) refl
 itself-drops (setting v e) within q k o = or-drops k o _ (evaluate e o) (λ n. mild-finishes k (binding v n o))
-itself-drops raise within q k o = raises-drops k o
+itself-drops (raise number) within q k o = raises-drops number k o
 itself-drops leave within q k o = record { stays = λ e. absurd (false≢true e); rash = λ e. refl }
 itself-drops (choose e) within q k o =
     or-drops k o _ (evaluate e o) (λ n. mild-enters k o (beginPart (cond (isTrue n) 0 1) within (k + 1) (marked k inside o .marks)) (part-silent isGrave graves-aside (cond (isTrue n) 0 1) within (k + 1) (marked k inside o .marks)))
@@ -117,10 +117,10 @@ where-drops o g r w h = go (r .result) refl
     go : (x : Result) → r .result ≡ x → Drops o (whereOver g (record { result = x; order = r .order; log = r .log }))
     go running e = same running e
     go over e = record { stays = λ d. absurd (mild-calm (g (r .order) .result) (h (r .order) .goes) d); rash = λ d. absurd (mild-good (g (r .order) .result) (h (r .order) .goes) d) }
-    go raising e = same raising e
+    go (raising x) e = same (raising x) e
     go leaving e = same leaving e
     go undone e = same undone e
-    go undoRaising e = same undoRaising e
+    go (undoRaising x) e = same (undoRaising x) e
 
 on-mild : (k m : ℕ) (g : Order → Outcome) → ((q : Order) → Mild (g q)) → (q : Order) → Mild (elim (eqb (markAt k q) m) [ true ↦ g q | false ↦ runs q ])
 on-mild k m g h q = mild-either (eqb (markAt k q) m) (g q) (runs q) (h q) (mild-runs q) _ refl
@@ -136,9 +136,9 @@ stay-marking-idle : (n : Name) (o : Order) (j : ℕ) → Stay (o .marks) (markin
 stay-marking-idle root o j = stay-still (o .marks) j
 stay-marking-idle (inner k) o j = stay-idle (o .marks) k j
 
-breaks-stay : (s : Scope) (o : Order) (j : ℕ) → Stay (o .marks) (breaks s o .order .marks) j
+breaks-stay : (s : Scope) (number : ℕ) (o : Order) (j : ℕ) → Stay (o .marks) (breaks number s o .order .marks) j
 unfolding breaks forgetting
-breaks-stay s o j = stay-then (stay-marking-idle (s .name) o j) (stay-cleared (s .count) (s .first) (marking (s .name) idle o .marks) j)
+breaks-stay s number o j = stay-then (stay-marking-idle (s .name) o j) (stay-cleared (s .count) (s .first) (marking (s .name) idle o .marks) j)
 
 drops-either : (o : Order) (v : Bool) (x y z : Outcome) → z ≡ elim v [ true ↦ x | false ↦ y ] → Drops o x → Drops o y → Drops o z
 drops-either o true x y z e g h = subst (λ (r : Outcome). Drops o r) (sym e) g
@@ -151,25 +151,25 @@ body-drops s o r w = go (r .result) refl
     go : (x : Result) → r .result ≡ x → Drops o (fromBody s (record { result = x; order = r .order; log = r .log }))
     go running e = record { stays = λ d. absurd (mild-calm (looksAgain s (r .order) .result) (mild-looks s (r .order) .goes) d); rash = λ d. absurd (mild-good (looksAgain s (r .order) .result) (mild-looks s (r .order) .goes) d) }
     go over e = record { stays = λ d. absurd (mild-calm (bodyOver s (r .order) .result) (mild-over s (r .order) .goes) d); rash = λ d. absurd (mild-good (bodyOver s (r .order) .result) (mild-over s (r .order) .goes) d) }
-    go raising e =
+    go (raising x) e =
         record {
-          stays = λ d. absurd (mild-calm (bodyRaised s (r .order) .result) (raised (isOpen (markOf (s .name) (r .order))) (bodyRaised s (r .order)) refl) d);
-          rash = λ d. absurd (mild-good (bodyRaised s (r .order) .result) (raised (isOpen (markOf (s .name) (r .order))) (bodyRaised s (r .order)) refl) d);
+          stays = λ d. absurd (mild-calm (bodyRaised x s (r .order) .result) (raised (isOpen (markOf (s .name) (r .order))) (bodyRaised x s (r .order)) refl) d);
+          rash = λ d. absurd (mild-good (bodyRaised x s (r .order) .result) (raised (isOpen (markOf (s .name) (r .order))) (bodyRaised x s (r .order)) refl) d);
         }
       where
-        raised : (v : Bool) (z : Outcome) → z ≡ elim v [ true ↦ faults s (r .order) | false ↦ looksAgain s (r .order) ] → isMild (z .result) ≡ true
-        raised true z e = subst (λ (q : Outcome). isMild (q .result) ≡ true) (sym e) (mild-turns true s (stop (s .body) (s .bodyAt) (marking (s .name) faulty (r .order)) .order) .goes)
+        raised : (v : Bool) (z : Outcome) → z ≡ elim v [ true ↦ faults x s (r .order) | false ↦ looksAgain s (r .order) ] → isMild (z .result) ≡ true
+        raised true z e = subst (λ (q : Outcome). isMild (q .result) ≡ true) (sym e) (mild-turns true s (stop (s .body) (s .bodyAt) (causing (s .name) x (marking (s .name) faulty (r .order))) .order) .goes)
         raised false z e = subst (λ (q : Outcome). isMild (q .result) ≡ true) (sym e) (mild-looks s (r .order) .goes)
     go leaving e = record { stays = λ d. absurd (false≢true d); rash = λ d. w .rash (subst (λ (y : Result). isBad y ≡ true) (sym e) refl) }
     go undone e = record { stays = λ d. absurd (mild-calm (undoOver s (r .order) .result) (mild-undo-over s (r .order) .goes) d); rash = λ d. absurd (mild-good (undoOver s (r .order) .result) (mild-undo-over s (r .order) .goes) d) }
-    go undoRaising e =
+    go (undoRaising x) e =
         record {
-          stays = λ d. broke (eqb (markOf (s .name) (r .order)) undoing || eqb (markOf (s .name) (r .order)) withdrawing) (undoRaised s (r .order)) refl;
-          rash = λ d. more-rash (r .log) (undoRaised s (r .order) .log) (w .rash (subst (λ (y : Result). isBad y ≡ true) (sym e) refl));
+          stays = λ d. broke (eqb (markOf (s .name) (r .order)) undoing || eqb (markOf (s .name) (r .order)) withdrawing) (undoRaised x s (r .order)) refl;
+          rash = λ d. more-rash (r .log) (undoRaised x s (r .order) .log) (w .rash (subst (λ (y : Result). isBad y ≡ true) (sym e) refl));
         }
       where
-        broke : (v : Bool) (z : Outcome) → z ≡ elim v [ true ↦ breaks s (r .order) | false ↦ runs (r .order) ] → (j : ℕ) → Wane (o .marks) (z .order .marks) j
-        broke true z d j = subst (λ (q : Outcome). Wane (o .marks) (q .order .marks) j) (sym d) (wane-then (w .stays (subst (λ (y : Result). isRaising y ≡ true) (sym e) refl) j) (wane-so (breaks-stay s (r .order) j)))
+        broke : (v : Bool) (z : Outcome) → z ≡ elim v [ true ↦ breaks x s (r .order) | false ↦ runs (r .order) ] → (j : ℕ) → Wane (o .marks) (z .order .marks) j
+        broke true z d j = subst (λ (q : Outcome). Wane (o .marks) (q .order .marks) j) (sym d) (wane-then (w .stays (subst (λ (y : Result). isRaising y ≡ true) (sym e) refl) j) (wane-so (breaks-stay s x (r .order) j)))
         broke false z d j = subst (λ (q : Outcome). Wane (o .marks) (q .order .marks) j) (sym d) (w .stays (subst (λ (y : Result). isRaising y ≡ true) (sym e) refl) j)
 
 fault-drops : (s : Scope) (o : Order) (r : Outcome) → Drops o r → Drops o (fromFault s r)
@@ -179,18 +179,18 @@ fault-drops s o r w = go (r .result) refl
     go : (x : Result) → r .result ≡ x → Drops o (fromFault s (record { result = x; order = r .order; log = r .log }))
     go running e = record { stays = λ d. absurd (false≢true d); rash = λ d. absurd (false≢true d) }
     go over e = record { stays = λ d. absurd (mild-calm (partOver s (r .order) .result) (mild-part-over s (r .order) .goes) d); rash = λ d. absurd (mild-good (partOver s (r .order) .result) (mild-part-over s (r .order) .goes) d) }
-    go raising e =
+    go (raising x) e =
         record {
-          stays = λ d. broke (eqb (markOf (s .name) (r .order)) handling) (partRaised s (r .order)) refl;
-          rash = λ d. more-rash (r .log) (partRaised s (r .order) .log) (w .rash (subst (λ (y : Result). isBad y ≡ true) (sym e) refl));
+          stays = λ d. broke (eqb (markOf (s .name) (r .order)) handling) (partRaised x s (r .order)) refl;
+          rash = λ d. more-rash (r .log) (partRaised x s (r .order) .log) (w .rash (subst (λ (y : Result). isBad y ≡ true) (sym e) refl));
         }
       where
-        broke : (v : Bool) (z : Outcome) → z ≡ elim v [ true ↦ breaks s (r .order) | false ↦ runs (r .order) ] → (j : ℕ) → Wane (o .marks) (z .order .marks) j
-        broke true z d j = subst (λ (q : Outcome). Wane (o .marks) (q .order .marks) j) (sym d) (wane-then (w .stays (subst (λ (y : Result). isRaising y ≡ true) (sym e) refl) j) (wane-so (breaks-stay s (r .order) j)))
+        broke : (v : Bool) (z : Outcome) → z ≡ elim v [ true ↦ breaks x s (r .order) | false ↦ runs (r .order) ] → (j : ℕ) → Wane (o .marks) (z .order .marks) j
+        broke true z d j = subst (λ (q : Outcome). Wane (o .marks) (q .order .marks) j) (sym d) (wane-then (w .stays (subst (λ (y : Result). isRaising y ≡ true) (sym e) refl) j) (wane-so (breaks-stay s x (r .order) j)))
         broke false z d j = subst (λ (q : Outcome). Wane (o .marks) (q .order .marks) j) (sym d) (w .stays (subst (λ (y : Result). isRaising y ≡ true) (sym e) refl) j)
     go leaving e = record { stays = λ d. absurd (false≢true d); rash = λ d. w .rash (subst (λ (y : Result). isBad y ≡ true) (sym e) refl) }
     go undone e = record { stays = λ d. absurd (false≢true d); rash = λ d. absurd (false≢true d) }
-    go undoRaising e = record { stays = λ d. absurd (false≢true d); rash = λ d. absurd (false≢true d) }
+    go (undoRaising x) e = record { stays = λ d. absurd (false≢true d); rash = λ d. absurd (false≢true d) }
 
 undo-drops : (o : Order) (r : Outcome) → Drops o r → Drops o (fromUndo r)
 unfolding fromUndo
@@ -199,10 +199,10 @@ undo-drops o r w = go (r .result) refl
     go : (x : Result) → r .result ≡ x → Drops o (fromUndo (record { result = x; order = r .order; log = r .log }))
     go running e = record { stays = λ d. absurd (false≢true d); rash = λ d. absurd (false≢true d) }
     go over e = record { stays = λ d. absurd (false≢true d); rash = λ d. absurd (false≢true d) }
-    go raising e = record { stays = λ d. w .stays (subst (λ (y : Result). isRaising y ≡ true) (sym e) refl); rash = λ d. w .rash (subst (λ (y : Result). isBad y ≡ true) (sym e) refl) }
+    go (raising x) e = record { stays = λ d. w .stays (subst (λ (y : Result). isRaising y ≡ true) (sym e) refl); rash = λ d. w .rash (subst (λ (y : Result). isBad y ≡ true) (sym e) refl) }
     go leaving e = record { stays = λ d. absurd (false≢true d); rash = λ d. w .rash (subst (λ (y : Result). isBad y ≡ true) (sym e) refl) }
     go undone e = record { stays = λ d. absurd (false≢true d); rash = λ d. absurd (false≢true d) }
-    go undoRaising e = record { stays = λ d. w .stays (subst (λ (y : Result). isRaising y ≡ true) (sym e) refl); rash = λ d. w .rash (subst (λ (y : Result). isBad y ≡ true) (sym e) refl) }
+    go (undoRaising x) e = record { stays = λ d. w .stays (subst (λ (y : Result). isRaising y ≡ true) (sym e) refl); rash = λ d. w .rash (subst (λ (y : Result). isBad y ≡ true) (sym e) refl) }
 
 combines-drops : (own : Own) (within : Acts) (k t : ℕ) (o : Order) (r : Outcome) → Drops o r → Drops o (combines own within k t r)
 unfolding combines inScope
@@ -210,7 +210,7 @@ combines-drops empty within k t o r w = w
 combines-drops (send a b vs) within k t o r w = w
 combines-drops (receive a b vs) within k t o r w = w
 combines-drops (setting v e) within k t o r w = w
-combines-drops raise within k t o r w = w
+combines-drops (raise number) within k t o r w = w
 combines-drops leave within k t o r w = w
 combines-drops (choose e) within k t o r w = on-drops o k inside (finishes k) r w (mild-finishes k)
 combines-drops (repeat e) within k t o r w = on-drops o k inside (again k) r w (mild-again k)
@@ -226,7 +226,7 @@ combines-drops (arm a b vs) within k t o r w = w
 -- what acts: the activity itself, or a raise in its place
 performs-drops : (actor : Actor) (own : Own) (within : Acts) (q k : ℕ) (o : Order) → Drops o (performs actor own within q k o)
 unfolding performs
-performs-drops actor own within q k o = drops-either o (replaces actor (kind own)) (raises k o) (itself own within q k o) _ refl (raises-drops k o) (itself-drops own within q k o)
+performs-drops actor own within q k o = drops-either o (replaces actor (kind own)) (raises conflictingReceive k o) (itself own within q k o) _ refl (raises-drops conflictingReceive k o) (itself-drops own within q k o)
 
 -- an arm that acts makes its pick no scope
 arms-wane : (own : Own) (within : Acts) (k t : ℕ) (o : Order) (j : ℕ) → Wane (o .marks) (arms own within k t o .marks) j
@@ -248,10 +248,10 @@ module _ (h : Event → Bool) where
       go : (x : Result) → some h (whereOver g (record { result = x; order = r .order; log = r .log }) .log) ≡ true
       go running = e
       go over = more-has (r .log) (g (r .order) .log) e
-      go raising = e
+      go (raising x) = e
       go leaving = e
       go undone = e
-      go undoRaising = e
+      go (undoRaising x) = e
 
   on-has : (k m : ℕ) (g : Order → Outcome) (r : Outcome) → some h (r .log) ≡ true → some h (goesOn k m g r .log) ≡ true
   unfolding goesOn
@@ -264,10 +264,10 @@ module _ (h : Event → Bool) where
       go : (x : Result) → some h (fromBody s (record { result = x; order = r .order; log = r .log }) .log) ≡ true
       go running = more-has (r .log) (looksAgain s (r .order) .log) e
       go over = more-has (r .log) (bodyOver s (r .order) .log) e
-      go raising = more-has (r .log) (bodyRaised s (r .order) .log) e
+      go (raising x) = more-has (r .log) (bodyRaised x s (r .order) .log) e
       go leaving = e
       go undone = more-has (r .log) (undoOver s (r .order) .log) e
-      go undoRaising = more-has (r .log) (undoRaised s (r .order) .log) e
+      go (undoRaising x) = more-has (r .log) (undoRaised x s (r .order) .log) e
 
   pub fault-has : (s : Scope) (r : Outcome) → some h (r .log) ≡ true → some h (fromFault s r .log) ≡ true
   unfolding fromFault
@@ -276,10 +276,10 @@ module _ (h : Event → Bool) where
       go : (x : Result) → some h (fromFault s (record { result = x; order = r .order; log = r .log }) .log) ≡ true
       go running = e
       go over = more-has (r .log) (partOver s (r .order) .log) e
-      go raising = more-has (r .log) (partRaised s (r .order) .log) e
+      go (raising x) = more-has (r .log) (partRaised x s (r .order) .log) e
       go leaving = e
       go undone = e
-      go undoRaising = e
+      go (undoRaising x) = e
 
   has-either : (v : Bool) (x y z : Outcome) → z ≡ elim v [ true ↦ x | false ↦ y ] → some h (x .log) ≡ true → some h (y .log) ≡ true → some h (z .log) ≡ true
   has-either true x y z e a b = subst (λ (r : Outcome). some h (r .log) ≡ true) (sym e) a
@@ -291,7 +291,7 @@ module _ (h : Event → Bool) where
   combines-has (send a b vs) within k t r e = e
   combines-has (receive a b vs) within k t r e = e
   combines-has (setting v x) within k t r e = e
-  combines-has raise within k t r e = e
+  combines-has (raise number) within k t r e = e
   combines-has leave within k t r e = e
   combines-has (choose x) within k t r e = on-has k inside (finishes k) r e
   combines-has (repeat x) within k t r e = on-has k inside (again k) r e

@@ -99,7 +99,7 @@ module _ (p : Plan) (h : Promised p) (f : Taken → Bool) (one : OfTaking p f) (
         let o = orderIn s i in
         let o′ = withMessage p t m o in
         let like = taking-alike p (doingAt p t) m o in
-        subst (λ (l : List Taken). every f l ≡ true) (sym (taken-goes p h i s t m r q (standing-live p o st)))
+        subst (λ (l : List Taken). every f l ≡ true) (sym (taken-goes p h i s t m r (q .0, q .1, q .2) (standing-live p o st)))
         (rw (
           one itsOwn t o o′ past (took m) like x st y,
           raises-each (spare p (acted itsOwn p t o′ .order)) past (acted itsOwn p t o′) (passed-once p h itsOwn t o′ past (alike-awaited like t x) (alike-stands p o o′ like st) (alike-holds like past y)),
@@ -109,7 +109,7 @@ module _ (p : Plan) (h : Promised p) (f : Taken → Bool) (one : OfTaking p f) (
         let l₀ = started ∷ begunOrder p .log in
         let like = taking-alike p (doingAt p t) m (startedOrder p) in
         let b = order-starts p h t past n x in
-        subst (λ (l : List Taken). every f l ≡ true) (sym (taken-starts p h i s t m r q z))
+        subst (λ (l : List Taken). every f l ≡ true) (sym (taken-starts p h i s t m r (q .0, q .1, q .2) z))
         (rw (
           first t m (orderIn s i) past z n x,
           raises-each (spare p (acted itsOwn p t o′ .order)) (onto l₀ past) (acted itsOwn p t o′)

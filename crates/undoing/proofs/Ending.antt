@@ -1,5 +1,5 @@
 -- The ends that a history tells are those that its steps answered, and what is promised at ends holds there. Assumes nothing.
-use Prim.Native.Nat.{ℕ}
+use Prim.Native.Nat.{ℕ, zero, suc}
 use native.Mathlib.Omega.{arith}
 use mathlib.Core.Path.{_≡_, refl, sym, ap, subst, _∙_}
 use mathlib.Core.Bool.{Bool, true, false, cond, not, _&&_, false≢true}
@@ -15,7 +15,7 @@ use Rattle.order.specs.declared.End.the-variants.{None, Well, Handled, Failed, 
 use Rattle.machine.specs.declared.State.{State}
 use Rattle.machine.specs.declared.Tally.{Tally}
 use Rattle.order.specs.Lists.{some, only}
-use Rattle.order.specs.Expression.{evaluate}
+use Rattle.order.specs.Expression.{unboundVariable, Value, fault, value, evaluate}
 use Rattle.order.specs.State.{root, inner}
 use Rattle.machine.specs.State.{fresh}
 use Rattle.order.specs.Event.{Event, started, began, closed, faulted, stopped, ended, raised, left}
@@ -26,7 +26,7 @@ use Rattle.machine.specs.Calls.{loadedAs, load, post, collect, dropAt, Stepped,
 use Rattle.undoing.specs.History.{logOf, history}
 use Rattle.undoing.specs.Demand3.{closingsOf, noneNow, isOver, allowed}
 use Rattle.undoing.specs.Orderly.{orderly}
-use Rattle.undoing.specs.Ties.{isDeed, isFault, deedOf, deedIn, deedAmong, deedAt, placeNow, fits, due, isRaised, endTold, endList, endsIn, endBy, endsTaken, EndsTold, heedsAfter}
+use Rattle.undoing.specs.Ties.{isDeed, raisedIf, raisedBy, deedOf, deedIn, deedAmong, deedAt, placeNow, fits, due, isRaised, endTold, endList, endsIn, endBy, endsTaken, EndsTold, heedsAfter}
 use Rattle.undoing.specs.Buyer.{atEnds, allBack, HandledTakesAllBack, noneBack, WellTakesNothingBack}
 use Rattle.undoing.proofs.Parts.{both, decide, alike-itself}
 use Rattle.undoing.proofs.Moves.{HoldsAt, fair}
@@ -48,10 +48,10 @@ unfoldable pub isStart : Event → Bool
 isStart started = true
 isStart (began k) = false
 isStart (closed k) = false
-isStart (faulted n) = false
+isStart (faulted n x) = false
 isStart (stopped k) = false
 isStart (ended n) = false
-isStart (raised k) = false
+isStart (raised k x) = false
 isStart left = false
 
 -- a start is a deed
@@ -61,28 +61,34 @@ start-kept [] = refl
 start-kept (started ∷ l) = refl
 start-kept (began k ∷ l) = start-kept l
 start-kept (closed k ∷ l) = start-kept l
-start-kept (faulted n ∷ l) = start-kept l
+start-kept (faulted n x ∷ l) = start-kept l
 start-kept (stopped k ∷ l) = start-kept l
 start-kept (ended n ∷ l) = start-kept l
-start-kept (raised k ∷ l) = start-kept l
+start-kept (raised k x ∷ l) = start-kept l
 start-kept (left ∷ l) = start-kept l
 
 -- the step of no activity is a start
-if-starts : (k : ℕ) (b : Bool) → some isStart (cond b (raised k ∷ []) []) ≡ false
+if-starts : (k x : ℕ) (b : Bool) → some isStart (raisedIf k x b) ≡ false
 unfolding some isStart
-if-starts k true = refl
-if-starts k false = refl
+if-starts k x true = refl
+if-starts k x false = refl
+
+by-starts : (k : ℕ) (v : Value) → some isStart (raisedBy k v) ≡ false
+unfolding some isStart
+by-starts k (fault x) = refl
+by-starts k (value n) = refl
 
 deed-starts : (own : Own) (k : ℕ) (o : Order) → some isStart (deedOf own k o) ≡ false
 unfolding deedOf some isStart
 deed-starts empty k o = refl
-deed-starts (send x y vs) k o = if-starts k (not (allBound o vs))
+deed-starts (send x y vs) k o = if-starts k unboundVariable (not (allBound o vs))
 deed-starts (receive x y vs) k o = refl
-deed-starts (setting v e) k o = if-starts k (isFault (evaluate e o))
-deed-starts raise k o = refl
+deed-starts (setting v e) k o = by-starts k (evaluate e o)
+deed-starts (raise zero) k o = refl
+deed-starts (raise (suc number)) k o = refl
 deed-starts leave k o = refl
-deed-starts (choose e) k o = if-starts k (isFault (evaluate e o))
-deed-starts (repeat e) k o = if-starts k (isFault (evaluate e o))
+deed-starts (choose e) k o = by-starts k (evaluate e o)
+deed-starts (repeat e) k o = by-starts k (evaluate e o)
 deed-starts sequence k o = refl
 deed-starts flow k o = refl
 deed-starts pick k o = refl
@@ -104,7 +110,7 @@ mutual
   deed-among-starts (more a l) c t o = either-starts (ltb t _) (deedIn a c t o) (deedAmong l _ t o) _ refl (deed-in-starts a c t o) (deed-among-starts l _ t o)
 
 -- nor has the log of a walk one
-log-starts : (actor : Actor) (p : Plan) (t : ℕ) (o : Order) → Fitting actor p t → some isStart (acted actor p t o .log) ≡ false
+pub log-starts : (actor : Actor) (p : Plan) (t : ℕ) (o : Order) → Fitting actor p t → some isStart (acted actor p t o .log) ≡ false
 unfolding deedAt some isStart
 log-starts itsOwn p t o y =
     start-kept (acted itsOwn p t o .log)
@@ -115,29 +121,29 @@ log-starts inPlace p t o y = start-kept (acted inPlace p t o .log) ∙ ap (some 
 -- The ends of a log.
 
 -- where an order lives on, its newest event tells of no end
-now-none : (past : List Event) → noneNow past ≡ false → endTold past ≡ None
+pub now-none : (past : List Event) → noneNow past ≡ false → endTold past ≡ None
 unfolding endTold noneNow isOver
 now-none [] h = refl
 now-none (started ∷ past) h = refl
 now-none (began k ∷ past) h = refl
 now-none (closed k ∷ past) h = refl
-now-none (faulted n ∷ past) h = refl
+now-none (faulted n x ∷ past) h = refl
 now-none (stopped k ∷ past) h = refl
 now-none (ended root ∷ past) h = absurd (false≢true (sym h))
 now-none (ended (inner k) ∷ past) h = refl
-now-none (raised k ∷ past) h = refl
+now-none (raised k x ∷ past) h = refl
 now-none (left ∷ past) h = absurd (false≢true (sym h))
 
 -- nothing but a start is allowed after an order's end
-after-none : (p : Plan) (past : List Event) (e : Event) → noneNow past ≡ true → allowed p past e ≡ true → isStart e ≡ true
+pub after-none : (p : Plan) (past : List Event) (e : Event) → noneNow past ≡ true → allowed p past e ≡ true → isStart e ≡ true
 unfolding allowed isStart
 after-none p past started n h = refl
 after-none p past (began k) n h = absurd (false≢true (rw n at h))
 after-none p past (closed k) n h = absurd (false≢true (rw n at h))
-after-none p past (faulted m) n h = absurd (false≢true (rw n at h))
+after-none p past (faulted m x) n h = absurd (false≢true (rw n at h))
 after-none p past (stopped k) n h = absurd (false≢true (rw n at h))
 after-none p past (ended m) n h = absurd (false≢true (rw n at h))
-after-none p past (raised k) n h = absurd (false≢true (rw n at h))
+after-none p past (raised k x) n h = absurd (false≢true (rw n at h))
 after-none p past left n h = absurd (false≢true (rw n at h))
 
 -- so that a fair log without a start has no end but at its end
@@ -189,30 +195,30 @@ ends-append [] m past = refl
 ends-append (e ∷ l) m past = rw (ends-append l m (e ∷ past), append-assoc)
 
 -- The root's end right after a raise.
-unfoldable rawEnd : (past : List Event) → Bool
+unfoldable pub rawEnd : (past : List Event) → Bool
 rawEnd [] = false
 rawEnd (started ∷ past) = false
 rawEnd (began k ∷ past) = false
 rawEnd (closed k ∷ past) = false
-rawEnd (faulted n ∷ past) = false
+rawEnd (faulted n x ∷ past) = false
 rawEnd (stopped k ∷ past) = false
 rawEnd (ended root ∷ past) = isRaised past
 rawEnd (ended (inner k) ∷ past) = false
-rawEnd (raised k ∷ past) = false
+rawEnd (raised k x ∷ past) = false
 rawEnd (left ∷ past) = false
 
 -- an order that lives on has none
-now-cool : (past : List Event) → noneNow past ≡ false → rawEnd past ≡ false
+pub now-cool : (past : List Event) → noneNow past ≡ false → rawEnd past ≡ false
 unfolding rawEnd noneNow isOver
 now-cool [] h = refl
 now-cool (started ∷ past) h = refl
 now-cool (began k ∷ past) h = refl
 now-cool (closed k ∷ past) h = refl
-now-cool (faulted n ∷ past) h = refl
+now-cool (faulted n x ∷ past) h = refl
 now-cool (stopped k ∷ past) h = refl
 now-cool (ended root ∷ past) h = absurd (false≢true (sym h))
 now-cool (ended (inner k) ∷ past) h = refl
-now-cool (raised k ∷ past) h = refl
+now-cool (raised k x ∷ past) h = refl
 now-cool (left ∷ past) h = refl
 
 -- a calm log brings none
@@ -222,21 +228,21 @@ calm-cool [] past c h g = g
 calm-cool (started ∷ l) past c h g = calm-cool l (started ∷ past) c refl refl
 calm-cool (began k ∷ l) past c h g = calm-cool l (began k ∷ past) c refl refl
 calm-cool (closed k ∷ l) past c h g = calm-cool l (closed k ∷ past) c refl refl
-calm-cool (faulted n ∷ l) past c h g = absurd (let z : _≡_ {A = ℕ} 0 1 = cc in omega arith)
+calm-cool (faulted n x ∷ l) past c h g = absurd (let z : _≡_ {A = ℕ} 0 1 = cc in omega arith)
 calm-cool (stopped k ∷ l) past c h g = calm-cool l (stopped k ∷ past) c refl refl
 calm-cool (ended root ∷ l) past c h g = calm-cool l (ended root ∷ past) c refl h
 calm-cool (ended (inner k) ∷ l) past c h g = calm-cool l (ended (inner k) ∷ past) c refl refl
-calm-cool (raised k ∷ l) past c h g = absurd (let z : _≡_ {A = ℕ} 0 1 = cc in omega arith)
+calm-cool (raised k x ∷ l) past c h g = absurd (let z : _≡_ {A = ℕ} 0 1 = cc in omega arith)
 calm-cool (left ∷ l) past c h g = calm-cool l (left ∷ past) c refl refl
 
 -- nor does one of its shape, where no raise is lost
 shape-cool : (p : Plan) (t : ℕ) (o : Order) (l past : List Event) → Shape p t (leftBy o) o l → fits (placeNow p o t) o ≡ true → isRaised past ≡ false → rawEnd past ≡ false → rawEnd (onto l past) ≡ false
 unfolding isRaised rawEnd
 shape-cool p t o l past (shape-calm c) f h g = calm-cool l past c h g
-shape-cool p t o _ past (shape-fault {n} {m} {ns} {l} x c) f h g = calm-cool l (faulted n ∷ raised t ∷ past) c refl refl
-shape-cool p t o _ past (shape-end-fault {n} {m} {l} x i z c) f h g = calm-cool l (faulted m ∷ ended n ∷ raised t ∷ past) c refl refl
-shape-cool p t o _ past (shape-end {k} {m} {l} x i z c) f h g = calm-cool l (ended (inner k) ∷ raised t ∷ past) c refl refl
-shape-cool p t o _ past (shape-lost {q} {l} x i z c) f h g = absurd (false≢true (sym z ∙ (ap (λ v. fits v o) (sym x) ∙ f)))
+shape-cool p t o _ past (shape-fault {number} {n} {m} {ns} {l} x c) f h g = calm-cool l (faulted n number ∷ raised t number ∷ past) c refl refl
+shape-cool p t o _ past (shape-end-fault {number} {n} {m} {l} x i z c) f h g = calm-cool l (faulted m number ∷ ended n ∷ raised t number ∷ past) c refl refl
+shape-cool p t o _ past (shape-end {number} {k} {m} {l} x i z c) f h g = calm-cool l (ended (inner k) ∷ raised t number ∷ past) c refl refl
+shape-cool p t o _ past (shape-lost {number} {q} {l} x i z c) f h g = absurd (false≢true (sym z ∙ (ap (λ v. fits v o) (sym x) ∙ f)))
 
 -- How the newest event tells an end.
 told-turned : (past : List Event) (b : Bool) → endsTurned past ≡ true → rawEnd past ≡ b → endTold past ≡ cond b Failed Handled
@@ -245,23 +251,23 @@ told-turned [] b h g = absurd (false≢true h)
 told-turned (started ∷ past) b h g = absurd (false≢true h)
 told-turned (began k ∷ past) b h g = absurd (false≢true h)
 told-turned (closed k ∷ past) b h g = absurd (false≢true h)
-told-turned (faulted n ∷ past) b h g = absurd (false≢true h)
+told-turned (faulted n x ∷ past) b h g = absurd (false≢true h)
 told-turned (stopped k ∷ past) b h g = absurd (false≢true h)
 told-turned (ended root ∷ past) b h g = rw (h, g)
 told-turned (ended (inner k) ∷ past) b h g = absurd (false≢true h)
-told-turned (raised k ∷ past) b h g = absurd (false≢true h)
+told-turned (raised k x ∷ past) b h g = absurd (false≢true h)
 told-turned (left ∷ past) b h g = absurd (false≢true h)
 
 -- the end of an order whose log is of its shape
-told-end : (p : Plan) (t : ℕ) (o : Order) (e : End) (l past : List Event) → EndedAs p e (onto l past) → OrderShape p t (leftBy o) o e l → fits (placeNow p o t) o ≡ true
+pub told-end : (p : Plan) (t : ℕ) (o : Order) (e : End) (number : ℕ) (l past : List Event) → EndedAs p e (onto l past) → OrderShape p t (leftBy o) o e number l → fits (placeNow p o t) o ≡ true
     → isRaised past ≡ false → rawEnd past ≡ false → endTold (onto l past) ≡ e
 unfolding rawEnd isRaised
-told-end p t o None l past h s f c g = absurd h
-told-end p t o Well l past h s f c g = h .0
-told-end p t o Handled l past h (shaped x y) f c g = told-turned (onto l past) false (h .0) (shape-cool p t o l past y f c g)
-told-end p t o Failed l past h (shaped x y) f c g = absurd (false≢true (sym x))
-told-end p t o Failed _ past h (out x y) f c g = told-turned (ended root ∷ raised t ∷ past) true h refl
-told-end p t o Left l past h s f c g = h
+told-end p t o None number l past h s f c g = absurd h
+told-end p t o Well number l past h s f c g = h .0
+told-end p t o Handled number l past h (shaped x y) f c g = told-turned (onto l past) false (h .0) (shape-cool p t o l past y f c g)
+told-end p t o Failed number l past h (shaped x y) f c g = absurd (false≢true (sym x))
+told-end p t o Failed number _ past h (out x y) f c g = told-turned (ended root ∷ raised t number ∷ past) true h refl
+told-end p t o Left number l past h s f c g = h
 
 -- What a promise at ends asks: nothing where there is none, and what is known of an order that ended so.
 pub record Kept (p : Plan) (f : End → List Event → Bool) : Type 0 where
@@ -296,7 +302,7 @@ module _ (p : Plan) (h : Promised p) where
             λ f k. fair-at p f (k .none) l past r (log-starts actor p t o v) (g .now) (rw q (k .none (older (onto l past)))),
           )
       go (passes-end r d z) =
-          let q = told-end p t o e l past z (order-shape actor p (h .seat) t (leftBy o) o (λ n i. refl)) fit (clear-raised p past c) (now-cool past (g .now)) in (
+          let q = told-end p t o e (acted actor p t o .fault) l past z (order-shape actor p (h .seat) t (leftBy o) o (λ n i. refl)) fit (clear-raised p past c) (now-cool past (g .now)) in (
             fair-ends p l past r (log-starts actor p t o v) (g .now) ∙ ap endList q,
             λ f k. fair-at p f (k .none) l past r (log-starts actor p t o v) (g .now) (rw q (k .ended e (onto l past) z)),
           )

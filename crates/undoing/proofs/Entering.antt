@@ -8,9 +8,9 @@ use lib.Dec.{eqb, ltb, leb}
 use borrow.Author.Tests.{eqb-true, eqb-false, ltb-true, ltb-false, lt-ltb, le-leb}
 use Rattle.plan.specs.Tree.{Own, empty, send, receive, set as setting, raise, leave, choose, repeat, sequence, flow, pick, scope, arm, kind, Act, act, Acts, none, more, Plan, size, sizes, count, isScope, hasUndo, isPick}
 use Rattle.order.specs.declared.Order.{Order}
-use Rattle.order.specs.State.{idle, active, inside, faulty, undoing, handling, halted, withdrawing, done, withMarks, markAt, marked, markOf, marking, binding}
+use Rattle.order.specs.State.{idle, active, inside, faulty, undoing, handling, halted, withdrawing, done, withMarks, markAt, marked, markOf, marking, binding, causing}
 use Rattle.order.specs.Event.{Event, began, closed, faulted, stopped, raised, left, ended}
-use Rattle.order.specs.Expression.{Value, fault, value, evaluate, isTrue}
+use Rattle.order.specs.Expression.{unboundVariable, conflictingReceive, Value, fault, value, evaluate, isTrue}
 use Rattle.order.specs.Begin.{Begun, nothingBegun, begin, beginInTurn, beginAfter, part, partAt, beginPart, cleared, quiet}
 use Rattle.order.specs.declared.Way.{Way as Result}
 use Rattle.order.specs.declared.Way.the-variants.{Running as running, Over as over, Raising as raising, Leaving as leaving, Undone as undone, UndoRaising as undoRaising}
@@ -30,10 +30,10 @@ use Rattle.undoing.proofs.Entire.{scope-not, Two, times-append, times-e
 abbrev pub isLeaving : Result → Bool
 isLeaving running = false
 isLeaving over = false
-isLeaving raising = false
+isLeaving (raising x) = false
 isLeaving leaving = true
 isLeaving undone = false
-isLeaving undoRaising = false
+isLeaving (undoRaising x) = false
 
 -- a later one of a sequence may begin once more where the step stands in the one before it
 abbrev pub allow : (t : ℕ) → ℕ → ℕ → ℕ
@@ -314,10 +314,10 @@ module _ (f : ℕ → ℕ) where
         go : (x : Result) → o .result ≡ x → Goes r c (whereOver g (record { result = x; order = o .order; log = o .log }))
         go running e = same running e
         go over e = record { wide = wide-append no (o .log) (g (o .order) .log) (w .wide) (h (o .order) .wide); stays = h (o .order) .stays }
-        go raising e = same raising e
+        go (raising x) e = same (raising x) e
         go leaving e = same leaving e
         go undone e = same undone e
-        go undoRaising e = same undoRaising e
+        go (undoRaising x) e = same (undoRaising x) e
 
     goes-either : (v : Bool) (x y z : Outcome) → z ≡ elim v [ true ↦ x | false ↦ y ] → Goes r c x → Goes r c y → Goes r c z
     goes-either true x y z e g h = subst (λ (q : Outcome). Goes r c q) (sym e) g
@@ -368,21 +368,21 @@ module _ (f : ℕ → ℕ) where
         goes-either (eqb (markOf (s .name) o) undoing) (undoes true s o) (elim (eqb (markOf (s .name) o) withdrawing) [ true ↦ undoes false s o | false ↦ runs o ]) (undoOver s o) refl (undoes-goes true o)
         (goes-either (eqb (markOf (s .name) o) withdrawing) (undoes false s o) (runs o) _ refl (undoes-goes false o) (goes-runs o))
 
-    breaks-goes : (o : Order) → Goes r c (breaks s o)
+    breaks-goes : (number : ℕ) (o : Order) → Goes r c (breaks number s o)
     unfolding breaks times isBeganOf
-    breaks-goes o = goes-zero (breaks s o) (λ j. refl) refl
+    breaks-goes number o = goes-zero (breaks number s o) (λ j. refl) refl
 
     part-goes : (o : Order) → Goes r c (partOver s o)
     unfolding partOver
     part-goes o = goes-either (eqb (markOf (s .name) o) handling) (ends s o) (runs o) (partOver s o) refl (ends-goes o) (goes-runs o)
 
-    undo-raised-goes : (o : Order) → Goes r c (undoRaised s o)
+    undo-raised-goes : (number : ℕ) (o : Order) → Goes r c (undoRaised number s o)
     unfolding undoRaised
-    undo-raised-goes o = goes-either (eqb (markOf (s .name) o) undoing || eqb (markOf (s .name) o) withdrawing) (breaks s o) (runs o) (undoRaised s o) refl (breaks-goes o) (goes-runs o)
+    undo-raised-goes number o = goes-either (eqb (markOf (s .name) o) undoing || eqb (markOf (s .name) o) withdrawing) (breaks number s o) (runs o) (undoRaised number s o) refl (breaks-goes number o) (goes-runs o)
 
-    part-raised-goes : (o : Order) → Goes r c (partRaised s o)
+    part-raised-goes : (number : ℕ) (o : Order) → Goes r c (partRaised number s o)
     unfolding partRaised
-    part-raised-goes o = goes-either (eqb (markOf (s .name) o) handling) (breaks s o) (runs o) (partRaised s o) refl (breaks-goes o) (goes-runs o)
+    part-raised-goes number o = goes-either (eqb (markOf (s .name) o) handling) (breaks number s o) (runs o) (partRaised number s o) refl (breaks-goes number o) (goes-runs o)
 
   -- Stopping.
   halt-strict : {a : Act} {k : ℕ} (v : Bool) (x y z : definitions.Stopped) → z ≡ elim v [ true ↦ x | false ↦ y ] → (v ≡ true → Strict no a k (x .log)) → (v ≡ false → Strict no a k (y .log))
@@ -431,17 +431,17 @@ module _ (f : ℕ → ℕ) where
     pub leaves : isLeaving (o .result) ≡ true → (j : ℕ) → times j (o .log) ≡ 0
 
   module _ (x : ℕ → ℕ → ℕ) (s : Scope) (r : Acts) (c : ℕ) (h : Sit s r c) where
-    faults-goes : (o : Order) → Goes r c (faults s o)
+    faults-goes : (number : ℕ) (o : Order) → Goes r c (faults number s o)
     unfolding faults isBeganOf
-    faults-goes o =
-        let o₁ = marking (s .name) faulty o in
+    faults-goes number o =
+        let o₁ = causing (s .name) number (marking (s .name) faulty o) in
         let q = stop (s .body) (s .bodyAt) o₁ in
         let t = turns-goes s r c h true (q .order) in
-        record { wide = wide-event no (faulted (s .name)) (λ j. refl) (wide-append no (q .log) (turns true s (q .order) .log) (h .inBody no _ (stop-strict (h .body) o₁)) (t .wide)); stays = t .stays }
+        record { wide = wide-event no (faulted (s .name) number) (λ j. refl) (wide-append no (q .log) (turns true s (q .order) .log) (h .inBody no _ (stop-strict (h .body) o₁)) (t .wide)); stays = t .stays }
 
-    raised-goes : (o : Order) → Goes r c (bodyRaised s o)
+    raised-goes : (number : ℕ) (o : Order) → Goes r c (bodyRaised number s o)
     unfolding bodyRaised
-    raised-goes o = goes-either (isOpen (markOf (s .name) o)) (faults s o) (looksAgain s o) (bodyRaised s o) refl (faults-goes o) (looks-goes s r c h o)
+    raised-goes number o = goes-either (isOpen (markOf (s .name) o)) (faults number s o) (looksAgain s o) (bodyRaised number s o) refl (faults-goes number o) (looks-goes s r c h o)
 
     then-steps : (q : Outcome) (o : Outcome) → Steps x r c q → Goes r c o → Steps x r c (after (q .log) o)
     then-steps q o w v = record { wide = wide-append x (q .log) (o .log) (w .wide) (v .wide); leaves = λ e. absurd (false≢true (sym (v .stays) ∙ e)) }
@@ -456,10 +456,10 @@ module _ (f : ℕ → ℕ) where
         go : (y : Result) → q .result ≡ y → Steps x r c (fromBody s (record { result = y; order = q .order; log = q .log }))
         go running e = then-steps q (looksAgain s (q .order)) w (looks-goes s r c h (q .order))
         go over e = then-steps q (bodyOver s (q .order)) w (over-goes s r c h (q .order))
-        go raising e = then-steps q (bodyRaised s (q .order)) w (raised-goes (q .order))
+        go (raising x) e = then-steps q (bodyRaised x s (q .order)) w (raised-goes x (q .order))
         go leaving e = as-steps q leaving (λ d. ap isLeaving e) w
         go undone e = then-steps q (undoOver s (q .order)) w (undone-goes s r c h (q .order))
-        go undoRaising e = then-steps q (undoRaised s (q .order)) w (undo-raised-goes s r c h (q .order))
+        go (undoRaising x) e = then-steps q (undoRaised x s (q .order)) w (undo-raised-goes s r c h x (q .order))
 
     pub fault-steps : (q : Outcome) → Steps x r c q → Steps x r c (fromFault s q)
     unfolding fromFault
@@ -468,10 +468,10 @@ module _ (f : ℕ → ℕ) where
         go : (y : Result) → q .result ≡ y → Steps x r c (fromFault s (record { result = y; order = q .order; log = q .log }))
         go running e = as-steps q running (λ d. absurd (false≢true d)) w
         go over e = then-steps q (partOver s (q .order)) w (part-goes s r c h (q .order))
-        go raising e = then-steps q (partRaised s (q .order)) w (part-raised-goes s r c h (q .order))
+        go (raising x) e = then-steps q (partRaised x s (q .order)) w (part-raised-goes s r c h x (q .order))
         go leaving e = as-steps q leaving (λ d. ap isLeaving e) w
         go undone e = as-steps q running (λ d. absurd (false≢true d)) w
-        go undoRaising e = as-steps q running (λ d. absurd (false≢true d)) w
+        go (undoRaising x) e = as-steps q running (λ d. absurd (false≢true d)) w
 
     undo-steps : (q : Outcome) → Steps x r c q → Steps x r c (fromUndo q)
     unfolding fromUndo
@@ -480,10 +480,10 @@ module _ (f : ℕ → ℕ) where
         go : (y : Result) → q .result ≡ y → Steps x r c (fromUndo (record { result = y; order = q .order; log = q .log }))
         go running e = as-steps q running (λ d. absurd (false≢true d)) w
         go over e = as-steps q undone (λ d. absurd (false≢true d)) w
-        go raising e = as-steps q undoRaising (λ d. absurd (false≢true d)) w
+        go (raising x) e = as-steps q (undoRaising x) (λ d. absurd (false≢true d)) w
         go leaving e = as-steps q leaving (λ d. ap isLeaving e) w
         go undone e = as-steps q undone (λ d. absurd (false≢true d)) w
-        go undoRaising e = as-steps q undoRaising (λ d. absurd (false≢true d)) w
+        go (undoRaising x) e = as-steps q (undoRaising x) (λ d. absurd (false≢true d)) w
 
   steps-either : {x : ℕ → ℕ → ℕ} {r : Acts} {c : ℕ} (v : Bool) (p q z : Outcome) → z ≡ elim v [ true ↦ p | false ↦ q ] → Steps x r c p → Steps x r c q → Steps x r c z
   steps-either {x} {r} {c} true p q z e g h = subst (λ (o : Outcome). Steps x r c o) (sym e) g
@@ -543,10 +543,10 @@ module _ (f : ℕ → ℕ) where
               strict = strict-like (allow t) (o .log ++ g (o .order) .log) (λ j. let u = times-append j (o .log) (g (o .order) .log) in let v = z (o .order) j in omega arith) (w .strict);
               leaves = λ d. absurd (false≢true (sym (n (o .order)) ∙ d));
             }
-        go raising e = same raising e
+        go (raising x) e = same (raising x) e
         go leaving e = same leaving e
         go undone e = same undone e
-        go undoRaising e = same undoRaising e
+        go (undoRaising x) e = same (undoRaising x) e
 
     begun-at : (a : Act) (k : ℕ) (o : Order) (b : Begun) → Strict (allow t) a k (b .log) → StepsAt (allow t) a k (begunIn o b)
     begun-at a k o b w = record { strict = w; leaves = λ e. absurd (not-leaving (b .over) e) }
@@ -561,7 +561,7 @@ module _ (f : ℕ → ℕ) where
 
     or-at : (a : Act) (k : ℕ) (o : Order) (g : ℕ → Outcome) (v : Value) → ((n : ℕ) → StepsAt (allow t) a k (g n)) → StepsAt (allow t) a k (orRaises k o g v)
     unfolding times isBeganOf
-    or-at a k o g fault h = silent a k (raises k o) (λ j. refl)
+    or-at a k o g (fault x) h = silent a k (raises x k o) (λ j. refl)
     or-at a k o g (value n) h = h n
 
     itself-at : (own : Own) (within : Acts) (q₀ k : ℕ) (o : Order) → needs own ≤ count within → Arms (isPick own) within → KnowsIn f within (k + 1)
@@ -569,10 +569,11 @@ module _ (f : ℕ → ℕ) where
     unfolding itself needs least kind times isBeganOf closing repeats
     itself-at empty within q₀ k o n r y = silent (act empty within) k (runs o) (λ j. refl)
     itself-at (send a b vs) within q₀ k o n r y =
-        decide (allBound o vs) (λ e. rw e (silent (act (send a b vs) within) k (finishes k o) (λ j. refl))) (λ e. rw e (silent (act (send a b vs) within) k (raises k o) (λ j. refl)))
+        decide (allBound o vs) (λ e. rw e (silent (act (send a b vs) within) k (finishes k o) (λ j. refl))) (λ e. rw e (silent (act (send a b vs) within) k (raises unboundVariable k o) (λ j. refl)))
     itself-at (receive a b vs) within q₀ k o n r y = silent (act (receive a b vs) within) k (finishes k o) (λ j. refl)
     itself-at (setting v e) within q₀ k o n r y = or-at (act (setting v e) within) k o _ (evaluate e o) (λ i. silent (act (setting v e) within) k (finishes k (binding v i o)) (λ j. refl))
-    itself-at raise within q₀ k o n r y = silent (act raise within) k (raises k o) (λ j. refl)
+    itself-at (raise zero) within q₀ k o n r y = silent (act (raise zero) within) k (raises 0 k o) (λ j. refl)
+    itself-at (raise (suc number)) within q₀ k o n r y = silent (act (raise (suc number)) within) k (raises (suc number) k o) (λ j. refl)
     itself-at leave within q₀ k o n r y = silent (act leave within) k (itself leave within q₀ k o) (λ j. refl)
     itself-at (choose e) within q₀ k o n r y =
         or-at (act (choose e) within) k o _ (evaluate e o) (λ z. let o₁ = marked k inside o in
@@ -695,10 +696,10 @@ module _ (f : ℕ → ℕ) where
             → StepsAt (allow t) (act sequence within) k (whereOver (λ q. elim (eqb (markAt k q) active) [ true ↦ next-of within k q | false ↦ runs q ]) (record { result = x; order = o .order; log = o .log }))
         go running e = same running e
         go over e = on (eqb (markAt k (o .order)) active)
-        go raising e = same raising e
+        go (raising x) e = same (raising x) e
         go leaving e = same leaving e
         go undone e = same undone e
-        go undoRaising e = same undoRaising e
+        go (undoRaising x) e = same (undoRaising x) e
 
     combines-at : (own : Own) (within : Acts) (k : ℕ) (o : Outcome) → needs own ≤ count within → Arms (isPick own) within → KnowsIn f within (k + 1) → k + 1 ≤ t
         → StepsIn (allow t) within (k + 1) o → StepsAt (allow t) (act own within) k (combines own within k t o)
@@ -707,7 +708,8 @@ module _ (f : ℕ → ℕ) where
     combines-at (send a b vs) within k o n r y h w = up-at (send a b vs) within k o w
     combines-at (receive a b vs) within k o n r y h w = up-at (receive a b vs) within k o w
     combines-at (setting v e) within k o n r y h w = up-at (setting v e) within k o w
-    combines-at raise within k o n r y h w = up-at raise within k o w
+    combines-at (raise zero) within k o n r y h w = up-at (raise zero) within k o w
+    combines-at (raise (suc number)) within k o n r y h w = up-at (raise (suc number)) within k o w
     combines-at leave within k o n r y h w = up-at leave within k o w
     combines-at (choose e) within k o n r y h w = on-at (choose e) within k inside (finishes k) o w (λ q j. refl) (λ q. refl)
     combines-at (repeat e) within k o n r y h w = on-at (repeat e) within k inside (again k) o w (λ q j. refl) (λ q. refl)
@@ -735,7 +737,7 @@ module _ (f : ℕ → ℕ) where
         → StepsAt (allow t) (act own within) k (performs actor own within q₀ k o)
     unfolding performs times isBeganOf
     performs-at actor own within q₀ k o n r y =
-        either-at (replaces actor (kind own)) (raises k o) (itself own within q₀ k o) _ refl (λ e. silent (act own within) k (raises k o) (λ j. refl)) (λ e. itself-at own within q₀ k o n r y)
+        either-at (replaces actor (kind own)) (raises conflictingReceive k o) (itself own within q₀ k o) _ refl (λ e. silent (act own within) k (raises conflictingReceive k o) (λ j. refl)) (λ e. itself-at own within q₀ k o n r y)
 
     mutual
       unfolding stepIn times

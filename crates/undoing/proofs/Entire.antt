@@ -351,7 +351,8 @@ module _ (f : ℕ → ℕ) where
   own-starts (send p o vs) within k i ms t a b = leaf-starts (send p o vs) within k refl refl refl
   own-starts (receive p o vs) within k i ms t a b = leaf-starts (receive p o vs) within k refl refl refl
   own-starts (setting v e) within k i ms t a b = leaf-starts (setting v e) within k refl refl refl
-  own-starts raise within k i ms t a b = leaf-starts raise within k refl refl refl
+  own-starts (raise zero) within k i ms t a b = leaf-starts (raise zero) within k refl refl refl
+  own-starts (raise (suc number)) within k i ms t a b = leaf-starts (raise (suc number)) within k refl refl refl
   own-starts leave within k i ms t a b = leaf-starts leave within k refl refl refl
   own-starts (choose e) within k i ms t a b = leaf-starts (choose e) within k refl refl refl
   own-starts (repeat e) within k i ms t a b = leaf-starts (repeat e) within k refl refl refl

@@ -252,10 +252,10 @@ module _ (p : Plan) (h : Promised p) where
           by-done false i v b =
               false≢true (sym v ∙ standing-live p (r .order) (record { many = omega (arith, st .many, w .apart .many); runs = c .0; going = eqb-false (r .order .root) done i }))
       go over d c v b = quiet (c .1) (c .2) b
-      go raising d c v b = false≢true (sym (s .quits (ap isRaising d) k) ∙ b)
+      go (raising x) d c v b = false≢true (sym (s .quits (ap isRaising d) k) ∙ b)
       go leaving d c v b = false≢true (sym (times-none k (r .log) (root-at (kindAt p) t p kb kf (formed-named (kindAt p) (h .fault)) actor o .leaves (ap isLeaving d) k)) ∙ b)
       go undone d c v b = c
-      go undoRaising d c v b = c
+      go (undoRaising x) d c v b = c
 
   not-marked : (x : Taken) (k : ℕ) → (lasts (kindAt p k) ≡ true → hasBegan k (x .log) ≡ true → ⊥) → isMarked p x k ≡ true
   unfolding isMarked

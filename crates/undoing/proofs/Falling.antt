@@ -12,8 +12,9 @@ use Rattle.plan.specs.Tree.{Exp, Own, empty, send, receive, set as setting, rai
 use Rattle.order.specs.declared.Order.{Order}
 use Rattle.order.specs.declared.Way.{Way as Result}
 use Rattle.order.specs.declared.Way.the-variants.{Running as running, Over as over, Raising as raising, Leaving as leaving, Undone as undone, UndoRaising as undoRaising}
-use Rattle.order.specs.State.{idle, active, inside, done, faulty, undoing, handling, halted, withdrawing, Name, root, inner, withMarks, marked, markAt, markOf, marking, closings, remembering}
+use Rattle.order.specs.State.{idle, active, inside, done, faulty, undoing, handling, halted, withdrawing, Name, root, inner, withMarks, marked, markAt, markOf, marking, closings, remembering, causing}
 use Rattle.order.specs.Lists.{withoutLast}
+use Rattle.order.specs.Expression.{conflictingReceive}
 use Rattle.order.specs.Event.{Event}
 use Rattle.order.specs.Begin.{Begun, begin, beginAfter, part, partAt, quiet, cleared}
 use Rattle.order.specs.Scope.{Outcome, runs, after, begunIn, whereOver, Scope, scopeAt, rootOf, isFor, isOpen, innerRuns, rememberedFor, beginUndo, startUndo, undo, stop, ends, handle, undoes, turns, faults, breaks, looksAgain, bodyOver, bodyRaised, undoRaised, fromBody, partRaised, fromFault, fromUndo, goesThrough}
@@ -62,17 +63,17 @@ falls-below x = same-less (x .from) (x .same)
 abbrev pub isPlain : Result → Bool
 isPlain running = true
 isPlain over = true
-isPlain raising = true
+isPlain (raising x) = true
 isPlain leaving = false
 isPlain undone = false
-isPlain undoRaising = true
+isPlain (undoRaising x) = true
 
 -- what a raise in a tree comes to; in a handler, h, it comes out of it
 pub record Fell (f : ℕ → ℕ) (h : Bool) (b e : ℕ) (o : Order) (r : Outcome) : Type 0 where
   pub falls : Falls f b e (o .marks) (r .order .marks)
   pub root : r .order .root ≡ o .root
   pub plain : isPlain (r .result) ≡ true
-  pub out : h ≡ true → r .result ≡ raising
+  pub out : h ≡ true → r .result ≡ raising conflictingReceive
 
 pub fell-wider : {f : ℕ → ℕ} {h : Bool} {b c d e : ℕ} {o : Order} {r : Outcome} → c ≤ b → e ≤ d → Fell f h b e o r → Fell f h c d o r
 fell-wider x y z = record { falls = falls-wider x y (z .falls); root = z .root; plain = z .plain; out = z .out }
@@ -105,10 +106,10 @@ fell-goes f h k m c d o g r i v j w = go (r .result) (w .plain) (w .out)
     r₁ : Result → Outcome
     r₁ x = record { result = x; order = r .order; log = r .log }
 
-    same : (x : Result) → isPlain x ≡ true → (h ≡ true → x ≡ raising) → Fell f h k d o (r₁ x)
+    same : (x : Result) → isPlain x ≡ true → (h ≡ true → x ≡ raising conflictingReceive) → Fell f h k d o (r₁ x)
     same x y z = record { falls = falls-wider (omega arith) i (w .falls); root = w .root; plain = y; out = z }
 
-    on : (b : Bool) → eqb (markAt k (r .order)) m ≡ b → (h ≡ true → over ≡ raising)
+    on : (b : Bool) → eqb (markAt k (r .order)) m ≡ b → (h ≡ true → over ≡ raising conflictingReceive)
         → Fell f h k d o (record { result = elim b as (λ _. Outcome) [ true ↦ g (r .order) | false ↦ runs (r .order) ] .result; order = elim b as (λ _. Outcome) [ true ↦ g (r .order) | false ↦ runs (r .order) ] .order; log = r .log ++ elim b as (λ _. Outcome) [ true ↦ g (r .order) | false ↦ runs (r .order) ] .log })
     on true e z = by (j (r .order) (eqb-true (markAt k (r .order)) m e))
       where
@@ -133,13 +134,13 @@ fell-goes f h k m c d o g r i v j w = go (r .result) (w .plain) (w .out)
             record { falls = falls-wider (omega arith) i (falls-behind (w .falls) (b .marks)); root = b .root ∙ w .root; plain = y; out = never }
     on false e z = record { falls = falls-wider (omega arith) i (w .falls); root = w .root; plain = refl; out = λ y. let q : _≡_ {A = ℕ} 0 1 = let p = z y in cc in absurd (omega arith) }
 
-    go : (x : Result) → isPlain x ≡ true → (h ≡ true → x ≡ raising) → Fell f h k d o (whereOver (λ o₁. elim (eqb (markAt k o₁) m) [ true ↦ g o₁ | false ↦ runs o₁ ]) (r₁ x))
+    go : (x : Result) → isPlain x ≡ true → (h ≡ true → x ≡ raising conflictingReceive) → Fell f h k d o (whereOver (λ o₁. elim (eqb (markAt k o₁) m) [ true ↦ g o₁ | false ↦ runs o₁ ]) (r₁ x))
     go running y z = same running y z
     go over y z = on (eqb (markAt k (r .order)) m) refl z
-    go raising y z = same raising y z
+    go (raising x) y z = same (raising x) y z
     go leaving y z = absurd (false≢true y)
     go undone y z = absurd (false≢true y)
-    go undoRaising y z = same undoRaising y z
+    go (undoRaising x) y z = same (undoRaising x) y z
 
 -- a sequence goes on
 goes-sequence : (f : ℕ → ℕ) (k t : ℕ) (within : Acts) (o : Order) → k < endWith within (k + 1) t → markAt k o ≡ active
@@ -207,7 +208,7 @@ fell-combines f h own within k t o r s n w = go own s n
     go (send a b vs) s n = plainly
     go (receive a b vs) s n = plainly
     go (setting v x) s n = plainly
-    go raise s n = plainly
+    go (raise number) s n = plainly
     go leave s n = plainly
     go (choose x) s n = goes inside (finishes k) (λ o₁ d. goes-finishes f k _ inside o₁ (inside-some (f k)) d)
     go (repeat x) s n = goes inside (again k) (λ o₁ d. goes-again f k _ o₁ n d)
@@ -227,10 +228,10 @@ plain-where g r x f = go (r .result) x
     go : (z : Result) → isPlain z ≡ true → isPlain (whereOver g (record { result = z; order = r .order; log = r .log }) .result) ≡ true
     go running x = x
     go over x = f (r .order)
-    go raising x = x
+    go (raising n) x = x
     go leaving x = x
     go undone x = x
-    go undoRaising x = x
+    go (undoRaising n) x = x
 
 plain-begun : (o : Order) (b : Begun) → isPlain (begunIn o b .result) ≡ true
 plain-begun o b = go (b .over)
@@ -280,29 +281,29 @@ plain-over : (s : Scope) (o : Order) → isPlain (bodyOver s o .result) ≡ true
 unfolding bodyOver
 plain-over s o = decide (eqb (markOf (s .name) o) active) (λ e. rw (e, bodyOver) refl) (λ e. rw (e, bodyOver) (plain-again s o))
 
-plain-raised : (s : Scope) (o : Order) → isPlain (bodyRaised s o .result) ≡ true
+plain-raised : (s : Scope) (number : ℕ) (o : Order) → isPlain (bodyRaised number s o .result) ≡ true
 unfolding bodyRaised faults
-plain-raised s o = decide (isOpen (markOf (s .name) o)) (λ e. rw (e, bodyRaised) (plain-turns true s (stop (s .body) (s .bodyAt) (marking (s .name) faulty o) .order))) (λ e. rw (e, bodyRaised) (plain-again s o))
+plain-raised s number o = decide (isOpen (markOf (s .name) o)) (λ e. rw (e, bodyRaised) (plain-turns true s (stop (s .body) (s .bodyAt) (causing (s .name) number (marking (s .name) faulty o)) .order))) (λ e. rw (e, bodyRaised) (plain-again s o))
 
 -- a scope that a raise in a part ends, or that lets it be
 part-lowered : (s : Scope) (b : ℕ) → Owns s b
     → ((o₁ : Order) → rank 11 (markOf (s .name) (withMarks (cleared (s .first) (s .count) (o₁ .marks)) o₁)) ≤ rank 11 (markOf (s .name) o₁))
-    → (o : Order) → Lowered s b o (partRaised s o) × (isPlain (partRaised s o .result) ≡ true)
+    → (number : ℕ) (o : Order) → Lowered s b o (partRaised number s o) × (isPlain (partRaised number s o .result) ≡ true)
 unfolding partRaised breaks rank
-part-lowered s b h f o =
+part-lowered s b h f number o =
     decide (eqb (markOf (s .name) o) handling)
-    (λ e. rw (e, partRaised) (breaks-lowered s b h o (subst (λ (m : ℕ). 0 < rank 11 m) (sym (eqb-true (markOf (s .name) o) handling e)) (omega arith)) f, refl))
+    (λ e. rw (e, partRaised) (breaks-lowered s b h number o (subst (λ (m : ℕ). 0 < rank 11 m) (sym (eqb-true (markOf (s .name) o) handling e)) (omega arith)) f, refl))
     (λ e. rw (e, partRaised) (stays refl, refl))
 
 undo-lowered : (s : Scope) (b : ℕ) → Owns s b
     → ((o₁ : Order) → rank 11 (markOf (s .name) (withMarks (cleared (s .first) (s .count) (o₁ .marks)) o₁)) ≤ rank 11 (markOf (s .name) o₁))
-    → (o : Order) → Lowered s b o (undoRaised s o) × (isPlain (undoRaised s o .result) ≡ true)
+    → (number : ℕ) (o : Order) → Lowered s b o (undoRaised number s o) × (isPlain (undoRaised number s o .result) ≡ true)
 unfolding undoRaised breaks rank
-undo-lowered s b h f o =
+undo-lowered s b h f number o =
     decide (eqb (markOf (s .name) o) undoing)
-    (λ e. rw (e, undoRaised) (breaks-lowered s b h o (subst (λ (m : ℕ). 0 < rank 11 m) (sym (eqb-true (markOf (s .name) o) undoing e)) (omega arith)) f, refl))
+    (λ e. rw (e, undoRaised) (breaks-lowered s b h number o (subst (λ (m : ℕ). 0 < rank 11 m) (sym (eqb-true (markOf (s .name) o) undoing e)) (omega arith)) f, refl))
     (λ e. decide (eqb (markOf (s .name) o) withdrawing)
-    (λ d. rw (e, undoRaised, d) (breaks-lowered s b h o (subst (λ (m : ℕ). 0 < rank 11 m) (sym (eqb-true (markOf (s .name) o) withdrawing d)) (omega arith)) f, refl))
+    (λ d. rw (e, undoRaised, d) (breaks-lowered s b h number o (subst (λ (m : ℕ). 0 < rank 11 m) (sym (eqb-true (markOf (s .name) o) withdrawing d)) (omega arith)) f, refl))
     (λ d. rw (e, undoRaised, d) (stays refl, refl)))
 
 -- what a scope makes of a raise in its body, and of one in its fault part: from the order that the raise left
@@ -320,15 +321,15 @@ module _ (s : Scope) (b : ℕ) (h : Owns s b)
           → Lowered s b (r .order) (fromBody s (record { result = z; order = r .order; log = r .log })) × (isPlain (fromBody s (record { result = z; order = r .order; log = r .log }) .result) ≡ true)
       go running x = (lowered-after (r .log) (r .order) (looksAgain s (r .order)) (again-lowered s b h (r .order)), plain-again s (r .order))
       go over x = (lowered-after (r .log) (r .order) (bodyOver s (r .order)) (over-lowered s b h (r .order)), plain-over s (r .order))
-      go raising x = (lowered-after (r .log) (r .order) (bodyRaised s (r .order)) (raised-lowered s b h (r .order)), plain-raised s (r .order))
+      go (raising n) x = (lowered-after (r .log) (r .order) (bodyRaised n s (r .order)) (raised-lowered s b h n (r .order)), plain-raised s n (r .order))
       go leaving x = absurd (false≢true x)
       go undone x = absurd (false≢true x)
-      go undoRaising x = let u = undo-lowered s b h f (r .order) in (lowered-after (r .log) (r .order) (undoRaised s (r .order)) (u .0), u .1)
+      go (undoRaising n) x = let u = undo-lowered s b h f n (r .order) in (lowered-after (r .log) (r .order) (undoRaised n s (r .order)) (u .0), u .1)
 
-  pub fault-lowered : (r : Outcome) → r .result ≡ raising → Lowered s b (r .order) (fromFault s r) × (isPlain (fromFault s r .result) ≡ true)
+  pub fault-lowered : {number : ℕ} (r : Outcome) → r .result ≡ raising number → Lowered s b (r .order) (fromFault s r) × (isPlain (fromFault s r .result) ≡ true)
   unfolding fromFault
-  fault-lowered r x = subst (λ (z : Result). Lowered s b (r .order) (fromFault s (record { result = z; order = r .order; log = r .log })) × (isPlain (fromFault s (record { result = z; order = r .order; log = r .log }) .result) ≡ true)) (sym x)
-      (let u = part-lowered s b h f (r .order) in (lowered-after (r .log) (r .order) (partRaised s (r .order)) (u .0), u .1))
+  fault-lowered {number} r x = subst (λ (z : Result). Lowered s b (r .order) (fromFault s (record { result = z; order = r .order; log = r .log })) × (isPlain (fromFault s (record { result = z; order = r .order; log = r .log }) .result) ≡ true)) (sym x)
+      (let u = part-lowered s b h f number (r .order) in (lowered-after (r .log) (r .order) (partRaised number s (r .order)) (u .0), u .1))
 
 -- a scope with an undo part and one with none have the same ranks
 rank-scope : (z : Bool) (m : ℕ) → rank (kind (scope z)) m ≡ rank 11 m
@@ -372,13 +373,14 @@ cleared-rank (suc n) k ms =
     subst (λ (m : ℕ). rank 11 m ≤ rank 11 (getD ms k 0)) (sym x) (omega (arith, rank-set 11 k idle ms))
 
 -- what acts in a raise's place, and what an arm does then
-pub raised-receive : (own : Own) (within : Acts) (q k : ℕ) (o : Order) → isTake (doingOf own within k) ≡ true → performs inPlace own within q k o ≡ raises k o
+pub raised-receive : (own : Own) (within : Acts) (q k : ℕ) (o : Order) → isTake (doingOf own within k) ≡ true → performs inPlace own within q k o ≡ raises conflictingReceive k o
 unfolding isTake doingOf performs replaces kind
 raised-receive empty within q k o h = absurd (false≢true h)
 raised-receive (send x y vs) within q k o h = absurd (false≢true h)
 raised-receive (receive x y vs) within q k o h = refl
 raised-receive (setting v x) within q k o h = absurd (false≢true h)
-raised-receive raise within q k o h = absurd (false≢true h)
+raised-receive (raise zero) within q k o h = absurd (false≢true h)
+raised-receive (raise (suc number)) within q k o h = absurd (false≢true h)
 raised-receive leave within q k o h = absurd (false≢true h)
 raised-receive (choose x) within q k o h = absurd (false≢true h)
 raised-receive (repeat x) within q k o h = absurd (false≢true h)
@@ -395,7 +397,8 @@ receive-active empty within k b m h a w = absurd (false≢true h)
 receive-active (send x y vs) within k b m h a w = absurd (false≢true h)
 receive-active (receive x y vs) within k b m h a w = eqb-true m active w
 receive-active (setting v x) within k b m h a w = absurd (false≢true h)
-receive-active raise within k b m h a w = absurd (false≢true h)
+receive-active (raise zero) within k b m h a w = absurd (false≢true h)
+receive-active (raise (suc number)) within k b m h a w = absurd (false≢true h)
 receive-active leave within k b m h a w = absurd (false≢true h)
 receive-active (choose x) within k b m h a w = absurd (false≢true h)
 receive-active (repeat x) within k b m h a w = absurd (false≢true h)
@@ -436,7 +439,7 @@ unfolding endWith
 later-end a l c t e = second-of (ltb t (c + size a)) (c + size a) (endWith l (c + size a) t) (endWith (more a l) c t) refl (le-ltb t (c + size a) e)
 
 -- an arm of an open pick raises
-arm-raises : (l : Acts) (w : Bool) (y c t : ℕ) (o : Order) → isPart l c t ≡ true → isTake (doingAmong l c t) ≡ true → stepAmong inPlace l w y c t o ≡ raises t o
+arm-raises : (l : Acts) (w : Bool) (y c t : ℕ) (o : Order) → isPart l c t ≡ true → isTake (doingAmong l c t) ≡ true → stepAmong inPlace l w y c t o ≡ raises conflictingReceive t o
 unfolding isPart size
 arm-raises none w y c t o e h = absurd (false≢true e)
 arm-raises (more (act own within) l) w y c t o e h =
@@ -445,7 +448,7 @@ arm-raises (more (act own within) l) w y c t o e h =
     first-among (act own within) l w y c t o (omega arith)
     ∙ (here own within (cond w c y) c t o q
     ∙ (raised-receive own within (cond w c y) c o (subst (λ (x : Doing). isTake x ≡ true) (doing-among (act own within) l c t (omega arith) ∙ (ap (λ (j : ℕ). doingIn (act own within) c j) (sym q) ∙ doing-here own within c)) h)
-    ∙ ap (λ (j : ℕ). raises j o) q)))
+    ∙ ap (λ (j : ℕ). raises conflictingReceive j o) q)))
     (λ d. let q = part-from l (c + (1 + sizes within)) t (rw d at e) in
     later-among (act own within) l w y c t o (omega (arith, q))
     ∙ arm-raises l w y (c + (1 + sizes within)) t o (rw d at e) (subst (λ (x : Doing). isTake x ≡ true) (doing-later (act own within) l c t (omega (arith, q))) h))
@@ -474,13 +477,14 @@ unfolding isPart
 deep-rest r a l c t d = deep-later r (eqb c t) (isPart l (c + size a) t) d
 
 -- a raise goes through what is no scope
-raise-through : (own : Own) (within : Acts) (k t : ℕ) (o : Order) → isScope own ≡ false → combines own within k t (raises t o) ≡ raises t o
+raise-through : (own : Own) (within : Acts) (k t : ℕ) (o : Order) → isScope own ≡ false → combines own within k t (raises conflictingReceive t o) ≡ raises conflictingReceive t o
 unfolding combines goesOn kind
 raise-through empty within k t o s = refl
 raise-through (send x y vs) within k t o s = refl
 raise-through (receive x y vs) within k t o s = refl
 raise-through (setting v x) within k t o s = refl
-raise-through raise within k t o s = refl
+raise-through (raise zero) within k t o s = refl
+raise-through (raise (suc number)) within k t o s = refl
 raise-through leave within k t o s = refl
 raise-through (choose x) within k t o s = refl
 raise-through (repeat x) within k t o s = refl

@@ -13,7 +13,7 @@ use Rattle.order.specs.declared.Order.{Order}
 use Rattle.order.specs.declared.End.the-variants.{None}
 use Rattle.order.specs.State.{root, inner, idle, active, inside, withMarks, marked, binding}
 use Rattle.order.specs.Event.{Event}
-use Rattle.order.specs.Expression.{Value, fault, value, evaluate, isTrue}
+use Rattle.order.specs.Expression.{unboundVariable, Value, fault, value, evaluate, isTrue}
 use Rattle.order.specs.Begin.{Begun, begin, beginInTurn, beginAfter, part, partAt, beginPart, cleared, quiet}
 use Rattle.order.specs.declared.Way.{Way as Result}
 use Rattle.order.specs.declared.Way.the-variants.{Running as running, Over as over, Raising as raising, Leaving as leaving, Undone as undone, UndoRaising as undoRaising}
@@ -33,10 +33,10 @@ use Rattle.undoing.proofs.Scoping.{Acted, RunAs}
 abbrev pub GoAs : Plan → Act → (k : ℕ) → Order → List Event → Order → Result → Type 0
 GoAs p a k o l o′ running = Run (o′ .marks) a k × Does p None o l o′
 GoAs p a k o l o′ over = Quiet (o′ .marks) k (size a) × Does p None o l o′
-GoAs p a k o l o′ raising = ⊥
+GoAs p a k o l o′ (raising x) = ⊥
 GoAs p a k o l o′ leaving = ⊥
 GoAs p a k o l o′ undone = ⊥
-GoAs p a k o l o′ undoRaising = ⊥
+GoAs p a k o l o′ (undoRaising x) = ⊥
 
 -- what runs on or is over is one of the ways a step can end
 pub go-run : {p : Plan} {a : Act} {k n : ℕ} (t : ℕ) {o : Order} {r : Outcome} → Acted k n o (GoAs p a k o) r → Acted k n o (RunAs p a k t o) r
@@ -45,10 +45,10 @@ go-run {p} {a} {k} {n} t {o} {r} w = record { kept = w .kept; rooted = w .rooted
     go : (x : Result) → GoAs p a k o (r .log) (r .order) x → RunAs p a k t o (r .log) (r .order) x
     go running c = c
     go over c = c
-    go raising c = absurd c
+    go (raising x) c = absurd c
     go leaving c = absurd c
     go undone c = absurd c
-    go undoRaising c = absurd c
+    go (undoRaising x) c = absurd c
 
 -- after what led there
 pub go-after : {p : Plan} {a : Act} {k n : ℕ} {o o₁ : Order} {l : List Event} {r : Outcome} → Kept k n (o .marks) (o₁ .marks) → o₁ .root ≡ o .root
@@ -60,10 +60,10 @@ go-after {p} {a} {k} {n} {o} {o₁} {l} {r} v e d w =
     go : (x : Result) → GoAs p a k o₁ (r .log) (r .order) x → GoAs p a k o (l ++ r .log) (r .order) x
     go running c = (c .0, does-then d (c .1))
     go over c = (c .0, does-then d (c .1))
-    go raising c = absurd c
+    go (raising x) c = absurd c
     go leaving c = absurd c
     go undone c = absurd c
-    go undoRaising c = absurd c
+    go (undoRaising x) c = absurd c
 
 module _ (p : Plan) where
   -- the i-th within begins
@@ -134,15 +134,15 @@ module _ (p : Plan) where
       }
 
   -- an activity whose step it is raises; lets the order leave; stays as it is
-  pub acts-raises : {x : Place} (own : Own) (within : Acts) (k : ℕ) (o : Order) → Spot p x k → Fit x o → isScope own ≡ false → isName p (inner k) ≡ false → Quiet (o .marks) (k + 1) (sizes within)
-      → Acted k (1 + sizes within) o (RunAs p (act own within) k k o) (raises k o)
-  acts-raises own within k o u f s z q =
+  pub acts-raises : {x : Place} (number : ℕ) (own : Own) (within : Acts) (k : ℕ) (o : Order) → Spot p x k → Fit x o → isScope own ≡ false → isName p (inner k) ≡ false → Quiet (o .marks) (k + 1) (sizes within)
+      → Acted k (1 + sizes within) o (RunAs p (act own within) k k o) (raises number k o)
+  acts-raises number own within k o u f s z q =
       record {
         kept = kept-set k (1 + sizes within) k idle (o .marks) (omega arith) (omega arith);
         rooted = refl;
         comes = (
           able-part s (quiet-stoppable within (k + 1) (quiet-set idle q (omega arith))),
-          does-one (λ past x. move-raise p (momentOf p o) (momentOf p (marked k idle o)) past x k u f (plain-marked p k idle o z)),
+          does-one (λ past x. move-raise p (momentOf p o) (momentOf p (marked k idle o)) past x k number u f (plain-marked p k idle o z)),
           λ e. refl,
         );
       }
@@ -235,7 +235,7 @@ module _ (p : Plan) where
       → Quiet (o .marks) (k + 1) (sizes within)
       → ((n : ℕ) → Acted k (1 + sizes within) o (RunAs p (act own within) k k o) (f n))
       → Acted k (1 + sizes within) o (RunAs p (act own within) k k o) (orRaises k o f v)
-  acts-or-raises own within k o f fault u i s z q g = acts-raises own within k o u i s z q
+  acts-or-raises own within k o f (fault x) u i s z q g = acts-raises x own within k o u i s z q
   acts-or-raises own within k o f (value n) u i s z q g = g n
 
   -- An activity other than a scope or an arm has its step.
@@ -247,14 +247,15 @@ module _ (p : Plan) where
   acts-itself empty within q₀ k o s a i c z u f l e q m = absurd (false≢true i)
   acts-itself (send x y vs) within q₀ k o s a i c z u f l e q m = go (allBound o vs)
     where
-      go : (b : Bool) → Acted k (1 + sizes within) o (RunAs p (act (send x y vs) within) k k o) (cond b (finishes k o) (raises k o))
+      go : (b : Bool) → Acted k (1 + sizes within) o (RunAs p (act (send x y vs) within) k k o) (cond b (finishes k o) (raises unboundVariable k o))
       go true = go-run k (go-finishes (send x y vs) within k o o refl refl (λ s j. (refl, refl)) z q (omega arith))
-      go false = acts-raises (send x y vs) within k o u f s z q
+      go false = acts-raises unboundVariable (send x y vs) within k o u f s z q
   acts-itself (receive x y vs) within q₀ k o s a i c z u f l e q m = go-run k (go-finishes (receive x y vs) within k o o refl refl (λ s j. (refl, refl)) z q (omega arith))
   acts-itself (setting v x) within q₀ k o s a i c z u f l e q m =
       acts-or-raises (setting v x) within k o _ (evaluate x o) u f s z q
       (λ n. go-run k (go-finishes (setting v x) within k o (binding v n o) refl refl (bound-everywhere v n o) z q (omega arith)))
-  acts-itself raise within q₀ k o s a i c z u f l e q m = acts-raises raise within k o u f s z q
+  acts-itself (raise zero) within q₀ k o s a i c z u f l e q m = acts-raises 0 (raise zero) within k o u f s z q
+  acts-itself (raise (suc number)) within q₀ k o s a i c z u f l e q m = acts-raises (suc number) (raise (suc number)) within k o u f s z q
   acts-itself leave within q₀ k o s a i c z u f l e q m = acts-leaves leave within k o
   acts-itself (choose x) within q₀ k o s a i c z u f l e q m =
       acts-or-raises (choose x) within k o _ (evaluate x o) u f s z q (λ n. go-run k (go-enters x within k (cond (isTrue n) 0 1) o (u .before) f l (omega (arith, first-two (isTrue n))) z q m))

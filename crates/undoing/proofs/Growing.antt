@@ -1,5 +1,5 @@
 -- In a step that is neither a raise nor a leave no mark that lasts is cleared but those of the activities that have the step in them. Assumes nothing.
-use Prim.Native.Nat.{ℕ, _+_, _≤_, _<_}
+use Prim.Native.Nat.{ℕ, zero, suc, _+_, _≤_, _<_}
 use native.Mathlib.Omega.{arith}
 use mathlib.Core.Path.{_≡_, refl, sym, ap, subst, _∙_}
 use mathlib.Core.Bool.{Bool, true, false, cond, _&&_, _||_, false≢true}
@@ -13,7 +13,7 @@ use Rattle.order.specs.declared.Order.{Order}
 use Rattle.order.specs.Lists.{some}
 use Rattle.order.specs.State.{idle, active, inside, withMarks, marked, markAt, binding}
 use Rattle.order.specs.Event.{Event}
-use Rattle.order.specs.Expression.{Value, fault, value, evaluate, isTrue}
+use Rattle.order.specs.Expression.{conflictingReceive, Value, fault, value, evaluate, isTrue}
 use Rattle.order.specs.Begin.{Begun, part, partAt, beginPart, beginAfter, cleared}
 use Rattle.order.specs.declared.Way.{Way as Result}
 use Rattle.order.specs.declared.Way.the-variants.{Running as running, Over as over, Raising as raising, Leaving as leaving, Undone as undone, UndoRaising as undoRaising}
@@ -46,10 +46,10 @@ module _ (f : ℕ → ℕ) where
         go : (x : Result) → isBad x ≡ false → Up (fromBody s (record { result = x; order = r .order; log = r .log }) .order .marks) j
         go running n = looks-goes f s b e h (r .order) m .grows j l d u
         go over n = over-goes f s b e h (r .order) m .grows j l d u
-        go raising n = absurd (false≢true (sym n))
+        go (raising x) n = absurd (false≢true (sym n))
         go leaving n = u
         go undone n = undone-goes f s b e h (r .order) m .grows j l d u
-        go undoRaising n = absurd (false≢true (sym n))
+        go (undoRaising x) n = absurd (false≢true (sym n))
 
     pub fault-grows : Up (fromFault s r .order .marks) j
     unfolding fromFault
@@ -58,10 +58,10 @@ module _ (f : ℕ → ℕ) where
         go : (x : Result) → isBad x ≡ false → Up (fromFault s (record { result = x; order = r .order; log = r .log }) .order .marks) j
         go running n = u
         go over n = part-goes f s b e h (r .order) .grows j l d u
-        go raising n = absurd (false≢true (sym n))
+        go (raising x) n = absurd (false≢true (sym n))
         go leaving n = u
         go undone n = u
-        go undoRaising n = u
+        go (undoRaising x) n = u
 
   on-grows : (k v : ℕ) (g : Order → Outcome) (r : Outcome) (j : ℕ) → Up (g (r .order) .order .marks) j → Up (r .order .marks) j → Up (goesOn k v g r .order .marks) j
   unfolding goesOn
@@ -74,10 +74,10 @@ module _ (f : ℕ → ℕ) where
       go : (x : Result) → Up (whereOver (λ q. elim (eqb (markAt k q) v) [ true ↦ g q | false ↦ runs q ]) (record { result = x; order = r .order; log = r .log }) .order .marks) j
       go running = u
       go over = on (eqb (markAt k (r .order)) v) _ refl
-      go raising = u
+      go (raising x) = u
       go leaving = u
       go undone = u
-      go undoRaising = u
+      go (undoRaising x) = u
 
   grows-either : (j : ℕ) (v : Bool) (x y z : Outcome) → z ≡ elim v [ true ↦ x | false ↦ y ] → Up (x .order .marks) j → Up (y .order .marks) j → Up (z .order .marks) j
   grows-either j true x y z e a b = subst (λ (q : Outcome). Up (q .order .marks) j) (sym e) a
@@ -90,7 +90,7 @@ module _ (f : ℕ → ℕ) where
   combines-grows (send a b vs) within k t r e n y m q j l d u = u
   combines-grows (receive a b vs) within k t r e n y m q j l d u = u
   combines-grows (setting v x) within k t r e n y m q j l d u = u
-  combines-grows raise within k t r e n y m q j l d u = u
+  combines-grows (raise number) within k t r e n y m q j l d u = u
   combines-grows leave within k t r e n y m q j l d u = u
   combines-grows (choose x) within k t r e n y m q j l d u = on-grows k inside (finishes k) r j (finishes-goes f k 0 (r .order) .grows j l (λ i. d (omega arith)) u) u
   combines-grows (repeat x) within k t r e n y m q j l d u = on-grows k inside (again k) r j (again-goes f k 0 (r .order) (ap (λ (i : ℕ). eqb i 7) e) .grows j l (λ i. d (omega arith)) u) u
@@ -116,9 +116,10 @@ module _ (f : ℕ → ℕ) where
   itself-grows (setting v x) within q k o e n y m j l d c u = go (evaluate x o)
     where
       go : (w : Value) → Up (orRaises k o (λ i. finishes k (binding v i o)) w .order .marks) j
-      go fault = up-other (o .marks) k idle j d u
+      go (fault x) = up-other (o .marks) k idle j d u
       go (value i) = up-other (o .marks) k idle j d u
-  itself-grows raise within q k o e n y m j l d c u = up-other (o .marks) k idle j d u
+  itself-grows (raise zero) within q k o e n y m j l d c u = up-other (o .marks) k idle j d u
+  itself-grows (raise (suc number)) within q k o e n y m j l d c u = up-other (o .marks) k idle j d u
   itself-grows leave within q k o e n y m j l d c u = up-other (o .marks) k idle j d u
   itself-grows (choose x) within q k o e n y m j l d c u = go (evaluate x o)
     where
@@ -135,7 +136,7 @@ module _ (f : ℕ → ℕ) where
       first-two false = omega arith
 
       go : (w : Value) → Up (orRaises k o (λ i. enters k o (beginPart (cond (isTrue i) 0 1) within (k + 1) (marked k inside o .marks))) w .order .marks) j
-      go fault = up-other (o .marks) k idle j d u
+      go (fault x) = up-other (o .marks) k idle j d u
       go (value i) = into (cond (isTrue i) 0 1) (first-two (isTrue i))
   itself-grows (repeat x) within q k o e n y m j l d c u = go (evaluate x o)
     where
@@ -161,7 +162,7 @@ module _ (f : ℕ → ℕ) where
       by-truth false z i = subst (λ (q : Outcome). Up (q .order .marks) j) (sym i) (up-other (o .marks) k idle j d u)
 
       go : (w : Value) → Up (orRaises k o (λ i. elim (isTrue i) [ true ↦ repeats k within o | false ↦ finishes k o ]) w .order .marks) j
-      go fault = up-other (o .marks) k idle j d u
+      go (fault x) = up-other (o .marks) k idle j d u
       go (value i) = by-truth (isTrue i) _ refl
   itself-grows sequence within q k o e n y m j l d c u = u
   itself-grows flow within q k o e n y m j l d c u = u
@@ -195,7 +196,7 @@ module _ (f : ℕ → ℕ) where
   unfolding performs
   performs-grows actor own within q k o e n y m j l d c u = go (replaces actor (kind own))
     where
-      go : (b : Bool) → UpIn j (elim b [ true ↦ raises k o | false ↦ itself own within q k o ])
+      go : (b : Bool) → UpIn j (elim b [ true ↦ raises conflictingReceive k o | false ↦ itself own within q k o ])
       go true = up-other (o .marks) k idle j d u
       go false = itself-grows own within q k o e n y m j l d c u
 
@@ -210,7 +211,8 @@ module _ (f : ℕ → ℕ) where
   again-up (send a b vs) within k t r e m u = absurd (omega arith)
   again-up (receive a b vs) within k t r e m u = absurd (omega arith)
   again-up (setting v x) within k t r e m u = absurd (omega arith)
-  again-up raise within k t r e m u = absurd (omega arith)
+  again-up (raise zero) within k t r e m u = absurd (omega arith)
+  again-up (raise (suc number)) within k t r e m u = absurd (omega arith)
   again-up leave within k t r e m u = absurd (omega arith)
   again-up (choose x) within k t r e m u = absurd (omega arith)
   again-up (repeat x) within k t r e m u = on-grows k inside (again k) r k (ap (λ (v : ℕ). eqb v idle) (getD-set-same (r .order .marks) k active 0 m)) u

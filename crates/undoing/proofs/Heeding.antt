@@ -6,6 +6,7 @@ use mathlib.Core.Bool.{true, false, cond, false≢true, Bool, not}
 use mathlib.Core.List.{List, [], _∷_, _++_}
 use lib.ListN.{length}
 use lib.Dec.{eqb}
+use borrow.Author.Tests.{eq-eqb}
 use Rattle.plan.specs.Found.{Found, found}
 use Rattle.plan.specs.Read.{readPlan}
 use Rattle.plan.specs.Tree.{Plan, size}
@@ -25,7 +26,7 @@ use Rattle.order.specs.Judging.{following, stepOrder}
 use Rattle.machine.specs.Calls.{loadedAs, load, post, collect, dropAt, Stepped, doingAt, step, Call, posting, collecting, dropping, stepping}
 use Rattle.undoing.specs.History.{logOf, history}
 use Rattle.undoing.specs.Demand3.{mayTurn, isLeft}
-use Rattle.undoing.specs.Ties.{isName, fits, Place, bodyOf, faultOf, undoOf, placeOf, Due, nothing, fault, end, dueFirst, dueSecond, dueEnded, due, isFaultOf, isEndOf, heeds, isNothing, heedsAfter, FaultsTold, isRaised, seen, placeAfter, placeNow}
+use Rattle.undoing.specs.Ties.{isName, fits, Place, bodyOf, faultOf, undoOf, placeOf, Due, nothing, fault, end, dueFirst, dueSecond, dueEnded, due, isFaultOf, isFaultWith, isEndOf, heeds, isNothing, heedsAfter, FaultsTold, isRaised, seen, placeAfter, placeNow}
 use Rattle.undoing.proofs.Parts.{both, same-itself}
 use Rattle.undoing.proofs.Accounts.{accountOf, left-unfinished}
 use Rattle.undoing.proofs.Moves.{HoldsAt}
@@ -50,14 +51,14 @@ Clear p past = isNothing (due p past) ≡ true
 -- then it is not
 clear-is : (d : Due) → isNothing d ≡ true → d ≡ nothing
 clear-is nothing e = refl
-clear-is (fault s) e = absurd (false≢true e)
+clear-is (fault s x) e = absurd (false≢true e)
 clear-is (end s) e = absurd (false≢true e)
 
 -- a raise has something due after it
-first-due : (q : Place) → isNothing (dueFirst q) ≡ false
-first-due (bodyOf n ns m) = refl
-first-due (faultOf n ns m) = refl
-first-due (undoOf n ns m) = refl
+first-due : (x : ℕ) (q : Place) → isNothing (dueFirst x q) ≡ false
+first-due x (bodyOf n ns m) = refl
+first-due x (faultOf n ns m) = refl
+first-due x (undoOf n ns m) = refl
 
 -- so that where nothing is due, the newest event is no raise
 pub clear-raised : (p : Plan) (past : List Event) → Clear p past → isRaised past ≡ false
@@ -66,10 +67,10 @@ clear-raised p [] h = refl
 clear-raised p (started ∷ past) h = refl
 clear-raised p (began k ∷ past) h = refl
 clear-raised p (closed k ∷ past) h = refl
-clear-raised p (faulted n ∷ past) h = refl
+clear-raised p (faulted n x ∷ past) h = refl
 clear-raised p (stopped k ∷ past) h = refl
 clear-raised p (ended n ∷ past) h = refl
-clear-raised p (raised k ∷ past) h = absurd (false≢true (sym (first-due (placeAfter p past k)) ∙ h))
+clear-raised p (raised k x ∷ past) h = absurd (false≢true (sym (first-due x (placeAfter p past k)) ∙ h))
 clear-raised p (left ∷ past) h = refl
 
 -- and nothing is due after an end either
@@ -79,16 +80,16 @@ clear-ended p [] h = refl
 clear-ended p (started ∷ past) h = refl
 clear-ended p (began k ∷ past) h = refl
 clear-ended p (closed k ∷ past) h = refl
-clear-ended p (faulted n ∷ past) h = refl
+clear-ended p (faulted n x ∷ past) h = refl
 clear-ended p (stopped k ∷ past) h = refl
 clear-ended p (ended n ∷ past) h = refl
-clear-ended p (raised k ∷ past) h = absurd (false≢true (sym (first-due (placeAfter p past k)) ∙ h))
+clear-ended p (raised k x ∷ past) h = absurd (false≢true (sym (first-due x (placeAfter p past k)) ∙ h))
 clear-ended p (left ∷ past) h = refl
 
 -- an event that is no fault, where nothing is due
 heeds-clear : (d : Due) (e : Event) → isNothing d ≡ true → isFaultOf (λ n. true) e ≡ false → heeds d e ≡ true
 heeds-clear nothing e h f = rw f
-heeds-clear (fault s) e h f = absurd (false≢true h)
+heeds-clear (fault s x) e h f = absurd (false≢true h)
 heeds-clear (end s) e h f = absurd (false≢true h)
 
 -- a calm log
@@ -98,10 +99,10 @@ calm-heeds p [] past c h = h
 calm-heeds p (started ∷ l) past c h = rw (heeds-clear (due p past) started h refl, calm-heeds p l (started ∷ past) c refl)
 calm-heeds p (began k ∷ l) past c h = rw (heeds-clear (due p past) (began k) h refl, calm-heeds p l (began k ∷ past) c refl)
 calm-heeds p (closed k ∷ l) past c h = rw (heeds-clear (due p past) (closed k) h refl, calm-heeds p l (closed k ∷ past) c refl)
-calm-heeds p (faulted n ∷ l) past c h = absurd (let z : _≡_ {A = ℕ} 0 1 = cc in omega arith)
+calm-heeds p (faulted n x ∷ l) past c h = absurd (let z : _≡_ {A = ℕ} 0 1 = cc in omega arith)
 calm-heeds p (stopped k ∷ l) past c h = rw (heeds-clear (due p past) (stopped k) h refl, calm-heeds p l (stopped k ∷ past) c refl)
 calm-heeds p (ended n ∷ l) past c h = rw (heeds-clear (due p past) (ended n) h refl, calm-heeds p l (ended n ∷ past) c (clear-ended p past h))
-calm-heeds p (raised k ∷ l) past c h = absurd (let z : _≡_ {A = ℕ} 0 1 = cc in omega arith)
+calm-heeds p (raised k x ∷ l) past c h = absurd (let z : _≡_ {A = ℕ} 0 1 = cc in omega arith)
 calm-heeds p (left ∷ l) past c h = rw (heeds-clear (due p past) left h refl, calm-heeds p l (left ∷ past) c refl)
 
 -- at its end nothing is due
@@ -121,13 +122,13 @@ abbrev pub leftBy : Order → Name → Bool
 leftBy o n = not (eqb (markOf n o) idle)
 
 -- what is due after a raise in a part that a scope runs
-handler-first : (p : Plan) (t : ℕ) (φ : Name → Bool) (n m : Name) → Handler p t φ n m → dueFirst (seen φ (placeOf p t)) ≡ end n
-handler-first p t φ n m (in-fault e y) = ap (λ (q : Place). dueFirst (seen φ q)) e
-handler-first p t φ n m (in-undo e y) = ap dueFirst e
+handler-first : (p : Plan) (t x : ℕ) (φ : Name → Bool) (n m : Name) → Handler p t φ n m → dueFirst x (seen φ (placeOf p t)) ≡ end n
+handler-first p t x φ n m (in-fault e y) = ap (λ (q : Place). dueFirst x (seen φ q)) e
+handler-first p t x φ n m (in-undo e y) = ap (dueFirst x) e
 
-handler-second : (p : Plan) (t : ℕ) (φ : Name → Bool) (n m : Name) (past : List Event) → Handler p t φ n m → dueSecond past (seen φ (placeOf p t)) ≡ cond (mayTurn m past) (fault m) nothing
-handler-second p t φ n m past (in-fault e y) = ap (λ (q : Place). dueSecond past (seen φ q)) e ∙ ap (λ (x : Name). cond (mayTurn x past) (fault x) nothing) y
-handler-second p t φ n m past (in-undo e y) = ap (dueSecond past) e ∙ ap (λ (x : Name). cond (mayTurn x past) (fault x) nothing) y
+handler-second : (p : Plan) (t x : ℕ) (φ : Name → Bool) (n m : Name) (past : List Event) → Handler p t φ n m → dueSecond x past (seen φ (placeOf p t)) ≡ cond (mayTurn m past) (fault m x) nothing
+handler-second p t x φ n m past (in-fault e y) = ap (λ (q : Place). dueSecond x past (seen φ q)) e ∙ ap (λ (z : Name). cond (mayTurn z past) (fault z x) nothing) y
+handler-second p t x φ n m past (in-undo e y) = ap (dueSecond x past) e ∙ ap (λ (z : Name). cond (mayTurn z past) (fault z x) nothing) y
 
 -- whether a scope may turn is told by its mark
 may-turn : (p : Plan) (o : Order) (past : List Event) (n : Name) → HoldsAt p (momentOf p o) past → isName p n ≡ true → isOpen (markOf n o) ≡ mayTurn n past
@@ -143,42 +144,43 @@ after-now p g t o past h =
 -- a log of its shape
 shape-heeds : (p : Plan) → Seat p (rootOf p) → (t : ℕ) (o : Order) (l past : List Event) → HoldsAt p (momentOf p o) past → fits (placeNow p o t) o ≡ true → Clear p past → Shape p t (leftBy o) o l
     → heedsAfter p past l ≡ true
-unfolding heedsAfter due dueEnded isFaultOf isEndOf
+unfolding heedsAfter due dueEnded isFaultOf isFaultWith isEndOf
 shape-heeds p g t o l past h f c (shape-calm x) = calm-heeds p l past x c
-shape-heeds p g t o _ past h f c (shape-fault {n} {m} {ns} {l} x y) =
-    rw (heeds-clear (due p past) (raised t) c refl, x, same-itself n, calm-heeds p l (faulted n ∷ raised t ∷ past) y refl)
-shape-heeds p g t o _ past h f c (shape-end-fault {n} {m} {l} x i z y) =
+shape-heeds p g t o _ past h f c (shape-fault {number} {n} {m} {ns} {l} x y) =
+    rw (heeds-clear (due p past) (raised t number) c refl, x, same-itself n, eq-eqb number number refl, calm-heeds p l (faulted n number ∷ raised t number ∷ past) y refl)
+shape-heeds p g t o _ past h f c (shape-end-fault {number} {n} {m} {l} x i z y) =
     rw (
-      heeds-clear (due p past) (raised t) c refl,
+      heeds-clear (due p past) (raised t number) c refl,
       after-now p g t o past h,
-      handler-first p t (leftBy o) n m x,
+      handler-first p t number (leftBy o) n m x,
       same-itself n,
-      handler-second p t (leftBy o) n m past x,
+      handler-second p t number (leftBy o) n m past x,
       sym (may-turn p o past m h i) ∙ z,
       same-itself m,
-      calm-heeds p l (faulted m ∷ ended n ∷ raised t ∷ past) y refl,
+      eq-eqb number number refl,
+      calm-heeds p l (faulted m number ∷ ended n ∷ raised t number ∷ past) y refl,
     )
-shape-heeds p g t o _ past h f c (shape-end {k} {m} {l} x i z y) =
+shape-heeds p g t o _ past h f c (shape-end {number} {k} {m} {l} x i z y) =
     rw (
-      heeds-clear (due p past) (raised t) c refl,
+      heeds-clear (due p past) (raised t number) c refl,
       after-now p g t o past h,
-      handler-first p t (leftBy o) (inner k) m x,
+      handler-first p t number (leftBy o) (inner k) m x,
       same-itself (inner k),
-      calm-heeds p l (ended (inner k) ∷ raised t ∷ past) y (rw (after-now p g t o past h, handler-second p t (leftBy o) (inner k) m past x, sym (may-turn p o past m h i) ∙ z) refl),
+      calm-heeds p l (ended (inner k) ∷ raised t number ∷ past) y (rw (after-now p g t o past h, handler-second p t number (leftBy o) (inner k) m past x, sym (may-turn p o past m h i) ∙ z) refl),
     )
-shape-heeds p g t o _ past h f c (shape-lost {q} {l} x i z y) = absurd (false≢true (sym z ∙ (ap (λ (v : Place). fits v o) (sym x) ∙ f)))
+shape-heeds p g t o _ past h f c (shape-lost {number} {q} {l} x i z y) = absurd (false≢true (sym z ∙ (ap (λ (v : Place). fits v o) (sym x) ∙ f)))
 
 -- the log of a step of an order
-order-shape-heeds : (p : Plan) → Seat p (rootOf p) → (t : ℕ) (o : Order) (e : End) (l past : List Event) → HoldsAt p (momentOf p o) past → fits (placeNow p o t) o ≡ true → Clear p past
-    → OrderShape p t (leftBy o) o e l → heedsAfter p past l ≡ true
-unfolding heedsAfter due dueEnded isFaultOf isEndOf
-order-shape-heeds p g t o e l past h f c (shaped x y) = shape-heeds p g t o l past h f c y
-order-shape-heeds p g t o _ _ past h f c (out x z) =
+order-shape-heeds : (p : Plan) → Seat p (rootOf p) → (t : ℕ) (o : Order) (e : End) (number : ℕ) (l past : List Event) → HoldsAt p (momentOf p o) past → fits (placeNow p o t) o ≡ true → Clear p past
+    → OrderShape p t (leftBy o) o e number l → heedsAfter p past l ≡ true
+unfolding heedsAfter due dueEnded isFaultOf isFaultWith isEndOf
+order-shape-heeds p g t o e number l past h f c (shaped x y) = shape-heeds p g t o l past h f c y
+order-shape-heeds p g t o _ number _ past h f c (out x z) =
     rw (
-      heeds-clear (due p past) (raised t) c refl,
+      heeds-clear (due p past) (raised t number) c refl,
       after-now p g t o past h,
-      handler-first p t (leftBy o) root root x,
-      handler-second p t (leftBy o) root root past x,
+      handler-first p t number (leftBy o) root root x,
+      handler-second p t number (leftBy o) root root past x,
       sym (may-turn p o past root h refl) ∙ z,
     )
 
@@ -189,7 +191,7 @@ module _ (p : Plan) (h : Promised p) where
 
   pub heeds-once : (actor : Actor) (t : ℕ) (o : Order) (past : List Event) → Fitting actor p t → Awaited p (o .marks) t → Standing p o → HoldsAt p (momentOf p o) past → Heeded past (acted actor p t o)
   heeds-once actor t o past y w st g c =
-      order-shape-heeds p (h .seat) t o (acted actor p t o .end) (acted actor p t o .log) past g (standing-fits p o t st w) c (order-shape actor p (h .seat) t (leftBy o) o (λ n i. refl))
+      order-shape-heeds p (h .seat) t o (acted actor p t o .end) (acted actor p t o .fault) (acted actor p t o .log) past g (standing-fits p o t st w) c (order-shape actor p (h .seat) t (leftBy o) o (λ n i. refl))
 
   heeds-joined : (past : List Event) (m m′ : Moved) → m .end ≡ None → Heeded past m → Heeded (onto (m .log) past) m′ → Heeded past (following (m .log) m′)
   heeds-joined past m m′ e x y c = heeds-append p (m .log) (m′ .log) past (x c) (y (heeds-clears p (m .log) past (x c)))

@@ -35,13 +35,13 @@ unfolding isTurn isFaultOf
 root-turn started = refl
 root-turn (began k) = refl
 root-turn (closed k) = refl
-root-turn (faulted n) = refl
+root-turn (faulted n x) = refl
 root-turn (stopped k) = refl
 root-turn (ended n) = refl
-root-turn (raised k) = refl
+root-turn (raised k x) = refl
 root-turn left = refl
 
-root-turns : (l : List Event) → some (isTurn root) l ≡ some (isFaultOf (same root)) l
+pub root-turns : (l : List Event) → some (isTurn root) l ≡ some (isFaultOf (same root)) l
 unfolding some
 root-turns [] = refl
 root-turns (e ∷ l) = rw (root-turn e, root-turns l)

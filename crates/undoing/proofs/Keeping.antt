@@ -1,5 +1,5 @@
 -- What a step logs as begun is marked afterwards, where it lasts; and what it does not is set only where it was, or as its own step has it. Assumes nothing.
-use Prim.Native.Nat.{ℕ, _+_, _≤_, _<_}
+use Prim.Native.Nat.{ℕ, zero, suc, _+_, _≤_, _<_}
 use native.Mathlib.Omega.{arith}
 use mathlib.Core.Path.{_≡_, refl, sym, ap, subst, _∙_}
 use mathlib.Core.Bool.{Bool, true, false, cond, _&&_, _||_, false≢true, and-false}
@@ -15,7 +15,7 @@ use Rattle.order.specs.declared.End.the-variants.{None, Well, Handled, Failed, 
 use Rattle.order.specs.Lists.{some}
 use Rattle.order.specs.State.{isLive, noOrder, idle, active, inside, done, faulty, undoing, handling, withdrawing, withMarks, markAt, marked, markOf, marking, binding}
 use Rattle.order.specs.Event.{Event}
-use Rattle.order.specs.Expression.{Value, fault, value, evaluate, isTrue}
+use Rattle.order.specs.Expression.{unboundVariable, conflictingReceive, Value, fault, value, evaluate, isTrue}
 use Rattle.order.specs.Begin.{Begun, begin, beginAfter, part, partAt, beginPart, cleared, quiet}
 use Rattle.order.specs.declared.Way.{Way as Result}
 use Rattle.order.specs.declared.Way.the-variants.{Running as running, Over as over, Raising as raising, Leaving as leaving, Undone as undone, UndoRaising as undoRaising}
@@ -24,6 +24,7 @@ use Rattle.order.specs.Acting.{finishes, raises, leaves, orRaises, enters, agai
 use Rattle.machine.specs.Fit.{awaits}
 use Rattle.undoing.specs.Orderly.{isBeganOf}
 use Rattle.undoing.specs.Begun.{lasts, acts, ownsIn, ownsAmong, ownsAt, hasBegan, goesIn, isScopeKind}
+use Rattle.undoing.proofs.Causing.{caused, faults-is}
 use Rattle.undoing.proofs.Parts.{both, decide, some-append}
 use Rattle.undoing.proofs.Seats.{marking-length}
 use Rattle.undoing.proofs.Breaking.{cleared-kept}
@@ -48,7 +49,8 @@ pick-kind empty e = absurd (false≢true e)
 pick-kind (send x y vs) e = absurd (false≢true e)
 pick-kind (receive x y vs) e = absurd (false≢true e)
 pick-kind (setting v x) e = absurd (false≢true e)
-pick-kind raise e = absurd (false≢true e)
+pick-kind (raise zero) e = absurd (false≢true e)
+pick-kind (raise (suc number)) e = absurd (false≢true e)
 pick-kind leave e = absurd (false≢true e)
 pick-kind (choose x) e = absurd (false≢true e)
 pick-kind (repeat x) e = absurd (false≢true e)
@@ -58,13 +60,14 @@ pick-kind pick e = refl
 pick-kind (scope v) e = absurd (false≢true e)
 pick-kind (arm x y vs) e = absurd (false≢true e)
 
-arm-kind : (own : Own) → isArm own ≡ true → kind own ≡ 255
+pub arm-kind : (own : Own) → isArm own ≡ true → kind own ≡ 255
 unfolding kind
 arm-kind empty e = absurd (false≢true e)
 arm-kind (send x y vs) e = absurd (false≢true e)
 arm-kind (receive x y vs) e = absurd (false≢true e)
 arm-kind (setting v x) e = absurd (false≢true e)
-arm-kind raise e = absurd (false≢true e)
+arm-kind (raise zero) e = absurd (false≢true e)
+arm-kind (raise (suc number)) e = absurd (false≢true e)
 arm-kind leave e = absurd (false≢true e)
 arm-kind (choose x) e = absurd (false≢true e)
 arm-kind (repeat x) e = absurd (false≢true e)
@@ -91,7 +94,8 @@ begins-said (act empty within) l k ms h = rw (eq-eqb k k refl)
 begins-said (act (send p o vs) within) l k ms h = rw (eq-eqb k k refl)
 begins-said (act (receive p o vs) within) l k ms h = rw (eq-eqb k k refl)
 begins-said (act (setting v e) within) l k ms h = rw (eq-eqb k k refl)
-begins-said (act raise within) l k ms h = rw (eq-eqb k k refl)
+begins-said (act (raise zero) within) l k ms h = rw (eq-eqb k k refl)
+begins-said (act (raise (suc number)) within) l k ms h = rw (eq-eqb k k refl)
 begins-said (act leave within) l k ms h = rw (eq-eqb k k refl)
 begins-said (act (choose e) within) l k ms h = rw (eq-eqb k k refl)
 begins-said (act (repeat e) within) l k ms h = rw (eq-eqb k k refl)
@@ -114,7 +118,7 @@ part-from (more a l) c t h =
     or-case (eqb c t) (isPart l (c + size a) t) h (λ e. let z = eqb-true c t e in omega arith) (λ e. let z = part-from l (c + size a) t e in omega arith)
 
 module _ (t j : ℕ) where
-  owns-itself : (own : Own) (within : Acts) (k : ℕ) → k ≡ t → ownsIn (act own within) k t j ≡ (eqb k j && acts (kind own))
+  pub owns-itself : (own : Own) (within : Acts) (k : ℕ) → k ≡ t → ownsIn (act own within) k t j ≡ (eqb k j && acts (kind own))
   unfolding ownsIn
   owns-itself own within k e =
       first-of (eqb k t) (eqb k j && acts (kind own)) (elim (isPick own && isPart within (k + 1) t) [ true ↦ eqb k j | false ↦ ownsAmong within (k + 1) t j ]) (ownsIn (act own within) k t j) refl (eq-eqb k t e)
@@ -129,15 +133,15 @@ module _ (t j : ℕ) where
       → ownsIn (act own within) k t j ≡ eqb k j
   owns-arm own within k e h = owns-else own within k e ∙ first-of (isPick own && isPart within (k + 1) t) (eqb k j) (ownsAmong within (k + 1) t j) _ refl h
 
-  owns-within : (own : Own) (within : Acts) (k : ℕ) → (k ≡ t → ⊥) → (isPick own && isPart within (k + 1) t) ≡ false
+  pub owns-within : (own : Own) (within : Acts) (k : ℕ) → (k ≡ t → ⊥) → (isPick own && isPart within (k + 1) t) ≡ false
       → ownsIn (act own within) k t j ≡ ownsAmong within (k + 1) t j
   owns-within own within k e h = owns-else own within k e ∙ second-of (isPick own && isPart within (k + 1) t) (eqb k j) (ownsAmong within (k + 1) t j) _ refl h
 
-  owns-first : (a : Act) (l : Acts) (c : ℕ) → ltb t (c + size a) ≡ true → ownsAmong (more a l) c t j ≡ ownsIn a c t j
+  pub owns-first : (a : Act) (l : Acts) (c : ℕ) → ltb t (c + size a) ≡ true → ownsAmong (more a l) c t j ≡ ownsIn a c t j
   unfolding ownsIn
   owns-first a l c h = first-of (ltb t (c + size a)) (ownsIn a c t j) (ownsAmong l (c + size a) t j) (ownsAmong (more a l) c t j) refl h
 
-  owns-later : (a : Act) (l : Acts) (c : ℕ) → ltb t (c + size a) ≡ false → ownsAmong (more a l) c t j ≡ ownsAmong l (c + size a) t j
+  pub owns-later : (a : Act) (l : Acts) (c : ℕ) → ltb t (c + size a) ≡ false → ownsAmong (more a l) c t j ≡ ownsAmong l (c + size a) t j
   unfolding ownsIn
   owns-later a l c h = second-of (ltb t (c + size a)) (ownsIn a c t j) (ownsAmong l (c + size a) t j) (ownsAmong (more a l) c t j) refl h
 
@@ -201,15 +205,15 @@ module _ (f : ℕ → ℕ) where
     falls-either {o} true x y z d w g = subst (λ (r : Outcome). Falls b o r) (sym d) w
     falls-either {o} false x y z d w g = subst (λ (r : Outcome). Falls b o r) (sym d) g
 
-    faults-falls : (o : Order) → e ≤ length (o .marks) → Falls b o (faults s o)
-    unfolding faults some isBeganOf
-    faults-falls o m =
-        let o₁ = marking (s .name) faulty o in
+    faults-falls : (number : ℕ) (o : Order) → e ≤ length (o .marks) → Falls b o (faults number s o)
+    unfolding some isBeganOf
+    faults-falls number o m =
+        let o₁ = caused (s .name) number (marking (s .name) faulty o) in
         let n = marking-length (s .name) faulty o in
         let w = stop-halts f (h .body) o₁ (omega (arith, h .bodyTo)) in
         let r = stop (s .body) (s .bodyAt) o₁ in
         let v = turns-goes f s b e h true (r .order) (omega (arith, w .long)) in
-        record {
+        subst (λ (z : Outcome). Falls b o z) (sym (faults-is number s o)) (record {
           truly = λ j y z. began-in j (r .log) (turns true s (r .order) .log) z (λ q. v .grows j y (λ d. let g = w .range j q in omega (arith, h .bodyFrom)) (w .truly j y q)) (λ q. v .truly j y q);
           range = λ j z. began-in j (r .log) (turns true s (r .order) .log) z (λ q. let g = w .range j q in omega (arith, h .bodyFrom)) (λ q. v .range j q .0);
           stays = λ j z y.
@@ -218,11 +222,11 @@ module _ (f : ℕ → ℕ) where
               (stay-then (w .stays j z (q .0)) (v .stays j (λ d. absurd (owned-other f (s .name) b j (h .name) z d)) (q .1)));
           long = v .long ∙ (w .long ∙ n);
           quits = λ q. absurd (false≢true (sym (v .calm) ∙ q));
-        }
+        })
 
-    breaks-falls : (o : Order) → Falls b o (breaks s o)
+    breaks-falls : (number : ℕ) (o : Order) → Falls b o (breaks number s o)
     unfolding breaks forgetting some isBeganOf
-    breaks-falls o =
+    breaks-falls number o =
         record {
           truly = λ j x y. absurd (false≢true y);
           range = λ j y. absurd (false≢true y);
@@ -231,18 +235,18 @@ module _ (f : ℕ → ℕ) where
           quits = λ q j. refl;
         }
 
-    raised-falls : (o : Order) → e ≤ length (o .marks) → Falls b o (bodyRaised s o)
+    raised-falls : (number : ℕ) (o : Order) → e ≤ length (o .marks) → Falls b o (bodyRaised number s o)
     unfolding bodyRaised
-    raised-falls o m = falls-either (isOpen (markOf (s .name) o)) (faults s o) (looksAgain s o) (bodyRaised s o) refl (faults-falls o m) (goes-falls (looks-goes f s b e h o m))
+    raised-falls number o m = falls-either (isOpen (markOf (s .name) o)) (faults number s o) (looksAgain s o) (bodyRaised number s o) refl (faults-falls number o m) (goes-falls (looks-goes f s b e h o m))
 
-    undo-raised-falls : (o : Order) → Falls b o (undoRaised s o)
+    undo-raised-falls : (number : ℕ) (o : Order) → Falls b o (undoRaised number s o)
     unfolding undoRaised
-    undo-raised-falls o =
-        falls-either (eqb (markOf (s .name) o) undoing || eqb (markOf (s .name) o) withdrawing) (breaks s o) (runs o) (undoRaised s o) refl (breaks-falls o) (goes-falls (goes-runs f b e o))
+    undo-raised-falls number o =
+        falls-either (eqb (markOf (s .name) o) undoing || eqb (markOf (s .name) o) withdrawing) (breaks number s o) (runs o) (undoRaised number s o) refl (breaks-falls number o) (goes-falls (goes-runs f b e o))
 
-    part-raised-falls : (o : Order) → Falls b o (partRaised s o)
+    part-raised-falls : (number : ℕ) (o : Order) → Falls b o (partRaised number s o)
     unfolding partRaised
-    part-raised-falls o = falls-either (eqb (markOf (s .name) o) handling) (breaks s o) (runs o) (partRaised s o) refl (breaks-falls o) (goes-falls (goes-runs f b e o))
+    part-raised-falls number o = falls-either (eqb (markOf (s .name) o) handling) (breaks number s o) (runs o) (partRaised number s o) refl (breaks-falls number o) (goes-falls (goes-runs f b e o))
 
   -- Activities other than scopes.
   pub again-goes : (k e : ℕ) (o : Order) → eqb (f k) 7 ≡ true → Goes f (k + 1) e o (again k o)
@@ -265,10 +269,10 @@ module _ (f : ℕ → ℕ) where
       go : (y : Result) → hasBegan j (whereOver x (record { result = y; order = r .order; log = r .log }) .log) ≡ true
       go running = h
       go over = began-more j (r .log) (x (r .order) .log) h
-      go raising = h
+      go (raising x) = h
       go leaving = h
       go undone = h
-      go undoRaising = h
+      go (undoRaising x) = h
 
   -- a choose that is set after its step is inside
   entered : {n : ℕ} (k : ℕ) (o : Order) (b : Begun) → k < length (o .marks) → Began f (k + 1) n (set (o .marks) k inside) b
@@ -390,10 +394,10 @@ module _ (f : ℕ → ℕ) where
           go : (x : Result) → r .result ≡ x → Steps g b o (fromBody s (record { result = x; order = r .order; log = r .log }))
           go running d = follows (looksAgain s (r .order)) (looks-goes f s b e h (r .order) l)
           go over d = follows (bodyOver s (r .order)) (over-goes f s b e h (r .order) l)
-          go raising d = steps-fall o r (bodyRaised s (r .order)) w (ap isRaising d) (raised-falls s b e h (r .order) l)
+          go (raising x) d = steps-fall o r (bodyRaised x s (r .order)) w (ap isRaising d) (raised-falls s b e h x (r .order) l)
           go leaving d = steps-as r leaving (λ q. ap isRaising d ∙ q) w
           go undone d = follows (undoOver s (r .order)) (undone-goes f s b e h (r .order) l)
-          go undoRaising d = steps-fall o r (undoRaised s (r .order)) w (ap isRaising d) (undo-raised-falls s b e h (r .order))
+          go (undoRaising x) d = steps-fall o r (undoRaised x s (r .order)) w (ap isRaising d) (undo-raised-falls s b e h x (r .order))
 
       fault-steps : (o : Order) (r : Outcome) → Steps g b o r → Steps g b o (fromFault s r)
       unfolding fromFault
@@ -405,10 +409,10 @@ module _ (f : ℕ → ℕ) where
           go : (x : Result) → r .result ≡ x → Steps g b o (fromFault s (record { result = x; order = r .order; log = r .log }))
           go running d = passes running refl
           go over d = steps-after o r (partOver s (r .order)) w (part-goes f s b e h (r .order)) (scope-free r (partOver s (r .order)))
-          go raising d = steps-fall o r (partRaised s (r .order)) w (ap isRaising d) (part-raised-falls s b e h (r .order))
+          go (raising x) d = steps-fall o r (partRaised x s (r .order)) w (ap isRaising d) (part-raised-falls s b e h x (r .order))
           go leaving d = passes leaving refl
           go undone d = passes running refl
-          go undoRaising d = passes running refl
+          go (undoRaising x) d = passes running refl
 
     undo-steps : {b : ℕ} (o : Order) (r : Outcome) → Steps g b o r → Steps g b o (fromUndo r)
     unfolding fromUndo
@@ -417,10 +421,10 @@ module _ (f : ℕ → ℕ) where
         go : (x : Result) → r .result ≡ x → Steps g b o (fromUndo (record { result = x; order = r .order; log = r .log }))
         go running d = steps-as r running (λ q. ap isRaising d ∙ q) w
         go over d = steps-as r undone (λ q. absurd (false≢true q)) w
-        go raising d = steps-as r undoRaising (λ q. ap isRaising d) w
+        go (raising x) d = steps-as r (undoRaising x) (λ q. ap isRaising d) w
         go leaving d = steps-as r leaving (λ q. absurd (false≢true q)) w
         go undone d = steps-as r undone (λ q. absurd (false≢true q)) w
-        go undoRaising d = steps-as r undoRaising (λ q. ap isRaising d) w
+        go (undoRaising x) d = steps-as r (undoRaising x) (λ q. ap isRaising d) w
 
     -- goes on where its mark is as it was
     goes-on-steps : {e : ℕ} (k v : ℕ) (o : Order) (x : Order → Outcome) (r : Outcome) → eqb v idle ≡ false → (shifts (f k) ≡ true → g k ≡ false)
@@ -442,10 +446,10 @@ module _ (f : ℕ → ℕ) where
             → Steps g (k + 1) o (whereOver (λ o₁. elim (eqb (markAt k o₁) v) [ true ↦ x o₁ | false ↦ runs o₁ ]) (record { result = y; order = r .order; log = r .log }))
         go running d = steps-as r running (λ q. absurd (false≢true q)) w
         go over d = on (eqb (markAt k (r .order)) v) refl
-        go raising d = steps-as r raising (λ q. ap isRaising d) w
+        go (raising x) d = steps-as r (raising x) (λ q. ap isRaising d) w
         go leaving d = steps-as r leaving (λ q. absurd (false≢true q)) w
         go undone d = steps-as r undone (λ q. absurd (false≢true q)) w
-        go undoRaising d = steps-as r undoRaising (λ q. ap isRaising d) w
+        go (undoRaising x) d = steps-as r (undoRaising x) (λ q. ap isRaising d) w
 
     -- what it makes of a step within it
     scope-steps : (v : Bool) (within : Acts) (k t : ℕ) (o : Order) (r : Outcome) → isScopeKind (f k) ≡ true → 2 ≤ count within → KnowsIn f within (k + 1)
@@ -467,7 +471,7 @@ module _ (f : ℕ → ℕ) where
     combines-steps (send a b vs) within k t o r e n y m q w = w
     combines-steps (receive a b vs) within k t o r e n y m q w = w
     combines-steps (setting v x) within k t o r e n y m q w = w
-    combines-steps raise within k t o r e n y m q w = w
+    combines-steps (raise number) within k t o r e n y m q w = w
     combines-steps leave within k t o r e n y m q w = w
     combines-steps (choose x) within k t o r e n y m q w = goes-on-steps {e = 0} k inside o (finishes k) r refl (λ s. q) w (λ o₁ d. finishes-goes f k 0 o₁)
     combines-steps (repeat x) within k t o r e n y m q w = goes-on-steps {e = 0} k inside o (again k) r refl (λ s. q) w (λ o₁ d. again-goes k 0 o₁ (ap (λ (i : ℕ). eqb i 7) e))
@@ -510,7 +514,7 @@ module _ (f : ℕ → ℕ) where
     or-steps : (k : ℕ) (o : Order) (x : ℕ → Outcome) (v : Value) → ((j : ℕ) → g j ≡ true → j ≡ k) → ((n : ℕ) → Steps g (k + 1) o (x n))
         → Steps g (k + 1) o (orRaises k o x v)
     unfolding some isBeganOf
-    or-steps k o x fault h y = idle-steps k o (raises k o) refl (λ j. refl) h
+    or-steps k o x (fault n) h y = idle-steps k o (raises n k o) refl (λ j. refl) h
     or-steps k o x (value n) h y = y n
 
     -- from marks that are as they were, but its own
@@ -553,10 +557,10 @@ module _ (f : ℕ → ℕ) where
     unfolding itself needs least kind acts goesIn closing some isBeganOf
     itself-steps empty within q₀ k o e n a y m q h = still-steps (k + 1) o (λ j z. false≢true (h j z .1))
     itself-steps (send b c vs) within q₀ k o e n a y m q h =
-        decide (allBound o vs) (λ t. rw t (idle-steps k o (finishes k o) refl (λ j. refl) (λ j z. h j z .0))) (λ t. rw t (idle-steps k o (raises k o) refl (λ j. refl) (λ j z. h j z .0)))
+        decide (allBound o vs) (λ t. rw t (idle-steps k o (finishes k o) refl (λ j. refl) (λ j z. h j z .0))) (λ t. rw t (idle-steps k o (raises unboundVariable k o) refl (λ j. refl) (λ j z. h j z .0)))
     itself-steps (receive b c vs) within q₀ k o e n a y m q h = idle-steps k o (finishes k o) refl (λ j. refl) (λ j z. h j z .0)
     itself-steps (setting v x) within q₀ k o e n a y m q h = or-steps k o _ (evaluate x o) (λ j z. h j z .0) (λ i. idle-steps k o (finishes k (binding v i o)) refl (λ j. refl) (λ j z. h j z .0))
-    itself-steps raise within q₀ k o e n a y m q h = idle-steps k o (raises k o) refl (λ j. refl) (λ j z. h j z .0)
+    itself-steps (raise number) within q₀ k o e n a y m q h = idle-steps k o (raises number k o) refl (λ j. refl) (λ j z. h j z .0)
     itself-steps leave within q₀ k o e n a y m q h = idle-steps k o (leaves k o) refl (λ j. refl) (λ j z. h j z .0)
     itself-steps (choose x) within q₀ k o e n a y m q h = or-steps k o _ (evaluate x o) (λ j z. h j z .0) (λ z. enters-steps (cond (isTrue z) 0 1) (first-two (isTrue z)))
       where
@@ -600,8 +604,8 @@ module _ (f : ℕ → ℕ) where
     unfolding performs some isBeganOf
     performs-steps actor own within q₀ k o e n a y m q h = go (replaces actor (kind own))
       where
-        go : (b : Bool) → Steps g (k + 1) o (elim b [ true ↦ raises k o | false ↦ itself own within q₀ k o ])
-        go true = idle-steps k o (raises k o) refl (λ j. refl) (λ j z. h j z .0)
+        go : (b : Bool) → Steps g (k + 1) o (elim b [ true ↦ raises conflictingReceive k o | false ↦ itself own within q₀ k o ])
+        go true = idle-steps k o (raises conflictingReceive k o) refl (λ j. refl) (λ j z. h j z .0)
         go false = itself-steps own within q₀ k o e n a y m q h
 
   -- the step of an arm is its pick's, which goes inside with it

@@ -26,10 +26,10 @@ use Rattle.undoing.proofs.Truly.{began-in, began-neither, Up, up-other,
 abbrev pub isRaising : Result → Bool
 isRaising running = false
 isRaising over = false
-isRaising raising = true
+isRaising (raising x) = true
 isRaising leaving = false
 isRaising undone = false
-isRaising undoRaising = true
+isRaising (undoRaising x) = true
 
 module _ (f : ℕ → ℕ) where
   -- the i-th within, where there is one
@@ -152,10 +152,10 @@ module _ (f : ℕ → ℕ) where
             long = v .long ∙ w .long;
             calm = v .calm;
           }
-      go raising d = same raising d
+      go (raising x) d = same (raising x) d
       go leaving d = same leaving d
       go undone d = same undone d
-      go undoRaising d = same undoRaising d
+      go (undoRaising x) d = same (undoRaising x) d
 
   pub goes-begun : {b e k n : ℕ} (o : Order) (r : Begun) → Began f k n (o .marks) r → b ≤ k → k + n ≤ e → Goes b e o (begunIn o r)
   goes-begun o r w h g =

@@ -12,9 +12,9 @@ use Rattle.order.specs.declared.Order.{Order}
 use Rattle.order.specs.declared.End.{End}
 use Rattle.order.specs.declared.End.the-variants.{None, Well, Handled, Failed, Left}
 use Rattle.order.specs.Lists.{some}
-use Rattle.order.specs.State.{root, idle, active, inside, faulty, undoing, handling, halted, withdrawing, done, withMarks, markAt, marked, markOf, marking}
+use Rattle.order.specs.State.{root, idle, active, inside, faulty, undoing, handling, halted, withdrawing, done, withMarks, markAt, marked, markOf, marking, causing}
 use Rattle.order.specs.Event.{Event, began, closed, faulted, stopped, raised, left, ended}
-use Rattle.order.specs.Expression.{Value, fault, value, evaluate, isTrue}
+use Rattle.order.specs.Expression.{unboundVariable, conflictingReceive, Value, fault, value, evaluate, isTrue}
 use Rattle.order.specs.Begin.{Begun, throughout, around, itsBeginning, inTurn, begin, beginInTurn, beginAll, beginAfter, part, partAt, beginPart, cleared, quiet, nothingBegun}
 use Rattle.order.specs.declared.Way.{Way as Result}
 use Rattle.order.specs.declared.Way.the-variants.{Running as running, Over as over, Raising as raising, Leaving as leaving, Undone as undone, UndoRaising as undoRaising}
@@ -145,7 +145,8 @@ module _ (lead : ℕ → Lead) where
     own-led (send p o vs) within k s q e ms x y = led-alone k q e
     own-led (receive p o vs) within k s q e ms x y = led-alone k q e
     own-led (setting v z) within k s q e ms x y = led-alone k q e
-    own-led raise within k s q e ms x y = led-alone k q e
+    own-led (raise zero) within k s q e ms x y = led-alone k q e
+    own-led (raise (suc number)) within k s q e ms x y = led-alone k q e
     own-led leave within k s q e ms x y = led-alone k q e
     own-led (choose z) within k s q e ms x y = led-alone k q e
     own-led (repeat z) within k s q e ms x y = led-alone k q e
@@ -253,10 +254,10 @@ module _ (lead : ℕ → Lead) where
         go : (x : Result) → Fine (whereOver g (record { result = x; order = r .order; log = r .log }) .log)
         go running = w
         go over = fine-append (r .log) (g (r .order) .log) w (h (r .order))
-        go raising = w
+        go (raising x) = w
         go leaving = w
         go undone = w
-        go undoRaising = w
+        go (undoRaising x) = w
 
     choose-fine : (v : Bool) (x y z : Outcome) → z ≡ elim v [ true ↦ x | false ↦ y ] → Fine (x .log) → Fine (y .log) → Fine (z .log)
     choose-fine true x y z d w g = subst (λ (r : Outcome). Fine (r .log)) (sym d) w
@@ -309,9 +310,9 @@ module _ (lead : ℕ → Lead) where
           choose-fine (eqb (markOf (s .name) o) undoing) (undoes true s o) (elim (eqb (markOf (s .name) o) withdrawing) [ true ↦ undoes false s o | false ↦ runs o ]) (undoOver s o) refl (undoes-fine true o)
           (choose-fine (eqb (markOf (s .name) o) withdrawing) (undoes false s o) (runs o) _ refl (undoes-fine false o) fine-none)
 
-      breaks-fine : (o : Order) → Fine (breaks s o .log)
+      breaks-fine : (number : ℕ) (o : Order) → Fine (breaks number s o .log)
       unfolding breaks isBeganOf
-      breaks-fine o = fine-event (ended (s .name)) [] (λ j. refl) fine-none
+      breaks-fine number o = fine-event (ended (s .name)) [] (λ j. refl) fine-none
 
       part-fine : (o : Order) → Fine (partOver s o .log)
       unfolding partOver
@@ -347,24 +348,25 @@ module _ (lead : ℕ → Lead) where
       stop-all-fine (leads-more {a} {l} {c} e x y) o = fine-append (stop a c o .log) (stopAll l (c + size a) (stop a c o .order) .log) (stop-fine x o) (stop-all-fine y (stop a c o .order))
 
     module _ (s : Scope) (h : Part s) where
-      faults-fine : (o : Order) → Fine (faults s o .log)
+      faults-fine : (number : ℕ) (o : Order) → Fine (faults number s o .log)
       unfolding faults isBeganOf
-      faults-fine o =
-          let r = stop (s .body) (s .bodyAt) (marking (s .name) faulty o) in
-          fine-event (faulted (s .name)) (r .log ++ turns true s (r .order) .log) (λ j. refl)
-          (fine-append (r .log) (turns true s (r .order) .log) (stop-fine (h .body) (marking (s .name) faulty o)) (turns-fine s h true (r .order)))
+      faults-fine number o =
+          let o₁ = causing (s .name) number (marking (s .name) faulty o) in
+          let r = stop (s .body) (s .bodyAt) o₁ in
+          fine-event (faulted (s .name) number) (r .log ++ turns true s (r .order) .log) (λ j. refl)
+          (fine-append (r .log) (turns true s (r .order) .log) (stop-fine (h .body) o₁) (turns-fine s h true (r .order)))
 
-      raised-fine : (o : Order) → Fine (bodyRaised s o .log)
+      raised-fine : (number : ℕ) (o : Order) → Fine (bodyRaised number s o .log)
       unfolding bodyRaised
-      raised-fine o = choose-fine (isOpen (markOf (s .name) o)) (faults s o) (looksAgain s o) (bodyRaised s o) refl (faults-fine o) (looks-fine s h o)
+      raised-fine number o = choose-fine (isOpen (markOf (s .name) o)) (faults number s o) (looksAgain s o) (bodyRaised number s o) refl (faults-fine number o) (looks-fine s h o)
 
-      undo-raised-fine : (o : Order) → Fine (undoRaised s o .log)
+      undo-raised-fine : (number : ℕ) (o : Order) → Fine (undoRaised number s o .log)
       unfolding undoRaised
-      undo-raised-fine o = choose-fine (eqb (markOf (s .name) o) undoing || eqb (markOf (s .name) o) withdrawing) (breaks s o) (runs o) (undoRaised s o) refl (breaks-fine s h o) fine-none
+      undo-raised-fine number o = choose-fine (eqb (markOf (s .name) o) undoing || eqb (markOf (s .name) o) withdrawing) (breaks number s o) (runs o) (undoRaised number s o) refl (breaks-fine s h number o) fine-none
 
-      part-raised-fine : (o : Order) → Fine (partRaised s o .log)
+      part-raised-fine : (number : ℕ) (o : Order) → Fine (partRaised number s o .log)
       unfolding partRaised
-      part-raised-fine o = choose-fine (eqb (markOf (s .name) o) handling) (breaks s o) (runs o) (partRaised s o) refl (breaks-fine s h o) fine-none
+      part-raised-fine number o = choose-fine (eqb (markOf (s .name) o) handling) (breaks number s o) (runs o) (partRaised number s o) refl (breaks-fine s h number o) fine-none
 
       body-fine : (r : Outcome) → Fine (r .log) → Fine (fromBody s r .log)
       unfolding fromBody
@@ -376,10 +378,10 @@ module _ (lead : ℕ → Lead) where
           go : (x : Result) → Fine (fromBody s (record { result = x; order = r .order; log = r .log }) .log)
           go running = later (looksAgain s (r .order)) (looks-fine s h (r .order))
           go over = later (bodyOver s (r .order)) (over-fine s h (r .order))
-          go raising = later (bodyRaised s (r .order)) (raised-fine (r .order))
+          go (raising x) = later (bodyRaised x s (r .order)) (raised-fine x (r .order))
           go leaving = w
           go undone = later (undoOver s (r .order)) (undone-fine s h (r .order))
-          go undoRaising = later (undoRaised s (r .order)) (undo-raised-fine (r .order))
+          go (undoRaising x) = later (undoRaised x s (r .order)) (undo-raised-fine x (r .order))
 
       fault-fine : (r : Outcome) → Fine (r .log) → Fine (fromFault s r .log)
       unfolding fromFault
@@ -388,10 +390,10 @@ module _ (lead : ℕ → Lead) where
           go : (x : Result) → Fine (fromFault s (record { result = x; order = r .order; log = r .log }) .log)
           go running = w
           go over = fine-append (r .log) (partOver s (r .order) .log) w (part-fine s h (r .order))
-          go raising = fine-append (r .log) (partRaised s (r .order) .log) w (part-raised-fine (r .order))
+          go (raising x) = fine-append (r .log) (partRaised x s (r .order) .log) w (part-raised-fine x (r .order))
           go leaving = w
           go undone = w
-          go undoRaising = w
+          go (undoRaising x) = w
 
     -- Activities other than scopes.
     on-fine : (k v : ℕ) (x : Order → Outcome) (r : Outcome) → Fine (r .log) → ((o : Order) → Fine (x o .log)) → Fine (goesOn k v x r .log)
@@ -411,7 +413,7 @@ module _ (lead : ℕ → Lead) where
     combines-fine (send a b vs) within k r s y n w = w
     combines-fine (receive a b vs) within k r s y n w = w
     combines-fine (setting v x) within k r s y n w = w
-    combines-fine raise within k r s y n w = w
+    combines-fine (raise number) within k r s y n w = w
     combines-fine leave within k r s y n w = w
     combines-fine (choose x) within k r s y n w = on-fine k inside (finishes k) r w (λ o. fine-none)
     combines-fine (repeat x) within k r s y n w = on-fine k inside (again k) r w (λ o. fine-none)
@@ -425,7 +427,7 @@ module _ (lead : ℕ → Lead) where
 
     or-fine : (k : ℕ) (o : Order) (x : ℕ → Outcome) (v : Value) → ((n : ℕ) → Fine (x n .log)) → Fine (orRaises k o x v .log)
     unfolding isBeganOf
-    or-fine k o x fault h = fine-event (raised k) [] (λ j. refl) fine-none
+    or-fine k o x (fault n) h = fine-event (raised k n) [] (λ j. refl) fine-none
     or-fine k o x (value n) h = h n
 
     -- what begins in its step
@@ -438,10 +440,10 @@ module _ (lead : ℕ → Lead) where
         → k ≡ t → Fine (itself own within q k o .log)
     unfolding itself kind least isBeganOf repeats
     itself-fine empty within q k o s n y e = fine-none
-    itself-fine (send a b vs) within q k o s n y e = decide (allBound o vs) (λ d. rw d fine-none) (λ d. rw d (fine-event (raised k) [] (λ j. refl) fine-none))
+    itself-fine (send a b vs) within q k o s n y e = decide (allBound o vs) (λ d. rw d fine-none) (λ d. rw d (fine-event (raised k unboundVariable) [] (λ j. refl) fine-none))
     itself-fine (receive a b vs) within q k o s n y e = fine-none
     itself-fine (setting v x) within q k o s n y e = or-fine k o _ (evaluate x o) (λ i. fine-none)
-    itself-fine raise within q k o s n y e = fine-event (raised k) [] (λ j. refl) fine-none
+    itself-fine (raise number) within q k o s n y e = fine-event (raised k number) [] (λ j. refl) fine-none
     itself-fine leave within q k o s n y e = fine-event left [] (λ j. refl) fine-none
     itself-fine (choose x) within q k o s n y e = or-fine k o _ (evaluate x o) (λ z. let o₁ = marked k inside o in where-fine (finishes k) (begunIn o₁ (beginPart (cond (isTrue z) 0 1) within (k + 1) (o₁ .marks))) (step-part e y (cond (isTrue z) 0 1) (second (isTrue z)) (o₁ .marks)) (λ o₂. fine-none))
       where
@@ -480,7 +482,7 @@ module _ (lead : ℕ → Lead) where
     performs-fine : (actor : Actor) (own : Own) (within : Acts) (q k : ℕ) (o : Order) → Fine (itself own within q k o .log) → Fine (performs actor own within q k o .log)
     unfolding performs isBeganOf
     performs-fine actor own within q k o w =
-        choose-fine (replaces actor (kind own)) (raises k o) (itself own within q k o) _ refl (fine-event (raised k) [] (λ j. refl) fine-none) w
+        choose-fine (replaces actor (kind own)) (raises conflictingReceive k o) (itself own within q k o) _ refl (fine-event (raised k conflictingReceive) [] (λ j. refl) fine-none) w
 
     mutual
       unfolding stepIn itself combines kind size

@@ -1,6 +1,6 @@
 -- A step in a tree that runs, without scopes: it is no longer among the sure steps that are still to come, all the others are; and if it is a sure step it was
 -- among them. Assumes nothing.
-use Prim.Native.Nat.{ℕ, _+_, _≤_, _<_}
+use Prim.Native.Nat.{ℕ, zero, suc, _+_, _≤_, _<_}
 use native.Mathlib.Omega.{arith}
 use mathlib.Core.Path.{_≡_, refl, sym, ap, subst, _∙_}
 use mathlib.Core.Bool.{Bool, true, false, cond, not, _||_, false≢true, or-false, or-true}
@@ -13,7 +13,7 @@ use Rattle.plan.specs.Tree.{Own, empty, send, receive, set as setting, raise, l
 use Rattle.order.specs.declared.Order.{Order}
 use Rattle.order.specs.Lists.{some, only}
 use Rattle.order.specs.State.{active, inside, binding, markAt, marked}
-use Rattle.order.specs.Expression.{Value, fault, value, evaluate, isTrue}
+use Rattle.order.specs.Expression.{unboundVariable, Value, fault, value, evaluate, isTrue}
 use Rattle.order.specs.Begin.{beginAfter, beginPart, quiet}
 use Rattle.order.specs.declared.Way.{Way as Result}
 use Rattle.order.specs.declared.Way.the-variants.{Running as running, Over as over, Raising as raising, Leaving as leaving, Undone as undone, UndoRaising as undoRaising}
@@ -45,10 +45,10 @@ own-is own within y₀ k t o b s e = step-is itsOwn own within y₀ k t o b s e
 abbrev pub LessAs : (left : List ℕ → List ℕ) (t : ℕ) (ms ns : List ℕ) → Result → Type 0
 LessAs left t ms ns running = left ns ≡ without t (left ms)
 LessAs left t ms ns over = without t (left ms) ≡ []
-LessAs left t ms ns raising = Unit {0}
+LessAs left t ms ns (raising x) = Unit {0}
 LessAs left t ms ns leaving = Unit {0}
 LessAs left t ms ns undone = Unit {0}
-LessAs left t ms ns undoRaising = Unit {0}
+LessAs left t ms ns (undoRaising x) = Unit {0}
 
 abbrev pub Lessens : Act → (k t : ℕ) → List ℕ → Outcome → Type 0
 Lessens a k t ms r = LessAs (leftIn a k) t ms (r .order .marks) (r .result)
@@ -57,29 +57,29 @@ Lessens a k t ms r = LessAs (leftIn a k) t ms (r .order .marks) (r .result)
 abbrev TurnAs : Acts → (c t : ℕ) (ms ns : List ℕ) → Result → Type 0
 TurnAs l c t ms ns running = leftInTurn l c ns ≡ without t (leftInTurn l c ms)
 TurnAs l c t ms ns over = without t (leftInTurn l c ms) ≡ surelyAfter l c t
-TurnAs l c t ms ns raising = Unit {0}
+TurnAs l c t ms ns (raising x) = Unit {0}
 TurnAs l c t ms ns leaving = Unit {0}
 TurnAs l c t ms ns undone = Unit {0}
-TurnAs l c t ms ns undoRaising = Unit {0}
+TurnAs l c t ms ns (undoRaising x) = Unit {0}
 
 -- in a list each of which runs or is quiet
 abbrev AllLessAs : Acts → (c t : ℕ) (ms ns : List ℕ) → Result → Type 0
 AllLessAs l c t ms ns running = leftOfAll l c ns ≡ without t (leftOfAll l c ms)
 AllLessAs l c t ms ns over = leftOfAll l c ns ≡ without t (leftOfAll l c ms)
-AllLessAs l c t ms ns raising = Unit {0}
+AllLessAs l c t ms ns (raising x) = Unit {0}
 AllLessAs l c t ms ns leaving = Unit {0}
 AllLessAs l c t ms ns undone = Unit {0}
-AllLessAs l c t ms ns undoRaising = Unit {0}
+AllLessAs l c t ms ns (undoRaising x) = Unit {0}
 
 -- of what never has anything left
 nothing-less : (left : List ℕ → List ℕ) (t : ℕ) (ms ns : List ℕ) (x : Result) → ((ms : List ℕ) → left ms ≡ []) → LessAs left t ms ns x
 unfolding only
 nothing-less left t ms ns running f = rw (f ns, f ms)
 nothing-less left t ms ns over f = rw (f ms)
-nothing-less left t ms ns raising f = tt
+nothing-less left t ms ns (raising x) f = tt
 nothing-less left t ms ns leaving f = tt
 nothing-less left t ms ns undone f = tt
-nothing-less left t ms ns undoRaising f = tt
+nothing-less left t ms ns (undoRaising x) f = tt
 
 -- what is left of an activity that is sure to have its step
 sure-left : (own : Own) (within : Acts) (k : ℕ) (ms : List ℕ) → isSure own ≡ true → leftIn (act own within) k ms ≡ cond (eqb (getD ms k 0) active) (k ∷ []) []
@@ -88,7 +88,8 @@ sure-left empty within k ms s = absurd (false≢true s)
 sure-left (send x y vs) within k ms s = refl
 sure-left (receive x y vs) within k ms s = refl
 sure-left (setting v x) within k ms s = refl
-sure-left raise within k ms s = refl
+sure-left (raise zero) within k ms s = refl
+sure-left (raise (suc number)) within k ms s = refl
 sure-left leave within k ms s = refl
 sure-left (choose x) within k ms s = refl
 sure-left (repeat x) within k ms s = absurd (false≢true s)
@@ -111,7 +112,8 @@ surely-so empty s = absurd (false≢true s)
 surely-so (send x y vs) s = record { plain = refl; shut = refl; held = refl; awaits-so = λ m. refl }
 surely-so (receive x y vs) s = record { plain = refl; shut = refl; held = refl; awaits-so = λ m. refl }
 surely-so (setting v x) s = record { plain = refl; shut = refl; held = refl; awaits-so = λ m. refl }
-surely-so raise s = record { plain = refl; shut = refl; held = refl; awaits-so = λ m. refl }
+surely-so (raise zero) s = record { plain = refl; shut = refl; held = refl; awaits-so = λ m. refl }
+surely-so (raise (suc number)) s = record { plain = refl; shut = refl; held = refl; awaits-so = λ m. refl }
 surely-so leave s = record { plain = refl; shut = refl; held = refl; awaits-so = λ m. refl }
 surely-so (choose x) s = record { plain = refl; shut = refl; held = refl; awaits-so = λ m. refl }
 surely-so (repeat x) s = absurd (false≢true s)
@@ -125,18 +127,18 @@ surely-so (arm x y vs) s = absurd (false≢true s)
 abbrev KeepsAs : (k : ℕ) (ms ns : List ℕ) → Result → Type 0
 KeepsAs k ms ns running = getD ns k 0 ≡ getD ms k 0
 KeepsAs k ms ns over = Unit {0}
-KeepsAs k ms ns raising = Unit {0}
+KeepsAs k ms ns (raising x) = Unit {0}
 KeepsAs k ms ns leaving = Unit {0}
 KeepsAs k ms ns undone = Unit {0}
-KeepsAs k ms ns undoRaising = Unit {0}
+KeepsAs k ms ns (undoRaising x) = Unit {0}
 
 keeps-itself : (k : ℕ) (ms : List ℕ) (x : Result) → KeepsAs k ms ms x
 keeps-itself k ms running = refl
 keeps-itself k ms over = tt
-keeps-itself k ms raising = tt
+keeps-itself k ms (raising x) = tt
 keeps-itself k ms leaving = tt
 keeps-itself k ms undone = tt
-keeps-itself k ms undoRaising = tt
+keeps-itself k ms (undoRaising x) = tt
 
 sure-keeps : (own : Own) (within : Acts) (k t : ℕ) (r : Outcome) → isSure own ≡ true → KeepsAs k (r .order .marks) (combines own within k t r .order .marks) (combines own within k t r .result)
 unfolding isSure combines goesOn
@@ -144,7 +146,8 @@ sure-keeps empty within k t r s = absurd (false≢true s)
 sure-keeps (send x y vs) within k t r s = keeps-itself k (r .order .marks) (r .result)
 sure-keeps (receive x y vs) within k t r s = keeps-itself k (r .order .marks) (r .result)
 sure-keeps (setting v x) within k t r s = keeps-itself k (r .order .marks) (r .result)
-sure-keeps raise within k t r s = keeps-itself k (r .order .marks) (r .result)
+sure-keeps (raise zero) within k t r s = keeps-itself k (r .order .marks) (r .result)
+sure-keeps (raise (suc number)) within k t r s = keeps-itself k (r .order .marks) (r .result)
 sure-keeps leave within k t r s = keeps-itself k (r .order .marks) (r .result)
 sure-keeps (choose x) within k t r s = go (r .result)
   where
@@ -157,10 +160,10 @@ sure-keeps (choose x) within k t r s = go (r .result)
         (whereOver (λ o. elim (eqb (markAt k o) inside) [ true ↦ finishes k o | false ↦ runs o ]) (record { result = z; order = r .order; log = r .log }) .result)
     go running = refl
     go over = ended (eqb (markAt k (r .order)) inside)
-    go raising = tt
+    go (raising x) = tt
     go leaving = tt
     go undone = tt
-    go undoRaising = tt
+    go (undoRaising x) = tt
 sure-keeps (repeat x) within k t r s = absurd (false≢true s)
 sure-keeps sequence within k t r s = absurd (false≢true s)
 sure-keeps flow within k t r s = absurd (false≢true s)
@@ -174,10 +177,10 @@ kept-less : (left : List ℕ → List ℕ) (k t : ℕ) (ms₀ ms ns : List ℕ) 
 unfolding only
 kept-less left k t ms₀ ms ns running f e d g = rw (f ns, f ms₀, e, g, d, e)
 kept-less left k t ms₀ ms ns over f e d g = rw (f ms₀, e)
-kept-less left k t ms₀ ms ns raising f e d g = tt
+kept-less left k t ms₀ ms ns (raising x) f e d g = tt
 kept-less left k t ms₀ ms ns leaving f e d g = tt
 kept-less left k t ms₀ ms ns undone f e d g = tt
-kept-less left k t ms₀ ms ns undoRaising f e d g = tt
+kept-less left k t ms₀ ms ns (undoRaising x) f e d g = tt
 
 -- one number, and without it
 one-without : (k : ℕ) → without k (k ∷ []) ≡ []
@@ -189,10 +192,10 @@ module _ (p : Plan) where
   abbrev DoneAs : (k : ℕ) (ns : List ℕ) → Result → Type 0
   DoneAs k ns running = getD ns k 0 ≡ inside
   DoneAs k ns over = Unit {0}
-  DoneAs k ns raising = Unit {0}
+  DoneAs k ns (raising x) = Unit {0}
   DoneAs k ns leaving = Unit {0}
   DoneAs k ns undone = Unit {0}
-  DoneAs k ns undoRaising = Unit {0}
+  DoneAs k ns (undoRaising x) = Unit {0}
 
   choose-done : {x : Place} (within : Acts) (k i : ℕ) (o : Order) → Fore x k → Fit x o → SitsIn p x within (k + 1) → i < count within → Quiet (o .marks) (k + 1) (sizes within)
       → k + (1 + sizes within) ≤ length (o .marks)
@@ -215,16 +218,16 @@ module _ (p : Plan) where
   sure-done empty within y₀ k o s g d f l q m = absurd (false≢true s)
   sure-done (send x y vs) within y₀ k o s g d f l q m = go (allBound o vs)
     where
-      go : (b : Bool) → DoneAs k (cond b (finishes k o) (raises k o) .order .marks) (cond b (finishes k o) (raises k o) .result)
+      go : (b : Bool) → DoneAs k (cond b (finishes k o) (raises unboundVariable k o) .order .marks) (cond b (finishes k o) (raises unboundVariable k o) .result)
       go true = tt
       go false = tt
   sure-done (receive x y vs) within y₀ k o s g d f l q m = tt
   sure-done (setting v x) within y₀ k o s g d f l q m = go (evaluate x o)
     where
       go : (z : Value) → DoneAs k (orRaises k o (λ n. finishes k (binding v n o)) z .order .marks) (orRaises k o (λ n. finishes k (binding v n o)) z .result)
-      go fault = tt
+      go (fault x) = tt
       go (value n) = tt
-  sure-done raise within y₀ k o s g d f l q m = tt
+  sure-done (raise number) within y₀ k o s g d f l q m = tt
   sure-done leave within y₀ k o s g d f l q m = tt
   sure-done (choose x) within y₀ k o s g d f l q m = go (evaluate x o) (λ i h. choose-done within k i o d f l h q m)
     where
@@ -235,7 +238,7 @@ module _ (p : Plan) where
       go : (z : Value) → ((i : ℕ) → i < count within → DoneAs k (enters k o (beginPart i within (k + 1) (marked k inside o .marks)) .order .marks) (enters k o (beginPart i within (k + 1) (marked k inside o .marks)) .result))
           → DoneAs k (orRaises k o (λ n. enters k o (beginPart (cond (isTrue n) 0 1) within (k + 1) (marked k inside o .marks))) z .order .marks)
           (orRaises k o (λ n. enters k o (beginPart (cond (isTrue n) 0 1) within (k + 1) (marked k inside o .marks))) z .result)
-      go fault h = tt
+      go (fault x) h = tt
       go (value n) h = h (cond (isTrue n) 0 1) (omega (arith, first-two (isTrue n)))
   sure-done (repeat x) within y₀ k o s g d f l q m = absurd (false≢true s)
   sure-done sequence within y₀ k o s g d f l q m = absurd (false≢true s)
@@ -248,10 +251,10 @@ module _ (p : Plan) where
       → getD ms k 0 ≡ active → DoneAs k ns x → LessAs left k ms ns x
   done-less left k ms ns running f e d = rw (f ns, d, f ms, e) (sym (one-without k))
   done-less left k ms ns over f e d = rw (f ms, e) (one-without k)
-  done-less left k ms ns raising f e d = tt
+  done-less left k ms ns (raising x) f e d = tt
   done-less left k ms ns leaving f e d = tt
   done-less left k ms ns undone f e d = tt
-  done-less left k ms ns undoRaising f e d = tt
+  done-less left k ms ns (undoRaising x) f e d = tt
 
   -- What a sequence makes of a step in it, and a flow.
   module _ {x : Place} (within : Acts) (k t : ℕ) (o : Order) (r : Outcome) (f : Fit x o) (d : Fore x k) (l : SitsIn p x within (k + 1)) (m : k + (1 + sizes within) ≤ length (o .marks))
@@ -278,10 +281,10 @@ module _ (p : Plan) where
     turn-less over q y =
         subst (λ (b : Bool). LessAs (leftInTurn within (k + 1)) t (o .marks) (goesSo b .order .marks) (goesSo b .result)) (sym mark-after)
         (begun-less y (after-comes p l t (r .order) (q refl) (omega (arith, w .many)) (fit-kept x (k + 1) o (r .order) (fore-on x d (omega arith)) (omega arith) rooted w f)) (beginAfter within (k + 1) t (r .order .marks) .over) refl)
-    turn-less raising q y = tt
+    turn-less (raising x) q y = tt
     turn-less leaving q y = tt
     turn-less undone q y = tt
-    turn-less undoRaising q y = tt
+    turn-less (undoRaising x) q y = tt
 
     abbrev joinsSo : Bool → Outcome
     joinsSo b = after (r .log) (elim b [ true ↦ joins k within (r .order) | false ↦ runs (r .order) ])
@@ -301,10 +304,10 @@ module _ (p : Plan) where
     flow-less over y =
         subst (λ (b : Bool). LessAs (leftOfAll within (k + 1)) t (o .marks) (joinsSo b .order .marks) (joinsSo b .result)) (sym mark-after)
         (joined-less y (quiet (k + 1) (sizes within) (r .order .marks)) refl)
-    flow-less raising y = tt
+    flow-less (raising x) y = tt
     flow-less leaving y = tt
     flow-less undone y = tt
-    flow-less undoRaising y = tt
+    flow-less (undoRaising x) y = tt
 
 -- one that runs is not found quiet
 loud-told : (a : Act) (c : ℕ) (ms : List ℕ) → Run ms a c → quiet c (size a) ms ≡ false
@@ -363,10 +366,10 @@ module _ (p : Plan) where
     one-over : (z : Result) → z ≡ over → OneAs p within (k + 1) t o (stepAmong itsOwn within false y₀ (k + 1) t o .log) (stepAmong itsOwn within false y₀ (k + 1) t o .order) z → Quiet (stepAmong itsOwn within false y₀ (k + 1) t o .order .marks) (k + 1) (sizes within)
     one-over running v c = absurd (let z : _≡_ {A = ℕ} 0 1 = cc in omega arith)
     one-over over v c = c .0
-    one-over raising v c = absurd (let z : _≡_ {A = ℕ} 0 1 = cc in omega arith)
+    one-over (raising x) v c = absurd (let z : _≡_ {A = ℕ} 0 1 = cc in omega arith)
     one-over leaving v c = absurd (let z : _≡_ {A = ℕ} 0 1 = cc in omega arith)
     one-over undone v c = absurd c
-    one-over undoRaising v c = absurd c
+    one-over (undoRaising x) v c = absurd c
 
     in-sequence : Waits (o .marks) (act sequence within) k t b → Run (o .marks) (act sequence within) k → Lessens (act sequence within) k t (o .marks) (stepIn itsOwn (act sequence within) y₀ k t o)
     unfolding leftIn itself isDoer kind
@@ -405,7 +408,8 @@ module _ (p : Plan) where
     part-less (send y z vs) g w r = sure-less (send y z vs) refl g w (sure-runs (send y z vs) within k refl r)
     part-less (receive y z vs) g w r = sure-less (receive y z vs) refl g w (sure-runs (receive y z vs) within k refl r)
     part-less (setting v y) g w r = sure-less (setting v y) refl g w (sure-runs (setting v y) within k refl r)
-    part-less raise g w r = sure-less raise refl g w (sure-runs raise within k refl r)
+    part-less (raise zero) g w r = sure-less (raise zero) refl g w (sure-runs (raise zero) within k refl r)
+    part-less (raise (suc number)) g w r = sure-less (raise (suc number)) refl g w (sure-runs (raise (suc number)) within k refl r)
     part-less leave g w r = sure-less leave refl g w (sure-runs leave within k refl r)
     part-less (choose y) g w r = sure-less (choose y) refl g w (sure-runs (choose y) within k refl r)
     part-less (repeat y) g w r = nothing-less (leftIn (act (repeat y) within) k) t (o .marks) (stepIn itsOwn (act (repeat y) within) y₀ k t o .order .marks) (stepIn itsOwn (act (repeat y) within) y₀ k t o .result) (λ ms. refl)
@@ -424,20 +428,20 @@ module _ (p : Plan) where
         rw (loud-told a c (r .order .marks) (d .0), loud-told a c (o .marks) q, y, only-append (λ i. not (eqb t i)) (leftIn a c (o .marks)) (surelyAmong l (c + size a)), surely-off-in l (c + size a) t (off-below t (c + size a) (sizes l) h))
     first-turn h q over d y =
         rw (loud-told a c (o .marks) q, lt-ltb t (c + size a) h, only-append (λ i. not (eqb t i)) (leftIn a c (o .marks)) (surelyAmong l (c + size a)), y, surely-off-in l (c + size a) t (off-below t (c + size a) (sizes l) h))
-    first-turn h q raising d y = tt
+    first-turn h q (raising x) d y = tt
     first-turn h q leaving d y = tt
     first-turn h q undone d y = tt
-    first-turn h q undoRaising d y = tt
+    first-turn h q (undoRaising x) d y = tt
 
     later-turn : c + size a ≤ t → Quiet (o .marks) c (size a) → Quiet (r .order .marks) c (size a)
         → (x : Result) → TurnAs l (c + size a) t (o .marks) (r .order .marks) x → TurnAs (more a l) c t (o .marks) (r .order .marks) x
     unfolding leftIn surelyAfter
     later-turn h q z running y = rw (quiet-told (size a) c (r .order .marks) z, quiet-told (size a) c (o .marks) q) y
     later-turn h q z over y = rw (quiet-told (size a) c (o .marks) q, le-ltb t (c + size a) h) y
-    later-turn h q z raising y = tt
+    later-turn h q z (raising x) y = tt
     later-turn h q z leaving y = tt
     later-turn h q z undone y = tt
-    later-turn h q z undoRaising y = tt
+    later-turn h q z (undoRaising x) y = tt
 
     first-all-less : t < c + size a → leftOfAll l (c + size a) (r .order .marks) ≡ leftOfAll l (c + size a) (o .marks)
         → (x : Result) → RunAs p a c t o (r .log) (r .order) x → LessAs (leftIn a c) t (o .marks) (r .order .marks) x → AllLessAs (more a l) c t (o .marks) (r .order .marks) x
@@ -446,20 +450,20 @@ module _ (p : Plan) where
         rw (y, g, only-append (λ i. not (eqb t i)) (leftIn a c (o .marks)) (leftOfAll l (c + size a) (o .marks)), all-off l (c + size a) t (o .marks) (off-below t (c + size a) (sizes l) h))
     first-all-less h g over d y =
         rw (left-quiet a c (r .order .marks) (d .0), g, only-append (λ i. not (eqb t i)) (leftIn a c (o .marks)) (leftOfAll l (c + size a) (o .marks)), y, all-off l (c + size a) t (o .marks) (off-below t (c + size a) (sizes l) h))
-    first-all-less h g raising d y = tt
+    first-all-less h g (raising x) d y = tt
     first-all-less h g leaving d y = tt
     first-all-less h g undone d y = tt
-    first-all-less h g undoRaising d y = tt
+    first-all-less h g (undoRaising x) d y = tt
 
     later-all-less : c + size a ≤ t → leftIn a c (r .order .marks) ≡ leftIn a c (o .marks)
         → (x : Result) → AllLessAs l (c + size a) t (o .marks) (r .order .marks) x → AllLessAs (more a l) c t (o .marks) (r .order .marks) x
     unfolding leftIn
     later-all-less h g running y = rw (g, y, only-append (λ i. not (eqb t i)) (leftIn a c (o .marks)) (leftOfAll l (c + size a) (o .marks)), left-off a c t (o .marks) (off-above t c (size a) h))
     later-all-less h g over y = rw (g, y, only-append (λ i. not (eqb t i)) (leftIn a c (o .marks)) (leftOfAll l (c + size a) (o .marks)), left-off a c t (o .marks) (off-above t c (size a) h))
-    later-all-less h g raising y = tt
+    later-all-less h g (raising x) y = tt
     later-all-less h g leaving y = tt
     later-all-less h g undone y = tt
-    later-all-less h g undoRaising y = tt
+    later-all-less h g (undoRaising x) y = tt
 
   -- a scope has no sure step of its own
   scope-less : (z₀ : Bool) (within : Acts) (y₀ k t : ℕ) (o : Order) → Lessens (act (scope z₀) within) k t (o .marks) (stepIn itsOwn (act (scope z₀) within) y₀ k t o)
@@ -535,7 +539,8 @@ mutual
   due-left (act (send x y vs) within) k t b w e r h = sure-due (send x y vs) within k t b w e refl h
   due-left (act (receive x y vs) within) k t b w e r h = sure-due (receive x y vs) within k t b w e refl h
   due-left (act (setting v x) within) k t b w e r h = sure-due (setting v x) within k t b w e refl h
-  due-left (act raise within) k t b w e r h = sure-due raise within k t b w e refl h
+  due-left (act (raise zero) within) k t b w e r h = sure-due (raise zero) within k t b w e refl h
+  due-left (act (raise (suc number)) within) k t b w e r h = sure-due (raise (suc number)) within k t b w e refl h
   due-left (act leave within) k t b w e r h = sure-due leave within k t b w e refl h
   due-left (act (choose x) within) k t b w e r h = sure-due (choose x) within k t b w e refl h
   due-left (act (repeat x) within) k t b w e r h = absurd (false≢true h)

@@ -1,3 +1,4 @@
+pub mod Causing
 pub mod Parts
 pub mod Accounts
 pub mod Moves
@@ -29,9 +30,11 @@ pub mod Shapes
 pub mod Fitting
 pub mod Told
 pub mod Chains
+pub mod Numbered
 pub mod Stepped
 pub mod Heeding
 pub mod Ending
+pub mod Because
 pub mod Awaiting
 pub mod Going
 pub mod Truly
@@ -83,3 +86,10 @@ pub mod Booked
 pub mod TakenBack
 pub mod AsOften
 pub mod Firmly
+pub mod Shrinking
+pub mod Finding
+pub mod Locating
+pub mod OfOrder
+pub mod OneTime
+pub mod NeverTwice
+pub mod AnyScopeExamples

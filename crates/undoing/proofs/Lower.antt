@@ -18,6 +18,7 @@ use Rattle.order.specs.State.{idle, active, done, faulty, undoing, handling, ha
 use Rattle.order.specs.Begin.{Begun, nothingBegun, awaiting, throughout, around, itsBeginning, inTurn, sideBySide, begin, beginInTurn, beginAll, beginFirst, beginAfter, part, partAt, beginPart, cleared}
 use Rattle.order.specs.Scope.{Outcome, runs, after, begunIn, whereOver, Scope, scopeAt, rootOf, isFor, isOpen, innerRuns, rememberedFor, forgetting, beginUndo, beginUndoFirst, beginUndoIn, startUndo, undo, ends, handle, undoes, turns, withdraws, faults, breaks, looksAgain, bodyOver, bodyRaised, Stopped, untouched, alsoStopped, stop, stopAll, stopFirst}
 use Rattle.order.specs.Judging.{rank}
+use Rattle.undoing.proofs.Causing.{caused, faults-is}
 use Rattle.undoing.proofs.Parts.{decide}
 
 -- the marks below b are the same
@@ -72,7 +73,8 @@ mutual
   same-begin (act (send p o vs) within) b k ms e = same-set b k active ms e
   same-begin (act (receive p o vs) within) b k ms e = same-set b k active ms e
   same-begin (act (setting v x) within) b k ms e = same-set b k active ms e
-  same-begin (act raise within) b k ms e = same-set b k active ms e
+  same-begin (act (raise zero) within) b k ms e = same-set b k active ms e
+  same-begin (act (raise (suc number)) within) b k ms e = same-set b k active ms e
   same-begin (act leave within) b k ms e = same-set b k active ms e
   same-begin (act (choose x) within) b k ms e = same-set b k active ms e
   same-begin (act (repeat x) within) b k ms e = same-set b k active ms e
@@ -176,10 +178,10 @@ low-where b o g r f x = go (r .result)
     go : (z : Result) → Low b o (whereOver g (record { result = z; order = r .order; log = r .log }) .order)
     go running = x
     go over = low-then x (f (r .order))
-    go raising = x
+    go (raising n) = x
     go leaving = x
     go undone = x
-    go undoRaising = x
+    go (undoRaising n) = x
 
 -- the undo parts of a scope start, behind where its body stands
 pub low-undo : (l : List ℕ) (s : Scope) (o : Order) → Low (s .bodyAt) o (undo l s o .order)
@@ -269,10 +271,10 @@ module _ (s : Scope) (b : ℕ) (h : Owns s b) where
       go : (z : Result) → Under n s b o (whereOver g (record { result = z; order = r .order; log = r .log }) .order)
       go running = x
       go over = under-then x (f (r .order))
-      go raising = x
+      go (raising n) = x
       go leaving = x
       go undone = x
-      go undoRaising = x
+      go (undoRaising n) = x
 
   under-ends : (o : Order) → Under 0 s b o (ends s o .order)
   unfolding rank
@@ -328,10 +330,10 @@ module _ (s : Scope) (b : ℕ) (h : Owns s b) where
       (λ e. rw (e, bodyOver) (lowers {n = 6} (subst (λ (m : ℕ). 6 < rank 11 m) (sym (eqb-true (markOf (s .name) o) active e)) (omega arith)) (under-put done o)))
       (λ e. rw (e, bodyOver) (again-lowered o))
 
-  pub breaks-lowered : (o : Order) → 0 < rank 11 (markOf (s .name) o) → ((o₁ : Order) → rank 11 (markOf (s .name) (withMarks (cleared (s .first) (s .count) (o₁ .marks)) o₁)) ≤ rank 11 (markOf (s .name) o₁))
-      → Lowered s b o (breaks s o)
+  pub breaks-lowered : (number : ℕ) (o : Order) → 0 < rank 11 (markOf (s .name) o) → ((o₁ : Order) → rank 11 (markOf (s .name) (withMarks (cleared (s .first) (s .count) (o₁ .marks)) o₁)) ≤ rank 11 (markOf (s .name) o₁))
+      → Lowered s b o (breaks number s o)
   unfolding breaks forgetting rank
-  breaks-lowered o e f =
+  breaks-lowered number o e f =
       let o′ = forgetting s (marking (s .name) idle o) in
       lowers {n = 0} e
       (record {
@@ -406,17 +408,19 @@ mutual
   low-stop-first (more a l) b c o e = low-stop a b c o e
 
 -- A scope faults: its rank falls.
-pub faults-under : (s : Scope) (b : ℕ) → Owns s b → (o : Order) → Under 5 s b o (faults s o .order)
-unfolding faults rank
-faults-under s b h o =
-    let o′ = marking (s .name) faulty o in
-    under-turns s b h 5 true o (stop (s .body) (s .bodyAt) o′ .order) (omega arith) (under-body s b h (under-put s b h faulty o) (low-stop (s .body) (s .bodyAt) (s .bodyAt) o′ (omega arith)))
+pub faults-under : (s : Scope) (b : ℕ) → Owns s b → (number : ℕ) (o : Order) → Under 5 s b o (faults number s o .order)
+unfolding rank
+faults-under s b h number o =
+    let o′ = caused (s .name) number (marking (s .name) faulty o) in
+    subst (λ (z : Outcome). Under 5 s b o (z .order)) (sym (faults-is number s o))
+    (under-turns s b h 5 true o (stop (s .body) (s .bodyAt) o′ .order) (omega arith) (under-body s b h (under-put s b h faulty o)
+    (low-then (record { root = refl; marks = low-itself (s .bodyAt) o′ .marks }) (low-stop (s .body) (s .bodyAt) (s .bodyAt) o′ (omega arith)))))
 
-pub raised-lowered : (s : Scope) (b : ℕ) → Owns s b → (o : Order) → Lowered s b o (bodyRaised s o)
+pub raised-lowered : (s : Scope) (b : ℕ) → Owns s b → (number : ℕ) (o : Order) → Lowered s b o (bodyRaised number s o)
 unfolding bodyRaised rank
-raised-lowered s b h o =
+raised-lowered s b h number o =
     decide (eqb (markOf (s .name) o) active)
-    (λ e. rw (e, bodyRaised) (lowers {n = 5} (subst (λ (m : ℕ). 5 < rank 11 m) (sym (eqb-true (markOf (s .name) o) active e)) (omega arith)) (faults-under s b h o)))
+    (λ e. rw (e, bodyRaised) (lowers {n = 5} (subst (λ (m : ℕ). 5 < rank 11 m) (sym (eqb-true (markOf (s .name) o) active e)) (omega arith)) (faults-under s b h number o)))
     (λ e. decide (eqb (markOf (s .name) o) done)
-    (λ d. rw (e, bodyRaised, d) (lowers {n = 5} (subst (λ (m : ℕ). 5 < rank 11 m) (sym (eqb-true (markOf (s .name) o) done d)) (omega arith)) (faults-under s b h o)))
+    (λ d. rw (e, bodyRaised, d) (lowers {n = 5} (subst (λ (m : ℕ). 5 < rank 11 m) (sym (eqb-true (markOf (s .name) o) done d)) (omega arith)) (faults-under s b h number o)))
     (λ d. rw (e, bodyRaised, d) (again-lowered s b h o)))

@@ -236,10 +236,10 @@ module _ (p : Plan) (h : Promised p) where
                 )
             by-done false i c = (c, same (r .order) (λ j n u. u))
         go over d v c = (c, same noOrder (λ j n u. absurd (quiet-none (r .order .marks) (v .1) (v .2) j n u)))
-        go raising d v c = absurd (false≢true (sym c ∙ root-drops (kindAt p) t actor p kb kf o .rash (ap isBad d)))
+        go (raising x) d v c = absurd (false≢true (sym c ∙ root-drops (kindAt p) t actor p kb kf o .rash (ap isBad d)))
         go leaving d v c = absurd (false≢true (sym c ∙ root-drops (kindAt p) t actor p kb kf o .rash (ap isBad d)))
         go undone d v c = absurd v
-        go undoRaising d v c = absurd v
+        go (undoRaising x) d v c = absurd v
 
   -- As the tests have it: by the marks and the log after the step.
   module _ (actor : Actor) (t : ℕ) (o : Order) (r : Outcome) (v : Bool) (ns : List ℕ) (l : List Event) (more-log : (i : ℕ) → hasBegan i (r .log) ≡ true → hasBegan i l ≡ true)

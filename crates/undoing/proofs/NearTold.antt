@@ -71,10 +71,10 @@ none-some f (began i ∷ l) z =
     (λ d. absurd (let v = z j x in let w : 1 + times j l ≡ 0 = rw d at v in omega arith))
     (λ d. let v = z j x in let w : 0 + times j l ≡ 0 = rw d at v in omega arith))))
 none-some f (closed i ∷ l) z = none-some f l (λ j x. let e = z j x in omega arith)
-none-some f (faulted n ∷ l) z = none-some f l (λ j x. let e = z j x in omega arith)
+none-some f (faulted n x ∷ l) z = none-some f l (λ j x. let e = z j x in omega arith)
 none-some f (stopped i ∷ l) z = none-some f l (λ j x. let e = z j x in omega arith)
 none-some f (ended n ∷ l) z = none-some f l (λ j x. let e = z j x in omega arith)
-none-some f (raised i ∷ l) z = none-some f l (λ j x. let e = z j x in omega arith)
+none-some f (raised i x ∷ l) z = none-some f l (λ j x. let e = z j x in omega arith)
 none-some f (left ∷ l) z = none-some f l (λ j x. let e = z j x in omega arith)
 
 -- where a scope ends

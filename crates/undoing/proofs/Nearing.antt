@@ -10,9 +10,9 @@ use borrow.Author.Tests.{eqb-true, eqb-false, eq-eqb, ltb-true, ltb-false, lt-lt
 use Rattle.plan.specs.Tree.{Own, empty, send, receive, set as setting, raise, leave, choose, repeat, sequence, flow, pick, scope, arm, kind, Act, act, Acts, none, more, Plan, size, sizes, count, isScope, hasUndo, isPick}
 use Rattle.order.specs.declared.Order.{Order}
 use Rattle.order.specs.Lists.{every, some, only, withoutLast}
-use Rattle.order.specs.State.{idle, active, inside, faulty, undoing, handling, halted, withdrawing, done, withMarks, closings, remembering, markAt, marked, markOf, marking, binding}
+use Rattle.order.specs.State.{idle, active, inside, faulty, undoing, handling, halted, withdrawing, done, withMarks, closings, remembering, markAt, marked, markOf, marking, binding, causing}
 use Rattle.order.specs.Event.{Event, began, stopped, faulted, ended}
-use Rattle.order.specs.Expression.{Value, fault, value, evaluate, isTrue}
+use Rattle.order.specs.Expression.{conflictingReceive, Value, fault, value, evaluate, isTrue}
 use Rattle.order.specs.Begin.{Begun, nothingBegun, throughout, around, itsBeginning, inTurn, begin, beginInTurn, beginAll, beginFirst, beginAfter, part, partAt, beginPart, cleared, quiet}
 use Rattle.order.specs.declared.Way.{Way as Result}
 use Rattle.order.specs.declared.Way.the-variants.{Running as running, Over as over, Raising as raising, Leaving as leaving, Undone as undone, UndoRaising as undoRaising}
@@ -134,7 +134,8 @@ module _ (t : ℕ) where
     own-local (send p o vs) within k ms a b c = plain-local (send p o vs) within k _ refl (in-zero _ within (k + 1) (single k (k + 1) (sizes within) (omega arith)))
     own-local (receive p o vs) within k ms a b c = plain-local (receive p o vs) within k _ refl (in-zero _ within (k + 1) (single k (k + 1) (sizes within) (omega arith)))
     own-local (setting v e) within k ms a b c = plain-local (setting v e) within k _ refl (in-zero _ within (k + 1) (single k (k + 1) (sizes within) (omega arith)))
-    own-local raise within k ms a b c = plain-local raise within k _ refl (in-zero _ within (k + 1) (single k (k + 1) (sizes within) (omega arith)))
+    own-local (raise zero) within k ms a b c = plain-local (raise zero) within k _ refl (in-zero _ within (k + 1) (single k (k + 1) (sizes within) (omega arith)))
+    own-local (raise (suc number)) within k ms a b c = plain-local (raise (suc number)) within k _ refl (in-zero _ within (k + 1) (single k (k + 1) (sizes within) (omega arith)))
     own-local leave within k ms a b c = plain-local leave within k _ refl (in-zero _ within (k + 1) (single k (k + 1) (sizes within) (omega arith)))
     own-local (choose e) within k ms a b c = plain-local (choose e) within k _ refl (in-zero _ within (k + 1) (single k (k + 1) (sizes within) (omega arith)))
     own-local (repeat e) within k ms a b c = plain-local (repeat e) within k _ refl (in-zero _ within (k + 1) (single k (k + 1) (sizes within) (omega arith)))
@@ -261,10 +262,10 @@ module _ (t : ℕ) where
           go : (x : Result) → LocalIn (whereOver g (record { result = x; order = o .order; log = o .log }) .log) r c
           go running = w
           go over = in-append (o .log) (g (o .order) .log) r c w (h (o .order))
-          go raising = w
+          go (raising x) = w
           go leaving = w
           go undone = w
-          go undoRaising = w
+          go (undoRaising x) = w
 
       either-local : (v : Bool) (x y z : Outcome) → z ≡ elim v [ true ↦ x | false ↦ y ] → LocalIn (x .log) r c → LocalIn (y .log) r c → LocalIn (z .log) r c
       either-local true x y z e g h = subst (λ (q : Outcome). LocalIn (q .log) r c) (sym e) g
@@ -316,21 +317,21 @@ module _ (t : ℕ) where
           either-local r c (eqb (markOf (s .name) o) undoing) (undoes true s o) (elim (eqb (markOf (s .name) o) withdrawing) [ true ↦ undoes false s o | false ↦ runs o ]) (undoOver s o) refl (undoes-local true o)
           (either-local r c (eqb (markOf (s .name) o) withdrawing) (undoes false s o) (runs o) _ refl (undoes-local false o) (runs-local r c o))
 
-      breaks-local : (o : Order) → LocalIn (breaks s o .log) r c
+      breaks-local : (number : ℕ) (o : Order) → LocalIn (breaks number s o .log) r c
       unfolding breaks times isBeganOf
-      breaks-local o = in-none _ r c (λ j. refl)
+      breaks-local number o = in-none _ r c (λ j. refl)
 
-      undo-raised-local : (o : Order) → LocalIn (undoRaised s o .log) r c
+      undo-raised-local : (number : ℕ) (o : Order) → LocalIn (undoRaised number s o .log) r c
       unfolding undoRaised
-      undo-raised-local o = either-local r c (eqb (markOf (s .name) o) undoing || eqb (markOf (s .name) o) withdrawing) (breaks s o) (runs o) (undoRaised s o) refl (breaks-local o) (runs-local r c o)
+      undo-raised-local number o = either-local r c (eqb (markOf (s .name) o) undoing || eqb (markOf (s .name) o) withdrawing) (breaks number s o) (runs o) (undoRaised number s o) refl (breaks-local number o) (runs-local r c o)
 
       part-over-local : (o : Order) → LocalIn (partOver s o .log) r c
       unfolding partOver
       part-over-local o = either-local r c (eqb (markOf (s .name) o) handling) (ends s o) (runs o) (partOver s o) refl (ends-local o) (runs-local r c o)
 
-      part-raised-local : (o : Order) → LocalIn (partRaised s o .log) r c
+      part-raised-local : (number : ℕ) (o : Order) → LocalIn (partRaised number s o .log) r c
       unfolding partRaised
-      part-raised-local o = either-local r c (eqb (markOf (s .name) o) handling) (breaks s o) (runs o) (partRaised s o) refl (breaks-local o) (runs-local r c o)
+      part-raised-local number o = either-local r c (eqb (markOf (s .name) o) handling) (breaks number s o) (runs o) (partRaised number s o) refl (breaks-local number o) (runs-local r c o)
 
     -- Stopping.
     halt-local : (a : Act) (k : ℕ) (v : Bool) (x y z : definitions.Stopped) → z ≡ elim v [ true ↦ x | false ↦ y ] → (v ≡ true → Local (x .log) a k) → (v ≡ false → Local (y .log) a k) → Local (z .log) a k
@@ -363,16 +364,16 @@ module _ (t : ℕ) where
       stop-first-local (knows-more {a} {l} {c} x y) o = head-in a l c _ (stop-local x o) (stop-strict f x o .above)
 
     module _ (s : Scope) (r : Acts) (c : ℕ) (h : Sits s r c) where
-      faults-local : (o : Order) → LocalIn (faults s o .log) r c
+      faults-local : (number : ℕ) (o : Order) → LocalIn (faults number s o .log) r c
       unfolding faults times isBeganOf
-      faults-local o =
-          let o₁ = marking (s .name) faulty o in
+      faults-local number o =
+          let o₁ = causing (s .name) number (marking (s .name) faulty o) in
           let q = stop (s .body) (s .bodyAt) o₁ in
-          in-event (faulted (s .name)) _ r c (record { at = λ j x y. refl }) (in-append (q .log) (turns true s (q .order) .log) r c (h .inBody _ (stop-local (h .body) o₁) (stop-strict f (h .body) o₁ .above)) (turns-local s r c h true (q .order)))
+          in-event (faulted (s .name) number) _ r c (record { at = λ j x y. refl }) (in-append (q .log) (turns true s (q .order) .log) r c (h .inBody _ (stop-local (h .body) o₁) (stop-strict f (h .body) o₁ .above)) (turns-local s r c h true (q .order)))
 
-      raised-local : (o : Order) → LocalIn (bodyRaised s o .log) r c
+      raised-local : (number : ℕ) (o : Order) → LocalIn (bodyRaised number s o .log) r c
       unfolding bodyRaised
-      raised-local o = either-local r c (isOpen (markOf (s .name) o)) (faults s o) (looksAgain s o) (bodyRaised s o) refl (faults-local o) (looks-local s r c h o)
+      raised-local number o = either-local r c (isOpen (markOf (s .name) o)) (faults number s o) (looksAgain s o) (bodyRaised number s o) refl (faults-local number o) (looks-local s r c h o)
 
       body-local : (q : Outcome) → LocalIn (q .log) r c → LocalIn (fromBody s q .log) r c
       unfolding fromBody
@@ -384,10 +385,10 @@ module _ (t : ℕ) where
           go : (y : Result) → LocalIn (fromBody s (record { result = y; order = q .order; log = q .log }) .log) r c
           go running = later (looksAgain s (q .order)) (looks-local s r c h (q .order))
           go over = later (bodyOver s (q .order)) (over-local s r c h (q .order))
-          go raising = later (bodyRaised s (q .order)) (raised-local (q .order))
+          go (raising x) = later (bodyRaised x s (q .order)) (raised-local x (q .order))
           go leaving = w
           go undone = later (undoOver s (q .order)) (undone-local s r c h (q .order))
-          go undoRaising = later (undoRaised s (q .order)) (undo-raised-local s r c h (q .order))
+          go (undoRaising x) = later (undoRaised x s (q .order)) (undo-raised-local s r c h x (q .order))
 
       fault-local : (q : Outcome) → LocalIn (q .log) r c → LocalIn (fromFault s q .log) r c
       unfolding fromFault
@@ -396,10 +397,10 @@ module _ (t : ℕ) where
           go : (y : Result) → LocalIn (fromFault s (record { result = y; order = q .order; log = q .log }) .log) r c
           go running = w
           go over = in-append (q .log) (partOver s (q .order) .log) r c w (part-over-local s r c h (q .order))
-          go raising = in-append (q .log) (partRaised s (q .order) .log) r c w (part-raised-local s r c h (q .order))
+          go (raising x) = in-append (q .log) (partRaised x s (q .order) .log) r c w (part-raised-local s r c h x (q .order))
           go leaving = w
           go undone = w
-          go undoRaising = w
+          go (undoRaising x) = w
 
     -- A step.
     after-local : {l : Acts} {c : ℕ} → KnowsIn f l c → Arms false l → (ms : List ℕ) → LocalIn (beginAfter l c t ms .log) l c × ((j : ℕ) → j < c → times j (beginAfter l c t ms .log) ≡ 0)
@@ -420,7 +421,7 @@ module _ (t : ℕ) where
 
     or-local : (r : Acts) (c : ℕ) (k : ℕ) (o : Order) (g : ℕ → Outcome) (v : Value) → ((n : ℕ) → LocalIn (g n .log) r c) → LocalIn (orRaises k o g v .log) r c
     unfolding times isBeganOf
-    or-local r c k o g fault h = in-none _ r c (λ j. refl)
+    or-local r c k o g (fault x) h = in-none _ r c (λ j. refl)
     or-local r c k o g (value n) h = h n
 
     itself-local : (own : Own) (within : Acts) (q₀ k : ℕ) (o : Order) → needs own ≤ count within → Arms (isPick own) within → KnowsIn f within (k + 1) → LocalIn (itself own within q₀ k o .log) within (k + 1)
@@ -429,7 +430,8 @@ module _ (t : ℕ) where
     itself-local (send a b vs) within q₀ k o n r y = decide (allBound o vs) (λ e. rw e (in-none [] within (k + 1) (λ j. refl))) (λ e. rw e (in-none _ within (k + 1) (λ j. refl)))
     itself-local (receive a b vs) within q₀ k o n r y = in-none [] within (k + 1) (λ j. refl)
     itself-local (setting v e) within q₀ k o n r y = or-local within (k + 1) k o _ (evaluate e o) (λ i. in-none [] within (k + 1) (λ j. refl))
-    itself-local raise within q₀ k o n r y = in-none _ within (k + 1) (λ j. refl)
+    itself-local (raise zero) within q₀ k o n r y = in-none _ within (k + 1) (λ j. refl)
+    itself-local (raise (suc number)) within q₀ k o n r y = in-none _ within (k + 1) (λ j. refl)
     itself-local leave within q₀ k o n r y = in-none _ within (k + 1) (λ j. refl)
     itself-local (choose e) within q₀ k o n r y = or-local within (k + 1) k o _ (evaluate e o) (λ z. let o₁ = marked k inside o in
         where-local within (k + 1) (finishes k) (begunIn o₁ (beginPart (cond (isTrue z) 0 1) within (k + 1) (o₁ .marks))) (part-local y r (cond (isTrue z) 0 1) (second (isTrue z)) (o₁ .marks) .0) (λ q. in-none [] within (k + 1) (λ j. refl)))
@@ -456,7 +458,7 @@ module _ (t : ℕ) where
     combines-local (send a b vs) within k q n r y w = w
     combines-local (receive a b vs) within k q n r y w = w
     combines-local (setting v e) within k q n r y w = w
-    combines-local raise within k q n r y w = w
+    combines-local (raise number) within k q n r y w = w
     combines-local leave within k q n r y w = w
     combines-local (choose e) within k q n r y w = on-local within (k + 1) k inside (finishes k) q w (λ o. in-none [] within (k + 1) (λ j. refl))
     combines-local (repeat e) within k q n r y w = on-local within (k + 1) k inside (again k) q w (λ o. in-none [] within (k + 1) (λ j. refl))
@@ -481,7 +483,7 @@ module _ (t : ℕ) where
         → LocalIn (performs actor own within q₀ k o .log) within (k + 1)
     unfolding performs times isBeganOf
     performs-local actor own within q₀ k o n r y =
-        case-local within (k + 1) (replaces actor (kind own)) (raises k o) (itself own within q₀ k o) _ refl (λ e. in-none _ within (k + 1) (λ j. refl)) (λ e. itself-local own within q₀ k o n r y)
+        case-local within (k + 1) (replaces actor (kind own)) (raises conflictingReceive k o) (itself own within q₀ k o) _ refl (λ e. in-none _ within (k + 1) (λ j. refl)) (λ e. itself-local own within q₀ k o n r y)
 
     mutual
       unfolding stepIn Local times size

@@ -93,10 +93,10 @@ module _ (p : Plan) (actor : Actor) (f : ℕ → ℕ) where
     stopped-of : (x : Result) → isGoing x ≡ true → StopAs p (s .body) (s .bodyAt) o (its .log) (its .order) x → Stopped (its .order .marks) (s .body) (s .bodyAt)
     stopped-of running g c = c .0
     stopped-of over g c = c .0
-    stopped-of raising g c = absurd (false≢true g)
+    stopped-of (raising x) g c = absurd (false≢true g)
     stopped-of leaving g c = absurd (false≢true g)
     stopped-of undone g c = absurd (false≢true g)
-    stopped-of undoRaising g c = absurd (false≢true g)
+    stopped-of (undoRaising x) g c = absurd (false≢true g)
 
     pub waits-body : Acted (s .bodyAt) (size (s .body)) o (StopAs p (s .body) (s .bodyAt) o) its → Once f (fromBody s its .log)
     waits-body v =

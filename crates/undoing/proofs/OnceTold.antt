@@ -12,7 +12,7 @@ use Rattle.order.specs.declared.Order.{Order}
 use Rattle.order.specs.Lists.{some}
 use Rattle.order.specs.State.{Name, root, inner, idle, active, inside, faulty, undoing, handling, halted, withdrawing, done, withMarks, markAt, marked, markOf, marking, binding}
 use Rattle.order.specs.Event.{Event, began, faulted, ended}
-use Rattle.order.specs.Expression.{Value, fault, value, evaluate, isTrue}
+use Rattle.order.specs.Expression.{unboundVariable, conflictingReceive, Value, fault, value, evaluate, isTrue}
 use Rattle.order.specs.Begin.{Begun, begin, beginInTurn, beginAfter, part, partAt, beginPart, cleared, quiet}
 use Rattle.order.specs.declared.Way.{Way as Result}
 use Rattle.order.specs.declared.Way.the-variants.{Running as running, Over as over, Raising as raising, Leaving as leaving, Undone as undone, UndoRaising as undoRaising}
@@ -21,6 +21,7 @@ use Rattle.order.specs.Acting.{finishes, raises, orRaises, enters, again, repea
 use Rattle.undoing.specs.Orderly.{isBeganOf}
 use Rattle.undoing.specs.Begun.{lasts, hasBegan}
 use Rattle.undoing.specs.Entirely.{times}
+use Rattle.undoing.proofs.Causing.{caused, faults-is}
 use Rattle.undoing.proofs.Parts.{both, decide}
 use Rattle.undoing.proofs.Orders.{least}
 use Rattle.undoing.proofs.Places.{first-of, second-of}
@@ -45,10 +46,10 @@ log-of o = o .log
 abbrev pub isGoing : Result → Bool
 isGoing running = true
 isGoing over = true
-isGoing raising = false
+isGoing (raising x) = false
 isGoing leaving = false
 isGoing undone = false
-isGoing undoRaising = false
+isGoing (undoRaising x) = false
 
 module _ (f : ℕ → ℕ) where
   -- A scope that looks again begins nothing, or nothing that lasts began before it.
@@ -57,24 +58,25 @@ module _ (f : ℕ → ℕ) where
     rests-light : Light f (r .log) → Rests s r
 
   module _ (s : Scope) (kb : Knows f (s .body) (s .bodyAt)) (kf : Knows f (s .fault) (s .faultAt)) where
-    faults-once : (o : Order) → s .bodyAt + size (s .body) ≤ length (o .marks) → Once f (faults s o .log)
-    unfolding faults times isBeganOf
-    faults-once o m =
-        let o₁ = marking (s .name) faulty o in
+    faults-once : (number : ℕ) (o : Order) → s .bodyAt + size (s .body) ≤ length (o .marks) → Once f (faults number s o .log)
+    unfolding times isBeganOf
+    faults-once number o m =
+        let o₁ = caused (s .name) number (marking (s .name) faulty o) in
         let q = stop (s .body) (s .bodyAt) o₁ in
         let w = stop-stops f kb o₁ (omega (arith, marking-length (s .name) faulty o)) in
-        once-event f (faulted (s .name)) _ (λ j. refl)
+        subst (λ (z : Outcome). Once f (z .log)) (sym (faults-is number s o))
+        (once-event f (faulted (s .name) number) _ (λ j. refl)
         (decide (innerRuns (s .body) (s .bodyAt) (q .order .marks))
         (λ d. subst (λ (z : Outcome). Once f (q .log ++ z .log)) (sym (turns-none f s kb kf true (q .order) d)) (once-light f (q .log) (w .once) (light-none f [] (λ j. refl))))
-        (λ d. light-once f (turns true s (q .order) .log) (w .light d) (turns-lone f s kb kf true (q .order) .once)))
+        (λ d. light-once f (turns true s (q .order) .log) (w .light d) (turns-lone f s kb kf true (q .order) .once))))
 
     either-once : (v : Bool) (x y z : Outcome) → z ≡ elim v [ true ↦ x | false ↦ y ] → Once f (x .log) → Once f (y .log) → Once f (z .log)
     either-once true x y z e g h = subst (λ (r : Outcome). Once f (r .log)) (sym e) g
     either-once false x y z e g h = subst (λ (r : Outcome). Once f (r .log)) (sym e) h
 
-    raised-once : (o : Order) → s .bodyAt + size (s .body) ≤ length (o .marks) → Once f (bodyRaised s o .log)
+    raised-once : (number : ℕ) (o : Order) → s .bodyAt + size (s .body) ≤ length (o .marks) → Once f (bodyRaised number s o .log)
     unfolding bodyRaised
-    raised-once o m = either-once (isOpen (markOf (s .name) o)) (faults s o) (looksAgain s o) (bodyRaised s o) refl (faults-once o m) (looks-lone f s kb kf o .once)
+    raised-once number o m = either-once (isOpen (markOf (s .name) o)) (faults number s o) (looksAgain s o) (bodyRaised number s o) refl (faults-once number o m) (looks-lone f s kb kf o .once)
 
     looks-after : (r : Outcome) → Once f (r .log) → Rests s r → Once f (r .log ++ looksAgain s (r .order) .log)
     unfolding times
@@ -89,11 +91,11 @@ module _ (f : ℕ → ℕ) where
         go true = once-light f (r .log) w (light-none f [] (λ j. refl))
         go false = looks-after r w e
 
-    undo-raised-none : (o : Order) (j : ℕ) → times j (undoRaised s o .log) ≡ 0
+    undo-raised-none : (number : ℕ) (o : Order) (j : ℕ) → times j (undoRaised number s o .log) ≡ 0
     unfolding undoRaised breaks times isBeganOf
-    undo-raised-none o j = go (eqb (markOf (s .name) o) undoing || eqb (markOf (s .name) o) withdrawing)
+    undo-raised-none number o j = go (eqb (markOf (s .name) o) undoing || eqb (markOf (s .name) o) withdrawing)
       where
-        go : (b : Bool) → times j (log-of (elim b [ true ↦ breaks s o | false ↦ runs o ])) ≡ 0
+        go : (b : Bool) → times j (log-of (elim b [ true ↦ breaks number s o | false ↦ runs o ])) ≡ 0
         go true = refl
         go false = refl
 
@@ -105,11 +107,11 @@ module _ (f : ℕ → ℕ) where
         go true = refl
         go false = refl
 
-    part-raised-none : (o : Order) (j : ℕ) → times j (partRaised s o .log) ≡ 0
+    part-raised-none : (number : ℕ) (o : Order) (j : ℕ) → times j (partRaised number s o .log) ≡ 0
     unfolding partRaised breaks times isBeganOf
-    part-raised-none o j = go (eqb (markOf (s .name) o) handling)
+    part-raised-none number o j = go (eqb (markOf (s .name) o) handling)
       where
-        go : (b : Bool) → times j (log-of (elim b [ true ↦ breaks s o | false ↦ runs o ])) ≡ 0
+        go : (b : Bool) → times j (log-of (elim b [ true ↦ breaks number s o | false ↦ runs o ])) ≡ 0
         go true = refl
         go false = refl
 
@@ -122,10 +124,10 @@ module _ (f : ℕ → ℕ) where
         go : (x : Result) → r .result ≡ x → Once f (fromBody s (record { result = x; order = r .order; log = r .log }) .log)
         go running e = looks-after r w (g (ap isGoing e))
         go over e = over-after r w (g (ap isGoing e))
-        go raising e = light-once f (bodyRaised s (r .order) .log) (light-none f (r .log) (z (ap isRaising e))) (raised-once (r .order) m)
+        go (raising x) e = light-once f (bodyRaised x s (r .order) .log) (light-none f (r .log) (z (ap isRaising e))) (raised-once x (r .order) m)
         go leaving e = w
         go undone e = light-once f (undoOver s (r .order) .log) (u e) (undone-lone f s kb kf (r .order) .once)
-        go undoRaising e = once-light f (r .log) w (light-none f (undoRaised s (r .order) .log) (undo-raised-none (r .order)))
+        go (undoRaising x) e = once-light f (r .log) w (light-none f (undoRaised x s (r .order) .log) (undo-raised-none x (r .order)))
 
     pub fault-once : (r : Outcome) → Once f (r .log) → Once f (fromFault s r .log)
     unfolding fromFault
@@ -134,24 +136,24 @@ module _ (f : ℕ → ℕ) where
         go : (x : Result) → Once f (fromFault s (record { result = x; order = r .order; log = r .log }) .log)
         go running = w
         go over = once-light f (r .log) w (light-none f (partOver s (r .order) .log) (part-over-none (r .order)))
-        go raising = once-light f (r .log) w (light-none f (partRaised s (r .order) .log) (part-raised-none (r .order)))
+        go (raising x) = once-light f (r .log) w (light-none f (partRaised x s (r .order) .log) (part-raised-none x (r .order)))
         go leaving = w
         go undone = w
-        go undoRaising = w
+        go (undoRaising x) = w
 
   -- Activities other than scopes.
   or-lone : (k : ℕ) (o : Order) (g : ℕ → Outcome) (v : Value) → ((n : ℕ) → Lone f (g n)) → Lone f (orRaises k o g v)
   unfolding times isBeganOf
-  or-lone k o g fault h = lone-zero f (raises k o) (λ j. refl)
+  or-lone k o g (fault x) h = lone-zero f (raises x k o) (λ j. refl)
   or-lone k o g (value n) h = h n
 
   pub itself-lone : (own : Own) (within : Acts) (q₀ k : ℕ) (o : Order) → needs own ≤ count within → KnowsIn f within (k + 1) → Lone f (itself own within q₀ k o)
   unfolding itself needs least kind times isBeganOf closing repeats
   itself-lone empty within q₀ k o n y = lone-zero f (runs o) (λ j. refl)
-  itself-lone (send a b vs) within q₀ k o n y = decide (allBound o vs) (λ e. rw e (lone-zero f (finishes k o) (λ j. refl))) (λ e. rw e (lone-zero f (raises k o) (λ j. refl)))
+  itself-lone (send a b vs) within q₀ k o n y = decide (allBound o vs) (λ e. rw e (lone-zero f (finishes k o) (λ j. refl))) (λ e. rw e (lone-zero f (raises unboundVariable k o) (λ j. refl)))
   itself-lone (receive a b vs) within q₀ k o n y = lone-zero f (finishes k o) (λ j. refl)
   itself-lone (setting v e) within q₀ k o n y = or-lone k o _ (evaluate e o) (λ i. lone-zero f (finishes k (binding v i o)) (λ j. refl))
-  itself-lone raise within q₀ k o n y = lone-zero f (raises k o) (λ j. refl)
+  itself-lone (raise number) within q₀ k o n y = lone-zero f (raises number k o) (λ j. refl)
   itself-lone leave within q₀ k o n y = lone-zero f (itself leave within q₀ k o) (λ j. refl)
   itself-lone (choose e) within q₀ k o n y =
       or-lone k o _ (evaluate e o) (λ z. let o₁ = marked k inside o in
@@ -212,10 +214,10 @@ module _ (f : ℕ → ℕ) where
       go : (x : Result) → Once f (whereOver (λ q. elim (eqb (markAt k q) v) [ true ↦ g q | false ↦ runs q ]) (record { result = x; order = r .order; log = r .log }) .log)
       go running = w
       go over = on (eqb (markAt k (r .order)) v)
-      go raising = w
+      go (raising x) = w
       go leaving = w
       go undone = w
-      go undoRaising = w
+      go (undoRaising x) = w
 
   sequence-once : (actor : Actor) {within : Acts} (v₀ : Bool) (q₀ k t : ℕ) (o : Order) → KnowsIn f within (k + 1) → Arms false within → k + 1 ≤ t → Once f (stepAmong actor within v₀ q₀ (k + 1) t o .log)
       → Once f (goesOn k active (λ q. whereOver (finishes k) (begunIn q (beginAfter within (k + 1) t (q .marks)))) (stepAmong actor within v₀ q₀ (k + 1) t o) .log)
@@ -246,10 +248,10 @@ module _ (f : ℕ → ℕ) where
           → Once f (whereOver (λ q. elim (eqb (markAt k q) active) [ true ↦ whereOver (finishes k) (begunIn q (beginAfter within (k + 1) t (q .marks))) | false ↦ runs q ]) (record { result = x; order = r .order; log = r .log }) .log)
       go running = w
       go over = on (eqb (markAt k (r .order)) active)
-      go raising = w
+      go (raising x) = w
       go leaving = w
       go undone = w
-      go undoRaising = w
+      go (undoRaising x) = w
 
   joins-none : (k : ℕ) (within : Acts) (q : Order) (j : ℕ) → times j (joins k within q .log) ≡ 0
   unfolding joins times
@@ -267,7 +269,7 @@ module _ (f : ℕ → ℕ) where
   combines-once actor (send a b vs) within q₀ k t o s r y h w = w
   combines-once actor (receive a b vs) within q₀ k t o s r y h w = w
   combines-once actor (setting v e) within q₀ k t o s r y h w = w
-  combines-once actor raise within q₀ k t o s r y h w = w
+  combines-once actor (raise number) within q₀ k t o s r y h w = w
   combines-once actor leave within q₀ k t o s r y h w = w
   combines-once actor (choose e) within q₀ k t o s r y h w = on-once k inside (finishes k) _ w (λ q j. refl)
   combines-once actor (repeat e) within q₀ k t o s r y h w = on-once k inside (again k) _ w (λ q j. refl)
@@ -288,8 +290,8 @@ module _ (f : ℕ → ℕ) where
   unfolding performs times isBeganOf
   performs-once actor own within q₀ k o n y = go (replaces actor (kind own))
     where
-      go : (b : Bool) → Once f (log-of (elim b [ true ↦ raises k o | false ↦ itself own within q₀ k o ]))
-      go true = lone-zero f (raises k o) (λ j. refl) .once
+      go : (b : Bool) → Once f (log-of (elim b [ true ↦ raises conflictingReceive k o | false ↦ itself own within q₀ k o ]))
+      go true = lone-zero f (raises conflictingReceive k o) (λ j. refl) .once
       go false = itself-lone own within q₀ k o n y .once
 
   -- the step of one of a list

@@ -1,5 +1,5 @@
 -- What an order still owes: what is to come of the undo part that runs, and the sure steps of those that are remembered. Assumes nothing.
-use Prim.Native.Nat.{ℕ, _+_, _≤_, _<_}
+use Prim.Native.Nat.{ℕ, zero, suc, _+_, _≤_, _<_}
 use native.Mathlib.Omega.{arith}
 use mathlib.Core.Path.{_≡_, refl, sym, ap, subst, _∙_}
 use mathlib.Core.Bool.{Bool, true, false, cond, not, _&&_, _||_, or-false, false≢true}
@@ -10,7 +10,7 @@ use Rattle.plan.specs.Tree.{Own, empty, send, receive, set as setting, raise, l
 use Rattle.order.specs.declared.Order.{Order}
 use Rattle.order.specs.Lists.{some}
 use Rattle.order.specs.State.{Name, active, inside, withMarks, closings, binding, markAt, marked}
-use Rattle.order.specs.Expression.{Value, fault, value, evaluate, isTrue}
+use Rattle.order.specs.Expression.{unboundVariable, Value, fault, value, evaluate, isTrue}
 use Rattle.order.specs.Begin.{beginAfter, beginPart, part, partAt, cleared, quiet}
 use Rattle.order.specs.declared.Way.{Way as Result}
 use Rattle.order.specs.declared.Way.the-variants.{Running as running, Over as over, Raising as raising, Leaving as leaving, Undone as undone, UndoRaising as undoRaising}
@@ -35,10 +35,10 @@ closings-where f r g = go (r .result)
     go : (x : Result) → closings (whereOver f (record { result = x; order = r .order; log = r .log }) .order) ≡ closings (r .order)
     go running = refl
     go over = g (r .order)
-    go raising = refl
+    go (raising x) = refl
     go leaving = refl
     go undone = refl
-    go undoRaising = refl
+    go (undoRaising x) = refl
 
 closings-goes : (k m : ℕ) (f : Order → Outcome) (r : Outcome) → ((o : Order) → closings (f o .order) ≡ closings o) → closings (goesOn k m f r .order) ≡ closings (r .order)
 unfolding goesOn
@@ -57,7 +57,7 @@ closings-joins k within o = go (quiet (k + 1) (sizes within) (o .marks))
     go false = refl
 
 closings-raises : (k : ℕ) (o : Order) (f : ℕ → Outcome) (v : Value) → ((n : ℕ) → closings (f n .order) ≡ closings o) → closings (orRaises k o f v .order) ≡ closings o
-closings-raises k o f fault g = refl
+closings-raises k o f (fault x) g = refl
 closings-raises k o f (value n) g = g n
 
 closings-repeats : (k : ℕ) (within : Acts) (o : Order) → closings (repeats k within o .order) ≡ closings o
@@ -70,12 +70,13 @@ unfolding itself kind
 closings-itself empty within y₀ k o s = refl
 closings-itself (send x y vs) within y₀ k o s = go (allBound o vs)
   where
-    go : (b : Bool) → closings (cond b (finishes k o) (raises k o) .order) ≡ closings o
+    go : (b : Bool) → closings (cond b (finishes k o) (raises unboundVariable k o) .order) ≡ closings o
     go true = refl
     go false = refl
 closings-itself (receive x y vs) within y₀ k o s = refl
 closings-itself (setting v x) within y₀ k o s = closings-raises k o (λ n. finishes k (binding v n o)) (evaluate x o) (λ n. refl)
-closings-itself raise within y₀ k o s = refl
+closings-itself (raise zero) within y₀ k o s = refl
+closings-itself (raise (suc number)) within y₀ k o s = refl
 closings-itself leave within y₀ k o s = refl
 closings-itself (choose x) within y₀ k o s =
     closings-raises k o _ (evaluate x o) (λ n. closings-where (finishes k) (begunIn (marked k inside o) (beginPart (cond (isTrue n) 0 1) within (k + 1) (marked k inside o .marks))) (λ o. refl))
@@ -96,7 +97,8 @@ closings-combines empty within k t r s = refl
 closings-combines (send x y vs) within k t r s = refl
 closings-combines (receive x y vs) within k t r s = refl
 closings-combines (setting v x) within k t r s = refl
-closings-combines raise within k t r s = refl
+closings-combines (raise zero) within k t r s = refl
+closings-combines (raise (suc number)) within k t r s = refl
 closings-combines leave within k t r s = refl
 closings-combines (choose x) within k t r s = closings-goes k inside (finishes k) r (λ o. refl)
 closings-combines (repeat x) within k t r s = closings-goes k inside (again k) r (λ o. refl)

@@ -1,5 +1,5 @@
 -- A sequence that has the step in it runs on, or all that follows in it begins: of a step that is neither a raise nor a leave. Assumes nothing.
-use Prim.Native.Nat.{ℕ, _+_, _≤_, _<_}
+use Prim.Native.Nat.{ℕ, zero, suc, _+_, _≤_, _<_}
 use native.Mathlib.Omega.{arith}
 use mathlib.Core.Path.{_≡_, refl, sym, ap, subst, _∙_}
 use mathlib.Core.Bool.{Bool, true, false, cond, not, _&&_, _||_, false≢true, or-true}
@@ -120,10 +120,10 @@ module _ (f : ℕ → ℕ) where
           → laterBegan within (k + 1) t (whereOver (λ q. elim (eqb (markAt k q) active) [ true ↦ whereOver (finishes k) (begunIn q (beginAfter within (k + 1) t (q .marks))) | false ↦ runs q ]) (record { result = x; order = r .order; log = r .log }) .log) ≡ true
       go running e = absurd (false≢true e)
       go over e = on (eqb (markAt k (r .order)) active) _ refl e
-      go raising e = absurd (false≢true e)
+      go (raising x) e = absurd (false≢true e)
       go leaving e = absurd (false≢true e)
       go undone e = absurd (false≢true e)
-      go undoRaising e = absurd (false≢true e)
+      go (undoRaising x) e = absurd (false≢true e)
 
   -- What runs has something in it that lasts and is marked.
   pub data Loud (ms : List ℕ) (c n : ℕ) : Type 0 where
@@ -138,7 +138,8 @@ module _ (f : ℕ → ℕ) where
   doer-lasts (send p o vs) e = refl
   doer-lasts (receive p o vs) e = refl
   doer-lasts (setting v x) e = refl
-  doer-lasts raise e = refl
+  doer-lasts (raise zero) e = refl
+  doer-lasts (raise (suc number)) e = refl
   doer-lasts leave e = refl
   doer-lasts (choose x) e = refl
   doer-lasts (repeat x) e = refl
@@ -254,7 +255,8 @@ module _ (p : Plan) (actor : Actor) (f : ℕ → ℕ) (t : ℕ) (o : Order) wher
   seq-claim (send a b vs) within y₀ k x h w c q e = absurd (false≢true e)
   seq-claim (receive a b vs) within y₀ k x h w c q e = absurd (false≢true e)
   seq-claim (setting v z) within y₀ k x h w c q e = absurd (false≢true e)
-  seq-claim raise within y₀ k x h w c q e = absurd (false≢true e)
+  seq-claim (raise zero) within y₀ k x h w c q e = absurd (false≢true e)
+  seq-claim (raise (suc number)) within y₀ k x h w c q e = absurd (false≢true e)
   seq-claim leave within y₀ k x h w c q e = absurd (false≢true e)
   seq-claim (choose z) within y₀ k x h w c q e = absurd (false≢true e)
   seq-claim (repeat z) within y₀ k x h w c q e = absurd (false≢true e)
@@ -278,10 +280,10 @@ module _ (p : Plan) (actor : Actor) (f : ℕ → ℕ) (t : ℕ) (o : Order) wher
       go over d v =
           on-later (subst (λ (u : Outcome). laterBegan within (k + 1) t (u .log) ≡ true) (sym q)
           (seq-over f k t (stepAmong actor within false y₀ (k + 1) t o) y a (subst (λ (u : Outcome). isOver (u .result) ≡ true) q (subst (λ (z : Result). isOver z ≡ true) (sym d) refl))))
-      go raising d v = absurd (false≢true (sym good ∙ ap isBad d))
+      go (raising x) d v = absurd (false≢true (sym good ∙ ap isBad d))
       go leaving d v = absurd (false≢true (sym good ∙ ap isBad d))
       go undone d v = absurd v
-      go undoRaising d v = absurd v
+      go (undoRaising x) d v = absurd v
   seq-claim flow within y₀ k x h w c q e = absurd (false≢true e)
   seq-claim pick within y₀ k x h w c q e = absurd (false≢true e)
   seq-claim (scope true) within y₀ k x h w c q e = absurd (false≢true e)
@@ -361,10 +363,10 @@ module _ (p : Plan) (actor : Actor) (f : ℕ → ℕ) (t : ℕ) (o : Order) wher
           go : (x : Result) → isBad x ≡ false → isUndone x ≡ false → hasBegan i (fromBody s (record { result = x; order = its .order; log = its .log }) .log) ≡ false
           go running n u = with-more (looksAgain s (its .order) .log) still
           go over n u = with-more (bodyOver s (its .order) .log) (ended-so (eqb (markOf (s .name) (its .order)) active) (bodyOver s (its .order)) refl)
-          go raising n u = absurd (false≢true (sym n))
+          go (raising x) n u = absurd (false≢true (sym n))
           go leaving n u = absurd (false≢true (sym n))
           go undone n u = absurd (false≢true (sym u))
-          go undoRaising n u = absurd (false≢true (sym n))
+          go (undoRaising x) n u = absurd (false≢true (sym n))
 
       body-passes : ((j : ℕ) → s .bodyAt ≤ j → j < s .bodyAt + size (s .body) → Up (its .order .marks) j → (looksAgain s (its .order) ≡ runs (its .order)) × (isUndone (its .result) ≡ false)) → Passes its (fromBody s its) (s .bodyAt) (size (s .body))
       body-passes g =
@@ -381,10 +383,10 @@ module _ (p : Plan) (actor : Actor) (f : ℕ → ℕ) (t : ℕ) (o : Order) wher
           not-undone : (y : Result) → RunAs p (s .body) (s .bodyAt) t o (its .log) (its .order) y → isUndone y ≡ false
           not-undone running c = refl
           not-undone over c = refl
-          not-undone raising c = refl
+          not-undone (raising x) c = refl
           not-undone leaving c = refl
           not-undone undone c = absurd c
-          not-undone undoRaising c = refl
+          not-undone (undoRaising x) c = refl
 
       pub waits-passes : Acted (s .bodyAt) (size (s .body)) o (StopAs p (s .body) (s .bodyAt) o) its → Passes its (fromBody s its) (s .bodyAt) (size (s .body))
       waits-passes v =
@@ -398,18 +400,18 @@ module _ (p : Plan) (actor : Actor) (f : ℕ → ℕ) (t : ℕ) (o : Order) wher
           stopped-of : (y : Result) → isBad y ≡ false → StopAs p (s .body) (s .bodyAt) o (its .log) (its .order) y → Stopped (its .order .marks) (s .body) (s .bodyAt)
           stopped-of running n c = c .0
           stopped-of over n c = c .0
-          stopped-of raising n c = absurd (false≢true (sym n))
+          stopped-of (raising x) n c = absurd (false≢true (sym n))
           stopped-of leaving n c = absurd (false≢true (sym n))
           stopped-of undone n c = absurd c
-          stopped-of undoRaising n c = absurd c
+          stopped-of (undoRaising x) n c = absurd c
 
           not-undone : (y : Result) → StopAs p (s .body) (s .bodyAt) o (its .log) (its .order) y → isUndone y ≡ false
           not-undone running c = refl
           not-undone over c = refl
-          not-undone raising c = refl
+          not-undone (raising x) c = refl
           not-undone leaving c = refl
           not-undone undone c = absurd c
-          not-undone undoRaising c = refl
+          not-undone (undoRaising x) c = refl
 
       pub undoes-passes : (z : Bool) → phase (markOf (s .name) o) ≡ Phase.undoes z → Acted (s .bodyAt) (size (s .body)) o (UndoAs p (s .name) (s .body) (s .bodyAt) t o) its → Passes its (fromBody s its) (s .bodyAt) (size (s .body))
       undoes-passes z ph v =
@@ -423,10 +425,10 @@ module _ (p : Plan) (actor : Actor) (f : ℕ → ℕ) (t : ℕ) (o : Order) wher
           undone-quiet : (y : Result) → isUndone y ≡ true → UndoAs p (s .name) (s .body) (s .bodyAt) t o (its .log) (its .order) y → (j : ℕ) → s .bodyAt ≤ j → j < s .bodyAt + size (s .body) → Up (its .order .marks) j → ⊥
           undone-quiet running d c j x z u = false≢true d
           undone-quiet over d c j x z u = false≢true d
-          undone-quiet raising d c j x z u = false≢true d
+          undone-quiet (raising n) d c j x z u = false≢true d
           undone-quiet leaving d c j x z u = false≢true d
           undone-quiet undone d c j x z u = false≢true (sym u ∙ ap (λ (m : ℕ). eqb m idle) (c .0 .at j x z))
-          undone-quiet undoRaising d c j x z u = false≢true d
+          undone-quiet (undoRaising n) d c j x z u = false≢true d
 
     -- its fault part
     pub fault-passes : some isRash (fromFault s (stepIn actor (s .fault) (s .faultAt) (s .faultAt) t o) .log) ≡ false

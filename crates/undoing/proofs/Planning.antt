@@ -1,5 +1,5 @@
 -- What accepting a plan promises of its scopes. Assumes nothing.
-use Prim.Native.Nat.{ℕ, _+_, _≤_, _<_}
+use Prim.Native.Nat.{ℕ, zero, suc, _+_, _≤_, _<_}
 use native.Mathlib.Omega.{arith}
 use mathlib.Core.Path.{_≡_, refl, sym, ap, subst, _∙_}
 use mathlib.Core.Bool.{Bool, true, false, not, _&&_, _||_, false≢true, or-false, and-true, and-false, cond}
@@ -49,7 +49,8 @@ own-formed vars cs h r empty n e s = (sym (not-true r (both (not r) _ e (λ x y.
 own-formed vars cs h r (send x y vs) n e s = (sym (not-true r (both (not r) _ e (λ x y. x))), omega arith)
 own-formed vars cs h r (receive x y vs) n e s = (sym (not-true r (both (not r) _ e (λ x y. x))), omega arith)
 own-formed vars cs h r (setting v x) n e s = (sym (not-true r (both (not r) _ e (λ x y. x))), omega arith)
-own-formed vars cs h r raise n e s = (sym (not-true r (both (not r) _ e (λ x y. x))), omega arith)
+own-formed vars cs h r (raise zero) n e s = (sym (not-true r (both (not r) _ e (λ x y. x))), omega arith)
+own-formed vars cs h r (raise (suc number)) n e s = (sym (not-true r (both (not r) _ e (λ x y. x))), omega arith)
 own-formed vars cs h r leave n e s = (sym (not-true r (both (not r) _ e (λ x y. x))), omega arith)
 own-formed vars cs h r (choose x) n e s =
     both (not r) _ e (λ a b. both (eqb n 2) _ b (λ c d. (sym (not-true r a), let z : n ≡ 2 = eqb-true n 2 c in omega arith)))
@@ -69,7 +70,8 @@ scope-own empty e = absurd (false≢true e)
 scope-own (send x y vs) e = absurd (false≢true e)
 scope-own (receive x y vs) e = absurd (false≢true e)
 scope-own (setting v x) e = absurd (false≢true e)
-scope-own raise e = absurd (false≢true e)
+scope-own (raise zero) e = absurd (false≢true e)
+scope-own (raise (suc number)) e = absurd (false≢true e)
 scope-own leave e = absurd (false≢true e)
 scope-own (choose x) e = absurd (false≢true e)
 scope-own (repeat x) e = absurd (false≢true e)

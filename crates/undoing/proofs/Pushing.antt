@@ -1,5 +1,5 @@
 -- What closes directly inside the root with a step, by its log: the step itself, where it is the close of such a scope. Assumes nothing.
-use Prim.Native.Nat.{ℕ, _+_, _≤_, _<_}
+use Prim.Native.Nat.{ℕ, zero, suc, _+_, _≤_, _<_}
 use native.Mathlib.Omega.{arith}
 use mathlib.Core.Path.{_≡_, refl, sym, ap, subst, _∙_}
 use mathlib.Core.Bool.{Bool, true, false, cond, not, _&&_, _||_, false≢true}
@@ -10,12 +10,12 @@ use Rattle.plan.specs.Tree.{Own, empty, send, receive, set as setting, raise, l
 use Rattle.order.specs.declared.Order.{Order}
 use Rattle.order.specs.Lists.{every, some, only, each}
 use Rattle.order.specs.State.{Name, root, inner, same}
-use Rattle.order.specs.Expression.{evaluate}
+use Rattle.order.specs.Expression.{unboundVariable, conflictingReceive, Value, fault, value, evaluate}
 use Rattle.order.specs.Event.{Event, started, began, closed, faulted, stopped, ended, raised, left}
 use Rattle.order.specs.Scope.{rootOf}
 use Rattle.order.specs.Acting.{allBound, Actor, itsOwn, inPlace, stepIn}
 use Rattle.undoing.specs.Demand3.{Inner, scopesOf, insideOf, isBegin, closedBy, closingsOf}
-use Rattle.undoing.specs.Ties.{Place, nameOf, isDeed, isFault, raisedIf, deedOf, deedIn, deedAmong}
+use Rattle.undoing.specs.Ties.{Place, nameOf, isDeed, raisedIf, raisedBy, deedOf, deedIn, deedAmong}
 use Rattle.undoing.specs.Answered.{backIn, backAmong, backOf, isClose, putting}
 use Rattle.undoing.proofs.Parts.{both, decide, every-so, some-none}
 use Rattle.undoing.proofs.Accounts.{Known}
@@ -188,10 +188,10 @@ module _ (p : Plan) (h : Seat p (rootOf p)) where
   duesOnto (started ∷ l) d = duesOnto l d
   duesOnto (began k ∷ l) d = duesOnto l d
   duesOnto (closed k ∷ l) d = duesOnto l (cond (isClose p root k) (putting (backOf p k) d) d)
-  duesOnto (faulted n ∷ l) d = duesOnto l d
+  duesOnto (faulted n x ∷ l) d = duesOnto l d
   duesOnto (stopped k ∷ l) d = duesOnto l d
   duesOnto (ended n ∷ l) d = duesOnto l d
-  duesOnto (raised k ∷ l) d = duesOnto l d
+  duesOnto (raised k x ∷ l) d = duesOnto l d
   duesOnto (left ∷ l) d = duesOnto l d
 
   -- one event
@@ -205,21 +205,26 @@ module _ (p : Plan) (h : Seat p (rootOf p)) where
   onto-dues (started ∷ l) past h = absurd (false≢true (sym h))
   onto-dues (began k ∷ l) past h = onto-dues l (began k ∷ past) h ∙ ap (duesOnto (only isDeed l)) (next-dues (began k) past refl)
   onto-dues (closed k ∷ l) past h = onto-dues l (closed k ∷ past) h ∙ ap (duesOnto (only isDeed l)) (next-dues (closed k) past refl ∙ closed-dues k past (closingsOf p root past))
-  onto-dues (faulted n ∷ l) past h = onto-dues l (faulted n ∷ past) h ∙ ap (duesOnto (only isDeed l)) (next-dues (faulted n) past refl)
+  onto-dues (faulted n x ∷ l) past h = onto-dues l (faulted n x ∷ past) h ∙ ap (duesOnto (only isDeed l)) (next-dues (faulted n x) past refl)
   onto-dues (stopped k ∷ l) past h = onto-dues l (stopped k ∷ past) h ∙ ap (duesOnto (only isDeed l)) (next-dues (stopped k) past refl)
   onto-dues (ended n ∷ l) past h = onto-dues l (ended n ∷ past) h ∙ ap (duesOnto (only isDeed l)) (next-dues (ended n) past refl)
-  onto-dues (raised k ∷ l) past h = onto-dues l (raised k ∷ past) h ∙ ap (duesOnto (only isDeed l)) (next-dues (raised k) past refl)
+  onto-dues (raised k x ∷ l) past h = onto-dues l (raised k x ∷ past) h ∙ ap (duesOnto (only isDeed l)) (next-dues (raised k x) past refl)
   onto-dues (left ∷ l) past h = onto-dues l (left ∷ past) h ∙ ap (duesOnto (only isDeed l)) (next-dues left past refl)
 
   -- a step that closes nothing directly inside
-  if-raised : (k : ℕ) (d : List (List ℕ)) (b : Bool) → duesOnto (raisedIf k b) d ≡ d
+  if-raised : (k x : ℕ) (d : List (List ℕ)) (b : Bool) → duesOnto (raisedIf k x b) d ≡ d
   unfolding duesOnto
-  if-raised k d true = refl
-  if-raised k d false = refl
+  if-raised k x d true = refl
+  if-raised k x d false = refl
 
-  nothing-closed : (k : ℕ) (d : List (List ℕ)) → duesOnto (raised k ∷ []) d ≡ d
+  by-raised : (k : ℕ) (d : List (List ℕ)) (v : Value) → duesOnto (raisedBy k v) d ≡ d
   unfolding duesOnto
-  nothing-closed k d = refl
+  by-raised k d (fault x) = refl
+  by-raised k d (value n) = refl
+
+  nothing-closed : (k x : ℕ) (d : List (List ℕ)) → duesOnto (raised k x ∷ []) d ≡ d
+  unfolding duesOnto
+  nothing-closed k x d = refl
 
   left-closed : (d : List (List ℕ)) → duesOnto (left ∷ []) d ≡ d
   unfolding duesOnto
@@ -232,13 +237,13 @@ module _ (p : Plan) (h : Seat p (rootOf p)) where
   other-own : (own : Own) (k : ℕ) (o : Order) (d : List (List ℕ)) → isClose p root k ≡ false → duesOnto (deedOf own k o) d ≡ d
   unfolding deedOf duesOnto
   other-own empty k o d e = refl
-  other-own (send x y vs) k o d e = if-raised k d (not (allBound o vs))
+  other-own (send x y vs) k o d e = if-raised k unboundVariable d (not (allBound o vs))
   other-own (receive x y vs) k o d e = refl
-  other-own (setting v x) k o d e = if-raised k d (isFault (evaluate x o))
-  other-own raise k o d e = nothing-closed k d
+  other-own (setting v x) k o d e = by-raised k d (evaluate x o)
+  other-own (raise number) k o d e = nothing-closed k number d
   other-own leave k o d e = left-closed d
-  other-own (choose x) k o d e = if-raised k d (isFault (evaluate x o))
-  other-own (repeat x) k o d e = if-raised k d (isFault (evaluate x o))
+  other-own (choose x) k o d e = by-raised k d (evaluate x o)
+  other-own (repeat x) k o d e = by-raised k d (evaluate x o)
   other-own sequence k o d e = refl
   other-own flow k o d e = refl
   other-own pick k o d e = refl
@@ -280,4 +285,4 @@ module _ (p : Plan) (h : Seat p (rootOf p)) where
   step-dues inPlace t o past w e =
       let d = raise-deeds (p .body) 0 0 t o (ap isTake (sym (doing-body p t e)) ∙ w) in
       onto-dues (stepIn inPlace (p .body) 0 0 t o .log) past (start-kept (stepIn inPlace (p .body) 0 0 t o .log) ∙ ap (some isStart) d)
-      ∙ (ap (λ (l : List Event). duesOnto l (duesIn (closingsOf p root past))) d ∙ nothing-closed t (duesIn (closingsOf p root past)))
+      ∙ (ap (λ (l : List Event). duesOnto l (duesIn (closingsOf p root past))) d ∙ nothing-closed t conflictingReceive (duesIn (closingsOf p root past)))

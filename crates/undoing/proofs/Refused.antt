@@ -9,7 +9,7 @@ use Rattle.plan.specs.Tree.{Plan}
 use Rattle.order.specs.declared.Order.{Order}
 use Rattle.order.specs.declared.End.{End}
 use Rattle.order.specs.declared.End.the-variants.{None, Well, Handled, Failed, Left}
-use Rattle.order.specs.State.{root, inner, idle, active, inside, done, faulty, undoing, handling, closingOf, marked, isLive, noOrder, withRoot, withMarks, remembering}
+use Rattle.order.specs.State.{root, inner, idle, active, inside, done, faulty, undoing, handling, closingOf, marked, isLive, noOrder, withRoot, withMarks, remembering, causing}
 use Rattle.order.specs.Event.{Event, started, began, closed, faulted, stopped, ended, raised, left}
 use Rattle.order.specs.Acting.{startedOrder}
 use Rattle.machine.specs.State.{noTally}
@@ -19,14 +19,14 @@ use Rattle.machine.specs.Computing.{computing}
 use Rattle.undoing.specs.Computing.{judging}
 use Rattle.undoing.specs.Weighing.{weighing}
 use Rattle.undoing.specs.History.{history}
-use Rattle.undoing.specs.Ties.{orderAfter, deedAt, deedsTaken, endList, endsTaken}
+use Rattle.undoing.specs.Ties.{orderAfter, deedAt, deedsTaken, endList, endsTaken, causeAnswered, causesTaken}
 use Rattle.undoing.specs.Begun.{hasBegan, markBefore, Taken, stepsTaken}
-use Rattle.undoing.specs.UndoneRight.{Named, demand3, orderly, faults, steps, ends, begunTruly, begunAll, begunInTurn, once, afresh, entirely, leftToFinish, keptRunning, passedOn, decided, itsStep, ownSteps, marks, lists, places, goingOn, neverStuck, stoppedWithin, toCome, standing, broken}
+use Rattle.undoing.specs.UndoneRight.{Named, demand3, orderly, faults, steps, ends, causes, begunTruly, begunAll, begunInTurn, once, afresh, entirely, leftToFinish, keptRunning, passedOn, decided, itsStep, ownSteps, marks, kept, lists, places, goingOn, neverStuck, stoppedWithin, toCome, standing, broken}
 
--- What an engine does: a step of an activity, with what the order becomes, what it logs and what it answers; or something that happens to the slot while another
+-- What an engine does: a step of an activity, with what the order becomes, what it logs and what it answers, its end and the number of its fault; or something that happens to the slot while another
 -- slot has its step, or with a post.
 data Deed : Type 0 where
-  does : (activity : ℕ) → (Order → Order) → List Event → End → Deed
+  does : (activity : ℕ) → (Order → Order) → List Event → End → (fault : ℕ) → Deed
   silently : (Order → Order) → Deed
 
 -- An engine that is right up to some calls, and then does these deeds, in slot 0 of a fresh state of a plan.
@@ -40,22 +40,23 @@ first-of : List Named → List Named → List Named
 first-of [] l = l
 first-of (n ∷ m) l = n ∷ m
 
--- by what the deeds are in the history, the ends answered, the steps taken, the order that stands now, and what happened
-judge : Plan → List Event → List End → List Taken → Order → List Event → List Deed → List Named
-judge p ds es ts o h [] = []
-judge p ds es ts o h (does k f l e ∷ ws) =
+-- by what the deeds are in the history, the ends and the numbers answered, the steps taken, the order that stands now, and what happened
+judge : Plan → List Event → List End → List ℕ → List Taken → Order → List Event → List Deed → List Named
+judge p ds es xs ts o h [] = []
+judge p ds es xs ts o h (does k f l e x ∷ ws) =
     let q = f o in
     let ds′ = ds ++ (cond (isLive o) [] (started ∷ []) ++ deedAt p k (cond (isLive o) o (startedOrder p))) in
     let es′ = es ++ endList e in
+    let xs′ = xs ++ causeAnswered x e in
     let ts′ = ts ++ (record { activity = k; before = o; after = q; log = l } ∷ []) in
     let h′ = h ++ l in
-    first-of (broken p ds′ es′ ts′ q h′) (judge p ds′ es′ ts′ q h′ ws)
-judge p ds es ts o h (silently f ∷ ws) = first-of (broken p ds es ts (f o) h) (judge p ds es ts (f o) h ws)
+    first-of (broken p ds′ es′ xs′ ts′ q h′) (judge p ds′ es′ xs′ ts′ q h′ ws)
+judge p ds es xs ts o h (silently f ∷ ws) = first-of (broken p ds es xs ts (f o) h) (judge p ds es xs ts (f o) h ws)
 
 verdict : Engine → List Named
 verdict x =
     let s = loaded (x .bytes) in
-    by [] (λ p. judge p (deedsTaken p (x .calls) 0 s noTally) (endsTaken (x .calls) 0 s noTally) (stepsTaken p (x .calls) 0 s noTally) (orderAfter (x .calls) 0 s noTally) (history (x .calls) 0 s noTally) (x .deeds)) (readPlan (x .bytes))
+    by [] (λ p. judge p (deedsTaken p (x .calls) 0 s noTally) (endsTaken (x .calls) 0 s noTally) (causesTaken (x .calls) 0 s noTally) (stepsTaken p (x .calls) 0 s noTally) (orderAfter (x .calls) 0 s noTally) (history (x .calls) 0 s noTally) (x .deeds)) (readPlan (x .bytes))
 
 -- the message that starts each order, and the first choice
 abbrev first : Call
@@ -184,6 +185,18 @@ handedOnce = 1 ∷ 2 ∷ 0 ∷ 8 ∷ 4 ∷ 2 ∷ 0 ∷ 0 ∷ 1 ∷ 0 ∷ 3 ∷ 1
 unfoldable anew : List ℕ
 anew = 1 ∷ 2 ∷ 0 ∷ 8 ∷ 3 ∷ 2 ∷ 0 ∷ 0 ∷ 1 ∷ 0 ∷ 3 ∷ 1 ∷ 0 ∷ 0 ∷ 7 ∷ 5 ∷ 1 ∷ 1 ∷ 0 ∷ 3 ∷ 8 ∷ 2 ∷ 12 ∷ 8 ∷ 2 ∷ 11 ∷ 0 ∷ 0 ∷ 9 ∷ 2 ∷ 4 ∷ 2 ∷ 1 ∷ 1 ∷ 1 ∷ 0 ∷ 6 ∷ 5 ∷ 0 ∷ 0 ∷ 1 ∷ 1 ∷ 4 ∷ 0 ∷ 0 ∷ 3 ∷ 1 ∷ 2 ∷ 1 ∷ 1 ∷ 0 ∷ 1 ∷ 0 ∷ []
 
+-- Faults with a number.
+
+-- A receive 1; a flow 2 of a scope 3 of code 12, whose body is a raise 4 and its fault part a set 5 to 0 - 1, and a set 6 from a variable that nothing has bound;
+-- the root's fault part 7, a send. The scope faults with 0, then the root with 1, by the set 6; the fault of the set 5, number 3, ends the scope and is absorbed.
+unfoldable absorbed : List ℕ
+absorbed = 1 ∷ 2 ∷ 0 ∷ 8 ∷ 2 ∷ 2 ∷ 0 ∷ 0 ∷ 1 ∷ 0 ∷ 9 ∷ 2 ∷ 12 ∷ 4 ∷ 3 ∷ 1 ∷ 3 ∷ 0 ∷ 0 ∷ 0 ∷ 1 ∷ 3 ∷ 1 ∷ 1 ∷ 1 ∷ 1 ∷ 2 ∷ 2 ∷ 1 ∷ 0 ∷ []
+
+-- A receive 1; a scope 2 of code 12, whose body is a raise 3 and its fault part a set 4 from a variable that nothing has bound; the root's fault part 5, a
+-- send.
+unfoldable passedOut : List ℕ
+passedOut = 1 ∷ 2 ∷ 0 ∷ 8 ∷ 2 ∷ 2 ∷ 0 ∷ 0 ∷ 1 ∷ 0 ∷ 12 ∷ 4 ∷ 3 ∷ 1 ∷ 1 ∷ 1 ∷ 1 ∷ 2 ∷ 2 ∷ 1 ∷ 0 ∷ []
+
 -- Document 01's own and its shortcuts.
 
 -- a raise ends the order at once, without undo
@@ -191,7 +204,7 @@ unfoldable ending : Engine
 ending = record {
   bytes = planC;
   calls = first ∷ next ∷ next ∷ next ∷ [];
-  deeds = does 10 gone (raised 10 ∷ ended root ∷ []) Failed ∷ [];
+  deeds = does 10 gone (raised 10 0 ∷ ended root ∷ []) Failed 0 ∷ [];
 }
 
 -- a raise starts the fault part without undo
@@ -199,7 +212,7 @@ unfoldable skipsUndo : Engine
 skipsUndo = record {
   bytes = planC;
   calls = first ∷ next ∷ next ∷ next ∷ [];
-  deeds = does 10 gone (raised 10 ∷ began 11 ∷ ended root ∷ []) Handled ∷ [];
+  deeds = does 10 gone (raised 10 0 ∷ began 11 ∷ ended root ∷ []) Handled 0 ∷ [];
 }
 
 -- scopes are neither logged nor undone
@@ -207,7 +220,7 @@ unfoldable scopeless : Engine
 scopeless = record {
   bytes = planC;
   calls = first ∷ [];
-  deeds = does 1 (λ o. withRoot active (marked 0 active (marked 10 active noOrder))) (started ∷ began 0 ∷ began 1 ∷ began 3 ∷ began 7 ∷ began 10 ∷ []) None ∷ does 10 gone (raised 10 ∷ faulted root ∷ began 11 ∷ ended root ∷ []) Handled ∷ [];
+  deeds = does 1 (λ o. withRoot active (marked 0 active (marked 10 active noOrder))) (started ∷ began 0 ∷ began 1 ∷ began 3 ∷ began 7 ∷ began 10 ∷ []) None 0 ∷ does 10 gone (raised 10 0 ∷ faulted root 0 ∷ began 11 ∷ ended root ∷ []) Handled 0 ∷ [];
 }
 
 -- the order hangs after its fault
@@ -215,7 +228,7 @@ unfoldable hanging : Engine
 hanging = record {
   bytes = planC;
   calls = first ∷ next ∷ next ∷ next ∷ [];
-  deeds = does 10 (λ o. withRoot faulty (withMarks (noOrder .marks) o)) (raised 10 ∷ faulted root ∷ []) None ∷ [];
+  deeds = does 10 (λ o. withRoot faulty (withMarks (noOrder .marks) o)) (raised 10 0 ∷ faulted root 0 ∷ []) None 0 ∷ [];
 }
 
 -- a raise is logged as a leave
@@ -223,7 +236,7 @@ unfoldable leaving : Engine
 leaving = record {
   bytes = planC;
   calls = first ∷ next ∷ next ∷ next ∷ [];
-  deeds = does 10 gone (left ∷ []) Left ∷ [];
+  deeds = does 10 gone (left ∷ []) Left 0 ∷ [];
 }
 
 -- a send in an undo part is logged as a raise, and the rest of the list is dropped
@@ -231,7 +244,7 @@ unfoldable sending : Engine
 sending = record {
   bytes = planC;
   calls = first ∷ next ∷ next ∷ next ∷ next ∷ [];
-  deeds = does 9 gone (raised 9 ∷ ended root ∷ []) Failed ∷ [];
+  deeds = does 9 gone (raised 9 0 ∷ ended root ∷ []) Failed 0 ∷ [];
 }
 
 -- a fault without a raise, and an undo part that no raise asked for
@@ -239,7 +252,7 @@ unfoldable unasked : Engine
 unasked = record {
   bytes = planC;
   calls = first ∷ next ∷ [];
-  deeds = does 2 gone (closed 2 ∷ faulted root ∷ began 5 ∷ began 11 ∷ ended root ∷ []) Handled ∷ [];
+  deeds = does 2 gone (closed 2 ∷ faulted root 0 ∷ began 5 ∷ began 11 ∷ ended root ∷ []) Handled 0 ∷ [];
 }
 
 -- the fault part starts before the undo parts
@@ -247,7 +260,7 @@ unfoldable faultFirst : Engine
 faultFirst = record {
   bytes = planC;
   calls = first ∷ next ∷ next ∷ next ∷ [];
-  deeds = does 10 (λ o. remembering (closingOf 2 0 ∷ []) (only1 undoing 9 o)) (raised 10 ∷ faulted root ∷ began 11 ∷ began 9 ∷ []) None ∷ does 9 (λ o. remembering [] (only1 undoing 5 o)) (began 5 ∷ []) None ∷ does 5 gone (ended root ∷ []) Handled ∷ [];
+  deeds = does 10 (λ o. remembering (closingOf 2 0 ∷ []) (only1 undoing 9 o)) (raised 10 0 ∷ faulted root 0 ∷ began 11 ∷ began 9 ∷ []) None 0 ∷ does 9 (λ o. remembering [] (only1 undoing 5 o)) (began 5 ∷ []) None 0 ∷ does 5 gone (ended root ∷ []) Handled 0 ∷ [];
 }
 
 -- undoing in file order, with the closings logged in the reverse order
@@ -255,7 +268,7 @@ unfoldable turnedAbout : Engine
 turnedAbout = record {
   bytes = planC;
   calls = first ∷ next ∷ [];
-  deeds = does 2 (λ o. marked 2 idle (marked 6 done o)) (began 6 ∷ began 7 ∷ []) None ∷ does 6 (λ o. remembering (closingOf 6 0 ∷ closingOf 2 0 ∷ []) (marked 6 idle (marked 10 active o))) (closed 6 ∷ closed 2 ∷ began 10 ∷ []) None ∷ does 10 (λ o. remembering (closingOf 6 0 ∷ []) (only1 undoing 5 o)) (raised 10 ∷ faulted root ∷ began 5 ∷ []) None ∷ [];
+  deeds = does 2 (λ o. marked 2 idle (marked 6 done o)) (began 6 ∷ began 7 ∷ []) None 0 ∷ does 6 (λ o. remembering (closingOf 6 0 ∷ closingOf 2 0 ∷ []) (marked 6 idle (marked 10 active o))) (closed 6 ∷ closed 2 ∷ began 10 ∷ []) None 0 ∷ does 10 (λ o. remembering (closingOf 6 0 ∷ []) (only1 undoing 5 o)) (raised 10 0 ∷ faulted root 0 ∷ began 5 ∷ []) None 0 ∷ [];
 }
 
 -- an undo part that is over starts a second time, and that is not said
@@ -263,7 +276,7 @@ unfoldable unsaid : Engine
 unsaid = record {
   bytes = planC;
   calls = first ∷ next ∷ next ∷ next ∷ next ∷ [];
-  deeds = does 9 (λ o. o) ([]) None ∷ [];
+  deeds = does 9 (λ o. o) ([]) None 0 ∷ [];
 }
 
 -- the newest undo part is started, and the other dropped
@@ -271,7 +284,7 @@ unfoldable newest : Engine
 newest = record {
   bytes = planC;
   calls = first ∷ next ∷ next ∷ next ∷ next ∷ [];
-  deeds = does 9 gone (began 11 ∷ ended root ∷ []) Handled ∷ [];
+  deeds = does 9 gone (began 11 ∷ ended root ∷ []) Handled 0 ∷ [];
 }
 
 -- undoing in file order
@@ -279,7 +292,7 @@ unfoldable oldest : Engine
 oldest = record {
   bytes = planC;
   calls = first ∷ next ∷ next ∷ next ∷ [];
-  deeds = does 10 (λ o. remembering (closingOf 6 0 ∷ []) (only1 undoing 5 o)) (raised 10 ∷ faulted root ∷ began 5 ∷ []) None ∷ [];
+  deeds = does 10 (λ o. remembering (closingOf 6 0 ∷ []) (only1 undoing 5 o)) (raised 10 0 ∷ faulted root 0 ∷ began 5 ∷ []) None 0 ∷ [];
 }
 
 -- one of them starts twice
@@ -287,7 +300,7 @@ unfoldable twiceOver : Engine
 twiceOver = record {
   bytes = planC;
   calls = first ∷ next ∷ next ∷ next ∷ next ∷ [];
-  deeds = does 9 (λ o. o) (began 9 ∷ []) None ∷ [];
+  deeds = does 9 (λ o. o) (began 9 ∷ []) None 0 ∷ [];
 }
 
 -- the other is undone without the newest
@@ -295,7 +308,7 @@ unfoldable other : Engine
 other = record {
   bytes = planC;
   calls = first ∷ next ∷ next ∷ next ∷ [];
-  deeds = does 10 (λ o. remembering [] (only1 undoing 5 o)) (raised 10 ∷ faulted root ∷ began 5 ∷ []) None ∷ does 5 gone (began 11 ∷ ended root ∷ []) Handled ∷ [];
+  deeds = does 10 (λ o. remembering [] (only1 undoing 5 o)) (raised 10 0 ∷ faulted root 0 ∷ began 5 ∷ []) None 0 ∷ does 5 gone (began 11 ∷ ended root ∷ []) Handled 0 ∷ [];
 }
 
 -- once per scope where a repeat closed it often
@@ -303,7 +316,7 @@ unfoldable oncePer : Engine
 oncePer = record {
   bytes = three;
   calls = first ∷ next ∷ next ∷ next ∷ next ∷ next ∷ next ∷ next ∷ next ∷ next ∷ next ∷ next ∷ next ∷ [];
-  deeds = does 10 (λ o. remembering [] (only1 undoing 8 o)) (raised 10 ∷ faulted root ∷ began 8 ∷ []) None ∷ does 8 gone (began 11 ∷ ended root ∷ []) Handled ∷ [];
+  deeds = does 10 (λ o. remembering [] (only1 undoing 8 o)) (raised 10 0 ∷ faulted root 0 ∷ began 8 ∷ []) None 0 ∷ does 8 gone (began 11 ∷ ended root ∷ []) Handled 0 ∷ [];
 }
 
 -- the same, with only the last closing logged
@@ -311,7 +324,7 @@ unfoldable lastLogged : Engine
 lastLogged = record {
   bytes = three;
   calls = first ∷ next ∷ next ∷ next ∷ [];
-  deeds = does 5 (λ o. marked 5 idle (marked 9 active o)) (began 9 ∷ []) None ∷ [];
+  deeds = does 5 (λ o. marked 5 idle (marked 9 active o)) (began 9 ∷ []) None 0 ∷ [];
 }
 
 -- a scope's undo starts while an inner handler still runs
@@ -319,7 +332,7 @@ unfoldable tooEarly : Engine
 tooEarly = record {
   bytes = innerHandler;
   calls = first ∷ next ∷ next ∷ stepping 1 ∷ [];
-  deeds = does 12 (λ o. withRoot undoing (remembering [] (marked 0 idle (marked 2 idle (marked 7 idle (marked 12 idle (marked 11 active o))))))) (raised 12 ∷ faulted root ∷ began 11 ∷ []) None ∷ [];
+  deeds = does 12 (λ o. withRoot undoing (remembering [] (marked 0 idle (marked 2 idle (marked 7 idle (marked 12 idle (marked 11 active o))))))) (raised 12 0 ∷ faulted root 0 ∷ began 11 ∷ []) None 0 ∷ [];
 }
 
 -- an undo part starts before anything around it faulted
@@ -327,7 +340,7 @@ unfoldable unfaulted : Engine
 unfaulted = record {
   bytes = innerHandler;
   calls = first ∷ next ∷ next ∷ [];
-  deeds = does 8 (λ o. marked 8 idle (marked 11 active o)) (closed 8 ∷ began 11 ∷ []) None ∷ [];
+  deeds = does 8 (λ o. marked 8 idle (marked 11 active o)) (closed 8 ∷ began 11 ∷ []) None 0 ∷ [];
 }
 
 -- the root ends and leaves an inner scope running
@@ -335,7 +348,7 @@ unfoldable leftRunning : Engine
 leftRunning = record {
   bytes = innerHandler;
   calls = first ∷ next ∷ next ∷ stepping 1 ∷ [];
-  deeds = does 12 gone (raised 12 ∷ faulted root ∷ began 13 ∷ ended root ∷ []) Handled ∷ [];
+  deeds = does 12 gone (raised 12 0 ∷ faulted root 0 ∷ began 13 ∷ ended root ∷ []) Handled 0 ∷ [];
 }
 
 -- a scope that faulted and was handled is remembered, and its fault is not logged
@@ -343,7 +356,7 @@ unfoldable remembersHandled : Engine
 remembersHandled = record {
   bytes = handledScope;
   calls = first ∷ next ∷ [];
-  deeds = does 3 (λ o. remembering (closingOf 2 0 ∷ []) (marked 3 idle (marked 2 idle (marked 6 active o)))) (raised 3 ∷ began 4 ∷ closed 2 ∷ began 6 ∷ []) None ∷ [];
+  deeds = does 3 (λ o. remembering (closingOf 2 0 ∷ []) (marked 3 idle (marked 2 idle (marked 6 active o)))) (raised 3 0 ∷ began 4 ∷ closed 2 ∷ began 6 ∷ []) None 0 ∷ [];
 }
 
 -- the fault part runs though nothing raised
@@ -351,7 +364,7 @@ unfoldable unraised : Engine
 unraised = record {
   bytes = handledScope;
   calls = first ∷ next ∷ [];
-  deeds = does 3 (λ o. remembering (closingOf 2 0 ∷ []) (marked 3 idle (marked 2 idle (marked 6 active o)))) (began 4 ∷ closed 2 ∷ began 6 ∷ []) None ∷ [];
+  deeds = does 3 (λ o. remembering (closingOf 2 0 ∷ []) (marked 3 idle (marked 2 idle (marked 6 active o)))) (began 4 ∷ closed 2 ∷ began 6 ∷ []) None 0 ∷ [];
 }
 
 -- a scope that faulted and was handled is undone
@@ -359,7 +372,7 @@ unfoldable undoesHandled : Engine
 undoesHandled = record {
   bytes = handledScope;
   calls = first ∷ next ∷ next ∷ [];
-  deeds = does 6 (only1 undoing 5) (raised 6 ∷ faulted root ∷ began 5 ∷ []) None ∷ [];
+  deeds = does 6 (only1 undoing 5) (raised 6 0 ∷ faulted root 0 ∷ began 5 ∷ []) None 0 ∷ [];
 }
 
 -- the same, with a closing claimed for it
@@ -367,7 +380,7 @@ unfoldable closesHandled : Engine
 closesHandled = record {
   bytes = handledScope;
   calls = first ∷ next ∷ [];
-  deeds = does 3 (λ o. remembering (closingOf 2 0 ∷ []) (marked 3 idle (marked 2 idle (marked 6 active o)))) (raised 3 ∷ faulted (inner 2) ∷ began 4 ∷ closed 2 ∷ began 6 ∷ []) None ∷ [];
+  deeds = does 3 (λ o. remembering (closingOf 2 0 ∷ []) (marked 3 idle (marked 2 idle (marked 6 active o)))) (raised 3 0 ∷ faulted (inner 2) 0 ∷ began 4 ∷ closed 2 ∷ began 6 ∷ []) None 0 ∷ [];
 }
 
 -- the close of the outer scope kept its list, and what closed in it the first time is undone the second time
@@ -375,7 +388,7 @@ unfoldable keepsList : Engine
 keepsList = record {
   bytes = closedOuter;
   calls = first ∷ next ∷ next ∷ next ∷ next ∷ next ∷ next ∷ next ∷ next ∷ next ∷ [];
-  deeds = does 12 (λ o. marked 12 idle (marked 5 idle (marked 4 undoing (marked 10 active o)))) (raised 12 ∷ faulted (inner 4) ∷ began 10 ∷ []) None ∷ [];
+  deeds = does 12 (λ o. marked 12 idle (marked 5 idle (marked 4 undoing (marked 10 active o)))) (raised 12 0 ∷ faulted (inner 4) 0 ∷ began 10 ∷ []) None 0 ∷ [];
 }
 
 -- after an undo part that is over at once that of a scope that never began runs as well, and that is not said
@@ -383,7 +396,7 @@ unfoldable oneMore : Engine
 oneMore = record {
   bytes = neverEntered;
   calls = first ∷ next ∷ next ∷ next ∷ [];
-  deeds = does 12 (λ o. remembering [] (only1 undoing 6 o)) (raised 12 ∷ faulted root ∷ began 11 ∷ []) None ∷ [];
+  deeds = does 12 (λ o. remembering [] (only1 undoing 6 o)) (raised 12 0 ∷ faulted root 0 ∷ began 11 ∷ []) None 0 ∷ [];
 }
 
 -- and that is said
@@ -391,7 +404,7 @@ unfoldable oneMoreSaid : Engine
 oneMoreSaid = record {
   bytes = neverEntered;
   calls = first ∷ next ∷ next ∷ next ∷ [];
-  deeds = does 12 (λ o. remembering [] (only1 undoing 6 o)) (raised 12 ∷ faulted root ∷ began 11 ∷ began 6 ∷ []) None ∷ [];
+  deeds = does 12 (λ o. remembering [] (only1 undoing 6 o)) (raised 12 0 ∷ faulted root 0 ∷ began 11 ∷ began 6 ∷ []) None 0 ∷ [];
 }
 
 -- an undo part that is a sequence starts a second time, and only what begins in it is told
@@ -399,7 +412,7 @@ unfoldable untold : Engine
 untold = record {
   bytes = inSequence;
   calls = first ∷ next ∷ next ∷ next ∷ next ∷ [];
-  deeds = does 7 (λ o. marked 7 idle (marked 6 active o)) (began 6 ∷ []) None ∷ [];
+  deeds = does 7 (λ o. marked 7 idle (marked 6 active o)) (began 6 ∷ []) None 0 ∷ [];
 }
 
 -- What is only claimed, dropped, or done at the wrong time, behind a history that looks right.
@@ -409,7 +422,7 @@ unfoldable claimsAll : Engine
 claimsAll = record {
   bytes = planC;
   calls = first ∷ next ∷ next ∷ next ∷ [];
-  deeds = does 10 gone (raised 10 ∷ faulted root ∷ began 9 ∷ began 5 ∷ began 11 ∷ ended root ∷ []) Handled ∷ [];
+  deeds = does 10 gone (raised 10 0 ∷ faulted root 0 ∷ began 9 ∷ began 5 ∷ began 11 ∷ ended root ∷ []) Handled 0 ∷ [];
 }
 
 -- the newest undo part starts and has its step, and then the other is only claimed
@@ -417,7 +430,7 @@ unfoldable claimsOther : Engine
 claimsOther = record {
   bytes = planC;
   calls = first ∷ next ∷ next ∷ next ∷ next ∷ [];
-  deeds = does 9 gone (began 5 ∷ began 11 ∷ ended root ∷ []) Handled ∷ [];
+  deeds = does 9 gone (began 5 ∷ began 11 ∷ ended root ∷ []) Handled 0 ∷ [];
 }
 
 -- an undo part that is a sequence is only claimed
@@ -425,7 +438,7 @@ unfoldable claimsSequence : Engine
 claimsSequence = record {
   bytes = inSequence;
   calls = first ∷ next ∷ next ∷ [];
-  deeds = does 8 (λ o. remembering [] (only1 handling 9 o)) (raised 8 ∷ faulted root ∷ began 5 ∷ began 9 ∷ []) None ∷ does 9 gone (ended root ∷ []) Handled ∷ [];
+  deeds = does 8 (λ o. remembering [] (only1 handling 9 o)) (raised 8 0 ∷ faulted root 0 ∷ began 5 ∷ began 9 ∷ []) None 0 ∷ does 9 gone (ended root ∷ []) Handled 0 ∷ [];
 }
 
 -- closed three times, undone once, claimed three times
@@ -433,7 +446,7 @@ unfoldable claimsThrice : Engine
 claimsThrice = record {
   bytes = three;
   calls = first ∷ next ∷ next ∷ next ∷ next ∷ next ∷ next ∷ next ∷ next ∷ next ∷ next ∷ next ∷ next ∷ [];
-  deeds = does 10 (λ o. remembering [] (only1 undoing 8 o)) (raised 10 ∷ faulted root ∷ began 8 ∷ began 8 ∷ began 8 ∷ []) None ∷ does 8 gone (began 11 ∷ ended root ∷ []) Handled ∷ [];
+  deeds = does 10 (λ o. remembering [] (only1 undoing 8 o)) (raised 10 0 ∷ faulted root 0 ∷ began 8 ∷ began 8 ∷ began 8 ∷ []) None 0 ∷ does 8 gone (began 11 ∷ ended root ∷ []) Handled 0 ∷ [];
 }
 
 -- a step of another branch claims again the undo part that runs
@@ -441,7 +454,7 @@ unfoldable claimsBeside : Engine
 claimsBeside = record {
   bytes = beside;
   calls = first ∷ next ∷ next ∷ next ∷ next ∷ next ∷ next ∷ next ∷ next ∷ next ∷ next ∷ [];
-  deeds = does 17 (λ o. remembering [] (marked 17 idle (marked 18 active o))) (began 11 ∷ began 18 ∷ []) None ∷ [];
+  deeds = does 17 (λ o. remembering [] (marked 17 idle (marked 18 active o))) (began 11 ∷ began 18 ∷ []) None 0 ∷ [];
 }
 
 -- while another slot has its step the undo part that runs is exchanged for the other
@@ -457,7 +470,7 @@ unfoldable hangs : Engine
 hangs = record {
   bytes = hung;
   calls = first ∷ next ∷ next ∷ next ∷ next ∷ next ∷ next ∷ next ∷ next ∷ next ∷ next ∷ [];
-  deeds = does 12 (λ o. marked 12 idle o) ([]) None ∷ [];
+  deeds = does 12 (λ o. marked 12 idle o) ([]) None 0 ∷ [];
 }
 
 -- the root faults, and an inner scope is not stopped before it has done all it had to do
@@ -465,7 +478,7 @@ unfoldable runsOn : Engine
 runsOn = record {
   bytes = unstopped;
   calls = first ∷ next ∷ [];
-  deeds = does 9 (λ o. withRoot faulty (marked 0 idle (marked 2 idle (marked 9 idle o)))) (raised 9 ∷ faulted root ∷ []) None ∷ [];
+  deeds = does 9 (λ o. withRoot faulty (marked 0 idle (marked 2 idle (marked 9 idle o)))) (raised 9 0 ∷ faulted root 0 ∷ []) None 0 ∷ [];
 }
 
 -- a step of another branch drops the undo part that runs, and starts it again
@@ -473,7 +486,7 @@ unfoldable drops : Engine
 drops = record {
   bytes = beside;
   calls = first ∷ next ∷ next ∷ next ∷ next ∷ next ∷ next ∷ next ∷ next ∷ next ∷ next ∷ [];
-  deeds = does 17 (λ o. remembering [] (marked 17 idle (marked 18 active o))) (began 11 ∷ began 18 ∷ []) None ∷ does 18 (λ o. marked 11 idle (marked 3 idle (marked 18 idle (marked 19 active o)))) (began 14 ∷ ended (inner 3) ∷ began 19 ∷ []) None ∷ [];
+  deeds = does 17 (λ o. remembering [] (marked 17 idle (marked 18 active o))) (began 11 ∷ began 18 ∷ []) None 0 ∷ does 18 (λ o. marked 11 idle (marked 3 idle (marked 18 idle (marked 19 active o)))) (began 14 ∷ ended (inner 3) ∷ began 19 ∷ []) None 0 ∷ [];
 }
 
 -- the body of a scope never begins, and the scope closes
@@ -481,7 +494,7 @@ unfoldable bodiless : Engine
 bodiless = record {
   bytes = unbegun;
   calls = first ∷ next ∷ [];
-  deeds = does 2 (λ o. marked 2 idle (marked 3 done o)) (began 3 ∷ []) None ∷ [];
+  deeds = does 2 (λ o. marked 2 idle (marked 3 done o)) (began 3 ∷ []) None 0 ∷ [];
 }
 
 -- a scope is closed while its body runs
@@ -489,7 +502,7 @@ unfoldable closesEarly : Engine
 closesEarly = record {
   bytes = unbegun;
   calls = first ∷ next ∷ next ∷ [];
-  deeds = does 3 (λ o. remembering (closingOf 3 0 ∷ []) (marked 3 idle (marked 4 idle (marked 7 active o)))) (closed 3 ∷ began 7 ∷ []) None ∷ [];
+  deeds = does 3 (λ o. remembering (closingOf 3 0 ∷ []) (marked 3 idle (marked 4 idle (marked 7 active o)))) (closed 3 ∷ began 7 ∷ []) None 0 ∷ [];
 }
 
 -- an order ends well in the middle of its body
@@ -497,7 +510,7 @@ unfoldable endsMidway : Engine
 endsMidway = record {
   bytes = planC;
   calls = first ∷ next ∷ next ∷ [];
-  deeds = does 6 gone (closed 6 ∷ ended root ∷ []) Well ∷ [];
+  deeds = does 6 gone (closed 6 ∷ ended root ∷ []) Well 0 ∷ [];
 }
 
 -- of an undo part that is a flow of two only the first begins
@@ -505,7 +518,7 @@ unfoldable halfFlow : Engine
 halfFlow = record {
   bytes = inFlow;
   calls = first ∷ next ∷ next ∷ [];
-  deeds = does 8 (λ o. remembering [] (marked 5 active (only1 undoing 6 o))) (raised 8 ∷ faulted root ∷ began 5 ∷ began 6 ∷ []) None ∷ [];
+  deeds = does 8 (λ o. remembering [] (marked 5 active (only1 undoing 6 o))) (raised 8 0 ∷ faulted root 0 ∷ began 5 ∷ began 6 ∷ []) None 0 ∷ [];
 }
 
 -- an undo part that is a send is only claimed, in the step that ends the order
@@ -513,7 +526,7 @@ unfoldable claimsSend : Engine
 claimsSend = record {
   bytes = unbegun;
   calls = first ∷ next ∷ next ∷ next ∷ next ∷ [];
-  deeds = does 7 gone (raised 7 ∷ faulted root ∷ began 6 ∷ began 8 ∷ ended root ∷ []) Handled ∷ [];
+  deeds = does 7 gone (raised 7 0 ∷ faulted root 0 ∷ began 6 ∷ began 8 ∷ ended root ∷ []) Handled 0 ∷ [];
 }
 
 -- a slot is used again, and the new order finds what the last one remembered
@@ -529,7 +542,7 @@ unfoldable waitsForEver : Engine
 waitsForEver = record {
   bytes = waiting;
   calls = first ∷ next ∷ next ∷ [];
-  deeds = does 11 (λ o. withRoot faulty (marked 0 idle (marked 6 idle (marked 11 idle o)))) (raised 11 ∷ faulted root ∷ []) None ∷ [];
+  deeds = does 11 (λ o. withRoot faulty (marked 0 idle (marked 6 idle (marked 11 idle o)))) (raised 11 0 ∷ faulted root 0 ∷ []) None 0 ∷ [];
 }
 
 -- the list of a scope that was stopped is only claimed
@@ -537,7 +550,7 @@ unfoldable claimsStopped : Engine
 claimsStopped = record {
   bytes = nested;
   calls = first ∷ next ∷ next ∷ next ∷ [];
-  deeds = does 15 (λ o. remembering [] (only1 handling 16 o)) (raised 15 ∷ faulted root ∷ stopped 3 ∷ began 8 ∷ ended (inner 3) ∷ began 16 ∷ []) None ∷ [];
+  deeds = does 15 (λ o. remembering [] (only1 handling 16 o)) (raised 15 0 ∷ faulted root 0 ∷ stopped 3 ∷ began 8 ∷ ended (inner 3) ∷ began 16 ∷ []) None 0 ∷ [];
 }
 
 -- a scope is said to begin anew, so that its closings are forgotten
@@ -545,7 +558,7 @@ unfoldable fakesBeginning : Engine
 fakesBeginning = record {
   bytes = beside;
   calls = first ∷ next ∷ next ∷ next ∷ next ∷ [];
-  deeds = does 12 (λ o. marked 12 idle (marked 6 active (marked 7 idle o))) (began 3 ∷ began 4 ∷ []) None ∷ [];
+  deeds = does 12 (λ o. marked 12 idle (marked 6 active (marked 7 idle o))) (began 3 ∷ began 4 ∷ []) None 0 ∷ [];
 }
 
 -- a raise in an undo part is swallowed, and the next starts
@@ -553,7 +566,7 @@ unfoldable swallows : Engine
 swallows = record {
   bytes = raisingUndo;
   calls = first ∷ next ∷ next ∷ next ∷ next ∷ [];
-  deeds = does 9 (λ o. remembering [] (only1 undoing 5 o)) (raised 9 ∷ began 5 ∷ []) None ∷ [];
+  deeds = does 9 (λ o. remembering [] (only1 undoing 5 o)) (raised 9 0 ∷ began 5 ∷ []) None 0 ∷ [];
 }
 
 -- the list of a scope that was stopped is dropped
@@ -561,7 +574,7 @@ unfoldable dropsStopped : Engine
 dropsStopped = record {
   bytes = nested;
   calls = first ∷ next ∷ next ∷ next ∷ [];
-  deeds = does 15 (λ o. remembering [] (only1 handling 16 o)) (raised 15 ∷ faulted root ∷ stopped 3 ∷ ended (inner 3) ∷ began 16 ∷ []) None ∷ [];
+  deeds = does 15 (λ o. remembering [] (only1 handling 16 o)) (raised 15 0 ∷ faulted root 0 ∷ stopped 3 ∷ ended (inner 3) ∷ began 16 ∷ []) None 0 ∷ [];
 }
 
 -- an undo part that is a send is only claimed, while the order lives on
@@ -569,7 +582,7 @@ unfoldable claimsOne : Engine
 claimsOne = record {
   bytes = oneSend;
   calls = first ∷ next ∷ next ∷ [];
-  deeds = does 6 (λ o. remembering [] (only1 handling 7 o)) (raised 6 ∷ faulted root ∷ began 5 ∷ began 7 ∷ []) None ∷ [];
+  deeds = does 6 (λ o. remembering [] (only1 handling 7 o)) (raised 6 0 ∷ faulted root 0 ∷ began 5 ∷ began 7 ∷ []) None 0 ∷ [];
 }
 
 -- two undo parts run at once
@@ -577,7 +590,7 @@ unfoldable bothAtOnce : Engine
 bothAtOnce = record {
   bytes = planC;
   calls = first ∷ next ∷ next ∷ next ∷ [];
-  deeds = does 10 (λ o. remembering [] (marked 9 active (only1 undoing 5 o))) (raised 10 ∷ faulted root ∷ began 9 ∷ began 5 ∷ []) None ∷ [];
+  deeds = does 10 (λ o. remembering [] (marked 9 active (only1 undoing 5 o))) (raised 10 0 ∷ faulted root 0 ∷ began 9 ∷ began 5 ∷ []) None 0 ∷ [];
 }
 
 -- an undo part runs in a body that has not turned
@@ -585,7 +598,7 @@ unfoldable inOpenBody : Engine
 inOpenBody = record {
   bytes = planC;
   calls = first ∷ next ∷ next ∷ [];
-  deeds = does 6 (λ o. remembering (closingOf 2 0 ∷ []) (marked 6 idle (marked 10 active (marked 9 active o)))) (closed 6 ∷ began 10 ∷ began 9 ∷ []) None ∷ [];
+  deeds = does 6 (λ o. remembering (closingOf 2 0 ∷ []) (marked 6 idle (marked 10 active (marked 9 active o)))) (closed 6 ∷ began 10 ∷ began 9 ∷ []) None 0 ∷ [];
 }
 
 -- another undo part runs than the one told
@@ -593,7 +606,7 @@ unfoldable anotherThanTold : Engine
 anotherThanTold = record {
   bytes = planC;
   calls = first ∷ next ∷ next ∷ next ∷ [];
-  deeds = does 10 (λ o. remembering (closingOf 2 0 ∷ []) (only1 undoing 5 o)) (raised 10 ∷ faulted root ∷ began 9 ∷ []) None ∷ [];
+  deeds = does 10 (λ o. remembering (closingOf 2 0 ∷ []) (only1 undoing 5 o)) (raised 10 0 ∷ faulted root 0 ∷ began 9 ∷ []) None 0 ∷ [];
 }
 
 -- What is over before its time.
@@ -603,7 +616,7 @@ unfoldable dropsTail : Engine
 dropsTail = record {
   bytes = inSequence;
   calls = first ∷ next ∷ next ∷ next ∷ [];
-  deeds = does 6 (only1 handling 9) (began 9 ∷ []) None ∷ [];
+  deeds = does 6 (only1 handling 9) (began 9 ∷ []) None 0 ∷ [];
 }
 
 -- an undo part that is a flow is over after one of its two sends
@@ -611,7 +624,7 @@ unfoldable dropsBranch : Engine
 dropsBranch = record {
   bytes = inFlow;
   calls = first ∷ next ∷ next ∷ next ∷ [];
-  deeds = does 6 (only1 handling 9) (began 9 ∷ []) None ∷ [];
+  deeds = does 6 (only1 handling 9) (began 9 ∷ []) None 0 ∷ [];
 }
 
 -- of an undo part that is a sequence both sends begin at once
@@ -619,7 +632,7 @@ unfoldable asFlow : Engine
 asFlow = record {
   bytes = inSequence;
   calls = first ∷ next ∷ next ∷ [];
-  deeds = does 8 (λ o. remembering [] (marked 5 active (marked 7 active (only1 undoing 6 o)))) (raised 8 ∷ faulted root ∷ began 5 ∷ began 6 ∷ began 7 ∷ []) None ∷ [];
+  deeds = does 8 (λ o. remembering [] (marked 5 active (marked 7 active (only1 undoing 6 o)))) (raised 8 0 ∷ faulted root 0 ∷ began 5 ∷ began 6 ∷ began 7 ∷ []) None 0 ∷ [];
 }
 
 -- the body of an order, a receive, begins again with the step that should end it
@@ -627,7 +640,7 @@ unfoldable againAndAgain : Engine
 againAndAgain = record {
   bytes = lone;
   calls = first ∷ [];
-  deeds = does 0 (λ o. withRoot active (marked 0 active noOrder)) (started ∷ began 0 ∷ began 0 ∷ []) None ∷ [];
+  deeds = does 0 (λ o. withRoot active (marked 0 active noOrder)) (started ∷ began 0 ∷ began 0 ∷ []) None 0 ∷ [];
 }
 
 -- a scope closed twice: its undo part, a sequence, is cut short after its first send, and begins again for the other closing
@@ -635,7 +648,7 @@ unfoldable cutsShort : Engine
 cutsShort = record {
   bytes = twice;
   calls = first ∷ next ∷ next ∷ next ∷ next ∷ next ∷ next ∷ next ∷ next ∷ next ∷ next ∷ [];
-  deeds = does 9 (λ o. remembering [] o) (began 8 ∷ began 9 ∷ []) None ∷ [];
+  deeds = does 9 (λ o. remembering [] o) (began 8 ∷ began 9 ∷ []) None 0 ∷ [];
 }
 
 -- of a flow of two receives with which an order starts the other is dropped in the starting step
@@ -643,7 +656,7 @@ unfoldable startsHalf : Engine
 startsHalf = record {
   bytes = startFlow;
   calls = first ∷ [];
-  deeds = does 1 gone (started ∷ began 0 ∷ began 1 ∷ began 2 ∷ ended root ∷ []) Well ∷ [];
+  deeds = does 1 gone (started ∷ began 0 ∷ began 1 ∷ began 2 ∷ ended root ∷ []) Well 0 ∷ [];
 }
 
 -- a repeat is left after its first round, without deciding again
@@ -651,7 +664,7 @@ unfoldable leavesRepeat : Engine
 leavesRepeat = record {
   bytes = three;
   calls = first ∷ next ∷ next ∷ next ∷ next ∷ [];
-  deeds = does 9 (λ o. marked 10 active (marked 9 idle (marked 4 idle (marked 3 idle o)))) (began 10 ∷ []) None ∷ [];
+  deeds = does 9 (λ o. marked 10 active (marked 9 idle (marked 4 idle (marked 3 idle o)))) (began 10 ∷ []) None 0 ∷ [];
 }
 
 -- a choose begins the part that its expression does not pick
@@ -659,7 +672,7 @@ unfoldable otherPart : Engine
 otherPart = record {
   bytes = neverEntered;
   calls = first ∷ next ∷ [];
-  deeds = does 2 (λ o. marked 3 done (marked 2 inside o)) (began 3 ∷ began 4 ∷ []) None ∷ [];
+  deeds = does 2 (λ o. marked 3 done (marked 2 inside o)) (began 3 ∷ began 4 ∷ []) None 0 ∷ [];
 }
 
 -- a choose begins nothing, and is over
@@ -667,7 +680,7 @@ unfoldable choosesNone : Engine
 choosesNone = record {
   bytes = neverEntered;
   calls = first ∷ next ∷ [];
-  deeds = does 2 (λ o. marked 8 done (marked 2 idle o)) (began 8 ∷ began 9 ∷ []) None ∷ [];
+  deeds = does 2 (λ o. marked 8 done (marked 2 idle o)) (began 8 ∷ began 9 ∷ []) None 0 ∷ [];
 }
 
 -- Request 13: what a scope with no undo part does with what closed in it.
@@ -677,7 +690,7 @@ unfoldable forgets : Engine
 forgets = record {
   bytes = handedOn;
   calls = first ∷ next ∷ next ∷ next ∷ [];
-  deeds = does 2 (λ o. remembering [] (marked 2 idle (marked 13 active o))) (closed 2 ∷ began 13 ∷ []) None ∷ [];
+  deeds = does 2 (λ o. remembering [] (marked 2 idle (marked 13 active o))) (closed 2 ∷ began 13 ∷ []) None 0 ∷ [];
 }
 
 -- it is handed on in reverse
@@ -685,7 +698,7 @@ unfoldable handsReversed : Engine
 handsReversed = record {
   bytes = handedOn;
   calls = first ∷ next ∷ next ∷ next ∷ [];
-  deeds = does 2 (λ o. remembering (closingOf 8 0 ∷ closingOf 4 0 ∷ []) (marked 2 idle (marked 13 active o))) (closed 2 ∷ began 13 ∷ []) None ∷ [];
+  deeds = does 2 (λ o. remembering (closingOf 8 0 ∷ closingOf 4 0 ∷ []) (marked 2 idle (marked 13 active o))) (closed 2 ∷ began 13 ∷ []) None 0 ∷ [];
 }
 
 -- it stays remembered for the scope of code 12
@@ -693,7 +706,7 @@ unfoldable keepsForInner : Engine
 keepsForInner = record {
   bytes = handedOn;
   calls = first ∷ next ∷ next ∷ next ∷ [];
-  deeds = does 2 (λ o. remembering (closingOf 4 3 ∷ closingOf 8 3 ∷ []) (marked 2 idle (marked 13 active o))) (closed 2 ∷ began 13 ∷ []) None ∷ [];
+  deeds = does 2 (λ o. remembering (closingOf 4 3 ∷ closingOf 8 3 ∷ []) (marked 2 idle (marked 13 active o))) (closed 2 ∷ began 13 ∷ []) None 0 ∷ [];
 }
 
 -- it is remembered for both
@@ -701,7 +714,7 @@ unfoldable handsToBoth : Engine
 handsToBoth = record {
   bytes = handedOn;
   calls = first ∷ next ∷ next ∷ next ∷ [];
-  deeds = does 2 (λ o. remembering (closingOf 4 3 ∷ closingOf 8 3 ∷ closingOf 4 0 ∷ closingOf 8 0 ∷ []) (marked 2 idle (marked 13 active o))) (closed 2 ∷ began 13 ∷ []) None ∷ [];
+  deeds = does 2 (λ o. remembering (closingOf 4 3 ∷ closingOf 8 3 ∷ closingOf 4 0 ∷ closingOf 8 0 ∷ []) (marked 2 idle (marked 13 active o))) (closed 2 ∷ began 13 ∷ []) None 0 ∷ [];
 }
 
 -- what was handed on is not undone
@@ -709,7 +722,7 @@ unfoldable skipsHanded : Engine
 skipsHanded = record {
   bytes = handedOn;
   calls = first ∷ next ∷ next ∷ next ∷ next ∷ [];
-  deeds = does 13 gone (raised 13 ∷ faulted root ∷ began 14 ∷ ended root ∷ []) Handled ∷ [];
+  deeds = does 13 gone (raised 13 0 ∷ faulted root 0 ∷ began 14 ∷ ended root ∷ []) Handled 0 ∷ [];
 }
 
 -- what was handed on is undone in file order
@@ -717,7 +730,7 @@ unfoldable oldestHanded : Engine
 oldestHanded = record {
   bytes = handedOn;
   calls = first ∷ next ∷ next ∷ next ∷ next ∷ [];
-  deeds = does 13 (λ o. remembering (closingOf 8 0 ∷ []) (only1 undoing 7 o)) (raised 13 ∷ faulted root ∷ began 7 ∷ []) None ∷ [];
+  deeds = does 13 (λ o. remembering (closingOf 8 0 ∷ []) (only1 undoing 7 o)) (raised 13 0 ∷ faulted root 0 ∷ began 7 ∷ []) None 0 ∷ [];
 }
 
 -- it is undone twice by the root
@@ -725,7 +738,7 @@ unfoldable twiceHanded : Engine
 twiceHanded = record {
   bytes = handedOn;
   calls = first ∷ next ∷ next ∷ next ∷ next ∷ next ∷ next ∷ [];
-  deeds = does 7 (λ o. only1 undoing 11 o) (began 11 ∷ []) None ∷ [];
+  deeds = does 7 (λ o. only1 undoing 11 o) (began 11 ∷ []) None 0 ∷ [];
 }
 
 -- the scope of code 12 itself is taken for one that is undone, by its fault part
@@ -733,7 +746,7 @@ unfoldable undoesByFault : Engine
 undoesByFault = record {
   bytes = handedOn;
   calls = first ∷ next ∷ next ∷ next ∷ next ∷ [];
-  deeds = does 13 (λ o. remembering (closingOf 4 0 ∷ []) (only1 undoing 11 o)) (raised 13 ∷ faulted root ∷ began 12 ∷ began 11 ∷ []) None ∷ [];
+  deeds = does 13 (λ o. remembering (closingOf 4 0 ∷ []) (only1 undoing 11 o)) (raised 13 0 ∷ faulted root 0 ∷ began 12 ∷ began 11 ∷ []) None 0 ∷ [];
 }
 
 -- what a scope of code 12 hands on is remembered by the inner closing
@@ -741,7 +754,7 @@ unfoldable datesInner : Engine
 datesInner = record {
   bytes = datedOuter;
   calls = first ∷ next ∷ next ∷ stepping 1 ∷ [];
-  deeds = does 3 (λ o. remembering (closingOf 4 0 ∷ closingOf 9 0 ∷ []) (marked 3 idle (marked 2 idle (marked 13 active o)))) (closed 3 ∷ began 13 ∷ []) None ∷ [];
+  deeds = does 3 (λ o. remembering (closingOf 4 0 ∷ closingOf 9 0 ∷ []) (marked 3 idle (marked 2 idle (marked 13 active o)))) (closed 3 ∷ began 13 ∷ []) None 0 ∷ [];
 }
 
 -- and undone so
@@ -749,7 +762,7 @@ unfoldable undoesDated : Engine
 undoesDated = record {
   bytes = datedOuter;
   calls = first ∷ next ∷ next ∷ stepping 1 ∷ next ∷ [];
-  deeds = does 13 (λ o. remembering (closingOf 4 0 ∷ []) (only1 undoing 12 o)) (raised 13 ∷ faulted root ∷ began 12 ∷ []) None ∷ [];
+  deeds = does 13 (λ o. remembering (closingOf 4 0 ∷ []) (only1 undoing 12 o)) (raised 13 0 ∷ faulted root 0 ∷ began 12 ∷ []) None 0 ∷ [];
 }
 
 -- a scope of code 12 that faulted undoes what closed in it, and hands it on as well
@@ -757,7 +770,7 @@ unfoldable handsOnFaulted : Engine
 handsOnFaulted = record {
   bytes = faultedOpen;
   calls = first ∷ next ∷ next ∷ next ∷ [];
-  deeds = does 7 (λ o. remembering (closingOf 4 0 ∷ []) (marked 7 idle (marked 2 idle (marked 10 active o)))) (began 9 ∷ ended (inner 2) ∷ began 10 ∷ []) None ∷ [];
+  deeds = does 7 (λ o. remembering (closingOf 4 0 ∷ []) (marked 7 idle (marked 2 idle (marked 10 active o)))) (began 9 ∷ ended (inner 2) ∷ began 10 ∷ []) None 0 ∷ [];
 }
 
 -- and the root undoes it once more
@@ -765,7 +778,7 @@ unfoldable undoesFaulted : Engine
 undoesFaulted = record {
   bytes = faultedOpen;
   calls = first ∷ next ∷ next ∷ next ∷ next ∷ [];
-  deeds = does 10 (only1 undoing 7) (raised 10 ∷ faulted root ∷ began 7 ∷ []) None ∷ [];
+  deeds = does 10 (only1 undoing 7) (raised 10 0 ∷ faulted root 0 ∷ began 7 ∷ []) None 0 ∷ [];
 }
 
 -- a scope of code 12 that faulted hands it on instead of undoing it
@@ -773,7 +786,7 @@ unfoldable handsOnInstead : Engine
 handsOnInstead = record {
   bytes = faultedOpen;
   calls = first ∷ next ∷ next ∷ [];
-  deeds = does 8 (λ o. remembering (closingOf 4 0 ∷ []) (marked 8 idle (marked 3 idle (marked 2 idle (marked 10 active o))))) (raised 8 ∷ faulted (inner 2) ∷ began 9 ∷ ended (inner 2) ∷ began 10 ∷ []) None ∷ [];
+  deeds = does 8 (λ o. remembering (closingOf 4 0 ∷ []) (marked 8 idle (marked 3 idle (marked 2 idle (marked 10 active o))))) (raised 8 0 ∷ faulted (inner 2) 0 ∷ began 9 ∷ ended (inner 2) ∷ began 10 ∷ []) None 0 ∷ [];
 }
 
 -- a raise in a scope of code 12 is passed over to the root
@@ -781,7 +794,7 @@ unfoldable passesOver : Engine
 passesOver = record {
   bytes = faultedOpen;
   calls = first ∷ next ∷ next ∷ [];
-  deeds = does 8 (λ o. remembering [] (only1 undoing 7 o)) (raised 8 ∷ faulted root ∷ began 7 ∷ []) None ∷ [];
+  deeds = does 8 (λ o. remembering [] (only1 undoing 7 o)) (raised 8 0 ∷ faulted root 0 ∷ began 7 ∷ []) None 0 ∷ [];
 }
 
 -- a scope of code 12 undoes what it handed on the time before
@@ -789,40 +802,68 @@ unfoldable undoesHandedOn : Engine
 undoesHandedOn = record {
   bytes = handedOnce;
   calls = first ∷ next ∷ next ∷ next ∷ next ∷ next ∷ next ∷ next ∷ next ∷ next ∷ [];
-  deeds = does 12 (λ o. marked 12 idle (marked 5 idle (marked 4 undoing (marked 10 active o)))) (raised 12 ∷ faulted (inner 4) ∷ began 10 ∷ []) None ∷ [];
+  deeds = does 12 (λ o. marked 12 idle (marked 5 idle (marked 4 undoing (marked 10 active o)))) (raised 12 0 ∷ faulted (inner 4) 0 ∷ began 10 ∷ []) None 0 ∷ [];
+}
+
+-- Request 4: the numbers of faults.
+
+-- an order ends handled with the number of the last fault, which was absorbed
+unfoldable namesLast : Engine
+namesLast = record {
+  bytes = absorbed;
+  calls = first ∷ next ∷ next ∷ stepping 1 ∷ next ∷ [];
+  deeds = does 7 gone (ended root ∷ []) Handled 3 ∷ [];
+}
+
+-- the number is lost on the way out of a fault part: the root faults with that of a plain raise
+unfoldable losesNumber : Engine
+losesNumber = record {
+  bytes = passedOut;
+  calls = first ∷ next ∷ next ∷ [];
+  deeds = does 4 (only1 handling 5) (raised 4 1 ∷ ended (inner 2) ∷ faulted root 0 ∷ began 5 ∷ []) None 0 ∷ [];
+}
+
+-- the root keeps the number of a fault that was absorbed
+unfoldable keepsAbsorbed : Engine
+keepsAbsorbed = record {
+  bytes = absorbed;
+  calls = first ∷ next ∷ next ∷ stepping 1 ∷ [];
+  deeds = does 5 (λ o. causing root 3 (only1 handling 7 o)) (raised 5 3 ∷ ended (inner 3) ∷ began 7 ∷ []) None 0 ∷ [];
 }
 
 -- the right course of each plan, as far as its engines go
 right : List (List Event)
 right =
-    (started ∷ began 0 ∷ began 1 ∷ began 2 ∷ began 3 ∷ closed 2 ∷ began 6 ∷ began 7 ∷ closed 6 ∷ began 10 ∷ raised 10 ∷ faulted root ∷ began 9 ∷ began 5 ∷ began 11 ∷ ended root ∷ [])
-    ∷ (started ∷ began 0 ∷ began 1 ∷ began 2 ∷ began 3 ∷ began 4 ∷ began 5 ∷ began 6 ∷ closed 5 ∷ began 9 ∷ began 4 ∷ began 5 ∷ began 6 ∷ closed 5 ∷ began 9 ∷ began 4 ∷ began 5 ∷ began 6 ∷ closed 5 ∷ began 9 ∷ began 10 ∷ raised 10 ∷ faulted root ∷ began 8 ∷ began 8 ∷ began 8 ∷ began 11 ∷ ended root ∷ [])
-    ∷ (started ∷ began 0 ∷ began 1 ∷ began 2 ∷ began 3 ∷ began 4 ∷ began 7 ∷ began 8 ∷ began 9 ∷ raised 4 ∷ faulted (inner 3) ∷ began 5 ∷ closed 8 ∷ began 12 ∷ raised 12 ∷ faulted root ∷ ended (inner 3) ∷ began 11 ∷ began 13 ∷ ended root ∷ [])
-    ∷ (started ∷ began 0 ∷ began 1 ∷ began 2 ∷ began 3 ∷ raised 3 ∷ faulted (inner 2) ∷ began 4 ∷ ended (inner 2) ∷ began 6 ∷ raised 6 ∷ faulted root ∷ began 7 ∷ ended root ∷ [])
-    ∷ (started ∷ began 0 ∷ began 1 ∷ began 2 ∷ began 3 ∷ began 4 ∷ began 5 ∷ began 6 ∷ began 7 ∷ began 8 ∷ closed 7 ∷ began 11 ∷ closed 4 ∷ began 4 ∷ began 5 ∷ began 12 ∷ raised 12 ∷ faulted (inner 4) ∷ began 13 ∷ ended (inner 4) ∷ ended root ∷ [])
-    ∷ (started ∷ began 0 ∷ began 1 ∷ began 2 ∷ began 7 ∷ began 8 ∷ began 9 ∷ closed 8 ∷ began 12 ∷ raised 12 ∷ faulted root ∷ began 11 ∷ began 13 ∷ [])
-    ∷ (started ∷ began 0 ∷ began 1 ∷ began 2 ∷ began 3 ∷ closed 2 ∷ began 8 ∷ raised 8 ∷ faulted root ∷ began 5 ∷ began 6 ∷ began 7 ∷ began 9 ∷ [])
-    ∷ (started ∷ began 0 ∷ began 1 ∷ began 2 ∷ began 3 ∷ closed 2 ∷ began 8 ∷ raised 8 ∷ faulted root ∷ began 5 ∷ began 6 ∷ began 7 ∷ began 9 ∷ [])
-    ∷ (started ∷ began 0 ∷ began 1 ∷ began 2 ∷ began 3 ∷ began 4 ∷ began 5 ∷ began 16 ∷ began 17 ∷ began 6 ∷ began 7 ∷ began 8 ∷ began 9 ∷ closed 8 ∷ began 12 ∷ began 7 ∷ began 8 ∷ began 9 ∷ closed 8 ∷ began 12 ∷ began 13 ∷ raised 13 ∷ faulted (inner 3) ∷ began 11 ∷ [])
-    ∷ (started ∷ began 0 ∷ began 1 ∷ began 2 ∷ began 3 ∷ began 4 ∷ began 5 ∷ began 18 ∷ began 6 ∷ began 7 ∷ began 8 ∷ began 9 ∷ closed 8 ∷ began 14 ∷ began 7 ∷ began 8 ∷ began 9 ∷ closed 8 ∷ began 14 ∷ began 15 ∷ raised 15 ∷ faulted (inner 3) ∷ began 11 ∷ began 12 ∷ [])
+    (started ∷ began 0 ∷ began 1 ∷ began 2 ∷ began 3 ∷ closed 2 ∷ began 6 ∷ began 7 ∷ closed 6 ∷ began 10 ∷ raised 10 0 ∷ faulted root 0 ∷ began 9 ∷ began 5 ∷ began 11 ∷ ended root ∷ [])
+    ∷ (started ∷ began 0 ∷ began 1 ∷ began 2 ∷ began 3 ∷ began 4 ∷ began 5 ∷ began 6 ∷ closed 5 ∷ began 9 ∷ began 4 ∷ began 5 ∷ began 6 ∷ closed 5 ∷ began 9 ∷ began 4 ∷ began 5 ∷ began 6 ∷ closed 5 ∷ began 9 ∷ began 10 ∷ raised 10 0 ∷ faulted root 0 ∷ began 8 ∷ began 8 ∷ began 8 ∷ began 11 ∷ ended root ∷ [])
+    ∷ (started ∷ began 0 ∷ began 1 ∷ began 2 ∷ began 3 ∷ began 4 ∷ began 7 ∷ began 8 ∷ began 9 ∷ raised 4 0 ∷ faulted (inner 3) 0 ∷ began 5 ∷ closed 8 ∷ began 12 ∷ raised 12 0 ∷ faulted root 0 ∷ ended (inner 3) ∷ began 11 ∷ began 13 ∷ ended root ∷ [])
+    ∷ (started ∷ began 0 ∷ began 1 ∷ began 2 ∷ began 3 ∷ raised 3 0 ∷ faulted (inner 2) 0 ∷ began 4 ∷ ended (inner 2) ∷ began 6 ∷ raised 6 0 ∷ faulted root 0 ∷ began 7 ∷ ended root ∷ [])
+    ∷ (started ∷ began 0 ∷ began 1 ∷ began 2 ∷ began 3 ∷ began 4 ∷ began 5 ∷ began 6 ∷ began 7 ∷ began 8 ∷ closed 7 ∷ began 11 ∷ closed 4 ∷ began 4 ∷ began 5 ∷ began 12 ∷ raised 12 0 ∷ faulted (inner 4) 0 ∷ began 13 ∷ ended (inner 4) ∷ ended root ∷ [])
+    ∷ (started ∷ began 0 ∷ began 1 ∷ began 2 ∷ began 7 ∷ began 8 ∷ began 9 ∷ closed 8 ∷ began 12 ∷ raised 12 0 ∷ faulted root 0 ∷ began 11 ∷ began 13 ∷ [])
+    ∷ (started ∷ began 0 ∷ began 1 ∷ began 2 ∷ began 3 ∷ closed 2 ∷ began 8 ∷ raised 8 0 ∷ faulted root 0 ∷ began 5 ∷ began 6 ∷ began 7 ∷ began 9 ∷ [])
+    ∷ (started ∷ began 0 ∷ began 1 ∷ began 2 ∷ began 3 ∷ closed 2 ∷ began 8 ∷ raised 8 0 ∷ faulted root 0 ∷ began 5 ∷ began 6 ∷ began 7 ∷ began 9 ∷ [])
+    ∷ (started ∷ began 0 ∷ began 1 ∷ began 2 ∷ began 3 ∷ began 4 ∷ began 5 ∷ began 16 ∷ began 17 ∷ began 6 ∷ began 7 ∷ began 8 ∷ began 9 ∷ closed 8 ∷ began 12 ∷ began 7 ∷ began 8 ∷ began 9 ∷ closed 8 ∷ began 12 ∷ began 13 ∷ raised 13 0 ∷ faulted (inner 3) 0 ∷ began 11 ∷ [])
+    ∷ (started ∷ began 0 ∷ began 1 ∷ began 2 ∷ began 3 ∷ began 4 ∷ began 5 ∷ began 18 ∷ began 6 ∷ began 7 ∷ began 8 ∷ began 9 ∷ closed 8 ∷ began 14 ∷ began 7 ∷ began 8 ∷ began 9 ∷ closed 8 ∷ began 14 ∷ began 15 ∷ raised 15 0 ∷ faulted (inner 3) 0 ∷ began 11 ∷ began 12 ∷ [])
     ∷ (started ∷ began 0 ∷ began 1 ∷ began 2 ∷ began 3 ∷ began 4 ∷ began 5 ∷ began 9 ∷ [])
     ∷ (started ∷ began 0 ∷ began 1 ∷ began 2 ∷ began 3 ∷ began 4 ∷ [])
     ∷ (started ∷ began 0 ∷ began 1 ∷ began 2 ∷ began 3 ∷ closed 2 ∷ began 6 ∷ began 7 ∷ began 8 ∷ began 11 ∷ [])
     ∷ (started ∷ began 0 ∷ began 1 ∷ began 2 ∷ began 3 ∷ began 4 ∷ began 5 ∷ began 6 ∷ began 13 ∷ began 14 ∷ closed 5 ∷ began 10 ∷ began 15 ∷ [])
-    ∷ (started ∷ began 0 ∷ began 1 ∷ began 2 ∷ began 3 ∷ closed 2 ∷ began 6 ∷ began 7 ∷ closed 6 ∷ began 10 ∷ raised 10 ∷ faulted root ∷ began 9 ∷ [])
+    ∷ (started ∷ began 0 ∷ began 1 ∷ began 2 ∷ began 3 ∷ closed 2 ∷ began 6 ∷ began 7 ∷ closed 6 ∷ began 10 ∷ raised 10 0 ∷ faulted root 0 ∷ began 9 ∷ [])
     ∷ (started ∷ began 0 ∷ began 1 ∷ began 2 ∷ began 3 ∷ closed 2 ∷ began 6 ∷ [])
     ∷ (started ∷ began 0 ∷ ended root ∷ [])
-    ∷ (started ∷ began 0 ∷ began 1 ∷ began 2 ∷ began 3 ∷ began 4 ∷ began 5 ∷ began 6 ∷ closed 5 ∷ began 11 ∷ began 4 ∷ began 5 ∷ began 6 ∷ closed 5 ∷ began 11 ∷ began 12 ∷ raised 12 ∷ faulted root ∷ began 8 ∷ began 9 ∷ [])
+    ∷ (started ∷ began 0 ∷ began 1 ∷ began 2 ∷ began 3 ∷ began 4 ∷ began 5 ∷ began 6 ∷ closed 5 ∷ began 11 ∷ began 4 ∷ began 5 ∷ began 6 ∷ closed 5 ∷ began 11 ∷ began 12 ∷ raised 12 0 ∷ faulted root 0 ∷ began 8 ∷ began 9 ∷ [])
     ∷ (started ∷ began 0 ∷ began 1 ∷ began 2 ∷ [])
-    ∷ (started ∷ began 0 ∷ began 1 ∷ began 2 ∷ began 3 ∷ began 4 ∷ began 5 ∷ closed 4 ∷ began 8 ∷ began 9 ∷ closed 8 ∷ closed 2 ∷ began 13 ∷ raised 13 ∷ faulted root ∷ began 11 ∷ began 7 ∷ began 14 ∷ ended root ∷ [])
-    ∷ (started ∷ began 0 ∷ began 1 ∷ began 2 ∷ began 3 ∷ began 4 ∷ began 5 ∷ began 9 ∷ began 10 ∷ closed 4 ∷ closed 9 ∷ closed 3 ∷ began 13 ∷ raised 13 ∷ faulted root ∷ began 7 ∷ began 12 ∷ began 14 ∷ ended root ∷ [])
-    ∷ (started ∷ began 0 ∷ began 1 ∷ began 2 ∷ began 3 ∷ began 4 ∷ began 5 ∷ closed 4 ∷ began 8 ∷ raised 8 ∷ faulted (inner 2) ∷ began 7 ∷ began 9 ∷ ended (inner 2) ∷ began 10 ∷ raised 10 ∷ faulted root ∷ began 11 ∷ ended root ∷ [])
-    ∷ (started ∷ began 0 ∷ began 1 ∷ began 2 ∷ began 3 ∷ began 4 ∷ began 5 ∷ began 6 ∷ began 7 ∷ began 8 ∷ closed 7 ∷ began 11 ∷ closed 4 ∷ began 4 ∷ began 5 ∷ began 12 ∷ raised 12 ∷ faulted (inner 4) ∷ began 13 ∷ ended (inner 4) ∷ began 14 ∷ raised 14 ∷ faulted root ∷ began 10 ∷ began 15 ∷ ended root ∷ [])
-    ∷ (started ∷ began 0 ∷ began 1 ∷ began 2 ∷ began 3 ∷ began 4 ∷ began 5 ∷ began 6 ∷ began 7 ∷ began 8 ∷ closed 7 ∷ began 13 ∷ began 15 ∷ closed 5 ∷ began 17 ∷ began 4 ∷ began 5 ∷ began 6 ∷ began 7 ∷ began 8 ∷ closed 7 ∷ began 13 ∷ began 14 ∷ raised 14 ∷ faulted (inner 5) ∷ began 10 ∷ began 11 ∷ began 12 ∷ raised 11 ∷ ended (inner 5) ∷ faulted root ∷ began 10 ∷ began 11 ∷ began 12 ∷ [])
+    ∷ (started ∷ began 0 ∷ began 1 ∷ began 2 ∷ began 3 ∷ began 4 ∷ began 5 ∷ closed 4 ∷ began 8 ∷ began 9 ∷ closed 8 ∷ closed 2 ∷ began 13 ∷ raised 13 0 ∷ faulted root 0 ∷ began 11 ∷ began 7 ∷ began 14 ∷ ended root ∷ [])
+    ∷ (started ∷ began 0 ∷ began 1 ∷ began 2 ∷ began 3 ∷ began 4 ∷ began 5 ∷ began 9 ∷ began 10 ∷ closed 4 ∷ closed 9 ∷ closed 3 ∷ began 13 ∷ raised 13 0 ∷ faulted root 0 ∷ began 7 ∷ began 12 ∷ began 14 ∷ ended root ∷ [])
+    ∷ (started ∷ began 0 ∷ began 1 ∷ began 2 ∷ began 3 ∷ began 4 ∷ began 5 ∷ closed 4 ∷ began 8 ∷ raised 8 0 ∷ faulted (inner 2) 0 ∷ began 7 ∷ began 9 ∷ ended (inner 2) ∷ began 10 ∷ raised 10 0 ∷ faulted root 0 ∷ began 11 ∷ ended root ∷ [])
+    ∷ (started ∷ began 0 ∷ began 1 ∷ began 2 ∷ began 3 ∷ began 4 ∷ began 5 ∷ began 6 ∷ began 7 ∷ began 8 ∷ closed 7 ∷ began 11 ∷ closed 4 ∷ began 4 ∷ began 5 ∷ began 12 ∷ raised 12 0 ∷ faulted (inner 4) 0 ∷ began 13 ∷ ended (inner 4) ∷ began 14 ∷ raised 14 0 ∷ faulted root 0 ∷ began 10 ∷ began 15 ∷ ended root ∷ [])
+    ∷ (started ∷ began 0 ∷ began 1 ∷ began 2 ∷ began 3 ∷ began 4 ∷ began 5 ∷ began 6 ∷ began 7 ∷ began 8 ∷ closed 7 ∷ began 13 ∷ began 15 ∷ closed 5 ∷ began 17 ∷ began 4 ∷ began 5 ∷ began 6 ∷ began 7 ∷ began 8 ∷ closed 7 ∷ began 13 ∷ began 14 ∷ raised 14 0 ∷ faulted (inner 5) 0 ∷ began 10 ∷ began 11 ∷ began 12 ∷ raised 11 0 ∷ ended (inner 5) ∷ faulted root 0 ∷ began 10 ∷ began 11 ∷ began 12 ∷ [])
+    ∷ (started ∷ began 0 ∷ began 1 ∷ began 2 ∷ began 3 ∷ began 4 ∷ began 6 ∷ raised 4 0 ∷ faulted (inner 3) 0 ∷ began 5 ∷ raised 6 1 ∷ faulted root 1 ∷ raised 5 3 ∷ ended (inner 3) ∷ began 7 ∷ ended root ∷ [])
+    ∷ (started ∷ began 0 ∷ began 1 ∷ began 2 ∷ began 3 ∷ raised 3 0 ∷ faulted (inner 2) 0 ∷ began 4 ∷ raised 4 1 ∷ ended (inner 2) ∷ faulted root 1 ∷ began 5 ∷ ended root ∷ [])
     ∷ []
 
-logged : history (first ∷ next ∷ next ∷ next ∷ next ∷ next ∷ next ∷ []) 0 (loaded planC) noTally ∷ history (first ∷ next ∷ next ∷ next ∷ next ∷ next ∷ next ∷ next ∷ next ∷ next ∷ next ∷ next ∷ next ∷ next ∷ next ∷ next ∷ next ∷ []) 0 (loaded three) noTally ∷ history (first ∷ next ∷ next ∷ stepping 1 ∷ next ∷ next ∷ next ∷ []) 0 (loaded innerHandler) noTally ∷ history (first ∷ next ∷ next ∷ next ∷ []) 0 (loaded handledScope) noTally ∷ history (first ∷ next ∷ next ∷ next ∷ next ∷ next ∷ next ∷ next ∷ next ∷ next ∷ next ∷ next ∷ next ∷ []) 0 (loaded closedOuter) noTally ∷ history (first ∷ next ∷ next ∷ next ∷ next ∷ []) 0 (loaded neverEntered) noTally ∷ history (first ∷ next ∷ next ∷ next ∷ next ∷ next ∷ []) 0 (loaded inSequence) noTally ∷ history (first ∷ next ∷ next ∷ next ∷ next ∷ next ∷ []) 0 (loaded inFlow) noTally ∷ history (first ∷ next ∷ next ∷ next ∷ next ∷ next ∷ next ∷ next ∷ next ∷ next ∷ next ∷ []) 0 (loaded beside) noTally ∷ history (first ∷ next ∷ next ∷ next ∷ next ∷ next ∷ next ∷ next ∷ next ∷ next ∷ next ∷ []) 0 (loaded hung) noTally ∷ history (first ∷ next ∷ []) 0 (loaded unstopped) noTally ∷ history (first ∷ next ∷ next ∷ next ∷ []) 0 (loaded unbegun) noTally ∷ history (first ∷ next ∷ next ∷ []) 0 (loaded waiting) noTally ∷ history (first ∷ next ∷ next ∷ next ∷ []) 0 (loaded nested) noTally ∷ history (first ∷ next ∷ next ∷ next ∷ next ∷ []) 0 (loaded raisingUndo) noTally ∷ history (first ∷ next ∷ next ∷ []) 0 (loaded oneSend) noTally ∷ history (first ∷ next ∷ []) 0 (loaded lone) noTally ∷ history (first ∷ next ∷ next ∷ next ∷ next ∷ next ∷ next ∷ next ∷ next ∷ next ∷ next ∷ []) 0 (loaded twice) noTally ∷ history (first ∷ next ∷ []) 0 (loaded startFlow) noTally ∷ history (first ∷ next ∷ next ∷ next ∷ next ∷ next ∷ next ∷ next ∷ []) 0 (loaded handedOn) noTally ∷ history (first ∷ next ∷ next ∷ stepping 1 ∷ next ∷ next ∷ next ∷ next ∷ []) 0 (loaded datedOuter) noTally ∷ history (first ∷ next ∷ next ∷ next ∷ next ∷ next ∷ []) 0 (loaded faultedOpen) noTally ∷ history (first ∷ next ∷ next ∷ next ∷ next ∷ next ∷ next ∷ next ∷ next ∷ next ∷ next ∷ next ∷ next ∷ next ∷ next ∷ []) 0 (loaded handedOnce) noTally ∷ history (first ∷ next ∷ next ∷ next ∷ next ∷ next ∷ next ∷ next ∷ next ∷ next ∷ next ∷ next ∷ next ∷ []) 0 (loaded anew) noTally ∷ [] ≡ right
-unfolding right planC three innerHandler handledScope closedOuter neverEntered inSequence inFlow beside hung unstopped unbegun waiting nested raisingUndo oneSend lone twice startFlow handedOn datedOuter faultedOpen handedOnce anew computing judging
+logged : history (first ∷ next ∷ next ∷ next ∷ next ∷ next ∷ next ∷ []) 0 (loaded planC) noTally ∷ history (first ∷ next ∷ next ∷ next ∷ next ∷ next ∷ next ∷ next ∷ next ∷ next ∷ next ∷ next ∷ next ∷ next ∷ next ∷ next ∷ next ∷ []) 0 (loaded three) noTally ∷ history (first ∷ next ∷ next ∷ stepping 1 ∷ next ∷ next ∷ next ∷ []) 0 (loaded innerHandler) noTally ∷ history (first ∷ next ∷ next ∷ next ∷ []) 0 (loaded handledScope) noTally ∷ history (first ∷ next ∷ next ∷ next ∷ next ∷ next ∷ next ∷ next ∷ next ∷ next ∷ next ∷ next ∷ next ∷ []) 0 (loaded closedOuter) noTally ∷ history (first ∷ next ∷ next ∷ next ∷ next ∷ []) 0 (loaded neverEntered) noTally ∷ history (first ∷ next ∷ next ∷ next ∷ next ∷ next ∷ []) 0 (loaded inSequence) noTally ∷ history (first ∷ next ∷ next ∷ next ∷ next ∷ next ∷ []) 0 (loaded inFlow) noTally ∷ history (first ∷ next ∷ next ∷ next ∷ next ∷ next ∷ next ∷ next ∷ next ∷ next ∷ next ∷ []) 0 (loaded beside) noTally ∷ history (first ∷ next ∷ next ∷ next ∷ next ∷ next ∷ next ∷ next ∷ next ∷ next ∷ next ∷ []) 0 (loaded hung) noTally ∷ history (first ∷ next ∷ []) 0 (loaded unstopped) noTally ∷ history (first ∷ next ∷ next ∷ next ∷ []) 0 (loaded unbegun) noTally ∷ history (first ∷ next ∷ next ∷ []) 0 (loaded waiting) noTally ∷ history (first ∷ next ∷ next ∷ next ∷ []) 0 (loaded nested) noTally ∷ history (first ∷ next ∷ next ∷ next ∷ next ∷ []) 0 (loaded raisingUndo) noTally ∷ history (first ∷ next ∷ next ∷ []) 0 (loaded oneSend) noTally ∷ history (first ∷ next ∷ []) 0 (loaded lone) noTally ∷ history (first ∷ next ∷ next ∷ next ∷ next ∷ next ∷ next ∷ next ∷ next ∷ next ∷ next ∷ []) 0 (loaded twice) noTally ∷ history (first ∷ next ∷ []) 0 (loaded startFlow) noTally ∷ history (first ∷ next ∷ next ∷ next ∷ next ∷ next ∷ next ∷ next ∷ []) 0 (loaded handedOn) noTally ∷ history (first ∷ next ∷ next ∷ stepping 1 ∷ next ∷ next ∷ next ∷ next ∷ []) 0 (loaded datedOuter) noTally ∷ history (first ∷ next ∷ next ∷ next ∷ next ∷ next ∷ []) 0 (loaded faultedOpen) noTally ∷ history (first ∷ next ∷ next ∷ next ∷ next ∷ next ∷ next ∷ next ∷ next ∷ next ∷ next ∷ next ∷ next ∷ next ∷ next ∷ []) 0 (loaded handedOnce) noTally ∷ history (first ∷ next ∷ next ∷ next ∷ next ∷ next ∷ next ∷ next ∷ next ∷ next ∷ next ∷ next ∷ next ∷ []) 0 (loaded anew) noTally ∷ history (first ∷ next ∷ next ∷ stepping 1 ∷ next ∷ next ∷ []) 0 (loaded absorbed) noTally ∷ history (first ∷ next ∷ next ∷ next ∷ next ∷ []) 0 (loaded passedOut) noTally ∷ [] ≡ right
+unfolding right planC three innerHandler handledScope closedOuter neverEntered inSequence inFlow beside hung unstopped unbegun waiting nested raisingUndo oneSend lone twice startFlow handedOn datedOuter faultedOpen handedOnce anew absorbed passedOut computing judging
 logged = refl
 
 engines : List Engine
@@ -830,8 +871,8 @@ engines = ending ∷ skipsUndo ∷ scopeless ∷ hanging ∷ leaving ∷ sending
 
 -- and what each breaks
 refused : map verdict engines
-    ≡ (faults ∷ ends ∷ [])
-    ∷ (orderly ∷ faults ∷ ends ∷ [])
+    ≡ (faults ∷ ends ∷ causes ∷ [])
+    ∷ (orderly ∷ faults ∷ ends ∷ causes ∷ [])
     ∷ (orderly ∷ begunInTurn ∷ entirely ∷ leftToFinish ∷ [])
     ∷ (goingOn ∷ neverStuck ∷ standing ∷ [])
     ∷ (steps ∷ [])
@@ -917,6 +958,19 @@ refusedHanders : map verdict handers
     ∷ []
 unfolding handers handedOn datedOuter faultedOpen handedOnce forgets handsReversed keepsForInner handsToBoth skipsHanded oldestHanded twiceHanded undoesByFault datesInner undoesDated handsOnFaulted undoesFaulted handsOnInstead passesOver undoesHandedOn first-of judge verdict computing judging weighing
 refusedHanders = refl
+
+-- the engines of request 4, and what each breaks
+misnamers : List Engine
+misnamers = namesLast ∷ losesNumber ∷ keepsAbsorbed ∷ []
+
+refusedMisnamers : map verdict misnamers ≡ (causes ∷ []) ∷ (faults ∷ []) ∷ (kept ∷ []) ∷ []
+unfolding misnamers absorbed passedOut namesLast losesNumber keepsAbsorbed first-of judge verdict computing judging weighing
+refusedMisnamers = refl
+
+-- with the numbers that the right engine answers in these runs, that of the fault that the root handled
+answeredNumbers : causesTaken (first ∷ next ∷ next ∷ stepping 1 ∷ next ∷ next ∷ []) 0 (loaded absorbed) noTally ∷ causesTaken (first ∷ next ∷ next ∷ next ∷ next ∷ []) 0 (loaded passedOut) noTally ∷ [] ≡ (1 ∷ []) ∷ (1 ∷ []) ∷ []
+unfolding absorbed passedOut computing judging
+answeredNumbers = refl
 
 -- Not every step begins only what was idle: in the last of `anew` the raise 11 ends scope 5, which ran the undo part 10 for the second closing of scope 7, and in the same
 -- step the root begins it for the first, which was handed on to it, with the receive 12, which ran.

@@ -1,5 +1,5 @@
 -- An undo part that begins has all its sure steps to come, a step in one that runs takes itself away from these, and so it goes through the list. Assumes nothing.
-use Prim.Native.Nat.{ℕ, _+_, _≤_, _<_}
+use Prim.Native.Nat.{ℕ, zero, suc, _+_, _≤_, _<_}
 use native.Mathlib.Omega.{arith}
 use mathlib.Core.Path.{_≡_, refl, sym, ap, subst, _∙_}
 use mathlib.Core.Bool.{Bool, true, false, cond, not, _&&_, _||_, false≢true, or-true, or-false}
@@ -180,10 +180,10 @@ mutual
 abbrev pub RepaysAs : (left : List ℕ → List ℕ) (t : ℕ) (ms ns : List ℕ) → Result → Type 0
 RepaysAs left t ms ns running = left ns ≡ without t (left ms)
 RepaysAs left t ms ns over = Unit {0}
-RepaysAs left t ms ns raising = Unit {0}
+RepaysAs left t ms ns (raising x) = Unit {0}
 RepaysAs left t ms ns leaving = Unit {0}
 RepaysAs left t ms ns undone = without t (left ms) ≡ []
-RepaysAs left t ms ns undoRaising = Unit {0}
+RepaysAs left t ms ns (undoRaising x) = Unit {0}
 
 pub record Repays (left : List ℕ → List ℕ) (t : ℕ) (o : Order) (r : Outcome) : Type 0 where
   pub lists : closings (r .order) ≡ closings o
@@ -196,27 +196,27 @@ repays-so {left} {left′} {t} {o} {r} w e d = record { lists = w .lists; less =
     go : (x : Result) → RepaysAs left t (o .marks) (r .order .marks) x → RepaysAs left′ t (o .marks) (r .order .marks) x
     go running y = rw (d, e) y
     go over y = tt
-    go raising y = tt
+    go (raising x) y = tt
     go leaving y = tt
     go undone y = rw e y
-    go undoRaising y = tt
+    go (undoRaising x) y = tt
 
 -- nothing in an undo part is an undo part
 abbrev NotUndone : Result → Type 0
 NotUndone running = Unit {0}
 NotUndone over = Unit {0}
-NotUndone raising = Unit {0}
+NotUndone (raising x) = Unit {0}
 NotUndone leaving = Unit {0}
 NotUndone undone = ⊥
-NotUndone undoRaising = Unit {0}
+NotUndone (undoRaising x) = Unit {0}
 
 not-undone : (p : Plan) (a : Act) (k t : ℕ) (o o′ : Order) (l : List Event) (x : Result) → RunAs p a k t o l o′ x → NotUndone x
 not-undone p a k t o o′ l running c = tt
 not-undone p a k t o o′ l over c = tt
-not-undone p a k t o o′ l raising c = tt
+not-undone p a k t o o′ l (raising x) c = tt
 not-undone p a k t o o′ l leaving c = tt
 not-undone p a k t o o′ l undone c = c
-not-undone p a k t o o′ l undoRaising c = tt
+not-undone p a k t o o′ l (undoRaising x) c = tt
 
 -- what goes up from an undo part
 repays-up : (left : List ℕ → List ℕ) (t : ℕ) (o : Order) (r : Outcome) → closings (r .order) ≡ closings o → NotUndone (r .result) → LessAs left t (o .marks) (r .order .marks) (r .result) → Repays left t o (fromUndo r)
@@ -224,13 +224,13 @@ unfolding fromUndo
 repays-up left t o r e n y = record { lists = e; less = go (r .result) n y }
   where
     go : (x : Result) → NotUndone x → LessAs left t (o .marks) (r .order .marks) x
-        → RepaysAs left t (o .marks) (r .order .marks) (elim x [ running ↦ running | over ↦ undone | raising ↦ undoRaising | leaving ↦ leaving | undone ↦ undone | undoRaising ↦ undoRaising ])
+        → RepaysAs left t (o .marks) (r .order .marks) (elim x [ running ↦ running | over ↦ undone | raising n ↦ undoRaising n | leaving ↦ leaving | undone ↦ undone | undoRaising n ↦ undoRaising n ])
     go running n y = y
     go over n y = y
-    go raising n y = tt
+    go (raising x) n y = tt
     go leaving n y = tt
     go undone n y = absurd n
-    go undoRaising n y = tt
+    go (undoRaising x) n y = tt
 
 -- what an idle activity other than a scope makes of it
 repays-idly : (p : Plan) (n : Name) (left : List ℕ → List ℕ) (within : Acts) (k t : ℕ) (o : Order) (r r′ : Outcome) → Idly r r′ → UndoInAs p itsOwn n within (k + 1) t o (r .log) (r .order) (r .result)
@@ -241,10 +241,10 @@ repays-idly p n left within k t o r r′ (idly-runs j i) c w = absurd (never (r 
     never : (x : Result) → x ≡ over → UndoInAs p itsOwn n within (k + 1) t o (r .log) (r .order) x → ⊥
     never running i d = let z : _≡_ {A = ℕ} 0 1 = cc in omega arith
     never over i d = d
-    never raising i d = d
+    never (raising x) i d = d
     never leaving i d = let z : _≡_ {A = ℕ} 0 1 = cc in omega arith
     never undone i d = let z : _≡_ {A = ℕ} 0 1 = cc in omega arith
-    never undoRaising i d = let z : _≡_ {A = ℕ} 0 1 = cc in omega arith
+    never (undoRaising x) i d = let z : _≡_ {A = ℕ} 0 1 = cc in omega arith
 
 no-less : {k t : ℕ} → k < t → k ≡ t → ⊥
 no-less y z = omega arith
@@ -254,10 +254,10 @@ nothing-repays : (left : List ℕ → List ℕ) (t : ℕ) (ms ns : List ℕ) (x 
 unfolding only
 nothing-repays left t ms ns running f = rw (f ns, f ms)
 nothing-repays left t ms ns over f = tt
-nothing-repays left t ms ns raising f = tt
+nothing-repays left t ms ns (raising x) f = tt
 nothing-repays left t ms ns leaving f = tt
 nothing-repays left t ms ns undone f = rw (f ms)
-nothing-repays left t ms ns undoRaising f = tt
+nothing-repays left t ms ns (undoRaising x) f = tt
 
 -- A step in a body of which an undo part runs.
 module _ (p : Plan) where
@@ -428,7 +428,8 @@ kind-place p q own within k t v f h = go own h
     go (send x y vs) h = its h
     go (receive x y vs) h = its h
     go (setting x y) h = its h
-    go raise h = its h
+    go (raise zero) h = its h
+    go (raise (suc number)) h = its h
     go leave h = its h
     go (choose x) h = its h
     go (repeat x) h = absurd (false≢true h)
@@ -481,7 +482,8 @@ kind-sub t empty x y z x′ y′ z′ e f g h = h
 kind-sub t (send a b vs) x y z x′ y′ z′ e f g h = e h
 kind-sub t (receive a b vs) x y z x′ y′ z′ e f g h = e h
 kind-sub t (setting a b) x y z x′ y′ z′ e f g h = e h
-kind-sub t raise x y z x′ y′ z′ e f g h = e h
+kind-sub t (raise zero) x y z x′ y′ z′ e f g h = e h
+kind-sub t (raise (suc number)) x y z x′ y′ z′ e f g h = e h
 kind-sub t leave x y z x′ y′ z′ e f g h = e h
 kind-sub t (choose a) x y z x′ y′ z′ e f g h = e h
 kind-sub t (repeat a) x y z x′ y′ z′ e f g h = h
@@ -606,10 +608,10 @@ duesOf back (e ∷ l) = putting (back e) (duesOf back l)
 abbrev pub PaysAs : Plan → Scope → (due : List (List ℕ)) → Order → Result → Type 0
 PaysAs p s d o running = putting (undoLeftIn (s .body) (s .bodyAt) (o .marks)) (duesOf (dueIn (s .body) (s .bodyAt)) (listOf p (s .name) o)) ≡ d
 PaysAs p s d o over = d ≡ []
-PaysAs p s d o raising = Unit {0}
+PaysAs p s d o (raising x) = Unit {0}
 PaysAs p s d o leaving = Unit {0}
 PaysAs p s d o undone = Unit {0}
-PaysAs p s d o undoRaising = Unit {0}
+PaysAs p s d o (undoRaising x) = Unit {0}
 
 module _ (p : Plan) where
   undo-then : (s : Scope) (l : List ℕ) (e : ℕ) (o′ : Order) (ms : List ℕ) (v : Bool) (g : List Event)

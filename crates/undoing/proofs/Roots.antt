@@ -57,10 +57,10 @@ weaker {p} {s} {o} {r} v = record { apart = v .apart; comes = go (r .result) (v 
     go : (x : Result) → StepsAs p s (Turning s) o (r .log) (r .order) x → StepsAs p s (Running s) o (r .log) (r .order) x
     go running c = (scope-turned (c .0), c .1)
     go over c = c
-    go raising c = c
+    go (raising x) c = c
     go leaving c = c
     go undone c = c
-    go undoRaising c = c
+    go (undoRaising x) c = c
 
 module _ (p : Plan) (actor : Actor) (h : Seat p (rootOf p)) where
   pub root-steps : (t : ℕ) (o : Order) → Awaited p (o .marks) t → Standing p o → (o .root ≡ halted → ⊥) → (o .root ≡ withdrawing → ⊥)
@@ -118,11 +118,11 @@ told-over [] h = absurd (false≢true h)
 told-over (started ∷ past) h = absurd (false≢true h)
 told-over (began k ∷ past) h = absurd (false≢true h)
 told-over (closed k ∷ past) h = absurd (false≢true h)
-told-over (faulted n ∷ past) h = absurd (false≢true h)
+told-over (faulted n x ∷ past) h = absurd (false≢true h)
 told-over (stopped k ∷ past) h = absurd (false≢true h)
 told-over (ended root ∷ past) h = refl
 told-over (ended (inner k) ∷ past) h = absurd (false≢true h)
-told-over (raised k ∷ past) h = absurd (false≢true h)
+told-over (raised k x ∷ past) h = absurd (false≢true h)
 told-over (left ∷ past) h = refl
 
 turned-over : (past : List Event) → endsTurned past ≡ true → noneNow past ≡ true
@@ -131,11 +131,11 @@ turned-over [] h = absurd (false≢true h)
 turned-over (started ∷ past) h = absurd (false≢true h)
 turned-over (began k ∷ past) h = absurd (false≢true h)
 turned-over (closed k ∷ past) h = absurd (false≢true h)
-turned-over (faulted n ∷ past) h = absurd (false≢true h)
+turned-over (faulted n x ∷ past) h = absurd (false≢true h)
 turned-over (stopped k ∷ past) h = absurd (false≢true h)
 turned-over (ended root ∷ past) h = refl
 turned-over (ended (inner k) ∷ past) h = absurd (false≢true h)
-turned-over (raised k ∷ past) h = absurd (false≢true h)
+turned-over (raised k x ∷ past) h = absurd (false≢true h)
 turned-over (left ∷ past) h = absurd (false≢true h)
 
 -- what is known of the newest event where an order has ended so
@@ -198,7 +198,7 @@ module _ (p : Plan) (actor : Actor) (h : Seat p (rootOf p)) where
           → Passed p past (movedTo (record { result = z; order = r .order; log = r .log }) (endOf (record { result = z; order = r .order; log = r .log })))
       go running c = by-done (c .0) (c .1) (eqb (r .order .root) done) refl
       go over c = passes-end (c .3 .does past g .0) refl (c .3 .does past g .1)
-      go raising c = passes-end (c .3 .does past g .0) refl (c .3 .does past g .1)
+      go (raising x) c = passes-end (c .3 .does past g .0) refl (c .3 .does past g .1)
       go leaving c = passes-end (c .does past g .0) refl (c .does past g .1)
       go undone c = absurd c
-      go undoRaising c = absurd c
+      go (undoRaising x) c = absurd c

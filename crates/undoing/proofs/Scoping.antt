@@ -18,13 +18,14 @@ use Rattle.order.specs.declared.Way.the-variants.{Running as running, Over as o
 use Rattle.order.specs.Scope.{Outcome, runs, after, Scope, isOpen, innerRuns, ends, undoes, turns, stop, faults, breaks, looksAgain, bodyOver, bodyRaised, undoOver, undoRaised, fromBody, partOver, partRaised, fromFault, forgetting}
 use Rattle.undoing.specs.Demand3.{isRoot}
 use Rattle.undoing.specs.Ties.{isName}
+use Rattle.undoing.proofs.Causing.{caused, caused-mark, faults-is}
 use Rattle.undoing.proofs.Parts.{decide}
 use Rattle.undoing.proofs.Accounts.{Phase, rest, live, waits, heals, odd, phase, tied-as}
 use Rattle.undoing.proofs.Moves.{RunIn, tied-from, move-fault}
 use Rattle.undoing.proofs.Marks.{Quiet, Kept, Run, Turned, turned-undoes, turned-heals, Stopped, Undoing, Stoppable, agree-part, quiet-part, quiet-agree, agree-below, agree-above, stoppable-agree, not-open}
 use Rattle.undoing.proofs.Orders.{endAs, failAs, listOf, momentOf, Does, does-then, does-nothing, does-one, bare, remedy-names}
-use Rattle.undoing.proofs.Seats.{Seat, mark-kept, marking-mark, marking-elsewhere, marking-agree, marking-length, quiet-inner, inside-rest}
-use Rattle.undoing.proofs.Turning.{Apart, apart-then, apart-kept, apart-marking, TurnsAs, Turns, turns-after, does-phase, marking-list, does-healed, undoes-on, turns-on}
+use Rattle.undoing.proofs.Seats.{Seat, mark-kept, marking-mark, faulting-elsewhere, marking-agree, marking-length, quiet-inner, inside-rest}
+use Rattle.undoing.proofs.Turning.{Apart, apart-then, apart-kept, apart-marking, apart-faulting, TurnsAs, Turns, turns-after, does-phase, marking-list, does-healed, undoes-on, turns-on}
 use Rattle.undoing.proofs.Stopping.{stops}
 use Rattle.undoing.proofs.Breaking.{Owns, broken, OthersRest, broken-mark, cleared-kept, cleared-quiet, breaks-healed, breaks-raised}
 
@@ -38,19 +39,19 @@ pub record Acted (k n : ℕ) (o : Order) (C : List Event → Order → Result �
 abbrev pub RunAs : Plan → Act → (k t : ℕ) → Order → List Event → Order → Result → Type 0
 RunAs p a k t o l o′ running = Run (o′ .marks) a k × Does p None o l o′
 RunAs p a k t o l o′ over = Quiet (o′ .marks) k (size a) × Does p None o l o′
-RunAs p a k t o l o′ raising = Stoppable (o′ .marks) a k × Does p None o l o′ × (bare a ≡ true → l ≡ raised t ∷ [])
+RunAs p a k t o l o′ (raising x) = Stoppable (o′ .marks) a k × Does p None o l o′ × (bare a ≡ true → l ≡ raised t x ∷ [])
 RunAs p a k t o l o′ leaving = Does p Left o l o′
 RunAs p a k t o l o′ undone = ⊥
-RunAs p a k t o l o′ undoRaising = ⊥
+RunAs p a k t o l o′ (undoRaising x) = ⊥
 
 -- in a stopped body
 abbrev pub StopAs : Plan → Act → (k : ℕ) → Order → List Event → Order → Result → Type 0
 StopAs p a k o l o′ running = Stopped (o′ .marks) a k × Does p None o l o′
 StopAs p a k o l o′ over = Stopped (o′ .marks) a k × Does p None o l o′
-StopAs p a k o l o′ raising = Stopped (o′ .marks) a k × Does p None o l o′
+StopAs p a k o l o′ (raising x) = Stopped (o′ .marks) a k × Does p None o l o′
 StopAs p a k o l o′ leaving = Does p Left o l o′
 StopAs p a k o l o′ undone = ⊥
-StopAs p a k o l o′ undoRaising = ⊥
+StopAs p a k o l o′ (undoRaising x) = ⊥
 
 -- every scope in a stretch is at rest
 abbrev pub ScopesRest : Plan → Order → (k n : ℕ) → Type 0
@@ -60,11 +61,11 @@ ScopesRest p o k n = (j : ℕ) → isName p (inner j) ≡ true → k ≤ j → j
 abbrev pub UndoAs : Plan → Name → Act → (k t : ℕ) → Order → List Event → Order → Result → Type 0
 UndoAs p n a k t o l o′ running = Undoing (o′ .marks) a k × Does p None o l o′
 UndoAs p n a k t o l o′ over = ⊥
-UndoAs p n a k t o l o′ raising = ⊥
+UndoAs p n a k t o l o′ (raising x) = ⊥
 UndoAs p n a k t o l o′ leaving = Does p Left o l o′
 UndoAs p n a k t o l o′ undone = Quiet (o′ .marks) k (size a) × Does p None o l o′
-UndoAs p n a k t o l o′ undoRaising =
-    (l ≡ raised t ∷ []) × RunIn p (λ z. markOf z o′) n t × (innerRuns a k (o′ .marks) ≡ false) × ScopesRest p o′ k (size a) × Does p None o l o′
+UndoAs p n a k t o l o′ (undoRaising x) =
+    (l ≡ raised t x ∷ []) × RunIn p (λ z. markOf z o′) n t × (innerRuns a k (o′ .marks) ≡ false) × ScopesRest p o′ k (size a) × Does p None o l o′
 
 -- a scope that runs
 pub data ScopeRun (ms : List ℕ) (m : ℕ) (b : Act) (kb : ℕ) (f : Act) (kf : ℕ) : Type 0 where
@@ -85,11 +86,11 @@ abbrev pub StepsAs : Plan → Scope → (List ℕ → ℕ → Type 0) → Order 
 StepsAs p s R o l o′ running = R (o′ .marks) (markOf (s .name) o′) × Does p None o l o′
 StepsAs p s R o l o′ over =
     (markOf (s .name) o′ ≡ idle) × Quiet (o′ .marks) (s .bodyAt) (size (s .body)) × Quiet (o′ .marks) (s .faultAt) (size (s .fault)) × Does p (endAs (s .name)) o l o′
-StepsAs p s R o l o′ raising =
+StepsAs p s R o l o′ (raising x) =
     (markOf (s .name) o′ ≡ idle) × Quiet (o′ .marks) (s .bodyAt) (size (s .body)) × Quiet (o′ .marks) (s .faultAt) (size (s .fault)) × Does p (failAs (s .name)) o l o′
 StepsAs p s R o l o′ leaving = Does p Left o l o′
 StepsAs p s R o l o′ undone = ⊥
-StepsAs p s R o l o′ undoRaising = ⊥
+StepsAs p s R o l o′ (undoRaising x) = ⊥
 
 pub record Steps (p : Plan) (s : Scope) (R : List ℕ → ℕ → Type 0) (o : Order) (r : Outcome) : Type 0 where
   pub apart : Apart s o (r .order)
@@ -103,10 +104,10 @@ turns-steps {p} {s} {o} {o′} {l} {r} R f a d t = record { apart = apart-then a
     go : (x : Result) → TurnsAs p s o′ (r .log) (r .order) x → StepsAs p s R o (l ++ r .log) (r .order) x
     go running c = (f (r .order .marks) (markOf (s .name) (r .order)) (c .0), does-then d (c .1))
     go over c = (c .0, c .1, c .2, does-then d (c .3))
-    go raising c = absurd c
+    go (raising x) c = absurd c
     go leaving c = absurd c
     go undone c = absurd c
-    go undoRaising c = absurd c
+    go (undoRaising x) c = absurd c
 
 -- the definitions, by a scope's mark
 pub looks-is : (s : Scope) (o : Order) (m : ℕ) → markOf (s .name) o ≡ m
@@ -122,9 +123,9 @@ unfolding bodyOver
 over-is s o m e = subst (λ (z : ℕ). bodyOver s o ≡ elim (eqb z active) [ true ↦ runs (marking (s .name) done o) | false ↦ looksAgain s o ]) e refl
 
 -- where a fault came out of the body
-pub raised-is : (s : Scope) (o : Order) (b : Bool) → isOpen (markOf (s .name) o) ≡ b → bodyRaised s o ≡ elim b [ true ↦ faults s o | false ↦ looksAgain s o ]
+pub raised-is : (x : ℕ) (s : Scope) (o : Order) (b : Bool) → isOpen (markOf (s .name) o) ≡ b → bodyRaised x s o ≡ elim b [ true ↦ faults x s o | false ↦ looksAgain s o ]
 unfolding bodyRaised
-raised-is s o b e = subst (λ (z : Bool). bodyRaised s o ≡ elim z [ true ↦ faults s o | false ↦ looksAgain s o ]) e refl
+raised-is x s o b e = subst (λ (z : Bool). bodyRaised x s o ≡ elim z [ true ↦ faults x s o | false ↦ looksAgain s o ]) e refl
 
 -- a scope that waits is faulty or halted, by whether it faulted
 pub waits-mark : (m : ℕ) {w : Bool} → phase m ≡ waits w → (eqb m faulty ≡ w) × (eqb m halted ≡ not w)
@@ -194,24 +195,24 @@ Beyond s o = (i : ℕ) → s .faultAt + size (s .fault) ≤ i → i < s .first +
 
 module _ (p : Plan) where
   -- the scope faults: its body stops, and it undoes as soon as it may
-  pub faults-on : (s : Scope) (o : Order) → Seat p s → phase (markOf (s .name) o) ≡ live → Stoppable (o .marks) (s .body) (s .bodyAt)
-      → Quiet (o .marks) (s .faultAt) (size (s .fault)) → s .faultAt + size (s .fault) ≤ length (o .marks) → Turns p s o (faults s o)
-  unfolding faults
-  faults-on s o h q t y m =
-      let o₁ = marking (s .name) faulty o in
+  pub faults-on : (x : ℕ) (s : Scope) (o : Order) → Seat p s → phase (markOf (s .name) o) ≡ live → Stoppable (o .marks) (s .body) (s .bodyAt)
+      → Quiet (o .marks) (s .faultAt) (size (s .fault)) → s .faultAt + size (s .fault) ≤ length (o .marks) → Turns p s o (faults x s o)
+  faults-on x s o h q t y m =
+      let o₁ = caused (s .name) x (marking (s .name) faulty o) in
       let n = marking-length (s .name) faulty o in
-      let k : markOf (s .name) o₁ ≡ faulty = marking-mark (s .name) (s .bodyAt) faulty o (h .before) (omega (arith, h .after)) in
+      let k : markOf (s .name) o₁ ≡ faulty = caused-mark (s .name) (s .name) x (marking (s .name) faulty o) ∙ marking-mark (s .name) (s .bodyAt) faulty o (h .before) (omega (arith, h .after)) in
       let y₁ : Quiet (o₁ .marks) (s .faultAt) (size (s .fault))
       = quiet-agree y (agree-part (marking-agree {c = s .bodyAt} {m = size (s .body) + size (s .fault)} (s .name) faulty o (h .before)) (omega (arith, h .after)) (omega (arith, h .after))) in
       let r = stops p (h .body) o₁ (ap phase k) (stoppable-agree t (marking-agree (s .name) faulty o (h .before))) (omega (arith, h .after, n)) in
       let o₂ = stop (s .body) (s .bodyAt) o₁ .order in
-      let d : Does p None o (faulted (s .name) ∷ []) o₁
-      = does-one (λ past x. move-fault p (momentOf p o) (momentOf p o₁) past x (s .name) (h .name) q (ap phase k) (marking-list p (s .name) (s .name) faulty o) (marking-elsewhere p (s .name) faulty o)) in
-      turns-after (apart-then (apart-marking s faulty o (h .before) (omega (arith, h .after))) (apart-kept s o₁ o₂ (r .kept) (omega arith) (omega (arith, h .after)) (r .rooted)))
+      let d : Does p None o (faulted (s .name) x ∷ []) o₁
+      = does-one (λ past w. move-fault p (momentOf p o) (momentOf p o₁) past w (s .name) x (h .name) q (ap phase k) (marking-list p (s .name) (s .name) faulty o) (faulting-elsewhere p (s .name) x o)) in
+      subst (λ (z : Outcome). Turns p s o z) (sym (faults-is x s o))
+      (turns-after (apart-then (apart-faulting s x o (h .before) (omega (arith, h .after))) (apart-kept s o₁ o₂ (r .kept) (omega arith) (omega (arith, h .after)) (r .rooted)))
       (does-then d (r .does))
       (turns-on p true s o₂ h (λ z. absurd (false≢true (sym z)))
       (ap phase (mark-kept (s .name) (s .bodyAt) o₁ o₂ (h .before) (omega arith) (r .rooted) (r .kept) ∙ k)) (r .stands)
-      (quiet-agree y₁ (agree-above (r .kept) (omega (arith, h .after)))) (omega (arith, r .kept .many, n)))
+      (quiet-agree y₁ (agree-above (r .kept) (omega (arith, h .after)))) (omega (arith, r .kept .many, n))))
 
   -- the other scopes of s are at rest, where those of its body and what is left are
   others-rest : (s : Scope) (o : Order) → Seat p s → Reach s → ScopesRest p o (s .bodyAt) (size (s .body)) → Beyond s o → OthersRest p s o
@@ -228,11 +229,11 @@ module _ (p : Plan) where
       lt-irrefl d e = omega arith
 
   -- what breaking leaves of a scope
-  steps-broken : (R : List ℕ → ℕ → Type 0) (s : Scope) (o₀ o : Order) (l : List Event) → Seat p s → Reach s → Apart s o₀ o → Beyond s o
+  steps-broken : (R : List ℕ → ℕ → Type 0) (number : ℕ) (s : Scope) (o₀ o : Order) (l : List Event) → Seat p s → Reach s → Apart s o₀ o → Beyond s o
       → Does p (failAs (s .name)) o₀ l (broken s o)
-      → Steps p s R o₀ (record { result = raising; order = broken s o; log = l })
+      → Steps p s R o₀ (record { result = raising number; order = broken s o; log = l })
   unfolding forgetting
-  steps-broken R s o₀ o l h c a b d =
+  steps-broken R number s o₀ o l h c a b d =
       record {
         apart = apart-then a (record {
           many = w .many ∙ marking-length (s .name) idle o;
@@ -296,12 +297,12 @@ module _ (p : Plan) where
                   tied-from live _ a (markOf (s .name) (marking (s .name) done o₁)) (ap phase k) (d₁ .0, d₁ .1, d₁ .2, d₁ .3 ∙ sym (marking-list p (s .name) (s .name) done o₁), d₁ .4, d₁ .5))),
             );
           })
-      go raising c =
-          subst (λ (z : Outcome). Steps p s (Running s) o (after (r .log) z)) (sym (raised-is s o₁ true (rw e₁)))
-          (turns-steps (Running s) (λ ms m. scope-turned) a₁ (c .1) (faults-on s o₁ h (ap phase e₁) (c .0) y₁ (omega (arith, w .kept .many))))
+      go (raising x) c =
+          subst (λ (z : Outcome). Steps p s (Running s) o (after (r .log) z)) (sym (raised-is x s o₁ true (rw e₁)))
+          (turns-steps (Running s) (λ ms m. scope-turned) a₁ (c .1) (faults-on x s o₁ h (ap phase e₁) (c .0) y₁ (omega (arith, w .kept .many))))
       go leaving c = record { apart = a₁; comes = c }
       go undone c = absurd c
-      go undoRaising c = absurd c
+      go (undoRaising x) c = absurd c
 
   -- A step in the body of a scope that waits for its inner scopes: it looks again.
   looks-on : (v : Bool) (s : Scope) (o o₁ : Order) (l : List Event) → Seat p s → (v ≡ false → isRoot (s .name) ≡ false) → phase (markOf (s .name) o₁) ≡ waits v
@@ -349,13 +350,13 @@ module _ (p : Plan) where
           subst (λ (z : Outcome). Steps p s (Turning s) o (after (r .log) z))
           (sym (over-is s o₁ (markOf (s .name) o₁) refl ∙ ap (λ (b : Bool). elim b [ true ↦ runs (marking (s .name) done o₁) | false ↦ looksAgain s o₁ ]) not-active))
           (looks (c .0) (c .1))
-      go raising c =
+      go (raising x) c =
           subst (λ (z : Outcome). Steps p s (Turning s) o (after (r .log) z))
-          (sym (raised-is s o₁ false (not-open (markOf (s .name) o₁) (waits v) (ap phase e₁ ∙ q) (λ d. let z : _≡_ {A = ℕ} 0 1 = cc in omega arith))))
+          (sym (raised-is x s o₁ false (not-open (markOf (s .name) o₁) (waits v) (ap phase e₁ ∙ q) (λ d. let z : _≡_ {A = ℕ} 0 1 = cc in omega arith))))
           (looks (c .0) (c .1))
       go leaving c = record { apart = a₁; comes = c }
       go undone c = absurd c
-      go undoRaising c = absurd c
+      go (undoRaising x) c = absurd c
 
   -- A step in an undo part that a scope is running.
   pub from-undoing : (v : Bool) (s : Scope) (t : ℕ) (o : Order) (r : Outcome) → Seat p s → Reach s → (v ≡ false → isRoot (s .name) ≡ false)
@@ -415,14 +416,14 @@ module _ (p : Plan) where
           subst (λ (z : Outcome). Steps p s (Turning s) o (after (r .log) z)) (sym looks)
           (record { apart = a₁; comes = (turned-undoes q₁ (d .0) y₁, does-then (d .1) (does-nothing (λ n i. (refl, refl)))) })
       go over d = absurd d
-      go raising d = absurd d
+      go (raising x) d = absurd d
       go leaving d = record { apart = a₁; comes = d }
       go undone d = next (d .0) (d .1)
-      go undoRaising d =
-          subst (λ (z : Bool). Steps p s (Turning s) o (after (r .log) (elim z [ true ↦ breaks s o₁ | false ↦ runs o₁ ]))) (sym is-mark)
-          (steps-broken (Turning s) s o o₁ (r .log ++ (ended (s .name) ∷ [])) h c a₁ b₁
+      go (undoRaising n) d =
+          subst (λ (z : Bool). Steps p s (Turning s) o (after (r .log) (elim z [ true ↦ breaks n s o₁ | false ↦ runs o₁ ]))) (sym is-mark)
+          (steps-broken (Turning s) n s o o₁ (r .log ++ (ended (s .name) ∷ [])) h c a₁ b₁
           (subst (λ (l : List Event). Does p (failAs (s .name)) o (l ++ (ended (s .name) ∷ [])) (broken s o₁)) (sym (d .0))
-          (breaks-raised p v s t o o₁ h (c .owns) q₁ (inside-rest p s o₁ h (d .2)) (others-rest s o₁ h c (d .3) b₁) (d .1)
+          (breaks-raised p v s t n o o₁ h (c .owns) q₁ (inside-rest p s o₁ h (d .2)) (others-rest s o₁ h c (d .3) b₁) (d .1)
           (subst (λ (l : List Event). Does p None o l o₁) (d .0) (d .4)))))
         where
           b₁ : Beyond s o₁
@@ -470,11 +471,11 @@ module _ (p : Plan) where
               does-then (d .1) (does-healed p (s .name) (s .bodyAt) o₁ (h .name) (h .before) (omega (arith, h .after, w .kept .many)) q₁ (inside-rest p s o₁ h (quiet-inner (s .body) (s .bodyAt) u₁))),
             );
           })
-      go raising d =
-          subst (λ (z : Bool). Steps p s (Turning s) o (after (r .log) (elim z [ true ↦ breaks s o₁ | false ↦ runs o₁ ]))) (sym is-handling)
-          (steps-broken (Turning s) s o o₁ (r .log ++ (ended (s .name) ∷ [])) h c a₁ b₁
+      go (raising n) d =
+          subst (λ (z : Bool). Steps p s (Turning s) o (after (r .log) (elim z [ true ↦ breaks n s o₁ | false ↦ runs o₁ ]))) (sym is-handling)
+          (steps-broken (Turning s) n s o o₁ (r .log ++ (ended (s .name) ∷ [])) h c a₁ b₁
           (does-then (d .1) (breaks-healed p s o₁ h (c .owns) q₁ (inside-rest p s o₁ h (quiet-inner (s .body) (s .bodyAt) u₁))
           (others-rest s o₁ h c (λ j i x z. u₁ .at j x z) b₁))))
       go leaving d = record { apart = a₁; comes = d }
       go undone d = absurd d
-      go undoRaising d = absurd d
+      go (undoRaising x) d = absurd d

@@ -1,5 +1,5 @@
 -- The log of a step by its raise: what follows a raise, and that nothing faults without one. Assumes nothing.
-use Prim.Native.Nat.{ℕ, _+_, _≤_, _<_}
+use Prim.Native.Nat.{ℕ, zero, suc, _+_, _≤_, _<_}
 use native.Mathlib.Omega.{arith}
 use mathlib.Core.Path.{_≡_, refl, sym, ap, subst, _∙_}
 use mathlib.Core.Bool.{Bool, true, false, cond, not, _&&_, _||_, false≢true, and-false, and-true}
@@ -13,14 +13,14 @@ use Rattle.order.specs.declared.Order.{Order}
 use Rattle.order.specs.declared.End.{End}
 use Rattle.order.specs.declared.End.the-variants.{None, Well, Handled, Failed, Left}
 use Rattle.order.specs.Lists.{only, withoutLast}
-use Rattle.order.specs.State.{Name, root, inner, closings, remembering, idle, inside, binding, marked, markOf, marking, markAt, withMarks, faulty, halted, active, undoing, withdrawing, handling, done}
-use Rattle.order.specs.Expression.{Value, fault, value, evaluate, isTrue}
+use Rattle.order.specs.State.{Name, root, inner, closings, remembering, idle, inside, binding, marked, markOf, marking, markAt, withMarks, faulty, halted, active, undoing, withdrawing, handling, done, causing}
+use Rattle.order.specs.Expression.{unboundVariable, conflictingReceive, Value, fault, value, evaluate, isTrue}
 use Rattle.order.specs.Event.{Event, started, began, closed, faulted, stopped, ended, raised, left}
 use Rattle.order.specs.Begin.{Begun, begin, beginAfter, beginPart, part, partAt, quiet, cleared}
 use Rattle.order.specs.declared.Way.{Way as Result}
 use Rattle.order.specs.declared.Way.the-variants.{Running as running, Over as over, Raising as raising, Leaving as leaving, Undone as undone, UndoRaising as undoRaising}
 use Rattle.order.specs.Scope.{Outcome, runs, after, begunIn, whereOver, Scope, scopeAt, rootOf, isOpen, innerRuns, closing, beginUndo, startUndo, undo, ends, handle, undoes, turns, stop, faults, breaks, looksAgain, bodyOver, bodyRaised, undoOver, undoRaised, fromBody, partOver, partRaised, fromFault, fromUndo, rememberedFor, forgetting, isFor, goesThrough}
-use Rattle.order.specs.Acting.{finishes, raises, orRaises, enters, again, repeats, allBound, itself, isPart, arms, goesOn, joins, inScope, combines, stepIn, stepAmong, stepRoot, endOf, movedTo, begunOrder, Actor, replaces, performs, acted}
+use Rattle.order.specs.Acting.{finishes, raises, orRaises, enters, again, repeats, allBound, itself, isPart, arms, goesOn, joins, inScope, combines, stepIn, stepAmong, stepRoot, endOf, faultOf as faultNumber, movedTo, begunOrder, Actor, replaces, performs, acted}
 use Rattle.undoing.specs.Ties.{isName, fits, Place, bodyOf, faultOf, undoOf, nameOf, placeIn, placeAmong, placeOf, beyondOf, lastOf, firstOf, beyondIn, lastIn, runAt, seen, placeParts}
 use Rattle.undoing.proofs.Parts.{decide, both as both-true}
 use Rattle.undoing.proofs.Marks.{trio}
@@ -37,10 +37,10 @@ unfoldable pub isGrave : Event → Bool
 isGrave started = false
 isGrave (began k) = false
 isGrave (closed k) = false
-isGrave (faulted n) = true
+isGrave (faulted n x) = true
 isGrave (stopped k) = false
 isGrave (ended n) = false
-isGrave (raised k) = true
+isGrave (raised k x) = true
 isGrave left = false
 
 -- neither in a log
@@ -55,10 +55,10 @@ graves-aside = record { begins = λ k. refl; stops = λ k. refl; ends = λ n. re
 abbrev pub isMild : Result → Bool
 isMild running = true
 isMild over = true
-isMild raising = false
+isMild (raising x) = false
 isMild leaving = false
 isMild undone = false
-isMild undoRaising = false
+isMild (undoRaising x) = false
 
 -- it runs on or is over, and logs neither
 pub record Mild (r : Outcome) : Type 0 where
@@ -75,10 +75,10 @@ mild-where g r h e = go (r .result) (h .goes)
     go : (x : Result) → isMild x ≡ true → Mild (whereOver g (record { result = x; order = r .order; log = r .log }))
     go running m = record { goes = refl; calm = h .calm }
     go over m = record { goes = e (r .order) .goes; calm = silent-append isGrave graves-aside (r .log) (g (r .order) .log) (h .calm) (e (r .order) .calm) }
-    go raising m = absurd (false≢true m)
+    go (raising x) m = absurd (false≢true m)
     go leaving m = absurd (false≢true m)
     go undone m = absurd (false≢true m)
-    go undoRaising m = absurd (false≢true m)
+    go (undoRaising x) m = absurd (false≢true m)
 
 pub mild-begun : (o : Order) (b : Begun) → Calm (b .log) → Mild (begunIn o b)
 mild-begun o b h = record { goes = decide (b .over) (λ e. rw e) (λ e. rw e); calm = h }
@@ -164,14 +164,14 @@ pub data Handler (p : Plan) (t : ℕ) (φ : Name → Bool) (n m : Name) : Type 0
   in-fault : {ns : List Name} {c : Name} → placeOf p t ≡ faultOf n ns c → firstOf ns c ≡ m → Handler p t φ n m
   in-undo : {ns : List Name} {c : Name} → seen φ (placeOf p t) ≡ undoOf n ns c → firstOf ns c ≡ m → Handler p t φ n m
 
--- The log of a step of t: neither a raise nor a fault; a raise and its fault; a raise, the end of the scope that ran the part, and the fault of
--- the one around, or none where that one is not open; or a raise lost, where its scope is not as it should be.
+-- The log of a step of t: neither a raise nor a fault; a raise and its fault, with one number; a raise, the end of the scope that ran the part, and the fault of
+-- the one around, with that number, or none where that one is not open; or a raise lost, where its scope is not as it should be.
 pub data Shape (p : Plan) (t : ℕ) (φ : Name → Bool) (o : Order) : List Event → Type 0 where
   shape-calm : {l : List Event} → Calm l → Shape p t φ o l
-  shape-fault : {n m : Name} {ns : List Name} {l : List Event} → placeOf p t ≡ bodyOf n ns m → Calm l → Shape p t φ o (raised t ∷ faulted n ∷ l)
-  shape-end-fault : {n m : Name} {l : List Event} → Handler p t φ n m → isName p m ≡ true → isOpen (markOf m o) ≡ true → Calm l → Shape p t φ o (raised t ∷ ended n ∷ faulted m ∷ l)
-  shape-end : {k : ℕ} {m : Name} {l : List Event} → Handler p t φ (inner k) m → isName p m ≡ true → isOpen (markOf m o) ≡ false → Calm l → Shape p t φ o (raised t ∷ ended (inner k) ∷ l)
-  shape-lost : {q : Place} {l : List Event} → seen φ (placeOf p t) ≡ q → isName p (nameOf q) ≡ true → fits q o ≡ false → Calm l → Shape p t φ o (raised t ∷ l)
+  shape-fault : {number : ℕ} {n m : Name} {ns : List Name} {l : List Event} → placeOf p t ≡ bodyOf n ns m → Calm l → Shape p t φ o (raised t number ∷ faulted n number ∷ l)
+  shape-end-fault : {number : ℕ} {n m : Name} {l : List Event} → Handler p t φ n m → isName p m ≡ true → isOpen (markOf m o) ≡ true → Calm l → Shape p t φ o (raised t number ∷ ended n ∷ faulted m number ∷ l)
+  shape-end : {number k : ℕ} {m : Name} {l : List Event} → Handler p t φ (inner k) m → isName p m ≡ true → isOpen (markOf m o) ≡ false → Calm l → Shape p t φ o (raised t number ∷ ended (inner k) ∷ l)
+  shape-lost : {number : ℕ} {q : Place} {l : List Event} → seen φ (placeOf p t) ≡ q → isName p (nameOf q) ≡ true → fits q o ≡ false → Calm l → Shape p t φ o (raised t number ∷ l)
 
 -- what is calm may follow
 shape-append : {p : Plan} {t : ℕ} {φ : Name → Bool} {o : Order} {l : List Event} (m : List Event) → Shape p t φ o l → Calm m → Shape p t φ o (l ++ m)
@@ -186,19 +186,19 @@ pub record Below (k : ℕ) (o o′ : Order) : Type 0 where
   pub marks : (i : ℕ) → i < k → getD (o′ .marks) i 0 ≡ getD (o .marks) i 0
   pub rooted : o′ .root ≡ o .root
 
--- a raise that comes out of an activity in a place
-pub data Raise (p : Plan) (t : ℕ) (φ : Name → Bool) (q : Place) : List Event → Type 0 where
-  raise-here : placeOf p t ≡ q → Raise p t φ q (raised t ∷ [])
-  raise-out : {k : ℕ} → Handler p t φ (inner k) (nameOf q) → Raise p t φ q (raised t ∷ ended (inner k) ∷ [])
+-- a raise of that number that comes out of an activity in a place
+pub data Raise (p : Plan) (t : ℕ) (φ : Name → Bool) (x : ℕ) (q : Place) : List Event → Type 0 where
+  raise-here : placeOf p t ≡ q → Raise p t φ x q (raised t x ∷ [])
+  raise-out : {k : ℕ} → Handler p t φ (inner k) (nameOf q) → Raise p t φ x q (raised t x ∷ ended (inner k) ∷ [])
 
 -- what a step in an activity in a place comes to
 abbrev pub OutAs : Plan → (t : ℕ) → (φ : Name → Bool) → (bare : Bool) → Place → (k : ℕ) → Order → List Event → Order → Result → Type 0
 OutAs p t φ b q k o l o′ running = Shape p t φ o l
 OutAs p t φ b q k o l o′ over = Shape p t φ o l
-OutAs p t φ b q k o l o′ raising = Raise p t φ q l × Below k o o′ × (b ≡ true → (l ≡ raised t ∷ []) × (placeOf p t ≡ q))
+OutAs p t φ b q k o l o′ (raising x) = Raise p t φ x q l × Below k o o′ × (b ≡ true → (l ≡ raised t x ∷ []) × (placeOf p t ≡ q))
 OutAs p t φ b q k o l o′ leaving = Shape p t φ o l
 OutAs p t φ b q k o l o′ undone = Shape p t φ o l
-OutAs p t φ b q k o l o′ undoRaising = (l ≡ raised t ∷ []) × (seen φ (placeOf p t) ≡ runAt φ (nameOf q) (beyondOf q) (lastOf q)) × Below k o o′ × (b ≡ false)
+OutAs p t φ b q k o l o′ (undoRaising x) = (l ≡ raised t x ∷ []) × (seen φ (placeOf p t) ≡ runAt φ (nameOf q) (beyondOf q) (lastOf q)) × Below k o o′ × (b ≡ false)
 
 pub record Out (p : Plan) (t : ℕ) (φ : Name → Bool) (b : Bool) (q : Place) (k : ℕ) (o : Order) (r : Outcome) : Type 0 where
   pub comes : OutAs p t φ b q k o (r .log) (r .order) (r .result)
@@ -211,10 +211,10 @@ module _ (p : Plan) (t : ℕ) (φ : Name → Bool) (b : Bool) (q : Place) (k : �
       go : (x : Result) → isMild x ≡ true → OutAs p t φ b q k o (l ++ r .log) (r .order) x
       go running e = shape-append (r .log) s (m .calm)
       go over e = shape-append (r .log) s (m .calm)
-      go raising e = absurd (false≢true e)
+      go (raising x) e = absurd (false≢true e)
       go leaving e = absurd (false≢true e)
       go undone e = absurd (false≢true e)
-      go undoRaising e = absurd (false≢true e)
+      go (undoRaising x) e = absurd (false≢true e)
 
   -- what is mild
   out-mild : (r : Outcome) → Mild r → Out p t φ b q k o r
@@ -228,10 +228,10 @@ module _ (p : Plan) (t : ℕ) (φ : Name → Bool) (b : Bool) (q : Place) (k : �
       go : (x : Result) → OutAs p t φ b q k o (r .log) (r .order) x → Out p t φ b q k o (whereOver g (record { result = x; order = r .order; log = r .log }))
       go running c = record { comes = c }
       go over c = record { comes = mild-as (r .log) (g (r .order)) c (m (r .order)) }
-      go raising c = record { comes = c }
+      go (raising x) c = record { comes = c }
       go leaving c = record { comes = c }
       go undone c = record { comes = c }
-      go undoRaising c = record { comes = c }
+      go (undoRaising x) c = record { comes = c }
 
   -- and k still has its mark
   out-goes : (m : ℕ) (g : Order → Outcome) (r : Outcome) → ((o : Order) → Mild (g o)) → Out p t φ b q k o r → Out p t φ b q k o (goesOn k m g r)
@@ -241,24 +241,24 @@ module _ (p : Plan) (t : ℕ) (φ : Name → Bool) (b : Bool) (q : Place) (k : �
       (λ o. mild-either (eqb (markAt k o) m) (g o) (runs o) (f o) (mild-runs o) (elim (eqb (markAt k o) m) [ true ↦ g o | false ↦ runs o ]) refl) h
 
   -- activity k raises, and is t
-  out-raises : k ≡ t → placeOf p t ≡ q → Out p t φ b q k o (raises k o)
-  out-raises e l =
-      subst (λ (z : ℕ). Out p t φ b q k o (record { result = raising; order = marked k idle o; log = raised z ∷ [] })) (sym e)
+  out-raises : (n : ℕ) → k ≡ t → placeOf p t ≡ q → Out p t φ b q k o (raises n k o)
+  out-raises n e l =
+      subst (λ (z : ℕ). Out p t φ b q k o (record { result = raising n; order = marked k idle o; log = raised z n ∷ [] })) (sym e)
       (record { comes = (raise-here l, record { marks = λ i x. getD-set-other (o .marks) k i idle 0 (omega arith); rooted = refl }, λ x. (refl, l)) })
 
   -- an expression that faults, or the step itself
   out-or : k ≡ t → placeOf p t ≡ q → (g : ℕ → Outcome) (v : Value) → ((n : ℕ) → Mild (g n)) → Out p t φ b q k o (orRaises k o g v)
-  out-or e l g fault m = out-raises e l
+  out-or e l g (fault x) m = out-raises x e l
   out-or e l g (value n) m = out-mild (g n) (m n)
 
   -- the step of an activity other than a scope
   out-itself : (own : Own) (within : Acts) (q₀ : ℕ) → isScope own ≡ false → k ≡ t → placeOf p t ≡ q → Out p t φ b q k o (itself own within q₀ k o)
   unfolding itself kind only isGrave
   out-itself empty within q₀ s e l = out-mild (runs o) (mild-runs o)
-  out-itself (send x op vs) within q₀ s e l = decide (allBound o vs) (λ d. rw d (out-mild (finishes k o) (mild-finishes k o))) (λ d. rw d (out-raises e l))
+  out-itself (send x op vs) within q₀ s e l = decide (allBound o vs) (λ d. rw d (out-mild (finishes k o) (mild-finishes k o))) (λ d. rw d (out-raises unboundVariable e l))
   out-itself (receive x op vs) within q₀ s e l = out-mild (finishes k o) (mild-finishes k o)
   out-itself (setting v x) within q₀ s e l = out-or e l (λ n. finishes k (binding v n o)) (evaluate x o) (λ n. mild-finishes k (binding v n o))
-  out-itself raise within q₀ s e l = out-raises e l
+  out-itself (raise number) within q₀ s e l = out-raises number e l
   out-itself leave within q₀ s e l = record { comes = shape-calm refl }
   out-itself (choose x) within q₀ s e l =
       out-or e l (λ n. enters k o (beginPart (cond (isTrue n) 0 1) within (k + 1) (marked k inside o .marks))) (evaluate x o)
@@ -278,8 +278,8 @@ module _ (p : Plan) (t : ℕ) (φ : Name → Bool) (b : Bool) (q : Place) (k : �
   unfolding performs
   out-performs actor own within q₀ s e l = go (replaces actor (kind own))
     where
-      go : (v : Bool) → Out p t φ b q k o (elim v [ true ↦ raises k o | false ↦ itself own within q₀ k o ])
-      go true = out-raises e l
+      go : (v : Bool) → Out p t φ b q k o (elim v [ true ↦ raises conflictingReceive k o | false ↦ itself own within q₀ k o ])
+      go true = out-raises conflictingReceive e l
       go false = out-itself own within q₀ s e l
 
   -- what it makes of a step within it
@@ -289,7 +289,7 @@ module _ (p : Plan) (t : ℕ) (φ : Name → Bool) (b : Bool) (q : Place) (k : �
   out-combines (send x op vs) within r s h = h
   out-combines (receive x op vs) within r s h = h
   out-combines (setting v x) within r s h = h
-  out-combines raise within r s h = h
+  out-combines (raise number) within r s h = h
   out-combines leave within r s h = h
   out-combines (choose x) within r s h = out-goes inside (finishes k) r (mild-finishes k) h
   out-combines (repeat x) within r s h = out-goes inside (again k) r (mild-again k) h
@@ -310,17 +310,17 @@ mark-below root c o o′ h g = g .rooted
 mark-below (inner k) c o o′ h g = g .marks k h
 
 -- a raise in its parts ends it
-data Ended (p : Plan) (t : ℕ) (φ : Name → Bool) (s : Scope) (m : Name) (o : Order) : List Event → Order → Type 0 where
+data Ended (p : Plan) (t : ℕ) (φ : Name → Bool) (s : Scope) (m : Name) (o : Order) (x : ℕ) : List Event → Order → Type 0 where
   ended-so : {o₁ : Order} → Handler p t φ (s .name) m → isOpen (markOf (s .name) o) ≡ false → Below (s .bodyAt) o o₁
-      → Ended p t φ s m o (raised t ∷ ended (s .name) ∷ []) (breaks s o₁ .order)
+      → Ended p t φ s m o x (raised t x ∷ ended (s .name) ∷ []) (breaks x s o₁ .order)
 
 abbrev ScopeAs : Plan → (t : ℕ) → (φ : Name → Bool) → Scope → Name → Order → List Event → Order → Result → Type 0
 ScopeAs p t φ s m o l o′ running = Shape p t φ o l
 ScopeAs p t φ s m o l o′ over = Shape p t φ o l
-ScopeAs p t φ s m o l o′ raising = Ended p t φ s m o l o′
+ScopeAs p t φ s m o l o′ (raising x) = Ended p t φ s m o x l o′
 ScopeAs p t φ s m o l o′ leaving = Shape p t φ o l
 ScopeAs p t φ s m o l o′ undone = ⊥
-ScopeAs p t φ s m o l o′ undoRaising = ⊥
+ScopeAs p t φ s m o l o′ (undoRaising x) = ⊥
 
 record ScopeOut (p : Plan) (t : ℕ) (φ : Name → Bool) (s : Scope) (m : Name) (o : Order) (r : Outcome) : Type 0 where
   comes : ScopeAs p t φ s m o (r .log) (r .order) (r .result)
@@ -329,10 +329,10 @@ record ScopeOut (p : Plan) (t : ℕ) (φ : Name → Bool) (s : Scope) (m : Name)
 abbrev isOut : Result → Bool
 isOut running = false
 isOut over = false
-isOut raising = false
+isOut (raising x) = false
 isOut leaving = false
 isOut undone = false
-isOut undoRaising = true
+isOut (undoRaising x) = true
 
 -- where it is run: past a scope that is not left, where there is none beyond, and where the scope is left
 run-past : (φ : Name → Bool) (n x : Name) (xs : List Name) (c : Name) → φ n ≡ false → runAt φ n (x ∷ xs) c ≡ runAt φ x xs c
@@ -362,10 +362,10 @@ module _ (p : Plan) (t : ℕ) (φ : Name → Bool) (s : Scope) (m : Name) (o : O
       go : (x : Result) → isMild x ≡ true → ScopeAs p t φ s m o (l ++ r .log) (r .order) x
       go running d = shape-append (r .log) g (e .calm)
       go over d = shape-append (r .log) g (e .calm)
-      go raising d = absurd (false≢true d)
+      go (raising x) d = absurd (false≢true d)
       go leaving d = absurd (false≢true d)
       go undone d = absurd (false≢true d)
-      go undoRaising d = absurd (false≢true d)
+      go (undoRaising x) d = absurd (false≢true d)
 
   -- the result of what is mild
   scope-result : (l : List Event) (r : Outcome) → isMild (r .result) ≡ true → Shape p t φ o l → ScopeOut p t φ s m o (record { result = r .result; order = r .order; log = l })
@@ -374,34 +374,35 @@ module _ (p : Plan) (t : ℕ) (φ : Name → Bool) (s : Scope) (m : Name) (o : O
       go : (x : Result) → isMild x ≡ true → ScopeAs p t φ s m o l (r .order) x
       go running d = g
       go over d = g
-      go raising d = absurd (false≢true d)
+      go (raising x) d = absurd (false≢true d)
       go leaving d = absurd (false≢true d)
       go undone d = absurd (false≢true d)
-      go undoRaising d = absurd (false≢true d)
+      go (undoRaising x) d = absurd (false≢true d)
 
   -- the scope faults
-  faults-out : {ns : List Name} {c : Name} (l : List Event) (o₁ : Order) → isOpen (markOf (s .name) o) ≡ true → Raise p t φ (bodyOf (s .name) ns c) l → ScopeOut p t φ s m o (after l (faults s o₁))
+  faults-out : {x : ℕ} {ns : List Name} {c : Name} (l : List Event) (o₁ : Order) → isOpen (markOf (s .name) o) ≡ true → Raise p t φ x (bodyOf (s .name) ns c) l → ScopeOut p t φ s m o (after l (faults x s o₁))
   unfolding faults
-  faults-out {ns} {c} l o₁ n g =
-      let r = stop (s .body) (s .bodyAt) (marking (s .name) faulty o₁) in
+  faults-out {x} {ns} {c} l o₁ n g =
+      let o₂ = causing (s .name) x (marking (s .name) faulty o₁) in
+      let r = stop (s .body) (s .bodyAt) o₂ in
       let e = mild-turns true s (r .order) in
-      scope-result (l ++ ((faulted (s .name) ∷ r .log) ++ turns true s (r .order) .log)) (turns true s (r .order)) (e .goes)
+      scope-result (l ++ ((faulted (s .name) x ∷ r .log) ++ turns true s (r .order) .log)) (turns true s (r .order)) (e .goes)
       (go l g (r .log ++ turns true s (r .order) .log)
-      (silent-append isGrave graves-aside (r .log) (turns true s (r .order) .log) (stop-silent isGrave graves-aside (s .body) (s .bodyAt) (marking (s .name) faulty o₁)) (e .calm)))
+      (silent-append isGrave graves-aside (r .log) (turns true s (r .order) .log) (stop-silent isGrave graves-aside (s .body) (s .bodyAt) o₂) (e .calm)))
     where
-      go : (l : List Event) → Raise p t φ (bodyOf (s .name) ns c) l → (k : List Event) → Calm k → Shape p t φ o (l ++ (faulted (s .name) ∷ k))
-      go _ (raise-here x) k e = shape-fault x e
-      go _ (raise-out x) k e = shape-end-fault x (h .name) n e
+      go : (l : List Event) → Raise p t φ x (bodyOf (s .name) ns c) l → (k : List Event) → Calm k → Shape p t φ o (l ++ (faulted (s .name) x ∷ k))
+      go _ (raise-here y) k e = shape-fault y e
+      go _ (raise-out y) k e = shape-end-fault y (h .name) n e
 
   -- it does not, as it is not open
-  looks-out : {ns : List Name} {c : Name} (l : List Event) (o₁ : Order) → isOpen (markOf (s .name) o) ≡ false → Raise p t φ (bodyOf (s .name) ns c) l → ScopeOut p t φ s m o (after l (looksAgain s o₁))
-  looks-out {ns} {c} l o₁ n g =
+  looks-out : {x : ℕ} {ns : List Name} {c : Name} (l : List Event) (o₁ : Order) → isOpen (markOf (s .name) o) ≡ false → Raise p t φ x (bodyOf (s .name) ns c) l → ScopeOut p t φ s m o (after l (looksAgain s o₁))
+  looks-out {x} {ns} {c} l o₁ n g =
       let e = mild-looks s o₁ in
       scope-result (l ++ looksAgain s o₁ .log) (looksAgain s o₁) (e .goes) (go l g (looksAgain s o₁ .log) (e .calm))
     where
-      go : (l : List Event) → Raise p t φ (bodyOf (s .name) ns c) l → (k : List Event) → Calm k → Shape p t φ o (l ++ k)
-      go _ (raise-here x) k e = shape-lost (ap (seen φ) x) (h .name) n e
-      go _ (raise-out x) k e = shape-end x (h .name) n e
+      go : (l : List Event) → Raise p t φ x (bodyOf (s .name) ns c) l → (k : List Event) → Calm k → Shape p t φ o (l ++ k)
+      go _ (raise-here y) k e = shape-lost (ap (seen φ) y) (h .name) n e
+      go _ (raise-out y) k e = shape-end y (h .name) n e
 
   -- a step in its body
   body-out : {ns : List Name} {c₀ : Name} (b : Bool) (r : Outcome) → firstOf ns c₀ ≡ m → (isOut (r .result) ≡ true → Below (s .bodyAt) o (r .order) → runAt φ (s .name) ns c₀ ≡ undoOf (s .name) ns c₀)
@@ -412,15 +413,15 @@ module _ (p : Plan) (t : ℕ) (φ : Name → Bool) (s : Scope) (m : Name) (o : O
       o₁ : Order
       o₁ = r .order
 
-      so : (b : Bool) → isOpen (markOf (s .name) o₁) ≡ b → Raise p t φ (bodyOf (s .name) ns c₀) (r .log) → Below (s .bodyAt) o o₁
-          → ScopeOut p t φ s m o (after (r .log) (elim b [ true ↦ faults s o₁ | false ↦ looksAgain s o₁ ]))
+      so : {x : ℕ} (b : Bool) → isOpen (markOf (s .name) o₁) ≡ b → Raise p t φ x (bodyOf (s .name) ns c₀) (r .log) → Below (s .bodyAt) o o₁
+          → ScopeOut p t φ s m o (after (r .log) (elim b [ true ↦ faults x s o₁ | false ↦ looksAgain s o₁ ]))
       so true e g k = faults-out (r .log) o₁ (ap isOpen (sym (mark-below (s .name) (s .bodyAt) o o₁ (h .before) k)) ∙ e) g
       so false e g k = looks-out (r .log) o₁ (ap isOpen (sym (mark-below (s .name) (s .bodyAt) o o₁ (h .before) k)) ∙ e) g
 
-      un : (b : Bool) (l : List Event) → (eqb (markOf (s .name) o₁) undoing || eqb (markOf (s .name) o₁) withdrawing) ≡ b → l ≡ raised t ∷ [] → seen φ (placeOf p t) ≡ undoOf (s .name) ns c₀
-          → Below (s .bodyAt) o o₁ → ScopeOut p t φ s m o (after l (elim b [ true ↦ breaks s o₁ | false ↦ runs o₁ ]))
-      un true l e d g k =
-          subst (λ (z : List Event). ScopeOut p t φ s m o (after z (breaks s o₁))) (sym d)
+      un : {x : ℕ} (b : Bool) (l : List Event) → (eqb (markOf (s .name) o₁) undoing || eqb (markOf (s .name) o₁) withdrawing) ≡ b → l ≡ raised t x ∷ [] → seen φ (placeOf p t) ≡ undoOf (s .name) ns c₀
+          → Below (s .bodyAt) o o₁ → ScopeOut p t φ s m o (after l (elim b [ true ↦ breaks x s o₁ | false ↦ runs o₁ ]))
+      un {x} true l e d g k =
+          subst (λ (z : List Event). ScopeOut p t φ s m o (after z (breaks x s o₁))) (sym d)
           (record { comes = ended-so (in-undo g y) (ap isOpen (sym (mark-below (s .name) (s .bodyAt) o o₁ (h .before) k)) ∙ undoes-not-open (markOf (s .name) o₁) e) k })
       un false l e d g k =
           subst (λ (z : List Event). ScopeOut p t φ s m o (after z (runs o₁))) (sym d)
@@ -429,10 +430,10 @@ module _ (p : Plan) (t : ℕ) (φ : Name → Bool) (s : Scope) (m : Name) (o : O
       go : (x : Result) → r .result ≡ x → OutAs p t φ b (bodyOf (s .name) ns c₀) (s .bodyAt) o (r .log) o₁ x → ScopeOut p t φ s m o (fromBody s (record { result = x; order = o₁; log = r .log }))
       go running z c = scope-mild (r .log) (looksAgain s o₁) c (mild-looks s o₁)
       go over z c = scope-mild (r .log) (bodyOver s o₁) c (mild-over s o₁)
-      go raising z c = so (isOpen (markOf (s .name) o₁)) refl (c .0) (c .1)
+      go (raising x) z c = so (isOpen (markOf (s .name) o₁)) refl (c .0) (c .1)
       go leaving z c = record { comes = c }
       go undone z c = scope-mild (r .log) (undoOver s o₁) c (mild-undo-over s o₁)
-      go undoRaising z c = un (eqb (markOf (s .name) o₁) undoing || eqb (markOf (s .name) o₁) withdrawing) (r .log) refl (c .0) (c .1 ∙ here (ap isOut z) (c .2)) (c .2)
+      go (undoRaising x) z c = un (eqb (markOf (s .name) o₁) undoing || eqb (markOf (s .name) o₁) withdrawing) (r .log) refl (c .0) (c .1 ∙ here (ap isOut z) (c .2)) (c .2)
 
   -- a step in its fault part
   fault-out : {ns : List Name} {c₀ : Name} (r : Outcome) → firstOf ns c₀ ≡ m → s .bodyAt ≤ s .faultAt → Out p t φ true (faultOf (s .name) ns c₀) (s .faultAt) o r → ScopeOut p t φ s m o (fromFault s r)
@@ -442,10 +443,10 @@ module _ (p : Plan) (t : ℕ) (φ : Name → Bool) (s : Scope) (m : Name) (o : O
       o₁ : Order
       o₁ = r .order
 
-      un : (b : Bool) (l : List Event) → eqb (markOf (s .name) o₁) handling ≡ b → l ≡ raised t ∷ [] → placeOf p t ≡ faultOf (s .name) ns c₀
-          → Below (s .bodyAt) o o₁ → ScopeOut p t φ s m o (after l (elim b [ true ↦ breaks s o₁ | false ↦ runs o₁ ]))
-      un true l e d g k =
-          subst (λ (z : List Event). ScopeOut p t φ s m o (after z (breaks s o₁))) (sym d)
+      un : {x : ℕ} (b : Bool) (l : List Event) → eqb (markOf (s .name) o₁) handling ≡ b → l ≡ raised t x ∷ [] → placeOf p t ≡ faultOf (s .name) ns c₀
+          → Below (s .bodyAt) o o₁ → ScopeOut p t φ s m o (after l (elim b [ true ↦ breaks x s o₁ | false ↦ runs o₁ ]))
+      un {x} true l e d g k =
+          subst (λ (z : List Event). ScopeOut p t φ s m o (after z (breaks x s o₁))) (sym d)
           (record { comes = ended-so (in-fault g y) (ap isOpen (sym (mark-below (s .name) (s .bodyAt) o o₁ (h .before) k)) ∙ heals-not-open (markOf (s .name) o₁) e) k })
       un false l e d g k =
           subst (λ (z : List Event). ScopeOut p t φ s m o (after z (runs o₁))) (sym d)
@@ -454,12 +455,12 @@ module _ (p : Plan) (t : ℕ) (φ : Name → Bool) (s : Scope) (m : Name) (o : O
       go : (x : Result) → OutAs p t φ true (faultOf (s .name) ns c₀) (s .faultAt) o (r .log) o₁ x → ScopeOut p t φ s m o (fromFault s (record { result = x; order = o₁; log = r .log }))
       go running c = record { comes = c }
       go over c = scope-mild (r .log) (partOver s o₁) c (mild-part-over s o₁)
-      go raising c =
+      go (raising n) c =
           un (eqb (markOf (s .name) o₁) handling) (r .log) refl (c .2 refl .0) (c .2 refl .1)
           (record { marks = λ i x. c .1 .marks i (omega arith); rooted = c .1 .rooted })
       go leaving c = record { comes = c }
       go undone c = record { comes = c }
-      go undoRaising c = absurd (false≢true (sym (c .3)))
+      go (undoRaising x) c = absurd (false≢true (sym (c .3)))
 
 -- Up the tree.
 
@@ -473,10 +474,10 @@ out-wider p t φ b b′ q k k′ o r h f w = record { comes = go (r .result) (w 
     go : (x : Result) → OutAs p t φ b′ q k′ o (r .log) (r .order) x → OutAs p t φ b q k o (r .log) (r .order) x
     go running c = c
     go over c = c
-    go raising c = (c .0, below (c .1), λ e. c .2 (f e))
+    go (raising x) c = (c .0, below (c .1), λ e. c .2 (f e))
     go leaving c = c
     go undone c = c
-    go undoRaising c = (c .0, c .1, below (c .2), decide b (λ e. absurd (false≢true (sym (c .3) ∙ f e))) (λ e. e))
+    go (undoRaising x) c = (c .0, c .1, below (c .2), decide b (λ e. absurd (false≢true (sym (c .3) ∙ f e))) (λ e. e))
 
 -- a mark that is no scope's says nothing
 mark-plain : (p : Plan) (n : Name) (k v : ℕ) (o : Order) → isName p (inner k) ≡ false → isName p n ≡ true → markOf n (marked k v o) ≡ markOf n o
@@ -505,10 +506,10 @@ out-marked p t φ b q k v o r e w = record { comes = go (r .result) (w .comes) }
     go : (x : Result) → OutAs p t φ b q k (marked k v o) (r .log) (r .order) x → OutAs p t φ b q k o (r .log) (r .order) x
     go running c = shape-marked p t φ k v o e c
     go over c = shape-marked p t φ k v o e c
-    go raising c = (c .0, below (c .1), c .2)
+    go (raising x) c = (c .0, below (c .1), c .2)
     go leaving c = shape-marked p t φ k v o e c
     go undone c = shape-marked p t φ k v o e c
-    go undoRaising c = (c .0, c .1, below (c .2), c .3)
+    go (undoRaising x) c = (c .0, c .1, below (c .2), c .3)
 
 out-arms : (p : Plan) (t : ℕ) (φ : Name → Bool) (b : Bool) (q : Place) (own : Own) (within : Acts) (k : ℕ) (o : Order) (r : Outcome) → isName p (inner k) ≡ false
     → Out p t φ b q k (arms own within k t o) r → Out p t φ b q k o r
@@ -595,7 +596,7 @@ module _ (p : Plan) (t : ℕ) (φ : Name → Bool) (q : Place) (z₀ : Bool) (b 
       go : (l : List Event) (o′ : Order) (x : Result) → ScopeAs p t φ (scopeAt k (trio b f u)) (nameOf q) o l o′ x → OutAs p t φ false q k o l o′ x
       go l o′ running c = c
       go l o′ over c = c
-      go _ _ raising (ended-so {o₁} g n d) = (
+      go _ _ (raising y) (ended-so {o₁} g n d) = (
         raise-out g,
         record {
           marks = λ i x. cleared-kept (1 + sizes (trio b f u)) k (set (o₁ .marks) k idle) .below i x ∙ (getD-set-other (o₁ .marks) k i idle 0 (omega arith) ∙ d .marks i (omega arith));
@@ -605,7 +606,7 @@ module _ (p : Plan) (t : ℕ) (φ : Name → Bool) (q : Place) (z₀ : Bool) (b 
       )
       go l o′ leaving c = c
       go l o′ undone c = absurd c
-      go l o′ undoRaising c = absurd c
+      go l o′ (undoRaising x) c = absurd c
 
   -- its undo part, which a scope around it runs
   undo-as : (c : ℕ) (r : Outcome) → k ≤ c → Out p t φ true (undoOf (nameOf q) (beyondOf q) (lastOf q)) c o r → Out p t φ false q k o (fromUndo r)
@@ -616,10 +617,10 @@ module _ (p : Plan) (t : ℕ) (φ : Name → Bool) (q : Place) (z₀ : Bool) (b 
           → OutAs p t φ false q k o (r .log) (r .order) (fromUndo (record { result = x; order = r .order; log = r .log }) .result)
       go running d = d
       go over d = d
-      go raising d = (d .2 refl .0, ap (seen φ) (d .2 refl .1), record { marks = λ i x. d .1 .marks i (omega arith); rooted = d .1 .rooted }, refl)
+      go (raising n) d = (d .2 refl .0, ap (seen φ) (d .2 refl .1), record { marks = λ i x. d .1 .marks i (omega arith); rooted = d .1 .rooted }, refl)
       go leaving d = d
       go undone d = d
-      go undoRaising d = absurd (false≢true (sym (d .3)))
+      go (undoRaising x) d = absurd (false≢true (sym (d .3)))
 
   -- what goes through it comes to the same where it stands
   through-as : (r : Outcome) → goesThrough z₀ k r ≡ true → isName p (inner k) ≡ true → Agrees p φ o → Out p t φ (bare b) (bodyOf (inner k) (beyondIn z₀ q) (lastIn z₀ q)) (k + 1) o r → Out p t φ false q k o r
@@ -631,10 +632,10 @@ module _ (p : Plan) (t : ℕ) (φ : Name → Bool) (q : Place) (z₀ : Bool) (b 
       go true x e c = absurd (false≢true e)
       go false running e c = absurd (false≢true (sym (and-false (eqb (markAt k (r .order)) idle)) ∙ e))
       go false over e c = absurd (false≢true (sym (and-false (eqb (markAt k (r .order)) idle)) ∙ e))
-      go false raising e c = absurd (false≢true (sym (and-false (eqb (markAt k (r .order)) idle)) ∙ e))
+      go false (raising x) e c = absurd (false≢true (sym (and-false (eqb (markAt k (r .order)) idle)) ∙ e))
       go false leaving e c = absurd (false≢true (sym (and-false (eqb (markAt k (r .order)) idle)) ∙ e))
       go false undone e c = c
-      go false undoRaising e c =
+      go false (undoRaising z) e c =
           let i : getD (o .marks) k 0 ≡ idle = sym (c .2 .marks k (omega arith)) ∙ eqb-true (markAt k (r .order)) idle (both-true (eqb (markAt k (r .order)) idle) true e (λ x y. x)) in
           let y : φ (inner k) ≡ false = a (inner k) n ∙ rw i in
           (c .0, c .1 ∙ passed y, record { marks = λ j x. c .2 .marks j (omega arith); rooted = c .2 .rooted }, refl)
@@ -656,10 +657,10 @@ module _ (p : Plan) (t : ℕ) (φ : Name → Bool) (q : Place) (z₀ : Bool) (b 
       go true x e i = run-none φ (inner k) (nameOf q)
       go false running e i = absurd (false≢true i)
       go false over e i = absurd (false≢true i)
-      go false raising e i = absurd (false≢true i)
+      go false (raising x) e i = absurd (false≢true i)
       go false leaving e i = absurd (false≢true i)
       go false undone e i = absurd (false≢true i)
-      go false undoRaising e i = run-here φ (inner k) (nameOf q) (beyondOf q) (lastOf q) (awake (sym (and-true (eqb (markAt k (r .order)) idle)) ∙ e))
+      go false (undoRaising x) e i = run-here φ (inner k) (nameOf q) (beyondOf q) (lastOf q) (awake (sym (and-true (eqb (markAt k (r .order)) idle)) ∙ e))
 
   -- in which part the step is
   in-body : (r : Outcome) (v : Bool) → ltb t (k + 1 + size b) ≡ true → goesThrough z₀ k r ≡ v → inScope z₀ k t (trio b f u) r ≡ elim v [ true ↦ r | false ↦ fromBody (scopeAt k (trio b f u)) r ]
@@ -784,32 +785,34 @@ isFailed Handled = false
 isFailed Failed = true
 isFailed Left = false
 
--- The log of a step of an order, by how the order ends: a raise out of the root and nothing else where it fails, and of its shape where not.
-pub data OrderShape (p : Plan) (t : ℕ) (φ : Name → Bool) (o : Order) : End → List Event → Type 0 where
-  shaped : {e : End} {l : List Event} → isFailed e ≡ false → Shape p t φ o l → OrderShape p t φ o e l
-  out : Handler p t φ root root → isOpen (markOf root o) ≡ false → OrderShape p t φ o Failed (raised t ∷ ended root ∷ [])
+-- The log of a step of an order, by how the order ends and with which fault: a raise of that number out of the root and nothing else where it fails, and of its shape where not.
+pub data OrderShape (p : Plan) (t : ℕ) (φ : Name → Bool) (o : Order) : End → (fault : ℕ) → List Event → Type 0 where
+  shaped : {e : End} {x : ℕ} {l : List Event} → isFailed e ≡ false → Shape p t φ o l → OrderShape p t φ o e x l
+  out : {x : ℕ} → Handler p t φ root root → isOpen (markOf root o) ≡ false → OrderShape p t φ o Failed x (raised t x ∷ ended root ∷ [])
 
-pub order-shape : (actor : Actor) (p : Plan) → Seat p (rootOf p) → (t : ℕ) (φ : Name → Bool) (o : Order) → Agrees p φ o → OrderShape p t φ o (acted actor p t o .end) (acted actor p t o .log)
-unfolding acted endOf movedTo only isGrave
+pub order-shape : (actor : Actor) (p : Plan) → Seat p (rootOf p) → (t : ℕ) (φ : Name → Bool) (o : Order) → Agrees p φ o → OrderShape p t φ o (acted actor p t o .end) (acted actor p t o .fault) (acted actor p t o .log)
+unfolding acted endOf faultNumber movedTo only isGrave
 order-shape actor p h t φ o g = go (r .log) (r .order) (r .result) (root-out actor p h t φ o g .comes)
   where
     r : Outcome
     r = stepRoot actor p t o
 
     well : (l : List Event) (o′ : Order) (b : Bool) → Shape p t φ o l
-        → OrderShape p t φ o (movedTo (record { result = running; order = o′; log = l }) (cond b Well None) .end) (movedTo (record { result = running; order = o′; log = l }) (cond b Well None) .log)
+        → OrderShape p t φ o (movedTo (record { result = running; order = o′; log = l }) (cond b Well None) .end)
+        (movedTo (record { result = running; order = o′; log = l }) (cond b Well None) .fault) (movedTo (record { result = running; order = o′; log = l }) (cond b Well None) .log)
     well l o′ true g = shaped refl (shape-append (ended root ∷ []) g refl)
     well l o′ false g = shaped refl g
 
     go : (l : List Event) (o′ : Order) (x : Result) → ScopeAs p t φ (rootOf p) root o l o′ x
         → OrderShape p t φ o (movedTo (record { result = x; order = o′; log = l }) (endOf (record { result = x; order = o′; log = l })) .end)
+        (movedTo (record { result = x; order = o′; log = l }) (endOf (record { result = x; order = o′; log = l })) .fault)
         (movedTo (record { result = x; order = o′; log = l }) (endOf (record { result = x; order = o′; log = l })) .log)
     go l o′ running c = well l o′ (eqb (o′ .root) done) c
     go l o′ over c = shaped refl c
-    go _ _ raising (ended-so g n d) = out g n
+    go _ _ (raising x) (ended-so g n d) = out g n
     go l o′ leaving c = shaped refl c
     go l o′ undone c = absurd c
-    go l o′ undoRaising c = absurd c
+    go l o′ (undoRaising x) c = absurd c
 
 -- What an order that starts logs before its step is calm.
 pub start-calm : (p : Plan) → Calm (started ∷ begunOrder p .log)

@@ -120,7 +120,8 @@ module _ (f : ℕ → ℕ) where
   own-onto (send p o vs) within k e ms t a b = onto-waits k _
   own-onto (receive p o vs) within k e ms t a b = onto-waits k _
   own-onto (setting v x) within k e ms t a b = onto-waits k _
-  own-onto raise within k e ms t a b = onto-waits k _
+  own-onto (raise zero) within k e ms t a b = onto-waits k _
+  own-onto (raise (suc number)) within k e ms t a b = onto-waits k _
   own-onto leave within k e ms t a b = onto-waits k _
   own-onto (choose x) within k e ms t a b = onto-waits k _
   own-onto (repeat x) within k e ms t a b = onto-waits k _
@@ -206,10 +207,10 @@ module _ (f : ℕ → ℕ) where
   abbrev pub isOver : Result → Bool
   isOver running = false
   isOver over = true
-  isOver raising = false
+  isOver (raising x) = false
   isOver leaving = false
   isOver undone = false
-  isOver undoRaising = false
+  isOver (undoRaising x) = false
 
   -- An outcome of a scope's own.
   pub record Lone (r : Outcome) : Type 0 where
@@ -239,10 +240,10 @@ module _ (f : ℕ → ℕ) where
       go : (x : Result) → r .result ≡ x → Lone (whereOver g (record { result = x; order = r .order; log = r .log }))
       go running e = same running e
       go over e = let v = h (r .order) in record { once = light-once (g (r .order) .log) (w .light (ap isOver e)) (v .once); light = λ d. light-light (g (r .order) .log) (w .light (ap isOver e)) (v .light d) }
-      go raising e = same raising e
+      go (raising x) e = same (raising x) e
       go leaving e = same leaving e
       go undone e = same undone e
-      go undoRaising e = same undoRaising e
+      go (undoRaising x) e = same (undoRaising x) e
 
   lone-either : (v : Bool) (x y z : Outcome) → z ≡ elim v [ true ↦ x | false ↦ y ] → Lone x → Lone y → Lone z
   lone-either true x y z e g h = subst Lone (sym e) g
@@ -392,10 +393,10 @@ module _ (f : ℕ → ℕ) where
           → Light (whereOver (ends s) (record { result = x; order = u .order; log = u .log }) .log)
       go running d e = absurd (false≢true (sym up ∙ e))
       go over d e = light-light (ends s (u .order) .log) (w .light (ap isOver d)) (ends-lone s kb kf (u .order) .light refl)
-      go raising d e = absurd (false≢true (sym up ∙ e))
+      go (raising x) d e = absurd (false≢true (sym up ∙ e))
       go leaving d e = absurd (false≢true (sym up ∙ e))
       go undone d e = absurd (false≢true (sym up ∙ e))
-      go undoRaising d e = absurd (false≢true (sym up ∙ e))
+      go (undoRaising x) d e = absurd (false≢true (sym up ∙ e))
 
   turns-some : (s : Scope) (w : Bool) (o : Order) → innerRuns (s .body) (s .bodyAt) (o .marks) ≡ false → turns w s o ≡ undoes w s o
   unfolding turns

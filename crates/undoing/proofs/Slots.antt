@@ -17,6 +17,7 @@ use Rattle.machine.specs.declared.State.{State}
 use Rattle.order.specs.Lists.{every, only}
 use Rattle.order.specs.State.{Name, root, inner, idle, active, halted, withdrawing, withRoot, binding, markOf, isLive, noOrder}
 use Rattle.machine.specs.State.{noMessage, fresh, letters}
+use Rattle.order.specs.Expression.{isFaultNumber}
 use Rattle.machine.specs.Limits.{exchanged, rootInLimits, orderInLimits, inLimits, planIn, by}
 use Rattle.order.specs.Event.{Event, started}
 use Rattle.order.specs.Begin.{begin}
@@ -236,7 +237,7 @@ every-at f (a ∷ l) (suc i) d e h = both (f a) (every f l) h (λ x y. every-at 
 
 -- no order is within the limits
 pub no-order-limits : orderInLimits noOrder ≡ true
-unfolding orderInLimits noOrder rootInLimits every among
+unfolding orderInLimits noOrder rootInLimits every among isFaultNumber
 no-order-limits = refl
 
 -- the root of an order that starts is within its limits

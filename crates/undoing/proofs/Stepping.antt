@@ -1,5 +1,5 @@
 -- A step in a tree, from the activity that acts up: how the tree stands after it, and that all it logs is right. Assumes nothing.
-use Prim.Native.Nat.{ℕ, _+_, _≤_, _<_}
+use Prim.Native.Nat.{ℕ, zero, suc, _+_, _≤_, _<_}
 use native.Mathlib.Omega.{arith}
 use mathlib.Core.Path.{_≡_, refl, sym, ap, subst, _∙_}
 use mathlib.Core.Bool.{Bool, true, false, _&&_, _||_, false≢true, or-true, cond, not, and-false}
@@ -14,6 +14,7 @@ use Rattle.order.specs.declared.Order.{Order}
 use Rattle.order.specs.declared.End.the-variants.{None, Left}
 use Rattle.order.specs.Lists.{only}
 use Rattle.order.specs.State.{Name, root, inner, same, idle, active, inside, done, closings, remembering, marked, markOf, closingOf}
+use Rattle.order.specs.Expression.{conflictingReceive}
 use Rattle.order.specs.Event.{Event, raised}
 use Rattle.order.specs.Begin.{part, partAt, beginPart}
 use Rattle.order.specs.declared.Way.{Way as Result}
@@ -96,20 +97,20 @@ at-first (more a l) c = refl
 abbrev isUndone : Result → Bool
 isUndone running = false
 isUndone over = false
-isUndone raising = false
+isUndone (raising x) = false
 isUndone leaving = false
 isUndone undone = true
-isUndone undoRaising = true
+isUndone (undoRaising x) = true
 
 -- whether it goes through a scope with no undo part that is idle
 through-told : (k : ℕ) (o : Order) (x : Result) (l : List Event) → getD (o .marks) k 0 ≡ idle → isUndone x ≡ true → goesThrough false k (record { result = x; order = o; log = l }) ≡ true
 unfolding goesThrough
 through-told k o running l e u = absurd (false≢true u)
 through-told k o over l e u = absurd (false≢true u)
-through-told k o raising l e u = absurd (false≢true u)
+through-told k o (raising x) l e u = absurd (false≢true u)
 through-told k o leaving l e u = absurd (false≢true u)
 through-told k o undone l e u = rw e
-through-told k o undoRaising l e u = rw e
+through-told k o (undoRaising x) l e u = rw e
 
 -- what is no outcome of an undo part does not, and an idle scope has nothing to look for
 module _ (p : Plan) (l : List Event) (s : Scope) (k : ℕ) (o o₁ : Order) (n : ℕ) (C : List Event → Order → Result → Type 0) (e : getD (o₁ .marks) k 0 ≡ idle)
@@ -127,17 +128,17 @@ module _ (p : Plan) (l : List Event) (s : Scope) (k : ℕ) (o o₁ : Order) (n :
   leaves-on c = rw (e, goesThrough) (record { kept = w; rooted = d; comes = c })
 
 -- so what comes of an undo part that an idle scope with none handed on is what comes of its body
-pub through-so : (s : Scope) (k : ℕ) (o : Order) (x : Result) (l : List Event) → s .name ≡ inner k → getD (o .marks) k 0 ≡ idle → (x ≡ over → ⊥) → (x ≡ raising → ⊥)
+pub through-so : (s : Scope) (k : ℕ) (o : Order) (x : Result) (l : List Event) → s .name ≡ inner k → getD (o .marks) k 0 ≡ idle → (x ≡ over → ⊥) → ((n : ℕ) → x ≡ raising n → ⊥)
     → _≡_ {A = Outcome}
     (elim (goesThrough false k (record { result = x; order = o; log = l })) [ true ↦ record { result = x; order = o; log = l } | false ↦ fromBody s (record { result = x; order = o; log = l }) ])
     (record { result = x; order = o; log = l })
 unfolding goesThrough fromBody
 through-so s k o running l i e f g = rw (e, goesThrough, looks-is s o idle (ap (λ (z : Name). markOf z o) i ∙ e), append-nil)
 through-so s k o over l i e f g = absurd (f refl)
-through-so s k o raising l i e f g = absurd (g refl)
+through-so s k o (raising x) l i e f g = absurd (g x refl)
 through-so s k o leaving l i e f g = rw (e, goesThrough)
 through-so s k o undone l i e f g = rw (e, goesThrough)
-through-so s k o undoRaising l i e f g = rw (e, goesThrough)
+through-so s k o (undoRaising x) l i e f g = rw (e, goesThrough)
 
 -- in which part of a scope the step is
 pub in-parts : (z : Bool) (b f : Act) (u : Acts) (k t : ℕ) (r : Outcome) (x y : Bool) → ltb t (k + 1 + size b) ≡ x → ltb t (k + 1 + size b + size f) ≡ y
@@ -164,7 +165,7 @@ pub plain-performs : (actor : Actor) (own : Own) (within : Acts) (y₀ k : ℕ) 
 unfolding performs replaces
 plain-performs itsOwn own within y₀ k o e = refl
 plain-performs inPlace own within y₀ k o e =
-    subst (λ (b : Bool). elim b [ true ↦ raises k o | false ↦ itself own within y₀ k o ] ≡ itself own within y₀ k o) (sym e) refl
+    subst (λ (b : Bool). elim b [ true ↦ raises conflictingReceive k o | false ↦ itself own within y₀ k o ] ≡ itself own within y₀ k o) (sym e) refl
 
 module _ (p : Plan) (actor : Actor) where
   -- what acts, by what the activity itself does: where a raise stands in its place, that raises
@@ -175,8 +176,8 @@ module _ (p : Plan) (actor : Actor) where
   unfolding performs
   acts-performs own within y₀ k o u f s z q w = go (replaces actor (kind own))
     where
-      go : (b : Bool) → Acted k (1 + sizes within) o (RunAs p (act own within) k k o) (elim b [ true ↦ raises k o | false ↦ itself own within y₀ k o ])
-      go true = acts-raises p own within k o u f s z q
+      go : (b : Bool) → Acted k (1 + sizes within) o (RunAs p (act own within) k k o) (elim b [ true ↦ raises conflictingReceive k o | false ↦ itself own within y₀ k o ])
+      go true = acts-raises p conflictingReceive own within k o u f s z q
       go false = w
 
   -- Closing.
@@ -278,10 +279,10 @@ module _ (p : Plan) (actor : Actor) where
         go : (x : Result) → RunAs p a c t o (r .log) (r .order) x → OneAs p (more a l) c t o (r .log) (r .order) x
         go running d = (one-here (d .0) q₁, d .1)
         go over d = (quiet-join (d .0) q₁ refl, d .1)
-        go raising d = (able-more (d .0) (quiet-stoppable l (c + size a) q₁), d .1, λ e. d .2 (bare-first a l e))
+        go (raising x) d = (able-more (d .0) (quiet-stoppable l (c + size a) q₁), d .1, λ e. d .2 (bare-first a l e))
         go leaving d = d
         go undone d = d
-        go undoRaising d = d
+        go (undoRaising x) d = d
 
     -- where a later one runs
     later-one : Acted (c + size a) (sizes l) o (OneAs p l (c + size a) t o) r → Quiet (o .marks) c (size a)
@@ -295,10 +296,10 @@ module _ (p : Plan) (actor : Actor) where
         go : (x : Result) → OneAs p l (c + size a) t o (r .log) (r .order) x → OneAs p (more a l) c t o (r .log) (r .order) x
         go running d = (one-later q₁ (d .0), d .1)
         go over d = (quiet-join q₁ (d .0) refl, d .1)
-        go raising d = (able-more (able-quiet q₁) (d .0), d .1, λ e. d .2 (bare-rest a l e))
+        go (raising x) d = (able-more (able-quiet q₁) (d .0), d .1, λ e. d .2 (bare-rest a l e))
         go leaving d = d
         go undone d = d
-        go undoRaising d = d
+        go (undoRaising x) d = d
 
     -- the first of a flow
     first-all : Acted c (size a) o (RunAs p a c t o) r → All (o .marks) l (c + size a) → Acted c (size a + sizes l) o (AllAs p (more a l) c t o) r
@@ -311,10 +312,10 @@ module _ (p : Plan) (actor : Actor) where
         go : (x : Result) → RunAs p a c t o (r .log) (r .order) x → AllAs p (more a l) c t o (r .log) (r .order) x
         go running d = (all-run (d .0) q₁, d .1, λ q. run-loud (d .0) (quiet-part q (omega arith) (omega arith)))
         go over d = (all-quiet (d .0) q₁, d .1)
-        go raising d = (able-more (d .0) (all-stoppable q₁), d .1, λ e. d .2 (bare-first a l e))
+        go (raising x) d = (able-more (d .0) (all-stoppable q₁), d .1, λ e. d .2 (bare-first a l e))
         go leaving d = d
         go undone d = d
-        go undoRaising d = d
+        go (undoRaising x) d = d
 
     -- a later one of a flow
     later-all : Acted (c + size a) (sizes l) o (AllAs p l (c + size a) t o) r
@@ -330,10 +331,10 @@ module _ (p : Plan) (actor : Actor) where
         go : (x : Result) → AllAs p l (c + size a) t o (r .log) (r .order) x → AllAs p (more a l) c t o (r .log) (r .order) x
         go running d = (f (r .order .marks) h (d .0), d .1, λ q. d .2 (quiet-part q (omega arith) (omega arith)))
         go over d = (f (r .order .marks) h (d .0), d .1)
-        go raising d = (g (r .order .marks) h (d .0), d .1, λ e. d .2 (bare-rest a l e))
+        go (raising x) d = (g (r .order .marks) h (d .0), d .1, λ e. d .2 (bare-rest a l e))
         go leaving d = d
         go undone d = d
-        go undoRaising d = d
+        go (undoRaising x) d = d
 
   -- Arms.
 
@@ -345,7 +346,8 @@ module _ (p : Plan) (actor : Actor) where
   arm-itself (send x y vs) within y₀ k o e = absurd (false≢true e)
   arm-itself (receive x y vs) within y₀ k o e = absurd (false≢true e)
   arm-itself (setting v x) within y₀ k o e = absurd (false≢true e)
-  arm-itself raise within y₀ k o e = absurd (false≢true e)
+  arm-itself (raise zero) within y₀ k o e = absurd (false≢true e)
+  arm-itself (raise (suc number)) within y₀ k o e = absurd (false≢true e)
   arm-itself leave within y₀ k o e = absurd (false≢true e)
   arm-itself (choose x) within y₀ k o e = absurd (false≢true e)
   arm-itself (repeat x) within y₀ k o e = absurd (false≢true e)
@@ -425,7 +427,8 @@ module _ (p : Plan) (actor : Actor) where
   held-itself (send x y vs) within y₀ k o s e = absurd (false≢true e)
   held-itself (receive x y vs) within y₀ k o s e = absurd (false≢true e)
   held-itself (setting v x) within y₀ k o s e = absurd (false≢true e)
-  held-itself raise within y₀ k o s e = absurd (false≢true e)
+  held-itself (raise zero) within y₀ k o s e = absurd (false≢true e)
+  held-itself (raise (suc number)) within y₀ k o s e = absurd (false≢true e)
   held-itself leave within y₀ k o s e = absurd (false≢true e)
   held-itself (choose x) within y₀ k o s e = absurd (false≢true e)
   held-itself (repeat x) within y₀ k o s e = absurd (false≢true e)
@@ -595,10 +598,10 @@ module _ (p : Plan) (actor : Actor) where
           go : (x : Result) → StepsAs p Its R o (r .log) (r .order) x → RunAs p Whole k t o (r .log) (r .order) x
           go running c = (runs-so (g _ _ (c .0)), c .1)
           go over c = (its-quiet (v .apart) (c .0) (c .1) (c .2), c .3)
-          go raising c = (able-quiet (its-quiet (v .apart) (c .0) (c .1) (c .2)), c .3, λ e. absurd (false≢true e))
+          go (raising x) c = (able-quiet (its-quiet (v .apart) (c .0) (c .1) (c .2)), c .3, λ e. absurd (false≢true e))
           go leaving c = c
           go undone c = c
-          go undoRaising c = c
+          go (undoRaising x) c = c
 
       -- it is stopped, and runs or is over
       steps-stop : (r : Outcome) → Steps p Its (Turning Its) o r → Acted k (spread b f u) o (StopAs p Whole k o) r
@@ -608,10 +611,10 @@ module _ (p : Plan) (actor : Actor) where
           go : (x : Result) → StepsAs p Its (Turning Its) o (r .log) (r .order) x → StopAs p Whole k o (r .log) (r .order) x
           go running c = (stopped-scope (c .0) (its-undo (v .apart)), c .1)
           go over c = (stopped-quiet (its-quiet (v .apart) (c .0) (c .1) (c .2)), c .3)
-          go raising c = (stopped-quiet (its-quiet (v .apart) (c .0) (c .1) (c .2)), c .3)
+          go (raising x) c = (stopped-quiet (its-quiet (v .apart) (c .0) (c .1) (c .2)), c .3)
           go leaving c = c
           go undone c = c
-          go undoRaising c = c
+          go (undoRaising x) c = c
 
   -- in its undo part
   pub undo-step : (b f u : Act) (y₀ k t : ℕ) (o : Order) → k + 1 + size b + size f ≤ t → t < k + 1 + size b + size f + size u
@@ -667,19 +670,19 @@ module _ (p : Plan) (actor : Actor) where
   abbrev pub StopInAs : Acts → (c : ℕ) → Order → List Event → Order → Result → Type 0
   StopInAs l c o g o′ running = StoppedIn (o′ .marks) l c × Does p None o g o′
   StopInAs l c o g o′ over = StoppedIn (o′ .marks) l c × Does p None o g o′
-  StopInAs l c o g o′ raising = StoppedIn (o′ .marks) l c × Does p None o g o′
+  StopInAs l c o g o′ (raising x) = StoppedIn (o′ .marks) l c × Does p None o g o′
   StopInAs l c o g o′ leaving = Does p Left o g o′
   StopInAs l c o g o′ undone = ⊥
-  StopInAs l c o g o′ undoRaising = ⊥
+  StopInAs l c o g o′ (undoRaising x) = ⊥
 
   abbrev pub UndoInAs : Name → Acts → (c t : ℕ) → Order → List Event → Order → Result → Type 0
   UndoInAs n l c t o g o′ running = UndoingIn (o′ .marks) l c × Does p None o g o′
   UndoInAs n l c t o g o′ over = ⊥
-  UndoInAs n l c t o g o′ raising = ⊥
+  UndoInAs n l c t o g o′ (raising x) = ⊥
   UndoInAs n l c t o g o′ leaving = Does p Left o g o′
   UndoInAs n l c t o g o′ undone = Quiet (o′ .marks) c (sizes l) × Does p None o g o′
-  UndoInAs n l c t o g o′ undoRaising =
-      (g ≡ raised t ∷ []) × RunIn p (λ z. markOf z o′) n t × (innerRunsIn l c (o′ .marks) ≡ false) × ScopesRest p o′ c (sizes l) × Does p None o g o′
+  UndoInAs n l c t o g o′ (undoRaising x) =
+      (g ≡ raised t x ∷ []) × RunIn p (λ z. markOf z o′) n t × (innerRunsIn l c (o′ .marks) ≡ false) × ScopesRest p o′ c (sizes l) × Does p None o g o′
 
   module _ (a : Act) (l : Acts) (c : ℕ) (o : Order) (r : Outcome) where
     first-stopped : Acted c (size a) o (StopAs p a c o) r → StoppedIn (o .marks) l (c + size a) → Acted c (size a + sizes l) o (StopInAs (more a l) c o) r
@@ -691,10 +694,10 @@ module _ (p : Plan) (actor : Actor) where
         go : (x : Result) → StopAs p a c o (r .log) (r .order) x → StopInAs (more a l) c o (r .log) (r .order) x
         go running d = (stopped-more (d .0) q₁, d .1)
         go over d = (stopped-more (d .0) q₁, d .1)
-        go raising d = (stopped-more (d .0) q₁, d .1)
+        go (raising x) d = (stopped-more (d .0) q₁, d .1)
         go leaving d = d
         go undone d = d
-        go undoRaising d = d
+        go (undoRaising x) d = d
 
     later-stopped : Acted (c + size a) (sizes l) o (StopInAs l (c + size a) o) r → Stopped (o .marks) a c → Acted c (size a + sizes l) o (StopInAs (more a l) c o) r
     later-stopped w q = record { kept = kept-wider (w .kept) (omega arith) (omega arith); rooted = w .rooted; comes = go (r .result) (w .comes) }
@@ -705,10 +708,10 @@ module _ (p : Plan) (actor : Actor) where
         go : (x : Result) → StopInAs l (c + size a) o (r .log) (r .order) x → StopInAs (more a l) c o (r .log) (r .order) x
         go running d = (stopped-more q₁ (d .0), d .1)
         go over d = (stopped-more q₁ (d .0), d .1)
-        go raising d = (stopped-more q₁ (d .0), d .1)
+        go (raising x) d = (stopped-more q₁ (d .0), d .1)
         go leaving d = d
         go undone d = d
-        go undoRaising d = d
+        go (undoRaising x) d = d
 
     module _ (n : Name) (t : ℕ) where
       first-undoing : Acted c (size a) o (UndoAs p n a c t o) r → Quiet (o .marks) (c + size a) (sizes l)
@@ -722,10 +725,10 @@ module _ (p : Plan) (actor : Actor) where
           go : (x : Result) → UndoAs p n a c t o (r .log) (r .order) x → UndoInAs n (more a l) c t o (r .log) (r .order) x
           go running d = (undoing-here (d .0) q₁, d .1)
           go over d = d
-          go raising d = d
+          go (raising x) d = d
           go leaving d = d
           go undone d = (quiet-join (d .0) q₁ refl, d .1)
-          go undoRaising d = (
+          go (undoRaising n) d = (
             d .0,
             d .1,
             rw (d .2, quiet-inner-in l (c + size a) q₁),
@@ -744,10 +747,10 @@ module _ (p : Plan) (actor : Actor) where
           go : (x : Result) → UndoInAs n l (c + size a) t o (r .log) (r .order) x → UndoInAs n (more a l) c t o (r .log) (r .order) x
           go running d = (undoing-later q₁ (d .0), d .1)
           go over d = d
-          go raising d = d
+          go (raising x) d = d
           go leaving d = d
           go undone d = (quiet-join q₁ (d .0) refl, d .1)
-          go undoRaising d = (
+          go (undoRaising n) d = (
             d .0,
             d .1,
             rw (quiet-inner a c q₁, d .2),
@@ -771,18 +774,18 @@ module _ (p : Plan) (actor : Actor) where
         so : (x : Result) → StopInAs within (k + 1) o (r .log) (r .order) x → StopAs p (act own within) k o (r .log) (r .order) x
         so running d = (stopped-part s e₁ (d .0), d .1)
         so over d = (stopped-part s e₁ (d .0), d .1)
-        so raising d = (stopped-part s e₁ (d .0), d .1)
+        so (raising x) d = (stopped-part s e₁ (d .0), d .1)
         so leaving d = d
         so undone d = d
-        so undoRaising d = d
+        so (undoRaising x) d = d
 
         runs-on : (x : Result) → x ≡ over → StopInAs within (k + 1) o (r .log) (r .order) x → StopAs p (act own within) k o (r .log) (r .order) running
         runs-on running i d = so running d
         runs-on over i d = so over d
-        runs-on raising i d = so raising d
+        runs-on (raising x) i d = so (raising x) d
         runs-on leaving i d = absurd (let z : _≡_ {A = ℕ} 0 1 = cc in omega arith)
         runs-on undone i d = absurd d
-        runs-on undoRaising i d = absurd d
+        runs-on (undoRaising x) i d = absurd d
 
         go : {r′ : Outcome} → Idly r r′ → Acted k (1 + sizes within) o (StopAs p (act own within) k o) r′
         go (idly-same i) = subst (λ (x : Outcome). Acted k (1 + sizes within) o (StopAs p (act own within) k o) x) (sym i) (record { kept = kept₁; rooted = w .rooted; comes = so (r .result) (w .comes) })
@@ -804,10 +807,10 @@ module _ (p : Plan) (actor : Actor) where
         so : (x : Result) → UndoInAs n within (k + 1) t o (r .log) (r .order) x → UndoAs p n (act own within) k t o (r .log) (r .order) x
         so running d = (undoing-part s e₁ (d .0), d .1)
         so over d = d
-        so raising d = d
+        so (raising x) d = d
         so leaving d = d
         so undone d = (quiet-cons e₁ (d .0), d .1)
-        so undoRaising d = (
+        so (undoRaising n) d = (
           d .0,
           d .1,
           inner-is own within k (r .order .marks) false s ∙ d .2,
@@ -818,10 +821,10 @@ module _ (p : Plan) (actor : Actor) where
         never : (x : Result) → x ≡ over → UndoInAs n within (k + 1) t o (r .log) (r .order) x → ⊥
         never running i d = let z : _≡_ {A = ℕ} 0 1 = cc in omega arith
         never over i d = d
-        never raising i d = d
+        never (raising x) i d = d
         never leaving i d = let z : _≡_ {A = ℕ} 0 1 = cc in omega arith
         never undone i d = let z : _≡_ {A = ℕ} 0 1 = cc in omega arith
-        never undoRaising i d = let z : _≡_ {A = ℕ} 0 1 = cc in omega arith
+        never (undoRaising x) i d = let z : _≡_ {A = ℕ} 0 1 = cc in omega arith
 
         go : {r′ : Outcome} → Idly r r′ → Acted k (1 + sizes within) o (UndoAs p n (act own within) k t o) r′
         go (idly-same i) = subst (λ (x : Outcome). Acted k (1 + sizes within) o (UndoAs p n (act own within) k t o) x) (sym i) (record { kept = kept₁; rooted = w .rooted; comes = so (r .result) (w .comes) })
@@ -853,12 +856,12 @@ module _ (p : Plan) (actor : Actor) where
 
       go : (x : Result) → RunAs p u (k + 1 + size b + size f) t o (r .log) (r .order) x
           → UndoAs p m (act (scope true) (trio b f (more u none))) k t o (r .log) (r .order)
-          (elim x [ running ↦ running | over ↦ undone | raising ↦ undoRaising | leaving ↦ leaving | undone ↦ undone | undoRaising ↦ undoRaising ])
+          (elim x [ running ↦ running | over ↦ undone | raising n ↦ undoRaising n | leaving ↦ leaving | undone ↦ undone | undoRaising n ↦ undoRaising n ])
       go running d = (undoing-scope e₁ q₁ (d .0), d .1)
       go over d =
           let q₂ : Quiet (r .order .marks) (k + 1) (size b + size f + size u) = quiet-join q₁ (d .0) (omega arith) in
           (quiet-cons e₁ (quiet-part q₂ (omega arith) (omega arith)), d .1)
-      go raising d = (
+      go (raising m) d = (
         d .2 (remedy-bare su),
         record {
           whose = innerAt true k n ns (trio b f (more u none));
@@ -874,7 +877,7 @@ module _ (p : Plan) (actor : Actor) where
       )
       go leaving d = d
       go undone d = absurd d
-      go undoRaising d = absurd d
+      go (undoRaising x) d = absurd d
 
   -- what a scope with no undo part that is not left running makes of an undo part in its body: it goes through
   through-acts : (b f : Act) (u : Acts) (y₀ k t : ℕ) (m : Name) (o : Order) → getD (o .marks) k 0 ≡ idle → Quiet (o .marks) (k + 1 + size b) (size f + sizes u)
@@ -916,11 +919,11 @@ module _ (p : Plan) (actor : Actor) where
       go : (x : Result) → UndoAs p m b (k + 1) t o (r .log) (r .order) x → Goal x
       go running d = runs-on p (r .log) s k o (r .order) (spread b f u) (UndoAs p m (act (scope false) (trio b f u)) k t o) e₁ kept₁ (w .rooted) refl (undoing-through e₁ (d .0) q₁, d .1)
       go over d = absurd d
-      go raising d = absurd d
+      go (raising x) d = absurd d
       go leaving d = leaves-on p (r .log) s k o (r .order) (spread b f u) (UndoAs p m (act (scope false) (trio b f u)) k t o) e₁ kept₁ (w .rooted) d
       go undone d = as-it-is undone (through-told k (r .order) undone (r .log) e₁ refl) (quiet-cons e₁ (quiet-join (d .0) q₁ refl), d .1)
-      go undoRaising d =
-          as-it-is undoRaising (through-told k (r .order) undoRaising (r .log) e₁ refl) (
+      go (undoRaising n) d =
+          as-it-is (undoRaising n) (through-told k (r .order) (undoRaising n) (r .log) e₁ refl) (
             d .0,
             d .1,
             rw e₁,
@@ -1070,7 +1073,7 @@ module _ (p : Plan) (actor : Actor) where
       through-step false b f u y₀ k t o (goesThrough false k r) h d refl
       ∙ through-so (scopeAt k (trio b f u)) k (r .order) (r .result) (r .log) refl (w .kept .below k (omega arith) ∙ e)
       (λ z. subst (λ (x : Result). UndoAs p m b (k + 1) t o (r .log) (r .order) x) z (w .comes))
-      (λ z. subst (λ (x : Result). UndoAs p m b (k + 1) t o (r .log) (r .order) x) z (w .comes))
+      (λ n z. subst (λ (x : Result). UndoAs p m b (k + 1) t o (r .log) (r .order) x) z (w .comes))
     where
       r : Outcome
       r = stepIn actor b (k + 1) (k + 1) t o

@@ -117,10 +117,10 @@ module _ (p : Plan) where
             stands = stopped-quiet (quiet-cons (c .0) (quiet-join (c .1) (quiet-join (c .2) w₁ refl) refl));
             does = does-then first (does-then (s .does) (c .3));
           }
-      go raising c = absurd c
+      go (raising x) c = absurd c
       go leaving c = absurd c
       go undone c = absurd c
-      go undoRaising c = absurd c
+      go (undoRaising x) c = absurd c
 
   -- a scope is stopped, as it is found
   stopped-as : {n c : Name} {ns : List Name} {v : Bool} (x : Bool) (b f : Act) (u : Acts) (k : ℕ) (o : Order) → Known p (innerAt x k n ns (trio b f u)) → Spot p (bodyOf n ns c) k → phase (markOf n o) ≡ waits v

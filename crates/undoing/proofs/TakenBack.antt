@@ -53,11 +53,11 @@ Next p Failed o b = Unit {0}
 Next p Left o b = Unit {0}
 
 -- an answer's end, by its list
-abbrev endIn : List End → End
+abbrev pub endIn : List End → End
 endIn [] = None
 endIn (e ∷ l) = e
 
-end-in : (e : End) → endIn (endList e) ≡ e
+pub end-in : (e : End) → endIn (endList e) ≡ e
 end-in None = refl
 end-in Well = refl
 end-in Handled = refl
@@ -73,19 +73,19 @@ data Books (p : Plan) (o : Order) (a : Book) : Type 0 where
 abbrev Ends : Result → Type 0
 Ends running = Unit {0}
 Ends over = Unit {0}
-Ends raising = Unit {0}
+Ends (raising x) = Unit {0}
 Ends leaving = Unit {0}
 Ends undone = ⊥
-Ends undoRaising = ⊥
+Ends (undoRaising x) = ⊥
 
 module _ (p : Plan) (h : Promised p) where
   not-undone : (l : List Event) (o o′ : Order) (x : Result) → StepsAs p (rootOf p) (Running (rootOf p)) o l o′ x → Ends x
   not-undone l o o′ running c = tt
   not-undone l o o′ over c = tt
-  not-undone l o o′ raising c = tt
+  not-undone l o o′ (raising x) c = tt
   not-undone l o o′ leaving c = tt
   not-undone l o o′ undone c = c
-  not-undone l o o′ undoRaising c = c
+  not-undone l o o′ (undoRaising x) c = c
 
   -- the outcome of a step, as the order's end
   settled-end : (b : Book) (r : Outcome) → Ends (r .result) → Settled p (b .due) (b .begun) r
@@ -104,10 +104,10 @@ module _ (p : Plan) (h : Promised p) where
           × Next p (movedTo (record { result = x; order = r .order; log = r .log }) (endOf (record { result = x; order = r .order; log = r .log })) .end) (movedTo (record { result = x; order = r .order; log = r .log }) (endOf (record { result = x; order = r .order; log = r .log })) .order) b
       go running v c = ended-well (eqb (r .order .root) done) refl c
       go over v c = (rw c, tt)
-      go raising v c = (refl, tt)
+      go (raising x) v c = (refl, tt)
       go leaving v c = (refl, tt)
       go undone v c = absurd v
-      go undoRaising v c = absurd v
+      go (undoRaising x) v c = absurd v
 
   -- an order that has taken its message agrees with the book as it did before
   agrees-so : (o o′ : Order) (a : Book) → Alike p o o′ → Agrees p o a → Agrees p o′ a
@@ -238,7 +238,7 @@ module _ (p : Plan) (h : Promised p) where
         (λ a₁ b₁. all-noted l (r .state) (r .tally) (onto (logOf i r) past) a₁ (step-after p bytes next i accepted h c s t past g .1) b₁)
 
 -- nothing stands in a fresh slot
-fresh-free : (bytes : List ℕ) (i : ℕ) → isLive (orderIn (fresh bytes) i) ≡ false
+pub fresh-free : (bytes : List ℕ) (i : ℕ) → isLive (orderIn (fresh bytes) i) ≡ false
 unfolding noOrder fresh
 fresh-free bytes i = ap isLive (fresh-order i)
 

@@ -118,14 +118,14 @@ module _ (p : Plan) (bytes : List ℕ) (next i : ℕ) (accepted : readPlan bytes
   happens-times s past r (nothing-here n l e d) = (rw (n, l), rw (n, d))
   happens-times s past r (goes-here t m q w st k y l e d) =
       let x = step-times p t (withMessage p t m (orderIn s i)) in
-      let z = taken-goes p h i s t m r q (standing-live p (orderIn s i) st) in (
+      let z = taken-goes p h i s t m r (q .0, q .1, q .2) (standing-live p (orderIn s i) st) in (
         l ∙ (x .0 ∙ ap logs (sym z)),
         d ∙ (x .1 ∙ ap (lastOf (orderIn s i)) (sym z)),
       )
   happens-times s past r (starts-here t m q w v n l e d) =
       let m₁ = acted itsOwn p t (withMessage p t m (startedOrder p)) in
       let x = step-times p t (withMessage p t m (startedOrder p)) in
-      let z = taken-starts p h i s t m r q v in (
+      let z = taken-starts p h i s t m r (q .0, q .1, q .2) v in (
         l ∙ (ap (λ (g : List Event). (started ∷ begunOrder p .log) ++ g) (x .0)
             ∙ (sym (append-assoc (started ∷ begunOrder p .log) (m₁ .log) (logs (raisesOf (spare p (m₁ .order)) p m₁))) ∙ ap logs (sym z))),
         d ∙ (x .1 ∙ ap (lastOf (orderIn s i)) (sym z)),

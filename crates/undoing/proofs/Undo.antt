@@ -32,10 +32,10 @@ use Rattle.undoing.proofs.Seats.{Seat, mark-kept, reaches, reachesFirst
 abbrev pub UndoneAs : Plan → Scope → Order → Result → Type 0
 UndoneAs p s o running = Undoing (o .marks) (s .body) (s .bodyAt)
 UndoneAs p s o over = Quiet (o .marks) (s .bodyAt) (size (s .body)) × (listOf p (s .name) o ≡ [])
-UndoneAs p s o raising = ⊥
+UndoneAs p s o (raising x) = ⊥
 UndoneAs p s o leaving = ⊥
 UndoneAs p s o undone = ⊥
-UndoneAs p s o undoRaising = ⊥
+UndoneAs p s o (undoRaising x) = ⊥
 
 pub record Undone (p : Plan) (s : Scope) (o : Order) (r : Outcome) : Type 0 where
   pub kept : Kept (s .bodyAt) (size (s .body)) (o .marks) (r .order .marks)

@@ -1,5 +1,5 @@
 -- A live order stands as its plan's shape asks, after any run. Assumes nothing.
-use Prim.Native.Nat.{ℕ, _+_, _≤_, _<_}
+use Prim.Native.Nat.{ℕ, zero, suc, _+_, _≤_, _<_}
 use native.Mathlib.Omega.{arith}
 use mathlib.Core.Path.{_≡_, refl, sym, ap, subst, _∙_}
 use mathlib.Core.Bool.{Bool, true, false, cond, not, _&&_, _||_, false≢true, or-true}
@@ -30,7 +30,8 @@ doing empty e = absurd (false≢true e)
 doing (send p o vs) e = refl
 doing (receive p o vs) e = refl
 doing (setting v x) e = refl
-doing raise e = refl
+doing (raise zero) e = refl
+doing (raise (suc number)) e = refl
 doing leave e = refl
 doing (choose x) e = refl
 doing (repeat x) e = refl
@@ -46,7 +47,8 @@ holds-so empty s = refl
 holds-so (send p o vs) s = refl
 holds-so (receive p o vs) s = refl
 holds-so (setting v x) s = refl
-holds-so raise s = refl
+holds-so (raise zero) s = refl
+holds-so (raise (suc number)) s = refl
 holds-so leave s = refl
 holds-so (choose x) s = refl
 holds-so (repeat x) s = refl

@@ -1,5 +1,5 @@
 -- A raise in place of a receive comes out of the undo part that runs: no scope stands there that could take it. Assumes nothing.
-use Prim.Native.Nat.{ℕ, _+_, _≤_, _<_}
+use Prim.Native.Nat.{ℕ, zero, suc, _+_, _≤_, _<_}
 use native.Mathlib.Omega.{arith}
 use mathlib.Core.Path.{_≡_, refl, sym, ap, subst, _∙_}
 use mathlib.Core.Bool.{Bool, true, false, cond, not, false≢true}
@@ -9,6 +9,7 @@ use borrow.Author.Tests.{ne-eqb, lt-ltb, le-ltb, not-true}
 use Rattle.plan.specs.Tree.{Own, empty, send, receive, set as setting, raise, leave, choose, repeat, sequence, flow, pick, scope, arm, kind, Act, act, Acts, none, more, Plan, size, sizes, isScope}
 use Rattle.order.specs.declared.Order.{Order}
 use Rattle.order.specs.State.{Name, idle, active, inside, markAt, markOf}
+use Rattle.order.specs.Expression.{conflictingReceive}
 use Rattle.order.specs.Begin.{beginAfter}
 use Rattle.order.specs.declared.Way.{Way as Result}
 use Rattle.order.specs.declared.Way.the-variants.{Running as running, Over as over, Raising as raising, Leaving as leaving, Undone as undone, UndoRaising as undoRaising}
@@ -33,10 +34,10 @@ use Rattle.undoing.proofs.Owing.{not-scope}
 abbrev isOver : Result → Bool
 isOver running = false
 isOver over = true
-isOver raising = false
+isOver (raising x) = false
 isOver leaving = false
 isOver undone = false
-isOver undoRaising = false
+isOver (undoRaising x) = false
 
 -- what is not over goes up as it is
 up-where : (f : Order → Outcome) (r : Outcome) → isOver (r .result) ≡ false → whereOver f r .result ≡ r .result
@@ -45,10 +46,10 @@ up-where f r n = go (r .result) n
     go : (x : Result) → isOver x ≡ false → whereOver f (record { result = x; order = r .order; log = r .log }) .result ≡ x
     go running n = refl
     go over n = absurd (false≢true (sym n))
-    go raising n = refl
+    go (raising x) n = refl
     go leaving n = refl
     go undone n = refl
-    go undoRaising n = refl
+    go (undoRaising x) n = refl
 
 up-goes : (k m : ℕ) (f : Order → Outcome) (r : Outcome) → isOver (r .result) ≡ false → goesOn k m f r .result ≡ r .result
 unfolding goesOn
@@ -60,7 +61,8 @@ up-combines empty within k t r s n = refl
 up-combines (send x y vs) within k t r s n = refl
 up-combines (receive x y vs) within k t r s n = refl
 up-combines (setting v x) within k t r s n = refl
-up-combines raise within k t r s n = refl
+up-combines (raise zero) within k t r s n = refl
+up-combines (raise (suc number)) within k t r s n = refl
 up-combines leave within k t r s n = refl
 up-combines (choose x) within k t r s n = up-goes k inside (finishes k) r n
 up-combines (repeat x) within k t r s n = up-goes k inside (again k) r n
@@ -71,8 +73,8 @@ up-combines (scope v) within k t r s n = absurd (false≢true (sym s))
 up-combines (arm x y vs) within k t r s n = refl
 
 -- by the same choice of what is done and what comes of it
-raise-either : (b : Bool) (d d′ : Doing) (x y : Outcome) → (isTake d ≡ true → x .result ≡ raising) → (isTake d′ ≡ true → y .result ≡ raising)
-    → isTake (elim b [ true ↦ d | false ↦ d′ ]) ≡ true → elim b as (λ _. Outcome) [ true ↦ x | false ↦ y ] .result ≡ raising
+raise-either : (b : Bool) (d d′ : Doing) (x y : Outcome) → (isTake d ≡ true → x .result ≡ raising conflictingReceive) → (isTake d′ ≡ true → y .result ≡ raising conflictingReceive)
+    → isTake (elim b [ true ↦ d | false ↦ d′ ]) ≡ true → elim b as (λ _. Outcome) [ true ↦ x | false ↦ y ] .result ≡ raising conflictingReceive
 raise-either true d d′ x y f g h = f h
 raise-either false d d′ x y f g h = g h
 
@@ -80,7 +82,7 @@ raise-either false d d′ x y f g h = g h
 mutual
   unfolding bare stepIn doingIn isTake
 
-  raise-out : (a : Act) (q k t : ℕ) (o : Order) → bare a ≡ true → isTake (doingIn a k t) ≡ true → stepIn inPlace a q k t o .result ≡ raising
+  raise-out : (a : Act) (q k t : ℕ) (o : Order) → bare a ≡ true → isTake (doingIn a k t) ≡ true → stepIn inPlace a q k t o .result ≡ raising conflictingReceive
   raise-out (act own within) q k t o b h =
       both (not (isScope own)) (bareIn within) b (λ x y.
       raise-either (eqb k t) (doingOf own within k) (doingAmong within (k + 1) t) (performs inPlace own within q k o) (combines own within k t (stepAmong inPlace within (isScope own) q (k + 1) t (arms own within k t o)))
@@ -88,14 +90,14 @@ mutual
       (λ g. let z = raise-out-in within (isScope own) q (k + 1) t (arms own within k t o) y g in
       up-combines own within k t (stepAmong inPlace within (isScope own) q (k + 1) t (arms own within k t o)) (not-true (isScope own) x) (ap isOver z) ∙ z) h)
 
-  raise-out-in : (l : Acts) (v : Bool) (q c t : ℕ) (o : Order) → bareIn l ≡ true → isTake (doingAmong l c t) ≡ true → stepAmong inPlace l v q c t o .result ≡ raising
+  raise-out-in : (l : Acts) (v : Bool) (q c t : ℕ) (o : Order) → bareIn l ≡ true → isTake (doingAmong l c t) ≡ true → stepAmong inPlace l v q c t o .result ≡ raising conflictingReceive
   raise-out-in none v q c t o b h = absurd (false≢true h)
   raise-out-in (more a l) v q c t o b h =
       both (bare a) (bareIn l) b (λ x y.
       raise-either (ltb t (c + size a)) (doingIn a c t) (doingAmong l (c + size a) t) (stepIn inPlace a (cond v c q) c t o) (stepAmong inPlace l v q (c + size a) t o)
       (λ g. raise-out a (cond v c q) c t o x g) (λ g. raise-out-in l v q (c + size a) t o y g) h)
 
-up-raised : (r : Outcome) → r .result ≡ raising → fromUndo r .result ≡ undoRaising
+up-raised : {x : ℕ} (r : Outcome) → r .result ≡ raising x → fromUndo r .result ≡ undoRaising x
 unfolding fromUndo
 up-raised r e = rw e
 
@@ -106,7 +108,7 @@ no-less y z = omega arith
 module _ (p : Plan) where
   scope-raises : {c : Bool} (b f u : Act) (q₀ k t : ℕ) (o : Order) → bare u ≡ true → Waits (o .marks) (act (scope true) (trio b f (more u none))) k t c → c ≡ false
       → getD (o .marks) k 0 ≡ idle → Quiet (o .marks) (k + 1) (size b + size f) → Run (o .marks) u (k + 1 + size b + size f)
-      → isTake (doingIn (act (scope true) (trio b f (more u none))) k t) ≡ true → stepIn inPlace (act (scope true) (trio b f (more u none))) q₀ k t o .result ≡ undoRaising
+      → isTake (doingIn (act (scope true) (trio b f (more u none))) k t) ≡ true → stepIn inPlace (act (scope true) (trio b f (more u none))) q₀ k t o .result ≡ undoRaising conflictingReceive
   unfolding Whole kind
   scope-raises b f u q₀ k t o su (waits-itself e d) c x q r h = absurd (no-less (undoing-waits (undoing-scope x q r) (waits-itself e d) c) e)
   scope-raises b f u q₀ k t o su (waits-within e (waits-first d w)) c x q r h = absurd (quiet-waits w refl (quiet-part q (omega arith) (omega arith)))
@@ -122,8 +124,8 @@ module _ (p : Plan) where
   through-raises : {c : Bool} (b f : Act) (u : Acts) (q₀ k t : ℕ) (m₀ : Name) (o : Order) → Waits (o .marks) (act (scope false) (trio b f u)) k t c → c ≡ false
       → getD (o .marks) k 0 ≡ idle → Undoing (o .marks) b (k + 1) → Quiet (o .marks) (k + 1 + size b) (size f + sizes u) → isTake (doingIn (act (scope false) (trio b f u)) k t) ≡ true
       → (Waits (o .marks) b (k + 1) t false → Acted (k + 1) (size b) o (UndoAs p m₀ b (k + 1) t o) (stepIn inPlace b (k + 1) (k + 1) t o))
-      → (Waits (o .marks) b (k + 1) t false → isTake (doingIn b (k + 1) t) ≡ true → stepIn inPlace b (k + 1) (k + 1) t o .result ≡ undoRaising)
-      → stepIn inPlace (act (scope false) (trio b f u)) q₀ k t o .result ≡ undoRaising
+      → (Waits (o .marks) b (k + 1) t false → isTake (doingIn b (k + 1) t) ≡ true → stepIn inPlace b (k + 1) (k + 1) t o .result ≡ undoRaising conflictingReceive)
+      → stepIn inPlace (act (scope false) (trio b f u)) q₀ k t o .result ≡ undoRaising conflictingReceive
   unfolding size
   through-raises b f u q₀ k t m₀ o (waits-itself e d) c x r q h a g = absurd (no-less (undoing-waits (undoing-through {f = f} {u = u} x r q) (waits-itself e d) c) e)
   through-raises b f u q₀ k t m₀ o (waits-within e (waits-first d w)) c x r q h a g =
@@ -140,12 +142,12 @@ module _ (p : Plan) where
 
     pub undo-raises : {x : Place} {a : Act} {k : ℕ} → Sits p x a k → (q₀ t : ℕ) (o : Order) (b : Bool) → PartOf x q₀ → Waits (o .marks) a k t b → b ≡ false → Undoing (o .marks) a k
         → (m₀ : Name) → runnerAt (λ n. markOf n o) (nameOf x) (beyondOf x) ≡ m₀ → Fit (undoOf (nameOf x) (beyondOf x) (lastOf x)) o → k + size a ≤ length (o .marks)
-        → isTake (doingIn a k t) ≡ true → stepIn inPlace a q₀ k t o .result ≡ undoRaising
+        → isTake (doingIn a k t) ≡ true → stepIn inPlace a q₀ k t o .result ≡ undoRaising conflictingReceive
     undo-raises (sits-part {own = own} {within} {k} s g u y l) q₀ t o b q₁ (waits-itself z d) e r m₀ y₂ f m h = absurd (no-less (undoing-waits r (waits-itself z d) e) z)
     undo-raises (sits-part {own = own} {within} {k} s g u y l) q₀ t o b q₁ (waits-within v w) e (undoing-part s₁ z r) m₀ y₂ f m h =
         let i : opens own (getD (o .marks) k 0) ≡ false = opens-idle own (getD (o .marks) k 0) z in
         let j = stepAmong inPlace within false q₀ (k + 1) t o in
-        let d : j .result ≡ undoRaising = undo-raises-in l q₀ t o _ q₁ w i r m₀ y₂ f (omega arith) (ap isTake (sym (doing-within own within k t v)) ∙ h) in
+        let d : j .result ≡ undoRaising conflictingReceive = undo-raises-in l q₀ t o _ q₁ w i r m₀ y₂ f (omega arith) (ap isTake (sym (doing-within own within k t v)) ∙ h) in
         ap (λ (r : Outcome). r .result)
         (step-is inPlace own within q₀ k t o false s (ne-eqb k t (omega arith)) ∙ ap (λ (x : Order). combines own within k t (stepAmong inPlace within false q₀ (k + 1) t x)) (arms-none own within k t o (undoing-part-not p inPlace r w i)))
         ∙ (up-combines own within k t j s (ap isOver d) ∙ d)
@@ -161,7 +163,7 @@ module _ (p : Plan) where
 
     pub undo-raises-in : {x : Place} {l : Acts} {c : ℕ} → SitsIn p x l c → (q₀ t : ℕ) (o : Order) (b : Bool) → PartOf x q₀ → WaitsIn (o .marks) l c t b → b ≡ false → UndoingIn (o .marks) l c
         → (m₀ : Name) → runnerAt (λ n. markOf n o) (nameOf x) (beyondOf x) ≡ m₀ → Fit (undoOf (nameOf x) (beyondOf x) (lastOf x)) o → c + sizes l ≤ length (o .marks)
-        → isTake (doingAmong l c t) ≡ true → stepAmong inPlace l false q₀ c t o .result ≡ undoRaising
+        → isTake (doingAmong l c t) ≡ true → stepAmong inPlace l false q₀ c t o .result ≡ undoRaising conflictingReceive
     undo-raises-in (sits-more {a = a} {l} {c} s y) q₀ t o b q₁ (waits-first v w) e (undoing-here r q) m₀ y₂ f m h =
         ap (λ (r : Outcome). r .result) (among-is inPlace a l q₀ c t o true (lt-ltb t (c + size a) v)) ∙ undo-raises s q₀ t o b q₁ w e r m₀ y₂ f (omega arith) (ap isTake (sym (doing-among a l c t v)) ∙ h)
     undo-raises-in (sits-more {a = a} {l} {c} s y) q₀ t o b q₁ (waits-later v w) e (undoing-here r q) m₀ y₂ f m h = absurd (quiet-waits-in w e q)

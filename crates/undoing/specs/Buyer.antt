@@ -35,10 +35,10 @@ unfoldable pub isClosedOf : (scope : ℕ) → Event → Bool
 isClosedOf k started = false
 isClosedOf k (began j) = false
 isClosedOf k (closed j) = eqb k j
-isClosedOf k (faulted n) = false
+isClosedOf k (faulted n x) = false
 isClosedOf k (stopped j) = false
 isClosedOf k (ended n) = false
-isClosedOf k (raised j) = false
+isClosedOf k (raised j x) = false
 isClosedOf k left = false
 
 -- For each closing of a scope its undo part starts at most once.
@@ -53,10 +53,10 @@ unfoldable pub closedFirst : Plan → (past : List Event) → Event → Bool
 closedFirst p past started = true
 closedFirst p past (began k) = every (wasClosed past) (only (isUndoPart k) (scopesOf p))
 closedFirst p past (closed k) = true
-closedFirst p past (faulted n) = true
+closedFirst p past (faulted n x) = true
 closedFirst p past (stopped k) = true
 closedFirst p past (ended n) = true
-closedFirst p past (raised k) = true
+closedFirst p past (raised k x) = true
 closedFirst p past left = true
 
 unfoldable pub closedFirstAfter : Plan → (past : List Event) → List Event → Bool

@@ -74,10 +74,10 @@ unfoldable pub isRash : Event → Bool
 isRash started = false
 isRash (began k) = false
 isRash (closed k) = false
-isRash (faulted n) = false
+isRash (faulted n x) = false
 isRash (stopped k) = false
 isRash (ended n) = false
-isRash (raised k) = true
+isRash (raised k x) = true
 isRash left = true
 
 -- it stands in the body of a scope with no undo part that had turned before the step
@@ -153,7 +153,7 @@ sameClosings l m = alike (map (λ c. c .scope) l) (map (λ c. c .scope) m) && al
 
 unfoldable pub sameOrder : Order → Order → Bool
 sameOrder o q =
-    (eqb (o .root) (q .root) && eqb (o .kept) (q .kept))
+    (eqb (o .root) (q .root) && (eqb (o .kept) (q .kept) && eqb (o .cause) (q .cause)))
     && (alike (o .marks) (q .marks) && (alike (o .values) (q .values) && (alike (o .bound) (q .bound) && sameClosings (o .remembered) (q .remembered))))
 
 unfoldable pub chained : Order → List Taken → (now : Order) → Bool
@@ -231,10 +231,10 @@ unfoldable pub isStopOf : (scope : ℕ) → Event → Bool
 isStopOf k started = false
 isStopOf k (began j) = false
 isStopOf k (closed j) = false
-isStopOf k (faulted n) = false
+isStopOf k (faulted n x) = false
 isStopOf k (stopped j) = eqb k j
 isStopOf k (ended n) = false
-isStopOf k (raised j) = false
+isStopOf k (raised j x) = false
 isStopOf k left = false
 
 -- the numbers of which this is said, and the first beyond those of a scope

@@ -12,3 +12,4 @@ pub mod Weighing
 pub mod Answered
 pub mod Standing
 pub mod Onward
+pub mod AnyScope

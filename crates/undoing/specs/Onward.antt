@@ -81,7 +81,7 @@ PassedOn =
 -- DECIDED. "decide (choose or repeat)": in its step a choose begins its first part where its expression is true, else its second, and a repeat its body where its
 -- expression is true; by the variables of the order that had the step.
 abbrev pub pickedBy : (ℕ → List ℕ) → Value → List ℕ
-pickedBy f fault = []
+pickedBy f (fault x) = []
 pickedBy f (value n) = f n
 
 unfoldable pub picks : Own → (within : Acts) → (k : ℕ) → Order → List ℕ
@@ -89,7 +89,7 @@ picks empty within k o = []
 picks (send p op vs) within k o = []
 picks (receive p op vs) within k o = []
 picks (setting v e) within k o = []
-picks raise within k o = []
+picks (raise n) within k o = []
 picks leave within k o = []
 picks (choose e) within k o = pickedBy (λ n. partAt (cond (isTrue n) 0 1) within (k + 1) ∷ []) (evaluate e o)
 picks (repeat e) within k o = pickedBy (λ n. cond (isTrue n) (partAt 0 within (k + 1) ∷ []) []) (evaluate e o)

@@ -14,9 +14,9 @@ use Rattle.order.specs.declared.End.{End}
 use Rattle.order.specs.declared.End.the-variants.{None, Well, Handled, Failed, Left}
 use Rattle.machine.specs.declared.State.{State}
 use Rattle.machine.specs.declared.Tally.{Tally}
-use Rattle.order.specs.Lists.{every, some, only}
+use Rattle.order.specs.Lists.{every, some, only, each}
 use Rattle.order.specs.State.{idle, faulty, undoing, handling, halted, withdrawing, Name, root, inner, same, closings, markOf, isLive, noOrder}
-use Rattle.order.specs.Expression.{Value, fault as faulting, value, evaluate}
+use Rattle.order.specs.Expression.{unboundVariable, conflictingReceive, Value, fault as faulting, value, evaluate}
 use Rattle.order.specs.Event.{Event, started, began, closed, faulted, stopped, ended, raised, left}
 use Rattle.order.specs.Begin.{quiet}
 use Rattle.order.specs.Scope.{Scope, scopeAt, rootOf, isOpen, innerRuns}
@@ -27,7 +27,7 @@ use Rattle.machine.specs.Fit.{Doing, noStep, sends, takes, moves, cuts, closes,
 use Rattle.machine.specs.State.{noMessage}
 use Rattle.machine.specs.Calls.{loaded, post, collect, dropAt, doingAt, orderTaking, Stepped, step, Call, posting, collecting, dropping, stepping}
 use Rattle.undoing.specs.History.{history}
-use Rattle.undoing.specs.Demand3.{scopesOf, insideOf, closingsOf, undoneOf, hasTurned, isLeft, mayTurn, noneNow}
+use Rattle.undoing.specs.Demand3.{scopesOf, since, insideOf, closingsOf, undoneOf, hasTurned, isLeft, mayTurn, noneNow}
 
 -- the state after these calls
 unfoldable pub stateAfter : List Call → State → Tally → State
@@ -101,30 +101,30 @@ unfoldable pub isDeed : Event → Bool
 isDeed started = true
 isDeed (began k) = false
 isDeed (closed k) = true
-isDeed (faulted n) = false
+isDeed (faulted n x) = false
 isDeed (stopped k) = false
 isDeed (ended n) = false
-isDeed (raised k) = true
+isDeed (raised k x) = true
 isDeed left = true
 
--- "makes its step act as a raise": an expression, and a send of unbound variables
-abbrev pub raisedIf : (k : ℕ) → (fails : Bool) → List Event
-raisedIf k fails = cond fails (raised k ∷ []) []
+-- "makes its step act as a raise": a send of unbound variables, and an expression, with the number that it met
+abbrev pub raisedIf : (k : ℕ) → (number : ℕ) → (fails : Bool) → List Event
+raisedIf k x fails = cond fails (raised k x ∷ []) []
 
-abbrev pub isFault : Value → Bool
-isFault faulting = true
-isFault (value n) = false
+abbrev pub raisedBy : (k : ℕ) → Value → List Event
+raisedBy k (faulting x) = raised k x ∷ []
+raisedBy k (value n) = []
 
 -- what the step of activity k is in the history, by what the activity says of itself and by the order that has the step
 unfoldable pub deedOf : Own → (k : ℕ) → Order → List Event
 deedOf empty k o = []
-deedOf (send p op vs) k o = raisedIf k (not (allBound o vs))
+deedOf (send p op vs) k o = raisedIf k unboundVariable (not (allBound o vs))
 deedOf (receive p op vs) k o = []
-deedOf (setting v e) k o = raisedIf k (isFault (evaluate e o))
-deedOf raise k o = raised k ∷ []
+deedOf (setting v e) k o = raisedBy k (evaluate e o)
+deedOf (raise n) k o = raised k n ∷ []
 deedOf leave k o = left ∷ []
-deedOf (choose e) k o = raisedIf k (isFault (evaluate e o))
-deedOf (repeat e) k o = raisedIf k (isFault (evaluate e o))
+deedOf (choose e) k o = raisedBy k (evaluate e o)
+deedOf (repeat e) k o = raisedBy k (evaluate e o)
 deedOf sequence k o = []
 deedOf flow k o = []
 deedOf pick k o = []
@@ -167,7 +167,7 @@ unfoldable pub clashes : (n : ℕ) → Plan → Moved → List Event
 clashes zero p m = []
 clashes (suc n) p m =
     elim (m .end) [
-      | None ↦ elim (conflict p (m .order)) [ clear ↦ [] | clash k ↦ raised k ∷ clashes n p (acted inPlace p k (m .order)) ]
+      | None ↦ elim (conflict p (m .order)) [ clear ↦ [] | clash k ↦ raised k conflictingReceive ∷ clashes n p (acted inPlace p k (m .order)) ]
       | Well ↦ []
       | Handled ↦ []
       | Failed ↦ []
@@ -281,30 +281,30 @@ placeNow p o t = seen (λ n. not (eqb (markOf n o) idle)) (placeOf p t)
 -- what must happen next
 pub data Due : Type 0 where
   nothing : Due
-  fault : (scope : Name) → Due
+  fault : (scope : Name) → (number : ℕ) → Due
   end : (scope : Name) → Due
 
--- after a raise: the fault of the scope in whose body it was, or the end of the scope that runs the part it was in
-abbrev pub dueFirst : Place → Due
-dueFirst (bodyOf n ns m) = fault n
-dueFirst (faultOf n ns m) = end n
-dueFirst (undoOf n ns m) = end n
+-- After a raise, with its number: the fault of the scope in whose body it was, or the end of the scope that runs the part it was in
+abbrev pub dueFirst : (number : ℕ) → Place → Due
+dueFirst x (bodyOf n ns m) = fault n x
+dueFirst x (faultOf n ns m) = end n
+dueFirst x (undoOf n ns m) = end n
 
--- after that end: the fault of the scope around, where that one may still fault
-abbrev pub dueSecond : (past : List Event) → Place → Due
-dueSecond past (bodyOf n ns m) = nothing
-dueSecond past (faultOf n ns m) = cond (mayTurn (firstOf ns m) past) (fault (firstOf ns m)) nothing
-dueSecond past (undoOf n ns m) = cond (mayTurn (firstOf ns m) past) (fault (firstOf ns m)) nothing
+-- after that end: the fault of the scope around, where that one may still fault, with the number of the same raise
+abbrev pub dueSecond : (number : ℕ) → (past : List Event) → Place → Due
+dueSecond x past (bodyOf n ns m) = nothing
+dueSecond x past (faultOf n ns m) = cond (mayTurn (firstOf ns m) past) (fault (firstOf ns m) x) nothing
+dueSecond x past (undoOf n ns m) = cond (mayTurn (firstOf ns m) past) (fault (firstOf ns m) x) nothing
 
 unfoldable pub dueEnded : Plan → (past : List Event) → Due
 dueEnded p [] = nothing
 dueEnded p (started ∷ past) = nothing
 dueEnded p (began k ∷ past) = nothing
 dueEnded p (closed k ∷ past) = nothing
-dueEnded p (faulted n ∷ past) = nothing
+dueEnded p (faulted n x ∷ past) = nothing
 dueEnded p (stopped k ∷ past) = nothing
 dueEnded p (ended n ∷ past) = nothing
-dueEnded p (raised k ∷ past) = dueSecond past (placeAfter p past k)
+dueEnded p (raised k x ∷ past) = dueSecond x past (placeAfter p past k)
 dueEnded p (left ∷ past) = nothing
 
 unfoldable pub due : Plan → (past : List Event) → Due
@@ -312,42 +312,52 @@ due p [] = nothing
 due p (started ∷ past) = nothing
 due p (began k ∷ past) = nothing
 due p (closed k ∷ past) = nothing
-due p (faulted n ∷ past) = nothing
+due p (faulted n x ∷ past) = nothing
 due p (stopped k ∷ past) = nothing
 due p (ended n ∷ past) = dueEnded p past
-due p (raised k ∷ past) = dueFirst (placeAfter p past k)
+due p (raised k x ∷ past) = dueFirst x (placeAfter p past k)
 due p (left ∷ past) = nothing
 
--- which scope an event faults, and which it ends
+-- which scope an event faults, and with which number; and which it ends
 unfoldable pub isFaultOf : (Name → Bool) → Event → Bool
 isFaultOf f started = false
 isFaultOf f (began k) = false
 isFaultOf f (closed k) = false
-isFaultOf f (faulted n) = f n
+isFaultOf f (faulted n x) = f n
 isFaultOf f (stopped k) = false
 isFaultOf f (ended n) = false
-isFaultOf f (raised k) = false
+isFaultOf f (raised k x) = false
 isFaultOf f left = false
+
+unfoldable pub isFaultWith : Name → (number : ℕ) → Event → Bool
+isFaultWith s y started = false
+isFaultWith s y (began k) = false
+isFaultWith s y (closed k) = false
+isFaultWith s y (faulted n x) = same s n && eqb x y
+isFaultWith s y (stopped k) = false
+isFaultWith s y (ended n) = false
+isFaultWith s y (raised k x) = false
+isFaultWith s y left = false
 
 unfoldable pub isEndOf : Name → Event → Bool
 isEndOf s started = false
 isEndOf s (began k) = false
 isEndOf s (closed k) = false
-isEndOf s (faulted n) = false
+isEndOf s (faulted n x) = false
 isEndOf s (stopped k) = false
 isEndOf s (ended n) = same s n
-isEndOf s (raised k) = false
+isEndOf s (raised k x) = false
 isEndOf s left = false
 
 -- what is due happens next; and no scope faults but where that is due
 abbrev pub heeds : Due → Event → Bool
 heeds nothing e = not (isFaultOf (λ n. true) e)
-heeds (fault s) e = isFaultOf (same s) e
+heeds (fault s x) e = isFaultWith s x e
 heeds (end s) e = isEndOf s e
 
 abbrev pub isNothing : Due → Bool
 isNothing nothing = true
-isNothing (fault s) = false
+isNothing (fault s x) = false
 isNothing (end s) = false
 
 -- a history, oldest first, after a past: each event heeds what is due, and at its end nothing is
@@ -369,10 +379,10 @@ isRaised [] = false
 isRaised (started ∷ past) = false
 isRaised (began k ∷ past) = false
 isRaised (closed k ∷ past) = false
-isRaised (faulted n ∷ past) = false
+isRaised (faulted n x ∷ past) = false
 isRaised (stopped k ∷ past) = false
 isRaised (ended n ∷ past) = false
-isRaised (raised k ∷ past) = true
+isRaised (raised k x ∷ past) = true
 isRaised (left ∷ past) = false
 
 -- how an order ended, by its newest event: its root ended, which had not turned, or had turned and ended right after a raise or not; or it left
@@ -381,11 +391,11 @@ endTold [] = None
 endTold (started ∷ past) = None
 endTold (began k ∷ past) = None
 endTold (closed k ∷ past) = None
-endTold (faulted n ∷ past) = None
+endTold (faulted n x ∷ past) = None
 endTold (stopped k ∷ past) = None
 endTold (ended root ∷ past) = cond (hasTurned root past) (cond (isRaised past) Failed Handled) Well
 endTold (ended (inner k) ∷ past) = None
-endTold (raised k ∷ past) = None
+endTold (raised k x ∷ past) = None
 endTold (left ∷ past) = Left
 
 -- an end, where there is one
@@ -416,6 +426,69 @@ unfoldable pub EndsTold : Type 0
 EndsTold =
     (bytes : List ℕ) (p : Plan) (next : ℕ) → readPlan bytes ≡ found p next → (calls : List Call) (slot : ℕ) (t : Tally) →
     endsIn [] (history calls slot (loaded bytes) t) ≡ endsTaken calls slot (loaded bytes) t
+
+-- NUMBERS. "The desk asks why an order ended handled.": the number that a step answers where it ends its order handled or failed is that of the fault that the
+-- root handled, or that went out of the root, as the history tells it.
+
+-- the number of the fault of a scope since it last began, of which there is one at most
+unfoldable pub numbersTold : Name → Event → List ℕ
+numbersTold s started = []
+numbersTold s (began k) = []
+numbersTold s (closed k) = []
+numbersTold s (faulted n x) = cond (same s n) (x ∷ []) []
+numbersTold s (stopped k) = []
+numbersTold s (ended n) = []
+numbersTold s (raised k x) = []
+numbersTold s left = []
+
+unfoldable pub numberTold : Name → (past : List Event) → ℕ
+numberTold s past = getD (each (numbersTold s) (since s past)) 0 0
+
+-- the number of the newest event, a raise
+unfoldable pub raiseTold : (past : List Event) → ℕ
+raiseTold [] = 0
+raiseTold (started ∷ past) = 0
+raiseTold (began k ∷ past) = 0
+raiseTold (closed k ∷ past) = 0
+raiseTold (faulted n x ∷ past) = 0
+raiseTold (stopped k ∷ past) = 0
+raiseTold (ended n ∷ past) = 0
+raiseTold (raised k x ∷ past) = x
+raiseTold (left ∷ past) = 0
+
+abbrev pub causeBy : (past : List Event) → End → List ℕ
+causeBy past None = []
+causeBy past Well = []
+causeBy past Handled = numberTold root past ∷ []
+causeBy past Failed = raiseTold past ∷ []
+causeBy past Left = []
+
+-- of a history, oldest first, after a past; and of the steps in a slot
+unfoldable pub causesIn : (past : List Event) → List Event → List ℕ
+causesIn past [] = []
+causesIn past (e ∷ l) = causeBy past (endTold (e ∷ past)) ++ causesIn (e ∷ past) l
+
+abbrev pub causeAnswered : (fault : ℕ) → End → List ℕ
+causeAnswered x None = []
+causeAnswered x Well = []
+causeAnswered x Handled = x ∷ []
+causeAnswered x Failed = x ∷ []
+causeAnswered x Left = []
+
+abbrev pub causeOf : (slot : ℕ) → Stepped → List ℕ
+causeOf i r = cond (eqb (r .answer .slot) i) (causeAnswered (r .answer .fault) (r .answer .end)) []
+
+unfoldable pub causesTaken : List Call → (slot : ℕ) → State → Tally → List ℕ
+causesTaken [] i s t = []
+causesTaken (posting m ∷ l) i s t = causesTaken l i (post m s .state) t
+causesTaken (collecting ∷ l) i s t = causesTaken l i (collect s .state) t
+causesTaken (dropping j ∷ l) i s t = causesTaken l i (dropAt j s .state) t
+causesTaken (stepping c ∷ l) i s t = let r = step c s t in causeOf i r ++ causesTaken l i (r .state) (r .tally)
+
+unfoldable pub HandledBecause : Type 0
+HandledBecause =
+    (bytes : List ℕ) (p : Plan) (next : ℕ) → readPlan bytes ≡ found p next → (calls : List Call) (slot : ℕ) (t : Tally) →
+    causesIn [] (history calls slot (loaded bytes) t) ≡ causesTaken calls slot (loaded bytes) t
 
 -- PLACES. In a live order every activity that awaits its step stands where its scope is as it should be: in a body, that scope is open; in a
 -- fault part, it is handling (so that by the lists it has undone all); in an undo part, the scope that runs it is undoing.

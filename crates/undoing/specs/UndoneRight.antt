@@ -20,8 +20,8 @@ use Rattle.machine.specs.Fit.{readyOf}
 use Rattle.machine.specs.Calls.{endNumber, loaded, Call}
 use Rattle.undoing.specs.History.{history}
 use Rattle.undoing.specs.Demand3.{scopesOf, closingsOf, undoneOf, hasTurned, isLeft, mayTurn, noneNow, right}
-use Rattle.undoing.specs.Ties.{orderAfter, isTurned, remembered, isDeed, deedsTaken, placeNow, heedsAfter, endsIn, endsTaken, fits, isStep, movesOn, goIn}
-use Rattle.undoing.specs.Orderly.{orderlyAfter}
+use Rattle.undoing.specs.Ties.{orderAfter, isTurned, remembered, isDeed, deedsTaken, placeNow, heedsAfter, endsIn, endsTaken, causesIn, causesTaken, fits, isStep, movesOn, goIn}
+use Rattle.undoing.specs.Orderly.{isCause, orderlyAfter}
 use Rattle.undoing.specs.Begun.{Taken, isMarked, hasBegun, isLed, ofEach, stepsTaken}
 use Rattle.undoing.specs.Entirely.{ofAll, isOnce, isAfresh, isEntire, isLocal, isAwaited, chained, isStopped, allGoOn}
 use Rattle.undoing.specs.Standing.{stands}
@@ -39,6 +39,8 @@ pub data Named : Type 0 where
   steps : Named
   -- the ends answered are those of the history
   ends : Named
+  -- the numbers answered with these are those of the faults that the root handled, or that went out of it
+  causes : Named
   -- what a step logs as begun, and lasts, is marked after it
   begunTruly : Named
   -- what is marked after a step and did not begin was marked before it
@@ -67,6 +69,8 @@ pub data Named : Type 0 where
   live : Named
   -- the mark of a scope is what the history says of it
   marks : Named
+  -- the root that faulted keeps the number of its fault
+  kept : Named
   -- closings since a scope began are those undone, then those remembered
   lists : Named
   -- what awaits its step stands in a scope that lets it
@@ -87,20 +91,20 @@ pub data Named : Type 0 where
 abbrev pub sameBool : Bool → Bool → Bool
 sameBool a b = cond a b (not b)
 
--- an event as three numbers, so that histories can be compared
+-- an event as four numbers, so that histories can be compared
 abbrev pub nameCode : Name → List ℕ
 nameCode root = 0 ∷ 0 ∷ []
 nameCode (inner k) = 1 ∷ k ∷ []
 
 unfoldable pub eventCode : Event → List ℕ
-eventCode started = 0 ∷ 0 ∷ 0 ∷ []
-eventCode (began k) = 1 ∷ 0 ∷ k ∷ []
-eventCode (closed k) = 2 ∷ 0 ∷ k ∷ []
-eventCode (faulted n) = 3 ∷ nameCode n
-eventCode (stopped k) = 4 ∷ 0 ∷ k ∷ []
-eventCode (ended n) = 5 ∷ nameCode n
-eventCode (raised k) = 6 ∷ 0 ∷ k ∷ []
-eventCode left = 7 ∷ 0 ∷ 0 ∷ []
+eventCode started = 0 ∷ 0 ∷ 0 ∷ 0 ∷ []
+eventCode (began k) = 1 ∷ 0 ∷ 0 ∷ k ∷ []
+eventCode (closed k) = 2 ∷ 0 ∷ 0 ∷ k ∷ []
+eventCode (faulted n x) = 3 ∷ x ∷ nameCode n
+eventCode (stopped k) = 4 ∷ 0 ∷ 0 ∷ k ∷ []
+eventCode (ended n) = 5 ∷ 0 ∷ nameCode n
+eventCode (raised k x) = 6 ∷ x ∷ 0 ∷ k ∷ []
+eventCode left = 7 ∷ 0 ∷ 0 ∷ 0 ∷ []
 
 abbrev pub sameEvents : List Event → List Event → Bool
 sameEvents l m = alike (each eventCode l) (each eventCode m)
@@ -132,16 +136,17 @@ abbrev pub unless : Bool → Named → List Named
 unless true n = []
 unless false n = n ∷ []
 
--- which of the statements a history breaks: of a plan, for what the steps taken are and these ends answered, for these steps with the order
+-- which of the statements a history breaks: of a plan, for what the steps taken are and these ends and numbers of faults answered, for these steps with the order
 -- before and after each time that one goes through it, and where this order stands there now
-unfoldable pub broken : Plan → (deeds : List Event) → (answered : List End) → List Taken → Order → (happened : List Event) → List Named
-broken p ds es ts o l =
+unfoldable pub broken : Plan → (deeds : List Event) → (answered : List End) → (numbers : List ℕ) → List Taken → Order → (happened : List Event) → List Named
+broken p ds es xs ts o l =
     let past = reverse l in
     unless (right p l) demand3
     ++ (unless (orderlyAfter p [] l) orderly
     ++ (unless (heedsAfter p [] l) faults
     ++ (unless (sameEvents (only isDeed l) ds) steps
     ++ (unless (sameEnds (endsIn [] l) es) ends
+    ++ (unless (alike (causesIn [] l) xs) causes
     ++ (unless (every (ofAll isMarked p) ts) begunTruly
     ++ (unless (every (ofEach hasBegun p) ts) begunAll
     ++ (unless (every (ofEach isLed p) ts) begunInTurn
@@ -157,6 +162,7 @@ broken p ds es ts o l =
     ++ (unless (sameBool (isLive o) (not (noneNow past))) live
     ++ cond (isLive o)
     (unless (every (markTold o past) (namesOf p)) marks
+    ++ (unless (isCause o past) kept
     ++ (unless (every (listTold p o past) (namesOf p)) lists
     ++ (unless (every (λ r. fits (placeNow p o (r .activity)) o) (readyOf p o)) places
     ++ (unless (movesOn (rootOf p) (o .root) (o .marks) && (goIn (p .body) 0 (o .marks) && goIn (p .fault) (size (p .body)) (o .marks))) goingOn
@@ -164,12 +170,12 @@ broken p ds es ts o l =
     ++ (unless (isClear (conflict p o)) noneTwice
     ++ (unless (every (isStopped o) (scopesOf p)) stoppedWithin
     ++ (unless (allGoOn p o) toCome
-    ++ unless (stands p o) standing))))))))
-    [])))))))))))))))))
+    ++ unless (stands p o) standing)))))))))
+    []))))))))))))))))))
 
 -- For every accepted plan, every run of posts, collects and choices from a fresh start, and every slot, the history of the slot breaks none.
 unfoldable pub UndoneRight : Type 0
 UndoneRight =
     (bytes : List ℕ) (p : Plan) (next : ℕ) → readPlan bytes ≡ found p next → (calls : List Call) (slot : ℕ) (t : Tally) →
-    broken p (deedsTaken p calls slot (loaded bytes) t) (endsTaken calls slot (loaded bytes) t) (stepsTaken p calls slot (loaded bytes) t) (orderAfter calls slot (loaded bytes) t) (history calls slot (loaded bytes) t)
+    broken p (deedsTaken p calls slot (loaded bytes) t) (endsTaken calls slot (loaded bytes) t) (causesTaken calls slot (loaded bytes) t) (stepsTaken p calls slot (loaded bytes) t) (orderAfter calls slot (loaded bytes) t) (history calls slot (loaded bytes) t)
     ≡ []

@@ -91,7 +91,7 @@ fn put_order(
     order: Order,
 ) -> usize {
     let mut at = put_head(out, used, names, flags, slot, order);
-    at = rows::put_faulted(out, at, table, 256, order.root);
+    at = rows::put_root_faulted(out, at, table, order.root, order.cause);
     at = rows::put_rows(
         out,
         at,

@@ -8,9 +8,11 @@ use drawing::put_byte;
 use drawing::put_next;
 use machine::State;
 use order::Order;
+use order::fault;
 use plan::kind;
 use plan::table::KIND;
 use plan::table::Table;
+use sayings::put_by_fault;
 use telling::put_known;
 use telling::put_sent;
 
@@ -83,36 +85,62 @@ fn has_faulted(mark: u8) -> bool {
     false
 }
 
-// A row by its number, and what its rival is.
-fn put_contested(out: &mut [u8; 4096], used: usize, k: usize, rival: usize) -> usize {
-    let mut at = put(out, used, b" faulted; activities");
+// Row k and its rival, by their numbers.
+fn put_rivals(out: &mut [u8; 4096], used: usize, k: usize, rival: usize) -> usize {
+    let mut at = put(out, used, b"; activities");
     at = put_next(out, at, rival as u64);
     at = put(out, at, b" and");
     at = put_next(out, at, k as u64);
+    put(out, at, b" are for the same thing")
+}
+
+fn put_contested(out: &mut [u8; 4096], used: usize, k: usize, rival: usize) -> usize {
+    let mut at = put(out, used, b" faulted");
+    at = put_rivals(out, at, k, rival);
     put(
         out,
         at,
-        b" are for the same thing, and where both were open that alone faults it\n",
+        b", and where both were open that alone faults it\n",
     )
 }
 
 fn put_scope(out: &mut [u8; 4096], used: usize, n: usize) -> usize {
-    if n < 256 {
-        let at = put(out, used, b"  scope");
-        return put_next(out, at, n as u64);
-    }
-    put(out, used, b"  the root")
+    let at = put(out, used, b"  scope");
+    put_next(out, at, n as u64)
 }
 
-// Scope n, or the root where that is 256, which has this mark: where it has faulted, which receives for one thing it may have faulted by. The state does not
-// keep what a scope faulted by.
-pub(crate) fn put_faulted(
+// Of a conflicting receive, the first two that are for one thing and may have made the root fault.
+fn put_conflict(out: &mut [u8; 4096], used: usize, table: &Table, cause: u8) -> usize {
+    if cause != fault::CONFLICTING_RECEIVE {
+        return used;
+    }
+    let k = checking::contested_in(table, 256);
+    if 255 < k {
+        return used;
+    }
+    put_rivals(out, used, k, checking::rival_of(table, k))
+}
+
+// The root, which has this mark: where it has faulted, by which fault.
+pub(crate) fn put_root_faulted(
     out: &mut [u8; 4096],
     used: usize,
     table: &Table,
-    n: usize,
     mark: u8,
+    cause: u8,
 ) -> usize {
+    if !has_faulted(mark) {
+        return used;
+    }
+    let mut at = put(out, used, b"  the root faulted");
+    at = put_by_fault(out, at, cause);
+    at = put_conflict(out, at, table, cause);
+    put_byte(out, at, 10)
+}
+
+// Scope n, which has this mark: where it has faulted, which receives for one thing it may have faulted by. The state keeps by which fault the root faulted, and
+// not by which a scope did.
+fn put_faulted(out: &mut [u8; 4096], used: usize, table: &Table, n: usize, mark: u8) -> usize {
     if !has_faulted(mark) {
         return used;
     }
@@ -169,14 +197,12 @@ fn put_active(
     match entry(table, n, KIND) {
         kind::SEND => put_send(out, used, names, table, flags, n, state.waiting, order),
         kind::RECEIVE => put_open(out, used, names, table, flags, n, state, order),
-        kind::SET | kind::RAISE | kind::LEAVE | kind::CHOOSE | kind::REPEAT => put_ready(
-            out,
-            used,
-            names,
-            table,
-            flags,
-            n,
-        ),
+        kind::SET
+        | kind::RAISE
+        | kind::NUMBERED_RAISE
+        | kind::LEAVE
+        | kind::CHOOSE
+        | kind::REPEAT => put_ready(out, used, names, table, flags, n),
         _ => used,
     }
 }

@@ -35,7 +35,7 @@ fn put_active(out: &mut [u8; 4096], used: usize, kind: u32) -> usize {
         kind::SEND => put_column(out, used, b"ready to send"),
         kind::RECEIVE | kind::PICK => put_column(out, used, b"waiting for a message"),
         kind::SET => put_column(out, used, b"ready to set"),
-        kind::RAISE => put_column(out, used, b"ready to raise"),
+        kind::RAISE | kind::NUMBERED_RAISE => put_column(out, used, b"ready to raise"),
         kind::LEAVE => put_column(out, used, b"ready to leave"),
         kind::CHOOSE | kind::REPEAT => put_column(out, used, b"ready to decide"),
         kind::SEQUENCE | kind::FLOW | kind::SCOPE | kind::OPEN_SCOPE => put_column(

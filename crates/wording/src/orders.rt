@@ -35,6 +35,14 @@ fn put_root(out: &mut [u8; 4096], used: usize, root: u8) -> usize {
     }
 }
 
+// The fault that the root faulted with, where it has faulted: its mark is then neither free nor running.
+fn put_cause(out: &mut [u8; 4096], used: usize, root: u8, cause: u8) -> usize {
+    if root < 2 {
+        return used;
+    }
+    sayings::put_by_fault(out, used, cause)
+}
+
 // What stands between two of a list.
 fn put_between(out: &mut [u8; 4096], used: usize, i: usize) -> usize {
     if i == 0 {
@@ -128,12 +136,13 @@ fn put_closings(out: &mut [u8; 4096], used: usize, order: Order) -> usize {
     at
 }
 
-// The slot of an order, and how it stands.
+// The slot of an order, how it stands, and by which fault.
 fn put_head(out: &mut [u8; 4096], used: usize, slot: usize, order: Order) -> usize {
     let mut at = put(out, used, b"order");
     at = put_next(out, at, slot as u64);
     at = put_byte(out, at, 32);
-    put_root(out, at, order.root)
+    at = put_root(out, at, order.root);
+    put_cause(out, at, order.root, order.cause)
 }
 
 // A line for a live order.

@@ -57,7 +57,8 @@ parts-ask vars cs t r k next there h =
     finds-cond (eqb k 9) (λ e. finds-found tt) (λ e.
     finds-cond (eqb k 10) (λ e. finds-found tt) (λ e.
     finds-cond (eqb k 11) (λ e. finds-found tt) (λ e.
-    finds-found tt))))))))))))
+    finds-cond (eqb k 12) (λ e. finds-found tt) (λ e.
+    finds-found tt)))))))))))))
 
 head-asks : (vars : ℕ) (cs t : List ℕ) (handler : Bool) (depth n r : ℕ) → Finds (λ h next. AsksOwn (h .own)) (headAt vars cs t handler depth n r)
 unfolding headAt
@@ -141,7 +142,8 @@ own-asked t r empty within x = refl
 own-asked t r (send p o vs) within x = refl
 own-asked t r (receive p o vs) within x = receive-row p o vs (first-row x)
 own-asked t r (set v e) within x = refl
-own-asked t r raise within x = refl
+own-asked t r (raise zero) within x = refl
+own-asked t r (raise (suc n)) within x = refl
 own-asked t r leave within x = refl
 own-asked t r (choose e) within x = refl
 own-asked t r (repeat e) within x = refl

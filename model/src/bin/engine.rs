@@ -62,6 +62,14 @@ fn main() {
     told(&seen, runs >= RUNS);
 }
 
+/// How often each number of a fault was seen.
+fn by_number(seen: &[u64; 6]) -> String {
+    let [plain, unbound, large, below, conflict, numbered] = seen;
+    format!(
+        "0: {plain}, 1: {unbound}, 2: {large}, 3: {below}, 4: {conflict}, 16 to 255: {numbered}"
+    )
+}
+
 /// Prints how often things were seen, and fails where one was not.
 fn told(seen: &Seen, full: bool) {
     let refusals: Vec<String> = (10..=18)
@@ -77,6 +85,13 @@ fn told(seen: &Seen, full: bool) {
         "two receives open for one thing: {} raises, {} steps with several",
         seen.conflicts, seen.many_conflicts
     );
+    println!("ended handled by fault {}", by_number(&seen.handled));
+    println!("failed by fault {}", by_number(&seen.failed));
+    println!(
+        "out of a part of an inner scope went fault {}",
+        by_number(&seen.outward)
+    );
+    println!("absorbed was fault {}", by_number(&seen.absorbed));
     println!(
         "handed on: {} closings, {} closes at 32; {} undo parts started by a scope further out",
         seen.handed, seen.handed_full, seen.through
@@ -118,6 +133,10 @@ fn told(seen: &Seen, full: bool) {
     let missing = seen.refusals[10..].contains(&0)
         || seen.ends.contains(&0)
         || few.contains(&0)
+        || seen.handled.contains(&0)
+        || seen.failed.contains(&0)
+        || seen.outward.contains(&0)
+        || seen.absorbed.contains(&0)
         || seen.paired.contains(&0)
         || seen.scopes[3..].contains(&0);
     if missing {

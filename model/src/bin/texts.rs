@@ -396,7 +396,7 @@ fn damaged(random: &mut Random, text: &str) -> String {
             11 => lines.truncate(at),
             12..=14 => {
                 // a number is another, one that the rules look at
-                const TOLD: [&str; 12] = [
+                const TOLD: [&str; 14] = [
                     "0",
                     "1",
                     "2",
@@ -405,6 +405,8 @@ fn damaged(random: &mut Random, text: &str) -> String {
                     "17",
                     "63",
                     "64",
+                    "255",
+                    "256",
                     "007",
                     "4294967295",
                     "4294967296",
@@ -420,7 +422,7 @@ fn damaged(random: &mut Random, text: &str) -> String {
             }
             15 => {
                 // a variable or a word is added to the end
-                const MORE: [&str; 8] = [
+                const MORE: [&str; 9] = [
                     ", v0",
                     ", v1, v2, v3",
                     " + 1",
@@ -428,6 +430,7 @@ fn damaged(random: &mut Random, text: &str) -> String {
                     ":",
                     " # raise",
                     " raise",
+                    " 17",
                     " )",
                 ];
                 lines[at] += MORE[random.below(MORE.len())];

@@ -270,7 +270,7 @@ fn noise(random: &mut Random) -> Vec<u32> {
     let small = random.percent(70);
     let mut table: Vec<u32> = (0..length)
         .map(|_| match small {
-            true => random.below(14) as u32,
+            true => random.below(17) as u32,
             false => random.value(),
         })
         .collect();
@@ -298,16 +298,26 @@ fn damage(random: &mut Random, table: &mut Vec<u32>) {
     }
     let at = random.below(count);
     let place = at * PLACES + random.below(8);
-    match random.below(14) {
+    match random.below(15) {
         0 => table[place] = random.value(),
         1 => table[place] = table[place].wrapping_add(1),
         2 => table[place] = table[place].wrapping_sub(1),
         3 => table[at * PLACES + random.below(PLACES)] = random.below(70) as u32,
         // Another code, with the row's numbers as they are.
-        4 => table[at * PLACES + 1] = random.below(14) as u32,
+        4 => table[at * PLACES + 1] = random.below(17) as u32,
         // Another row altogether.
         5 => {
-            let rows: [&[u32]; 7] = [&[0], &[4], &[11], &[12], &[1, 0], &[8, 1], &[10, 1]];
+            let rows: [&[u32]; 9] = [
+                &[0],
+                &[4],
+                &[11],
+                &[12],
+                &[1, 0],
+                &[8, 1],
+                &[10, 1],
+                &[13, 16],
+                &[13, 256],
+            ];
             let one = rows::row(rows[random.below(rows.len())]);
             table[at * PLACES..(at + 1) * PLACES].copy_from_slice(&one);
         }
@@ -342,6 +352,15 @@ fn damage(random: &mut Random, table: &mut Vec<u32>) {
                 let to = receives[random.below(last + 1)];
                 table.copy_within(from + 2..from + 4, to + 2);
             }
+        }
+        // A raise with a number on one side of a limit, or with none.
+        13 => {
+            let number = [15, 16, 255, 256, 0, 4][random.below(6)];
+            let mut one = rows::row(&[13, number]);
+            if random.percent(20) {
+                one[0] = 1;
+            }
+            table[at * PLACES..(at + 1) * PLACES].copy_from_slice(&one);
         }
         // A body that is no start form: its first activity made empty.
         _ => {

@@ -23,6 +23,8 @@ itself-spec =
     (λ c κs. search needs)
     -- raises-requires
     (λ c κs. search needs)
+    -- raises-its-number-requires
+    (λ c κs. search needs)
     -- leaves-requires
     (λ c κs. search needs)
     -- chooses-requires
@@ -58,4 +60,6 @@ itself-spec =
     -- returns-11
     (λ c. search cases)
     -- returns-12
+    (λ c. search cases)
+    -- returns-13
     (λ c. search cases))

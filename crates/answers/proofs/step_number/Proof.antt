@@ -13,6 +13,8 @@ step-number-spec =
     (λ c. search needs)
     -- mul-result
     (λ c. search needs)
+    -- cast-result-2
+    (λ c. search needs)
     -- mul-result-2
     (λ c. search needs)
     -- add-result
@@ -25,7 +27,11 @@ step-number-spec =
     (λ c. search needs)
     -- add-result-3
     (λ c. search needs)
+    -- mul-result-5
+    (λ c. search needs)
     -- add-result-4
     (λ c. search needs)
+    -- add-result-5
+    (λ c. search needs)
     -- returns
-    (λ c. let a = c .before in let b = a .before in step-is (b .args .x) (a .end-of .ensures)))
+    (λ c. let a = c .before .before in let b = a .before in step-is (b .args .x) (a .end-of .ensures)))

@@ -11,6 +11,8 @@ faults-spec =
     tie.close (tie.spec
     -- marking-requires
     (λ c κs. search needs)
+    -- causing-requires
+    (λ c κs. search needs)
     -- stop-requires
     (λ c κs. search needs)
     -- turns-requires

@@ -1,14 +1,15 @@
 -- `boundary_state::older::fill` meets its contract. Assumes nothing.
 use borrow.Author.Needs.{needs}
-use Rattle.boundary_state.proofs.Renewing.{Renewing, renewing-starts, renewing-again, renewing-done}
+use Rattle.boundary_state.proofs.Renewing.{Placing, placing-starts, placing-again, placing-done}
 use Prim.Native.Nat.{_-_}
+use Rattle.boundary_state.specs.Older.{byteOf}
 use Rattle.boundary_state.proofs.older.fill.Statement.{statement}
 use Rattle.boundary_state.proofs.older.fill.Tie as tie
 
-ruleset cases = (renewing-starts, renewing-again, renewing-done)
+ruleset cases = (placing-starts, placing-again, placing-done)
 
 abbrev Inv-loop : tie.InvT-loop
-Inv-loop old table state₀ i₀ state i = Renewing old table state i
+Inv-loop old table state₀ i₀ state i = Placing (byteOf old table) 12476 state i
 
 abbrev μ-loop : tie.MeasureT-loop
 μ-loop old table state₀ i₀ state i = 12476 - i

@@ -11,6 +11,6 @@ seal-of-spec =
     tie.close
     (tie.spec
     (λ c. tt)
-    (λ c. sym (length-take-le 17236 (c .before .before .before .args .file .now) (omega arith)))
+    (λ c. let b = c .before .before .before in sym (length-take-le (b .args .end) (b .args .file .now) (omega arith)))
     (λ c κs. search needs)
     (λ c. tt))

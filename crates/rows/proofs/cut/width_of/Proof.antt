@@ -1,10 +1,10 @@
 -- `rows::cut::width_of` meets its contract. Assumes nothing.
 use borrow.Author.Needs.{needs}
-use Rattle.rows.proofs.CutReturns.{width-send, width-receive, width-arm, width-set, width-sequence, width-flow, width-pick, width-code}
+use Rattle.rows.proofs.CutReturns.{width-send, width-receive, width-arm, width-set, width-sequence, width-flow, width-pick, width-raise, width-code}
 use Rattle.rows.proofs.cut.width_of.Statement.{statement}
 use Rattle.rows.proofs.cut.width_of.Tie as tie
 
-ruleset cases = (width-send, width-receive, width-arm, width-set, width-sequence, width-flow, width-pick, width-code)
+ruleset cases = (width-send, width-receive, width-arm, width-set, width-sequence, width-flow, width-pick, width-raise, width-code)
 
 pub width-of-spec : {M : Type 1} → statement M
 width-of-spec =
@@ -36,4 +36,6 @@ width-of-spec =
     -- returns-7
     (λ c. (search cases, search needs))
     -- returns-8
+    (λ c. (search cases, search needs))
+    -- returns-9
     (λ c. (search cases, search needs)))

@@ -1,10 +1,10 @@
 -- `sight::rows::doing_row` meets its contract. Assumes nothing.
 use borrow.Author.Needs.{needs}
-use Rattle.sight.proofs.RowSeen.{send-room, send-held, send-raises, receive-takes, arm-takes, close-held, close-shown, doing-empty, doing-step, doing-none}
+use Rattle.sight.proofs.RowSeen.{send-room, send-held, send-raises, receive-takes, arm-takes, close-held, close-shown, raise-shown, doing-empty, doing-step, doing-none}
 use Rattle.sight.proofs.rows.doing_row.Statement.{statement}
 use Rattle.sight.proofs.rows.doing_row.Tie as tie
 
-ruleset cases = (send-room, send-held, send-raises, receive-takes, arm-takes, close-held, close-shown, doing-empty, doing-step, doing-none)
+ruleset cases = (send-room, send-held, send-raises, receive-takes, arm-takes, close-held, close-shown, raise-shown, doing-empty, doing-step, doing-none)
 
 pub doing-row-spec : {M : Type 1} → statement M
 doing-row-spec =
@@ -49,11 +49,15 @@ doing-row-spec =
     (λ c κs. search needs)
     -- returns-7
     (λ c. search cases)
-    -- returns-8
-    (λ c. search cases)
     -- shown-requires-4
     (λ c κs. search needs)
+    -- returns-8
+    (λ c. search cases)
     -- returns-9
     (λ c. search cases)
+    -- shown-requires-5
+    (λ c κs. search needs)
     -- returns-10
+    (λ c. search cases)
+    -- returns-11
     (λ c. search cases))

@@ -1,10 +1,10 @@
 -- `sight::rows::is_cut` meets its contract. Assumes nothing.
 use borrow.Author.Needs.{needs}
-use Rattle.sight.proofs.Rowed.{cut-raise, cut-leave}
+use Rattle.sight.proofs.Rowed.{cut-raise, cut-numbered, cut-leave}
 use Rattle.sight.proofs.rows.is_cut.Statement.{statement}
 use Rattle.sight.proofs.rows.is_cut.Tie as tie
 
-ruleset cases = (cut-raise, cut-leave)
+ruleset cases = (cut-raise, cut-numbered, cut-leave)
 
 pub is-cut-spec : {M : Type 1} → statement M
 is-cut-spec =
@@ -18,4 +18,6 @@ is-cut-spec =
     -- returns
     (λ c. search cases)
     -- returns-2
+    (λ c. search cases)
+    -- returns-3
     (λ c. search cases))

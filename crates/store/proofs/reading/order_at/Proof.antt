@@ -35,5 +35,9 @@ order-at-spec =
     (λ c. search needs)
     -- eight-at-requires
     (λ c κs. search needs)
+    -- add-cause
+    (λ c. search needs)
+    -- shared-slice-read-cause
+    (λ c. search needs)
     -- returns
-    (λ c. let b = c .before in let d = b .before .before .before in let e = d .before .before .before in let f = e .before .before .before in let g = f .before .before .before in order-is (g .args .s .now) (g .args .at) (f .take-bytes .ensures) (e .take-fours .ensures) (d .take-bytes2 .ensures) (b .closings-at .ensures) (c .eight-at .ensures)))
+    (λ c. let a = c .before in let b = a .before in let d = b .before .before .before in let e = d .before .before .before in let f = e .before .before .before in let g = f .before .before .before in order-is (g .args .s .now) (g .args .at) (f .take-bytes .ensures) (e .take-fours .ensures) (d .take-bytes2 .ensures) (b .closings-at .ensures) (a .eight-at .ensures)))

@@ -8,7 +8,7 @@ use Rattle.store.proofs.reading.orders_at.Statement.{statement}
 use Rattle.store.proofs.reading.orders_at.Tie as tie
 
 abbrev Inv-loop : tie.InvT-loop
-Inv-loop s at out₀ i₀ out i = Reading orderIn 409 16 s at out i
+Inv-loop s at out₀ i₀ out i = Reading orderIn 410 16 s at out i
 
 abbrev μ-loop : tie.MeasureT-loop
 μ-loop s at out₀ i₀ out i = 16 - i

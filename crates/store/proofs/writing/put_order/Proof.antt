@@ -37,7 +37,11 @@ put-order-spec =
     (λ c. search needs)
     -- put-eight-requires
     (λ c κs. let a = c .before .before .before in let b = a .before .before .before .before .before in let d = b .before .before .before .before .before .before in let e = d .before .before .before .before .before .before in let f = e .before .before .before .before .before .before in let g = f .before .before .before in omega (arith, g .pre, f .put-byte .kept, e .put-bytes .kept, d .put-fours .kept, b .put-bytes2 .kept, a .put-closings .kept))
+    -- add-put-byte
+    (λ c. search needs)
+    -- put-byte-requires-2
+    (λ c κs. let z = c .before .before .before in let a = z .before .before .before .before in let b = a .before .before .before .before .before in let d = b .before .before .before .before .before .before in let e = d .before .before .before .before .before .before in let f = e .before .before .before .before .before .before in let g = f .before .before .before in omega (arith, g .pre, f .put-byte .kept, e .put-bytes .kept, d .put-fours .kept, b .put-bytes2 .kept, a .put-closings .kept, z .put-eight .kept))
     -- same-length
-    (λ c. let a = c .before .before in let b = a .before .before .before .before in let d = b .before .before .before .before .before in let e = d .before .before .before .before .before .before in let f = e .before .before .before .before .before .before in let g = f .before .before .before .before .before .before in omega (arith, g .put-byte .kept, f .put-bytes .kept, e .put-fours .kept, d .put-bytes2 .kept, b .put-closings .kept, a .put-eight .kept))
+    (λ c. let y = c .before .before in let z = y .before .before .before .before in let a = z .before .before .before .before in let b = a .before .before .before .before .before in let d = b .before .before .before .before .before .before in let e = d .before .before .before .before .before .before in let f = e .before .before .before .before .before .before in omega (arith, f .put-byte .kept, e .put-bytes .kept, d .put-fours .kept, b .put-bytes2 .kept, a .put-closings .kept, z .put-eight .kept, y .put-byte2 .kept))
     -- returns
-    (λ c. let a = c .before .before in let b = a .before .before .before .before in let d = b .before .before .before .before .before in let e = d .before .before .before .before .before .before in let f = e .before .before .before .before .before .before in let g = f .before .before .before .before .before .before in let h = g .before .before .before in order-put (h .args .o) (order-whole (h .args .o) _ (h .good .1 .1 .0)) (g .put-byte .ensures) (f .put-bytes .ensures) (e .put-fours .ensures) (d .put-bytes2 .ensures) (b .put-closings .ensures) (a .put-eight .ensures)))
+    (λ c. let y = c .before .before in let z = y .before .before .before .before in let a = z .before .before .before .before in let b = a .before .before .before .before .before in let d = b .before .before .before .before .before .before in let e = d .before .before .before .before .before .before in let f = e .before .before .before .before .before .before in let g = f .before .before .before in order-put (g .args .o) (order-whole (g .args .o) _ (g .good .1 .1 .0)) (f .put-byte .ensures) (e .put-bytes .ensures) (d .put-fours .ensures) (b .put-bytes2 .ensures) (a .put-closings .ensures) (z .put-eight .ensures) (y .put-byte2 .ensures)))

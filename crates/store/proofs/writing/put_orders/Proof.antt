@@ -9,7 +9,7 @@ use Rattle.store.proofs.writing.put_orders.Tie as tie
 ruleset cases = (writing-starts, writing-more, writing-ends)
 
 abbrev Inv-loop : tie.InvT-loop
-Inv-loop out₀ at orders i₀ out i = Writing orderBytes 409 out₀ out at orders i
+Inv-loop out₀ at orders i₀ out i = Writing orderBytes 410 out₀ out at orders i
 
 abbrev μ-loop : tie.MeasureT-loop
 μ-loop out₀ at orders i₀ out i = 16 - i
