@@ -70,7 +70,7 @@ const RECEIVE: &[u8] = &[2, 3, 5, 1, 0];
 const THEN: &[u8] = &[8, 2, 2, 3, 5, 1, 0];
 const EMPTY: &[u8] = &[0];
 /// The first code that is none.
-const UNKNOWN: u8 = 14;
+const UNKNOWN: u8 = 15;
 
 /// A plan whose body is a receive and then `activity`, at depth 2 and place 11.
 fn after_receive(activity: &[u8]) -> Vec<u8> {
@@ -93,7 +93,7 @@ struct Holder {
     handler: bool,
 }
 
-const HOLDERS: [Holder; 13] = [
+const HOLDERS: [Holder; 18] = [
     Holder {
         name: "choose, first",
         before: &[6, 0, 0],
@@ -198,6 +198,46 @@ const HOLDERS: [Holder; 13] = [
         scope: true,
         handler: true,
     },
+    Holder {
+        name: "scope with parts by number, body",
+        before: &[14],
+        after: &[1, 16, 0, 0, 0],
+        adds: 4,
+        scope: true,
+        handler: false,
+    },
+    Holder {
+        name: "scope with parts by number, first",
+        before: &[14, 0, 2, 4],
+        after: &[0, 0, 0, 0],
+        adds: 5,
+        scope: true,
+        handler: true,
+    },
+    Holder {
+        name: "scope with parts by number, second",
+        before: &[14, 0, 2, 4, 0, 0],
+        after: &[0, 0],
+        adds: 5,
+        scope: true,
+        handler: true,
+    },
+    Holder {
+        name: "scope with parts by number, general",
+        before: &[14, 0, 1, 0, 0],
+        after: &[0],
+        adds: 4,
+        scope: true,
+        handler: true,
+    },
+    Holder {
+        name: "scope with parts by number, undo",
+        before: &[14, 0, 1, 0, 0, 0],
+        after: &[],
+        adds: 4,
+        scope: true,
+        handler: true,
+    },
 ];
 
 /// `inner` held `times` deep: the bytes, and the place of `inner` in them.
@@ -244,7 +284,7 @@ pub fn every_code() -> Sheet {
     sheet.header(5, &[0, 3]);
     let body = sheet.begin();
     sheet.put(Kind::Code, 8);
-    sheet.put(Kind::ListCount, 12);
+    sheet.put(Kind::ListCount, 13);
 
     let receive = sheet.begin();
     sheet.message(Some(2), 63, 0, &[4, 0, 3, 1]);
@@ -325,6 +365,18 @@ pub fn every_code() -> Sheet {
     one(&mut sheet, 4);
     sheet.end(scope);
 
+    let scope = sheet.begin();
+    sheet.put(Kind::Code, 14);
+    one(&mut sheet, 0);
+    sheet.put(Kind::ListCount, 2);
+    sheet.put(Kind::FaultNumber, 255);
+    one(&mut sheet, 4);
+    sheet.put(Kind::FaultNumber, 2);
+    one(&mut sheet, 5);
+    one(&mut sheet, 0);
+    one(&mut sheet, 0);
+    sheet.end(scope);
+
     one(&mut sheet, 4);
     one(&mut sheet, 5);
     let raise = sheet.begin();
@@ -358,6 +410,7 @@ pub fn all() -> Vec<Case> {
     scopes(&mut cases);
     start_forms(&mut cases);
     raises(&mut cases);
+    parts_by_number(&mut cases);
     orders(&mut cases);
     agreement(&mut cases);
     swaps(&mut cases);
@@ -863,6 +916,7 @@ fn depths(cases: &mut Cases) {
                 (&[UNKNOWN], 4),
                 (&[11, 0, 0, 0], 8),
                 (&[12, 0, 0], 8),
+                (&[14, 0, 0], 8),
                 (&[9, 1, 0], 6),
                 (&[13, 5], 6),
             ] {
@@ -897,6 +951,12 @@ fn depths(cases: &mut Cases) {
         ("flow", &[9, 1], &[], 1),
         ("scope", &[11], &[0, 0], 3),
         ("scope with no undo part", &[12], &[0], 2),
+        (
+            "scope with parts by number",
+            &[14],
+            &[2, 16, 0, 17, 0, 0, 0],
+            5,
+        ),
     ] {
         for times in [15, 16] {
             let bytes = join(&[
@@ -973,6 +1033,7 @@ fn first_of(holder: &Holder) -> usize {
         "choose, second" => 3,
         "sequence, last" => 2,
         "scope, fault" | "scope, undo" | "scope with no undo part, fault" => 1,
+        name if name.starts_with("scope with parts by number") && !name.ends_with("body") => 1,
         _ => holder.before.len(),
     }
 }
@@ -1012,6 +1073,7 @@ fn crowds(cases: &mut Cases) {
         (&[UNKNOWN], 4),
         (&[11, 0, 0, 0], 8),
         (&[12, 0, 0], 8),
+        (&[14, 0, 0], 8),
         (&[0], 6),
         (&[13], 6),
         (&[13, 5], 6),
@@ -1052,6 +1114,7 @@ fn crowds(cases: &mut Cases) {
             (&[0x80, 0x00], 3, 3),
             (&[UNKNOWN], 6, 4),
             (&[13], 6, 6),
+            (&[14], 6, 6),
             (&[12], 6, 6),
             (&[63], 6, 4),
             (&[11], 6, 6),
@@ -1241,10 +1304,13 @@ fn start_forms(cases: &mut Cases) {
             forms.push((join(&[&[9, 3], pick, bytes, RECEIVE]), 5 + count, starts));
             forms.push((join(&[&[11], bytes, EMPTY, EMPTY]), 3 + count, starts));
             forms.push((join(&[&[12], bytes, EMPTY]), 2 + count, starts));
+            forms.push((join(&[&[14], bytes, &[1, 3, 0, 0, 0]]), 4 + count, starts));
             forms.push((join(&[&[10, 1, 0, 0, 1, 0], bytes]), 2 + count, true));
             forms.push((join(&[&[7, 0, 0], bytes]), 1 + count, false));
             forms.push((join(&[&[6, 0, 0], bytes, bytes]), 1 + 2 * count, false));
-            if !bytes.contains(&11) && !bytes.contains(&12) {
+            if !bytes.contains(&11) && !bytes.contains(&12) && !bytes.contains(&14) {
+                let part = join(&[&[14, 0, 1, 3], bytes, RECEIVE, RECEIVE]);
+                forms.push((part, 4 + count, false));
                 forms.push((join(&[&[12], EMPTY, bytes]), 2 + count, false));
                 forms.push((join(&[&[11], EMPTY, bytes, RECEIVE]), 3 + count, false));
             }
@@ -1348,6 +1414,128 @@ fn raises(cases: &mut Cases) {
         "raise with a wrong number as body",
         join(&[HEAD, &[13, 4, 0]]),
         Refused(5, 5),
+    );
+}
+
+/// Document 02, request 4: a scope with one to eight fault parts by number, each of 0 to 4 or 16 to 255 and no two alike.
+fn parts_by_number(cases: &mut Cases) {
+    let legal = |value: u32| value <= 4 || (16..=255).contains(&value);
+    for value in TELLING {
+        let number = spell(value);
+        let name = format!("fault part for {value}");
+        // The number stands at 14, and with another before it at 16.
+        let alone = join(&[&[14, 0, 1], &number, &[0, 0, 0]]);
+        if legal(value) {
+            cases.good(&name, &after_receive(&alone), 8);
+        } else {
+            cases.add(&name, after_receive(&alone), Refused(5, 14));
+            let cut = join(&[HEAD, THEN, &[14, 0, 1], &number]);
+            cases.add(format!("{name}, then no bytes"), cut, Refused(5, 14));
+        }
+        for before in [3u8, 16] {
+            let second = join(&[&[14, 0, 2, before, 0], &number, &[0, 0, 0]]);
+            let answer = if legal(value) && value != u32::from(before) {
+                Accepted(9)
+            } else {
+                Refused(5, 16)
+            };
+            cases.add(
+                format!("{name} behind one for {before}"),
+                after_receive(&second),
+                answer,
+            );
+        }
+        // The count stands at 13.
+        let parts: Vec<u8> = (16..16 + value.min(12) as u8)
+            .flat_map(|n| [n, 0])
+            .collect();
+        let scope = join(&[&[14, 0], &number, &parts, &[0, 0]]);
+        let answer = if (1..=8).contains(&value) {
+            Accepted(7 + value as usize)
+        } else {
+            Refused(5, 13)
+        };
+        cases.add(
+            format!("{value} fault parts by number"),
+            after_receive(&scope),
+            answer,
+        );
+    }
+    for wrong in MISSPELT {
+        let count = join(&[&[14, 0], wrong]);
+        cases.add(
+            format!("{wrong:02x?} fault parts by number"),
+            after_receive(&count),
+            Refused(3, 13),
+        );
+        let number = join(&[&[14, 0, 1], wrong]);
+        cases.add(
+            format!("fault part for {wrong:02x?}"),
+            after_receive(&number),
+            Refused(3, 14),
+        );
+    }
+    // Eight, of which the last is for the number of one before it.
+    for (at, twice) in (0..8u8).zip([0, 1, 2, 3, 4, 16, 17, 18]) {
+        let numbers = [0, 1, 2, 3, 4, 16, 17];
+        let mut parts: Vec<u8> = numbers.iter().flat_map(|&n| [n, 0]).collect();
+        parts.extend([twice, 0]);
+        let scope = join(&[&[14, 0, 8], &parts, &[0, 0]]);
+        let answer = if at == 7 {
+            Accepted(15)
+        } else {
+            Refused(5, 28)
+        };
+        cases.add(
+            format!("eight fault parts, the last for {twice}"),
+            after_receive(&scope),
+            answer,
+        );
+    }
+    // The body comes before the count, and a part before the next number.
+    for (name, bytes, number, place) in [
+        ("bad body and bad count", &[14, UNKNOWN, 0][..], 4, 12),
+        ("bad count and bad number", &[14, 0, 9, 5], 5, 13),
+        ("bad number and bad part", &[14, 0, 1, 5, UNKNOWN], 5, 14),
+        (
+            "bad part and bad number",
+            &[14, 0, 2, 16, UNKNOWN, 5],
+            4,
+            15,
+        ),
+        (
+            "scope in a part by number",
+            &[14, 0, 1, 16, 12, 0, 0],
+            8,
+            15,
+        ),
+        (
+            "scope in the second part",
+            &[14, 0, 2, 16, 0, 17, 14],
+            8,
+            17,
+        ),
+        ("scope in the general part", &[14, 0, 1, 16, 0, 11], 8, 16),
+        ("scope in the undo part", &[14, 0, 1, 16, 0, 0, 14], 8, 17),
+    ] {
+        cases.add(name, after_receive(bytes), Refused(number, place));
+    }
+    cases.good(
+        "scopes with parts by number, in each other and beside one another",
+        &after_receive(&[
+            14, 8, 2, 14, 0, 1, 16, 0, 0, 0, 12, 14, 4, 1, 0, 5, 0, 0, 0, 2, 16, 0, 17, 0, 0, 0,
+        ]),
+        21,
+    );
+    cases.add(
+        "scope with parts by number as root fault part",
+        as_fault(&[14, 0, 1, 16, 0, 0, 0]),
+        Refused(8, 9),
+    );
+    cases.add(
+        "scope with parts by number and no undo part",
+        after_receive(&[14, 0, 1, 16, 0, 0]),
+        Refused(2, 18),
     );
 }
 

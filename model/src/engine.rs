@@ -25,6 +25,9 @@ pub struct Taken {
     /// How many faults went out of a part of an inner scope, and how many were absorbed.
     pub outward: Faults,
     pub absorbed: Faults,
+    /// How many fault parts by number it began, and how many general ones of scopes that have some.
+    pub by_number: usize,
+    pub general: usize,
     /// How many undo parts it started, how many of them for a scope further out than the nearest, and how many closings it handed on.
     pub undone: usize,
     pub through: usize,
@@ -237,8 +240,8 @@ fn acts(plan: &Plan, state: &State, order: &Order, k: usize, held: &mut Held) ->
             held.sends += usize::from(full);
             !full
         }
-        Kind::Scope(undo) if mark == DONE => {
-            let full = undo && kept_after_close(plan, order, k) > REMEMBERED;
+        Kind::Scope(handlers) if mark == DONE => {
+            let full = handlers.undo && kept_after_close(plan, order, k) > REMEMBERED;
             held.closes += usize::from(full);
             !full
         }
@@ -257,7 +260,7 @@ fn starts(plan: &Plan, state: &State, fewest: &[Option<usize>], offer: &mut Offe
         if fewest[place].is_some() {
             continue;
         }
-        for k in 0..plan.fault(None) {
+        for k in 0..plan.body_end(None) {
             let fit = open(plan, &order, k).and_then(|tuple| fits(plan, &order, &tuple, message));
             match (fit, free) {
                 (Some(_), Some(slot)) => offer.steps.push(Step {
@@ -311,6 +314,8 @@ fn take(plan: &Plan, state: &mut State, step: Step, tally: &mut Tally) -> Taken 
         mut fault,
         mut outward,
         mut absorbed,
+        mut by_number,
+        mut general,
         mut undone,
         mut through,
         handed,
@@ -330,6 +335,8 @@ fn take(plan: &Plan, state: &mut State, step: Step, tally: &mut Tally) -> Taken 
             outward[number] += running.outward[number];
             absorbed[number] += running.absorbed[number];
         }
+        by_number += running.by_number;
+        general += running.general;
         undone += running.undone;
         through += running.through;
         conflicts += 1;
@@ -344,6 +351,8 @@ fn take(plan: &Plan, state: &mut State, step: Step, tally: &mut Tally) -> Taken 
         fault,
         outward,
         absorbed,
+        by_number,
+        general,
         undone,
         through,
         handed,

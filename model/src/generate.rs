@@ -222,6 +222,19 @@ impl Writer<'_> {
         }
     }
 
+    /// The number of a fault part, which is none of those before it.
+    fn part_number(&mut self, before: &[u32]) -> u32 {
+        loop {
+            let number = match self.random.below(2) {
+                0 => self.random.below(5) as u32,
+                _ => self.fault_number(),
+            };
+            if !before.contains(&number) || self.slip() {
+                return number;
+            }
+        }
+    }
+
     /// Random counts, each from `low` to `high`, that add up to `total`.
     fn split(&mut self, total: usize, into: usize, low: usize, high: usize) -> Vec<usize> {
         let mut shares = vec![low; into];
@@ -374,7 +387,7 @@ impl Writer<'_> {
         let inside = count - 1;
         let high = room(self.shape.max_depth - depth);
         loop {
-            let code = self.random.from_to(6, 12) as u32;
+            let code = [6, 7, 8, 9, 10, 11, 12, 14][self.random.below(8)];
             match code {
                 6 if !start && inside >= 2 && inside <= 2 * high => {
                     let shares = self.split(inside, 2, 1, high);
@@ -423,6 +436,28 @@ impl Writer<'_> {
                     self.activity(shares[0], depth + 1, false, start);
                     self.activity(shares[1], depth + 1, true, false);
                     self.activity(shares[2], depth + 1, true, false);
+                }
+                14 if inside >= 4 && inside <= 11 * high && (!handler || self.slip()) => {
+                    let least = inside.div_ceil(high).saturating_sub(3).max(1);
+                    let count = self.random.from_to(least, (inside - 3).min(8));
+                    let shares = self.split(inside, count + 3, 1, high);
+                    self.sheet.put(Kind::Code, 14);
+                    self.activity(shares[0], depth + 1, false, start);
+                    let told = if self.slip() {
+                        9 * (count as u32 & 1)
+                    } else {
+                        count as u32
+                    };
+                    self.sheet.put(Kind::ListCount, told);
+                    let mut numbers = Vec::new();
+                    for &share in &shares[1..=count] {
+                        let number = self.part_number(&numbers);
+                        numbers.push(number);
+                        self.sheet.put(Kind::FaultNumber, number);
+                        self.activity(share, depth + 1, true, false);
+                    }
+                    self.activity(shares[count + 1], depth + 1, true, false);
+                    self.activity(shares[count + 2], depth + 1, true, false);
                 }
                 12 if inside >= 2 && inside <= 2 * high && (!handler || self.slip()) => {
                     let shares = self.split(inside, 2, 1, high);

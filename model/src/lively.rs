@@ -3,6 +3,12 @@
 use crate::generate::{Kind, Random, Sheet};
 use crate::reader;
 
+/// A scope that was begun: whether it has an undo part, and the numbers that it has a fault part for.
+struct Begun {
+    undo: bool,
+    numbers: Vec<usize>,
+}
+
 struct Writer<'a> {
     random: &'a mut Random,
     sheet: Sheet,
@@ -93,19 +99,49 @@ impl Writer<'_> {
         }
     }
 
-    /// A scope's code: with no undo part by this chance. Answers whether it has one.
-    fn scope(&mut self, bare: usize) -> bool {
-        let undo = !self.random.percent(bare);
-        self.code(if undo { 11 } else { 12 });
-        undo
+    /// A scope's code: with no undo part by this chance, and with fault parts by number now and then.
+    fn scope(&mut self, bare: usize) -> Begun {
+        let mut begun = Begun {
+            undo: !self.random.percent(bare),
+            numbers: Vec::new(),
+        };
+        if begun.undo && self.random.percent(35) {
+            for _ in 0..[1, 2, 2, 3, 8][self.random.below(5)] {
+                let number = match self.random.below(3) {
+                    0 => self.random.below(5),
+                    _ => self.number(),
+                };
+                if !begun.numbers.contains(&number) {
+                    begun.numbers.push(number);
+                }
+            }
+        }
+        self.code(match (begun.undo, begun.numbers.is_empty()) {
+            (false, _) => 12,
+            (true, true) => 11,
+            (true, false) => 14,
+        });
+        begun
+    }
+
+    /// The fault parts by number, behind the body of a scope that has some.
+    fn by_number(&mut self, begun: &Begun, depth: u32) {
+        if begun.numbers.is_empty() {
+            return;
+        }
+        self.sheet.put(Kind::ListCount, begun.numbers.len() as u32);
+        for &number in &begun.numbers {
+            self.sheet.put(Kind::FaultNumber, number as u32);
+            let size = self.random.from_to(1, 3);
+            self.activity(size, depth + 1, true);
+        }
     }
 
     /// A body that closes scopes again and again, for itself or within a scope.
     fn closings(&mut self) {
         self.list(8, 3);
         self.start(1, 2);
-        let within = self.random.percent(50);
-        let undo = within && self.scope(40);
+        let within = self.random.percent(50).then(|| self.scope(40));
         self.code(7);
         self.sheet.put(Kind::Form, 0);
         self.sheet.put(Kind::Constant, 1);
@@ -115,11 +151,12 @@ impl Writer<'_> {
             self.small_scopes(5);
         }
         self.small_scopes(5);
-        if within {
+        if let Some(begun) = within {
+            self.by_number(&begun, 3);
             self.activity(2, 3, true);
-        }
-        if undo {
-            self.activity(2, 3, true);
+            if begun.undo {
+                self.activity(2, 3, true);
+            }
         }
         self.activity(3, 2, false);
     }
@@ -141,7 +178,7 @@ impl Writer<'_> {
 
     /// A scope with scopes side by side in it, some of which close and some of which fault.
     fn storm(&mut self, levels: usize, depth: u32) {
-        let undo = self.scope(35);
+        let begun = self.scope(35);
         let count = self.random.from_to(2, 3);
         let code = if self.random.percent(75) { 9 } else { 8 };
         self.list(code, count);
@@ -157,8 +194,9 @@ impl Writer<'_> {
                 _ => self.ending(),
             }
         }
+        self.by_number(&begun, depth);
         self.chores(15);
-        if undo {
+        if begun.undo {
             self.chores(15);
         }
     }
@@ -195,24 +233,30 @@ impl Writer<'_> {
         if self.random.percent(40) {
             return self.code(4);
         }
-        let number = match self.random.below(3) {
-            0 => self.random.from_to(16, 255),
-            _ => [16, 17, 18, 255][self.random.below(4)],
-        };
+        let number = self.number();
         self.code(13);
         self.sheet.put(Kind::FaultNumber, number as u32);
     }
 
+    /// One that a raise may have, most often one of a few.
+    fn number(&mut self) -> usize {
+        match self.random.below(3) {
+            0 => self.random.from_to(16, 255),
+            _ => [16, 17, 18, 255][self.random.below(4)],
+        }
+    }
+
     fn small_scope(&mut self, depth: u32) {
-        let undo = self.scope(10);
+        let begun = self.scope(10);
         if self.random.percent(60) {
             self.chores(0);
         } else {
             let size = self.random.from_to(1, 3);
             self.activity(size, depth + 1, false);
         }
+        self.by_number(&begun, depth);
         self.activity(1, depth + 1, true);
-        if !undo {
+        if !begun.undo {
             return;
         }
         if self.random.percent(50) {
@@ -245,10 +289,11 @@ impl Writer<'_> {
             }
             6 | 7 => self.pick(size, depth, false),
             _ => {
-                let undo = self.scope(35);
+                let begun = self.scope(35);
                 self.start(size / 2, depth + 1);
+                self.by_number(&begun, depth);
                 self.activity(size / 4, depth + 1, true);
-                if undo {
+                if begun.undo {
                     self.activity(size / 4, depth + 1, true);
                 }
             }
@@ -281,9 +326,10 @@ impl Writer<'_> {
             }
             53..=59 => self.pick(size, depth, handler),
             _ => {
-                let undo = self.scope(35);
+                let begun = self.scope(35);
                 self.activity(size.saturating_sub(3), depth + 1, false);
-                for _ in 0..1 + usize::from(undo) {
+                self.by_number(&begun, depth);
+                for _ in 0..1 + usize::from(begun.undo) {
                     // Handlers that take a while are left to finish by faults around them.
                     let size = self.random.from_to(1, 4);
                     self.activity(size, depth + 1, true);

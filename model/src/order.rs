@@ -25,6 +25,9 @@ pub struct Running<'a> {
     /// How many faults went out of a part of an inner scope, and how many were absorbed.
     pub outward: Faults,
     pub absorbed: Faults,
+    /// How many fault parts by number were begun, and how many general ones of scopes that have some.
+    pub by_number: usize,
+    pub general: usize,
     /// How many undo parts were started.
     pub undone: usize,
     /// How many of these by a scope further out than the nearest.
@@ -44,6 +47,8 @@ impl Running<'_> {
             fault: None,
             outward: [0; 6],
             absorbed: [0; 6],
+            by_number: 0,
+            general: 0,
             undone: 0,
             through: 0,
             handed: 0,
@@ -60,6 +65,11 @@ impl Running<'_> {
             None => self.order.root = mark,
             Some(s) => self.order.marks[s] = mark,
         }
+    }
+
+    /// Another mark, with the fault part that the scope chose as it was.
+    fn go_to(&mut self, scope: Scope, mark: u8) {
+        self.set_mark(scope, self.mark(scope) & 0xF0 | mark);
     }
 
     /// Begins an activity. Answers whether it is over at once.
@@ -116,7 +126,7 @@ impl Running<'_> {
             Part::Within(around) => self.over_within(k, around),
             Part::Body(None) if self.order.root == ACTIVE => self.end = Some(End::Well),
             Part::Body(Some(s)) if self.order.marks[s] == ACTIVE => self.order.marks[s] = DONE,
-            Part::Fault(scope) if self.mark(scope) == HANDLING => self.finish(scope),
+            Part::Fault(scope) if bare(self.mark(scope)) == HANDLING => self.finish(scope),
             Part::Undo(s) => match self.runner(s) {
                 Ok(scope) => self.undo_on(scope),
                 Err(asked) => self.unheard = Some((s, asked)),
@@ -264,7 +274,7 @@ impl Running<'_> {
         {
             scope = self.plan.activities[around].around;
         }
-        match self.mark(scope) {
+        match bare(self.mark(scope)) {
             UNDOING | STOPPED_UNDOING => Ok(scope),
             _ => Err(scope),
         }
@@ -279,7 +289,7 @@ impl Running<'_> {
                 Part::Within(around) => at = around,
                 Part::Body(scope) => return self.fault(scope, number),
                 Part::Fault(scope) => {
-                    if self.mark(scope) == HANDLING {
+                    if bare(self.mark(scope)) == HANDLING {
                         self.break_off(scope, number);
                     }
                     return;
@@ -308,7 +318,8 @@ impl Running<'_> {
     fn fault(&mut self, scope: Scope, number: Fault) {
         if matches!(self.mark(scope), ACTIVE | DONE) {
             self.stop(self.plan.body(scope));
-            self.set_mark(scope, FAULTED);
+            let choice = self.plan.choice(scope, number) as u8;
+            self.set_mark(scope, choice << 4 | FAULTED);
             if scope.is_none() {
                 self.order.cause = number;
             }
@@ -362,20 +373,20 @@ impl Running<'_> {
     /// Whether one of the scopes directly within a scope runs.
     fn inner_runs(&self, scope: Scope) -> bool {
         let plan = self.plan;
-        (plan.body(scope)..plan.fault(scope)).any(|k| {
+        (plan.body(scope)..plan.body_end(scope)).any(|k| {
             plan.is_scope(k) && plan.activities[k].around == scope && self.order.marks[k] != IDLE
         })
     }
 
     /// A scope that waits for inner scopes undoes, once none of them runs.
     fn settle(&mut self, scope: Scope) {
-        let next = match self.mark(scope) {
+        let next = match bare(self.mark(scope)) {
             FAULTED => UNDOING,
             STOPPED => STOPPED_UNDOING,
             _ => return,
         };
         if self.end.is_none() && !self.inner_runs(scope) {
-            self.set_mark(scope, next);
+            self.go_to(scope, next);
             self.undo_on(scope);
         }
     }
@@ -399,9 +410,13 @@ impl Running<'_> {
         if !self.undo(scope) {
             return;
         }
-        if self.mark(scope) == UNDOING {
-            self.set_mark(scope, HANDLING);
-            if !self.begin(self.plan.fault(scope)) {
+        if bare(self.mark(scope)) == UNDOING {
+            self.go_to(scope, HANDLING);
+            let choice = choice(self.mark(scope));
+            let numbers = self.plan.numbers(scope).len();
+            self.by_number += usize::from((1..=numbers).contains(&choice));
+            self.general += usize::from(choice == 0 && numbers > 0);
+            if !self.begin(self.plan.fault(scope, choice)) {
                 return;
             }
         }

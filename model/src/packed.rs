@@ -142,7 +142,7 @@ fn part_around(plan: Option<&Plan>, k: usize) -> u8 {
         let before = 0..k.min(plan.count());
         before
             .rev()
-            .find(|&s| plan.has_undo(s) && k < plan.end(s))
+            .find(|&s| plan.has_undo(s) && plan.numbers(Some(s)).is_empty() && k < plan.end(s))
             .map(|s| s + 1)
     };
     plan.and_then(around).unwrap_or(0) as u8

@@ -20,8 +20,22 @@ pub enum Kind {
     Flow,
     Pick,
     Arm(Tuple),
-    /// Whether it has an undo part.
-    Scope(bool),
+    Scope(Handlers),
+}
+
+/// What a scope has behind its body: fault parts by number, one for any other fault, and an undo part or none.
+#[derive(Clone, Copy, Debug, Default, PartialEq, Eq)]
+pub struct Handlers {
+    pub undo: bool,
+    count: usize,
+    numbers: [Fault; 8],
+}
+
+impl Handlers {
+    /// The numbers that it has a fault part for, in file order.
+    pub fn numbers(&self) -> &[Fault] {
+        &self.numbers[..self.count]
+    }
 }
 
 /// Partner, operation and variables of a send, receive or arm.
@@ -79,8 +93,8 @@ pub const BELOW_ZERO: Fault = 3;
 pub const CONFLICT: Fault = 4;
 
 /// Whether a fault may have this number.
-pub fn is_fault(number: u8) -> bool {
-    number <= CONFLICT || number >= 16
+pub fn is_fault(number: u32) -> bool {
+    number <= u32::from(CONFLICT) || (16..=255).contains(&number)
 }
 
 impl Plan {
@@ -129,13 +143,41 @@ impl Plan {
         scope.map_or(0, |s| s + 1)
     }
 
-    pub fn fault(&self, scope: Scope) -> usize {
+    pub fn body_end(&self, scope: Scope) -> usize {
         self.end(self.body(scope))
+    }
+
+    /// The numbers that a scope has a fault part for. The root has none.
+    pub fn numbers(&self, scope: Scope) -> &[Fault] {
+        match scope.and_then(|s| self.activities.get(s)) {
+            Some(Activity {
+                kind: Kind::Scope(handlers),
+                ..
+            }) => handlers.numbers(),
+            _ => &[],
+        }
+    }
+
+    /// Which fault part is for a fault of this number: the i-th of those by number, or 0 for the general one.
+    pub fn choice(&self, scope: Scope, number: Fault) -> usize {
+        let equal = self.numbers(scope).iter().position(|&each| each == number);
+        equal.map_or(0, |at| at + 1)
+    }
+
+    /// The fault part of this choice; the general one where there is no such part.
+    pub fn fault(&self, scope: Scope, choice: usize) -> usize {
+        let many = self.numbers(scope).len();
+        let before = if (1..=many).contains(&choice) {
+            choice - 1
+        } else {
+            many
+        };
+        (0..before).fold(self.body_end(scope), |part, _| self.end(part))
     }
 
     /// The undo part of a scope that has one.
     pub fn undo(&self, scope: usize) -> usize {
-        self.end(self.fault(Some(scope)))
+        self.end(self.fault(Some(scope), 0))
     }
 
     pub fn is_scope(&self, k: usize) -> bool {
@@ -143,7 +185,7 @@ impl Plan {
     }
 
     pub fn has_undo(&self, k: usize) -> bool {
-        k < self.count() && self.kind(k) == Kind::Scope(true)
+        k < self.count() && matches!(self.kind(k), Kind::Scope(Handlers { undo: true, .. }))
     }
 
     /// Whether the undo part of k may be one that `scope` runs: k stands directly inside it, or in scopes that have none and do.
@@ -250,14 +292,25 @@ impl Reading {
                 inside = self.number();
                 Kind::Pick
             }
-            _ => Kind::Scope(code == 11),
+            _ => Kind::Scope(Handlers {
+                undo: code != 12,
+                ..Handlers::default()
+            }),
         };
         let k = self.add(kind, part, around);
         match kind {
-            Kind::Scope(undo) => {
+            Kind::Scope(mut handlers) => {
                 self.activity(Part::Body(Some(k)), Some(k));
+                if code == 14 {
+                    handlers.count = self.number();
+                    for at in 0..handlers.count {
+                        handlers.numbers[at] = self.number() as Fault;
+                        self.activity(Part::Fault(Some(k)), Some(k));
+                    }
+                    self.plan.activities[k].kind = Kind::Scope(handlers);
+                }
                 self.activity(Part::Fault(Some(k)), Some(k));
-                if undo {
+                if handlers.undo {
                     self.activity(Part::Undo(k), Some(k));
                 }
             }

@@ -1,5 +1,7 @@
 //! The model of the plan reader: one pass over the bytes, written from document 01 and from requests 4, 8 and 13 of document 02.
 
+use crate::plan::is_fault;
+
 pub const MAX_BYTES: usize = 4096;
 pub const MAX_ACTIVITIES: usize = 256;
 pub const MAX_DEPTH: u32 = 16;
@@ -207,10 +209,10 @@ impl<N: Numbers> Reading<'_, N> {
     fn activity(&mut self, depth: u32, handler: bool) -> Result<bool, Refusal> {
         let start = self.place;
         let code = self.number()?;
-        if code > 13 {
+        if code > 14 {
             return refuse(4, start);
         }
-        if matches!(code, 11 | 12) && handler {
+        if matches!(code, 11 | 12 | 14) && handler {
             return refuse(8, start);
         }
         if depth > MAX_DEPTH {
@@ -286,6 +288,24 @@ impl<N: Numbers> Reading<'_, N> {
                 if code == 11 {
                     self.activity(depth + 1, true)?;
                 }
+                body
+            }
+            // scope with fault parts by number
+            14 => {
+                let body = self.activity(depth + 1, false)?;
+                let count = self.within(1, 8)?;
+                let mut numbers = Vec::new();
+                for _ in 0..count {
+                    let place = self.place;
+                    let number = self.number()?;
+                    if !is_fault(number) || numbers.contains(&number) {
+                        return refuse(5, place);
+                    }
+                    numbers.push(number);
+                    self.activity(depth + 1, true)?;
+                }
+                self.activity(depth + 1, true)?;
+                self.activity(depth + 1, true)?;
                 body
             }
             // a raise with its number

@@ -1,7 +1,10 @@
 //! The model of the plan writer, written from document 02's first request and from what a row is
 //! (docs/DECISIONS.md): 20 places, the first of which says how many numbers the row has; then
-//! these numbers as the file has them; then 0.
+//! these numbers as the file has them; then 0. A scope with fault parts by number has all its own
+//! numbers in its row, though its parts stand between them in the file; they are looked at where
+//! the file has them.
 
+use crate::plan::is_fault;
 use crate::reader::{
     MAX_ACTIVITIES, MAX_BYTES, MAX_DEPTH, MAX_EXPRESSION_DEPTH, Refusal, read, read_number,
 };
@@ -128,6 +131,19 @@ impl Cutting<'_> {
             13 => {
                 let number = self.number();
                 self.put(&[code, number]);
+            }
+            14 => {
+                let at = self.table.len();
+                self.put(&[code]);
+                self.activity();
+                let mut numbers = vec![code, self.number()];
+                for _ in 0..numbers[1] {
+                    numbers.push(self.number());
+                    self.activity();
+                }
+                self.activity();
+                self.activity();
+                self.table[at..at + PLACES].copy_from_slice(&row(&numbers));
             }
             _ => {
                 self.put(&[code]);
@@ -278,10 +294,10 @@ impl<'a> Rows<'a> {
     fn activity(&mut self, level: u32, handler: bool) -> Result<bool, Refusal> {
         let (at, row) = self.row()?;
         let code = row[1];
-        if code > 13 {
+        if code > 14 {
             return refuse(4, at);
         }
-        let scope = code == 11 || code == 12;
+        let scope = matches!(code, 11 | 12 | 14);
         if scope && handler {
             return refuse(8, at);
         }
@@ -289,6 +305,9 @@ impl<'a> Rows<'a> {
             return refuse(6, at);
         }
         self.count += 1;
+        if code == 14 {
+            return self.scope_by_numbers(at, row, level);
+        }
         let most = if code == 10 { 8 } else { 32 };
         let legal = match code {
             1 | 2 => row[2] < 64 && self.exchange(row, 3, code == 2),
@@ -329,6 +348,31 @@ impl<'a> Rows<'a> {
             9 => starts.iter().all(|&start| start),
             _ => false,
         })
+    }
+
+    /// A scope with fault parts by number, behind its code.
+    fn scope_by_numbers(&mut self, at: usize, row: &[u32], level: u32) -> Result<bool, Refusal> {
+        spell(row[1], &mut self.bytes);
+        let starts = self.activity(level + 1, false)?;
+        let count = row[2] as usize;
+        let whole = (1..=8).contains(&count)
+            && row[0] as usize == 2 + count
+            && row[3 + count..].iter().all(|&place| place == 0);
+        if !whole {
+            return refuse(5, at);
+        }
+        spell(row[2], &mut self.bytes);
+        let numbers = &row[3..3 + count];
+        for (i, &number) in numbers.iter().enumerate() {
+            if !is_fault(number) || numbers[..i].contains(&number) {
+                return refuse(5, at);
+            }
+            spell(number, &mut self.bytes);
+            self.activity(level + 1, true)?;
+        }
+        self.activity(level + 1, true)?;
+        self.activity(level + 1, true)?;
+        Ok(starts)
     }
 
     fn arm(&mut self) -> Result<(), Refusal> {
@@ -435,6 +479,48 @@ mod tests {
             };
             assert_eq!(write(&plan(raise), &mut out[..0]), Err(refused));
         }
+    }
+
+    #[test]
+    fn scopes_with_fault_parts_by_number() {
+        let plan = |scope: &[u32], body: &[u32], part: &[u32]| -> Vec<u32> {
+            let front: [&[u32]; 4] = [&[1, 2, 0], &[8, 2], &[2, 3, 5, 1, 0], scope];
+            let parts: [&[u32]; 6] = [body, &[4], part, &[5], &[0], &[0]];
+            front
+                .iter()
+                .chain(&parts)
+                .flat_map(|&some| row(some))
+                .collect()
+        };
+        let bytes = [
+            1, 2, 0, 8, 2, 2, 3, 5, 1, 0, 14, 0, 2, 16, 4, 3, 13, 255, 1, 5, 0, 0,
+        ];
+        let table = plan(&[14, 2, 16, 3], &[0], &[13, 255]);
+        assert_eq!(table_of(&bytes), Ok(table.clone()));
+        let mut out = [9; 22];
+        assert_eq!(write(&table, &mut out), Ok(22));
+        assert_eq!(out, bytes);
+        let refused = |table: &[u32], number, place| {
+            assert_eq!(write(table, &mut []), Err(Refusal { number, place }));
+        };
+        for scope in [
+            &[14, 2, 16, 16][..],
+            &[14, 2, 16, 5],
+            &[14, 2, 16, 256],
+            &[14, 2, 16],
+            &[14, 2, 16, 3, 0],
+            &[14, 9, 16, 3],
+            &[14, 0],
+            &[14],
+        ] {
+            refused(&plan(scope, &[0], &[0]), 5, 3);
+            // The body comes before them.
+            refused(&plan(scope, &[15], &[0]), 4, 4);
+        }
+        // And a part before the number behind it.
+        refused(&plan(&[14, 2, 5, 3], &[0], &[15]), 5, 3);
+        refused(&plan(&[14, 3, 16, 3, 5], &[0], &[15]), 4, 6);
+        refused(&plan(&[14, 2, 16, 3], &[0], &[12]), 8, 6);
     }
 
     #[test]

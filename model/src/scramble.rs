@@ -77,7 +77,13 @@ fn fault(random: &mut Random) -> Fault {
 
 fn mark(random: &mut Random, plan: &Plan, k: usize) -> u8 {
     if plan.is_scope(k) || random.percent(20) {
-        random.below(9) as u8
+        let mark = random.below(9) as u8;
+        // With a choice that the scope may not have.
+        let most = match mark {
+            FAULTED | UNDOING | HANDLING => [0, plan.numbers(Some(k)).len(), 8][random.below(3)],
+            _ => 0,
+        };
+        (random.from_to(0, most) as u8) << 4 | mark
     } else {
         [IDLE, ACTIVE, ACTIVE, INSIDE][random.below(4)]
     }
@@ -206,7 +212,13 @@ fn beyond(random: &mut Random, state: &mut State) {
         0 => order.root = [2, 3, 7, 8, 9, 255][random.below(6)],
         // On both sides of the limit.
         10 => order.cause = [4, 5, 6, 14, 15, 16][random.below(6)],
-        1 => order.marks[random.below(MARKS)] = [9, 10, 128, 255][random.below(4)],
+        // On both sides of the limit: choices beside what has none, and a ninth.
+        1 => {
+            let marks = [
+                9, 10, 15, 0x10, 0x11, 0x17, 0x18, 0x80, 0x84, 0x86, 0x94, 0xF5, 0xFF,
+            ];
+            order.marks[random.below(MARKS)] = marks[random.below(marks.len())];
+        }
         2 => order.bound[random.below(16)] = [2, 3, 255][random.below(3)],
         3 => order.kept = [33, 34, 256, u64::MAX][random.below(4)],
         4 => state.waiting = [65, 66, 256, u64::MAX][random.below(4)],

@@ -17,7 +17,8 @@ pub const ACTIVE: u8 = 1;
 pub const INSIDE: u8 = 2;
 /// Of scopes: the body is done.
 pub const DONE: u8 = 3;
-/// Faulted, and waiting for inner scopes.
+/// Faulted, and waiting for inner scopes. This and the next two have beside them the fault part that the scope chose, in the upper four bits: 0 the general
+/// one, i the i-th by number.
 pub const FAULTED: u8 = 4;
 pub const UNDOING: u8 = 5;
 /// Running its fault part.
@@ -25,6 +26,20 @@ pub const HANDLING: u8 = 6;
 /// Stopped by a fault around it, and waiting for inner scopes.
 pub const STOPPED: u8 = 7;
 pub const STOPPED_UNDOING: u8 = 8;
+
+/// A mark without the choice of a fault part, and that choice.
+pub fn bare(mark: u8) -> u8 {
+    mark & 0x0F
+}
+
+pub fn choice(mark: u8) -> usize {
+    usize::from(mark >> 4)
+}
+
+fn is_mark(mark: u8) -> bool {
+    mark <= STOPPED_UNDOING
+        || choice(mark) <= 8 && matches!(bare(mark), FAULTED | UNDOING | HANDLING)
+}
 
 #[derive(Clone, Copy, Debug, Default, PartialEq, Eq)]
 pub struct Message {
@@ -98,10 +113,10 @@ impl Order {
 
     fn in_limits(&self) -> bool {
         matches!(self.root, IDLE | ACTIVE | FAULTED | UNDOING | HANDLING)
-            && self.marks.iter().all(|&mark| mark <= STOPPED_UNDOING)
+            && self.marks.iter().all(|&mark| is_mark(mark))
             && self.bound.iter().all(|&bound| bound <= 1)
             && self.kept <= REMEMBERED as u64
-            && is_fault(self.cause)
+            && is_fault(u32::from(self.cause))
     }
 }
 

@@ -220,7 +220,7 @@ fn exchange(names: &Names, tokens: &[Token], front: &[u32]) -> Option<Vec<u32>> 
     Some(numbers)
 }
 
-/// The kinds are the codes; an arm is 255, the root 256. A scope is 12 until an undo part stands in it.
+/// The kinds are the codes; an arm is 255, the root 256. A scope is 12 until an undo part stands in it, or one that is for a number.
 const ARM: u32 = 255;
 const ROOT: u32 = 256;
 const SCOPE: u32 = 12;
@@ -278,6 +278,8 @@ struct Level {
     line: usize,
     within: usize,
     inner: usize,
+    /// How many fault parts by number stand in a scope.
+    numbered: usize,
 }
 
 impl Level {
@@ -287,6 +289,7 @@ impl Level {
             6 | ROOT => (2, 2),
             7 | ARM => (1, 1),
             8..=10 => (usize::MAX, 0),
+            SCOPE if self.numbered > 0 => (3 + self.numbered, 3 + self.numbered),
             SCOPE => (3, 2),
             _ => (0, 0),
         }
@@ -302,7 +305,7 @@ impl Level {
             (ROOT, 0) => &[b"root", b"body"],
             (ROOT, _) => &[b"root", b"fault", b"part"],
             (SCOPE, 0) => &[b"body"],
-            (SCOPE, 1) => &[b"fault", b"part"],
+            (SCOPE, within) if within == 1 + self.numbered => &[b"fault", b"part"],
             (SCOPE, _) => &[b"undo", b"part"],
             (6, 0) => &[b"then"],
             (6, _) => &[b"else"],
@@ -336,6 +339,7 @@ impl Drawing {
                 line,
                 within: 0,
                 inner: 0,
+                numbered: 0,
             }],
         }
     }
@@ -376,7 +380,15 @@ impl Drawing {
         let mut part: Vec<Token> = outer.part().iter().map(|word| Word(word)).collect();
         part.push(Mark(b':'));
         let parts: [&[u8]; 6] = [b"root", b"body", b"fault", b"undo", b"then", b"else"];
-        if part.len() > 1 && rest.starts_with(&part) {
+        // After the body and before the general fault part: one for a number.
+        let behind = outer.kind == SCOPE && outer.within == 1 + outer.numbered;
+        let mut number = None;
+        if let [Word(b"fault"), Word(b"part"), Word(word), Mark(b':'), ..] = rest[..]
+            && behind
+        {
+            number = Some(decimal(word).ok_or(wrong)?);
+            rest.drain(..4);
+        } else if part.len() > 1 && rest.starts_with(&part) {
             rest.drain(..part.len());
         } else if parts.iter().any(|word| rest[0] == Word(word)) {
             return Err(wrong);
@@ -390,15 +402,26 @@ impl Drawing {
         } else {
             outer.kind == ROOT || (column - outer.column) % 2 == 0
         };
-        let room = outer.within < outer.wants().0;
+        let room = number.is_some() || outer.within < outer.wants().0;
         if !aligned || !room || (outer.kind == 10) != (kind == ARM) || depth > 63 {
             return Err(wrong);
         }
         outer.within += 1;
         outer.inner = column;
-        match (outer.kind, outer.within) {
-            (8..=10, within) => self.rows[outer.row][1] = within as u32,
-            (SCOPE, 3) => self.rows[outer.row][0] = 11,
+        let row = &mut self.rows[outer.row];
+        match (outer.kind, outer.within, number) {
+            (8..=10, within, _) => row[1] = within as u32,
+            (SCOPE, _, Some(number)) => {
+                outer.numbered += 1;
+                row[0] = 14;
+                row.resize(row.len().max(2), 0);
+                row[1] = outer.numbered as u32;
+                // A row has no place for more; so many are refused by their count.
+                if row.len() < 18 {
+                    row.push(number);
+                }
+            }
+            (SCOPE, 3, None) if outer.numbered == 0 => row[0] = 11,
             _ => {}
         }
         self.rows.extend(rows);
@@ -413,6 +436,7 @@ impl Drawing {
             line,
             within: 0,
             inner: 0,
+            numbered: 0,
         });
         Ok(())
     }

@@ -8,7 +8,7 @@ use crate::lively;
 use crate::packed::{self, SIZE};
 use crate::plan::{Kind, Plan, Tuple};
 use crate::scramble;
-use crate::state::{End, Message, REMEMBERED, State, Tally};
+use crate::state::{End, Message, REMEMBERED, State, Tally, bare};
 
 /// How often things were seen.
 #[derive(Default)]
@@ -35,6 +35,9 @@ pub struct Seen {
     /// Faults out of a part of an inner scope, and faults that were absorbed, by their numbers.
     pub outward: [u64; 6],
     pub absorbed: [u64; 6],
+    /// Fault parts by number that were begun, and general ones of scopes that have some.
+    pub by_number: u64,
+    pub general: u64,
     pub taken: u64,
     /// Scopes by their mark, in the order of each step taken in a run.
     pub scopes: [u64; 9],
@@ -237,6 +240,8 @@ impl Wander {
             if let (Some(by), Some(fault)) = (ended, taken.fault) {
                 by[usize::from(fault.min(5))] += 1;
             }
+            self.seen.by_number += taken.by_number as u64;
+            self.seen.general += taken.general as u64;
             for number in 0..6 {
                 self.seen.outward[number] += taken.outward[number];
                 self.seen.absorbed[number] += taken.absorbed[number];
@@ -248,7 +253,7 @@ impl Wander {
         let marks = packed::marks(self.comparison.desk.state(), slot);
         for (k, &mark) in marks.iter().enumerate() {
             if self.comparison.reached && self.plan.is_scope(k) {
-                self.seen.scopes[mark as usize] += 1;
+                self.seen.scopes[usize::from(bare(mark))] += 1;
             }
         }
     }

@@ -54,7 +54,7 @@ fn plays(text: &str, scenarios: usize) {
 
 #[test]
 fn every_scenario() {
-    plays(TEXT, 42);
+    plays(TEXT, 80);
 }
 
 #[test]
@@ -64,7 +64,7 @@ fn every_scenario_of_held_steps() {
 
 #[test]
 fn every_scenario_by_hand() {
-    plays(HAND, 28);
+    plays(HAND, 42);
 }
 
 #[test]
@@ -249,6 +249,47 @@ fn the_number_that_the_root_faulted_with() {
             };
             assert_eq!(packed::step(&mut other, 0), number << 40 | answer);
         }
+    }
+}
+
+/// A receive, and a scope whose body raises 17, with a part for 16, one for 17 and a general one, which each send another operation.
+const BY_NUMBER: [u8; 33] = [
+    1, 1, 0, 8, 2, 2, 0, 0, 1, 0, 14, 13, 17, 2, 16, 1, 9, 1, 1, 0, 17, 1, 9, 2, 1, 0, 1, 9, 3, 1,
+    0, 0, 0,
+];
+
+#[test]
+fn the_part_that_a_scope_chose() {
+    let mut state = vec![0; packed::SIZE];
+    assert_eq!(packed::load(&BY_NUMBER, &mut state), 0);
+    let message = model::state::Message {
+        count: 1,
+        ..Default::default()
+    };
+    assert_eq!(packed::post(&mut state, message), 0);
+    for _ in 0..2 {
+        assert_eq!(packed::step(&mut state, 0) >> 32, 0);
+    }
+    // The scope, number 2, handles by its second part, number 5.
+    let at = model::layout::ORDERS + model::layout::ORDER_MARKS;
+    assert_eq!(state[at + 2], 2 << 4 | 6);
+    assert_eq!(packed::offer(&state, 0), 5 << 16);
+    // A choice stands beside 4, 5 and 6 alone, and is 8 at most.
+    for mark in 0..=255u8 {
+        let legal = mark <= 8 || mark >> 4 <= 8 && (4..=6).contains(&(mark & 15));
+        let mut other = state.clone();
+        other[at + 200] = mark;
+        assert_eq!(packed::offers(&other) >> 40 == 17, !legal, "{mark}");
+    }
+    // A scope that undoes, and then has no more to undo, takes the part that its mark tells; the general one where there is none such.
+    for (choice, part) in [(0, 6), (1, 4), (2, 5), (3, 6), (8, 6)] {
+        let mut other = state.clone();
+        other[at + 5] = 0;
+        other[at + 2] = choice << 4 | 4;
+        other[at + 3] = 1;
+        assert_eq!(packed::step(&mut other, 0), 3 << 16);
+        assert_eq!(other[at + 2], choice << 4 | 6);
+        assert_eq!(packed::offer(&other, 0), part << 16);
     }
 }
 

@@ -3,6 +3,7 @@
 use model::edges::{self, Answer};
 use model::generate::{self, Random};
 use model::reader::{self, Part, Refusal, read, read_number};
+use model::rows;
 use model::text::{self, Wrong};
 use model::vectors;
 
@@ -188,6 +189,26 @@ fn legal_plans_are_accepted_with_the_parts_they_were_written_with() {
 }
 
 #[test]
+fn plans_come_back_from_their_rows() {
+    let mut random = Random::new(4);
+    let generated = (0..5_000).map(|_| generate::legal(&mut random).bytes);
+    let given = vectors::all().into_iter().map(|vector| vector.bytes);
+    let edges = edges::all().into_iter().map(|case| case.bytes);
+    let mut codes = [0; 15];
+    for bytes in generated.chain(given).chain(edges) {
+        let Ok(plan) = read(&bytes) else { continue };
+        let table = rows::table_of(&bytes).unwrap();
+        let mut out = vec![0; bytes.len()];
+        assert_eq!(rows::write(&table, &mut out), Ok(bytes.len()));
+        assert_eq!(out, bytes);
+        for part in &plan.parts {
+            codes[usize::from(bytes[part.start as usize]).min(14)] += 1;
+        }
+    }
+    assert!(codes.iter().all(|&many| many > 100), "{codes:?}");
+}
+
+#[test]
 fn the_mix_earns_every_refusal() {
     let mut random = Random::new(2);
     let mut tally = [0; 22];
@@ -277,6 +298,80 @@ fn raises_with_a_number_as_text() {
             "root fault part: raise 17",
         ]),
         Ok(vec![1, 1, 0, 2, 0, 0, 1, 0, 13, 17])
+    );
+}
+
+#[test]
+fn scopes_with_fault_parts_by_number_as_text() {
+    let front = [
+        "variable a",
+        "root body: sequence",
+        "  receive from partner 0, operation 0: a",
+        "  scope",
+        "    body: empty",
+    ];
+    let with = |lines: &[&str]| write(&[&front, lines, &["root fault part: empty"]].concat());
+    let bytes = |more: &[u8]| Ok([&[1, 1, 0, 8, 2, 2, 0, 0, 1, 0], more, &[0]].concat());
+    let behind = ["    fault part: leave", "    undo part: empty"];
+    let parts = |lines: &[&str]| with(&[lines, &behind].concat());
+    assert_eq!(
+        parts(&["    fault part 16: raise"]),
+        bytes(&[14, 0, 1, 16, 4, 5, 0])
+    );
+    assert_eq!(
+        parts(&[
+            "    fault part 255: sequence",
+            "      empty",
+            "      raise",
+            "    fault part 0: raise 17",
+        ]),
+        bytes(&[14, 0, 2, 255, 1, 8, 2, 0, 4, 0, 13, 17, 5, 0])
+    );
+    // The names of the others may be left out.
+    assert_eq!(
+        with(&["    fault part 16: raise", "    leave", "    empty"]),
+        bytes(&[14, 0, 1, 16, 4, 5, 0])
+    );
+    // A number against its rule, or twice, or nine of them: refused at the scope.
+    for more in [
+        &["    fault part 5: raise"][..],
+        &["    fault part 256: raise"],
+        &["    fault part 16: raise", "    fault part 16: raise"],
+        &["    fault part 16: raise"; 9],
+        &["    fault part 16: raise"; 30],
+    ] {
+        assert_eq!(parts(more), Err(Wrong::Refused(5, 4)));
+    }
+    // The general fault part and the undo part are there, in this order, and the last.
+    assert_eq!(
+        with(&["    fault part 16: raise", "    fault part: leave"]),
+        Err(Wrong::Line(4))
+    );
+    assert_eq!(
+        with(&[
+            "    fault part: leave",
+            "    fault part 16: raise",
+            "    empty"
+        ]),
+        Err(Wrong::Line(7))
+    );
+    assert_eq!(
+        with(&[
+            "    fault part 16: raise",
+            "    leave",
+            "    empty",
+            "    empty"
+        ]),
+        Err(Wrong::Line(9))
+    );
+    assert_eq!(
+        parts(&["    fault part 4294967296: raise"]),
+        Err(Wrong::Line(6))
+    );
+    assert_eq!(parts(&["    fault part a: raise"]), Err(Wrong::Line(6)));
+    assert_eq!(
+        write(&["variable a", "fault part 16: empty"]),
+        Err(Wrong::Line(2))
     );
 }
 

@@ -140,7 +140,7 @@ fitsOwn p o m (repeat e) = false
 fitsOwn p o m sequence = false
 fitsOwn p o m flow = false
 fitsOwn p o m pick = false
-fitsOwn p o m (scope undo) = false
+fitsOwn p o m (scope ns undo) = false
 fitsOwn p o m (arm a b vs) = fits p o a b vs m
 
 -- whether it is open too, and so takes the message

@@ -76,7 +76,7 @@ ownGives (repeat e) xs l = l
 ownGives sequence xs l = l
 ownGives flow xs l = l
 ownGives pick xs l = l
-ownGives (scope undo) xs l = l
+ownGives (scope ns undo) xs l = l
 ownGives (arm p q vs) xs l = takeGives vs xs l
 
 abbrev pub ownOf : Act → Own
@@ -182,7 +182,7 @@ variablesAfter (repeat e) xs o = o
 variablesAfter sequence xs o = o
 variablesAfter flow xs o = o
 variablesAfter pick xs o = o
-variablesAfter (scope undo) xs o = o
+variablesAfter (scope ns undo) xs o = o
 variablesAfter (arm p q vs) xs o = bindAll vs xs o
 
 -- what stands in a slot, q, after a step that answered this end, where the variables are to be those of o

@@ -31,7 +31,7 @@ doingOf (repeat e) within k = moves
 doingOf sequence within k = noStep
 doingOf flow within k = noStep
 doingOf pick within k = noStep
-doingOf (scope undo) within k = closes undo (scopeAt k within)
+doingOf (scope ns undo) within k = closes undo (scopeAt ns k within)
 doingOf (arm p o vs) within k = takes p o vs
 
 -- whether it awaits that step: an arm where its pick is active, a scope where its body is done, all else where it is active

@@ -9,7 +9,7 @@ use Rattle.order.specs.declared.Order.{Order}
 use Rattle.order.specs.declared.End.{End}
 use Rattle.order.specs.declared.End.the-variants.{None, Well, Handled, Failed, Left}
 use Rattle.order.specs.Lists.{some, alike}
-use Rattle.order.specs.State.{active, inside, done, faulty, undoing, handling, halted, withdrawing}
+use Rattle.order.specs.State.{active, inside, done, faulty, undoing, handling, halted, withdrawing, stateIn}
 use Rattle.order.specs.Event.{Event}
 use Rattle.order.specs.Acting.{Actor, itsOwn, inPlace, Moved, acted}
 use Rattle.order.specs.Awaited.{Doing, noStep, sends, takes, moves, cuts, closes, Ready, readyOf, kindAt}
@@ -70,7 +70,8 @@ judged (suc n) p m =
 -- How far a mark is from idle, for an activity of this kind: a scope is active, done, faulty or stopped, undoing, handling; a repeat that has decided
 -- decides again; anything else is active and then inside. Nothing but a beginning leads back up.
 unfoldable pub rank : (kind mark : ℕ) → ℕ
-rank n m =
+rank n mark =
+    let m = stateIn mark in
     cond (eqb m inside) (cond (eqb n 7) 8 6)
     (cond (eqb m active) 7
     (cond (eqb m done) 6

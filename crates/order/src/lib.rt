@@ -68,12 +68,13 @@ pub struct Entered {
 }
 
 // A scope by the rows of the table: the root, or the scope with the number `first`. Its numbers are `first` to `end`, its body stands from `body`
-// on and its fault part, right after the body, from `fault` on.
+// on, its fault parts by number, right after the body, from `parts` on, and its general fault part, right after these, from `fault` on.
 pub struct Spot {
     pub root: bool,
     pub first: usize,
     pub end: usize,
     pub body: usize,
+    pub parts: usize,
     pub fault: usize,
 }
 

@@ -5,9 +5,9 @@ use mathlib.Core.List.{List, [], _∷_, _++_}
 use lib.Dec.{eqb}
 use lib.ListN.{length}
 use Rattle.plan.specs.Found.{Found, refused}
-use Rattle.plan.specs.Spell.{spell, ownNumbers}
+use Rattle.plan.specs.Spell.{spell, ownNumbers, gapsOf, later}
 use Rattle.plan.specs.Table.{bodyPlace}
-use Rattle.plan.specs.Tree.{Own, empty, send, receive, set, raise, leave, choose, repeat, sequence, flow, pick, scope, arm, Act, act, Acts, none, more, Plan, count}
+use Rattle.plan.specs.Tree.{Own, empty, send, receive, set, raise, leave, choose, repeat, sequence, flow, pick, scope, arm, numbersOf, Act, act, Acts, none, more, Plan, count}
 
 -- what a receive or an arm asks for: its partner, its operation and its count, and the place where that count stands
 pub record Asked : Type 0 where
@@ -41,30 +41,35 @@ askedOwn c (repeat e) at = []
 askedOwn c sequence at = []
 askedOwn c flow at = []
 askedOwn c pick at = []
-askedOwn c (scope undo) at = []
+askedOwn c (scope ns undo) at = []
 askedOwn c (arm p o vs) at = asking p o (length vs) (at + c .passed (p ∷ o ∷ [])) ∷ []
+
+-- a place after what stands before the next of those within
+abbrev pub beyond : Places → List (List ℕ) → (at : ℕ) → ℕ
+beyond c [] at = at
+beyond c (g ∷ gs) at = at + c .passed g
 
 -- how many places an activity takes with all that stands within it
 unfoldable mutual
   pub spanOf : Places → Act → ℕ
-  spanOf c (act own l) = c .owned own (count l) + spanAll c l
+  spanOf c (act own l) = c .owned own (count l) + spanAll c (gapsOf (numbersOf own)) l
 
-  pub spanAll : Places → Acts → ℕ
-  spanAll c none = 0
-  spanAll c (more a l) = spanOf c a + spanAll c l
+  pub spanAll : Places → List (List ℕ) → Acts → ℕ
+  spanAll c gs none = 0
+  spanAll c gs (more a l) = beyond c gs (spanOf c a) + spanAll c (later gs) l
 
 -- what is asked for in an activity at `at`, and in a list of them, in the order of the file
 unfoldable mutual
   pub askedIn : Places → Act → (at : ℕ) → List Asked
-  askedIn c (act own l) at = askedOwn c own at ++ askedAll c l (at + c .owned own (count l))
+  askedIn c (act own l) at = askedOwn c own at ++ askedAll c (gapsOf (numbersOf own)) l (at + c .owned own (count l))
 
-  pub askedAll : Places → Acts → (at : ℕ) → List Asked
-  askedAll c none at = []
-  askedAll c (more a l) at = askedIn c a at ++ askedAll c l (at + spanOf c a)
+  pub askedAll : Places → List (List ℕ) → Acts → (at : ℕ) → List Asked
+  askedAll c gs none at = []
+  askedAll c gs (more a l) at = askedIn c a (beyond c gs at) ++ askedAll c (later gs) l (beyond c gs at + spanOf c a)
 
 -- the receives and arms of a plan, whose body is at `at`
 abbrev pub askedFrom : Places → Plan → (at : ℕ) → List Asked
-askedFrom c p at = askedAll c (more (p .body) (more (p .fault) none)) at
+askedFrom c p at = askedAll c [] (more (p .body) (more (p .fault) none)) at
 
 unfoldable pub asked : Plan → List Asked
 asked p = askedFrom inBytes p (bodyPlace p)

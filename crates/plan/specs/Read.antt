@@ -3,7 +3,7 @@
 -- `vars` is the count V of variables, cs the correlation variables, s the bytes, `at` the place read at and n the number of the activity or arm there.
 -- `handler` holds inside a fault part or an undo part.
 use Prim.Native.Nat.{ℕ, zero, suc, _+_}
-use mathlib.Core.Bool.{Bool, true, false, cond, _&&_, _||_}
+use mathlib.Core.Bool.{Bool, true, false, cond, not, _&&_, _||_}
 use mathlib.Core.List.{List, [], _∷_, _++_}
 use lib.ListN.{length}
 use lib.Dec.{ltb, leb, eqb}
@@ -51,13 +51,18 @@ variablesIn vars once s (suc left) read at =
 unfoldable pub tupleIn : (vars : ℕ) (once : Bool) → List ℕ → (at : ℕ) → Found (List ℕ)
 tupleIn vars once s at = andThen (fieldIn s 1 5 at) (λ count next. variablesIn vars once s count [] next)
 
--- What an activity or arm says of itself, and how many stand directly within it.
+-- What an activity or arm says of itself, and how many stand directly within it; or, of a scope with fault parts by number, that the rest is told after
+-- its body: these numbers stand between the parts.
 pub record Head : Type 0 where
   pub own : Own
   pub within : ℕ
+  pub numbered : Bool
 
 abbrev pub head : Own → ℕ → Head
-head own within = record { own = own; within = within }
+head own within = record { own = own; within = within; numbered = false }
+
+abbrev pub numberedHead : Head
+numberedHead = record { own = scope [] true; within = 1; numbered = true }
 
 -- "partner, operation, count, variables", from the operation on, of an activity or arm that has `within` directly within it
 unfoldable pub exchangeIn : (vars : ℕ) (once : Bool) → List ℕ → (ℕ → List ℕ → Own) → (within at : ℕ) → Found Head
@@ -94,12 +99,24 @@ listIn s own limit at = andThen (fieldIn s 1 limit at) (λ count next. found (he
 unfoldable pub raiseIn : List ℕ → (at : ℕ) → Found Head
 raiseIn s at = andThen (fieldIn s 16 256 at) (λ n next. found (head (raise n) 0) next)
 
+-- "a number twice in one scope, or one outside 0 to 4 and 16 to 255, is 5": a number that a fault part may have, and that is none of those read
+unfoldable pub namable : ℕ → Bool
+namable n = leb n 4 || (leb 16 n && leb n 255)
+
+unfoldable pub faultNumberIn : List ℕ → (read : List ℕ) → (at : ℕ) → Found ℕ
+faultNumberIn s read at =
+    andThen (numberIn s at) (λ n next.
+    cond (namable n && not (among n read)) (found n next) (refused 5 at))
+
 -- the code of an activity: 4 unknown code; 8 scope in a fault or undo part; 6 depth 17 or activity 257; in that order, at that number
+abbrev pub isScopeCode : ℕ → Bool
+isScopeCode code = eqb code 11 || (eqb code 12 || eqb code 14)
+
 unfoldable pub codeIn : List ℕ → (handler : Bool) → (depth n at : ℕ) → Found ℕ
 codeIn s handler depth n at =
     andThen (numberIn s at) (λ code next.
-    cond (ltb 13 code) (refused 4 at)
-    (cond (handler && (eqb code 11 || eqb code 12)) (refused 8 at)
+    cond (ltb 14 code) (refused 4 at)
+    (cond (handler && isScopeCode code) (refused 8 at)
     (cond (eqb depth 0 || leb 256 n) (refused 6 at)
     (found code next))))
 
@@ -117,9 +134,10 @@ partsIn vars cs s code at =
     (cond (eqb code 8) (listIn s sequence 33 at)
     (cond (eqb code 9) (listIn s flow 33 at)
     (cond (eqb code 10) (listIn s pick 9 at)
-    (cond (eqb code 11) (found (head (scope true) 3) at)
-    (cond (eqb code 12) (found (head (scope false) 2) at)
-    (raiseIn s at)))))))))))))
+    (cond (eqb code 11) (found (head (scope [] true) 3) at)
+    (cond (eqb code 12) (found (head (scope [] false) 2) at)
+    (cond (eqb code 13) (raiseIn s at)
+    (found numberedHead at))))))))))))))
 
 unfoldable pub headIn : (vars : ℕ) → List ℕ → List ℕ → (handler : Bool) → (depth n at : ℕ) → Found Head
 headIn vars cs s handler depth n at = andThen (codeIn s handler depth n at) (λ code next. partsIn vars cs s code next)
@@ -132,15 +150,41 @@ manyIn one handler later (suc left) n at =
     andThen (manyIn one later later left (n + size a) p) (λ l q.
     found (more a l) q))
 
+-- The fault parts of a scope that has some by number, with their numbers, and what follows them.
+pub record Numbered : Type 0 where
+  pub numbers : List ℕ
+  pub parts : Acts
+
+abbrev pub alsoNumbered : ℕ → Act → Numbered → Numbered
+alsoNumbered x a c = record { numbers = x ∷ c .numbers; parts = more a (c .parts) }
+
+-- "that many numbers each with its fault part, the general fault part, undo part": `left` more numbers after those that are read
+unfoldable pub numberedIn : (one : Bool → ℕ → ℕ → Found Act) → List ℕ → (left : ℕ) → (read : List ℕ) → (n at : ℕ) → Found Numbered
+numberedIn one s zero read n at = andThen (manyIn one true true 2 n at) (λ l next. found (record { numbers = []; parts = l }) next)
+numberedIn one s (suc left) read n at =
+    andThen (faultNumberIn s read at) (λ x p.
+    andThen (one true n p) (λ a q.
+    andThen (numberedIn one s left (x ∷ read) (n + size a) q) (λ c next.
+    found (alsoNumbered x a c) next)))
+
+-- "body, count 1 to 8, that many numbers each with its fault part, the general fault part, undo part", of the scope with the number n
+unfoldable pub numberedScopeIn : (one : Bool → ℕ → ℕ → Found Act) → List ℕ → (handler : Bool) → (n at : ℕ) → Found Act
+numberedScopeIn one s handler n at =
+    andThen (one handler (n + 1) at) (λ body p.
+    andThen (fieldIn s 1 9 p) (λ count q.
+    andThen (numberedIn one s count [] (n + 1 + size body) q) (λ c next.
+    found (act (scope (c .numbers) true) (more body (c .parts))) next)))
+
 -- those within: read by `one`, and put under what the activity or arm says of itself
-abbrev pub wholeIn : (one : Bool → ℕ → ℕ → Found Act) → (handler later : Bool) → (n : ℕ) → Head → (at : ℕ) → Found Act
-wholeIn one handler later n h at =
-    andThen (manyIn one handler later (h .within) (n + 1) at) (λ l next.
-    found (act (h .own) l) next)
+abbrev pub wholeIn : (one : Bool → ℕ → ℕ → Found Act) → List ℕ → (handler later : Bool) → (n : ℕ) → Head → (at : ℕ) → Found Act
+wholeIn one s handler later n h at =
+    cond (h .numbered) (numberedScopeIn one s handler n at)
+    (andThen (manyIn one handler later (h .within) (n + 1) at) (λ l next.
+    found (act (h .own) l) next))
 
 -- an arm, whose activity is read by `one`: "An arm adds no depth."
 unfoldable pub readArm : (one : Bool → ℕ → ℕ → Found Act) → (vars : ℕ) → List ℕ → (handler : Bool) → (n at : ℕ) → Found Act
-readArm one vars s handler n at = andThen (armIn vars s n at) (wholeIn one handler handler n)
+readArm one vars s handler n at = andThen (armIn vars s n at) (wholeIn one s handler handler n)
 
 -- what stands within a pick are arms, within all else activities
 abbrev pub readsIn : Own → (one : Bool → ℕ → ℕ → Found Act) → (vars : ℕ) → List ℕ → Bool → ℕ → ℕ → Found Act
@@ -155,14 +199,14 @@ unfoldable pub readAct : (depth vars : ℕ) → (cs s : List ℕ) → (handler :
 readAct zero vars cs s handler n at = andThen (headIn vars cs s handler 0 n at) (λ h next. refused 6 at)
 readAct (suc depth) vars cs s handler n at =
     andThen (headIn vars cs s handler (suc depth) n at) (λ h next.
-    wholeIn (readsIn (h .own) (readAct depth vars cs s) vars s) handler (laterOf (h .own) handler) n h next)
+    wholeIn (readsIn (h .own) (readAct depth vars cs s) vars s) s handler (laterOf (h .own) handler) n h next)
 
 -- "The body must be a start form: a receive, a pick, a sequence whose first is a start form, a flow of start forms, a scope whose body is a
 -- start form." `first` is whether the first within is a start form, `every` whether all are.
 unfoldable pub starts : (kind : ℕ) → (first every : Bool) → Bool
 starts kind first every =
     cond (eqb kind 2 || eqb kind 10) true
-    (cond (eqb kind 8 || (eqb kind 11 || eqb kind 12)) first
+    (cond (eqb kind 8 || isScopeCode kind) first
     (cond (eqb kind 9) every false))
 
 unfoldable mutual

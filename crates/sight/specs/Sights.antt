@@ -7,7 +7,7 @@ use mathlib.Core.Path.{_≡_}
 use lib.Dec.{leb, eqb}
 use lib.ListN.{length, getD}
 use Rattle.plan.specs.Spells.{variablesOf}
-use Rattle.plan.specs.Tree.{Acts, Plan}
+use Rattle.plan.specs.Tree.{Acts, Plan, scopeCode}
 use Rattle.machine.specs.declared.Message.{Message}
 use Rattle.order.specs.declared.Order.{Order}
 use Rattle.machine.specs.declared.Step.{Step}
@@ -106,7 +106,7 @@ unfoldable pub doingBy : (kind partner operation : ℕ) → (variables : List �
 doingBy n a b vs s =
     cond (eqb n 1) (sends a b vs)
     (cond (eqb n 2 || eqb n 255) (takes a b vs)
-    (cond (eqb n 11) (closes true s)
+    (cond (eqb n 11 || eqb n 14) (closes true s)
     (cond (eqb n 12) (closes false s)
     (cond (eqb n 13) cuts
     (cond (leb 3 n && leb n 7) (cond (eqb n 4 || eqb n 5) cuts moves) noStep)))))
@@ -129,7 +129,7 @@ pub record BoundRow (t bound : List ℕ) (k : ℕ) (r : Bool) : Type 0 where
 
 -- r says whether the close in row k, of a scope of this kind, is held
 pub record ClosesRow (kind : ℕ) (parts : List ℕ) (kept k : ℕ) (r : Bool) : Type 0 where
-  pub is : (o : Order) (undo : Bool) (within : Acts) → Remembers o parts → o .kept ≡ kept → kind ≡ cond undo 11 12 → r ≡ closeHeld o undo (scopeAt k within)
+  pub is : (o : Order) (ns : List ℕ) (undo : Bool) (within : Acts) → Remembers o parts → o .kept ≡ kept → kind ≡ scopeCode ns undo → r ≡ closeHeld o undo (scopeAt ns k within)
 
 -- what one message adds at a receive or arm
 unfoldable pub takeLetter : (slot partner operation : ℕ) → Order → Plan → Line → Letter → Sight → Sight

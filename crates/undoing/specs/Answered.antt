@@ -8,7 +8,7 @@ use lib.ListN.{length}
 use lib.Dec.{ltb, eqb}
 use Rattle.plan.specs.Found.{found}
 use Rattle.plan.specs.Read.{readPlan}
-use Rattle.plan.specs.Tree.{Own, empty, send, receive, set as setting, raise, leave, choose, repeat, sequence, flow, pick, scope, arm, isScope, Act, act, Acts, none, more, Plan, size}
+use Rattle.plan.specs.Tree.{Own, empty, send, receive, set as setting, raise, leave, choose, repeat, sequence, flow, pick, scope, arm, isScope, numbersOf, undoPart, Act, act, Acts, none, more, Plan, size}
 use Rattle.order.specs.declared.End.{End}
 use Rattle.order.specs.declared.End.the-variants.{None, Well, Handled, Failed, Left}
 use Rattle.machine.specs.declared.State.{State}
@@ -35,7 +35,7 @@ isSure (repeat e) = false
 isSure sequence = false
 isSure flow = false
 isSure pick = false
-isSure (scope undo) = false
+isSure (scope ns undo) = false
 isSure (arm p op vs) = false
 
 -- whether all that stands in an activity runs with it
@@ -51,7 +51,7 @@ hasAll (repeat e) = false
 hasAll sequence = true
 hasAll flow = true
 hasAll pick = false
-hasAll (scope undo) = false
+hasAll (scope ns undo) = false
 hasAll (arm p op vs) = false
 
 unfoldable mutual
@@ -66,7 +66,7 @@ unfoldable mutual
 unfoldable mutual
   pub backIn : Act → (k e : ℕ) → List ℕ
   backIn (act own within) k e =
-      elim (isScope own && eqb k e) [ true ↦ surely (part 2 within) (partAt 2 within (k + 1)) | false ↦ backAmong within (k + 1) e ]
+      elim (isScope own && eqb k e) [ true ↦ surely (part (undoPart (numbersOf own)) within) (partAt (undoPart (numbersOf own)) within (k + 1)) | false ↦ backAmong within (k + 1) e ]
 
   pub backAmong : Acts → (c e : ℕ) → List ℕ
   backAmong none c e = []

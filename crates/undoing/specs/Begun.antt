@@ -76,9 +76,9 @@ isMarked p x k =
 unfoldable pub goesIn : (kind after : ℕ) → (bodyBegan : Bool) → Bool
 goesIn n y b = (eqb n 7 && b) || ((eqb n 6 || eqb n 10) && eqb y inside)
 
--- the kinds of a scope: with an undo part and with none
+-- the kinds of a scope: with an undo part, with none, and with fault parts by number
 abbrev pub isScopeKind : (kind : ℕ) → Bool
-isScopeKind n = eqb n 11 || eqb n 12
+isScopeKind n = eqb n 11 || (eqb n 12 || eqb n 14)
 
 -- None is left out: the mark of an activity that did not begin is idle after the step, or it was not idle before and either has not changed, the step not
 -- being that activity's; or goes in with its own step; or is that of a repeat, which decides again. (The mark of a scope is what the history says of it.)

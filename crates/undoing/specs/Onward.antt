@@ -96,7 +96,7 @@ picks (repeat e) within k o = pickedBy (λ n. cond (isTrue n) (partAt 0 within (
 picks sequence within k o = []
 picks flow within k o = []
 picks pick within k o = []
-picks (scope undo) within k o = []
+picks (scope ns undo) within k o = []
 picks (arm p op vs) within k o = []
 
 -- of activity t

@@ -8,18 +8,18 @@ use lib.ListN.{getD}
 use lib.Dec.{leb, ltb, eqb}
 use Rattle.plan.specs.Found.{found}
 use Rattle.plan.specs.Read.{readPlan}
-use Rattle.plan.specs.Tree.{Own, empty, send, receive, set as setting, raise, leave, choose, repeat, sequence, flow, pick, scope, arm, isScope, hasUndo, Act, act, Acts, none, more, Plan, size}
+use Rattle.plan.specs.Tree.{Own, empty, send, receive, set as setting, raise, leave, choose, repeat, sequence, flow, pick, scope, arm, isScope, hasUndo, numbersOf, generalPart, undoPart, Act, act, Acts, none, more, Plan, size}
 use Rattle.order.specs.declared.Order.{Order}
 use Rattle.order.specs.declared.End.{End}
 use Rattle.order.specs.declared.End.the-variants.{None, Well, Handled, Failed, Left}
 use Rattle.machine.specs.declared.State.{State}
 use Rattle.machine.specs.declared.Tally.{Tally}
 use Rattle.order.specs.Lists.{every, some, only, each}
-use Rattle.order.specs.State.{idle, faulty, undoing, handling, halted, withdrawing, Name, root, inner, same, closings, markOf, isLive, noOrder}
+use Rattle.order.specs.State.{idle, faulty, undoing, handling, halted, withdrawing, Name, root, inner, same, closings, stateIn, choiceIn, markOf, stateOf, isLive, noOrder}
 use Rattle.order.specs.Expression.{unboundVariable, conflictingReceive, Value, fault as faulting, value, evaluate}
 use Rattle.order.specs.Event.{Event, started, began, closed, faulted, stopped, ended, raised, left}
-use Rattle.order.specs.Begin.{quiet}
-use Rattle.order.specs.Scope.{Scope, scopeAt, rootOf, isOpen, innerRuns}
+use Rattle.order.specs.Begin.{part, partAt, quiet}
+use Rattle.order.specs.Scope.{Scope, chosenPart, chosenAt, scopeAt, rootOf, isOpen, innerRuns}
 use Rattle.order.specs.Acting.{allBound, itsOwn, inPlace, Moved, acted, startedOrder}
 use Rattle.order.specs.Awaited.{Ready}
 use Rattle.order.specs.Judging.{isThing, Verdict, clear, clash, conflict, spare}
@@ -71,7 +71,7 @@ LiveTold = Always (λ p o past. isLive o ≡ not (noneNow past))
 -- MARKS. In a live order the mark of every scope says what the history says of it: it is idle exactly where the scope is not left running; it
 -- is that of an open scope exactly where the scope may still fault or be stopped; and it is one of the five others exactly where it has.
 abbrev pub isTurned : (mark : ℕ) → Bool
-isTurned m = (eqb m faulty || eqb m halted) || ((eqb m undoing || eqb m withdrawing) || eqb m handling)
+isTurned m = (eqb (stateIn m) faulty || eqb m halted) || ((eqb (stateIn m) undoing || eqb m withdrawing) || eqb (stateIn m) handling)
 
 unfoldable pub MarksTold : Type 0
 MarksTold =
@@ -128,7 +128,7 @@ deedOf (repeat e) k o = raisedBy k (evaluate e o)
 deedOf sequence k o = []
 deedOf flow k o = []
 deedOf pick k o = []
-deedOf (scope undo) k o = closed k ∷ []
+deedOf (scope ns undo) k o = closed k ∷ []
 deedOf (arm p op vs) k o = []
 
 -- activity t, where k is the number of the first; none where there is no such activity
@@ -240,7 +240,7 @@ unfoldable mutual
       elim (eqb k t) [
         | true ↦ q
         | false ↦ elim (isScope own) [
-          | true ↦ placeParts within (k + 1) t (bodyOf (inner k) (beyondIn (hasUndo own) q) (lastIn (hasUndo own) q)) (faultOf (inner k) (beyondIn (hasUndo own) q) (lastIn (hasUndo own) q)) (undoOf (nameOf q) (beyondOf q) (lastOf q))
+          | true ↦ placeParts (generalPart (numbersOf own)) within (k + 1) t (bodyOf (inner k) (beyondIn (hasUndo own) q) (lastIn (hasUndo own) q)) (faultOf (inner k) (beyondIn (hasUndo own) q) (lastIn (hasUndo own) q)) (undoOf (nameOf q) (beyondOf q) (lastOf q))
           | false ↦ placeAmong within (k + 1) t q
         ]
       ]
@@ -249,10 +249,11 @@ unfoldable mutual
   placeAmong none c t q = q
   placeAmong (more a l) c t q = elim (ltb t (c + size a)) [ true ↦ placeIn a c t q | false ↦ placeAmong l (c + size a) t q ]
 
-  -- the parts of a scope, each in its place
-  pub placeParts : Acts → (c t : ℕ) → (body fault undo : Place) → Place
-  placeParts none c t b f u = u
-  placeParts (more a l) c t b f u = elim (ltb t (c + size a)) [ true ↦ placeIn a c t b | false ↦ placeParts l (c + size a) t f u u ]
+  -- the parts of a scope, each in its place: the next, after it `left` fault parts, and then the undo part
+  pub placeParts : (left : ℕ) → Acts → (c t : ℕ) → (here fault undo : Place) → Place
+  placeParts n none c t q f u = u
+  placeParts zero (more a l) c t q f u = elim (ltb t (c + size a)) [ true ↦ placeIn a c t q | false ↦ placeParts zero l (c + size a) t u f u ]
+  placeParts (suc n) (more a l) c t q f u = elim (ltb t (c + size a)) [ true ↦ placeIn a c t q | false ↦ placeParts n l (c + size a) t f f u ]
 
 unfoldable pub placeOf : Plan → (t : ℕ) → Place
 placeOf p t =
@@ -494,8 +495,8 @@ HandledBecause =
 -- fault part, it is handling (so that by the lists it has undone all); in an undo part, the scope that runs it is undoing.
 abbrev pub fits : Place → Order → Bool
 fits (bodyOf n ns m) o = isOpen (markOf n o)
-fits (faultOf n ns m) o = eqb (markOf n o) handling
-fits (undoOf n ns m) o = eqb (markOf n o) undoing || eqb (markOf n o) withdrawing
+fits (faultOf n ns m) o = eqb (stateOf n o) handling
+fits (undoOf n ns m) o = eqb (stateOf n o) undoing || eqb (markOf n o) withdrawing
 
 unfoldable pub PlacesTold : Type 0
 PlacesTold = Always (λ p o past. isLive o ≡ true → every (λ r. fits (placeNow p o (r .activity)) o) (readyOf p o) ≡ true)
@@ -516,19 +517,16 @@ NeverStuck = Always (λ p o past. isLive o ≡ true → some (λ r. isStep (r .s
 -- directly inside it or inside one there that has no undo part and is not left running; never more than one; and no scope but one that undoes has any; one that
 -- handles has something running in its fault part.
 
--- 1 where the third of these, the undo part of a scope, runs, and 0 where not
-unfoldable pub undoRuns : Acts → (c : ℕ) → (marks : List ℕ) → ℕ
-undoRuns none c ms = 0
-undoRuns (more b none) c ms = 0
-undoRuns (more b (more f none)) c ms = 0
-undoRuns (more b (more f (more u l))) c ms = cond (quiet (c + size b + size f) (size u) ms) 0 1
+-- 1 where the undo part of a scope, the last of these, runs, and 0 where not
+unfoldable pub undoRuns : (numbers : List ℕ) → Acts → (c : ℕ) → (marks : List ℕ) → ℕ
+undoRuns ns l c ms = cond (quiet (partAt (undoPart ns) l c) (size (part (undoPart ns) l)) ms) 0 1
 
 -- how many undo parts run, of the scopes of activity k with no other scope around them there; looking through one that has no undo part and is idle
 unfoldable mutual
   pub undosIn : Act → (k : ℕ) → (marks : List ℕ) → ℕ
   undosIn (act own within) k ms =
       elim (isScope own) [
-        | true ↦ cond (hasUndo own) (undoRuns within (k + 1) ms) (cond (eqb (getD ms k 0) idle) (undosFirst within (k + 1) ms) 0)
+        | true ↦ cond (hasUndo own) (undoRuns (numbersOf own) within (k + 1) ms) (cond (eqb (getD ms k 0) idle) (undosFirst within (k + 1) ms) 0)
         | false ↦ undosAmong within (k + 1) ms
       ]
 
@@ -542,15 +540,17 @@ unfoldable mutual
   undosAmong (more a l) c ms = undosIn a c ms + undosAmong l (c + size a) ms
 
 unfoldable pub movesOn : Scope → (mark : ℕ) → (marks : List ℕ) → Bool
-movesOn s m ms =
-    (not (eqb m faulty || eqb m halted) || innerRuns (s .body) (s .bodyAt) ms)
-    && (eqb (undosIn (s .body) (s .bodyAt) ms) (cond (eqb m undoing || eqb m withdrawing) 1 0)
-    && (not (eqb m handling) || not (quiet (s .faultAt) (size (s .fault)) ms)))
+movesOn s mark ms =
+    let m = stateIn mark in
+    let c = choiceIn mark in
+    (not (eqb m faulty || eqb mark halted) || innerRuns (s .body) (s .bodyAt) ms)
+    && (eqb (undosIn (s .body) (s .bodyAt) ms) (cond (eqb m undoing || eqb mark withdrawing) 1 0)
+    && (not (eqb m handling) || not (quiet (chosenAt c s) (size (chosenPart c s)) ms)))
 
 unfoldable mutual
   pub goIn : Act → (k : ℕ) → (marks : List ℕ) → Bool
   goIn (act own within) k ms =
-      cond (isScope own) ((not (hasUndo own) && eqb (getD ms k 0) idle) || movesOn (scopeAt k within) (getD ms k 0) ms) true
+      cond (isScope own) ((not (hasUndo own) && eqb (getD ms k 0) idle) || movesOn (scopeAt (numbersOf own) k within) (getD ms k 0) ms) true
       && goAmong within (k + 1) ms
 
   pub goAmong : Acts → (c : ℕ) → (marks : List ℕ) → Bool

@@ -21,7 +21,7 @@ use Rattle.machine.specs.Calls.{endNumber, loaded, Call}
 use Rattle.undoing.specs.History.{history}
 use Rattle.undoing.specs.Demand3.{scopesOf, closingsOf, undoneOf, hasTurned, isLeft, mayTurn, noneNow, right}
 use Rattle.undoing.specs.Ties.{orderAfter, isTurned, remembered, isDeed, deedsTaken, placeNow, heedsAfter, endsIn, endsTaken, causesIn, causesTaken, fits, isStep, movesOn, goIn}
-use Rattle.undoing.specs.Orderly.{isCause, orderlyAfter}
+use Rattle.undoing.specs.Orderly.{isChoice, isCause, orderlyAfter}
 use Rattle.undoing.specs.Begun.{Taken, isMarked, hasBegun, isLed, ofEach, stepsTaken}
 use Rattle.undoing.specs.Entirely.{ofAll, isOnce, isAfresh, isEntire, isLocal, isAwaited, chained, isStopped, allGoOn}
 use Rattle.undoing.specs.Standing.{stands}
@@ -69,8 +69,8 @@ pub data Named : Type 0 where
   live : Named
   -- the mark of a scope is what the history says of it
   marks : Named
-  -- the root that faulted keeps the number of its fault
-  kept : Named
+  -- a scope that faulted keeps the choice of its fault part for the number that it faulted with, and the root that number
+  choices : Named
   -- closings since a scope began are those undone, then those remembered
   lists : Named
   -- what awaits its step stands in a scope that lets it
@@ -162,7 +162,7 @@ broken p ds es xs ts o l =
     ++ (unless (sameBool (isLive o) (not (noneNow past))) live
     ++ cond (isLive o)
     (unless (every (markTold o past) (namesOf p)) marks
-    ++ (unless (isCause o past) kept
+    ++ (unless (every (isChoice p o past) (namesOf p) && isCause o past) choices
     ++ (unless (every (listTold p o past) (namesOf p)) lists
     ++ (unless (every (λ r. fits (placeNow p o (r .activity)) o) (readyOf p o)) places
     ++ (unless (movesOn (rootOf p) (o .root) (o .marks) && (goIn (p .body) 0 (o .marks) && goIn (p .fault) (size (p .body)) (o .marks))) goingOn

@@ -93,6 +93,10 @@ fn told(seen: &Seen, full: bool) {
     );
     println!("absorbed was fault {}", by_number(&seen.absorbed));
     println!(
+        "fault parts of scopes that have some by number: {} by number, {} general ones",
+        seen.by_number, seen.general
+    );
+    println!(
         "handed on: {} closings, {} closes at 32; {} undo parts started by a scope further out",
         seen.handed, seen.handed_full, seen.through
     );
@@ -129,6 +133,8 @@ fn told(seen: &Seen, full: bool) {
         seen.handed_full,
         seen.conflicts,
         seen.many_conflicts,
+        seen.by_number,
+        seen.general,
     ];
     let missing = seen.refusals[10..].contains(&0)
         || seen.ends.contains(&0)

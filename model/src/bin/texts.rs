@@ -422,7 +422,7 @@ fn damaged(random: &mut Random, text: &str) -> String {
             }
             15 => {
                 // a variable or a word is added to the end
-                const MORE: [&str; 9] = [
+                const MORE: [&str; 10] = [
                     ", v0",
                     ", v1, v2, v3",
                     " + 1",
@@ -431,6 +431,7 @@ fn damaged(random: &mut Random, text: &str) -> String {
                     " # raise",
                     " raise",
                     " 17",
+                    " part 17: raise",
                     " )",
                 ];
                 lines[at] += MORE[random.below(MORE.len())];

@@ -298,7 +298,7 @@ fn damage(random: &mut Random, table: &mut Vec<u32>) {
     }
     let at = random.below(count);
     let place = at * PLACES + random.below(8);
-    match random.below(15) {
+    match random.below(16) {
         0 => table[place] = random.value(),
         1 => table[place] = table[place].wrapping_add(1),
         2 => table[place] = table[place].wrapping_sub(1),
@@ -307,7 +307,7 @@ fn damage(random: &mut Random, table: &mut Vec<u32>) {
         4 => table[at * PLACES + 1] = random.below(17) as u32,
         // Another row altogether.
         5 => {
-            let rows: [&[u32]; 9] = [
+            let rows: [&[u32]; 11] = [
                 &[0],
                 &[4],
                 &[11],
@@ -317,6 +317,8 @@ fn damage(random: &mut Random, table: &mut Vec<u32>) {
                 &[10, 1],
                 &[13, 16],
                 &[13, 256],
+                &[14, 1, 16],
+                &[14, 2, 0, 255],
             ];
             let one = rows::row(rows[random.below(rows.len())]);
             table[at * PLACES..(at + 1) * PLACES].copy_from_slice(&one);
@@ -361,6 +363,22 @@ fn damage(random: &mut Random, table: &mut Vec<u32>) {
                 one[0] = 1;
             }
             table[at * PLACES..(at + 1) * PLACES].copy_from_slice(&one);
+        }
+        // Another number of a scope with fault parts by number, or another count.
+        14 => {
+            let scopes: Vec<usize> = (1..count)
+                .map(|row| row * PLACES)
+                .filter(|&row| table[row + 1] == 14 && table[row] > 2)
+                .collect();
+            if let Some(last) = scopes.len().checked_sub(1) {
+                let row = scopes[random.below(last + 1)];
+                let place = row + 2 + random.below(table[row].min(10) as usize - 1);
+                let telling = [0, 1, 4, 5, 8, 9, 15, 16, 255, 256];
+                table[place] = match random.below(3) {
+                    0 => table[row + 3],
+                    _ => telling[random.below(telling.len())],
+                };
+            }
         }
         // A body that is no start form: its first activity made empty.
         _ => {
