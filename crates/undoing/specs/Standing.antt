@@ -23,7 +23,7 @@ holdingOf n = cond ((eqb n 6 || eqb n 7) || eqb n 10) inside (cond (eqb n 8 || e
 
 -- which of the parts after a scope's body is the one that it chose, by its mark: the general one stands after those by number
 unfoldable pub choiceOn : (numbers : List ℕ) → (mark : ℕ) → ℕ
-choiceOn ns m = cond (ltb 0 (choiceIn m) && leb (choiceIn m) (length ns)) (choiceIn m - 1) (length ns)
+choiceOn ns m = cond (ltb 0 (choiceIn m) && (ltb (choiceIn m) 9 && leb (choiceIn m) (length ns))) (choiceIn m - 1) (length ns)
 
 abbrev pub isNone : Acts → Bool
 isNone none = true
