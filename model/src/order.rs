@@ -415,7 +415,7 @@ impl Running<'_> {
             let choice = choice(self.mark(scope));
             let numbers = self.plan.numbers(scope).len();
             self.by_number += usize::from((1..=numbers).contains(&choice));
-            self.general += usize::from(choice == 0 && numbers > 0);
+            self.general += usize::from(!(1..=numbers).contains(&choice) && numbers > 0);
             if !self.begin(self.plan.fault(scope, choice)) {
                 return;
             }

@@ -158,10 +158,11 @@ impl Plan {
         }
     }
 
-    /// Which fault part is for a fault of this number: the i-th of those by number, or 0 for the general one.
+    /// Which fault part is for a fault of this number: the i-th of those by number, or beyond eight for the general one, with what it says of the fault.
     pub fn choice(&self, scope: Scope, number: Fault) -> usize {
         let equal = self.numbers(scope).iter().position(|&each| each == number);
-        equal.map_or(0, |at| at + 1)
+        let general = if number <= 5 { 9 + number as usize } else { 15 };
+        equal.map_or(general, |at| at + 1)
     }
 
     /// The fault part of this choice; the general one where there is no such part.

@@ -64,7 +64,12 @@ fn some_slot(random: &mut Random, state: &State) -> usize {
 }
 
 fn root(random: &mut Random) -> u8 {
-    [ACTIVE, ACTIVE, FAULTED, UNDOING, HANDLING][random.below(5)]
+    let mark = [ACTIVE, ACTIVE, FAULTED, UNDOING, HANDLING][random.below(5)];
+    if mark == ACTIVE {
+        return mark;
+    }
+    // With a choice, which the root has for what it says of the fault.
+    [0, 1, 8, 9, 14, 15][random.below(6)] << 4 | mark
 }
 
 fn fault(random: &mut Random) -> Fault {
@@ -80,7 +85,7 @@ fn mark(random: &mut Random, plan: &Plan, k: usize) -> u8 {
         let mark = random.below(9) as u8;
         // With a choice that the scope may not have.
         let most = match mark {
-            FAULTED | UNDOING | HANDLING => [0, plan.numbers(Some(k)).len(), 8][random.below(3)],
+            FAULTED | UNDOING | HANDLING => [0, plan.numbers(Some(k)).len(), 15][random.below(3)],
             _ => 0,
         };
         (random.from_to(0, most) as u8) << 4 | mark
@@ -212,7 +217,7 @@ fn beyond(random: &mut Random, state: &mut State) {
         0 => order.root = [2, 3, 7, 8, 9, 255][random.below(6)],
         // On both sides of the limit.
         10 => order.cause = [4, 5, 6, 14, 15, 16][random.below(6)],
-        // On both sides of the limit: choices beside what has none, and a ninth.
+        // On both sides of the limit: choices beside what has none.
         1 => {
             let marks = [
                 9, 10, 15, 0x10, 0x11, 0x17, 0x18, 0x80, 0x84, 0x86, 0x94, 0xF5, 0xFF,

@@ -17,8 +17,8 @@ pub const ACTIVE: u8 = 1;
 pub const INSIDE: u8 = 2;
 /// Of scopes: the body is done.
 pub const DONE: u8 = 3;
-/// Faulted, and waiting for inner scopes. This and the next two have beside them the fault part that the scope chose, in the upper four bits: 0 the general
-/// one, i the i-th by number.
+/// Faulted, and waiting for inner scopes. This and the next two have beside them the fault part that the scope chose, in the upper four bits: i the i-th by
+/// number, any other the general one, which is 9 + n for a fault n of 0 to 5 and 15 for one of 16 to 255.
 pub const FAULTED: u8 = 4;
 pub const UNDOING: u8 = 5;
 /// Running its fault part.
@@ -37,8 +37,7 @@ pub fn choice(mark: u8) -> usize {
 }
 
 fn is_mark(mark: u8) -> bool {
-    mark <= STOPPED_UNDOING
-        || choice(mark) <= 8 && matches!(bare(mark), FAULTED | UNDOING | HANDLING)
+    mark <= STOPPED_UNDOING || matches!(bare(mark), FAULTED | UNDOING | HANDLING)
 }
 
 #[derive(Clone, Copy, Debug, Default, PartialEq, Eq)]
@@ -112,7 +111,7 @@ impl Order {
     }
 
     fn in_limits(&self) -> bool {
-        matches!(self.root, IDLE | ACTIVE | FAULTED | UNDOING | HANDLING)
+        (matches!(self.root, IDLE | ACTIVE) || matches!(bare(self.root), FAULTED | UNDOING | HANDLING))
             && self.marks.iter().all(|&mark| is_mark(mark))
             && self.bound.iter().all(|&bound| bound <= 1)
             && self.kept <= REMEMBERED as u64

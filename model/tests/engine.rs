@@ -274,15 +274,15 @@ fn the_part_that_a_scope_chose() {
     let at = model::layout::ORDERS + model::layout::ORDER_MARKS;
     assert_eq!(state[at + 2], 2 << 4 | 6);
     assert_eq!(packed::offer(&state, 0), 5 << 16);
-    // A choice stands beside 4, 5 and 6 alone, and is 8 at most.
+    // A choice stands beside 4, 5 and 6 alone.
     for mark in 0..=255u8 {
-        let legal = mark <= 8 || mark >> 4 <= 8 && (4..=6).contains(&(mark & 15));
+        let legal = mark <= 8 || (4..=6).contains(&(mark & 15));
         let mut other = state.clone();
         other[at + 200] = mark;
         assert_eq!(packed::offers(&other) >> 40 == 17, !legal, "{mark}");
     }
     // A scope that undoes, and then has no more to undo, takes the part that its mark tells; the general one where there is none such.
-    for (choice, part) in [(0, 6), (1, 4), (2, 5), (3, 6), (8, 6)] {
+    for (choice, part) in [(0, 6), (1, 4), (2, 5), (3, 6), (8, 6), (9, 6), (15, 6)] {
         let mut other = state.clone();
         other[at + 5] = 0;
         other[at + 2] = choice << 4 | 4;
