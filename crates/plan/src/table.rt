@@ -36,6 +36,12 @@ pub const VARIABLE: usize = 8;
 
 pub const EXPRESSION: usize = 9;
 
+// A scope has the count of its fault parts by number where those have their count, and their numbers, eight at most, in the places that it has no use for: the
+// first two from FIRST_NUMBERS on, the third and those after it from OTHER_NUMBERS on.
+pub const FIRST_NUMBERS: usize = PARTNER;
+
+pub const OTHER_NUMBERS: usize = VARIABLES;
+
 // The place of the first byte; the number after the last activity within; and the place after the last byte.
 pub const PLACE: usize = 10;
 
