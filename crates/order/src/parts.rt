@@ -9,7 +9,7 @@ use super::memory::wide;
 use super::rows::end_of;
 use super::rows::number_at;
 use plan::table::Table;
-ghost use Prim.Native.Nat.{_≤_, _<_};
+ghost use Prim.Native.Nat.{_+_, _≤_, _<_};
 ghost use mathlib.Core.Path.{_≡_};
 ghost use Rattle.order.specs.Answering.{Chooses, Faulting, PartRow, chosenIndex, ChosenRow, UndoRow};
 ghost use Rattle.order.specs.Scope.{generalFor};
