@@ -8,7 +8,7 @@ use borrow.Author.Tests.{eqb-true, lt-ltb, le-leb, leb-true, ltb-true}
 use lib.Dec.{eqb, ltb, leb}
 use lib.ListN.{length, getD, take, drop, set, length-append, length-map, length-reverse}
 use Rattle.plan.specs.Found.{among}
-use Rattle.plan.specs.Tree.{Exp, Own, empty, send, receive, set as setting, raise, leave, choose, repeat, sequence, flow, pick, scope, arm, kind, isScope, hasUndo, isPick, Act, act, Acts, none, more, Plan, size, sizes}
+use Rattle.plan.specs.Tree.{Exp, Own, empty, send, receive, set as setting, raise, leave, choose, repeat, sequence, flow, pick, scope, arm, kind, isScope, hasUndo, numbersOf, undoPart, isPick, Act, act, Acts, none, more, Plan, size, sizes}
 use Rattle.plan.proofs.Accepts.{both}
 use Rattle.order.specs.declared.Closing.{Closing}
 use Rattle.plan.specs.Within.{planWithin}
@@ -20,9 +20,9 @@ use Rattle.order.specs.declared.End.the-variants.{None, Well, Handled, Failed, 
 use Rattle.order.specs.Lists.{every, only, withoutFirst, withoutLast}
 use Rattle.order.specs.Event.{Event}
 use Rattle.order.specs.Expression.{isFaultNumber, unboundVariable, conflictingReceive, Value, fault, value, evaluate, isTrue}
-use Rattle.order.specs.State.{idle, active, inside, done, faulty, undoing, handling, halted, withdrawing, Name, root, inner, withMarks, withRoot, binding, closingOf, closings, remembering, markAt, marked, markOf, marking, causing, noOrder}
+use Rattle.order.specs.State.{idle, active, inside, done, faulty, undoing, handling, halted, withdrawing, Name, root, inner, withMarks, withRoot, binding, closingOf, closings, remembering, markAt, marked, markOf, marking, stateOf, choiceOf, going, markWith, causing, noOrder}
 use Rattle.order.specs.Begin.{Begun, begin, beginInTurn, beginAll, beginFirst, beginAfter, beginPart, part, partAt, throughout, around, itsBeginning, inTurn, sideBySide, nothingBegun, awaiting, cleared, quiet}
-use Rattle.order.specs.Scope.{Outcome, Scope, Stopped, runs, after, begunIn, scopeAt, rootOf, isFor, listOf, rememberedFor, forgetting, adds, closing, innerRuns, beginUndo, beginUndoFirst, beginUndoIn, whereOver, startUndo, undo, ends, handle, undoes, turns, isOpen, untouched, alsoStopped, withdraws, stop, stopAll, stopFirst, faults, breaks, looksAgain, bodyOver, bodyRaised, undoOver, undoRaised, fromBody, partOver, partRaised, fromFault, goesThrough, fromUndo}
+use Rattle.order.specs.Scope.{Outcome, Scope, Stopped, runs, after, begunIn, scopeAt, choiceFor, chosenPart, chosenAt, rootOf, isFor, listOf, rememberedFor, forgetting, adds, closing, innerRuns, beginUndo, beginUndoFirst, beginUndoIn, whereOver, startUndo, undo, ends, handle, undoes, turns, isOpen, untouched, alsoStopped, withdraws, stop, stopAll, stopFirst, faults, breaks, looksAgain, bodyOver, bodyRaised, undoOver, undoRaised, fromBody, partOver, partRaised, fromFault, goesThrough, fromUndo}
 use Rattle.order.specs.Acting.{finishes, raises, leaves, orRaises, enters, again, repeats, allBound, itself, isPart, arms, goesOn, joins, inScope, combines, stepIn, stepAmong, stepRoot, endOf, movedTo, startedOrder, begunOrder, Actor, itsOwn, inPlace, replaces, performs, Moved, acted}
 use Rattle.order.specs.Awaited.{Doing, noStep, sends, takes, moves, cuts, closes, Ready, readyOf}
 use Rattle.order.specs.Judging.{isSecond, Verdict, clear, clash, clashAfter, conflict, following, upon, judged, spare, settled, stepOrder}
@@ -31,7 +31,7 @@ use Rattle.laws.proofs.Roomy.{roomOf, plan-room}
 use Rattle.order.specs.Room.{hasRoom, roomIn, roomAmong, roomPlan}
 use Rattle.order.specs.Taking.{bindAll}
 use Rattle.order.proofs.MemoryReturns.{closings-are}
-use Rattle.machine.specs.Limits.{rootInLimits, orderInLimits}
+use Rattle.machine.specs.Limits.{rootInLimits, markInLimits, orderInLimits}
 use Rattle.laws.proofs.Limited.{Limited, LimitedAll, limited-within, limited-first, limited-rest, limited-parts}
 use Rattle.laws.proofs.Numbers.{hasNumber, Numbered, number-step, number-among}
 use Rattle.laws.proofs.Offering.{pick-true, pick-false, Each, each-none, each-more, Does, plan-ready}
@@ -45,13 +45,13 @@ every-set f (x ∷ l) (suc i) v h e = both (f x) (every f l) e (λ a b. rw (a, e
 
 -- marks within their limits
 pub record Small (ms : List ℕ) : Type 0 where
-  pub is : every (λ m. leb m withdrawing) ms ≡ true
+  pub is : every markInLimits ms ≡ true
 
 abbrev Smalls : Begun → Type 0
 Smalls r = Small (r .marks)
 
-small-set : {ms : List ℕ} (k m : ℕ) → leb m withdrawing ≡ true → Small ms → Small (set ms k m)
-small-set {ms} k m h s = record { is = every-set (λ m. leb m withdrawing) ms k m h (s .is) }
+small-set : {ms : List ℕ} (k m : ℕ) → markInLimits m ≡ true → Small ms → Small (set ms k m)
+small-set {ms} k m h s = record { is = every-set markInLimits ms k m h (s .is) }
 
 small-cleared : (n k : ℕ) {ms : List ℕ} → Small ms → Small (cleared k n ms)
 unfolding cleared
@@ -96,7 +96,7 @@ mutual
   small-begin (act sequence l) k ms s = small-throughout k (beginInTurn l (k + 1) (set ms k active)) (small-in-turn l (k + 1) _ (small-set k active refl s))
   small-begin (act flow l) k ms s = small-throughout k (beginAll l (k + 1) (set ms k active)) (small-all l (k + 1) _ (small-set k active refl s))
   small-begin (act pick l) k ms s = small-set k active refl s
-  small-begin (act (scope u) l) k ms s = small-around k (beginFirst l (k + 1) (set ms k active)) (small-first l (k + 1) _ (small-set k active refl s))
+  small-begin (act (scope ns u) l) k ms s = small-around k (beginFirst l (k + 1) (set ms k active)) (small-first l (k + 1) _ (small-set k active refl s))
   small-begin (act (arm p o vs) l) k ms s = s
 
   small-in-turn : (l : Acts) (c : ℕ) (ms : List ℕ) → Small ms → Small (beginInTurn l c ms .marks)
@@ -129,11 +129,11 @@ mutual
 
   small-undo : (a : Act) (k e : ℕ) (ms : List ℕ) → Small ms → Small (beginUndo a k e ms .marks)
   small-undo (act own l) k e ms s =
-      go (isScope own) (hasUndo own) (eqb k e) (small-part 2 l (k + 1) ms s) (small-undo-first l (k + 1) e ms s) (small-undo-in l (k + 1) e ms s)
+      go (isScope own) (hasUndo own) (eqb k e) (small-part (undoPart (numbersOf own)) l (k + 1) ms s) (small-undo-first l (k + 1) e ms s) (small-undo-in l (k + 1) e ms s)
     where
-      go : (b u v : Bool) → Small (beginPart 2 l (k + 1) ms .marks) → Small (beginUndoFirst l (k + 1) e ms .marks) → Small (beginUndoIn l (k + 1) e ms .marks)
+      go : (b u v : Bool) → Small (beginPart (undoPart (numbersOf own)) l (k + 1) ms .marks) → Small (beginUndoFirst l (k + 1) e ms .marks) → Small (beginUndoIn l (k + 1) e ms .marks)
           → Smalls (elim b [
-            | true ↦ cond u (cond v (beginPart 2 l (k + 1) ms) (nothingBegun ms)) (beginUndoFirst l (k + 1) e ms)
+            | true ↦ cond u (cond v (beginPart (undoPart (numbersOf own)) l (k + 1) ms) (nothingBegun ms)) (beginUndoFirst l (k + 1) e ms)
             | false ↦ beginUndoIn l (k + 1) e ms
           ])
       go true true true x y w = x
@@ -179,13 +179,13 @@ FineStopped z r = Fine false z (r .order)
 -- what a mark of a scope may become
 unfoldable Marks : Bool → ℕ → Type 0
 Marks true m = rootInLimits m ≡ true
-Marks false m = leb m withdrawing ≡ true
+Marks false m = markInLimits m ≡ true
 
 module _ {b : Bool} {z : ℕ} where
   fine-marks : {o : Order} {ms : List ℕ} → Fine b z o → Small ms → Fine b z (withMarks ms o)
   fine-marks f s = record { root = f .root; marks = s; bound = f .bound; kept = f .kept; cause = f .cause }
 
-  fine-marked : {o : Order} (k m : ℕ) → leb m withdrawing ≡ true → Fine b z o → Fine b z (marked k m o)
+  fine-marked : {o : Order} (k m : ℕ) → markInLimits m ≡ true → Fine b z o → Fine b z (marked k m o)
   fine-marked k m h f = fine-marks f (small-set k m h (f .marks))
 
   fine-remembering : {o : Order} (l : List Closing) → length l ≤ 32 → Fine b z o → Fine b z (remembering l o)
@@ -275,7 +275,7 @@ fine-causing : {b : Bool} {z : ℕ} {o : Order} (n : Name) (x : ℕ) → isFault
 fine-causing root x h f = record { root = f .root; marks = f .marks; bound = f .bound; kept = f .kept; cause = h }
 fine-causing (inner k) x h f = f
 
-any-mark : (b : Bool) (m : ℕ) → leb m withdrawing ≡ true → rootInLimits m ≡ true → Marks b m
+any-mark : (b : Bool) (m : ℕ) → markInLimits m ≡ true → rootInLimits m ≡ true → Marks b m
 unfolding Marks
 any-mark true m h g = g
 any-mark false m h g = h
@@ -300,15 +300,15 @@ module _ {z : ℕ} (s : Scope) where
   fine-handle : {o : Order} → Fine (isRoot (s .name)) z o → Fine (isRoot (s .name)) z (handle s o .order)
   unfolding handle rootInLimits among
   fine-handle {o} f =
-      let o′ = marking (s .name) handling o in
+      let o′ = going (s .name) handling o in
       let g = fine-marking (s .name) handling (any-mark (isRoot (s .name)) handling refl refl) f in
       fine-over (begunIn o′ (begin (s .fault) (s .faultAt) (o′ .marks))) (ends s) (fine-marks g (small-begin (s .fault) (s .faultAt) (o′ .marks) (g .marks))) (λ q h. fine-ends h)
 
   fine-undoes : {o : Order} (w : Bool) → Marks (isRoot (s .name)) (cond w undoing withdrawing) → Fine (isRoot (s .name)) z o → Fine (isRoot (s .name)) z (undoes w s o .order)
   unfolding undoes
   fine-undoes {o} true m f =
-      let o′ = marking (s .name) undoing o in
-      fine-over (undo (rememberedFor s o′) s o′) (handle s) (fine-undo (rememberedFor s o′) s (fine-marking (s .name) undoing m f)) (λ q h. fine-handle h)
+      let o′ = going (s .name) undoing o in
+      fine-over (undo (rememberedFor s o′) s o′) (handle s) (fine-undo (rememberedFor s o′) s (fine-going (s .name) undoing m f)) (λ q h. fine-handle h)
   fine-undoes {o} false m f =
       let o′ = marking (s .name) withdrawing o in
       fine-over (undo (rememberedFor s o′) s o′) (ends s) (fine-undo (rememberedFor s o′) s (fine-marking (s .name) withdrawing m f)) (λ q h. fine-ends h)
@@ -332,13 +332,13 @@ mutual
   fine-stop : {z : ℕ} {o : Order} (a : Act) (k : ℕ) → Fine false z o → Fine false z (stop a k o .order)
   fine-stop {z} {o} (act own l) k f =
       go (isScope own) (isOpen (markAt k o))
-      (fine-turns (scopeAt k l) false refl (fine-stop-first l (k + 1) (fine-marked k halted refl f)))
+      (fine-turns (scopeAt (numbersOf own) k l) false refl (fine-stop-first l (k + 1) (fine-marked k halted refl f)))
       (fine-stop-all l (k + 1) (fine-marked k idle refl f))
     where
-      go : (x y : Bool) → Fine false z (withdraws k (scopeAt k l) (stopFirst l (k + 1) (marked k halted o)) .order) → Fine false z (stopAll l (k + 1) (marked k idle o) .order)
+      go : (x y : Bool) → Fine false z (withdraws k (scopeAt (numbersOf own) k l) (stopFirst l (k + 1) (marked k halted o)) .order) → Fine false z (stopAll l (k + 1) (marked k idle o) .order)
           → FineStopped z (elim x [
             | true ↦ elim y [
-              | true ↦ withdraws k (scopeAt k l) (stopFirst l (k + 1) (marked k halted o))
+              | true ↦ withdraws k (scopeAt (numbersOf own) k l) (stopFirst l (k + 1) (marked k halted o))
               | false ↦ untouched o
             ]
             | false ↦ stopAll l (k + 1) (marked k idle o)
@@ -393,7 +393,7 @@ module _ {z : ℕ} (s : Scope) where
   fine-looks : {o : Order} → Fine (isRoot (s .name)) z o → Fine (isRoot (s .name)) z (looksAgain s o .order)
   unfolding looksAgain rootInLimits among
   fine-looks {o} f =
-      fine-pick (eqb (markOf (s .name) o) faulty) (turns true s o) (elim (eqb (markOf (s .name) o) halted) [ true ↦ turns false s o | false ↦ runs o ]) (λ e. fine-turns-fault s f)
+      fine-pick (eqb (stateOf (s .name) o) faulty) (turns true s o) (elim (eqb (markOf (s .name) o) halted) [ true ↦ turns false s o | false ↦ runs o ]) (λ e. fine-turns-fault s f)
       (λ e. fine-pick (eqb (markOf (s .name) o) halted) (turns false s o) (runs o) (λ d. fine-turns s false (not-root (s .name) halted refl f d) f) (λ d. f))
 
   fine-raised : {o : Order} (n : ℕ) → isFaultNumber n ≡ true → Fine (isRoot (s .name)) z o → Fine (isRoot (s .name)) z (bodyRaised n s o .order)
@@ -403,12 +403,12 @@ module _ {z : ℕ} (s : Scope) where
   fine-undo-over : {o : Order} → Fine (isRoot (s .name)) z o → Fine (isRoot (s .name)) z (undoOver s o .order)
   unfolding undoOver rootInLimits among
   fine-undo-over {o} f =
-      fine-pick (eqb (markOf (s .name) o) undoing) (undoes true s o) (elim (eqb (markOf (s .name) o) withdrawing) [ true ↦ undoes false s o | false ↦ runs o ]) (λ e. fine-undoes-fault s f)
+      fine-pick (eqb (stateOf (s .name) o) undoing) (undoes true s o) (elim (eqb (markOf (s .name) o) withdrawing) [ true ↦ undoes false s o | false ↦ runs o ]) (λ e. fine-undoes-fault s f)
       (λ e. fine-pick (eqb (markOf (s .name) o) withdrawing) (undoes false s o) (runs o) (λ d. fine-undoes s false (not-root (s .name) withdrawing refl f d) f) (λ d. f))
 
   fine-undo-raised : {o : Order} (n : ℕ) → Fine (isRoot (s .name)) z o → Fine (isRoot (s .name)) z (undoRaised n s o .order)
   unfolding undoRaised
-  fine-undo-raised {o} n f = fine-pick (eqb (markOf (s .name) o) undoing || eqb (markOf (s .name) o) withdrawing) (breaks n s o) (runs o) (λ e. fine-breaks n f) (λ e. f)
+  fine-undo-raised {o} n f = fine-pick (eqb (stateOf (s .name) o) undoing || eqb (markOf (s .name) o) withdrawing) (breaks n s o) (runs o) (λ e. fine-breaks n f) (λ e. f)
 
   fine-body-over : {o : Order} → Marks (isRoot (s .name)) done → Fine (isRoot (s .name)) z o → Fine (isRoot (s .name)) z (bodyOver s o .order)
   unfolding bodyOver
@@ -416,11 +416,11 @@ module _ {z : ℕ} (s : Scope) where
 
   fine-part-over : {o : Order} → Fine (isRoot (s .name)) z o → Fine (isRoot (s .name)) z (partOver s o .order)
   unfolding partOver
-  fine-part-over {o} f = fine-pick (eqb (markOf (s .name) o) handling) (ends s o) (runs o) (λ e. fine-ends s f) (λ e. f)
+  fine-part-over {o} f = fine-pick (eqb (stateOf (s .name) o) handling) (ends s o) (runs o) (λ e. fine-ends s f) (λ e. f)
 
   fine-part-raised : {o : Order} (n : ℕ) → Fine (isRoot (s .name)) z o → Fine (isRoot (s .name)) z (partRaised n s o .order)
   unfolding partRaised
-  fine-part-raised {o} n f = fine-pick (eqb (markOf (s .name) o) handling) (breaks n s o) (runs o) (λ e. fine-breaks n f) (λ e. f)
+  fine-part-raised {o} n f = fine-pick (eqb (stateOf (s .name) o) handling) (breaks n s o) (runs o) (λ e. fine-breaks n f) (λ e. f)
 
   fine-from-body : (r : Outcome) → Numbered r → Marks (isRoot (s .name)) done → Fine (isRoot (s .name)) z (r .order) → Fine (isRoot (s .name)) z (fromBody s r .order)
   unfolding fromBody
@@ -519,7 +519,7 @@ module _ {z : ℕ} where
   fine-itself sequence l c k h f = f
   fine-itself flow l c k h f = f
   fine-itself pick l c k h f = f
-  fine-itself (scope u) l c k h f = fine-closing u c k (scopeAt k l) h f
+  fine-itself (scope ns u) l c k h f = fine-closing u c k (scopeAt ns k l) h f
   fine-itself {o} (arm p q vs) l c k h f = fine-marks f (small-part 0 l (k + 1) (o .marks) (f .marks))
 
   -- what stands around it
@@ -532,13 +532,13 @@ module _ {z : ℕ} where
   unfolding joins
   fine-joins {o} k l f = fine-pick (quiet (k + 1) (sizes l) (o .marks)) (finishes k o) (runs o) (λ e. fine-marked k idle refl f) (λ e. f)
 
-  fine-in-scope : (undo : Bool) (k t : ℕ) (l : Acts) (r : Outcome) → Numbered r → Fine false z (r .order) → Fine false z (inScope undo k t l r .order)
+  fine-in-scope : (ns : List ℕ) (undo : Bool) (k t : ℕ) (l : Acts) (r : Outcome) → Numbered r → Fine false z (r .order) → Fine false z (inScope ns undo k t l r .order)
   unfolding inScope Marks fromUndo
-  fine-in-scope undo k t l r x f =
-      fine-pick (ltb t (partAt 1 l (k + 1))) (elim (goesThrough undo k r) [ true ↦ r | false ↦ fromBody (scopeAt k l) r ])
-      (elim (ltb t (partAt 2 l (k + 1))) [ true ↦ fromFault (scopeAt k l) r | false ↦ fromUndo r ])
-      (λ e. fine-pick (goesThrough undo k r) r (fromBody (scopeAt k l) r) (λ d. f) (λ d. fine-from-body (scopeAt k l) r x refl f))
-      (λ e. fine-pick (ltb t (partAt 2 l (k + 1))) (fromFault (scopeAt k l) r) (fromUndo r) (λ d. fine-from-fault (scopeAt k l) r f) (λ d. f))
+  fine-in-scope ns undo k t l r x f =
+      fine-pick (ltb t (partAt 1 l (k + 1))) (elim (goesThrough undo k r) [ true ↦ r | false ↦ fromBody (scopeAt ns k l) r ])
+      (elim (ltb t (partAt (undoPart ns) l (k + 1))) [ true ↦ fromFault (scopeAt ns k l) r | false ↦ fromUndo r ])
+      (λ e. fine-pick (goesThrough undo k r) r (fromBody (scopeAt ns k l) r) (λ d. f) (λ d. fine-from-body (scopeAt ns k l) r x refl f))
+      (λ e. fine-pick (ltb t (partAt (undoPart ns) l (k + 1))) (fromFault (scopeAt ns k l) r) (fromUndo r) (λ d. fine-from-fault (scopeAt ns k l) r f) (λ d. f))
 
   fine-combines : (own : Own) (l : Acts) (k t : ℕ) (r : Outcome) → Numbered r → Fine false z (r .order) → Fine false z (combines own l k t r .order)
   unfolding combines
@@ -555,7 +555,7 @@ module _ {z : ℕ} where
       (λ q g. fine-over (begunIn q (beginAfter l (k + 1) t (q .marks))) (finishes k) (fine-marks g (small-after l (k + 1) t (q .marks) (g .marks))) (λ o h. fine-marked k idle refl h))
   fine-combines flow l k t r x f = fine-goes k active (joins k l) r f (λ q g. fine-joins k l g)
   fine-combines pick l k t r x f = fine-goes k inside (finishes k) r f (λ q g. fine-marked k idle refl g)
-  fine-combines (scope u) l k t r x f = fine-in-scope u k t l r x f
+  fine-combines (scope ns u) l k t r x f = fine-in-scope ns u k t l r x f
   fine-combines (arm p q vs) l k t r x f = f
 
   fine-arms : {o : Order} (own : Own) (l : Acts) (k t : ℕ) → Fine false z o → Fine false z (arms own l k t o)
@@ -618,7 +618,7 @@ pub limits-fine : (o : Order) → orderInLimits o ≡ true → Fine true 0 o
 unfolding orderInLimits RootIs
 limits-fine o e =
     both (rootInLimits (o .root)) _ e (λ a b.
-    both (every (λ m. leb m withdrawing) (o .marks)) _ b (λ c d.
+    both (every markInLimits (o .marks)) _ b (λ c d.
     both (every (λ b. leb b 1) (o .bound)) _ d (λ f g.
     both (leb (o .kept) 32) _ g (λ h i.
     record { root = a; marks = record { is = c }; bound = f; kept = leb-true _ _ h; cause = i }))))

@@ -9,3 +9,4 @@ pub mod EvaluationReturns
 pub mod Owns
 pub mod PlanStands
 pub mod Accepted
+pub mod Chosen
