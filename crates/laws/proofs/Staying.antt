@@ -1,6 +1,6 @@
 -- An order within its limits stays within them: whatever begins, stops, undoes or closes, and so for a step of it. Assumes nothing.
 use mathlib.Core.Path.{_≡_, refl, sym, ap, _∙_, subst}
-use mathlib.Core.Bool.{Bool, true, false, cond, not, _&&_, _||_}
+use mathlib.Core.Bool.{Bool, true, false, cond, not, _&&_, _||_, or-true}
 use mathlib.Core.List.{List, [], _∷_, _++_, reverse, map}
 use Prim.Native.Nat.{ℕ, zero, suc, _+_, _<_, _≤_}
 use native.Mathlib.Omega.{arith}
@@ -20,7 +20,7 @@ use Rattle.order.specs.declared.End.the-variants.{None, Well, Handled, Failed, 
 use Rattle.order.specs.Lists.{every, only, withoutFirst, withoutLast}
 use Rattle.order.specs.Event.{Event}
 use Rattle.order.specs.Expression.{isFaultNumber, unboundVariable, conflictingReceive, Value, fault, value, evaluate, isTrue}
-use Rattle.order.specs.State.{idle, active, inside, done, faulty, undoing, handling, halted, withdrawing, Name, root, inner, withMarks, withRoot, binding, closingOf, closings, remembering, markAt, marked, markOf, marking, stateOf, choiceOf, going, markWith, causing, noOrder}
+use Rattle.order.specs.State.{idle, active, inside, done, faulty, undoing, handling, halted, withdrawing, Name, root, inner, withMarks, withRoot, binding, closingOf, closings, remembering, markAt, marked, markOf, marking, stateOf, choiceOf, going, markWith, stateIn, causing, noOrder}
 use Rattle.order.specs.Begin.{Begun, begin, beginInTurn, beginAll, beginFirst, beginAfter, beginPart, part, partAt, throughout, around, itsBeginning, inTurn, sideBySide, nothingBegun, awaiting, cleared, quiet}
 use Rattle.order.specs.Scope.{Outcome, Scope, Stopped, runs, after, begunIn, scopeAt, choiceFor, chosenPart, chosenAt, rootOf, isFor, listOf, rememberedFor, forgetting, adds, closing, innerRuns, beginUndo, beginUndoFirst, beginUndoIn, whereOver, startUndo, undo, ends, handle, undoes, turns, isOpen, untouched, alsoStopped, withdraws, stop, stopAll, stopFirst, faults, breaks, looksAgain, bodyOver, bodyRaised, undoOver, undoRaised, fromBody, partOver, partRaised, fromFault, goesThrough, fromUndo}
 use Rattle.order.specs.Acting.{finishes, raises, leaves, orRaises, enters, again, repeats, allBound, itself, isPart, arms, goesOn, joins, inScope, combines, stepIn, stepAmong, stepRoot, endOf, movedTo, startedOrder, begunOrder, Actor, itsOwn, inPlace, replaces, performs, Moved, acted}
@@ -30,6 +30,7 @@ use Rattle.machine.specs.Calls.{doingAt}
 use Rattle.laws.proofs.Roomy.{roomOf, plan-room}
 use Rattle.order.specs.Room.{hasRoom, roomIn, roomAmong, roomPlan}
 use Rattle.order.specs.Taking.{bindAll}
+use Rattle.order.proofs.Chosen.{state-with}
 use Rattle.order.proofs.MemoryReturns.{closings-are}
 use Rattle.machine.specs.Limits.{rootInLimits, markInLimits, orderInLimits}
 use Rattle.laws.proofs.Limited.{Limited, LimitedAll, limited-within, limited-first, limited-rest, limited-parts}
@@ -50,8 +51,16 @@ pub record Small (ms : List ℕ) : Type 0 where
 abbrev Smalls : Begun → Type 0
 Smalls r = Small (r .marks)
 
-small-set : {ms : List ℕ} (k m : ℕ) → markInLimits m ≡ true → Small ms → Small (set ms k m)
-small-set {ms} k m h s = record { is = every-set markInLimits ms k m h (s .is) }
+small-any : {ms : List ℕ} (k m : ℕ) → markInLimits m ≡ true → Small ms → Small (set ms k m)
+small-any {ms} k m h s = record { is = every-set markInLimits ms k m h (s .is) }
+
+-- one of the nine
+nine : (m : ℕ) → leb m withdrawing ≡ true → markInLimits m ≡ true
+unfolding markInLimits
+nine m h = rw h
+
+small-set : {ms : List ℕ} (k m : ℕ) → leb m withdrawing ≡ true → Small ms → Small (set ms k m)
+small-set k m h s = small-any k m (nine m h) s
 
 small-cleared : (n k : ℕ) {ms : List ℕ} → Small ms → Small (cleared k n ms)
 unfolding cleared
@@ -185,7 +194,7 @@ module _ {b : Bool} {z : ℕ} where
   fine-marks : {o : Order} {ms : List ℕ} → Fine b z o → Small ms → Fine b z (withMarks ms o)
   fine-marks f s = record { root = f .root; marks = s; bound = f .bound; kept = f .kept; cause = f .cause }
 
-  fine-marked : {o : Order} (k m : ℕ) → markInLimits m ≡ true → Fine b z o → Fine b z (marked k m o)
+  fine-marked : {o : Order} (k m : ℕ) → leb m withdrawing ≡ true → Fine b z o → Fine b z (marked k m o)
   fine-marked k m h f = fine-marks f (small-set k m h (f .marks))
 
   fine-remembering : {o : Order} (l : List Closing) → length l ≤ 32 → Fine b z o → Fine b z (remembering l o)
@@ -268,17 +277,41 @@ fine-forgetting {o = o} s f =
 fine-marking : {z : ℕ} {o : Order} (n : Name) (m : ℕ) → Marks (isRoot n) m → Fine (isRoot n) z o → Fine (isRoot n) z (marking n m o)
 unfolding Marks RootIs
 fine-marking root m h f = record { root = h; marks = f .marks; bound = f .bound; kept = f .kept; cause = f .cause }
-fine-marking (inner k) m h f = fine-marked k m h f
+fine-marking (inner k) m h f = fine-marks f (small-any k m h (f .marks))
 
 -- the number of its fault
 fine-causing : {b : Bool} {z : ℕ} {o : Order} (n : Name) (x : ℕ) → isFaultNumber x ≡ true → Fine b z o → Fine b z (causing n x o)
 fine-causing root x h f = record { root = f .root; marks = f .marks; bound = f .bound; kept = f .kept; cause = h }
 fine-causing (inner k) x h f = f
 
-any-mark : (b : Bool) (m : ℕ) → markInLimits m ≡ true → rootInLimits m ≡ true → Marks b m
+any-mark : (b : Bool) (m : ℕ) → leb m withdrawing ≡ true → rootInLimits m ≡ true → Marks b m
 unfolding Marks
 any-mark true m h g = g
-any-mark false m h g = h
+any-mark false m h g = nine m h
+
+-- a mark that keeps its choice
+fault-mark : (b : Bool) (c m : ℕ) → among m (faulty ∷ undoing ∷ handling ∷ []) ≡ true → m < 16 → Marks b (markWith c m)
+unfolding Marks rootInLimits markInLimits
+fault-mark b c m h g = go b
+  where
+    x : among (stateIn (markWith c m)) (faulty ∷ undoing ∷ handling ∷ []) ≡ true
+    x = rw (state-with c m g) h
+
+    go : (b : Bool) → Marks b (markWith c m)
+    go true = rw x (or-true (among (markWith c m) (idle ∷ active ∷ [])))
+    go false = rw x (or-true (leb (markWith c m) withdrawing))
+
+fine-going : {z : ℕ} {o : Order} (n : Name) (m : ℕ) → among m (faulty ∷ undoing ∷ handling ∷ []) ≡ true → m < 16 → Fine (isRoot n) z o → Fine (isRoot n) z (going n m o)
+fine-going {o = o} n m h g f = fine-marking n (markWith (choiceOf n o) m) (fault-mark (isRoot n) (choiceOf n o) m h g) f
+
+-- what a scope that turns may be: the root does not stop, and so does not withdraw
+unfoldable Turning : Bool → (withFault : Bool) → Type 0
+Turning b true = Unit {0}
+Turning b false = Marks b withdrawing
+
+turn-stops : (b : Bool) → Marks b withdrawing → Turning b false
+unfolding Turning
+turn-stops b m = m
 
 -- an undo part begins, and the next
 fine-start-undo : {b : Bool} {z : ℕ} {o : Order} (e : ℕ) (s : Scope) → Fine b z o → Fine b z (startUndo e s o .order)
@@ -301,38 +334,40 @@ module _ {z : ℕ} (s : Scope) where
   unfolding handle rootInLimits among
   fine-handle {o} f =
       let o′ = going (s .name) handling o in
-      let g = fine-marking (s .name) handling (any-mark (isRoot (s .name)) handling refl refl) f in
-      fine-over (begunIn o′ (begin (s .fault) (s .faultAt) (o′ .marks))) (ends s) (fine-marks g (small-begin (s .fault) (s .faultAt) (o′ .marks) (g .marks))) (λ q h. fine-ends h)
+      let a = chosenPart (choiceOf (s .name) o) s in
+      let k = chosenAt (choiceOf (s .name) o) s in
+      let g = fine-going (s .name) handling refl (omega arith) f in
+      fine-over (begunIn o′ (begin a k (o′ .marks))) (ends s) (fine-marks g (small-begin a k (o′ .marks) (g .marks))) (λ q h. fine-ends h)
 
-  fine-undoes : {o : Order} (w : Bool) → Marks (isRoot (s .name)) (cond w undoing withdrawing) → Fine (isRoot (s .name)) z o → Fine (isRoot (s .name)) z (undoes w s o .order)
-  unfolding undoes
+  fine-undoes : {o : Order} (w : Bool) → Turning (isRoot (s .name)) w → Fine (isRoot (s .name)) z o → Fine (isRoot (s .name)) z (undoes w s o .order)
+  unfolding undoes among Turning
   fine-undoes {o} true m f =
       let o′ = going (s .name) undoing o in
-      fine-over (undo (rememberedFor s o′) s o′) (handle s) (fine-undo (rememberedFor s o′) s (fine-going (s .name) undoing m f)) (λ q h. fine-handle h)
+      fine-over (undo (rememberedFor s o′) s o′) (handle s) (fine-undo (rememberedFor s o′) s (fine-going (s .name) undoing refl (omega arith) f)) (λ q h. fine-handle h)
   fine-undoes {o} false m f =
       let o′ = marking (s .name) withdrawing o in
       fine-over (undo (rememberedFor s o′) s o′) (ends s) (fine-undo (rememberedFor s o′) s (fine-marking (s .name) withdrawing m f)) (λ q h. fine-ends h)
 
-  fine-turns : {o : Order} (w : Bool) → Marks (isRoot (s .name)) (cond w undoing withdrawing) → Fine (isRoot (s .name)) z o → Fine (isRoot (s .name)) z (turns w s o .order)
+  fine-turns : {o : Order} (w : Bool) → Turning (isRoot (s .name)) w → Fine (isRoot (s .name)) z o → Fine (isRoot (s .name)) z (turns w s o .order)
   unfolding turns
   fine-turns {o} w m f = fine-pick (innerRuns (s .body) (s .bodyAt) (o .marks)) (runs o) (undoes w s o) (λ e. f) (λ e. fine-undoes w m f)
 
   fine-undoes-fault : {o : Order} → Fine (isRoot (s .name)) z o → Fine (isRoot (s .name)) z (undoes true s o .order)
-  unfolding rootInLimits among
-  fine-undoes-fault f = fine-undoes true (any-mark (isRoot (s .name)) undoing refl refl) f
+  unfolding Turning
+  fine-undoes-fault f = fine-undoes true tt f
 
   fine-turns-fault : {o : Order} → Fine (isRoot (s .name)) z o → Fine (isRoot (s .name)) z (turns true s o .order)
-  unfolding rootInLimits among
-  fine-turns-fault f = fine-turns true (any-mark (isRoot (s .name)) undoing refl refl) f
+  unfolding Turning
+  fine-turns-fault f = fine-turns true tt f
 
 -- a body stops: the root's mark stays
 mutual
-  unfolding stop withdraws size Marks
+  unfolding stop withdraws size Marks Turning
 
   fine-stop : {z : ℕ} {o : Order} (a : Act) (k : ℕ) → Fine false z o → Fine false z (stop a k o .order)
   fine-stop {z} {o} (act own l) k f =
       go (isScope own) (isOpen (markAt k o))
-      (fine-turns (scopeAt (numbersOf own) k l) false refl (fine-stop-first l (k + 1) (fine-marked k halted refl f)))
+      (fine-turns (scopeAt (numbersOf own) k l) false (nine withdrawing refl) (fine-stop-first l (k + 1) (fine-marked k halted refl f)))
       (fine-stop-all l (k + 1) (fine-marked k idle refl f))
     where
       go : (x y : Bool) → Fine false z (withdraws k (scopeAt (numbersOf own) k l) (stopFirst l (k + 1) (marked k halted o)) .order) → Fine false z (stopAll l (k + 1) (marked k idle o) .order)
@@ -372,7 +407,7 @@ module _ {z : ℕ} (s : Scope) where
   fine-faults : {o : Order} (n : ℕ) → isFaultNumber n ≡ true → Fine (isRoot (s .name)) z o → Fine (isRoot (s .name)) z (faults n s o .order)
   unfolding faults rootInLimits among
   fine-faults n h f =
-      let g = fine-causing (s .name) n h (fine-marking (s .name) faulty (any-mark (isRoot (s .name)) faulty refl refl) f) in
+      let g = fine-causing (s .name) n h (fine-marking (s .name) (markWith (choiceFor n s) faulty) (fault-mark (isRoot (s .name)) (choiceFor n s) faulty refl (omega arith)) f) in
       fine-turns-fault s (fine-out g (fine-stop (s .body) (s .bodyAt) (fine-in g)))
 
   fine-breaks : {o : Order} (n : ℕ) → Fine (isRoot (s .name)) z o → Fine (isRoot (s .name)) z (breaks n s o .order)
@@ -388,13 +423,13 @@ module _ {z : ℕ} (s : Scope) where
       let q : o .root ≡ m = eqb-true (o .root) m e in
       let g : rootInLimits m ≡ true = rw q at (f .root) in
       absurd (let w : true ≡ false = sym g ∙ h in let v : _≡_ {A = ℕ} 0 1 = cc in omega arith)
-  not-root (inner k) m h f e = refl
+  not-root (inner k) m h f e = nine withdrawing refl
 
   fine-looks : {o : Order} → Fine (isRoot (s .name)) z o → Fine (isRoot (s .name)) z (looksAgain s o .order)
   unfolding looksAgain rootInLimits among
   fine-looks {o} f =
       fine-pick (eqb (stateOf (s .name) o) faulty) (turns true s o) (elim (eqb (markOf (s .name) o) halted) [ true ↦ turns false s o | false ↦ runs o ]) (λ e. fine-turns-fault s f)
-      (λ e. fine-pick (eqb (markOf (s .name) o) halted) (turns false s o) (runs o) (λ d. fine-turns s false (not-root (s .name) halted refl f d) f) (λ d. f))
+      (λ e. fine-pick (eqb (markOf (s .name) o) halted) (turns false s o) (runs o) (λ d. fine-turns s false (turn-stops (isRoot (s .name)) (not-root (s .name) halted refl f d)) f) (λ d. f))
 
   fine-raised : {o : Order} (n : ℕ) → isFaultNumber n ≡ true → Fine (isRoot (s .name)) z o → Fine (isRoot (s .name)) z (bodyRaised n s o .order)
   unfolding bodyRaised
@@ -404,7 +439,7 @@ module _ {z : ℕ} (s : Scope) where
   unfolding undoOver rootInLimits among
   fine-undo-over {o} f =
       fine-pick (eqb (stateOf (s .name) o) undoing) (undoes true s o) (elim (eqb (markOf (s .name) o) withdrawing) [ true ↦ undoes false s o | false ↦ runs o ]) (λ e. fine-undoes-fault s f)
-      (λ e. fine-pick (eqb (markOf (s .name) o) withdrawing) (undoes false s o) (runs o) (λ d. fine-undoes s false (not-root (s .name) withdrawing refl f d) f) (λ d. f))
+      (λ e. fine-pick (eqb (markOf (s .name) o) withdrawing) (undoes false s o) (runs o) (λ d. fine-undoes s false (turn-stops (isRoot (s .name)) (not-root (s .name) withdrawing refl f d)) f) (λ d. f))
 
   fine-undo-raised : {o : Order} (n : ℕ) → Fine (isRoot (s .name)) z o → Fine (isRoot (s .name)) z (undoRaised n s o .order)
   unfolding undoRaised
@@ -537,7 +572,7 @@ module _ {z : ℕ} where
   fine-in-scope ns undo k t l r x f =
       fine-pick (ltb t (partAt 1 l (k + 1))) (elim (goesThrough undo k r) [ true ↦ r | false ↦ fromBody (scopeAt ns k l) r ])
       (elim (ltb t (partAt (undoPart ns) l (k + 1))) [ true ↦ fromFault (scopeAt ns k l) r | false ↦ fromUndo r ])
-      (λ e. fine-pick (goesThrough undo k r) r (fromBody (scopeAt ns k l) r) (λ d. f) (λ d. fine-from-body (scopeAt ns k l) r x refl f))
+      (λ e. fine-pick (goesThrough undo k r) r (fromBody (scopeAt ns k l) r) (λ d. f) (λ d. fine-from-body (scopeAt ns k l) r x (nine done refl) f))
       (λ e. fine-pick (ltb t (partAt (undoPart ns) l (k + 1))) (fromFault (scopeAt ns k l) r) (fromUndo r) (λ d. fine-from-fault (scopeAt ns k l) r f) (λ d. f))
 
   fine-combines : (own : Own) (l : Acts) (k t : ℕ) (r : Outcome) → Numbered r → Fine false z (r .order) → Fine false z (combines own l k t r .order)
@@ -628,7 +663,7 @@ unfolding orderInLimits RootIs
 fine-limits f = rw (f .root, f .marks .is, f .bound, le-leb _ _ (f .kept), f .cause)
 
 pub none-limits : orderInLimits noOrder ≡ true
-unfolding orderInLimits noOrder rootInLimits among every isFaultNumber
+unfolding orderInLimits noOrder rootInLimits markInLimits among every isFaultNumber
 none-limits = refl
 
 -- how an order ended

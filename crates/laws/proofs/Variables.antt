@@ -6,7 +6,7 @@ use Prim.Native.Nat.{ℕ, zero, suc, _+_, _<_}
 use native.Mathlib.Omega.{arith}
 use borrow.Author.Tests.{lt-ltb}
 use lib.Dec.{eqb, ltb}
-use Rattle.plan.specs.Tree.{Exp, constant, variable, binary, Own, empty, send, receive, set as setting, raise, leave, choose, repeat, sequence, flow, pick, scope, arm, kind, isScope, isPick, Act, act, Acts, none, more, Plan, size, sizes}
+use Rattle.plan.specs.Tree.{Exp, constant, variable, binary, Own, empty, send, receive, set as setting, raise, leave, choose, repeat, sequence, flow, pick, scope, arm, kind, isScope, numbersOf, undoPart, isPick, Act, act, Acts, none, more, Plan, size, sizes}
 use Rattle.order.specs.declared.Closing.{Closing}
 use Rattle.order.specs.declared.Order.{Order}
 use Rattle.order.specs.declared.Way.{Way}
@@ -23,6 +23,7 @@ use Rattle.order.specs.Awaited.{Doing, noStep, sends, takes, moves, cuts, close
 use Rattle.order.specs.Judging.{isSecond, Verdict, clear, clash, clashAfter, conflict, following, upon, judged, spare, settled, stepOrder}
 use Rattle.machine.specs.Calls.{doingAt}
 use Rattle.order.specs.Taking.{actIn, actAmong, actAt}
+use Rattle.order.proofs.Chosen.{with-live}
 use Rattle.laws.specs.Known.{ownOf, setTo, Leaves}
 use Rattle.laws.proofs.Offering.{Each, each-none, each-more, Does, plan-ready}
 use Rattle.laws.proofs.Doing.{actDoing, plan-doing}
@@ -180,6 +181,9 @@ module _ {xs bs : List ℕ} {z : ℕ} where
   marking-as root m h f = record { values = f .values; bound = f .bound; root = h }
   marking-as (inner k) m h f = record { values = f .values; bound = f .bound; root = f .root }
 
+  going-as : {q : Order} (n : Name) (m : ℕ) → 0 < m → Loose xs bs (isRoot n) z q → As xs bs (isRoot n) z (going n m q)
+  going-as {q} n m h f = marking-as n (markWith (choiceOf n q) m) (with-live (choiceOf n q) m h) f
+
   -- the number of its fault
   causing-as : {b : Bool} {q : Order} (n : Name) (x : ℕ) → As xs bs b z q → As xs bs b z (causing n x q)
   causing-as root x f = record { values = f .values; bound = f .bound; root = f .root }
@@ -204,14 +208,15 @@ module _ {xs bs : List ℕ} {z : ℕ} (s : Scope) where
   unfolding handle
   out-handle q f =
       let o = going (s .name) handling q in
-      as-over (begunIn o (begin (s .fault) (s .faultAt) (o .marks))) (ends s) (as-marks (begin (s .fault) (s .faultAt) (o .marks) .marks) (marking-as (s .name) handling refl f))
+      let b = begin (chosenPart (choiceOf (s .name) q) s) (chosenAt (choiceOf (s .name) q) s) (o .marks) in
+      as-over (begunIn o b) (ends s) (as-marks (b .marks) (going-as (s .name) handling (omega arith) f))
       (λ q g. out-ends q (loosely g))
 
   out-undoes : (w : Bool) (q : Order) → Loose xs bs (isRoot (s .name)) z q → Out xs bs (isRoot (s .name)) z (undoes w s q)
   unfolding undoes
   out-undoes true q f =
       let o = going (s .name) undoing q in
-      as-over (undo (rememberedFor s o) s o) (handle s) (as-undo (rememberedFor s o) s o (marking-as (s .name) undoing refl f)) (λ q g. out-handle q (loosely g))
+      as-over (undo (rememberedFor s o) s o) (handle s) (as-undo (rememberedFor s o) s o (going-as (s .name) undoing (omega arith) f)) (λ q g. out-handle q (loosely g))
   out-undoes false q f =
       let o = marking (s .name) withdrawing q in
       as-over (undo (rememberedFor s o) s o) (ends s) (as-undo (rememberedFor s o) s o (marking-as (s .name) withdrawing refl f)) (λ q g. out-ends q (loosely g))
@@ -267,8 +272,9 @@ module _ {xs bs : List ℕ} {z : ℕ} (s : Scope) where
   out-faults : (n : ℕ) (q : Order) → Loose xs bs (isRoot (s .name)) z q → Out xs bs (isRoot (s .name)) z (faults n s q)
   unfolding faults
   out-faults n q f =
-      let o = causing (s .name) n (marking (s .name) faulty q) in
-      let g : As xs bs (isRoot (s .name)) z o = causing-as (s .name) n (marking-as (s .name) faulty refl f) in
+      let m = markWith (choiceFor n s) faulty in
+      let o = causing (s .name) n (marking (s .name) m q) in
+      let g : As xs bs (isRoot (s .name)) z o = causing-as (s .name) n (marking-as (s .name) m (with-live (choiceFor n s) faulty (omega arith)) f) in
       let r = stop (s .body) (s .bodyAt) o in
       out-after (faulted (s .name) n ∷ r .log) (turns true s (r .order)) (out-turns s true (r .order) (as-out g (as-stop (s .body) (s .bodyAt) o (as-in g))))
 
