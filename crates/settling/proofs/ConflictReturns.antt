@@ -244,8 +244,7 @@ taken-at t (repeat x) l k at q h s f e = absurd (false≢true e)
 taken-at t sequence l k at q h s f e = absurd (false≢true e)
 taken-at t flow l k at q h s f e = absurd (false≢true e)
 taken-at t pick l k at q h s f e = absurd (false≢true e)
-taken-at t (scope true) l k at q h s f e = absurd (false≢true e)
-taken-at t (scope false) l k at q h s f e = absurd (false≢true e)
+taken-at t (scope ns v) l k at q h s f e = absurd (false≢true e)
 taken-at t (arm a b vs) l k at q h s f e =
     record {
       partner = a;
@@ -270,7 +269,7 @@ no-thing (repeat x) l k e a b vs = refl
 no-thing sequence l k e a b vs = refl
 no-thing flow l k e a b vs = refl
 no-thing pick l k e a b vs = refl
-no-thing (scope v) l k e a b vs = refl
+no-thing (scope ns v) l k e a b vs = refl
 no-thing (arm x y ws) l k e a b vs = absurd (false≢true (sym e))
 
 no-second : (own : Own) (l : Acts) (k : ℕ) → receives own ≡ false → (before : List Ready) → isSecond before (doingOf own l k) ≡ false
@@ -287,7 +286,7 @@ no-second (repeat x) l k e before = refl
 no-second sequence l k e before = refl
 no-second flow l k e before = refl
 no-second pick l k e before = refl
-no-second (scope v) l k e before = refl
+no-second (scope ns v) l k e before = refl
 no-second (arm x y ws) l k e before = absurd (false≢true (sym e))
 
 -- what stands in the first n rows of a list stays there where the n-th is set
