@@ -14,6 +14,7 @@ use Rattle.plan.specs.Spells.{Spells, variablesOf}
 use Rattle.plan.specs.Table.{rowOf}
 use Rattle.plan.specs.Tree.{Own, empty, send, receive, set as setting, raise, leave, choose, repeat, sequence, flow, pick, scope, arm, kind, Act, act, Acts, none, more, Plan}
 use Rattle.order.specs.declared.Order.{Order}
+use Rattle.plan.proofs.TableSpells.{row-variables}
 use Rattle.order.specs.Answering.{scopeKind, Spelled}
 use Rattle.order.specs.Awaited.{Doing, noStep, sends, takes, moves, cuts, closes, doingOf, awaits, Ready, readyOf}
 use Rattle.order.specs.Judging.{isThing, isSecond, Verdict, clear, clash, clashAfter, conflict}
@@ -232,7 +233,7 @@ taken-at t (receive a b vs) l k at q h s f e =
       operation = b;
       variables = vs;
       is = refl;
-      row = record { inside = h; partner = s .row .partner; operation = s .row .operation; count = s .row .count; variables = s .row .variables };
+      row = record { inside = h; partner = s .row .partner; operation = s .row .operation; count = s .row .count; variables = λ i g. s .row .variables i g ∙ row-variables (receive a b vs) q at i refl g };
       few = f;
     }
 taken-at t (setting v x) l k at q h s f e = absurd (false≢true e)
@@ -251,7 +252,7 @@ taken-at t (arm a b vs) l k at q h s f e =
       operation = b;
       variables = vs;
       is = refl;
-      row = record { inside = h; partner = s .row .partner; operation = s .row .operation; count = s .row .count; variables = s .row .variables };
+      row = record { inside = h; partner = s .row .partner; operation = s .row .operation; count = s .row .count; variables = λ i g. s .row .variables i g ∙ row-variables (arm a b vs) q at i refl g };
       few = f;
     }
 
