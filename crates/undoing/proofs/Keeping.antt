@@ -8,12 +8,12 @@ use lib.ListN.{length, getD, set, length-set}
 use lib.Seq.{getD-set-same}
 use lib.Dec.{eqb, ltb}
 use borrow.Author.Tests.{eqb-true, eqb-false, eq-eqb, ne-eqb, ltb-true, ltb-false, lt-ltb, le-ltb}
-use Rattle.plan.specs.Tree.{Own, empty, send, receive, set as setting, raise, leave, choose, repeat, sequence, flow, pick, scope, arm, kind, isArm, isPick, isScope, Act, act, Acts, none, more, Plan, size, sizes, count}
+use Rattle.plan.specs.Tree.{Own, empty, send, receive, set as setting, raise, leave, choose, repeat, sequence, flow, pick, scope, arm, kind, isArm, isPick, isScope, Act, act, Acts, none, more, Plan, size, sizes, count, undoPart, generalPart}
 use Rattle.order.specs.declared.Order.{Order}
 use Rattle.order.specs.declared.End.{End}
 use Rattle.order.specs.declared.End.the-variants.{None, Well, Handled, Failed, Left}
 use Rattle.order.specs.Lists.{some}
-use Rattle.order.specs.State.{isLive, noOrder, idle, active, inside, done, faulty, undoing, handling, withdrawing, withMarks, markAt, marked, markOf, marking, binding}
+use Rattle.order.specs.State.{isLive, noOrder, idle, active, inside, done, faulty, undoing, handling, withdrawing, withMarks, markAt, marked, markOf, marking, binding, stateOf}
 use Rattle.order.specs.Event.{Event}
 use Rattle.order.specs.Expression.{unboundVariable, conflictingReceive, Value, fault, value, evaluate, isTrue}
 use Rattle.order.specs.Begin.{Begun, begin, beginAfter, part, partAt, beginPart, cleared, quiet}
@@ -24,16 +24,17 @@ use Rattle.order.specs.Acting.{finishes, raises, leaves, orRaises, enters, agai
 use Rattle.machine.specs.Fit.{awaits}
 use Rattle.undoing.specs.Orderly.{isBeganOf}
 use Rattle.undoing.specs.Begun.{lasts, acts, ownsIn, ownsAmong, ownsAt, hasBegan, goesIn, isScopeKind}
-use Rattle.undoing.proofs.Causing.{caused, faults-is}
+use Rattle.undoing.proofs.Causing.{caused, chosenMark, faults-is}
 use Rattle.undoing.proofs.Parts.{both, decide, some-append}
+use Rattle.undoing.proofs.Choices.{root-chosen}
 use Rattle.undoing.proofs.Seats.{marking-length}
 use Rattle.undoing.proofs.Breaking.{cleared-kept}
 use Rattle.undoing.proofs.Orders.{least}
 use Rattle.undoing.proofs.Places.{first-of, second-of}
 use Rattle.undoing.proofs.Waiting.{Waits, waits-itself, waits-within, WaitsIn, waits-first, waits-later}
 use Rattle.undoing.proofs.Roots.{Awaited, in-body, in-fault}
-use Rattle.undoing.proofs.Truly.{or-case, began-in, began-neither, Up, Stay, stay-up, stay-then, stay-other, not-cleared, stay-idle, stay-cleared, shifts, Arms, needs, Knows, knows, KnowsIn, knows-none, knows-more, Began}
-use Rattle.undoing.proofs.Lasting.{isRaising, part-began, after-began, owned-other, stay-marking, Goes, goes-runs, goes-where, goes-begun, goes-marked, goes-either, finishes-goes, Within, turns-goes, looks-goes, over-goes, undone-goes, part-goes, scope-within, stop-halts}
+use Rattle.undoing.proofs.Truly.{scope-kind, or-case, began-in, began-neither, Up, Stay, stay-up, stay-then, stay-other, not-cleared, stay-idle, stay-cleared, shifts, Arms, needs, Knows, knows, KnowsIn, knows-none, knows-more, Began}
+use Rattle.undoing.proofs.Lasting.{isRaising, part-began, after-began, owned-other, stay-marking, Goes, goes-runs, goes-where, goes-begun, goes-marked, goes-either, finishes-goes, Within, turns-goes, looks-goes, over-goes, undone-goes, part-goes, scope-needs, scope-within, stop-halts}
 
 -- a repeat and no other of these that are no scopes
 repeat-shifts : (n : ℕ) → isScopeKind n ≡ false → shifts n ≡ true → eqb n 7 ≡ true
@@ -57,7 +58,7 @@ pick-kind (repeat x) e = absurd (false≢true e)
 pick-kind sequence e = absurd (false≢true e)
 pick-kind flow e = absurd (false≢true e)
 pick-kind pick e = refl
-pick-kind (scope v) e = absurd (false≢true e)
+pick-kind (scope ns v) e = absurd (false≢true e)
 pick-kind (arm x y vs) e = absurd (false≢true e)
 
 pub arm-kind : (own : Own) → isArm own ≡ true → kind own ≡ 255
@@ -74,7 +75,7 @@ arm-kind (repeat x) e = absurd (false≢true e)
 arm-kind sequence e = absurd (false≢true e)
 arm-kind flow e = absurd (false≢true e)
 arm-kind pick e = absurd (false≢true e)
-arm-kind (scope v) e = absurd (false≢true e)
+arm-kind (scope ns v) e = absurd (false≢true e)
 arm-kind (arm x y vs) e = refl
 
 -- with more begun
@@ -102,7 +103,7 @@ begins-said (act (repeat e) within) l k ms h = rw (eq-eqb k k refl)
 begins-said (act sequence within) l k ms h = rw (eq-eqb k k refl)
 begins-said (act flow within) l k ms h = rw (eq-eqb k k refl)
 begins-said (act pick within) l k ms h = rw (eq-eqb k k refl)
-begins-said (act (scope v) within) l k ms h = rw (eq-eqb k k refl)
+begins-said (act (scope ns v) within) l k ms h = rw (eq-eqb k k refl)
 begins-said (act (arm p o vs) within) l k ms h = absurd (false≢true (sym (h .0)))
 
 first-said : (l : Acts) (c : ℕ) (ms : List ℕ) → Arms false l → 1 ≤ count l → hasBegan c (beginPart 0 l c ms .log) ≡ true
@@ -208,8 +209,8 @@ module _ (f : ℕ → ℕ) where
     faults-falls : (number : ℕ) (o : Order) → e ≤ length (o .marks) → Falls b o (faults number s o)
     unfolding some isBeganOf
     faults-falls number o m =
-        let o₁ = caused (s .name) number (marking (s .name) faulty o) in
-        let n = marking-length (s .name) faulty o in
+        let o₁ = caused (s .name) number (marking (s .name) (chosenMark number s) o) in
+        let n = marking-length (s .name) (chosenMark number s) o in
         let w = stop-halts f (h .body) o₁ (omega (arith, h .bodyTo)) in
         let r = stop (s .body) (s .bodyAt) o₁ in
         let v = turns-goes f s b e h true (r .order) (omega (arith, w .long)) in
@@ -218,7 +219,7 @@ module _ (f : ℕ → ℕ) where
           range = λ j z. began-in j (r .log) (turns true s (r .order) .log) z (λ q. let g = w .range j q in omega (arith, h .bodyFrom)) (λ q. v .range j q .0);
           stays = λ j z y.
               let q = began-neither j (r .log) (turns true s (r .order) .log) y in
-              stay-then (stay-marking f (s .name) b faulty o j (h .name) z)
+              stay-then (stay-marking f (s .name) b (chosenMark number s) o j (h .name) z)
               (stay-then (w .stays j z (q .0)) (v .stays j (λ d. absurd (owned-other f (s .name) b j (h .name) z d)) (q .1)));
           long = v .long ∙ (w .long ∙ n);
           quits = λ q. absurd (false≢true (sym (v .calm) ∙ q));
@@ -242,11 +243,11 @@ module _ (f : ℕ → ℕ) where
     undo-raised-falls : (number : ℕ) (o : Order) → Falls b o (undoRaised number s o)
     unfolding undoRaised
     undo-raised-falls number o =
-        falls-either (eqb (markOf (s .name) o) undoing || eqb (markOf (s .name) o) withdrawing) (breaks number s o) (runs o) (undoRaised number s o) refl (breaks-falls number o) (goes-falls (goes-runs f b e o))
+        falls-either (eqb (stateOf (s .name) o) undoing || eqb (markOf (s .name) o) withdrawing) (breaks number s o) (runs o) (undoRaised number s o) refl (breaks-falls number o) (goes-falls (goes-runs f b e o))
 
     part-raised-falls : (number : ℕ) (o : Order) → Falls b o (partRaised number s o)
     unfolding partRaised
-    part-raised-falls number o = falls-either (eqb (markOf (s .name) o) handling) (breaks number s o) (runs o) (partRaised number s o) refl (breaks-falls number o) (goes-falls (goes-runs f b e o))
+    part-raised-falls number o = falls-either (eqb (stateOf (s .name) o) handling) (breaks number s o) (runs o) (partRaised number s o) refl (breaks-falls number o) (goes-falls (goes-runs f b e o))
 
   -- Activities other than scopes.
   pub again-goes : (k e : ℕ) (o : Order) → eqb (f k) 7 ≡ true → Goes f (k + 1) e o (again k o)
@@ -452,16 +453,16 @@ module _ (f : ℕ → ℕ) where
         go (undoRaising x) d = steps-as r (undoRaising x) (λ q. ap isRaising d) w
 
     -- what it makes of a step within it
-    scope-steps : (v : Bool) (within : Acts) (k t : ℕ) (o : Order) (r : Outcome) → isScopeKind (f k) ≡ true → 2 ≤ count within → KnowsIn f within (k + 1)
+    scope-steps : (ns : List ℕ) (v : Bool) (within : Acts) (k t : ℕ) (o : Order) (r : Outcome) → isScopeKind (f k) ≡ true → generalPart ns < count within → KnowsIn f within (k + 1)
         → k + 1 + sizes within ≤ length (o .marks) → Steps g (k + 1) o r
-        → Steps g (k + 1) o (inScope v k t within r)
+        → Steps g (k + 1) o (inScope ns v k t within r)
     unfolding inScope
-    scope-steps v within k t o r q n y m w =
-        let s = scopeAt k within in
-        let h = scope-within f q n y in
-        steps-either (ltb t (partAt 1 within (k + 1))) (elim (goesThrough v k r) [ true ↦ r | false ↦ fromBody s r ]) (elim (ltb t (partAt 2 within (k + 1))) [ true ↦ fromFault s r | false ↦ fromUndo r ]) _ refl
+    scope-steps ns v within k t o r q n y m w =
+        let s = scopeAt ns k within in
+        let h = scope-within f ns q n y in
+        steps-either (ltb t (partAt 1 within (k + 1))) (elim (goesThrough v k r) [ true ↦ r | false ↦ fromBody s r ]) (elim (ltb t (partAt (undoPart ns) within (k + 1))) [ true ↦ fromFault s r | false ↦ fromUndo r ]) _ refl
         (steps-either (goesThrough v k r) r (fromBody s r) _ refl w (body-steps s (k + 1) (k + 1 + sizes within) h o r m w))
-        (steps-either (ltb t (partAt 2 within (k + 1))) (fromFault s r) (fromUndo r) _ refl (fault-steps s (k + 1) (k + 1 + sizes within) h o r w) (undo-steps o r w))
+        (steps-either (ltb t (partAt (undoPart ns) within (k + 1))) (fromFault s r) (fromUndo r) _ refl (fault-steps s (k + 1) (k + 1 + sizes within) h o r w) (undo-steps o r w))
 
     combines-steps : (own : Own) (within : Acts) (k t : ℕ) (o : Order) (r : Outcome) → f k ≡ kind own → needs own ≤ count within → KnowsIn f within (k + 1)
         → k + 1 + sizes within ≤ length (o .marks)
@@ -478,8 +479,8 @@ module _ (f : ℕ → ℕ) where
     combines-steps sequence within k t o r e n y m q w = goes-on-steps {e = k + 1 + sizes within} k active o _ r refl (λ s. q) w (λ o₁ d. follows-goes k t o₁ y (omega arith))
     combines-steps flow within k t o r e n y m q w = goes-on-steps {e = 0} k active o (joins k within) r refl (λ s. q) w (λ o₁ d. joins-goes k 0 within o₁)
     combines-steps pick within k t o r e n y m q w = goes-on-steps {e = 0} k inside o (finishes k) r refl (λ s. q) w (λ o₁ d. finishes-goes f k 0 o₁)
-    combines-steps (scope true) within k t o r e n y m q w = scope-steps true within k t o r (ap isScopeKind e) (omega arith) y m w
-    combines-steps (scope false) within k t o r e n y m q w = scope-steps false within k t o r (ap isScopeKind e) n y m w
+    combines-steps (scope ns v) within k t o r e n y m q w =
+        scope-steps ns v within k t o r (ap isScopeKind e ∙ scope-kind (scope ns v)) (scope-needs f (scope ns v) (count within) refl n) y m w
     combines-steps (arm a b vs) within k t o r e n y m q w = w
 
     -- nothing happens
@@ -584,7 +585,7 @@ module _ (f : ℕ → ℕ) where
     itself-steps sequence within q₀ k o e n a y m q h = still-steps (k + 1) o (λ j z. false≢true (h j z .1))
     itself-steps flow within q₀ k o e n a y m q h = still-steps (k + 1) o (λ j z. false≢true (h j z .1))
     itself-steps pick within q₀ k o e n a y m q h = still-steps (k + 1) o (λ j z. false≢true (h j z .1))
-    itself-steps (scope v) within q₀ k o e n a y m q h = idle-steps k o (closing v q₀ k (scopeAt k within) o) refl (λ j. refl) (λ j z. h j z .0)
+    itself-steps (scope ns v) within q₀ k o e n a y m q h = idle-steps k o (closing v q₀ k (scopeAt ns k within) o) refl (λ j. refl) (λ j z. h j z .0)
     itself-steps (arm b c vs) within q₀ k o e n a y m q h =
         let w = goes-begun f {b = k + 1} {e = k + 1 + sizes within} o (beginPart 0 within (k + 1) (o .marks)) (part-began f y 0 (omega arith) (o .marks) m) (omega arith) (omega arith) in
         record {
@@ -701,7 +702,16 @@ module _ (f : ℕ → ℕ) where
         inFault = fromFault (rootOf p) (stepIn actor (p .fault) (size (p .body)) (size (p .body)) t o)
 
         w : Within f (rootOf p) 0 (size (p .body) + size (p .fault))
-        w = record { name = refl; body = kb; fault = kf; bodyFrom = omega arith; bodyTo = omega arith; faultFrom = omega arith; faultTo = omega arith }
+        w =
+            record {
+              name = refl;
+              body = kb;
+              fault = root-chosen (λ a j. Knows f a j) p kf;
+              bodyFrom = omega arith;
+              bodyTo = omega arith;
+              faultFrom = root-chosen (λ a j. 0 ≤ j) p (omega arith);
+              faultTo = root-chosen (λ a j. j + size a ≤ size (p .body) + size (p .fault)) p (omega arith);
+            }
 
     -- Where an order lives on after its step.
     pub order-steps : (actor : Actor) (t : ℕ) (o : Order) → size (p .body) + size (p .fault) ≤ length (o .marks) → isLive (acted actor p t o .order) ≡ true
