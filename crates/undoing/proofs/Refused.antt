@@ -1145,23 +1145,23 @@ choosers : List Engine
 choosers = generalAlways ∷ generalRuns ∷ generalUntold ∷ otherNumber ∷ otherTold ∷ otherRaise ∷ nearestNumber ∷ bothParts ∷ misremembers ∷ forgetsChoice ∷ losesChoice ∷ plainOut ∷ firstOut ∷ firstPart ∷ choosesOnce ∷ keepsChoice ∷ beginsChosen ∷ []
 
 refusedChoosers : map verdict choosers
-    ≡ (choices ∷ [])
+    ≡ (orderly ∷ choices ∷ [])
+    ∷ (orderly ∷ goingOn ∷ standing ∷ [])
+    ∷ (begunTruly ∷ begunAll ∷ goingOn ∷ standing ∷ [])
+    ∷ (orderly ∷ choices ∷ [])
+    ∷ (faults ∷ [])
+    ∷ (steps ∷ [])
+    ∷ (orderly ∷ choices ∷ [])
+    ∷ (orderly ∷ goingOn ∷ standing ∷ [])
     ∷ (choices ∷ [])
     ∷ (choices ∷ [])
-    ∷ (choices ∷ [])
-    ∷ (choices ∷ [])
-    ∷ (choices ∷ [])
-    ∷ (choices ∷ [])
-    ∷ (choices ∷ [])
-    ∷ (choices ∷ [])
-    ∷ (choices ∷ [])
-    ∷ (choices ∷ [])
-    ∷ (choices ∷ [])
-    ∷ (choices ∷ [])
-    ∷ (choices ∷ [])
-    ∷ (choices ∷ [])
-    ∷ (choices ∷ [])
-    ∷ (choices ∷ [])
+    ∷ (ownSteps ∷ choices ∷ [])
+    ∷ (faults ∷ [])
+    ∷ (faults ∷ [])
+    ∷ (orderly ∷ choices ∷ [])
+    ∷ (orderly ∷ choices ∷ [])
+    ∷ (marks ∷ choices ∷ toCome ∷ standing ∷ [])
+    ∷ (marks ∷ choices ∷ places ∷ standing ∷ [])
     ∷ []
 unfolding choosers named unnamed namedAfter outOfPart inTurns generalAlways generalRuns generalUntold otherNumber otherTold otherRaise nearestNumber bothParts misremembers forgetsChoice losesChoice plainOut firstOut firstPart choosesOnce keepsChoice beginsChosen first-of judge verdict computing judging weighing
 refusedChoosers = refl
