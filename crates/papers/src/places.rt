@@ -64,6 +64,9 @@ fn put_quoted(out: &mut [u8; 4096], used: usize, text: &[u8], from: usize) -> us
 
 fn put_found(out: &mut [u8; 4096], used: usize, text: &[u8], from: usize) -> usize {
     let b = byte_at(text, from);
+    if b == 9 {
+        return put(out, used, b" - a tab");
+    }
     if b == 35 {
         return put(out, used, b" - the end of the line");
     }

@@ -9,7 +9,6 @@ use spelling::add;
 use spelling::after_part;
 use spelling::begin;
 use spelling::declaration;
-use spelling::has_tab;
 use spelling::is_correlation;
 use spelling::is_over;
 use spelling::is_part;
@@ -20,6 +19,7 @@ use spelling::narrow;
 use spelling::next_line;
 pub use spelling::past_blanks;
 use spelling::past_number;
+use spelling::tab_in;
 use spelling::what_of;
 pub use spelling::word_end;
 use spelling::wrong_place;
@@ -330,8 +330,9 @@ fn read_line(
     before: State,
 ) -> State {
     let st = counted(before);
-    if has_tab(s, at) {
-        return failed(st, st.line, 21, s.len());
+    let tab = tab_in(s, at);
+    if tab < s.len() {
+        return failed(st, st.line, 21, tab);
     }
     if is_over(s, at) {
         return st;

@@ -6,7 +6,7 @@ use super::marks::is_same;
 use super::marks::next_line;
 use super::marks::past_blanks;
 use super::marks::word_end;
-use super::names::word_from;
+use super::declaring::word_from;
 
 // The place after a number at the front of a line, which may be left out.
 pub fn past_number(s: &[u8], at: usize) -> usize {

@@ -94,23 +94,23 @@ pub fn word_end(s: &[u8], at: usize) -> usize {
     p
 }
 
-// Whether a tab stands in the line, before its comment.
-pub fn has_tab(s: &[u8], at: usize) -> bool {
+// The place of the first tab in the line, before its comment; the end of the text where there is none.
+pub fn tab_in(s: &[u8], at: usize) -> usize {
     let mut p = at;
     while p < s.len() {
         let b = s[p];
         if b == 9 {
-            return true;
+            return p;
         }
         if b == 10 {
-            return false;
+            return s.len();
         }
         if b == 35 {
-            return false;
+            return s.len();
         }
         p += 1;
     }
-    false
+    s.len()
 }
 
 // Whether nothing but blanks and a comment is left of the line.

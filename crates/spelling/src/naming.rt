@@ -4,11 +4,11 @@ use super::fronts::after_scope;
 use super::marks::byte_at;
 use super::marks::is_over;
 use super::marks::next_line;
-use super::names::Span;
-use super::names::named;
-use super::names::no_word;
-use super::names::what_of;
-use super::names::word_from;
+use super::declaring::Span;
+use super::declaring::named;
+use super::declaring::no_word;
+use super::declaring::what_of;
+use super::declaring::word_from;
 
 fn what_at(place: usize) -> usize {
     if place < 16 {

@@ -1,8 +1,8 @@
--- `spelling::names::declared` is safe and ends. Assumes nothing.
+-- `spelling::declaring::declared` is safe and ends. Assumes nothing.
 use borrow.Author.Needs.{needs}
 use Prim.Native.Nat.{_-_}
-use Rattle.spelling.proofs.names.declared.Statement.{statement}
-use Rattle.spelling.proofs.names.declared.Tie as tie
+use Rattle.spelling.proofs.declaring.declared.Statement.{statement}
+use Rattle.spelling.proofs.declaring.declared.Tie as tie
 
 abbrev Inv-loop : tie.InvT-loop
 Inv-loop s stop what from to at₀ k₀ at k = Unit {0}

@@ -1,9 +1,9 @@
--- `spelling::marks::has_tab` is safe and ends. Assumes nothing.
+-- `spelling::marks::tab_in` is safe and ends. Assumes nothing.
 use borrow.Author.Needs.{needs}
 use Prim.Native.Nat.{_-_}
 use lib.ListN.{length}
-use Rattle.spelling.proofs.marks.has_tab.Statement.{statement}
-use Rattle.spelling.proofs.marks.has_tab.Tie as tie
+use Rattle.spelling.proofs.marks.tab_in.Statement.{statement}
+use Rattle.spelling.proofs.marks.tab_in.Tie as tie
 
 abbrev Inv-loop : tie.InvT-loop
 Inv-loop s at p₀ p = Unit {0}
@@ -11,8 +11,8 @@ Inv-loop s at p₀ p = Unit {0}
 abbrev μ-loop : tie.MeasureT-loop
 μ-loop s at p₀ p = length s - p
 
-pub has-tab-spec : {M : Type 1} → statement M
-has-tab-spec =
+pub tab-in-spec : {M : Type 1} → statement M
+tab-in-spec =
     tie.close (tie.spec Inv-loop μ-loop
     -- loop-holds
     (λ c. tt)

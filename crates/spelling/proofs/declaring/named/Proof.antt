@@ -1,8 +1,8 @@
--- `spelling::names::named` is safe and ends. Assumes nothing.
+-- `spelling::declaring::named` is safe and ends. Assumes nothing.
 use borrow.Author.Needs.{needs}
 use Prim.Native.Nat.{_-_}
-use Rattle.spelling.proofs.names.named.Statement.{statement}
-use Rattle.spelling.proofs.names.named.Tie as tie
+use Rattle.spelling.proofs.declaring.named.Statement.{statement}
+use Rattle.spelling.proofs.declaring.named.Tie as tie
 
 abbrev Inv-loop : tie.InvT-loop
 Inv-loop s stop what number at₀ at = Unit {0}

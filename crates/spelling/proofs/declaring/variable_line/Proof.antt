@@ -1,8 +1,8 @@
--- `spelling::names::variable_line` is safe and ends. Assumes nothing.
+-- `spelling::declaring::variable_line` is safe and ends. Assumes nothing.
 use borrow.Author.Needs.{needs}
 use Prim.Native.Nat.{_-_}
-use Rattle.spelling.proofs.names.variable_line.Statement.{statement}
-use Rattle.spelling.proofs.names.variable_line.Tie as tie
+use Rattle.spelling.proofs.declaring.variable_line.Statement.{statement}
+use Rattle.spelling.proofs.declaring.variable_line.Tie as tie
 
 abbrev Inv-loop : tie.InvT-loop
 Inv-loop s stop k at₀ n₀ at n = Unit {0}
