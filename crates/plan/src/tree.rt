@@ -233,18 +233,7 @@ fn numbered_scope_at(
     requires { ⌜ ScopeRoom (now s) vars n m place at ⌝ }
     ensures { λ r. ⌜ ActRead (numberedScopeIn (nodeIn false depth vars (chosen 0 (now (correlation .entry))) (now (s .entry))) (now (s .entry)) handler n at) place n m r (now (table .entry)) (now (table .exit)) ⌝ }
 {
-    let body = activity_at(
-        s,
-        at,
-        false,
-        handler,
-        depth,
-        vars,
-        correlation,
-        n + 1,
-        m,
-        table,
-    );
+    let body = activity_at(s, at, false, handler, depth, vars, correlation, n + 1, m, table);
     match body {
         Out::Refused {
             number: _,
@@ -260,10 +249,7 @@ fn numbered_scope_at(
             let f = field_at(s, next, 1, 9);
             match f {
                 Field::Refused { number, place } => Out::Refused { number, place },
-                Field::Got {
-                    value: many,
-                    next: parts,
-                } => {
+                Field::Got { value: many, next: parts } => {
                     let rest = numbered_at(
                         s,
                         parts,
@@ -329,20 +315,7 @@ fn numbered_at(
 {
     if left == 0 {
         write_numbers(table, row, numbers, k, place);
-        return activities_at(
-            s,
-            at,
-            false,
-            true,
-            true,
-            2,
-            depth,
-            vars,
-            correlation,
-            n,
-            m,
-            table,
-        );
+        return activities_at(s, at, false, true, true, 2, depth, vars, correlation, n, m, table);
     }
     let f = fault_number_at(s, at, numbers, k);
     match f {
