@@ -12,6 +12,8 @@ use super::output::put_number;
 use super::table::depth_of;
 use super::table::entry;
 use super::table::is_scope;
+use super::table::number_at;
+use super::table::numbers_of;
 use super::table::order_of;
 use super::table::parent_of;
 use super::table::scopes_before;
@@ -26,16 +28,34 @@ use plan::table::Table;
 use plan::table::VARIABLE;
 use plan::table::VARIABLES;
 
-// What part of a scope or of a choose an activity is, by its order there.
-fn put_part(out: &mut [u8; 4096], used: usize, kind: u32, order: usize) -> usize {
+// What part of scope s an activity is, by its order there: the body, a fault part for each of its numbers, the general one, the undo part.
+fn put_scope_part(
+    out: &mut [u8; 4096],
+    used: usize,
+    table: &Table,
+    s: usize,
+    order: usize,
+) -> usize {
+    let many = numbers_of(table, s);
+    if order == 0 {
+        return put(out, used, b"body: ");
+    }
+    if order <= many {
+        let mut at = put(out, used, b"fault part ");
+        at = put_number(out, at, number_at(table, s, order - 1) as u64);
+        return put(out, at, b": ");
+    }
+    if order - many == 1 {
+        return put(out, used, b"fault part: ");
+    }
+    put(out, used, b"undo part: ")
+}
+
+// What part of activity m, a scope or a choose, an activity is, by its order there.
+fn put_part(out: &mut [u8; 4096], used: usize, table: &Table, m: usize, order: usize) -> usize {
+    let kind = entry(table, m, KIND);
     if is_scope(kind) {
-        if order == 0 {
-            return put(out, used, b"body: ");
-        }
-        if order == 1 {
-            return put(out, used, b"fault part: ");
-        }
-        return put(out, used, b"undo part: ");
+        return put_scope_part(out, used, table, m, order);
     }
     if kind == kind::CHOOSE {
         if order == 0 {
@@ -49,9 +69,8 @@ fn put_part(out: &mut [u8; 4096], used: usize, kind: u32, order: usize) -> usize
 fn put_role(out: &mut [u8; 4096], used: usize, table: &Table, n: usize) -> usize {
     let parent = parent_of(table, n);
     if parent < n {
-        let kind = entry(table, parent, KIND);
         let order = order_of(table, parent + 1, n);
-        return put_part(out, used, kind, order);
+        return put_part(out, used, table, parent, order);
     }
     if n == 0 {
         return put(out, used, b"root body: ");
@@ -222,7 +241,7 @@ pub fn put_activity(
         kind::SEQUENCE => put(out, used, b"sequence"),
         kind::FLOW => put(out, used, b"flow"),
         kind::PICK => put(out, used, b"pick"),
-        kind::SCOPE | kind::OPEN_SCOPE => put_named_scope(out, used, names, table, n),
+        kind::SCOPE | kind::OPEN_SCOPE | kind::NUMBERED_SCOPE => put_named_scope(out, used, names, table, n),
         kind::ARM => put_exchange(
             out,
             used,

@@ -19,29 +19,42 @@ use plan::table::VARIABLES;
 use table::Place;
 use table::code_of;
 use table::entry;
+use table::is_scope;
 use table::narrow;
+use table::number_at;
+use table::numbers_of;
 use table::order_of;
 use table::place_of;
 use table::value_of;
 
-// Whether an activity of this kind is a scope: with an undo part, or without.
-fn is_scope(kind: u32) -> bool {
-    if kind == kind::SCOPE {
-        return true;
+// What part of scope s an activity is, by its order there: the body, a fault part for each of its numbers, the general one, the undo part.
+fn put_scope_part(
+    out: &mut [u8; 65536],
+    used: usize,
+    table: &Table,
+    s: usize,
+    order: usize,
+) -> usize {
+    let many = numbers_of(table, s);
+    if order == 0 {
+        return put(out, used, b"body: ");
     }
-    kind == kind::OPEN_SCOPE
+    if order <= many {
+        let mut at = put(out, used, b"fault part ");
+        at = put_number(out, at, number_at(table, s, order - 1));
+        return put(out, at, b": ");
+    }
+    if order - many == 1 {
+        return put(out, used, b"fault part: ");
+    }
+    put(out, used, b"undo part: ")
 }
 
-// What part of a scope or of a choose an activity is, by its order there.
-fn put_part(out: &mut [u8; 65536], used: usize, kind: u32, order: usize) -> usize {
+// What part of activity m, a scope or a choose, an activity is, by its order there.
+fn put_part(out: &mut [u8; 65536], used: usize, table: &Table, m: usize, order: usize) -> usize {
+    let kind = entry(table, m, KIND);
     if is_scope(kind) {
-        if order == 0 {
-            return put(out, used, b"body: ");
-        }
-        if order == 1 {
-            return put(out, used, b"fault part: ");
-        }
-        return put(out, used, b"undo part: ");
+        return put_scope_part(out, used, table, m, order);
     }
     if kind == kind::CHOOSE {
         if order == 0 {
@@ -55,9 +68,8 @@ fn put_part(out: &mut [u8; 65536], used: usize, kind: u32, order: usize) -> usiz
 fn put_role(out: &mut [u8; 65536], used: usize, table: &Table, p: Place, n: usize) -> usize {
     let parent = p.parent;
     if parent < n {
-        let kind = entry(table, parent, KIND);
         let order = order_of(table, parent, n);
-        return put_part(out, used, kind, order);
+        return put_part(out, used, table, parent, order);
     }
     if n == 0 {
         return put(out, used, b"root body: ");
@@ -241,7 +253,7 @@ fn put_activity(
         kind::SEQUENCE => put(out, used, b"sequence"),
         kind::FLOW => put(out, used, b"flow"),
         kind::PICK => put(out, used, b"pick"),
-        kind::SCOPE | kind::OPEN_SCOPE => put(out, used, b"scope"),
+        kind::SCOPE | kind::OPEN_SCOPE | kind::NUMBERED_SCOPE => put(out, used, b"scope"),
         kind::ARM => put_exchange(
             out,
             used,

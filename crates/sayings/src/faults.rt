@@ -1,8 +1,12 @@
 // What each fault is called, by its number. docs/DESK.md has the same table, and tools/check-desk-doc holds the two to each other.
+use drawing::number_at;
+use drawing::numbers_of;
 use drawing::put;
 use drawing::put_aligned;
 use drawing::put_byte;
 use drawing::put_next;
+use drawing::put_scope;
+use plan::table::Table;
 
 // A raise with a number is called by it.
 fn put_numbered(out: &mut [u8; 4096], used: usize, fault: u8) -> usize {
@@ -26,6 +30,55 @@ pub fn put_fault(out: &mut [u8; 4096], used: usize, fault: u8) -> usize {
 pub fn put_by_fault(out: &mut [u8; 4096], used: usize, fault: u8) -> usize {
     let at = put(out, used, b": ");
     put_fault(out, at, fault)
+}
+
+// Whether a scope with this mark has faulted: it waits for its inner scopes, undoes, or runs its fault part, whichever it has chosen.
+pub fn has_faulted(mark: u8) -> bool {
+    match mark % 16 {
+        4..=6 => true,
+        _ => false,
+    }
+}
+
+fn narrow(number: u32) -> u8 {
+    if number < 256 {
+        return number as u8;
+    }
+    0
+}
+
+// The fault that fault part i of scope n, counted from 1, is for.
+fn put_by_part(out: &mut [u8; 4096], used: usize, table: &Table, n: usize, i: usize) -> usize {
+    if 0 < i {
+        if i <= numbers_of(table, n) {
+            return put_by_fault(out, used, narrow(number_at(table, n, i - 1)));
+        }
+    }
+    used
+}
+
+// The fault of scope n, by the fault part that it has chosen: one by number, or the general one, which says which of the engine's own faults it was. A scope that
+// faulted before its marks told it does not say.
+fn put_by_choice(out: &mut [u8; 4096], used: usize, table: &Table, n: usize, choice: u8) -> usize {
+    match choice {
+        9..=14 => put_by_fault(out, used, choice - 9),
+        15 => put(out, used, b": a number that it has no fault part for"),
+        _ => put_by_part(out, used, table, n, choice as usize),
+    }
+}
+
+// Scope n, which has this mark and has faulted, and by which fault.
+pub fn put_scope_faulted(
+    out: &mut [u8; 4096],
+    used: usize,
+    names: &[u8; 8976],
+    table: &Table,
+    n: usize,
+    mark: u8,
+) -> usize {
+    let mut at = put_scope(out, used, names, table, n);
+    at = put(out, at, b" faulted");
+    put_by_choice(out, at, table, n, mark / 16)
 }
 
 fn put_row(out: &mut [u8; 4096], used: usize, fault: u8) -> usize {

@@ -6,8 +6,10 @@ mod levels;
 use activities::activity;
 use activities::plus;
 use spelling::add;
+use spelling::after_numbered;
 use spelling::after_part;
 use spelling::begin;
+use spelling::decimal;
 use spelling::declaration;
 use spelling::is_correlation;
 use spelling::is_over;
@@ -17,6 +19,7 @@ use spelling::more;
 pub use spelling::names_of;
 use spelling::narrow;
 use spelling::next_line;
+use spelling::part_number;
 pub use spelling::past_blanks;
 use spelling::past_number;
 use spelling::tab_in;
@@ -289,6 +292,73 @@ fn put_activity(
     failed(st, st.line, 12, at)
 }
 
+// The row of the count of fault parts by number, before the first of them.
+fn put_count(
+    rows: &mut [u32; 87100],
+    lines: &mut [u32; 4355],
+    levels: &mut [usize; 512],
+    st: State,
+) -> State {
+    if levels::is_first_number(levels, st.level) {
+        if is_there(st.row) {
+            begin(rows, lines, st.row, small(st.line));
+            add(rows, st.row, 0);
+            levels::open_numbers(levels, st.level, st.row);
+            return moved(st, more(st.row), st.level);
+        }
+    }
+    st
+}
+
+// The row of the number of a fault part, which stands at `from`.
+fn put_number(
+    s: &[u8],
+    from: usize,
+    rows: &mut [u32; 87100],
+    lines: &mut [u32; 4355],
+    levels: &mut [usize; 512],
+    st: State,
+) -> State {
+    let number = decimal(s, from, word_end(s, from));
+    if 4294967295 < number {
+        return failed(st, st.line, 10, from);
+    }
+    let c = put_count(rows, lines, levels, st);
+    if is_there(c.row) {
+        begin(rows, lines, c.row, small(c.line));
+        add(rows, c.row, narrow(number));
+        levels::add_number(levels, c.level, rows);
+        return moved(c, more(c.row), c.level);
+    }
+    failed(c, c.line, 12, from)
+}
+
+// A fault part by number, whose number stands at `from`.
+fn draw_numbered(
+    s: &[u8],
+    at: usize,
+    from: usize,
+    column: usize,
+    rows: &mut [u32; 87100],
+    lines: &mut [u32; 4355],
+    levels: &mut [usize; 512],
+    st: State,
+) -> State {
+    let c = put_number(s, from, rows, lines, levels, st);
+    if 0 < c.wrong {
+        return c;
+    }
+    put_activity(s, after_numbered(s, at), column, rows, lines, levels, c)
+}
+
+// Where the number of a fault part stands, in a line that may have one; else 0.
+fn number_in(s: &[u8], at: usize, levels: &[usize; 512], level: usize) -> usize {
+    if levels::takes_number(levels, level) {
+        return part_number(s, at);
+    }
+    0
+}
+
 // A line of the drawing, whose activity or part starts at `at`.
 fn draw(
     s: &[u8],
@@ -302,6 +372,10 @@ fn draw(
     let c = close(lines, levels, column, s.len(), st);
     if 0 < c.wrong {
         return c;
+    }
+    let from = number_in(s, at, levels, c.level);
+    if 0 < from {
+        return draw_numbered(s, at, from, column, rows, lines, levels, c);
     }
     let p = after_part(s, at, levels::part(levels, c.level));
     if 0 < p {

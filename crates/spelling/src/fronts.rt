@@ -60,6 +60,36 @@ pub fn after_part(s: &[u8], at: usize, part: usize) -> usize {
     }
 }
 
+// Where the number of a fault part stands, as in `fault part 17:`; 0 where there is none.
+pub fn part_number(s: &[u8], at: usize) -> usize {
+    let p = after_word(s, at, b"fault");
+    if p == 0 {
+        return 0;
+    }
+    let q = after_word(s, p, b"part");
+    if q == 0 {
+        return 0;
+    }
+    let from = past_blanks(s, q);
+    let to = word_end(s, from);
+    if to <= from {
+        return 0;
+    }
+    if after_mark(s, to, 58) == 0 {
+        return 0;
+    }
+    from
+}
+
+// The place after the name of a fault part by number; 0 where it is not there.
+pub fn after_numbered(s: &[u8], at: usize) -> usize {
+    let from = part_number(s, at);
+    if from == 0 {
+        return 0;
+    }
+    after_mark(s, word_end(s, from), 58)
+}
+
 // Whether a line starts with a word that names a part.
 pub fn is_part(s: &[u8], at: usize) -> bool {
     if 0 < after_word(s, at, b"root") {
@@ -82,6 +112,10 @@ pub fn is_part(s: &[u8], at: usize) -> bool {
 
 // The place after the name of any part, where the line has one.
 fn past_part(s: &[u8], at: usize) -> usize {
+    let numbered = after_numbered(s, at);
+    if 0 < numbered {
+        return numbered;
+    }
     let mut part = 1;
     while part < 8 {
         let p = after_part(s, at, part);

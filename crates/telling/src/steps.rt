@@ -194,7 +194,7 @@ fn put_did(
             b"goes round once more",
             b"goes round no more",
         ),
-        kind::SCOPE => put_closed(out, used, names, table, n),
+        kind::SCOPE | kind::NUMBERED_SCOPE => put_closed(out, used, names, table, n),
         kind::OPEN_SCOPE => put_handed_on(out, used, names, table, n),
         _ => put(out, used, b"had a step of an unknown kind"),
     }

@@ -1,6 +1,7 @@
 // What an order does and waits for, a line for each activity that awaits its step.
 use super::near::put_near;
 use drawing::entry;
+use drawing::has_undo;
 use drawing::is_scope;
 use drawing::put;
 use drawing::put_activity;
@@ -13,7 +14,9 @@ use order::fault;
 use plan::kind;
 use plan::table::KIND;
 use plan::table::Table;
+use sayings::has_faulted;
 use sayings::put_by_fault;
+use sayings::put_scope_faulted;
 use telling::put_known;
 use telling::put_sent;
 
@@ -78,14 +81,6 @@ fn put_send(
     put(out, at, b": it will fault\n")
 }
 
-// Whether a scope with this mark has faulted: it waits for its inner scopes, undoes, or runs its fault part.
-fn has_faulted(mark: u8) -> bool {
-    if 3 < mark {
-        return mark < 7;
-    }
-    false
-}
-
 // Row k and its rival, by their numbers.
 fn put_rivals(out: &mut [u8; 4096], used: usize, k: usize, rival: usize) -> usize {
     let mut at = put(out, used, b"; activities");
@@ -93,16 +88,6 @@ fn put_rivals(out: &mut [u8; 4096], used: usize, k: usize, rival: usize) -> usiz
     at = put(out, at, b" and");
     at = put_next(out, at, k as u64);
     put(out, at, b" are for the same thing")
-}
-
-fn put_contested(out: &mut [u8; 4096], used: usize, k: usize, rival: usize) -> usize {
-    let mut at = put(out, used, b" faulted");
-    at = put_rivals(out, at, k, rival);
-    put(
-        out,
-        at,
-        b", and where both were open that alone faults it\n",
-    )
 }
 
 // Of a conflicting receive, the first two that are for one thing and may have made the root fault.
@@ -134,8 +119,26 @@ pub(crate) fn put_root_faulted(
     put_byte(out, at, 10)
 }
 
-// Scope n, which has this mark: where it has faulted, which receives for one thing it may have faulted by. The state keeps by which fault the root faulted, and
-// not by which a scope did.
+fn may_be_contested(choice: u8) -> bool {
+    match choice {
+        0 | 13 => true,
+        _ => false,
+    }
+}
+
+// Where the mark of a scope says that two receives were open for one thing, or does not say what it was, the first two in scope n for which that may be.
+fn put_contested(out: &mut [u8; 4096], used: usize, table: &Table, n: usize, choice: u8) -> usize {
+    if !may_be_contested(choice) {
+        return used;
+    }
+    let k = checking::contested_in(table, n);
+    if 255 < k {
+        return used;
+    }
+    put_rivals(out, used, k, checking::rival_of(table, k))
+}
+
+// Scope n, which has this mark: where it has faulted, by which fault.
 fn put_faulted(
     out: &mut [u8; 4096],
     used: usize,
@@ -147,13 +150,10 @@ fn put_faulted(
     if !has_faulted(mark) {
         return used;
     }
-    let k = checking::contested_in(table, n);
-    if 255 < k {
-        return used;
-    }
     let mut at = put(out, used, b"  ");
-    at = put_scope(out, at, names, table, n);
-    put_contested(out, at, k, checking::rival_of(table, k))
+    at = put_scope_faulted(out, at, names, table, n, mark);
+    at = put_contested(out, at, table, n, mark / 16);
+    put_byte(out, at, 10)
 }
 
 fn put_close(
@@ -174,7 +174,7 @@ fn put_close(
 
 // How many closings may hold the close of a scope of this kind: all that are kept, but none where it has no undo part, and hands on what closed in it.
 fn held_by(kind: u32, kept: usize) -> usize {
-    if kind == kind::SCOPE {
+    if has_undo(kind) {
         return kept;
     }
     0

@@ -1,10 +1,10 @@
 // What would be undone if what it is remembered for faulted now: the closings of an order, the latest first, and what each would send.
-use drawing::after;
 use drawing::end_of;
 use drawing::entry;
 use drawing::put;
 use drawing::put_byte;
 use drawing::put_scope;
+use drawing::undo_of;
 use drawing::wide;
 use order::Order;
 use plan::kind;
@@ -67,7 +67,7 @@ fn put_sends(
     at
 }
 
-// A closing of scope n for a part: its undo part stands after the body and the fault part.
+// A closing of scope n for a part.
 fn put_closing(
     out: &mut [u8; 4096],
     used: usize,
@@ -82,7 +82,7 @@ fn put_closing(
     at = put_scope(out, at, names, table, n);
     at = put_whose(out, at, names, table, part);
     at = put_byte(out, at, 10);
-    let from = end_of(table, end_of(table, after(n)));
+    let from = undo_of(table, n);
     put_sends(out, at, names, table, flags, from, end_of(table, n), order)
 }
 

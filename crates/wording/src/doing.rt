@@ -2,8 +2,10 @@
 use drawing::after;
 use drawing::end_of;
 use drawing::entry;
+use drawing::has_undo;
 use drawing::parent_of;
 use drawing::put_column;
+use drawing::undo_of;
 use drawing::wide;
 use order::Order;
 use plan::kind;
@@ -38,18 +40,15 @@ fn put_active(out: &mut [u8; 4096], used: usize, kind: u32) -> usize {
         kind::RAISE | kind::NUMBERED_RAISE => put_column(out, used, b"ready to raise"),
         kind::LEAVE => put_column(out, used, b"ready to leave"),
         kind::CHOOSE | kind::REPEAT => put_column(out, used, b"ready to decide"),
-        kind::SEQUENCE | kind::FLOW | kind::SCOPE | kind::OPEN_SCOPE => put_column(
-            out,
-            used,
-            b"running",
-        ),
+        kind::SEQUENCE | kind::FLOW => put_column(out, used, b"running"),
+        kind::SCOPE | kind::OPEN_SCOPE | kind::NUMBERED_SCOPE => put_column(out, used, b"running"),
         _ => put_column(out, used, b"of an unknown kind"),
     }
 }
 
-// What a mark beyond `active` says.
+// What a mark beyond `active` says, whichever fault part it has chosen.
 fn put_mark(out: &mut [u8; 4096], used: usize, mark: u8) -> usize {
-    match mark {
+    match mark % 16 {
         2 => put_column(out, used, b"running"),
         3 => put_column(out, used, b"done, ready to close"),
         4 => put_column(out, used, b"faulted"),
@@ -127,7 +126,7 @@ fn put_idle(
     match entry(table, parent, KIND) {
         kind::SEQUENCE => put_in_sequence(out, used, table, marks, parent, n),
         kind::FLOW => put_in_flow(out, used, mark_at(marks, parent)),
-        kind::SCOPE | kind::OPEN_SCOPE => put_part_idle(
+        kind::SCOPE | kind::OPEN_SCOPE | kind::NUMBERED_SCOPE => put_part_idle(
             out,
             used,
             mark_at(marks, parent),
@@ -179,11 +178,10 @@ fn is_remembered(order: Order, n: usize) -> bool {
     false
 }
 
-// Whether the undo part of scope n runs: it stands after the body and the fault part.
+// Whether the undo part of scope n runs.
 fn is_undone(table: &Table, marks: &[u8; 256], n: usize) -> bool {
-    if entry(table, n, KIND) == kind::SCOPE {
-        let fault = end_of(table, after(n));
-        return is_running(marks, end_of(table, fault), end_of(table, n));
+    if has_undo(entry(table, n, KIND)) {
+        return is_running(marks, undo_of(table, n), end_of(table, n));
     }
     false
 }

@@ -25,9 +25,9 @@ fn order_in(orders: [Order; 16], slot: usize) -> Order {
     machine::made::no_order()
 }
 
-// How an order stands, by the mark of its root.
+// How an order stands, by the mark of its root, which has beside it what it says of its fault.
 fn put_root(out: &mut [u8; 4096], used: usize, root: u8) -> usize {
-    match root {
+    match root % 16 {
         0 => put(out, used, b"free"),
         1 => put(out, used, b"running"),
         4 => put(out, used, b"faulted"),
@@ -149,13 +149,55 @@ fn put_closings(
     at
 }
 
-// The slot of an order, how it stands, and by which fault.
-fn put_head(out: &mut [u8; 4096], used: usize, slot: usize, order: Order) -> usize {
+// Activity n with this mark, where it is a scope that faulted.
+fn put_faulted(
+    out: &mut [u8; 4096],
+    used: usize,
+    names: &[u8; 8976],
+    table: &Table,
+    n: usize,
+    mark: u8,
+) -> usize {
+    if sayings::has_faulted(mark) {
+        let at = put(out, used, b"; ");
+        return sayings::put_scope_faulted(out, at, names, table, n, mark);
+    }
+    used
+}
+
+// The scopes of an order that faulted and are not over, each with its fault.
+fn put_all_faulted(
+    out: &mut [u8; 4096],
+    used: usize,
+    names: &[u8; 8976],
+    table: &Table,
+    order: Order,
+) -> usize {
+    let marks = order.marks;
+    let mut at = used;
+    let mut n = 0;
+    while n < 256 {
+        at = put_faulted(out, at, names, table, n, marks[n]);
+        n += 1;
+    }
+    at
+}
+
+// The slot of an order, how it stands, and by which fault; and which scopes in it faulted.
+fn put_head(
+    out: &mut [u8; 4096],
+    used: usize,
+    names: &[u8; 8976],
+    table: &Table,
+    slot: usize,
+    order: Order,
+) -> usize {
     let mut at = put(out, used, b"order");
     at = put_next(out, at, slot as u64);
     at = put_byte(out, at, 32);
     at = put_root(out, at, order.root);
-    put_cause(out, at, order.root, order.cause)
+    at = put_cause(out, at, order.root, order.cause);
+    put_all_faulted(out, at, names, table, order)
 }
 
 // A line for a live order.
@@ -172,7 +214,7 @@ fn put_order_line(
     if order.root == 0 {
         return used;
     }
-    let mut at = put_head(out, used, slot, order);
+    let mut at = put_head(out, used, names, table, slot, order);
     at = put(out, at, b"; ");
     at = put_variables(out, at, names, correlation, variables, order);
     at = put(out, at, b"; remembered: ");
@@ -305,7 +347,7 @@ fn put_drawn_order(
     slot: usize,
     order: Order,
 ) -> usize {
-    let mut at = put_head(out, used, slot, order);
+    let mut at = put_head(out, used, names, table, slot, order);
     at = put_byte(out, at, 10);
     if order.root == 0 {
         return at;
