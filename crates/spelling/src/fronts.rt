@@ -110,12 +110,8 @@ pub fn is_part(s: &[u8], at: usize) -> bool {
     0 < after_word(s, at, b"else")
 }
 
-// The place after the name of any part, where the line has one.
-fn past_part(s: &[u8], at: usize) -> usize {
-    let numbered = after_numbered(s, at);
-    if 0 < numbered {
-        return numbered;
-    }
+// The place after the name of any part that has no number, where the line has one.
+fn past_plain(s: &[u8], at: usize) -> usize {
     let mut part = 1;
     while part < 8 {
         let p = after_part(s, at, part);
@@ -125,6 +121,15 @@ fn past_part(s: &[u8], at: usize) -> usize {
         part += 1;
     }
     at
+}
+
+// The place after the name of any part, where the line has one.
+fn past_part(s: &[u8], at: usize) -> usize {
+    let numbered = after_numbered(s, at);
+    if 0 < numbered {
+        return numbered;
+    }
+    past_plain(s, at)
 }
 
 // The place after the word `scope`, where the line is a scope's; else 0.

@@ -1,8 +1,8 @@
--- `spelling::fronts::past_part` is safe and ends. Assumes nothing.
+-- `spelling::fronts::past_plain` is safe and ends. Assumes nothing.
 use borrow.Author.Needs.{needs}
 use Prim.Native.Nat.{_-_}
-use Rattle.spelling.proofs.fronts.past_part.Statement.{statement}
-use Rattle.spelling.proofs.fronts.past_part.Tie as tie
+use Rattle.spelling.proofs.fronts.past_plain.Statement.{statement}
+use Rattle.spelling.proofs.fronts.past_plain.Tie as tie
 
 abbrev Inv-loop : tie.InvT-loop
 Inv-loop s at part₀ part = Unit {0}
@@ -10,8 +10,8 @@ Inv-loop s at part₀ part = Unit {0}
 abbrev μ-loop : tie.MeasureT-loop
 μ-loop s at part₀ part = 8 - part
 
-pub past-part-spec : {M : Type 1} → statement M
-past-part-spec =
+pub past-plain-spec : {M : Type 1} → statement M
+past-plain-spec =
     tie.close (tie.spec Inv-loop μ-loop
     -- loop-holds
     (λ c. tt)
