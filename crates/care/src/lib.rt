@@ -32,7 +32,7 @@ fn replacing(
     desk: Desk,
     file: &[u8],
     number: u64,
-    names: &[u8; 4752],
+    names: &[u8; 8976],
     out: &mut [u8; 4096],
 ) -> Desk {
     if is_anothers(desk, file) {
@@ -51,7 +51,7 @@ fn replaced(
     desk: Desk,
     file: &[u8],
     number: u64,
-    names: &[u8; 4752],
+    names: &[u8; 8976],
     out: &mut [u8; 4096],
 ) -> Desk {
     let e = retaining::retained(file);
@@ -67,7 +67,7 @@ fn over_plan(
     desk: Desk,
     file: &[u8],
     number: u64,
-    names: &[u8; 4752],
+    names: &[u8; 8976],
     out: &mut [u8; 4096],
 ) -> Desk {
     let state = desk.state;
@@ -89,7 +89,7 @@ pub fn save(
     desk: Desk,
     file: &[u8],
     number: u64,
-    names: &[u8; 4752],
+    names: &[u8; 8976],
     out: &mut [u8; 4096],
 ) -> Desk {
     if !desk.spoken {

@@ -42,7 +42,7 @@ fn is_earned(table: &Table, correlation: &[u8; 16], n: usize, what: u32) -> bool
     }
 }
 
-fn put_variable_words(out: &mut [u8; 4096], used: usize, names: &[u8; 4752], what: u32) -> usize {
+fn put_variable_words(out: &mut [u8; 4096], used: usize, names: &[u8; 8976], what: u32) -> usize {
     if what < 16 {
         return used;
     }
@@ -76,7 +76,7 @@ fn put_rival(out: &mut [u8; 4096], used: usize, j: usize) -> usize {
 fn put_words(
     out: &mut [u8; 4096],
     used: usize,
-    names: &[u8; 4752],
+    names: &[u8; 8976],
     table: &Table,
     n: usize,
     what: u32,
@@ -120,7 +120,7 @@ fn put_words(
 fn put_warning(
     out: &mut [u8; 4096],
     used: usize,
-    names: &[u8; 4752],
+    names: &[u8; 8976],
     table: &Table,
     correlation: &[u8; 16],
     n: usize,
@@ -138,7 +138,7 @@ fn put_warning(
 fn put_earned(
     out: &mut [u8; 4096],
     used: usize,
-    names: &[u8; 4752],
+    names: &[u8; 8976],
     table: &Table,
     correlation: &[u8; 16],
     n: usize,
@@ -154,7 +154,7 @@ fn put_earned(
 fn put_warnings_at(
     out: &mut [u8; 4096],
     used: usize,
-    names: &[u8; 4752],
+    names: &[u8; 8976],
     table: &Table,
     correlation: &[u8; 16],
     n: usize,
@@ -172,7 +172,7 @@ fn put_warnings_at(
 pub fn put_warnings(
     out: &mut [u8; 4096],
     used: usize,
-    names: &[u8; 4752],
+    names: &[u8; 8976],
     table: &Table,
     correlation: &[u8; 16],
     activities: usize,
@@ -220,7 +220,7 @@ fn count_of(table: &Table, correlation: &[u8; 16], activities: usize) -> u64 {
 pub fn put_check(
     out: &mut [u8; 4096],
     used: usize,
-    names: &[u8; 4752],
+    names: &[u8; 8976],
     table: &Table,
     correlation: &[u8; 16],
     activities: usize,

@@ -1,19 +1,20 @@
 // An accepted plan in words, by its table: an activity or arm on each line.
+use super::expressions::put_expression;
 use super::naming::put_operation;
 use super::naming::put_partner;
+use super::naming::put_scope_name;
 use super::naming::put_variable;
 use super::output::put;
 use super::output::put_aligned;
 use super::output::put_byte;
+use super::output::put_next;
 use super::output::put_number;
-use super::table::after;
-use super::table::code_of;
 use super::table::depth_of;
 use super::table::entry;
 use super::table::is_scope;
 use super::table::order_of;
 use super::table::parent_of;
-use super::table::value_of;
+use super::table::scopes_before;
 use plan::kind;
 use plan::table::COUNT;
 use plan::table::EXPRESSION;
@@ -70,7 +71,7 @@ pub(crate) fn is_correlation(correlation: &[u8; 16], number: u32) -> bool {
 pub fn put_member(
     out: &mut [u8; 4096],
     used: usize,
-    names: &[u8; 4752],
+    names: &[u8; 8976],
     correlation: &[u8; 16],
     number: u32,
 ) -> usize {
@@ -85,7 +86,7 @@ pub fn put_member(
 fn put_another(
     out: &mut [u8; 4096],
     used: usize,
-    names: &[u8; 4752],
+    names: &[u8; 8976],
     table: &Table,
     correlation: &[u8; 16],
     n: usize,
@@ -104,7 +105,7 @@ fn put_another(
 fn put_tuple(
     out: &mut [u8; 4096],
     used: usize,
-    names: &[u8; 4752],
+    names: &[u8; 8976],
     table: &Table,
     correlation: &[u8; 16],
     n: usize,
@@ -119,7 +120,7 @@ fn put_tuple(
 fn put_exchange(
     out: &mut [u8; 4096],
     used: usize,
-    names: &[u8; 4752],
+    names: &[u8; 8976],
     words: &[u8],
     table: &Table,
     correlation: &[u8; 16],
@@ -134,75 +135,11 @@ fn put_exchange(
     put_tuple(out, at, names, table, correlation, n)
 }
 
-fn put_operator(out: &mut [u8; 4096], used: usize, code: u32) -> usize {
-    match code {
-        2 => put(out, used, b" + "),
-        3 => put(out, used, b" - "),
-        4 => put(out, used, b" = "),
-        _ => put(out, used, b" < "),
-    }
-}
-
-// A constant or a variable. (No node of an accepted plan is anything else where no level is left.)
-fn put_leaf(
-    out: &mut [u8; 4096],
-    used: usize,
-    names: &[u8; 4752],
-    table: &Table,
-    m: usize,
-) -> usize {
-    let value = value_of(table, m);
-    if code_of(table, m) == 0 {
-        return put_number(out, used, value as u64);
-    }
-    put_variable(out, used, names, value)
-}
-
-// A byte, where it is wanted.
-fn put_if(out: &mut [u8; 4096], used: usize, wanted: bool, b: u8) -> usize {
-    if wanted {
-        return put_byte(out, used, b);
-    }
-    used
-}
-
-// The expression whose first node is m, where `depth` levels are left below it; an operation that is an operand stands in parentheses.
-fn put_expression(
-    out: &mut [u8; 4096],
-    used: usize,
-    names: &[u8; 4752],
-    table: &Table,
-    m: usize,
-    depth: usize,
-    operand: bool,
-) -> usize {
-    let code = code_of(table, m);
-    if code < 2 {
-        return put_leaf(out, used, names, table, m);
-    }
-    if depth == 0 {
-        return put_leaf(out, used, names, table, m);
-    }
-    let opened = put_if(out, used, operand, 40);
-    let left = put_expression(out, opened, names, table, after(m), depth - 1, true);
-    let between = put_operator(out, left, code);
-    let right = put_expression(
-        out,
-        between,
-        names,
-        table,
-        value_of(table, m) as usize,
-        depth - 1,
-        true,
-    );
-    put_if(out, right, operand, 41)
-}
-
 // Words, and then the expression of row n.
 fn put_with_expression(
     out: &mut [u8; 4096],
     used: usize,
-    names: &[u8; 4752],
+    names: &[u8; 8976],
     words: &[u8],
     table: &Table,
     n: usize,
@@ -222,13 +159,38 @@ fn put_with_expression(
 fn put_set(
     out: &mut [u8; 4096],
     used: usize,
-    names: &[u8; 4752],
+    names: &[u8; 8976],
     table: &Table,
     n: usize,
 ) -> usize {
     let mut at = put(out, used, b"set ");
     at = put_variable(out, at, names, entry(table, n, VARIABLE));
     put_with_expression(out, at, names, b" to ", table, n)
+}
+
+// Scope n, with the name that it may have.
+fn put_named_scope(
+    out: &mut [u8; 4096],
+    used: usize,
+    names: &[u8; 8976],
+    table: &Table,
+    n: usize,
+) -> usize {
+    let at = put(out, used, b"scope");
+    put_scope_name(out, at, names, scopes_before(table, n), b" ", b"")
+}
+
+// Scope n by its number, and by the name that it may have: `scope 6 (stock)`.
+pub fn put_scope(
+    out: &mut [u8; 4096],
+    used: usize,
+    names: &[u8; 8976],
+    table: &Table,
+    n: usize,
+) -> usize {
+    let mut at = put(out, used, b"scope");
+    at = put_next(out, at, n as u64);
+    put_scope_name(out, at, names, scopes_before(table, n), b" (", b")")
 }
 
 // A raise with its number.
@@ -241,7 +203,7 @@ fn put_raise(out: &mut [u8; 4096], used: usize, table: &Table, n: usize) -> usiz
 pub fn put_activity(
     out: &mut [u8; 4096],
     used: usize,
-    names: &[u8; 4752],
+    names: &[u8; 8976],
     table: &Table,
     correlation: &[u8; 16],
     n: usize,
@@ -260,7 +222,7 @@ pub fn put_activity(
         kind::SEQUENCE => put(out, used, b"sequence"),
         kind::FLOW => put(out, used, b"flow"),
         kind::PICK => put(out, used, b"pick"),
-        kind::SCOPE | kind::OPEN_SCOPE => put(out, used, b"scope"),
+        kind::SCOPE | kind::OPEN_SCOPE => put_named_scope(out, used, names, table, n),
         kind::ARM => put_exchange(
             out,
             used,
@@ -295,7 +257,7 @@ fn put_indent(out: &mut [u8; 4096], used: usize, depth: usize) -> usize {
 pub fn put_drawn(
     out: &mut [u8; 4096],
     used: usize,
-    names: &[u8; 4752],
+    names: &[u8; 8976],
     table: &Table,
     correlation: &[u8; 16],
     n: usize,
@@ -309,7 +271,7 @@ pub fn put_drawn(
 fn put_line(
     out: &mut [u8; 4096],
     used: usize,
-    names: &[u8; 4752],
+    names: &[u8; 8976],
     table: &Table,
     correlation: &[u8; 16],
     n: usize,
@@ -323,7 +285,7 @@ fn put_line(
 pub fn put_drawing(
     out: &mut [u8; 4096],
     used: usize,
-    names: &[u8; 4752],
+    names: &[u8; 8976],
     table: &Table,
     correlation: &[u8; 16],
     activities: usize,

@@ -1,6 +1,7 @@
 // A plan drawn: its activities and the names that it declares, a line for each. And how what is written is gathered. Each function that puts
 // something writes at the place `used` of `out`, and answers the place after.
 mod activities;
+mod expressions;
 mod naming;
 mod output;
 mod table;
@@ -9,6 +10,7 @@ pub use activities::put_activity;
 pub use activities::put_drawing;
 pub use activities::put_drawn;
 pub use activities::put_member;
+pub use activities::put_scope;
 pub use naming::put_names;
 pub use naming::put_operation;
 pub use naming::put_partner;

@@ -1,5 +1,6 @@
-// The names of a plan's variables, partners and operations, in the table that the crate sheet makes of a text (sheet/src/naming.rt): 144 places of
-// 33 bytes, the length of a name and its characters. A table of zeros has no names. And the lines that declare them, as a text has them in front.
+// The names of a plan's variables, partners, operations and scopes, in the table that the crate spelling makes of a text (spelling/src/naming.rt): 272
+// places of 33 bytes, the length of a name and its characters. A table of zeros has no names. And the lines that declare them, as a text has them in
+// front.
 use super::activities::is_correlation;
 use super::output::put;
 use super::output::put_byte;
@@ -7,8 +8,8 @@ use super::output::put_next;
 use super::output::put_number;
 use names::length_at;
 
-fn byte_in(names: &[u8; 4752], place: usize, i: usize) -> u8 {
-    if place < 144 {
+fn byte_in(names: &[u8; 8976], place: usize, i: usize) -> u8 {
+    if place < 272 {
         if i < 33 {
             return names[place * 33 + i];
         }
@@ -17,7 +18,7 @@ fn byte_in(names: &[u8; 4752], place: usize, i: usize) -> u8 {
 }
 
 // The name at a place.
-fn put_name(out: &mut [u8; 4096], used: usize, names: &[u8; 4752], place: usize) -> usize {
+fn put_name(out: &mut [u8; 4096], used: usize, names: &[u8; 8976], place: usize) -> usize {
     let length = length_at(names, place);
     let mut at = used;
     let mut i = 0;
@@ -28,7 +29,7 @@ fn put_name(out: &mut [u8; 4096], used: usize, names: &[u8; 4752], place: usize)
     at
 }
 
-// The place of a variable, and of what is numbered up to 63 from `first` on; 144, where no name is, for any other.
+// The place of a variable, and of what is numbered up to 63 from `first` on; 272, where no name is, for any other.
 fn place_of(first: usize, many: u32, number: u32) -> usize {
     if number < many {
         if number < 64 {
@@ -37,11 +38,11 @@ fn place_of(first: usize, many: u32, number: u32) -> usize {
             }
         }
     }
-    144
+    272
 }
 
 // A variable by its name, or as v0, v1, ..
-pub fn put_variable(out: &mut [u8; 4096], used: usize, names: &[u8; 4752], number: u32) -> usize {
+pub fn put_variable(out: &mut [u8; 4096], used: usize, names: &[u8; 8976], number: u32) -> usize {
     let place = place_of(0, 16, number);
     if 0 < length_at(names, place) {
         return put_name(out, used, names, place);
@@ -54,7 +55,7 @@ pub fn put_variable(out: &mut [u8; 4096], used: usize, names: &[u8; 4752], numbe
 fn put_numbered(
     out: &mut [u8; 4096],
     used: usize,
-    names: &[u8; 4752],
+    names: &[u8; 8976],
     first: usize,
     number: u32,
 ) -> usize {
@@ -65,19 +66,44 @@ fn put_numbered(
     put_number(out, used, number as u64)
 }
 
-pub fn put_partner(out: &mut [u8; 4096], used: usize, names: &[u8; 4752], number: u32) -> usize {
+pub fn put_partner(out: &mut [u8; 4096], used: usize, names: &[u8; 8976], number: u32) -> usize {
     put_numbered(out, used, names, 16, number)
 }
 
-pub fn put_operation(out: &mut [u8; 4096], used: usize, names: &[u8; 4752], number: u32) -> usize {
+pub fn put_operation(out: &mut [u8; 4096], used: usize, names: &[u8; 8976], number: u32) -> usize {
     put_numbered(out, used, names, 80, number)
+}
+
+// The name of scope k of the plan, where it has one, with what stands before and behind it.
+pub(crate) fn put_scope_name(
+    out: &mut [u8; 4096],
+    used: usize,
+    names: &[u8; 8976],
+    k: usize,
+    before: &[u8],
+    behind: &[u8],
+) -> usize {
+    let place = scope_place(k);
+    if 0 < length_at(names, place) {
+        let mut at = put(out, used, before);
+        at = put_name(out, at, names, place);
+        return put(out, at, behind);
+    }
+    used
+}
+
+fn scope_place(k: usize) -> usize {
+    if k < 128 {
+        return 144 + k;
+    }
+    272
 }
 
 // The line that declares a variable.
 fn put_declared(
     out: &mut [u8; 4096],
     used: usize,
-    names: &[u8; 4752],
+    names: &[u8; 8976],
     correlation: &[u8; 16],
     number: u32,
 ) -> usize {
@@ -92,7 +118,7 @@ fn put_declared(
 fn put_variables(
     out: &mut [u8; 4096],
     used: usize,
-    names: &[u8; 4752],
+    names: &[u8; 8976],
     correlation: &[u8; 16],
     variables: u32,
 ) -> usize {
@@ -109,7 +135,7 @@ fn put_variables(
 fn put_named(
     out: &mut [u8; 4096],
     used: usize,
-    names: &[u8; 4752],
+    names: &[u8; 8976],
     word: &[u8],
     place: usize,
     number: u64,
@@ -127,7 +153,7 @@ fn put_named(
 fn put_all_named(
     out: &mut [u8; 4096],
     used: usize,
-    names: &[u8; 4752],
+    names: &[u8; 8976],
     word: &[u8],
     first: usize,
 ) -> usize {
@@ -144,7 +170,7 @@ fn put_all_named(
 pub fn put_names(
     out: &mut [u8; 4096],
     used: usize,
-    names: &[u8; 4752],
+    names: &[u8; 8976],
     correlation: &[u8; 16],
     variables: u32,
 ) -> usize {

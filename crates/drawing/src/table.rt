@@ -119,3 +119,21 @@ fn is_scope_around(table: &Table, m: usize, n: usize) -> bool {
     }
     false
 }
+
+// How many scopes stand before activity n.
+pub(crate) fn scopes_before(table: &Table, n: usize) -> usize {
+    let mut k = 0;
+    let mut m = 0;
+    while m < n {
+        k = with_scope(k, entry(table, m, KIND));
+        m += 1;
+    }
+    k
+}
+
+fn with_scope(k: usize, kind: u32) -> usize {
+    if is_scope(kind) {
+        return after(k);
+    }
+    k
+}

@@ -17,7 +17,6 @@ use plan::table::Table;
 use plan::table::VARIABLE;
 use plan::table::VARIABLES;
 use table::Place;
-use table::after;
 use table::code_of;
 use table::entry;
 use table::narrow;
@@ -126,12 +125,18 @@ fn put_exchange(
     put_another(out, third, table, correlation, n, 3)
 }
 
-fn put_operator(out: &mut [u8; 65536], used: usize, code: u32) -> usize {
-    match code {
+fn put_operator(out: &mut [u8; 65536], used: usize, form: u32) -> usize {
+    match form {
         2 => put(out, used, b" + "),
         3 => put(out, used, b" - "),
         4 => put(out, used, b" = "),
-        _ => put(out, used, b" < "),
+        5 => put(out, used, b" < "),
+        forms::AND => put(out, used, b" and "),
+        forms::OR => put(out, used, b" or "),
+        forms::NOT_LESS => put(out, used, b" >= "),
+        forms::MORE => put(out, used, b" > "),
+        forms::NOT_MORE => put(out, used, b" <= "),
+        _ => put(out, used, b" != "),
     }
 }
 
@@ -161,24 +166,25 @@ fn put_expression(
     depth: usize,
     operand: bool,
 ) -> usize {
-    let code = code_of(table, m);
-    if code < 2 {
+    if code_of(table, m) < 2 {
         return put_leaf(out, used, table, m);
     }
     if depth == 0 {
         return put_leaf(out, used, table, m);
     }
+    let form = forms::form_of(table, m);
+    let first = forms::first_of(table, m, form);
     let opened = put_if(out, used, operand, 40);
-    let left = put_expression(out, opened, table, after(m), depth - 1, true);
-    let between = put_operator(out, left, code);
-    let right = put_expression(
-        out,
-        between,
-        table,
-        value_of(table, m) as usize,
-        depth - 1,
-        true,
-    );
+    if form == forms::NOT {
+        let not = put(out, opened, b"not ");
+        let whole = put_expression(out, not, table, first, depth - 1, true);
+        return put_if(out, whole, operand, 41);
+    }
+    let left = put_expression(out, opened, table, first, depth - 1, true);
+    let between = put_operator(out, left, form);
+    let second = forms::second_of(table, m, form);
+    let apart = !forms::goes_on(table, form, second);
+    let right = put_expression(out, between, table, second, depth - 1, apart);
     put_if(out, right, operand, 41)
 }
 

@@ -4,6 +4,7 @@ mod checks;
 mod disagreeing;
 mod files;
 mod mends;
+mod places;
 mod plans;
 mod reasons;
 mod sealed;

@@ -1,9 +1,9 @@
 // The activities that a line may stand in: those that are open, the outermost first. Each has its column, its kind, its row, how many stand directly
 // in it, and their column. Kinds are those of plan, but for the root, which is the first and has one of its own; a scope is always one with no undo part
 // here.
-use super::table::put;
 use plan::code;
 use plan::kind;
+use spelling::put;
 
 // The kind of the root.
 pub(crate) const ROOT: usize = 256;

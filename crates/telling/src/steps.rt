@@ -6,6 +6,7 @@ use super::settled::put_raises;
 use drawing::entry;
 use drawing::put;
 use drawing::put_next;
+use drawing::put_scope;
 use drawing::put_variable;
 use machine::Message;
 use machine::Step;
@@ -50,7 +51,7 @@ fn put_whose(out: &mut [u8; 4096], used: usize, slot: usize, root: u8) -> usize 
 fn put_took(
     out: &mut [u8; 4096],
     used: usize,
-    names: &[u8; 4752],
+    names: &[u8; 8976],
     table: &Table,
     activities: usize,
     root: u8,
@@ -67,7 +68,7 @@ fn put_took(
 fn put_send(
     out: &mut [u8; 4096],
     used: usize,
-    names: &[u8; 4752],
+    names: &[u8; 8976],
     table: &Table,
     flags: &[u8; 16],
     n: usize,
@@ -87,7 +88,7 @@ fn put_send(
 fn put_set(
     out: &mut [u8; 4096],
     used: usize,
-    names: &[u8; 4752],
+    names: &[u8; 8976],
     variable: u32,
     w: Worth,
 ) -> usize {
@@ -125,14 +126,26 @@ fn worth_of(table: &Table, n: usize, order: Order) -> Worth {
     order::evaluation::evaluate_at(table, order, entry(table, n, EXPRESSION) as usize, 8)
 }
 
-fn put_closed(out: &mut [u8; 4096], used: usize, n: usize) -> usize {
-    let at = put(out, used, b"closed scope");
-    put_next(out, at, n as u64)
+fn put_closed(
+    out: &mut [u8; 4096],
+    used: usize,
+    names: &[u8; 8976],
+    table: &Table,
+    n: usize,
+) -> usize {
+    let at = put(out, used, b"closed ");
+    put_scope(out, at, names, table, n)
 }
 
 // A scope with no undo part.
-fn put_handed_on(out: &mut [u8; 4096], used: usize, n: usize) -> usize {
-    let at = put_closed(out, used, n);
+fn put_handed_on(
+    out: &mut [u8; 4096],
+    used: usize,
+    names: &[u8; 8976],
+    table: &Table,
+    n: usize,
+) -> usize {
+    let at = put_closed(out, used, names, table, n);
     put(out, at, b", and handed on what closed in it")
 }
 
@@ -146,7 +159,7 @@ fn put_raised(out: &mut [u8; 4096], used: usize, table: &Table, n: usize) -> usi
 fn put_did(
     out: &mut [u8; 4096],
     used: usize,
-    names: &[u8; 4752],
+    names: &[u8; 8976],
     table: &Table,
     flags: &[u8; 16],
     activities: usize,
@@ -181,8 +194,8 @@ fn put_did(
             b"goes round once more",
             b"goes round no more",
         ),
-        kind::SCOPE => put_closed(out, used, n),
-        kind::OPEN_SCOPE => put_handed_on(out, used, n),
+        kind::SCOPE => put_closed(out, used, names, table, n),
+        kind::OPEN_SCOPE => put_handed_on(out, used, names, table, n),
         _ => put(out, used, b"had a step of an unknown kind"),
     }
 }
@@ -206,7 +219,7 @@ fn put_behind(
 pub fn put_step(
     out: &mut [u8; 4096],
     used: usize,
-    names: &[u8; 4752],
+    names: &[u8; 8976],
     table: &Table,
     flags: &[u8; 16],
     activities: usize,

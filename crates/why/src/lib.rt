@@ -20,7 +20,7 @@ use telling::value_in;
 fn put_key(
     out: &mut [u8; 4096],
     used: usize,
-    names: &[u8; 4752],
+    names: &[u8; 8976],
     flag: u8,
     variable: u32,
     known: u64,
@@ -40,7 +40,7 @@ fn put_key(
 fn put_keys(
     out: &mut [u8; 4096],
     used: usize,
-    names: &[u8; 4752],
+    names: &[u8; 8976],
     flags: &[u8; 16],
     bound: &[u8; 16],
     values: &[u32; 16],
@@ -64,7 +64,7 @@ fn put_keys(
 fn put_head(
     out: &mut [u8; 4096],
     used: usize,
-    names: &[u8; 4752],
+    names: &[u8; 8976],
     flags: &[u8; 16],
     slot: usize,
     order: Order,
@@ -81,7 +81,7 @@ fn put_head(
 fn put_order(
     out: &mut [u8; 4096],
     used: usize,
-    names: &[u8; 4752],
+    names: &[u8; 8976],
     table: &Table,
     flags: &[u8; 16],
     picks: &[usize; 256],
@@ -120,7 +120,7 @@ fn is_asked(only: usize, slot: usize, root: u8) -> bool {
 fn put_orders(
     out: &mut [u8; 4096],
     used: usize,
-    names: &[u8; 4752],
+    names: &[u8; 8976],
     table: &Table,
     flags: &[u8; 16],
     picks: &[usize; 256],
@@ -156,7 +156,7 @@ fn put_orders(
 fn put_all(
     out: &mut [u8; 4096],
     used: usize,
-    names: &[u8; 4752],
+    names: &[u8; 8976],
     table: &Table,
     flags: &[u8; 16],
     activities: usize,
@@ -185,7 +185,7 @@ fn put_all(
 pub fn put_why(
     out: &mut [u8; 4096],
     used: usize,
-    names: &[u8; 4752],
+    names: &[u8; 8976],
     state: State,
     only: usize,
 ) -> usize {

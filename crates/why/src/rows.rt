@@ -6,6 +6,7 @@ use drawing::put;
 use drawing::put_activity;
 use drawing::put_byte;
 use drawing::put_next;
+use drawing::put_scope;
 use machine::State;
 use order::Order;
 use order::fault;
@@ -33,7 +34,7 @@ fn put_place(out: &mut [u8; 4096], used: usize, n: usize) -> usize {
 fn put_open(
     out: &mut [u8; 4096],
     used: usize,
-    names: &[u8; 4752],
+    names: &[u8; 8976],
     table: &Table,
     flags: &[u8; 16],
     n: usize,
@@ -56,7 +57,7 @@ fn put_open(
 fn put_send(
     out: &mut [u8; 4096],
     used: usize,
-    names: &[u8; 4752],
+    names: &[u8; 8976],
     table: &Table,
     flags: &[u8; 16],
     n: usize,
@@ -104,11 +105,6 @@ fn put_contested(out: &mut [u8; 4096], used: usize, k: usize, rival: usize) -> u
     )
 }
 
-fn put_scope(out: &mut [u8; 4096], used: usize, n: usize) -> usize {
-    let at = put(out, used, b"  scope");
-    put_next(out, at, n as u64)
-}
-
 // Of a conflicting receive, the first two that are for one thing and may have made the root fault.
 fn put_conflict(out: &mut [u8; 4096], used: usize, table: &Table, cause: u8) -> usize {
     if cause != fault::CONFLICTING_RECEIVE {
@@ -140,7 +136,14 @@ pub(crate) fn put_root_faulted(
 
 // Scope n, which has this mark: where it has faulted, which receives for one thing it may have faulted by. The state keeps by which fault the root faulted, and
 // not by which a scope did.
-fn put_faulted(out: &mut [u8; 4096], used: usize, table: &Table, n: usize, mark: u8) -> usize {
+fn put_faulted(
+    out: &mut [u8; 4096],
+    used: usize,
+    names: &[u8; 8976],
+    table: &Table,
+    n: usize,
+    mark: u8,
+) -> usize {
     if !has_faulted(mark) {
         return used;
     }
@@ -148,13 +151,21 @@ fn put_faulted(out: &mut [u8; 4096], used: usize, table: &Table, n: usize, mark:
     if 255 < k {
         return used;
     }
-    let at = put_scope(out, used, n);
+    let mut at = put(out, used, b"  ");
+    at = put_scope(out, at, names, table, n);
     put_contested(out, at, k, checking::rival_of(table, k))
 }
 
-fn put_close(out: &mut [u8; 4096], used: usize, n: usize, kept: usize) -> usize {
-    let mut at = put(out, used, b"  is to close scope");
-    at = put_next(out, at, n as u64);
+fn put_close(
+    out: &mut [u8; 4096],
+    used: usize,
+    names: &[u8; 8976],
+    table: &Table,
+    n: usize,
+    kept: usize,
+) -> usize {
+    let mut at = put(out, used, b"  is to close ");
+    at = put_scope(out, at, names, table, n);
     if 32 <= kept {
         return put(out, at, b": held, where it remembers 32 closings\n");
     }
@@ -172,7 +183,7 @@ fn held_by(kind: u32, kept: usize) -> usize {
 fn put_ready(
     out: &mut [u8; 4096],
     used: usize,
-    names: &[u8; 4752],
+    names: &[u8; 8976],
     table: &Table,
     flags: &[u8; 16],
     n: usize,
@@ -187,7 +198,7 @@ fn put_ready(
 fn put_active(
     out: &mut [u8; 4096],
     used: usize,
-    names: &[u8; 4752],
+    names: &[u8; 8976],
     table: &Table,
     flags: &[u8; 16],
     n: usize,
@@ -211,7 +222,7 @@ fn put_active(
 fn put_row(
     out: &mut [u8; 4096],
     used: usize,
-    names: &[u8; 4752],
+    names: &[u8; 8976],
     table: &Table,
     flags: &[u8; 16],
     picks: &[usize; 256],
@@ -225,13 +236,14 @@ fn put_row(
         return put_active(out, used, names, table, flags, n, state, order);
     }
     if mark == 3 {
-        return put_close(out, used, n, held_by(entry(table, n, KIND), order.kept));
+        let kept = held_by(entry(table, n, KIND), order.kept);
+        return put_close(out, used, names, table, n, kept);
     }
     if fit::search::arm_open(table, picks, &marks, n) {
         return put_open(out, used, names, table, flags, n, state, order);
     }
     if is_scope(entry(table, n, KIND)) {
-        return put_faulted(out, used, table, n, mark);
+        return put_faulted(out, used, names, table, n, mark);
     }
     used
 }
@@ -239,7 +251,7 @@ fn put_row(
 pub(crate) fn put_rows(
     out: &mut [u8; 4096],
     used: usize,
-    names: &[u8; 4752],
+    names: &[u8; 8976],
     table: &Table,
     flags: &[u8; 16],
     picks: &[usize; 256],

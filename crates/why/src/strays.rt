@@ -72,7 +72,7 @@ fn taker_of(
 fn put_message(
     out: &mut [u8; 4096],
     used: usize,
-    names: &[u8; 4752],
+    names: &[u8; 8976],
     table: &Table,
     activities: usize,
     j: usize,
@@ -90,7 +90,7 @@ fn put_message(
 fn put_stray(
     out: &mut [u8; 4096],
     used: usize,
-    names: &[u8; 4752],
+    names: &[u8; 8976],
     table: &Table,
     activities: usize,
     taker: u32,
@@ -164,7 +164,7 @@ fn is_full(orders: [Order; 16]) -> bool {
 pub(crate) fn put_strays(
     out: &mut [u8; 4096],
     used: usize,
-    names: &[u8; 4752],
+    names: &[u8; 8976],
     table: &Table,
     flags: &[u8; 16],
     picks: &[usize; 256],

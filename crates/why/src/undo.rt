@@ -4,7 +4,7 @@ use drawing::end_of;
 use drawing::entry;
 use drawing::put;
 use drawing::put_byte;
-use drawing::put_next;
+use drawing::put_scope;
 use drawing::wide;
 use order::Order;
 use plan::kind;
@@ -13,10 +13,16 @@ use plan::table::Table;
 use telling::put_sent;
 
 // For what a closing is remembered: the body of the root is part 0, and that of scope k is part k + 1.
-fn put_whose(out: &mut [u8; 4096], used: usize, part: usize) -> usize {
+fn put_whose(
+    out: &mut [u8; 4096],
+    used: usize,
+    names: &[u8; 8976],
+    table: &Table,
+    part: usize,
+) -> usize {
     if 0 < part {
-        let at = put(out, used, b" for scope");
-        return put_next(out, at, (part - 1) as u64);
+        let at = put(out, used, b" for ");
+        return put_scope(out, at, names, table, part - 1);
     }
     put(out, used, b" for the root")
 }
@@ -25,7 +31,7 @@ fn put_whose(out: &mut [u8; 4096], used: usize, part: usize) -> usize {
 fn put_one(
     out: &mut [u8; 4096],
     used: usize,
-    names: &[u8; 4752],
+    names: &[u8; 8976],
     table: &Table,
     flags: &[u8; 16],
     n: usize,
@@ -45,7 +51,7 @@ fn put_one(
 fn put_sends(
     out: &mut [u8; 4096],
     used: usize,
-    names: &[u8; 4752],
+    names: &[u8; 8976],
     table: &Table,
     flags: &[u8; 16],
     from: usize,
@@ -65,16 +71,16 @@ fn put_sends(
 fn put_closing(
     out: &mut [u8; 4096],
     used: usize,
-    names: &[u8; 4752],
+    names: &[u8; 8976],
     table: &Table,
     flags: &[u8; 16],
     n: usize,
     part: usize,
     order: Order,
 ) -> usize {
-    let mut at = put(out, used, b"  would undo scope");
-    at = put_next(out, at, n as u64);
-    at = put_whose(out, at, part);
+    let mut at = put(out, used, b"  would undo ");
+    at = put_scope(out, at, names, table, n);
+    at = put_whose(out, at, names, table, part);
     at = put_byte(out, at, 10);
     let from = end_of(table, end_of(table, after(n)));
     put_sends(out, at, names, table, flags, from, end_of(table, n), order)
@@ -83,7 +89,7 @@ fn put_closing(
 fn put_place(
     out: &mut [u8; 4096],
     used: usize,
-    names: &[u8; 4752],
+    names: &[u8; 8976],
     table: &Table,
     flags: &[u8; 16],
     i: usize,
@@ -112,7 +118,7 @@ fn put_place(
 pub(crate) fn put_undo(
     out: &mut [u8; 4096],
     used: usize,
-    names: &[u8; 4752],
+    names: &[u8; 8976],
     table: &Table,
     flags: &[u8; 16],
     order: Order,

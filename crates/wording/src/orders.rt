@@ -10,6 +10,7 @@ use drawing::put_member;
 use drawing::put_next;
 use drawing::put_number;
 use drawing::put_refusal;
+use drawing::put_scope;
 use machine::State;
 use order::Order;
 use plan::Answer;
@@ -55,7 +56,7 @@ fn put_between(out: &mut [u8; 4096], used: usize, i: usize) -> usize {
 fn put_variable(
     out: &mut [u8; 4096],
     used: usize,
-    names: &[u8; 4752],
+    names: &[u8; 8976],
     correlation: &[u8; 16],
     i: usize,
     bound: u8,
@@ -75,7 +76,7 @@ fn put_variable(
 fn put_values(
     out: &mut [u8; 4096],
     used: usize,
-    names: &[u8; 4752],
+    names: &[u8; 8976],
     correlation: &[u8; 16],
     variables: u32,
     bound: &[u8; 16],
@@ -97,7 +98,7 @@ fn put_values(
 fn put_variables(
     out: &mut [u8; 4096],
     used: usize,
-    names: &[u8; 4752],
+    names: &[u8; 8976],
     correlation: &[u8; 16],
     variables: u32,
     order: Order,
@@ -108,18 +109,30 @@ fn put_variables(
 }
 
 // Scope n, which closed, and for what that is remembered: the body of the root is part 0, and that of scope k is part k + 1.
-fn put_closing(out: &mut [u8; 4096], used: usize, n: usize, part: usize) -> usize {
-    let mut at = put(out, used, b"scope");
-    at = put_next(out, at, n as u64);
+fn put_closing(
+    out: &mut [u8; 4096],
+    used: usize,
+    names: &[u8; 8976],
+    table: &Table,
+    n: usize,
+    part: usize,
+) -> usize {
+    let mut at = put_scope(out, used, names, table, n);
     if 0 < part {
-        at = put(out, at, b" for scope");
-        return put_next(out, at, (part - 1) as u64);
+        at = put(out, at, b" for ");
+        return put_scope(out, at, names, table, part - 1);
     }
     put(out, at, b" for the root")
 }
 
 // An order's closings, oldest first.
-fn put_closings(out: &mut [u8; 4096], used: usize, order: Order) -> usize {
+fn put_closings(
+    out: &mut [u8; 4096],
+    used: usize,
+    names: &[u8; 8976],
+    table: &Table,
+    order: Order,
+) -> usize {
     let kept = order.kept;
     if kept == 0 {
         return put(out, used, b"none");
@@ -129,7 +142,7 @@ fn put_closings(out: &mut [u8; 4096], used: usize, order: Order) -> usize {
     while i < 32 {
         if i < kept {
             at = put_between(out, at, i);
-            at = put_closing(out, at, scope_in(order, i), part_in(order, i));
+            at = put_closing(out, at, names, table, scope_in(order, i), part_in(order, i));
         }
         i += 1;
     }
@@ -149,7 +162,7 @@ fn put_head(out: &mut [u8; 4096], used: usize, slot: usize, order: Order) -> usi
 fn put_order_line(
     out: &mut [u8; 4096],
     used: usize,
-    names: &[u8; 4752],
+    names: &[u8; 8976],
     table: &Table,
     correlation: &[u8; 16],
     variables: u32,
@@ -163,7 +176,7 @@ fn put_order_line(
     at = put(out, at, b"; ");
     at = put_variables(out, at, names, correlation, variables, order);
     at = put(out, at, b"; remembered: ");
-    at = put_closings(out, at, order);
+    at = put_closings(out, at, names, table, order);
     put_byte(out, at, 10)
 }
 
@@ -192,7 +205,7 @@ pub(crate) fn live_of(orders: [Order; 16]) -> u64 {
 fn put_order_lines(
     out: &mut [u8; 4096],
     used: usize,
-    names: &[u8; 4752],
+    names: &[u8; 8976],
     table: &Table,
     correlation: &[u8; 16],
     variables: u32,
@@ -211,7 +224,7 @@ fn put_order_lines(
 }
 
 // How many orders are live, each of them, and a blank line.
-pub fn put_orders(out: &mut [u8; 4096], used: usize, names: &[u8; 4752], state: State) -> usize {
+pub fn put_orders(out: &mut [u8; 4096], used: usize, names: &[u8; 8976], state: State) -> usize {
     let mut table = [0u32; LENGTH];
     let mut correlation = [0u8; 16];
     let orders = state.orders;
@@ -233,7 +246,7 @@ pub fn put_orders(out: &mut [u8; 4096], used: usize, names: &[u8; 4752], state: 
 fn put_doing_line(
     out: &mut [u8; 4096],
     used: usize,
-    names: &[u8; 4752],
+    names: &[u8; 8976],
     table: &Table,
     correlation: &[u8; 16],
     order: Order,
@@ -248,7 +261,7 @@ fn put_doing_line(
 fn put_doing_lines(
     out: &mut [u8; 4096],
     used: usize,
-    names: &[u8; 4752],
+    names: &[u8; 8976],
     table: &Table,
     correlation: &[u8; 16],
     activities: usize,
@@ -267,7 +280,7 @@ fn put_doing_lines(
 fn put_foot(
     out: &mut [u8; 4096],
     used: usize,
-    names: &[u8; 4752],
+    names: &[u8; 8976],
     table: &Table,
     correlation: &[u8; 16],
     variables: u32,
@@ -276,7 +289,7 @@ fn put_foot(
     let mut at = put(out, used, b"variables: ");
     at = put_variables(out, at, names, correlation, variables, order);
     at = put(out, at, b"\nremembered, oldest first: ");
-    at = put_closings(out, at, order);
+    at = put_closings(out, at, names, table, order);
     put(out, at, b"\n\n")
 }
 
@@ -284,7 +297,7 @@ fn put_foot(
 fn put_drawn_order(
     out: &mut [u8; 4096],
     used: usize,
-    names: &[u8; 4752],
+    names: &[u8; 8976],
     table: &Table,
     correlation: &[u8; 16],
     variables: u32,
@@ -305,7 +318,7 @@ fn put_drawn_order(
 pub fn put_order(
     out: &mut [u8; 4096],
     used: usize,
-    names: &[u8; 4752],
+    names: &[u8; 8976],
     state: State,
     slot: usize,
 ) -> usize {
