@@ -12,7 +12,7 @@ use super::table::Table;
 use super::table::close_row;
 use super::table::write_numbers;
 ghost use Prim.Native.Nat.{_+_, _≤_, _<_};
-ghost use mathlib.Core.Bool.{_&&_, _||_};
+ghost use mathlib.Core.Bool.{false, true, _&&_, _||_};
 ghost use mathlib.Core.Path.{_≡_};
 ghost use Rattle.plan.specs.Answers.{ActRead, ActsRead, NumberedRead};
 ghost use Rattle.plan.specs.Nodes.{Base, ScopeRoom, NumbersRoom, nodeIn};
