@@ -348,10 +348,10 @@ module _ (depth vars : ℕ) (cs s : List ℕ) (handler : Bool) (n at place m : �
               both = omega (arith, stand-parts .many, stand-parts .parts);
             }
 
-        pub scope-whole : (u : List ℕ) → ScopeRoom s vars n m place at → u ≡ putClose n last₁ stop t₂
+        pub scope-whole : (u : List ℕ) → ScopeRoom s vars m place at → n < 256 → u ≡ putClose n last₁ stop t₂
             → ActRead (numberedScopeIn (nodeIn false depth vars cs s) s handler n at) place n m (Out.Read stop last₁ last first first) t u
         unfolding sizes nodesAll firstStarts ownNodes
-        scope-whole u v z =
+        scope-whole u v l z =
             let x = act-got at (n + 1) m _ a o in
             let y = read-parts in
             let p = node-reads false depth vars cs s handler (n + 1) at .holds (x .is) in
@@ -360,23 +360,23 @@ module _ (depth vars : ℕ) (cs s : List ℕ) (handler : Bool) (n at place m : �
             (omega (arith, y .end-is, x .end-is)) (omega (arith, y .last-is, x .last-is))
             (x .first-is ∙ sym (numbers-start (y .c .numbers) _ _ (count-parts .some)))
             (put-scope (y .c .numbers) (x .a) (y .c .parts) place at n m t count-parts (v .coded) (p .ends)
-            (q .ends ∙ rw (stand-parts .many)) (x .end-is) (x .last-is) (x .put-is) (v .numbered) (y .put-is) (y .end-is) (stand-parts .all .ends) z)
+            (q .ends ∙ rw (stand-parts .many)) (x .end-is) (x .last-is) (x .put-is) l (y .put-is) (y .end-is) (stand-parts .all .ends) z)
 
         pub scope-end : last₁ ≤ 256
         scope-end =
             let l = one-numbered false depth vars cs s handler (n + 1) at m a o in
             omega (arith, read-parts .end-is, parts-numbered (nodeIn false depth vars cs s) (node-numbered false depth vars cs s) s many (backwards 0 (replicate 8 0)) end parts l .holds (read-parts .is))
 
-        pub scope-stop : ScopeRoom s vars n m place at → stop ≤ 4096
+        pub scope-stop : ScopeRoom s vars m place at → stop ≤ 4096
         scope-stop v =
             let d = field-fits s next 1 9 k r .0 in
             omega (arith, v .base .short, stands-inside (stand-parts .all) (d .inside))
 
 -- What the calls of these functions may count on.
-module _ (s : List ℕ) (vars n m place at : ℕ) (v : ScopeRoom s vars n m place at) where
-  pub scope-next-fits : Fits w64 (n + 1)
-  scope-next-fits = let l = v .numbered in omega arith
+pub scope-next-fits : (n : ℕ) → n < 256 → Fits w64 (n + 1)
+scope-next-fits n l = omega arith
 
+module _ (s : List ℕ) (vars n m place at : ℕ) (v : ScopeRoom s vars m place at) where
   module _ (depth : ℕ) (cs : List ℕ) (handler : Bool) {t t₁ : List ℕ} {body : Out} {next end nodes₁ : ℕ} {first every : Bool}
       (a : ActRead (nodeIn false depth vars cs s handler (n + 1) at) at (n + 1) m body t t₁) (o : body ≡ Out.Read next end nodes₁ first every) where
     pub scope-numbers-room : {f : Field} {many parts : ℕ} → FieldFits s next 1 9 f → f ≡ Got many parts → NumbersRoom s vars end nodes₁ n place parts
@@ -430,13 +430,15 @@ module _ (arm : Bool) (depth vars : ℕ) (cs s : List ℕ) (handler : Bool) (n a
       let x = own-numbers _ at n m a o in
       rw (level vars cs s handler n at arm depth the-head) (rw (x .same, j) at b)
 
-  pub scope-room : Base s vars m at → ScopeRoom s vars n m at body
+  pub scope-numbered : n < 256
+  scope-numbered = node-noded arm vars cs s handler depth n at .holds the-head .numbered
+
+  pub scope-room : Base s vars m at → ScopeRoom s vars m at body
   scope-room b =
       let e = node-stands arm vars cs s handler depth n at .holds the-head in
       let f = stands-forward e (omega arith) in
       record {
         base = record { short = b .short; few = b .few; behind = omega (arith, b .behind, f .0); placed = omega (arith, b .short, f .1) };
-        numbered = node-noded arm vars cs s handler depth n at .holds the-head .numbered;
         coded = e .ends ∙ rw code-long;
       }
 

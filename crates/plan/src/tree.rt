@@ -79,18 +79,21 @@ fn activity_at(
     let own = own_at(s, at, arm, handler, depth, vars, correlation, n, m, table);
     match own {
         Own::Refused { number, place } => Out::Refused { number, place },
-        Own::Numbered { body } => numbered_scope_at(
-            s,
-            body,
-            at,
-            handler,
-            levels_below(arm, depth),
-            vars,
-            correlation,
-            n,
-            m,
-            table,
-        ),
+        Own::Numbered { body } => {
+            let below = levels_below(arm, depth);
+            numbered_scope_at(
+                s,
+                body,
+                at,
+                handler,
+                below,
+                vars,
+                correlation,
+                n,
+                m,
+                table,
+            )
+        }
         Own::Read {
             kind,
             within,
@@ -230,7 +233,7 @@ fn numbered_scope_at(
     m: usize,
     table: &mut Table,
 ) -> Out
-    requires { ⌜ ScopeRoom (now s) vars n m place at ⌝ }
+    requires { ⌜ ScopeRoom (now s) vars m place at × (n < 256) ⌝ }
     ensures { λ r. ⌜ ActRead (numberedScopeIn (nodeIn false depth vars (chosen 0 (now (correlation .entry))) (now (s .entry))) (now (s .entry)) handler n at) place n m r (now (table .entry)) (now (table .exit)) ⌝ }
 {
     let body = activity_at(s, at, false, handler, depth, vars, correlation, n + 1, m, table);

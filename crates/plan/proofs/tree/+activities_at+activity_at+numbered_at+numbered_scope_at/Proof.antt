@@ -4,7 +4,7 @@ use native.Mathlib.Omega.{arith}
 use Rattle.plan.specs.Fits.{weigh, weighScope, weighParts}
 use Rattle.plan.specs.Nodes.{Base}
 use Rattle.plan.specs.Store.{chosen}
-use Rattle.plan.proofs.NumberedReads.{numbers-none, numbers-no-number, numbers-no-part, numbers-more, scope-no-body, scope-no-count, scope-no-parts, scope-whole, scope-end, scope-stop, scope-next-fits, scope-numbers-room, scope-numbers-few, scope-numbers-fall, number-base, number-room, act-scope, scope-room, scope-falls}
+use Rattle.plan.proofs.NumberedReads.{numbers-none, numbers-no-number, numbers-no-part, numbers-more, scope-no-body, scope-no-count, scope-no-parts, scope-whole, scope-end, scope-stop, scope-next-fits, scope-numbers-room, scope-numbers-few, scope-numbers-fall, number-base, number-room, act-scope, scope-room, scope-numbered, scope-falls}
 use Rattle.plan.proofs.TreeReads.{acts-none, acts-no-first, acts-no-rest, acts-more, act-no-own, act-no-within, act-whole, own-numbered, own-next, own-next-fits, own-few, own-base, own-falls, one-numbered, one-base, all-numbered, whole-stop}
 use Prim.Native.Nat.{ℕ, _+_, _<_}
 use lib.Dec.{eqb}
@@ -37,11 +37,13 @@ use Rattle.plan.proofs.tree.+activities_at+activity_at+numbered_at+numb
 
 ruleset cases = (acts-none, acts-no-first, acts-no-rest, acts-more, act-no-own, act-no-within, act-whole, act-scope)
 
-ruleset part-cases = (numbers-none, numbers-no-number, numbers-no-part, numbers-more)
+ruleset part-cases = (numbers-none, numbers-no-number, numbers-no-part)
 
-ruleset scope-cases = (scope-no-body, scope-no-count, scope-no-parts, scope-whole)
+ruleset scope-cases = (scope-no-body, scope-no-count, scope-no-parts)
 
-ruleset room = (own-numbered, own-next, own-next-fits, own-few, own-base, own-falls, one-numbered, one-base, all-numbered, whole-stop, scope-room, scope-falls)
+ruleset room = (own-numbered, own-next, own-next-fits, own-few, own-base, own-falls, one-numbered, one-base, all-numbered, whole-stop)
+
+ruleset scope-place = (scope-falls)
 
 ruleset scope-room-of = (scope-end, scope-stop, scope-next-fits, scope-numbers-room, scope-numbers-few, scope-numbers-fall)
 
@@ -140,7 +142,17 @@ pub +activities-at+activity-at+numbered-at+numbered-scope-at-spec : {M : Type 1}
     -- levels-below-requires
     (λ c κs. search needs)
     -- numbered-scope-at-requires
-    (λ c κs. (search room, search room))
+    (λ c κs. let o = c .before .before .before .before .before in
+    let g = o .before .before .before in
+    let b : Base (g .args .s .now) (g .args .vars) (g .args .m) (g .args .at) = search needs in
+    let a = o .own-at .ensures in
+    let q = c .before .before .before .own2 .given .1 in (
+      search scope-place,
+      (
+        scope-room (g .args .arm) (g .args .depth) (g .args .vars) (chosen 0 (g .args .correlation .now)) (g .args .s .now) (g .args .handler) (g .args .n) (g .args .at) (g .args .m) _ _ a q b,
+        scope-numbered (g .args .arm) (g .args .depth) (g .args .vars) (chosen 0 (g .args .correlation .now)) (g .args .s .now) (g .args .handler) (g .args .n) (g .args .at) (g .args .m) _ _ a q,
+      ),
+    ))
     -- enum-known-own-3
     (λ c. search needs)
     -- later-of-requires
@@ -211,7 +223,14 @@ pub +activities-at+activity-at+numbered-at+numbered-scope-at-spec : {M : Type 1}
     -- returns-3
     (λ c. search part-cases)
     -- returns-4
-    (λ c. search part-cases))
+    (λ c. let w = c .before .before in
+    let p = w .before .before in
+    let h = p .before .before in
+    let v = h .before .before .before in
+    let f = v .before .before in
+    let g = f .before .before .before in
+    numbers-more (g .args .depth) (g .args .vars) (chosen 0 (g .args .correlation .now)) (g .args .s .now) (g .args .numbers) (g .args .k) (g .args .left) (g .args .row) (g .args .place) (g .args .n) (g .args .at) (g .args .m) _
+        (f .before .if1 .left) (f .fault-number-at .ensures .0) (v .f2 .given .1) _ (h .activity-at .ensures) (p .part .given .1) _ _ (w .with-number .ensures .0) (w .with-number .ensures .1) (g .pre .1 .0) (c .numbered-at .ensures)))
     (λ t. numbered-scope-at-lts.spec (numbered-scope-at-claims t) (numbered-scope-at-at t) numbered-scope-at.Post
     -- add-activity-at
     (λ c. search scope-room-of)
@@ -234,7 +253,14 @@ pub +activities-at+activity-at+numbered-at+numbered-scope-at-spec : {M : Type 1}
     -- enum-known-rest
     (λ c. search needs)
     -- close-row-requires
-    (λ c κs. (search scope-room-of, (search scope-room-of, search scope-room-of)))
+    (λ c κs. let w = c .before .before in
+    let p = w .before .before in
+    let v = p .before .before .before in
+    let f = v .before .before in
+    let b = f .before .before in
+    let a = b .before .before in
+    let g = a .before .before .before in
+    (g .pre .1 .1, (search scope-room-of, scope-stop (g .args .depth) (g .args .vars) (chosen 0 (g .args .correlation .now)) (g .args .s .now) (g .args .handler) (g .args .n) (g .args .at) (g .args .place) (g .args .m) _ _ (a .activity-at .ensures) (b .body .given .1) (f .field-at .ensures .0) (v .f2 .given .1) _ (p .numbered-at .ensures) (f .field-at .ensures .1) (w .rest .given .1) (g .pre .1 .0))))
     -- returns
     (λ c. search scope-cases)
     -- returns-2
@@ -242,4 +268,11 @@ pub +activities-at+activity-at+numbered-at+numbered-scope-at-spec : {M : Type 1}
     -- returns-3
     (λ c. search scope-cases)
     -- returns-4
-    (λ c. search scope-cases))
+    (λ c. let w = c .before .before .before in
+    let p = w .before .before in
+    let v = p .before .before .before in
+    let f = v .before .before in
+    let b = f .before .before in
+    let a = b .before .before in
+    let g = a .before .before .before in
+    scope-whole (g .args .depth) (g .args .vars) (chosen 0 (g .args .correlation .now)) (g .args .s .now) (g .args .handler) (g .args .n) (g .args .at) (g .args .place) (g .args .m) _ _ (a .activity-at .ensures) (b .body .given .1) (f .field-at .ensures .0) (v .f2 .given .1) _ (p .numbered-at .ensures) (f .field-at .ensures .1) (w .rest .given .1) _ (g .pre .1 .0) (g .pre .1 .1) (c .close-row .ensures)))
