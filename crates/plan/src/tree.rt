@@ -81,18 +81,7 @@ fn activity_at(
         Own::Refused { number, place } => Out::Refused { number, place },
         Own::Numbered { body } => {
             let below = levels_below(arm, depth);
-            numbered_scope_at(
-                s,
-                body,
-                at,
-                handler,
-                below,
-                vars,
-                correlation,
-                n,
-                m,
-                table,
-            )
+            numbered_scope_at(s, body, at, handler, below, vars, correlation, n, m, table)
         }
         Own::Read {
             kind,
@@ -236,7 +225,18 @@ fn numbered_scope_at(
     requires { ⌜ ScopeRoom (now s) vars m place at × (n < 256) ⌝ }
     ensures { λ r. ⌜ ActRead (numberedScopeIn (nodeIn false depth vars (chosen 0 (now (correlation .entry))) (now (s .entry))) (now (s .entry)) handler n at) place n m r (now (table .entry)) (now (table .exit)) ⌝ }
 {
-    let body = activity_at(s, at, false, handler, depth, vars, correlation, n + 1, m, table);
+    let body = activity_at(
+        s,
+        at,
+        false,
+        handler,
+        depth,
+        vars,
+        correlation,
+        n + 1,
+        m,
+        table,
+    );
     match body {
         Out::Refused {
             number: _,
@@ -252,7 +252,10 @@ fn numbered_scope_at(
             let f = field_at(s, next, 1, 9);
             match f {
                 Field::Refused { number, place } => Out::Refused { number, place },
-                Field::Got { value: many, next: parts } => {
+                Field::Got {
+                    value: many,
+                    next: parts,
+                } => {
                     let rest = numbered_at(
                         s,
                         parts,
@@ -318,7 +321,20 @@ fn numbered_at(
 {
     if left == 0 {
         write_numbers(table, row, numbers, k, place);
-        return activities_at(s, at, false, true, true, 2, depth, vars, correlation, n, m, table);
+        return activities_at(
+            s,
+            at,
+            false,
+            true,
+            true,
+            2,
+            depth,
+            vars,
+            correlation,
+            n,
+            m,
+            table,
+        );
     }
     let f = fault_number_at(s, at, numbers, k);
     match f {

@@ -230,7 +230,7 @@ pub +activities-at+activity-at+numbered-at+numbered-scope-at-spec : {M : Type 1}
     let f = v .before .before in
     let g = f .before .before .before in
     numbers-more (g .args .depth) (g .args .vars) (chosen 0 (g .args .correlation .now)) (g .args .s .now) (g .args .numbers) (g .args .k) (g .args .left) (g .args .row) (g .args .place) (g .args .n) (g .args .at) (g .args .m) _
-        (f .before .if1 .left) (f .fault-number-at .ensures .0) (v .f2 .given .1) _ (h .activity-at .ensures) (p .part .given .1) _ _ (w .with-number .ensures .0) (w .with-number .ensures .1) (g .pre .1 .0) (c .numbered-at .ensures)))
+    (f .before .if1 .left) (f .fault-number-at .ensures .0) (v .f2 .given .1) _ (h .activity-at .ensures) (p .part .given .1) _ _ (w .with-number .ensures .0) (w .with-number .ensures .1) (g .pre .1 .0) (c .numbered-at .ensures)))
     (λ t. numbered-scope-at-lts.spec (numbered-scope-at-claims t) (numbered-scope-at-at t) numbered-scope-at.Post
     -- add-activity-at
     (λ c. search scope-room-of)
