@@ -42,8 +42,9 @@ independent-codes (repeat e) l k = refl
 independent-codes sequence l k = refl
 independent-codes flow l k = refl
 independent-codes pick l k = refl
-independent-codes (scope true) l k = refl
-independent-codes (scope false) l k = refl
+independent-codes (scope [] true) l k = refl
+independent-codes (scope [] false) l k = refl
+independent-codes (scope (n ∷ ns) u) l k = refl
 independent-codes (arm p o vs) l k = refl
 
 -- 1. Only takes look at the messages.

@@ -29,10 +29,10 @@ independent moves = true
 independent cuts = true
 independent (closes undo s) = true
 
--- These are the steps of codes 3 to 7 and 11 to 13: set, raise, leave, choose, repeat and scope.
+-- These are the steps of codes 3 to 7 and 11 to 14: set, raise, leave, choose, repeat and scope.
 unfoldable pub IndependentCodes : Type 0
 IndependentCodes =
-    (own : Own) (within : Acts) (k : ℕ) → independent (doingOf own within k) ≡ among (kind own) (3 ∷ 4 ∷ 5 ∷ 6 ∷ 7 ∷ 11 ∷ 12 ∷ 13 ∷ [])
+    (own : Own) (within : Acts) (k : ℕ) → independent (doingOf own within k) ≡ among (kind own) (3 ∷ 4 ∷ 5 ∷ 6 ∷ 7 ∷ 11 ∷ 12 ∷ 13 ∷ 14 ∷ [])
 
 -- an entry of the offer, by the step that its activity is there for
 abbrev pub independentAt : Plan → Offer → Bool

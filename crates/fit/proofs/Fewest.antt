@@ -24,7 +24,7 @@ use Rattle.fit.specs.Receiving.{leastLine, leastLive, Slots, Across, Fla
 use Rattle.fit.proofs.Crossed.{Crossing, crossing-starts, crossing-again, crossing-done, slot-free}
 use Rattle.fit.proofs.FitReturns.{asks-asking}
 use Rattle.fit.proofs.Lines.{fold-append, fold-each, fold-same, fold-ready, size-short, Rowing, rowing-starts, rowing-again, rowing-done}
-use Rattle.fit.proofs.SearchReturns.{stands-exchange, catch-open}
+use Rattle.fit.proofs.SearchReturns.{open-exchange, catch-open}
 
 one-fitting : (b : Bool) (u c : ℕ) → folded lesser (cond b (u ∷ []) []) c ≡ cond b (lesser u c) c
 unfolding folded
@@ -95,7 +95,7 @@ module _ {t picks marks : List ℕ} {k : ℕ} {b : Bool} (v : OpensRow t picks m
     long = w .long;
     is = λ n j h. record {
       is = λ o p l x g y.
-          w .is n j h p o _ _ (variablesOf (x .own)) (g .knows) (stands-exchange y) (y .few)
+          w .is n j h p o _ _ (variablesOf (x .own)) (g .knows) (open-exchange v (g .picked) o (g .marked) y e) (y .few)
           ∙ rw (catch-open v (g .picked) o (g .marked) y p (messageAt letters j), e);
     };
   }
@@ -133,7 +133,7 @@ fitting-line p o m (repeat e) w k c = refl
 fitting-line p o m sequence w k c = refl
 fitting-line p o m flow w k c = refl
 fitting-line p o m pick w k c = refl
-fitting-line p o m (scope u) w k c = refl
+fitting-line p o m (scope ns u) w k c = refl
 fitting-line p o m (arm a b vs) w k c = one-fitting (fits p o a b vs m) (unchecked p o vs) c
 
 least-line : (p : Plan) (l : List Letter) (o : Order) (m : Message) (x : Line) (c : ℕ)

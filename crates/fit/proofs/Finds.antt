@@ -5,8 +5,9 @@ use Prim.Native.Nat.{ℕ, _+_, _*_, _<_, _≤_}
 use native.Mathlib.Decide.{ℕ-discrete, decLt}
 use native.Mathlib.Omega.{arith}
 use lib.ListN.{getD}
+use Rattle.plan.specs.Spell.{gapsOf, later, passing}
 use Rattle.plan.specs.Spells.{Spells, SpellsAll}
-use Rattle.plan.specs.Tree.{Act, act, Acts, none, more, size, sizes}
+use Rattle.plan.specs.Tree.{numbersOf, Act, act, Acts, none, more, size, sizes}
 
 -- no row of an activity reaches beyond the activity
 mutual
@@ -17,16 +18,16 @@ mutual
   ends-in t (act own l) at n q s j h g =
       elim (ℕ-discrete j n) [
         | yes e ↦ rw e (omega (arith, s .row .end))
-        | no e ↦ let w = ends-all t l _ (n + 1) _ (s .within) j (omega (arith, e)) (omega arith) in omega (arith, w)
+        | no e ↦ let w = ends-all t (gapsOf (numbersOf own)) l _ (n + 1) _ (s .within) j (omega (arith, e)) (omega arith) in omega (arith, w)
       ]
 
-  ends-all : (t : List ℕ) (l : Acts) (at n q : ℕ) → SpellsAll l at n q t → (j : ℕ) → n ≤ j → j < n + sizes l
+  ends-all : (t : List ℕ) (gs : List (List ℕ)) (l : Acts) (at n q : ℕ) → SpellsAll gs l at n q t → (j : ℕ) → n ≤ j → j < n + sizes l
       → getD t (j * 13 + 11) 0 ≤ n + sizes l
-  ends-all t none at n q s j h g = absurd (omega arith)
-  ends-all t (more a l) at n q s j h g =
+  ends-all t gs none at n q s j h g = absurd (omega arith)
+  ends-all t gs (more a l) at n q s j h g =
       elim (decLt j (n + size a)) [
-        | yes e ↦ let w = ends-in t a at n q (s .first) j h e in omega (arith, w)
-        | no e ↦ let w = ends-all t l _ (n + size a) _ (s .rest) j (omega (arith, e)) (omega arith) in omega (arith, w)
+        | yes e ↦ let w = ends-in t a (passing gs at) n q (s .first) j h e in omega (arith, w)
+        | no e ↦ let w = ends-all t (later gs) l _ (n + size a) _ (s .rest) j (omega (arith, e)) (omega arith) in omega (arith, w)
       ]
 
 pub size-some : (a : Act) → 0 < size a

@@ -13,9 +13,9 @@ use lib.ListN.{length, getD, drop, length-append, drop-of-length-le}
 use lib.Seq.{drop-cons}
 use Rattle.plan.specs.Read.{laterOf}
 use Rattle.plan.specs.Spells.{Spells, SpellsAll, SpellsPlan, variablesOf}
-use Rattle.plan.specs.Tree.{Own, empty, send, receive, set, raise, leave, choose, repeat, sequence, flow, pick, scope, arm, isPick, Act, act, Acts, none, more, Plan, size, sizes, count}
-use Rattle.plan.specs.Spell.{spelling}
-use Rattle.plan.specs.Within.{from1, ascending, levelsBelow, variablesWithin, exchangeWithin, ownWithin, actWithin, actsWithin, planWithin}
+use Rattle.plan.specs.Tree.{Own, empty, send, receive, set, raise, leave, choose, repeat, sequence, flow, pick, scope, arm, isPick, hasUndo, numbersOf, Act, act, Acts, none, more, Plan, size, sizes, count}
+use Rattle.plan.specs.Spell.{spelling, gapsOf, later, passing}
+use Rattle.plan.specs.Within.{from1, scopeParts, numbersWithin, ascending, levelsBelow, variablesWithin, exchangeWithin, ownWithin, actWithin, actsWithin, planWithin}
 use Rattle.plan.proofs.Accepts.{both}
 use Rattle.plan.proofs.ByKind.{kind-pick}
 use Rattle.order.specs.declared.Order.{Order}
@@ -152,8 +152,26 @@ few-own vars cs h ar (repeat x) n e = omega arith
 few-own vars cs h ar sequence n e = omega arith
 few-own vars cs h ar flow n e = omega arith
 few-own vars cs h ar pick n e = omega arith
-few-own vars cs h ar (scope u) n e = omega arith
+few-own vars cs h ar (scope ns u) n e = omega arith
 few-own vars cs h ar (arm a b vs) n e = both ar _ e (λ h1 g1. both (eqb n 1) _ g1 (λ h2 g2. few-exchange vars true a b vs g2))
+
+-- the numbers that one has fault parts for are within their limits
+numbers-own : (vars : ℕ) (cs : List ℕ) (h ar : Bool) (own : Own) (n : ℕ) → ownWithin vars cs h ar own n ≡ true → numbersWithin (numbersOf own) (hasUndo own) ≡ true
+unfolding ownWithin numbersWithin
+numbers-own vars cs h ar empty n e = refl
+numbers-own vars cs h ar (send a b vs) n e = refl
+numbers-own vars cs h ar (receive a b vs) n e = refl
+numbers-own vars cs h ar (set v x) n e = refl
+numbers-own vars cs h ar (raise number) n e = refl
+numbers-own vars cs h ar leave n e = refl
+numbers-own vars cs h ar (choose x) n e = refl
+numbers-own vars cs h ar (repeat x) n e = refl
+numbers-own vars cs h ar sequence n e = refl
+numbers-own vars cs h ar flow n e = refl
+numbers-own vars cs h ar pick n e = refl
+numbers-own vars cs h ar (scope ns u) n e =
+    both (not ar) _ e (λ h1 g1. both (eqb n (scopeParts ns u)) _ g1 (λ h2 g2. both (not h) (numbersWithin ns u) g2 (λ h3 g3. g3)))
+numbers-own vars cs h ar (arm a b vs) n e = refl
 
 -- each line stands in its row
 data Standing (t ms : List ℕ) : ℕ → List Line → Type 0 where
@@ -243,20 +261,20 @@ module _ (t ms : List ℕ) where
         both (ar || ltb 0 d) _ y
         (λ y1 z1. both (ownWithin vars cs h ar own (count l)) _ z1
         (λ y2 z2.
-        also (record { place = at; node = q; inside = omega arith; activity = refl; spelled = s; arms = sym e; few = few-own vars cs h ar own (count l) y2 })
-        (standing-among l _ (n + 1) _ n _ vars cs h (laterOf own h) (isPick own) (levelsBelow ar d) (under-first own l at n q s) (s .within) (omega arith) z2)))
+        also (record { place = at; node = q; inside = omega arith; activity = refl; spelled = s; arms = sym e; few = few-own vars cs h ar own (count l) y2; numbers = numbers-own vars cs h ar own (count l) y2 })
+        (standing-among (gapsOf (numbersOf own)) l _ (n + 1) _ n _ vars cs h (laterOf own h) (isPick own) (levelsBelow ar d) (under-first own l at n q s) (s .within) (omega arith) z2)))
 
-    standing-among : (l : Acts) (at c q n : ℕ) (b : Bool) (vars : ℕ) (cs : List ℕ) (h h′ ar : Bool) (d : ℕ) → Under n c (c + sizes l) b → SpellsAll l at c q t → c + sizes l ≤ 256
+    standing-among : (gs : List (List ℕ)) (l : Acts) (at c q n : ℕ) (b : Bool) (vars : ℕ) (cs : List ℕ) (h h′ ar : Bool) (d : ℕ) → Under n c (c + sizes l) b → SpellsAll gs l at c q t → c + sizes l ≤ 256
         → actsWithin vars cs h h′ ar l d ≡ true → Standing t ms c (linesAmong l c b ms)
-    standing-among none at c q n b vars cs h h′ ar d u s g y = nothing
-    standing-among (more a l) at c q n b vars cs h h′ ar d u s g y =
+    standing-among gs none at c q n b vars cs h h′ ar d u s g y = nothing
+    standing-among gs (more a l) at c q n b vars cs h h′ ar d u s g y =
         let z = size-some a in
         let w : c + (size a + sizes l) ≡ c + size a + sizes l = omega arith in
         let v : c + length (linesIn a c b ms) ≡ c + size a = rw (lines-long a c b ms) in
         both (actWithin vars cs h ar a d) _ y
         (λ y1 z1.
-        standing-append _ (standing-in a at c q b vars cs h ar d (s .first) (omega arith) (open-under u (omega arith)) y1)
-        (rw v (standing-among l _ (c + size a) _ n b vars cs h′ h′ ar d (under-next a at q (rw w at u) (s .first)) (s .rest) (omega arith) z1)))
+        standing-append _ (standing-in a (passing gs at) c q b vars cs h ar d (s .first) (omega arith) (open-under u (omega arith)) y1)
+        (rw v (standing-among (later gs) l _ (c + size a) _ n b vars cs h′ h′ ar d (under-next a (passing gs at) q (rw w at u) (s .first)) (s .rest) (omega arith) z1)))
 
   module _ (p : Plan) (s : SpellsPlan p t) where
     body-flag : armsFrom t ms 0 0 ≡ false

@@ -1,8 +1,10 @@
 -- Arms are known by their kind, and what awaits its step is told by kinds. Assumes nothing.
 use mathlib.Core.Path.{_≡_, refl}
 use mathlib.Core.Bool.{Bool, true, false, cond, _||_}
+use mathlib.Core.List.{[], _∷_}
 use Prim.Native.Nat.{ℕ, zero, suc}
 use lib.Dec.{eqb}
+use Rattle.plan.specs.Read.{isScopeCode}
 use Rattle.plan.specs.Tree.{Own, empty, send, receive, set, raise, leave, choose, repeat, sequence, flow, pick, scope, arm, kind, isArm}
 use Rattle.plan.proofs.ByKind.{kind-scope}
 use Rattle.machine.specs.Fit.{awaits}
@@ -22,12 +24,13 @@ kind-arm (repeat e) = refl
 kind-arm sequence = refl
 kind-arm flow = refl
 kind-arm pick = refl
-kind-arm (scope true) = refl
-kind-arm (scope false) = refl
+kind-arm (scope [] true) = refl
+kind-arm (scope [] false) = refl
+kind-arm (scope (n ∷ ns) u) = refl
 kind-arm (arm a b vs) = refl
 
 -- whether an activity or arm awaits its step
 pub awaits-kind : (own : Own) (arms : Bool) (m : ℕ)
-    → awaits own arms m ≡ cond (eqb (kind own) 255) arms (cond (eqb (kind own) 11 || eqb (kind own) 12) (eqb m done) (eqb m active))
+    → awaits own arms m ≡ cond (eqb (kind own) 255) arms (cond (isScopeCode (kind own)) (eqb m done) (eqb m active))
 unfolding awaits
 awaits-kind own arms m = rw (kind-arm own, kind-scope own)

@@ -1,7 +1,7 @@
 -- The returns of the functions that ask whether a row is open and takes a message. Assumes nothing.
 use mathlib.Core.Path.{_≡_, refl, sym, ap, _∙_}
-use mathlib.Core.Bool.{Bool, true, false, cond, not, _&&_, _||_}
-use mathlib.Core.List.{List, _∷_}
+use mathlib.Core.Bool.{Bool, true, false, cond, not, _&&_, _||_, false≢true}
+use mathlib.Core.List.{List, [], _∷_}
 use Prim.Native.Nat.{ℕ, zero, suc, _+_, _*_, _-_, _<_, _≤_}
 use native.Mathlib.Numerals.{add-one, sub-one}
 use native.Mathlib.Omega.{arith}
@@ -10,7 +10,8 @@ use lib.Dec.{eqb, ltb}
 use lib.ListN.{length, getD, set as setAt}
 use Rattle.plan.specs.Spells.{variablesOf, Row, Spells}
 use Rattle.plan.specs.Table.{rowOf}
-use Rattle.plan.specs.Tree.{Own, empty, send, receive, set, raise, leave, choose, repeat, sequence, flow, pick, scope, arm, kind, Plan}
+use Rattle.plan.specs.Tree.{Own, empty, send, receive, set, raise, leave, choose, repeat, sequence, flow, pick, scope, arm, kind, numbersOf, Plan}
+use Rattle.plan.proofs.TableSpells.{row-count, row-variables}
 use Rattle.machine.specs.declared.Message.{Message}
 use Rattle.order.specs.declared.Order.{Order}
 use Rattle.fit.specs.Answering.{Exchange, AsksRow, FitsRow, messageAt, openPick, armsFrom, aroundFrom, PicksRow, Picks, ArmAt, ArmsRow, fitsOwn, catches}
@@ -119,11 +120,45 @@ pub stands-kind : {t ms : List ℕ} {k : ℕ} {x : Line} → Stands t ms k x →
 unfolding Spells
 stands-kind y = y .spelled .row .kind
 
--- the row of any activity or arm names its partner, its operation and its variables
-pub stands-exchange : {t ms : List ℕ} {k : ℕ} {x : Line} → Stands t ms k x
+-- the row of any activity or arm but a scope with fault parts by number names its partner, its operation and its variables
+no-numbers : (own : Own) → (kind own ≡ 14 → ⊥) → numbersOf own ≡ []
+unfolding kind
+no-numbers empty h = refl
+no-numbers (send a b vs) h = refl
+no-numbers (receive a b vs) h = refl
+no-numbers (set v e) h = refl
+no-numbers (raise number) h = refl
+no-numbers leave h = refl
+no-numbers (choose e) h = refl
+no-numbers (repeat e) h = refl
+no-numbers sequence h = refl
+no-numbers flow h = refl
+no-numbers pick h = refl
+no-numbers (scope [] u) h = refl
+no-numbers (scope (n ∷ ns) u) h = absurd (h refl)
+no-numbers (arm a b vs) h = refl
+
+pub stands-exchange : {t ms : List ℕ} {k : ℕ} {x : Line} → Stands t ms k x → (getD t (k * 13) 0 ≡ 14 → ⊥)
     → Exchange (getD t (k * 13 + 1) 0) (getD t (k * 13 + 2) 0) (variablesOf (x .own)) k t
 unfolding Spells
-stands-exchange y = record { inside = y .inside; partner = refl; operation = refl; count = y .spelled .row .count; variables = y .spelled .row .variables }
+stands-exchange {x = x} y h =
+    let n : numbersOf (x .own) ≡ [] = no-numbers (x .own) (λ q. h (stands-kind y ∙ q)) in
+    record {
+      inside = y .inside;
+      partner = refl;
+      operation = refl;
+      count = y .spelled .row .count ∙ row-count (x .own) (y .node) (y .place) n;
+      variables = λ i l. y .spelled .row .variables i l ∙ row-variables (x .own) (y .node) (y .place) i n l;
+    }
+
+-- one that takes a message is none
+receives-other : (own : Own) → receives own ≡ true → kind own ≡ 14 → ⊥
+receives-other own e h = false≢true (sym (ap (λ (n : ℕ). eqb n 2 || eqb n 255) h) ∙ e)
+
+and-second : (a b : Bool) → (a && b) ≡ true → b ≡ true
+and-second true b e = e
+and-second false b e = absurd (false≢true e)
+
 
 and-true : (b : Bool) → b ≡ (b && true)
 and-true true = refl
@@ -167,8 +202,9 @@ fits-row p o m (repeat e) q at = refl
 fits-row p o m sequence q at = refl
 fits-row p o m flow q at = refl
 fits-row p o m pick q at = refl
-fits-row p o m (scope true) q at = refl
-fits-row p o m (scope false) q at = refl
+fits-row p o m (scope [] true) q at = refl
+fits-row p o m (scope [] false) q at = refl
+fits-row p o m (scope (n ∷ ns) u) q at = refl
 fits-row p o m (arm a b vs) q at = refl
 
 stands-fits : {t ms : List ℕ} {k : ℕ} {x : Line} (p : Plan) (o : Order) (m : Message) → Stands t ms k x
@@ -187,6 +223,14 @@ catch-open {ms = ms} {b = b} v w o e {x} y p m =
     let n : b ≡ (isReady (o .marks) x && receives (x .own)) = rw (← e) at v .is x w y in
     ap (λ z. isReady (o .marks) x && z) (stands-fits p o m y) ∙ (and-assoc (isReady (o .marks) x) (receives (x .own)) _ ∙ rw (← n))
 
+-- and one that is open names its exchange
+pub open-exchange : {t picks ms : List ℕ} {k : ℕ} {b : Bool} → OpensRow t picks ms k b → Picks t picks → (o : Order) → o .marks ≡ ms
+    → {x : Line} → Stands t (o .marks) k x → b ≡ true → Exchange (getD t (k * 13 + 1) 0) (getD t (k * 13 + 2) 0) (variablesOf (x .own)) k t
+open-exchange {b = b} v w o e {x} y d =
+    let n : b ≡ (isReady (o .marks) x && receives (x .own)) = rw (← e) at v .is x w y in
+    let r : receives (x .own) ≡ true = and-second (isReady (o .marks) x) (receives (x .own)) (sym n ∙ d) in
+    stands-exchange y (λ q. receives-other (x .own) r (sym (stands-kind y) ∙ q))
+
 pub takes-beyond : (t picks marks known : List ℕ) (k : ℕ) (letters : List ℕ) (j : ℕ) → 256 ≤ k → TakesRow t picks marks known k letters j false
 takes-beyond t picks marks known k letters j h = record { is = λ few o p l x g y. absurd (omega (arith, y .inside)) }
 
@@ -198,6 +242,7 @@ module _ {t picks marks : List ℕ} {k : ℕ} {b : Bool} (v : OpensRow t picks m
       → TakesRow t picks marks known k letters j r
   takes-open {letters = letters} {j} e a f = record {
     is = λ few o p l x g y.
-        f .is few p o _ _ (variablesOf (x .own)) (asks-asking a (g .knows) (stands-exchange y) (y .few)) (stands-exchange y)
+        let q = open-exchange v (g .picked) o (g .marked) y e in
+        f .is few p o _ _ (variablesOf (x .own)) (asks-asking a (g .knows) q (y .few)) q
         ∙ sym (catch-open v (g .picked) o (g .marked) y p (messageAt letters j) ∙ rw e);
   }

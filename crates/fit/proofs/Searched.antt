@@ -55,7 +55,7 @@ fitting-own p o m (repeat e) l k = refl
 fitting-own p o m sequence l k = refl
 fitting-own p o m flow l k = refl
 fitting-own p o m pick l k = refl
-fitting-own p o m (scope u) l k = refl
+fitting-own p o m (scope ns u) l k = refl
 fitting-own p o m (arm a b vs) l k = one-empties (fits p o a b vs m) (unchecked p o vs)
 
 or-else-nothing : (c : Receiver) → orElse Receiver.Nothing c ≡ c

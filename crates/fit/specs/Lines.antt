@@ -7,8 +7,8 @@ use mathlib.Core.Path.{_≡_}
 use lib.Dec.{eqb}
 use lib.ListN.{length, getD}
 use Rattle.plan.specs.Spells.{Spells, SpellsPlan, variablesOf}
-use Rattle.plan.specs.Tree.{Own, isPick, Act, act, Acts, none, more, Plan, size}
-use Rattle.plan.specs.Within.{planWithin}
+use Rattle.plan.specs.Tree.{Own, isPick, hasUndo, numbersOf, Act, act, Acts, none, more, Plan, size}
+use Rattle.plan.specs.Within.{numbersWithin, planWithin}
 use Rattle.order.specs.declared.Order.{Order}
 use Rattle.fit.specs.Answering.{armsFrom}
 use Rattle.machine.specs.Fit.{Doing, doingOf, awaits, Ready, Letter}
@@ -46,7 +46,7 @@ readyAt x = record { activity = x .activity; step = doingOf (x .own) (x .within)
 unfoldable pub readyLine : List ℕ → Line → List Ready
 readyLine ms x = cond (isReady ms x) (readyAt x ∷ []) []
 
--- row k of the table, one of its 256, spells the line x
+-- row k of the table, one of its 256, spells the line x, whose numbers are within their limits
 pub record Stands (t ms : List ℕ) (k : ℕ) (x : Line) : Type 0 where
   pub place : ℕ
   pub node : ℕ
@@ -55,6 +55,7 @@ pub record Stands (t ms : List ℕ) (k : ℕ) (x : Line) : Type 0 where
   pub spelled : Spells (act (x .own) (x .within)) place k node t
   pub arms : x .arms ≡ armsFrom t ms k k
   pub few : length (variablesOf (x .own)) ≤ 4
+  pub numbers : numbersWithin (numbersOf (x .own)) (hasUndo (x .own)) ≡ true
 
 -- the table is that of the plan
 pub record Tabled (p : Plan) (t : List ℕ) (activities : ℕ) : Type 0 where

@@ -162,7 +162,7 @@ own-exchanges t (repeat e) l k s = tt
 own-exchanges t sequence l k s = tt
 own-exchanges t flow l k s = tt
 own-exchanges t pick l k s = tt
-own-exchanges t (scope u) l k s = tt
+own-exchanges t (scope ns u) l k s = tt
 own-exchanges t (arm p o vs) l k s = tt
 
 plan-exchanges : (p : Plan) (t : ℕ) → planWithin p ≡ true → t < size (p .body) + size (p .fault) → Exchanges (doingAt p t)

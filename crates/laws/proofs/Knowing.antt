@@ -63,7 +63,7 @@ set-taken (repeat e) xs o = refl
 set-taken sequence xs o = refl
 set-taken flow xs o = refl
 set-taken pick xs o = refl
-set-taken (scope u) xs o = refl
+set-taken (scope ns u) xs o = refl
 set-taken (arm p q vs) xs o = refl
 
 act-taken : (a : Act) (xs : List ℕ) (o : Order) → setBy (ownOf a) (bindAct a xs o) ≡ variablesAfter (ownOf a) xs o
@@ -190,7 +190,7 @@ Lower (repeat e) = Unit
 Lower sequence = Unit
 Lower flow = Unit
 Lower pick = Unit
-Lower (scope u) = Unit
+Lower (scope ns u) = Unit
 Lower (arm p q vs) = every (λ v. ltb v 16) vs ≡ true
 
 lower-all : (vars : ℕ) (once : Bool) (vs : List ℕ) → vars ≤ 16 → variablesWithin vars once vs ≡ true → every (λ v. ltb v 16) vs ≡ true
@@ -218,7 +218,7 @@ lower-own vars cs h r (repeat x) n f e = tt
 lower-own vars cs h r sequence n f e = tt
 lower-own vars cs h r flow n f e = tt
 lower-own vars cs h r pick n f e = tt
-lower-own vars cs h r (scope u) n f e = tt
+lower-own vars cs h r (scope ns u) n f e = tt
 lower-own vars cs h r (arm p q vs) n f e = both r _ e (λ a b. both (eqb n 1) _ b (λ c d. lower-exchange vars true p q vs f d))
 
 lower-at : (p : Plan) (t : ℕ) → planWithin p ≡ true → t < size (p .body) + size (p .fault) → Lower (ownOf (actAt p t))
@@ -251,7 +251,7 @@ knows-after (repeat e) xs h f = f
 knows-after sequence xs h f = f
 knows-after flow xs h f = f
 knows-after pick xs h f = f
-knows-after (scope u) xs h f = f
+knows-after (scope ns u) xs h f = f
 knows-after (arm p q vs) xs h f = knows-take vs xs h f
 
 -- A slot as it is told: no order, or one that knows this.

@@ -4,15 +4,15 @@ use mathlib.Core.Bool.{Bool, true, false, cond, _||_, false≢true}
 use mathlib.Core.List.{List, [], _∷_}
 use Prim.Native.Nat.{ℕ, _+_, _-_}
 use lib.Dec.{eqb, ltb, leb}
-use Rattle.plan.specs.Tree.{Operation, sum, difference, equal, less, Exp, constant, variable, binary, Own, empty, send, receive, set as setting, raise, leave, choose, repeat, sequence, flow, pick, scope, arm, kind, isScope, Act, act, Acts, none, more, Plan, size, sizes}
+use Rattle.plan.specs.Tree.{Operation, sum, difference, equal, less, Exp, constant, variable, binary, Own, empty, send, receive, set as setting, raise, leave, choose, repeat, sequence, flow, pick, scope, arm, kind, isScope, undoPart, Act, act, Acts, none, more, Plan, size, sizes}
 use Rattle.order.specs.declared.Order.{Order}
 use Rattle.order.specs.declared.Way.{Way}
 use Rattle.order.specs.declared.Way.the-variants.{Running as running, Over as over, Raising as raising, Leaving as leaving, Undone as undone, UndoRaising as undoRaising}
 use Rattle.order.specs.Expression.{isFaultNumber, unboundVariable, sumTooLarge, belowZero, conflictingReceive, Value, fault, value, truth, applied, both, evaluate, isTrue}
-use Rattle.order.specs.State.{active, inside, done, faulty, undoing, handling, halted, withdrawing, withMarks, isBound, valueOf, closings, remembering, markAt, marked, markOf, marking, causing}
+use Rattle.order.specs.State.{active, inside, done, faulty, undoing, handling, halted, withdrawing, withMarks, isBound, valueOf, closings, remembering, markAt, marked, markOf, marking, stateOf, choiceOf, going, markWith, causing}
 use Rattle.order.specs.Lists.{withoutLast}
 use Rattle.order.specs.Begin.{Begun, begin, beginAfter, beginPart, partAt, cleared, quiet}
-use Rattle.order.specs.Scope.{Outcome, Scope, runs, after, begunIn, whereOver, scopeAt, isFor, isOpen, closing, innerRuns, rememberedFor, beginUndo, startUndo, undo, stop, ends, handle, undoes, turns, faults, breaks, looksAgain, bodyOver, bodyRaised, undoOver, undoRaised, fromBody, partOver, partRaised, fromFault, goesThrough, fromUndo}
+use Rattle.order.specs.Scope.{Outcome, Scope, runs, after, begunIn, whereOver, scopeAt, choiceFor, chosenPart, chosenAt, isFor, isOpen, closing, innerRuns, rememberedFor, beginUndo, startUndo, undo, stop, ends, handle, undoes, turns, faults, breaks, looksAgain, bodyOver, bodyRaised, undoOver, undoRaised, fromBody, partOver, partRaised, fromFault, goesThrough, fromUndo}
 use Rattle.order.specs.Acting.{finishes, raises, orRaises, enters, again, repeats, allBound, itself, arms, goesOn, joins, inScope, combines, Actor, replaces, performs, stepIn, stepAmong}
 use Rattle.laws.proofs.Limited.{Limited, LimitedAll, limited-within, limited-first, limited-rest, limited-raise}
 
@@ -60,14 +60,15 @@ calm-undo (e ∷ l) s o =
 calm-handle : (s : Scope) (o : Order) → Calm (handle s o)
 unfolding handle
 calm-handle s o =
-    let o′ = marking (s .name) handling o in
-    let b = begin (s .fault) (s .faultAt) (o′ .marks) in
+    let o′ = going (s .name) handling o in
+    let c = choiceOf (s .name) o in
+    let b = begin (chosenPart c s) (chosenAt c s) (o′ .marks) in
     calm-where (ends s) (begunIn o′ b) (calm-begun o′ b) (λ q. refl)
 
 calm-undoes : (w : Bool) (s : Scope) (o : Order) → Calm (undoes w s o)
 unfolding undoes
 calm-undoes true s o =
-    let o′ = marking (s .name) undoing o in
+    let o′ = going (s .name) undoing o in
     calm-where (handle s) (undo (rememberedFor s o′) s o′) (calm-undo (rememberedFor s o′) s o′) (λ q. calm-handle s q)
 calm-undoes false s o =
     let o′ = marking (s .name) withdrawing o in
@@ -80,7 +81,7 @@ calm-turns w s o = calm-pick (innerRuns (s .body) (s .bodyAt) (o .marks)) (runs 
 pub calm-looks : (s : Scope) (o : Order) → Calm (looksAgain s o)
 unfolding looksAgain
 calm-looks s o =
-    calm-pick (eqb (markOf (s .name) o) faulty) (turns true s o) (elim (eqb (markOf (s .name) o) halted) [ true ↦ turns false s o | false ↦ runs o ])
+    calm-pick (eqb (stateOf (s .name) o) faulty) (turns true s o) (elim (eqb (markOf (s .name) o) halted) [ true ↦ turns false s o | false ↦ runs o ])
     (calm-turns true s o) (calm-pick (eqb (markOf (s .name) o) halted) (turns false s o) (runs o) (calm-turns false s o) refl)
 
 pub calm-body-over : (s : Scope) (o : Order) → Calm (bodyOver s o)
@@ -91,17 +92,17 @@ pub calm-body-raised : (x : ℕ) (s : Scope) (o : Order) → Calm (bodyRaised x 
 unfolding bodyRaised faults
 calm-body-raised x s o =
     calm-pick (isOpen (markOf (s .name) o)) (faults x s o) (looksAgain s o)
-    (calm-turns true s (stop (s .body) (s .bodyAt) (causing (s .name) x (marking (s .name) faulty o)) .order)) (calm-looks s o)
+    (calm-turns true s (stop (s .body) (s .bodyAt) (causing (s .name) x (marking (s .name) (markWith (choiceFor x s) faulty) o)) .order)) (calm-looks s o)
 
 calm-undo-over : (s : Scope) (o : Order) → Calm (undoOver s o)
 unfolding undoOver
 calm-undo-over s o =
-    calm-pick (eqb (markOf (s .name) o) undoing) (undoes true s o) (elim (eqb (markOf (s .name) o) withdrawing) [ true ↦ undoes false s o | false ↦ runs o ])
+    calm-pick (eqb (stateOf (s .name) o) undoing) (undoes true s o) (elim (eqb (markOf (s .name) o) withdrawing) [ true ↦ undoes false s o | false ↦ runs o ])
     (calm-undoes true s o) (calm-pick (eqb (markOf (s .name) o) withdrawing) (undoes false s o) (runs o) (calm-undoes false s o) refl)
 
 calm-part-over : (s : Scope) (o : Order) → Calm (partOver s o)
 unfolding partOver
-calm-part-over s o = calm-pick (eqb (markOf (s .name) o) handling) (ends s o) (runs o) refl refl
+calm-part-over s o = calm-pick (eqb (stateOf (s .name) o) handling) (ends s o) (runs o) refl refl
 
 -- a fault that comes out has a number that a fault may have
 abbrev pub hasNumber : Way → Bool
@@ -212,7 +213,7 @@ number-itself (repeat e) l c k o w =
 number-itself sequence l c k o w = refl
 number-itself flow l c k o w = refl
 number-itself pick l c k o w = refl
-number-itself (scope u) l c k o w = refl
+number-itself (scope ns u) l c k o w = refl
 number-itself (arm p q vs) l c k o w = calm-number (begunIn o (beginPart 0 l (k + 1) (o .marks))) (calm-begun o (beginPart 0 l (k + 1) (o .marks)))
 
 number-performs : (y : Actor) (own : Own) (l : Acts) (c k : ℕ) (o : Order) → Limited (act own l) → Numbered (performs y own l c k o)
@@ -222,11 +223,11 @@ number-performs y own l c k o w = number-pick (replaces y (kind own)) (raises co
 -- what a scope makes of what comes out of a part of it: a fault that goes on keeps its number
 number-undo-raised : (x : ℕ) (s : Scope) (o : Order) → isFaultNumber x ≡ true → Numbered (undoRaised x s o)
 unfolding undoRaised breaks
-number-undo-raised x s o h = number-pick (eqb (markOf (s .name) o) undoing || eqb (markOf (s .name) o) withdrawing) (breaks x s o) (runs o) h refl
+number-undo-raised x s o h = number-pick (eqb (stateOf (s .name) o) undoing || eqb (markOf (s .name) o) withdrawing) (breaks x s o) (runs o) h refl
 
 number-part-raised : (x : ℕ) (s : Scope) (o : Order) → isFaultNumber x ≡ true → Numbered (partRaised x s o)
 unfolding partRaised breaks
-number-part-raised x s o h = number-pick (eqb (markOf (s .name) o) handling) (breaks x s o) (runs o) h refl
+number-part-raised x s o h = number-pick (eqb (stateOf (s .name) o) handling) (breaks x s o) (runs o) h refl
 
 number-from-body : (s : Scope) (r : Outcome) → Numbered r → Numbered (fromBody s r)
 unfolding fromBody
@@ -264,13 +265,13 @@ number-from-undo r x = go (r .result) x
     go undone x = x
     go (undoRaising n) x = x
 
-number-in-scope : (u : Bool) (k t : ℕ) (l : Acts) (r : Outcome) → Numbered r → Numbered (inScope u k t l r)
+number-in-scope : (ns : List ℕ) (u : Bool) (k t : ℕ) (l : Acts) (r : Outcome) → Numbered r → Numbered (inScope ns u k t l r)
 unfolding inScope
-number-in-scope u k t l r x =
-    number-pick (ltb t (partAt 1 l (k + 1))) (elim (goesThrough u k r) [ true ↦ r | false ↦ fromBody (scopeAt k l) r ])
-    (elim (ltb t (partAt 2 l (k + 1))) [ true ↦ fromFault (scopeAt k l) r | false ↦ fromUndo r ])
-    (number-pick (goesThrough u k r) r (fromBody (scopeAt k l) r) x (number-from-body (scopeAt k l) r x))
-    (number-pick (ltb t (partAt 2 l (k + 1))) (fromFault (scopeAt k l) r) (fromUndo r) (number-from-fault (scopeAt k l) r x) (number-from-undo r x))
+number-in-scope ns u k t l r x =
+    number-pick (ltb t (partAt 1 l (k + 1))) (elim (goesThrough u k r) [ true ↦ r | false ↦ fromBody (scopeAt ns k l) r ])
+    (elim (ltb t (partAt (undoPart ns) l (k + 1))) [ true ↦ fromFault (scopeAt ns k l) r | false ↦ fromUndo r ])
+    (number-pick (goesThrough u k r) r (fromBody (scopeAt ns k l) r) x (number-from-body (scopeAt ns k l) r x))
+    (number-pick (ltb t (partAt (undoPart ns) l (k + 1))) (fromFault (scopeAt ns k l) r) (fromUndo r) (number-from-fault (scopeAt ns k l) r x) (number-from-undo r x))
 
 -- what stands around it
 number-goes : (k m : ℕ) (g : Order → Outcome) (r : Outcome) → Numbered r → ((q : Order) → Calm (g q)) → Numbered (goesOn k m g r)
@@ -298,7 +299,7 @@ number-combines sequence l k t r x =
     (λ q. calm-where (finishes k) (begunIn q (beginAfter l (k + 1) t (q .marks))) (calm-begun q (beginAfter l (k + 1) t (q .marks))) (λ o. refl))
 number-combines flow l k t r x = number-goes k active (joins k l) r x (λ q. calm-joins k l q)
 number-combines pick l k t r x = number-goes k inside (finishes k) r x (λ q. refl)
-number-combines (scope u) l k t r x = number-in-scope u k t l r x
+number-combines (scope ns u) l k t r x = number-in-scope ns u k t l r x
 number-combines (arm p q vs) l k t r x = x
 
 -- step t in an activity

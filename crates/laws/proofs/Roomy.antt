@@ -48,7 +48,7 @@ own-room (repeat e) l k xs = refl
 own-room sequence l k xs = refl
 own-room flow l k xs = refl
 own-room pick l k xs = refl
-own-room (scope u) l k xs = refl
+own-room (scope ns u) l k xs = refl
 own-room (arm p o vs) l k xs = refl
 
 mutual
@@ -117,7 +117,7 @@ own-takes (repeat e) l k m o = refl
 own-takes sequence l k m o = refl
 own-takes flow l k m o = refl
 own-takes pick l k m o = refl
-own-takes (scope u) l k m o = refl
+own-takes (scope ns u) l k m o = refl
 own-takes (arm p q vs) l k m o = refl
 
 none-takes : (m : Message) (o : Order) → orderTaking noStep m o ≡ bindAct (act empty none) (m .values) o

@@ -75,10 +75,10 @@ withCause n =
       cause = n;
     }
 
--- a mark, the mark of the root, a bound variable, the closings, the number of a fault, the messages, one message, the plan
+-- a mark, one with a choice that it has no use for, the mark of the root, likewise, a bound variable, the closings, the number of a fault, the messages, one message, the plan
 wrong : List State
 wrong =
-    holding (marked 255 9 noOrder) ∷ holding (withRoot 2 noOrder) ∷ holding (withRoot 9 noOrder) ∷ holding (withBound 15 2) ∷ holding (withKept 33)
+    holding (marked 255 9 noOrder) ∷ holding (marked 255 23 noOrder) ∷ holding (withRoot 2 noOrder) ∷ holding (withRoot 9 noOrder) ∷ holding (withRoot 17 noOrder) ∷ holding (withBound 15 2) ∷ holding (withKept 33)
     ∷ holding (withCause 5) ∷ holding (withCause 15) ∷ holding (withCause 256)
     ∷ withMessages (fresh planA .messages) 65 (fresh planA)
     ∷ having (letter 64 5 1 (7 ∷ 0 ∷ 0 ∷ 0 ∷ []))
@@ -92,10 +92,10 @@ wrong =
     ∷ unplanned
     ∷ []
 
--- the same numbers at their limits
+-- the same numbers at their limits, and marks with a choice
 within : List State
 within =
-    fresh planA ∷ holding (marked 255 8 noOrder) ∷ holding (withRoot 6 noOrder) ∷ holding (withBound 15 1) ∷ holding (withKept 32)
+    fresh planA ∷ holding (marked 255 8 noOrder) ∷ holding (marked 255 246 noOrder) ∷ holding (withRoot 6 noOrder) ∷ holding (withRoot 148 noOrder) ∷ holding (withBound 15 1) ∷ holding (withKept 32)
     ∷ holding (withCause 4) ∷ holding (withCause 16) ∷ holding (withCause 255)
     ∷ having (letter 63 63 1 (7 ∷ 0 ∷ 0 ∷ 0 ∷ []))
     ∷ having (letter 3 5 4 (7 ∷ 9 ∷ 0 ∷ 1 ∷ []))

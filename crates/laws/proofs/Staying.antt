@@ -1,6 +1,6 @@
 -- An order within its limits stays within them: whatever begins, stops, undoes or closes, and so for a step of it. Assumes nothing.
 use mathlib.Core.Path.{_≡_, refl, sym, ap, _∙_, subst}
-use mathlib.Core.Bool.{Bool, true, false, cond, not, _&&_, _||_}
+use mathlib.Core.Bool.{Bool, true, false, cond, not, _&&_, _||_, or-true}
 use mathlib.Core.List.{List, [], _∷_, _++_, reverse, map}
 use Prim.Native.Nat.{ℕ, zero, suc, _+_, _<_, _≤_}
 use native.Mathlib.Omega.{arith}
@@ -8,7 +8,7 @@ use borrow.Author.Tests.{eqb-true, lt-ltb, le-leb, leb-true, ltb-true}
 use lib.Dec.{eqb, ltb, leb}
 use lib.ListN.{length, getD, take, drop, set, length-append, length-map, length-reverse}
 use Rattle.plan.specs.Found.{among}
-use Rattle.plan.specs.Tree.{Exp, Own, empty, send, receive, set as setting, raise, leave, choose, repeat, sequence, flow, pick, scope, arm, kind, isScope, hasUndo, isPick, Act, act, Acts, none, more, Plan, size, sizes}
+use Rattle.plan.specs.Tree.{Exp, Own, empty, send, receive, set as setting, raise, leave, choose, repeat, sequence, flow, pick, scope, arm, kind, isScope, hasUndo, numbersOf, undoPart, isPick, Act, act, Acts, none, more, Plan, size, sizes}
 use Rattle.plan.proofs.Accepts.{both}
 use Rattle.order.specs.declared.Closing.{Closing}
 use Rattle.plan.specs.Within.{planWithin}
@@ -20,9 +20,9 @@ use Rattle.order.specs.declared.End.the-variants.{None, Well, Handled, Failed, 
 use Rattle.order.specs.Lists.{every, only, withoutFirst, withoutLast}
 use Rattle.order.specs.Event.{Event}
 use Rattle.order.specs.Expression.{isFaultNumber, unboundVariable, conflictingReceive, Value, fault, value, evaluate, isTrue}
-use Rattle.order.specs.State.{idle, active, inside, done, faulty, undoing, handling, halted, withdrawing, Name, root, inner, withMarks, withRoot, binding, closingOf, closings, remembering, markAt, marked, markOf, marking, causing, noOrder}
+use Rattle.order.specs.State.{idle, active, inside, done, faulty, undoing, handling, halted, withdrawing, Name, root, inner, withMarks, withRoot, binding, closingOf, closings, remembering, markAt, marked, markOf, marking, stateOf, choiceOf, going, markWith, stateIn, causing, noOrder}
 use Rattle.order.specs.Begin.{Begun, begin, beginInTurn, beginAll, beginFirst, beginAfter, beginPart, part, partAt, throughout, around, itsBeginning, inTurn, sideBySide, nothingBegun, awaiting, cleared, quiet}
-use Rattle.order.specs.Scope.{Outcome, Scope, Stopped, runs, after, begunIn, scopeAt, rootOf, isFor, listOf, rememberedFor, forgetting, adds, closing, innerRuns, beginUndo, beginUndoFirst, beginUndoIn, whereOver, startUndo, undo, ends, handle, undoes, turns, isOpen, untouched, alsoStopped, withdraws, stop, stopAll, stopFirst, faults, breaks, looksAgain, bodyOver, bodyRaised, undoOver, undoRaised, fromBody, partOver, partRaised, fromFault, goesThrough, fromUndo}
+use Rattle.order.specs.Scope.{Outcome, Scope, Stopped, runs, after, begunIn, scopeAt, choiceFor, chosenPart, chosenAt, rootOf, isFor, listOf, rememberedFor, forgetting, adds, closing, innerRuns, beginUndo, beginUndoFirst, beginUndoIn, whereOver, startUndo, undo, ends, handle, undoes, turns, isOpen, untouched, alsoStopped, withdraws, stop, stopAll, stopFirst, faults, breaks, looksAgain, bodyOver, bodyRaised, undoOver, undoRaised, fromBody, partOver, partRaised, fromFault, goesThrough, fromUndo}
 use Rattle.order.specs.Acting.{finishes, raises, leaves, orRaises, enters, again, repeats, allBound, itself, isPart, arms, goesOn, joins, inScope, combines, stepIn, stepAmong, stepRoot, endOf, movedTo, startedOrder, begunOrder, Actor, itsOwn, inPlace, replaces, performs, Moved, acted}
 use Rattle.order.specs.Awaited.{Doing, noStep, sends, takes, moves, cuts, closes, Ready, readyOf}
 use Rattle.order.specs.Judging.{isSecond, Verdict, clear, clash, clashAfter, conflict, following, upon, judged, spare, settled, stepOrder}
@@ -30,8 +30,9 @@ use Rattle.machine.specs.Calls.{doingAt}
 use Rattle.laws.proofs.Roomy.{roomOf, plan-room}
 use Rattle.order.specs.Room.{hasRoom, roomIn, roomAmong, roomPlan}
 use Rattle.order.specs.Taking.{bindAll}
+use Rattle.order.proofs.Chosen.{state-with}
 use Rattle.order.proofs.MemoryReturns.{closings-are}
-use Rattle.machine.specs.Limits.{rootInLimits, orderInLimits}
+use Rattle.machine.specs.Limits.{rootInLimits, markInLimits, orderInLimits}
 use Rattle.laws.proofs.Limited.{Limited, LimitedAll, limited-within, limited-first, limited-rest, limited-parts}
 use Rattle.laws.proofs.Numbers.{hasNumber, Numbered, number-step, number-among}
 use Rattle.laws.proofs.Offering.{pick-true, pick-false, Each, each-none, each-more, Does, plan-ready}
@@ -45,13 +46,21 @@ every-set f (x ∷ l) (suc i) v h e = both (f x) (every f l) e (λ a b. rw (a, e
 
 -- marks within their limits
 pub record Small (ms : List ℕ) : Type 0 where
-  pub is : every (λ m. leb m withdrawing) ms ≡ true
+  pub is : every markInLimits ms ≡ true
 
 abbrev Smalls : Begun → Type 0
 Smalls r = Small (r .marks)
 
+small-any : {ms : List ℕ} (k m : ℕ) → markInLimits m ≡ true → Small ms → Small (set ms k m)
+small-any {ms} k m h s = record { is = every-set markInLimits ms k m h (s .is) }
+
+-- one of the nine
+nine : (m : ℕ) → leb m withdrawing ≡ true → markInLimits m ≡ true
+unfolding markInLimits
+nine m h = rw h
+
 small-set : {ms : List ℕ} (k m : ℕ) → leb m withdrawing ≡ true → Small ms → Small (set ms k m)
-small-set {ms} k m h s = record { is = every-set (λ m. leb m withdrawing) ms k m h (s .is) }
+small-set k m h s = small-any k m (nine m h) s
 
 small-cleared : (n k : ℕ) {ms : List ℕ} → Small ms → Small (cleared k n ms)
 unfolding cleared
@@ -96,7 +105,7 @@ mutual
   small-begin (act sequence l) k ms s = small-throughout k (beginInTurn l (k + 1) (set ms k active)) (small-in-turn l (k + 1) _ (small-set k active refl s))
   small-begin (act flow l) k ms s = small-throughout k (beginAll l (k + 1) (set ms k active)) (small-all l (k + 1) _ (small-set k active refl s))
   small-begin (act pick l) k ms s = small-set k active refl s
-  small-begin (act (scope u) l) k ms s = small-around k (beginFirst l (k + 1) (set ms k active)) (small-first l (k + 1) _ (small-set k active refl s))
+  small-begin (act (scope ns u) l) k ms s = small-around k (beginFirst l (k + 1) (set ms k active)) (small-first l (k + 1) _ (small-set k active refl s))
   small-begin (act (arm p o vs) l) k ms s = s
 
   small-in-turn : (l : Acts) (c : ℕ) (ms : List ℕ) → Small ms → Small (beginInTurn l c ms .marks)
@@ -129,11 +138,11 @@ mutual
 
   small-undo : (a : Act) (k e : ℕ) (ms : List ℕ) → Small ms → Small (beginUndo a k e ms .marks)
   small-undo (act own l) k e ms s =
-      go (isScope own) (hasUndo own) (eqb k e) (small-part 2 l (k + 1) ms s) (small-undo-first l (k + 1) e ms s) (small-undo-in l (k + 1) e ms s)
+      go (isScope own) (hasUndo own) (eqb k e) (small-part (undoPart (numbersOf own)) l (k + 1) ms s) (small-undo-first l (k + 1) e ms s) (small-undo-in l (k + 1) e ms s)
     where
-      go : (b u v : Bool) → Small (beginPart 2 l (k + 1) ms .marks) → Small (beginUndoFirst l (k + 1) e ms .marks) → Small (beginUndoIn l (k + 1) e ms .marks)
+      go : (b u v : Bool) → Small (beginPart (undoPart (numbersOf own)) l (k + 1) ms .marks) → Small (beginUndoFirst l (k + 1) e ms .marks) → Small (beginUndoIn l (k + 1) e ms .marks)
           → Smalls (elim b [
-            | true ↦ cond u (cond v (beginPart 2 l (k + 1) ms) (nothingBegun ms)) (beginUndoFirst l (k + 1) e ms)
+            | true ↦ cond u (cond v (beginPart (undoPart (numbersOf own)) l (k + 1) ms) (nothingBegun ms)) (beginUndoFirst l (k + 1) e ms)
             | false ↦ beginUndoIn l (k + 1) e ms
           ])
       go true true true x y w = x
@@ -179,7 +188,7 @@ FineStopped z r = Fine false z (r .order)
 -- what a mark of a scope may become
 unfoldable Marks : Bool → ℕ → Type 0
 Marks true m = rootInLimits m ≡ true
-Marks false m = leb m withdrawing ≡ true
+Marks false m = markInLimits m ≡ true
 
 module _ {b : Bool} {z : ℕ} where
   fine-marks : {o : Order} {ms : List ℕ} → Fine b z o → Small ms → Fine b z (withMarks ms o)
@@ -268,7 +277,7 @@ fine-forgetting {o = o} s f =
 fine-marking : {z : ℕ} {o : Order} (n : Name) (m : ℕ) → Marks (isRoot n) m → Fine (isRoot n) z o → Fine (isRoot n) z (marking n m o)
 unfolding Marks RootIs
 fine-marking root m h f = record { root = h; marks = f .marks; bound = f .bound; kept = f .kept; cause = f .cause }
-fine-marking (inner k) m h f = fine-marked k m h f
+fine-marking (inner k) m h f = fine-marks f (small-any k m h (f .marks))
 
 -- the number of its fault
 fine-causing : {b : Bool} {z : ℕ} {o : Order} (n : Name) (x : ℕ) → isFaultNumber x ≡ true → Fine b z o → Fine b z (causing n x o)
@@ -278,7 +287,31 @@ fine-causing (inner k) x h f = f
 any-mark : (b : Bool) (m : ℕ) → leb m withdrawing ≡ true → rootInLimits m ≡ true → Marks b m
 unfolding Marks
 any-mark true m h g = g
-any-mark false m h g = h
+any-mark false m h g = nine m h
+
+-- a mark that keeps its choice
+fault-mark : (b : Bool) (c m : ℕ) → among m (faulty ∷ undoing ∷ handling ∷ []) ≡ true → m < 16 → Marks b (markWith c m)
+unfolding Marks rootInLimits markInLimits
+fault-mark b c m h g = go b
+  where
+    x : among (stateIn (markWith c m)) (faulty ∷ undoing ∷ handling ∷ []) ≡ true
+    x = rw (state-with c m g) h
+
+    go : (b : Bool) → Marks b (markWith c m)
+    go true = rw x (or-true (among (markWith c m) (idle ∷ active ∷ [])))
+    go false = rw x (or-true (leb (markWith c m) withdrawing))
+
+fine-going : {z : ℕ} {o : Order} (n : Name) (m : ℕ) → among m (faulty ∷ undoing ∷ handling ∷ []) ≡ true → m < 16 → Fine (isRoot n) z o → Fine (isRoot n) z (going n m o)
+fine-going {o = o} n m h g f = fine-marking n (markWith (choiceOf n o) m) (fault-mark (isRoot n) (choiceOf n o) m h g) f
+
+-- what a scope that turns may be: the root does not stop, and so does not withdraw
+unfoldable Turning : Bool → (withFault : Bool) → Type 0
+Turning b true = Unit {0}
+Turning b false = Marks b withdrawing
+
+turn-stops : (b : Bool) → Marks b withdrawing → Turning b false
+unfolding Turning
+turn-stops b m = m
 
 -- an undo part begins, and the next
 fine-start-undo : {b : Bool} {z : ℕ} {o : Order} (e : ℕ) (s : Scope) → Fine b z o → Fine b z (startUndo e s o .order)
@@ -300,45 +333,47 @@ module _ {z : ℕ} (s : Scope) where
   fine-handle : {o : Order} → Fine (isRoot (s .name)) z o → Fine (isRoot (s .name)) z (handle s o .order)
   unfolding handle rootInLimits among
   fine-handle {o} f =
-      let o′ = marking (s .name) handling o in
-      let g = fine-marking (s .name) handling (any-mark (isRoot (s .name)) handling refl refl) f in
-      fine-over (begunIn o′ (begin (s .fault) (s .faultAt) (o′ .marks))) (ends s) (fine-marks g (small-begin (s .fault) (s .faultAt) (o′ .marks) (g .marks))) (λ q h. fine-ends h)
+      let o′ = going (s .name) handling o in
+      let a = chosenPart (choiceOf (s .name) o) s in
+      let k = chosenAt (choiceOf (s .name) o) s in
+      let g = fine-going (s .name) handling refl (omega arith) f in
+      fine-over (begunIn o′ (begin a k (o′ .marks))) (ends s) (fine-marks g (small-begin a k (o′ .marks) (g .marks))) (λ q h. fine-ends h)
 
-  fine-undoes : {o : Order} (w : Bool) → Marks (isRoot (s .name)) (cond w undoing withdrawing) → Fine (isRoot (s .name)) z o → Fine (isRoot (s .name)) z (undoes w s o .order)
-  unfolding undoes
+  fine-undoes : {o : Order} (w : Bool) → Turning (isRoot (s .name)) w → Fine (isRoot (s .name)) z o → Fine (isRoot (s .name)) z (undoes w s o .order)
+  unfolding undoes among Turning
   fine-undoes {o} true m f =
-      let o′ = marking (s .name) undoing o in
-      fine-over (undo (rememberedFor s o′) s o′) (handle s) (fine-undo (rememberedFor s o′) s (fine-marking (s .name) undoing m f)) (λ q h. fine-handle h)
+      let o′ = going (s .name) undoing o in
+      fine-over (undo (rememberedFor s o′) s o′) (handle s) (fine-undo (rememberedFor s o′) s (fine-going (s .name) undoing refl (omega arith) f)) (λ q h. fine-handle h)
   fine-undoes {o} false m f =
       let o′ = marking (s .name) withdrawing o in
       fine-over (undo (rememberedFor s o′) s o′) (ends s) (fine-undo (rememberedFor s o′) s (fine-marking (s .name) withdrawing m f)) (λ q h. fine-ends h)
 
-  fine-turns : {o : Order} (w : Bool) → Marks (isRoot (s .name)) (cond w undoing withdrawing) → Fine (isRoot (s .name)) z o → Fine (isRoot (s .name)) z (turns w s o .order)
+  fine-turns : {o : Order} (w : Bool) → Turning (isRoot (s .name)) w → Fine (isRoot (s .name)) z o → Fine (isRoot (s .name)) z (turns w s o .order)
   unfolding turns
   fine-turns {o} w m f = fine-pick (innerRuns (s .body) (s .bodyAt) (o .marks)) (runs o) (undoes w s o) (λ e. f) (λ e. fine-undoes w m f)
 
   fine-undoes-fault : {o : Order} → Fine (isRoot (s .name)) z o → Fine (isRoot (s .name)) z (undoes true s o .order)
-  unfolding rootInLimits among
-  fine-undoes-fault f = fine-undoes true (any-mark (isRoot (s .name)) undoing refl refl) f
+  unfolding Turning
+  fine-undoes-fault f = fine-undoes true tt f
 
   fine-turns-fault : {o : Order} → Fine (isRoot (s .name)) z o → Fine (isRoot (s .name)) z (turns true s o .order)
-  unfolding rootInLimits among
-  fine-turns-fault f = fine-turns true (any-mark (isRoot (s .name)) undoing refl refl) f
+  unfolding Turning
+  fine-turns-fault f = fine-turns true tt f
 
 -- a body stops: the root's mark stays
 mutual
-  unfolding stop withdraws size Marks
+  unfolding stop withdraws size Marks Turning
 
   fine-stop : {z : ℕ} {o : Order} (a : Act) (k : ℕ) → Fine false z o → Fine false z (stop a k o .order)
   fine-stop {z} {o} (act own l) k f =
       go (isScope own) (isOpen (markAt k o))
-      (fine-turns (scopeAt k l) false refl (fine-stop-first l (k + 1) (fine-marked k halted refl f)))
+      (fine-turns (scopeAt (numbersOf own) k l) false (nine withdrawing refl) (fine-stop-first l (k + 1) (fine-marked k halted refl f)))
       (fine-stop-all l (k + 1) (fine-marked k idle refl f))
     where
-      go : (x y : Bool) → Fine false z (withdraws k (scopeAt k l) (stopFirst l (k + 1) (marked k halted o)) .order) → Fine false z (stopAll l (k + 1) (marked k idle o) .order)
+      go : (x y : Bool) → Fine false z (withdraws k (scopeAt (numbersOf own) k l) (stopFirst l (k + 1) (marked k halted o)) .order) → Fine false z (stopAll l (k + 1) (marked k idle o) .order)
           → FineStopped z (elim x [
             | true ↦ elim y [
-              | true ↦ withdraws k (scopeAt k l) (stopFirst l (k + 1) (marked k halted o))
+              | true ↦ withdraws k (scopeAt (numbersOf own) k l) (stopFirst l (k + 1) (marked k halted o))
               | false ↦ untouched o
             ]
             | false ↦ stopAll l (k + 1) (marked k idle o)
@@ -372,7 +407,7 @@ module _ {z : ℕ} (s : Scope) where
   fine-faults : {o : Order} (n : ℕ) → isFaultNumber n ≡ true → Fine (isRoot (s .name)) z o → Fine (isRoot (s .name)) z (faults n s o .order)
   unfolding faults rootInLimits among
   fine-faults n h f =
-      let g = fine-causing (s .name) n h (fine-marking (s .name) faulty (any-mark (isRoot (s .name)) faulty refl refl) f) in
+      let g = fine-causing (s .name) n h (fine-marking (s .name) (markWith (choiceFor n s) faulty) (fault-mark (isRoot (s .name)) (choiceFor n s) faulty refl (omega arith)) f) in
       fine-turns-fault s (fine-out g (fine-stop (s .body) (s .bodyAt) (fine-in g)))
 
   fine-breaks : {o : Order} (n : ℕ) → Fine (isRoot (s .name)) z o → Fine (isRoot (s .name)) z (breaks n s o .order)
@@ -388,13 +423,13 @@ module _ {z : ℕ} (s : Scope) where
       let q : o .root ≡ m = eqb-true (o .root) m e in
       let g : rootInLimits m ≡ true = rw q at (f .root) in
       absurd (let w : true ≡ false = sym g ∙ h in let v : _≡_ {A = ℕ} 0 1 = cc in omega arith)
-  not-root (inner k) m h f e = refl
+  not-root (inner k) m h f e = nine withdrawing refl
 
   fine-looks : {o : Order} → Fine (isRoot (s .name)) z o → Fine (isRoot (s .name)) z (looksAgain s o .order)
   unfolding looksAgain rootInLimits among
   fine-looks {o} f =
-      fine-pick (eqb (markOf (s .name) o) faulty) (turns true s o) (elim (eqb (markOf (s .name) o) halted) [ true ↦ turns false s o | false ↦ runs o ]) (λ e. fine-turns-fault s f)
-      (λ e. fine-pick (eqb (markOf (s .name) o) halted) (turns false s o) (runs o) (λ d. fine-turns s false (not-root (s .name) halted refl f d) f) (λ d. f))
+      fine-pick (eqb (stateOf (s .name) o) faulty) (turns true s o) (elim (eqb (markOf (s .name) o) halted) [ true ↦ turns false s o | false ↦ runs o ]) (λ e. fine-turns-fault s f)
+      (λ e. fine-pick (eqb (markOf (s .name) o) halted) (turns false s o) (runs o) (λ d. fine-turns s false (turn-stops (isRoot (s .name)) (not-root (s .name) halted refl f d)) f) (λ d. f))
 
   fine-raised : {o : Order} (n : ℕ) → isFaultNumber n ≡ true → Fine (isRoot (s .name)) z o → Fine (isRoot (s .name)) z (bodyRaised n s o .order)
   unfolding bodyRaised
@@ -403,12 +438,12 @@ module _ {z : ℕ} (s : Scope) where
   fine-undo-over : {o : Order} → Fine (isRoot (s .name)) z o → Fine (isRoot (s .name)) z (undoOver s o .order)
   unfolding undoOver rootInLimits among
   fine-undo-over {o} f =
-      fine-pick (eqb (markOf (s .name) o) undoing) (undoes true s o) (elim (eqb (markOf (s .name) o) withdrawing) [ true ↦ undoes false s o | false ↦ runs o ]) (λ e. fine-undoes-fault s f)
-      (λ e. fine-pick (eqb (markOf (s .name) o) withdrawing) (undoes false s o) (runs o) (λ d. fine-undoes s false (not-root (s .name) withdrawing refl f d) f) (λ d. f))
+      fine-pick (eqb (stateOf (s .name) o) undoing) (undoes true s o) (elim (eqb (markOf (s .name) o) withdrawing) [ true ↦ undoes false s o | false ↦ runs o ]) (λ e. fine-undoes-fault s f)
+      (λ e. fine-pick (eqb (markOf (s .name) o) withdrawing) (undoes false s o) (runs o) (λ d. fine-undoes s false (turn-stops (isRoot (s .name)) (not-root (s .name) withdrawing refl f d)) f) (λ d. f))
 
   fine-undo-raised : {o : Order} (n : ℕ) → Fine (isRoot (s .name)) z o → Fine (isRoot (s .name)) z (undoRaised n s o .order)
   unfolding undoRaised
-  fine-undo-raised {o} n f = fine-pick (eqb (markOf (s .name) o) undoing || eqb (markOf (s .name) o) withdrawing) (breaks n s o) (runs o) (λ e. fine-breaks n f) (λ e. f)
+  fine-undo-raised {o} n f = fine-pick (eqb (stateOf (s .name) o) undoing || eqb (markOf (s .name) o) withdrawing) (breaks n s o) (runs o) (λ e. fine-breaks n f) (λ e. f)
 
   fine-body-over : {o : Order} → Marks (isRoot (s .name)) done → Fine (isRoot (s .name)) z o → Fine (isRoot (s .name)) z (bodyOver s o .order)
   unfolding bodyOver
@@ -416,11 +451,11 @@ module _ {z : ℕ} (s : Scope) where
 
   fine-part-over : {o : Order} → Fine (isRoot (s .name)) z o → Fine (isRoot (s .name)) z (partOver s o .order)
   unfolding partOver
-  fine-part-over {o} f = fine-pick (eqb (markOf (s .name) o) handling) (ends s o) (runs o) (λ e. fine-ends s f) (λ e. f)
+  fine-part-over {o} f = fine-pick (eqb (stateOf (s .name) o) handling) (ends s o) (runs o) (λ e. fine-ends s f) (λ e. f)
 
   fine-part-raised : {o : Order} (n : ℕ) → Fine (isRoot (s .name)) z o → Fine (isRoot (s .name)) z (partRaised n s o .order)
   unfolding partRaised
-  fine-part-raised {o} n f = fine-pick (eqb (markOf (s .name) o) handling) (breaks n s o) (runs o) (λ e. fine-breaks n f) (λ e. f)
+  fine-part-raised {o} n f = fine-pick (eqb (stateOf (s .name) o) handling) (breaks n s o) (runs o) (λ e. fine-breaks n f) (λ e. f)
 
   fine-from-body : (r : Outcome) → Numbered r → Marks (isRoot (s .name)) done → Fine (isRoot (s .name)) z (r .order) → Fine (isRoot (s .name)) z (fromBody s r .order)
   unfolding fromBody
@@ -519,7 +554,7 @@ module _ {z : ℕ} where
   fine-itself sequence l c k h f = f
   fine-itself flow l c k h f = f
   fine-itself pick l c k h f = f
-  fine-itself (scope u) l c k h f = fine-closing u c k (scopeAt k l) h f
+  fine-itself (scope ns u) l c k h f = fine-closing u c k (scopeAt ns k l) h f
   fine-itself {o} (arm p q vs) l c k h f = fine-marks f (small-part 0 l (k + 1) (o .marks) (f .marks))
 
   -- what stands around it
@@ -532,13 +567,13 @@ module _ {z : ℕ} where
   unfolding joins
   fine-joins {o} k l f = fine-pick (quiet (k + 1) (sizes l) (o .marks)) (finishes k o) (runs o) (λ e. fine-marked k idle refl f) (λ e. f)
 
-  fine-in-scope : (undo : Bool) (k t : ℕ) (l : Acts) (r : Outcome) → Numbered r → Fine false z (r .order) → Fine false z (inScope undo k t l r .order)
+  fine-in-scope : (ns : List ℕ) (undo : Bool) (k t : ℕ) (l : Acts) (r : Outcome) → Numbered r → Fine false z (r .order) → Fine false z (inScope ns undo k t l r .order)
   unfolding inScope Marks fromUndo
-  fine-in-scope undo k t l r x f =
-      fine-pick (ltb t (partAt 1 l (k + 1))) (elim (goesThrough undo k r) [ true ↦ r | false ↦ fromBody (scopeAt k l) r ])
-      (elim (ltb t (partAt 2 l (k + 1))) [ true ↦ fromFault (scopeAt k l) r | false ↦ fromUndo r ])
-      (λ e. fine-pick (goesThrough undo k r) r (fromBody (scopeAt k l) r) (λ d. f) (λ d. fine-from-body (scopeAt k l) r x refl f))
-      (λ e. fine-pick (ltb t (partAt 2 l (k + 1))) (fromFault (scopeAt k l) r) (fromUndo r) (λ d. fine-from-fault (scopeAt k l) r f) (λ d. f))
+  fine-in-scope ns undo k t l r x f =
+      fine-pick (ltb t (partAt 1 l (k + 1))) (elim (goesThrough undo k r) [ true ↦ r | false ↦ fromBody (scopeAt ns k l) r ])
+      (elim (ltb t (partAt (undoPart ns) l (k + 1))) [ true ↦ fromFault (scopeAt ns k l) r | false ↦ fromUndo r ])
+      (λ e. fine-pick (goesThrough undo k r) r (fromBody (scopeAt ns k l) r) (λ d. f) (λ d. fine-from-body (scopeAt ns k l) r x (nine done refl) f))
+      (λ e. fine-pick (ltb t (partAt (undoPart ns) l (k + 1))) (fromFault (scopeAt ns k l) r) (fromUndo r) (λ d. fine-from-fault (scopeAt ns k l) r f) (λ d. f))
 
   fine-combines : (own : Own) (l : Acts) (k t : ℕ) (r : Outcome) → Numbered r → Fine false z (r .order) → Fine false z (combines own l k t r .order)
   unfolding combines
@@ -555,7 +590,7 @@ module _ {z : ℕ} where
       (λ q g. fine-over (begunIn q (beginAfter l (k + 1) t (q .marks))) (finishes k) (fine-marks g (small-after l (k + 1) t (q .marks) (g .marks))) (λ o h. fine-marked k idle refl h))
   fine-combines flow l k t r x f = fine-goes k active (joins k l) r f (λ q g. fine-joins k l g)
   fine-combines pick l k t r x f = fine-goes k inside (finishes k) r f (λ q g. fine-marked k idle refl g)
-  fine-combines (scope u) l k t r x f = fine-in-scope u k t l r x f
+  fine-combines (scope ns u) l k t r x f = fine-in-scope ns u k t l r x f
   fine-combines (arm p q vs) l k t r x f = f
 
   fine-arms : {o : Order} (own : Own) (l : Acts) (k t : ℕ) → Fine false z o → Fine false z (arms own l k t o)
@@ -618,7 +653,7 @@ pub limits-fine : (o : Order) → orderInLimits o ≡ true → Fine true 0 o
 unfolding orderInLimits RootIs
 limits-fine o e =
     both (rootInLimits (o .root)) _ e (λ a b.
-    both (every (λ m. leb m withdrawing) (o .marks)) _ b (λ c d.
+    both (every markInLimits (o .marks)) _ b (λ c d.
     both (every (λ b. leb b 1) (o .bound)) _ d (λ f g.
     both (leb (o .kept) 32) _ g (λ h i.
     record { root = a; marks = record { is = c }; bound = f; kept = leb-true _ _ h; cause = i }))))
@@ -628,7 +663,7 @@ unfolding orderInLimits RootIs
 fine-limits f = rw (f .root, f .marks .is, f .bound, le-leb _ _ (f .kept), f .cause)
 
 pub none-limits : orderInLimits noOrder ≡ true
-unfolding orderInLimits noOrder rootInLimits among every isFaultNumber
+unfolding orderInLimits noOrder rootInLimits markInLimits among every isFaultNumber
 none-limits = refl
 
 -- how an order ended

@@ -6,7 +6,7 @@ use Prim.Native.Nat.{ℕ, zero, suc, _+_, _<_}
 use native.Mathlib.Omega.{arith}
 use borrow.Author.Tests.{lt-ltb}
 use lib.Dec.{eqb, ltb}
-use Rattle.plan.specs.Tree.{Exp, constant, variable, binary, Own, empty, send, receive, set as setting, raise, leave, choose, repeat, sequence, flow, pick, scope, arm, kind, isScope, isPick, Act, act, Acts, none, more, Plan, size, sizes}
+use Rattle.plan.specs.Tree.{Exp, constant, variable, binary, Own, empty, send, receive, set as setting, raise, leave, choose, repeat, sequence, flow, pick, scope, arm, kind, isScope, numbersOf, undoPart, isPick, Act, act, Acts, none, more, Plan, size, sizes}
 use Rattle.order.specs.declared.Closing.{Closing}
 use Rattle.order.specs.declared.Order.{Order}
 use Rattle.order.specs.declared.Way.{Way}
@@ -15,14 +15,15 @@ use Rattle.order.specs.declared.End.{End}
 use Rattle.order.specs.declared.End.the-variants.{None, Well, Handled, Failed, Left}
 use Rattle.order.specs.Event.{Event, faulted}
 use Rattle.order.specs.Expression.{unboundVariable, conflictingReceive, Value, fault, value, evaluate, isTrue}
-use Rattle.order.specs.State.{idle, active, inside, done, faulty, undoing, handling, halted, withdrawing, Name, root, inner, withMarks, binding, closings, remembering, markAt, marked, markOf, marking, causing, noOrder}
+use Rattle.order.specs.State.{idle, active, inside, done, faulty, undoing, handling, halted, withdrawing, Name, root, inner, withMarks, binding, closings, remembering, markAt, marked, markOf, marking, stateOf, choiceOf, going, markWith, causing, noOrder}
 use Rattle.order.specs.Begin.{Begun, begin, beginAfter, beginPart, partAt, cleared, quiet}
-use Rattle.order.specs.Scope.{Outcome, Scope, Stopped, runs, after, begunIn, scopeAt, rootOf, rememberedFor, forgetting, adds, closing, innerRuns, whereOver, startUndo, undo, ends, handle, undoes, turns, isOpen, untouched, withdraws, stop, stopAll, stopFirst, faults, breaks, looksAgain, bodyOver, bodyRaised, undoOver, undoRaised, fromBody, partOver, partRaised, fromFault, goesThrough, fromUndo}
+use Rattle.order.specs.Scope.{Outcome, Scope, Stopped, runs, after, begunIn, scopeAt, choiceFor, chosenPart, chosenAt, rootOf, rememberedFor, forgetting, adds, closing, innerRuns, whereOver, startUndo, undo, ends, handle, undoes, turns, isOpen, untouched, withdraws, stop, stopAll, stopFirst, faults, breaks, looksAgain, bodyOver, bodyRaised, undoOver, undoRaised, fromBody, partOver, partRaised, fromFault, goesThrough, fromUndo}
 use Rattle.order.specs.Acting.{finishes, raises, orRaises, enters, again, repeats, allBound, itself, isPart, arms, goesOn, joins, inScope, combines, stepIn, stepAmong, stepRoot, endOf, Moved, movedTo, Actor, itsOwn, inPlace, replaces, performs, acted}
 use Rattle.order.specs.Awaited.{Doing, noStep, sends, takes, moves, cuts, closes, doingOf, Ready, readyOf}
 use Rattle.order.specs.Judging.{isSecond, Verdict, clear, clash, clashAfter, conflict, following, upon, judged, spare, settled, stepOrder}
 use Rattle.machine.specs.Calls.{doingAt}
 use Rattle.order.specs.Taking.{actIn, actAmong, actAt}
+use Rattle.order.proofs.Chosen.{with-live}
 use Rattle.laws.specs.Known.{ownOf, setTo, Leaves}
 use Rattle.laws.proofs.Offering.{Each, each-none, each-more, Does, plan-ready}
 use Rattle.laws.proofs.Doing.{actDoing, plan-doing}
@@ -180,6 +181,9 @@ module _ {xs bs : List ℕ} {z : ℕ} where
   marking-as root m h f = record { values = f .values; bound = f .bound; root = h }
   marking-as (inner k) m h f = record { values = f .values; bound = f .bound; root = f .root }
 
+  going-as : {q : Order} (n : Name) (m : ℕ) → 0 < m → Loose xs bs (isRoot n) z q → As xs bs (isRoot n) z (going n m q)
+  going-as {q} n m h f = marking-as n (markWith (choiceOf n q) m) (with-live (choiceOf n q) m h) f
+
   -- the number of its fault
   causing-as : {b : Bool} {q : Order} (n : Name) (x : ℕ) → As xs bs b z q → As xs bs b z (causing n x q)
   causing-as root x f = record { values = f .values; bound = f .bound; root = f .root }
@@ -203,15 +207,16 @@ module _ {xs bs : List ℕ} {z : ℕ} (s : Scope) where
   out-handle : (q : Order) → Loose xs bs (isRoot (s .name)) z q → Out xs bs (isRoot (s .name)) z (handle s q)
   unfolding handle
   out-handle q f =
-      let o = marking (s .name) handling q in
-      as-over (begunIn o (begin (s .fault) (s .faultAt) (o .marks))) (ends s) (as-marks (begin (s .fault) (s .faultAt) (o .marks) .marks) (marking-as (s .name) handling refl f))
+      let o = going (s .name) handling q in
+      let b = begin (chosenPart (choiceOf (s .name) q) s) (chosenAt (choiceOf (s .name) q) s) (o .marks) in
+      as-over (begunIn o b) (ends s) (as-marks (b .marks) (going-as (s .name) handling (omega arith) f))
       (λ q g. out-ends q (loosely g))
 
   out-undoes : (w : Bool) (q : Order) → Loose xs bs (isRoot (s .name)) z q → Out xs bs (isRoot (s .name)) z (undoes w s q)
   unfolding undoes
   out-undoes true q f =
-      let o = marking (s .name) undoing q in
-      as-over (undo (rememberedFor s o) s o) (handle s) (as-undo (rememberedFor s o) s o (marking-as (s .name) undoing refl f)) (λ q g. out-handle q (loosely g))
+      let o = going (s .name) undoing q in
+      as-over (undo (rememberedFor s o) s o) (handle s) (as-undo (rememberedFor s o) s o (going-as (s .name) undoing (omega arith) f)) (λ q g. out-handle q (loosely g))
   out-undoes false q f =
       let o = marking (s .name) withdrawing q in
       as-over (undo (rememberedFor s o) s o) (ends s) (as-undo (rememberedFor s o) s o (marking-as (s .name) withdrawing refl f)) (λ q g. out-ends q (loosely g))
@@ -227,13 +232,13 @@ mutual
   as-stop : {xs bs : List ℕ} {z : ℕ} (a : Act) (k : ℕ) (q : Order) → As xs bs false z q → As xs bs false z (stop a k q .order)
   as-stop {xs} {bs} {z} (act own l) k q f =
       go (isScope own) (isOpen (markAt k q))
-      (inside-as (out-turns (scopeAt k l) false (stopFirst l (k + 1) (marked k halted q) .order) (as-stop-first l (k + 1) (marked k halted q) (as-marks _ f))))
+      (inside-as (out-turns (scopeAt (numbersOf own) k l) false (stopFirst l (k + 1) (marked k halted q) .order) (as-stop-first l (k + 1) (marked k halted q) (as-marks _ f))))
       (as-stop-all l (k + 1) (marked k idle q) (as-marks _ f))
     where
-      go : (x y : Bool) → As xs bs false z (withdraws k (scopeAt k l) (stopFirst l (k + 1) (marked k halted q)) .order) → As xs bs false z (stopAll l (k + 1) (marked k idle q) .order)
+      go : (x y : Bool) → As xs bs false z (withdraws k (scopeAt (numbersOf own) k l) (stopFirst l (k + 1) (marked k halted q)) .order) → As xs bs false z (stopAll l (k + 1) (marked k idle q) .order)
           → AsStopped xs bs z (elim x [
             | true ↦ elim y [
-              | true ↦ withdraws k (scopeAt k l) (stopFirst l (k + 1) (marked k halted q))
+              | true ↦ withdraws k (scopeAt (numbersOf own) k l) (stopFirst l (k + 1) (marked k halted q))
               | false ↦ untouched q
             ]
             | false ↦ stopAll l (k + 1) (marked k idle q)
@@ -267,8 +272,9 @@ module _ {xs bs : List ℕ} {z : ℕ} (s : Scope) where
   out-faults : (n : ℕ) (q : Order) → Loose xs bs (isRoot (s .name)) z q → Out xs bs (isRoot (s .name)) z (faults n s q)
   unfolding faults
   out-faults n q f =
-      let o = causing (s .name) n (marking (s .name) faulty q) in
-      let g : As xs bs (isRoot (s .name)) z o = causing-as (s .name) n (marking-as (s .name) faulty refl f) in
+      let m = markWith (choiceFor n s) faulty in
+      let o = causing (s .name) n (marking (s .name) m q) in
+      let g : As xs bs (isRoot (s .name)) z o = causing-as (s .name) n (marking-as (s .name) m (with-live (choiceFor n s) faulty (omega arith)) f) in
       let r = stop (s .body) (s .bodyAt) o in
       out-after (faulted (s .name) n ∷ r .log) (turns true s (r .order)) (out-turns s true (r .order) (as-out g (as-stop (s .body) (s .bodyAt) o (as-in g))))
 
@@ -279,7 +285,7 @@ module _ {xs bs : List ℕ} {z : ℕ} (s : Scope) where
   out-looks : (q : Order) → As xs bs (isRoot (s .name)) z q → Out xs bs (isRoot (s .name)) z (looksAgain s q)
   unfolding looksAgain
   out-looks q f =
-      out-pick (eqb (markOf (s .name) q) faulty) (turns true s q) (elim (eqb (markOf (s .name) q) halted) [ true ↦ turns false s q | false ↦ runs q ]) (λ e. out-turns s true q f)
+      out-pick (eqb (stateOf (s .name) q) faulty) (turns true s q) (elim (eqb (markOf (s .name) q) halted) [ true ↦ turns false s q | false ↦ runs q ]) (λ e. out-turns s true q f)
       (λ e. out-pick (eqb (markOf (s .name) q) halted) (turns false s q) (runs q) (λ d. out-turns s false q f) (λ d. out (runs q) f))
 
   out-body-over : (q : Order) → As xs bs (isRoot (s .name)) z q → Out xs bs (isRoot (s .name)) z (bodyOver s q)
@@ -295,21 +301,21 @@ module _ {xs bs : List ℕ} {z : ℕ} (s : Scope) where
   out-undo-over : (q : Order) → As xs bs (isRoot (s .name)) z q → Out xs bs (isRoot (s .name)) z (undoOver s q)
   unfolding undoOver
   out-undo-over q f =
-      out-pick (eqb (markOf (s .name) q) undoing) (undoes true s q) (elim (eqb (markOf (s .name) q) withdrawing) [ true ↦ undoes false s q | false ↦ runs q ]) (λ e. out-undoes s true q (loosely f))
+      out-pick (eqb (stateOf (s .name) q) undoing) (undoes true s q) (elim (eqb (markOf (s .name) q) withdrawing) [ true ↦ undoes false s q | false ↦ runs q ]) (λ e. out-undoes s true q (loosely f))
       (λ e. out-pick (eqb (markOf (s .name) q) withdrawing) (undoes false s q) (runs q) (λ d. out-undoes s false q (loosely f)) (λ d. out (runs q) f))
 
   out-undo-raised : (n : ℕ) (q : Order) → As xs bs (isRoot (s .name)) z q → Out xs bs (isRoot (s .name)) z (undoRaised n s q)
   unfolding undoRaised
   out-undo-raised n q f =
-      out-pick (eqb (markOf (s .name) q) undoing || eqb (markOf (s .name) q) withdrawing) (breaks n s q) (runs q) (λ e. out-breaks n q (loosely f)) (λ e. out (runs q) f)
+      out-pick (eqb (stateOf (s .name) q) undoing || eqb (markOf (s .name) q) withdrawing) (breaks n s q) (runs q) (λ e. out-breaks n q (loosely f)) (λ e. out (runs q) f)
 
   out-part-over : (q : Order) → As xs bs (isRoot (s .name)) z q → Out xs bs (isRoot (s .name)) z (partOver s q)
   unfolding partOver
-  out-part-over q f = out-pick (eqb (markOf (s .name) q) handling) (ends s q) (runs q) (λ e. out-ends s q (loosely f)) (λ e. out (runs q) f)
+  out-part-over q f = out-pick (eqb (stateOf (s .name) q) handling) (ends s q) (runs q) (λ e. out-ends s q (loosely f)) (λ e. out (runs q) f)
 
   out-part-raised : (n : ℕ) (q : Order) → As xs bs (isRoot (s .name)) z q → Out xs bs (isRoot (s .name)) z (partRaised n s q)
   unfolding partRaised
-  out-part-raised n q f = out-pick (eqb (markOf (s .name) q) handling) (breaks n s q) (runs q) (λ e. out-breaks n q (loosely f)) (λ e. out (runs q) f)
+  out-part-raised n q f = out-pick (eqb (stateOf (s .name) q) handling) (breaks n s q) (runs q) (λ e. out-breaks n q (loosely f)) (λ e. out (runs q) f)
 
   out-from-body : (r : Outcome) → As xs bs (isRoot (s .name)) z (r .order) → Out xs bs (isRoot (s .name)) z (fromBody s r)
   unfolding fromBody
@@ -362,7 +368,7 @@ setBy (repeat e) o = o
 setBy sequence o = o
 setBy flow o = o
 setBy pick o = o
-setBy (scope u) o = o
+setBy (scope ns u) o = o
 setBy (arm p q vs) o = o
 
 -- an order with the variables and the root of another
@@ -397,7 +403,7 @@ set-alike (repeat e) o q f = f
 set-alike sequence o q f = f
 set-alike flow o q f = f
 set-alike pick o q f = f
-set-alike (scope u) o q f = f
+set-alike (scope ns u) o q f = f
 set-alike (arm a b vs) o q f = f
 
 -- the step that an activity has by itself
@@ -440,7 +446,7 @@ alike-itself (repeat e) l c k o =
 alike-itself sequence l c k o = alike o
 alike-itself flow l c k o = alike o
 alike-itself pick l c k o = alike o
-alike-itself (scope u) l c k o = as-marks _ (as-remembering (closings (forgetting (scopeAt k l) o) ++ adds u c k (scopeAt k l) o) (alike o))
+alike-itself (scope ns u) l c k o = as-marks _ (as-remembering (closings (forgetting (scopeAt ns k l) o) ++ adds u c k (scopeAt ns k l) o) (alike o))
 alike-itself (arm p q vs) l c k o = as-marks _ (alike o)
 
 -- what stands around it
@@ -454,13 +460,13 @@ module _ {xs bs : List ℕ} {z : ℕ} where
   unfolding joins
   as-joins k l q f = as-pick (quiet (k + 1) (sizes l) (q .marks)) (finishes k q) (runs q) (as-marks _ f) f
 
-  as-in-scope : (undo : Bool) (k t : ℕ) (l : Acts) (r : Outcome) → As xs bs false z (r .order) → As xs bs false z (inScope undo k t l r .order)
+  as-in-scope : (ns : List ℕ) (undo : Bool) (k t : ℕ) (l : Acts) (r : Outcome) → As xs bs false z (r .order) → As xs bs false z (inScope ns undo k t l r .order)
   unfolding inScope fromUndo
-  as-in-scope undo k t l r f =
-      as-pick (ltb t (partAt 1 l (k + 1))) (elim (goesThrough undo k r) [ true ↦ r | false ↦ fromBody (scopeAt k l) r ])
-      (elim (ltb t (partAt 2 l (k + 1))) [ true ↦ fromFault (scopeAt k l) r | false ↦ fromUndo r ])
-      (as-pick (goesThrough undo k r) r (fromBody (scopeAt k l) r) f (inside-as (out-from-body (scopeAt k l) r f)))
-      (as-pick (ltb t (partAt 2 l (k + 1))) (fromFault (scopeAt k l) r) (fromUndo r) (inside-as (out-from-fault (scopeAt k l) r f)) f)
+  as-in-scope ns undo k t l r f =
+      as-pick (ltb t (partAt 1 l (k + 1))) (elim (goesThrough undo k r) [ true ↦ r | false ↦ fromBody (scopeAt ns k l) r ])
+      (elim (ltb t (partAt (undoPart ns) l (k + 1))) [ true ↦ fromFault (scopeAt ns k l) r | false ↦ fromUndo r ])
+      (as-pick (goesThrough undo k r) r (fromBody (scopeAt ns k l) r) f (inside-as (out-from-body (scopeAt ns k l) r f)))
+      (as-pick (ltb t (partAt (undoPart ns) l (k + 1))) (fromFault (scopeAt ns k l) r) (fromUndo r) (inside-as (out-from-fault (scopeAt ns k l) r f)) f)
 
   as-combines : (own : Own) (l : Acts) (k t : ℕ) (r : Outcome) → As xs bs false z (r .order) → As xs bs false z (combines own l k t r .order)
   unfolding combines
@@ -477,7 +483,7 @@ module _ {xs bs : List ℕ} {z : ℕ} where
       (λ q g. as-where (begunIn q (beginAfter l (k + 1) t (q .marks))) (finishes k) (as-marks (beginAfter l (k + 1) t (q .marks) .marks) g) (λ o h. as-marks _ h))
   as-combines flow l k t r f = as-goes k active (joins k l) r f (λ q g. as-joins k l q g)
   as-combines pick l k t r f = as-goes k inside (finishes k) r f (λ q g. as-marks _ g)
-  as-combines (scope u) l k t r f = as-in-scope u k t l r f
+  as-combines (scope ns u) l k t r f = as-in-scope ns u k t l r f
   as-combines (arm p q vs) l k t r f = f
 
 alike-arms : (own : Own) (l : Acts) (k t : ℕ) (o : Order) → Alike o (arms own l k t o)
@@ -511,7 +517,7 @@ replaced-set y (repeat e) o h = refl
 replaced-set y sequence o h = refl
 replaced-set y flow o h = refl
 replaced-set y pick o h = refl
-replaced-set y (scope u) o h = refl
+replaced-set y (scope ns u) o h = refl
 replaced-set y (arm p q vs) o h = refl
 
 -- what acts, or the raise in its place
@@ -612,7 +618,7 @@ set-live (repeat e) o = refl
 set-live sequence o = refl
 set-live flow o = refl
 set-live pick o = refl
-set-live (scope u) o = refl
+set-live (scope ns u) o = refl
 set-live (arm p q vs) o = refl
 
 -- an order that is live, and one with its variables and its root
@@ -704,7 +710,7 @@ taking-sets (act (repeat e) l) k o h = refl
 taking-sets (act sequence l) k o h = refl
 taking-sets (act flow l) k o h = refl
 taking-sets (act pick l) k o h = refl
-taking-sets (act (scope u) l) k o h = refl
+taking-sets (act (scope ns u) l) k o h = refl
 taking-sets (act (arm p q vs) l) k o h = refl
 
 goes-on : (e : End) (o q r : Order) → Goes None o q → Goes e q r → Goes e o r

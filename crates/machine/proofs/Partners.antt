@@ -12,10 +12,10 @@ use lib.ListN as lists
 use lib.Seq.{getD-set-same, getD-set-other}
 use Rattle.plan.specs.Found.{Found, found, among}
 use Rattle.plan.specs.Read.{readPlan, startForm}
-use Rattle.plan.specs.Spell.{spelling, operationCode}
+use Rattle.plan.specs.Spell.{spelling, operationCode, gapsOf, later, passing}
 use Rattle.plan.specs.Store.{store}
 use Rattle.plan.specs.Table.{row, rowOf, noted, putRow, nodesOf, putNode, putNodes, putOwnNodes, putOwn, putClose, put, putAll, blankTable, bodyPlace, tableOver, tableOf}
-use Rattle.plan.specs.Tree.{Exp, constant, variable, binary, Own, empty, send, receive, set, raise, leave, choose, repeat, sequence, flow, pick, scope, arm, kind, Act, act, Acts, none, more, Plan, size, sizes}
+use Rattle.plan.specs.Tree.{Exp, constant, variable, binary, Own, empty, send, receive, set, raise, leave, choose, repeat, sequence, flow, pick, scope, arm, kind, numbersOf, Act, act, Acts, none, more, Plan, size, sizes}
 use Rattle.plan.specs.Within.{from1, ascending, actWithin, planWithin}
 use Rattle.plan.proofs.Accepts.{both, among-append}
 use Rattle.plan.proofs.Kept.{But, store-but}
@@ -109,8 +109,9 @@ module _ (q : ℕ) (small : q < 64) where
     own-flag sequence = row-flag _ n t (omega arith) h
     own-flag flow = row-flag _ n t (omega arith) h
     own-flag pick = row-flag _ n t (omega arith) h
-    own-flag (scope true) = row-flag _ n t (omega arith) h
-    own-flag (scope false) = row-flag _ n t (omega arith) h
+    own-flag (scope [] true) = row-flag _ n t (omega arith) h
+    own-flag (scope [] false) = row-flag _ n t (omega arith) h
+    own-flag (scope (x ∷ ns) v) = row-flag _ n t (omega arith) h
     own-flag (arm p o vs) =
         let a = row-flag (row 255 p o vs 0 0 at) n t (omega arith) h in
         flag-then a (partner-flag p _ (a .long ∙ long))
@@ -121,14 +122,14 @@ module _ (q : ℕ) (small : q < 64) where
     put-flag : (a : Act) (at n m : ℕ) (t : List ℕ) → length t ≡ 11584 → n + size a ≤ 256 → Flag q (partnersIn a) t (put a at n m t)
     put-flag (act own l) at n m t h g =
         let a = own-flag l at n m t h (omega arith) own in
-        let b = putAll-flag l _ (n + 1) _ _ (a .long ∙ h) (omega arith) in
+        let b = putAll-flag (gapsOf (numbersOf own)) l _ (n + 1) _ _ (a .long ∙ h) (omega arith) in
         flag-kept (flag-then a b) (close-flag n _ _ _ (omega arith))
 
-    putAll-flag : (l : Acts) (at n m : ℕ) (t : List ℕ) → length t ≡ 11584 → n + sizes l ≤ 256 → Flag q (partnersAmong l) t (putAll l at n m t)
-    putAll-flag none at n m t h g = flag-same t
-    putAll-flag (more a l) at n m t h g =
-        let b = put-flag a at n m t h (omega arith) in
-        flag-then b (putAll-flag l _ (n + size a) _ _ (b .long ∙ h) (omega arith))
+    putAll-flag : (gs : List (List ℕ)) (l : Acts) (at n m : ℕ) (t : List ℕ) → length t ≡ 11584 → n + sizes l ≤ 256 → Flag q (partnersAmong l) t (putAll gs l at n m t)
+    putAll-flag gs none at n m t h g = flag-same t
+    putAll-flag gs (more a l) at n m t h g =
+        let b = put-flag a (passing gs at) n m t h (omega arith) in
+        flag-then b (putAll-flag (later gs) l _ (n + size a) _ _ (b .long ∙ h) (omega arith))
 
   told : (b : Bool) {x y : ℕ} → x ≡ cond b 1 y → y ≡ 0 → eqb x 1 ≡ b
   told true e z = rw e
@@ -137,7 +138,7 @@ module _ (q : ℕ) (small : q < 64) where
   table-flag : (p : Plan) → size (p .body) + size (p .fault) ≤ 256 → eqb (getD (tableOf p) (3328 + q) 0) 1 ≡ among q (partnersOf p)
   unfolding tableOver partnersOf partnersIn size
   table-flag p h =
-      let a = putAll-flag (more (p .body) (more (p .fault) none)) (bodyPlace p) 0 0 blankTable (length-replicate {A = ℕ} 11584 0) (omega arith) in
+      let a = putAll-flag [] (more (p .body) (more (p .fault) none)) (bodyPlace p) 0 0 blankTable (length-replicate {A = ℕ} 11584 0) (omega arith) in
       let b = rw append-nil at (a .flag) in
       told (among q (partnersIn (p .body) ++ partnersIn (p .fault))) b (getD-replicate {A = ℕ} 11584 (3328 + q) 0 0 (omega arith))
 

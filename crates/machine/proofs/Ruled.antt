@@ -1,8 +1,8 @@
 -- The returns of the functions that decide whether the numbers of a state are within their limits. Assumes nothing.
 use mathlib.Core.Path.{_≡_, refl, sym, ap, _∙_}
-use mathlib.Core.Bool.{Bool, true, false, cond, not, _&&_, _||_, and-false}
+use mathlib.Core.Bool.{Bool, true, false, cond, not, _&&_, _||_, and-false, or-true, or-false, false≢true}
 use mathlib.Core.List.{List, [], _∷_}
-use Prim.Native.Nat.{ℕ, zero, suc, _+_, _<_, _≤_}
+use Prim.Native.Nat.{ℕ, zero, suc, _+_, _%_, _<_, _≤_}
 use native.Mathlib.Numerals.{add-one}
 use native.Mathlib.Omega.{arith}
 use borrow.Author.Tests.{lt-ltb, le-ltb, le-leb, lt-leb, leb-true, eq-eqb, ne-eqb, not-true, not-false}
@@ -15,9 +15,10 @@ use Rattle.order.specs.declared.Order.{Order}
 use Rattle.machine.specs.declared.State.{State}
 use Rattle.order.specs.Expression.{isFaultNumber}
 use Rattle.order.specs.Lists.{every}
-use Rattle.order.specs.State.{idle, active, faulty, undoing, handling, withdrawing}
+use Rattle.order.specs.State.{idle, active, faulty, undoing, handling, withdrawing, stateIn}
 use Rattle.machine.specs.State.{letters}
-use Rattle.machine.specs.Limits.{exchanged, messageInLimits, rootInLimits, orderInLimits, inLimits}
+use Rattle.machine.specs.Planned.{Bare}
+use Rattle.machine.specs.Limits.{exchanged, messageInLimits, rootInLimits, markInLimits, orderInLimits, inLimits}
 
 -- `exchange_ruled`
 module _ (p o n : ℕ) where
@@ -124,6 +125,27 @@ module _ {A : Type 0} {f : A → Bool} {l : List A} {whole : Bool} {n i : ℕ} (
   pub call-holds : not b ≡ false → Tested f l whole n (i + 1)
   call-holds q = tested-holds a d h (sym e ∙ not-false b q)
 
+-- `is_chosen`
+chosen-of : (s : ℕ) → leb 4 s ≡ true → leb s 6 ≡ among s (faulty ∷ undoing ∷ handling ∷ [])
+unfolding among
+chosen-of zero h = absurd (false≢true h)
+chosen-of (suc zero) h = absurd (false≢true h)
+chosen-of (suc (suc zero)) h = absurd (false≢true h)
+chosen-of (suc (suc (suc zero))) h = absurd (false≢true h)
+chosen-of (suc (suc (suc (suc zero)))) h = refl
+chosen-of (suc (suc (suc (suc (suc zero))))) h = refl
+chosen-of (suc (suc (suc (suc (suc (suc zero)))))) h = refl
+chosen-of (suc (suc (suc (suc (suc (suc (suc s))))))) h =
+    let k = suc (suc (suc (suc (suc (suc (suc s)))))) in
+    rw (lt-leb k 6 (omega arith), ne-eqb k 4 (λ e. omega arith), ne-eqb k 5 (λ e. omega arith), ne-eqb k 6 (λ e. omega arith))
+
+pub chosen-not : (m : ℕ) → m % 16 < 4 → false ≡ among (m % 16) (faulty ∷ undoing ∷ handling ∷ [])
+unfolding among
+chosen-not m h = rw (ne-eqb (m % 16) 4 (λ e. omega arith), ne-eqb (m % 16) 5 (λ e. omega arith), ne-eqb (m % 16) 6 (λ e. omega arith))
+
+pub chosen-so : (m : ℕ) → 4 ≤ m % 16 → leb (m % 16) 6 ≡ among (m % 16) (faulty ∷ undoing ∷ handling ∷ [])
+chosen-so m h = chosen-of (m % 16) (le-leb 4 (m % 16) h)
+
 -- `root_ruled`
 pub root-runs : (m : ℕ) → m < 2 → true ≡ rootInLimits m
 unfolding rootInLimits among
@@ -131,33 +153,44 @@ root-runs zero h = refl
 root-runs (suc zero) h = refl
 root-runs (suc (suc m)) h = absurd (omega arith)
 
-pub root-not : (m : ℕ) → 2 ≤ m → m < 4 → false ≡ rootInLimits m
+pub root-undoes : (m : ℕ) {r : Bool} → 2 ≤ m → r ≡ among (stateIn m) (faulty ∷ undoing ∷ handling ∷ []) → r ≡ rootInLimits m
 unfolding rootInLimits among
-root-not zero h l = absurd (omega arith)
-root-not (suc zero) h l = absurd (omega arith)
-root-not (suc (suc zero)) h l = refl
-root-not (suc (suc (suc zero))) h l = refl
-root-not (suc (suc (suc (suc m)))) h l = absurd (omega arith)
+root-undoes m h e = rw (ne-eqb m 0 (λ z. omega arith), ne-eqb m 1 (λ z. omega arith)) e
 
-pub root-undoes : (m : ℕ) → 4 ≤ m → leb m 6 ≡ rootInLimits m
-unfolding rootInLimits among
-root-undoes zero h = absurd (omega arith)
-root-undoes (suc zero) h = absurd (omega arith)
-root-undoes (suc (suc zero)) h = absurd (omega arith)
-root-undoes (suc (suc (suc zero))) h = absurd (omega arith)
-root-undoes (suc (suc (suc (suc zero)))) h = refl
-root-undoes (suc (suc (suc (suc (suc zero))))) h = refl
-root-undoes (suc (suc (suc (suc (suc (suc zero)))))) h = refl
-root-undoes (suc (suc (suc (suc (suc (suc (suc m))))))) h =
-    let k = suc (suc (suc (suc (suc (suc (suc m)))))) in
-    rw (
-      lt-leb k 6 (omega arith),
-      ne-eqb k 0 (λ e. omega arith),
-      ne-eqb k 1 (λ e. omega arith),
-      ne-eqb k 4 (λ e. omega arith),
-      ne-eqb k 5 (λ e. omega arith),
-      ne-eqb k 6 (λ e. omega arith),
-    )
+-- `bare`
+pub bare-chosen : (m : ℕ) {r : Bool} → r ≡ among (stateIn m) (faulty ∷ undoing ∷ handling ∷ []) → r ≡ true → Bare m 0
+unfolding markInLimits
+bare-chosen m e t = record { is = rw (sym e ∙ t) (sym (or-true (leb m withdrawing))) }
+
+pub bare-other : (m : ℕ) {r : Bool} → r ≡ among (stateIn m) (faulty ∷ undoing ∷ handling ∷ []) → r ≡ false → Bare m m
+unfolding markInLimits
+bare-other m e t = record { is = rw (sym e ∙ t) (sym (or-false (leb m withdrawing))) }
+
+-- `marks_ruled`: all marks are within their limits if the largest of those before the place i, without their choices, is at most 8, and all from there on are
+pub record Ruling (l : List ℕ) (i largest : ℕ) : Type 0 where
+  pub same : every markInLimits l ≡ (leb largest 8 && every markInLimits (drop i l))
+
+pub ruling-starts : (l : List ℕ) → Ruling l 0 0
+ruling-starts l = record { same = refl }
+
+module _ {l : List ℕ} {i largest : ℕ} (a : Ruling l i largest) where
+  pub ruling-more : i < length l → {b r : ℕ} → Bare (getD l i 0) b → ((n : ℕ) → leb r n ≡ (leb largest n && leb b n)) → Ruling l (i + 1) r
+  unfolding every
+  ruling-more h {b} {r} e f = record {
+    same = a .same ∙ rw (drop-cons l i 0 h, add-one i, f 8, e .is) (grouped (leb largest 8) (markInLimits (getD l i 0)) _);
+  }
+    where
+      grouped : (x y z : Bool) → (x && (y && z)) ≡ ((x && y) && z)
+      grouped true y z = refl
+      grouped false y z = refl
+
+  pub ruling-done : length l ≤ i → leb largest 8 ≡ every markInLimits l
+  unfolding every
+  ruling-done h = sym (a .same ∙ rw (drop-of-length-le l h) (alone (leb largest 8)))
+    where
+      alone : (x : Bool) → (x && true) ≡ x
+      alone true = refl
+      alone false = refl
 
 -- `message_ruled`
 module _ (m : Message) {r : Bool} (e : r ≡ exchanged (m .partner) (m .operation) (m .count)) where
@@ -188,7 +221,7 @@ module _ (o : Order) {a : Bool} (ea : a ≡ rootInLimits (o .root)) where
   unfolding orderInLimits
   order-root t = rw (sym ea ∙ not-true a t)
 
-  module _ {b : Bool} (ta : not a ≡ false) (eb : b ≡ every (λ m. leb m 8) (o .marks)) where
+  module _ {b : Bool} (ta : not a ≡ false) (eb : b ≡ every markInLimits (o .marks)) where
     pub order-marks : not b ≡ true → false ≡ orderInLimits o
     unfolding orderInLimits
     order-marks t = rw (sym ea ∙ not-false a ta, sym eb ∙ not-true b t)

@@ -2,6 +2,7 @@
 use super::Message;
 use super::State;
 use order::Order;
+use order::mark;
 use plan::Answer;
 use plan::table::LENGTH;
 use plan::table::Table;
@@ -9,12 +10,16 @@ ghost use Prim.Native.Nat.{ℕ, _≤_};
 ghost use lib.Dec.{eqb, leb};
 ghost use lib.ListN.{length, drop, take};
 ghost use mathlib.Core.Bool.{_&&_};
+ghost use mathlib.Core.List.{[], _∷_};
 ghost use mathlib.Core.Path.{_≡_};
+ghost use Rattle.plan.specs.Found.{among};
 ghost use Rattle.plan.specs.Answers.{answerOf, tableInto, flagsFor};
 ghost use Rattle.plan.specs.Read.{readPlan};
 ghost use Rattle.order.specs.Expression.{isFaultNumber};
 ghost use Rattle.order.specs.Lists.{every};
-ghost use Rattle.machine.specs.Limits.{exchanged, messageInLimits, rootInLimits, orderInLimits, inLimits, planIn};
+ghost use Rattle.order.specs.State.{faulty, undoing, handling, stateIn};
+ghost use Rattle.machine.specs.Planned.{Bare};
+ghost use Rattle.machine.specs.Limits.{exchanged, messageInLimits, rootInLimits, markInLimits, orderInLimits, inLimits, planIn};
 
 // Whether a partner, an operation and a count of values are within their rules.
 pub fn exchange_ruled(partner: u32, operation: u32, count: u32) -> bool
@@ -57,6 +62,17 @@ fn message_ruled(m: Message) -> bool
     false
 }
 
+// Whether a mark is that of a scope that faulted, which has a choice of a fault part beside it: faulty, undoing or handling.
+fn is_chosen(mark: u8) -> bool
+    ensures { λ r. ⌜ r ≡ among (stateIn mark) (faulty ∷ undoing ∷ handling ∷ []) ⌝ }
+{
+    let state = mark % 16;
+    if state < mark::FAULTY {
+        return false;
+    }
+    state <= mark::HANDLING
+}
+
 // The mark of the root.
 fn root_ruled(mark: u8) -> bool
     ensures { λ r. ⌜ r ≡ rootInLimits mark ⌝ }
@@ -64,10 +80,18 @@ fn root_ruled(mark: u8) -> bool
     if mark < 2 {
         return true;
     }
-    if mark < 4 {
-        return false;
+    is_chosen(mark)
+}
+
+// A mark without a choice that it may have: at most 8 where it is within its limits. A state saved before there were choices has none, and is within them as
+// it was.
+fn bare(mark: u8) -> u8
+    ensures { λ r. ⌜ Bare mark r ⌝ }
+{
+    if is_chosen(mark) {
+        return 0;
     }
-    mark <= 6
+    mark
 }
 
 // The larger of two numbers.
@@ -93,6 +117,19 @@ fn at_most(s: &[u8], most: u8) -> bool
     largest <= most
 }
 
+// The marks of the activities, all of them looked at likewise.
+fn marks_ruled(marks: &[u8]) -> bool
+    ensures { λ r. ⌜ r ≡ every markInLimits (now (marks .entry)) ⌝ }
+{
+    let mut largest = 0u8;
+    let mut i = 0;
+    while i < marks.len() {
+        largest = larger(largest, bare(marks[i]));
+        i += 1;
+    }
+    largest <= 8
+}
+
 // The number of a fault: 0 to 4, and 16 and beyond.
 fn fault_ruled(number: u8) -> bool
     ensures { λ r. ⌜ r ≡ isFaultNumber number ⌝ }
@@ -110,7 +147,7 @@ fn order_ruled(o: Order) -> bool
     if !root_ruled(o.root) {
         return false;
     }
-    if !at_most(&o.marks, 8) {
+    if !marks_ruled(&o.marks) {
         return false;
     }
     if !at_most(&o.bound, 1) {

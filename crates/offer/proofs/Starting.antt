@@ -136,7 +136,7 @@ start-own free p o y (repeat e) w k c = refl
 start-own free p o y sequence w k c = refl
 start-own free p o y flow w k c = refl
 start-own free p o y pick w k c = refl
-start-own free p o y (scope u) w k c = refl
+start-own free p o y (scope ns u) w k c = refl
 start-own free p o y (arm a b vs) w k c = one-start free (y .place) (fits p o a b vs (y .message)) k c
 
 start-line : (free : ℕ) (p : Plan) (l : List Letter) (o : Order) (y : Letter) (x : Line) (c : Sight)

@@ -14,6 +14,7 @@ use Rattle.plan.specs.Spells.{Spells, variablesOf}
 use Rattle.plan.specs.Table.{rowOf}
 use Rattle.plan.specs.Tree.{Own, empty, send, receive, set as setting, raise, leave, choose, repeat, sequence, flow, pick, scope, arm, kind, Act, act, Acts, none, more, Plan}
 use Rattle.order.specs.declared.Order.{Order}
+use Rattle.plan.proofs.TableSpells.{row-variables}
 use Rattle.order.specs.Answering.{scopeKind, Spelled}
 use Rattle.order.specs.Awaited.{Doing, noStep, sends, takes, moves, cuts, closes, doingOf, awaits, Ready, readyOf}
 use Rattle.order.specs.Judging.{isThing, isSecond, Verdict, clear, clash, clashAfter, conflict}
@@ -232,7 +233,7 @@ taken-at t (receive a b vs) l k at q h s f e =
       operation = b;
       variables = vs;
       is = refl;
-      row = record { inside = h; partner = s .row .partner; operation = s .row .operation; count = s .row .count; variables = s .row .variables };
+      row = record { inside = h; partner = s .row .partner; operation = s .row .operation; count = s .row .count; variables = λ i g. s .row .variables i g ∙ row-variables (receive a b vs) q at i refl g };
       few = f;
     }
 taken-at t (setting v x) l k at q h s f e = absurd (false≢true e)
@@ -244,15 +245,16 @@ taken-at t (repeat x) l k at q h s f e = absurd (false≢true e)
 taken-at t sequence l k at q h s f e = absurd (false≢true e)
 taken-at t flow l k at q h s f e = absurd (false≢true e)
 taken-at t pick l k at q h s f e = absurd (false≢true e)
-taken-at t (scope true) l k at q h s f e = absurd (false≢true e)
-taken-at t (scope false) l k at q h s f e = absurd (false≢true e)
+taken-at t (scope [] true) l k at q h s f e = absurd (false≢true e)
+taken-at t (scope [] false) l k at q h s f e = absurd (false≢true e)
+taken-at t (scope (n ∷ ns) v) l k at q h s f e = absurd (false≢true e)
 taken-at t (arm a b vs) l k at q h s f e =
     record {
       partner = a;
       operation = b;
       variables = vs;
       is = refl;
-      row = record { inside = h; partner = s .row .partner; operation = s .row .operation; count = s .row .count; variables = s .row .variables };
+      row = record { inside = h; partner = s .row .partner; operation = s .row .operation; count = s .row .count; variables = λ i g. s .row .variables i g ∙ row-variables (arm a b vs) q at i refl g };
       few = f;
     }
 
@@ -270,7 +272,7 @@ no-thing (repeat x) l k e a b vs = refl
 no-thing sequence l k e a b vs = refl
 no-thing flow l k e a b vs = refl
 no-thing pick l k e a b vs = refl
-no-thing (scope v) l k e a b vs = refl
+no-thing (scope ns v) l k e a b vs = refl
 no-thing (arm x y ws) l k e a b vs = absurd (false≢true (sym e))
 
 no-second : (own : Own) (l : Acts) (k : ℕ) → receives own ≡ false → (before : List Ready) → isSecond before (doingOf own l k) ≡ false
@@ -287,7 +289,7 @@ no-second (repeat x) l k e before = refl
 no-second sequence l k e before = refl
 no-second flow l k e before = refl
 no-second pick l k e before = refl
-no-second (scope v) l k e before = refl
+no-second (scope ns v) l k e before = refl
 no-second (arm x y ws) l k e before = absurd (false≢true (sym e))
 
 -- what stands in the first n rows of a list stays there where the n-th is set

@@ -3,16 +3,16 @@ use Prim.Native.Nat.{ℕ, zero, suc, _+_, _≤_, _<_}
 use native.Mathlib.Omega.{arith}
 use mathlib.Core.Path.{_≡_, refl, sym, ap, subst, _∙_}
 use mathlib.Core.Bool.{Bool, true, false, cond, _&&_, _||_, false≢true, or-true}
-use mathlib.Core.List.{List, _∷_, _++_}
+use mathlib.Core.List.{List, [], _∷_, _++_}
 use lib.ListN.{getD, set}
 use lib.Seq.{getD-set-other}
 use lib.Dec.{eqb, ltb}
 use borrow.Author.Tests.{eqb-true, eqb-false, eq-eqb, ne-eqb, lt-ltb, le-ltb, ltb-true, ltb-false}
-use Rattle.plan.specs.Tree.{Exp, Own, empty, send, receive, set as setting, raise, leave, choose, repeat, sequence, flow, pick, scope, arm, kind, isScope, isPick, isArm, Act, act, Acts, none, more, Plan, size, sizes}
+use Rattle.plan.specs.Tree.{Exp, Own, empty, send, receive, set as setting, raise, leave, choose, repeat, sequence, flow, pick, scope, arm, kind, scopeCode, undoPart, isScope, isPick, isArm, Act, act, Acts, none, more, Plan, size, sizes}
 use Rattle.order.specs.declared.Order.{Order}
 use Rattle.order.specs.declared.Way.{Way as Result}
 use Rattle.order.specs.declared.Way.the-variants.{Running as running, Over as over, Raising as raising, Leaving as leaving, Undone as undone, UndoRaising as undoRaising}
-use Rattle.order.specs.State.{idle, active, inside, done, undoing, handling, withdrawing, Name, root, inner, withMarks, marked, markAt, markOf}
+use Rattle.order.specs.State.{idle, active, inside, done, undoing, handling, withdrawing, Name, root, inner, withMarks, marked, markAt, markOf, stateOf}
 use Rattle.order.specs.Event.{Event}
 use Rattle.order.specs.Expression.{conflictingReceive}
 use Rattle.order.specs.Begin.{Begun, beginAfter, part, partAt, quiet, cleared}
@@ -25,11 +25,11 @@ use Rattle.plan.proofs.ByKind.{kind-pick}
 use Rattle.order.proofs.Standing.{first-at}
 use Rattle.laws.proofs.Numbers.{isCalm, Calm, calm-looks, calm-body-over, calm-body-raised}
 use Rattle.settling.proofs.Parts.{both, decide, first-of, second-of}
-use Rattle.settling.proofs.Formed.{parts, Formed, formed-part, formed-scope, FormedIn, formed-none, formed-more}
+use Rattle.settling.proofs.Formed.{Formed, formed-part, formed-scope, FormedIn, formed-none, formed-more}
 use Rattle.settling.proofs.Waiting.{opens, Waits, waits-itself, waits-within, WaitsIn, waits-first, waits-later}
 use Rattle.settling.proofs.Knowing.{Arms, Knows, knows, KnowsIn, knows-none, knows-more, part-from, arm-open}
 use Rattle.settling.proofs.Clashing.{isTake, doing-here, doing-within, doing-among, doing-later}
-use Rattle.settling.proofs.Lower.{Same, same-itself, same-then, same-less, same-set, endWith, same-after, same-cleared, rank-set, Low, low-itself, low-then, low-less, Owns, own-at, own-root, Under, Lowered, stays, lowers, again-lowered, over-lowered, breaks-lowered, raised-lowered}
+use Rattle.settling.proofs.Lower.{Same, same-itself, same-then, same-less, same-set, endWith, same-after, same-cleared, rank-set, rank-above, Low, low-itself, low-then, low-less, Owns, own-at, own-root, Under, Lowered, stays, lowers, again-lowered, over-lowered, breaks-lowered, raised-lowered}
 
 -- the first mark that changes falls, from b on and before e
 pub record Falls (f : ℕ → ℕ) (b e : ℕ) (ms ns : List ℕ) : Type 0 where
@@ -214,7 +214,7 @@ fell-combines f h own within k t o r s n w = go own s n
         goes active (λ o₁. whereOver (finishes k) (begunIn o₁ (beginAfter within (k + 1) t (o₁ .marks)))) (λ o₁ d. goes-sequence f k t within o₁ (omega (arith, z .0)) d)
     go flow s n = goes active (joins k within) (λ o₁ d. goes-flow f k _ within o₁ d)
     go pick s n = goes inside (finishes k) (λ o₁ d. goes-finishes f k _ inside o₁ (inside-some (f k)) d)
-    go (scope v) s n = absurd (false≢true (sym s))
+    go (scope ns v) s n = absurd (false≢true (sym s))
     go (arm a b vs) s n = plainly
 
 -- Scopes.
@@ -237,8 +237,8 @@ part-lowered : (x : ℕ) (s : Scope) (b : ℕ) → Owns s b
     → (o : Order) → Lowered s b o (partRaised x s o) × (isPlain (partRaised x s o .result) ≡ true)
 unfolding partRaised breaks rank
 part-lowered x s b h f o =
-    decide (eqb (markOf (s .name) o) handling)
-    (λ e. rw (e, partRaised) (breaks-lowered s b h x o (subst (λ (m : ℕ). 0 < rank 11 m) (sym (eqb-true (markOf (s .name) o) handling e)) (omega arith)) f, refl))
+    decide (eqb (stateOf (s .name) o) handling)
+    (λ e. rw (e, partRaised) (breaks-lowered s b h x o (rank-above 11 (markOf (s .name) o) handling 0 e (omega arith) (omega arith)) f, refl))
     (λ e. rw (e, partRaised) (stays refl, refl))
 
 undo-lowered : (x : ℕ) (s : Scope) (b : ℕ) → Owns s b
@@ -246,8 +246,8 @@ undo-lowered : (x : ℕ) (s : Scope) (b : ℕ) → Owns s b
     → (o : Order) → Lowered s b o (undoRaised x s o) × (isPlain (undoRaised x s o .result) ≡ true)
 unfolding undoRaised breaks rank
 undo-lowered x s b h f o =
-    decide (eqb (markOf (s .name) o) undoing)
-    (λ e. rw (e, undoRaised) (breaks-lowered s b h x o (subst (λ (m : ℕ). 0 < rank 11 m) (sym (eqb-true (markOf (s .name) o) undoing e)) (omega arith)) f, refl))
+    decide (eqb (stateOf (s .name) o) undoing)
+    (λ e. rw (e, undoRaised) (breaks-lowered s b h x o (rank-above 11 (markOf (s .name) o) undoing 0 e (omega arith) (omega arith)) f, refl))
     (λ e. decide (eqb (markOf (s .name) o) withdrawing)
     (λ d. rw (e, undoRaised, d) (breaks-lowered s b h x o (subst (λ (m : ℕ). 0 < rank 11 m) (sym (eqb-true (markOf (s .name) o) withdrawing d)) (omega arith)) f, refl))
     (λ d. rw (e, undoRaised, d) (stays refl, refl)))
@@ -278,16 +278,16 @@ module _ (s : Scope) (b : ℕ) (h : Owns s b)
       (let u = part-lowered n s b h f (r .order) in (lowered-after (r .log) (r .order) (partRaised n s (r .order)) (u .0), u .1))
 
 -- a scope with a number: what fell in it still does, or it does itself
-fell-scope : (f : ℕ → ℕ) (k d : ℕ) (within : Acts) (o : Order) (h : Bool) (r r₁ : Outcome) → ((m : ℕ) → rank (f k) m ≡ rank 11 m) → k < d → Fell f h (k + 1) d o r
-    → Lowered (scopeAt k within) k (r .order) r₁ → isPlain (r₁ .result) ≡ true → Fell f false k d o r₁
-fell-scope f k d within o h r r₁ n v w (stays e) y =
+fell-scope : (f : ℕ → ℕ) (ns : List ℕ) (k d : ℕ) (within : Acts) (o : Order) (h : Bool) (r r₁ : Outcome) → ((m : ℕ) → rank (f k) m ≡ rank 11 m) → k < d → Fell f h (k + 1) d o r
+    → Lowered (scopeAt ns k within) k (r .order) r₁ → isPlain (r₁ .result) ≡ true → Fell f false k d o r₁
+fell-scope f ns k d within o h r r₁ n v w (stays e) y =
     record {
       falls = subst (λ (x : Order). Falls f k d (o .marks) (x .marks)) (sym e) (falls-wider (omega arith) (omega arith) (w .falls));
       root = ap (λ (x : Order). x .root) e ∙ w .root;
       plain = y;
       out = λ z. absurd (false≢true z);
     }
-fell-scope f k d within o h r r₁ n v w (lowers i u) y =
+fell-scope f ns k d within o h r r₁ n v w (lowers i u) y =
     record {
       falls = record {
         at = k;
@@ -325,7 +325,7 @@ raised-receive (repeat x) within q k o h = absurd (false≢true h)
 raised-receive sequence within q k o h = absurd (false≢true h)
 raised-receive flow within q k o h = absurd (false≢true h)
 raised-receive pick within q k o h = absurd (false≢true h)
-raised-receive (scope u) within q k o h = absurd (false≢true h)
+raised-receive (scope ns u) within q k o h = absurd (false≢true h)
 raised-receive (arm x y vs) within q k o h = refl
 
 -- a receive that awaits its step is active
@@ -343,7 +343,7 @@ receive-active (repeat x) within k b m h a w = absurd (false≢true h)
 receive-active sequence within k b m h a w = absurd (false≢true h)
 receive-active flow within k b m h a w = absurd (false≢true h)
 receive-active pick within k b m h a w = absurd (false≢true h)
-receive-active (scope u) within k b m h a w = absurd (false≢true h)
+receive-active (scope ns u) within k b m h a w = absurd (false≢true h)
 receive-active (arm x y vs) within k b m h a w = absurd (false≢true (sym a))
 
 -- the definitions, by where the step is
@@ -400,12 +400,12 @@ Deep (act own within) k t = isArm own ≡ true → k ≡ t → ⊥
 
 pub no-arm : {h : Bool} {a : Act} (k t : ℕ) → Formed h false a → Deep a k t
 no-arm k t (formed-part s n l) = λ e d. false≢true (sym n ∙ e)
-no-arm k t (formed-scope hb hg hu) = λ e d. false≢true e
+no-arm k t (formed-scope hb hl) = λ e d. false≢true e
 
 deep-first : {h : Bool} (r : Bool) {a : Act} (l : Acts) (c t : ℕ) → Formed h r a → (r && isPart (more a l) c t) ≡ false → Deep a c t
 unfolding isPart
 deep-first r l c t (formed-part s n y) d = λ e q. false≢true (sym d ∙ rw (sym n ∙ e, eq-eqb c t q))
-deep-first r l c t (formed-scope hb hg hu) d = λ e q. false≢true e
+deep-first r l c t (formed-scope hb hl) d = λ e q. false≢true e
 
 deep-later : (r x y : Bool) → (r && (x || y)) ≡ false → (r && y) ≡ false
 deep-later true true y d = absurd (false≢true (sym d))
@@ -431,7 +431,7 @@ raise-through (repeat x) within k t o s = refl
 raise-through sequence within k t o s = refl
 raise-through flow within k t o s = refl
 raise-through pick within k t o s = refl
-raise-through (scope v) within k t o s = absurd (false≢true (sym s))
+raise-through (scope ns v) within k t o s = absurd (false≢true (sym s))
 raise-through (arm x y vs) within k t o s = refl
 
 -- what a pick is when one of its arms acts
@@ -477,100 +477,97 @@ part-falls f h own within q k t o s x z e y i g =
         subst (λ (o₁ : Order). Fell f h k (k + (1 + sizes within)) o (combines own within k t (stepAmong inPlace within (isScope own) q (k + 1) t o₁))) (sym (arms-so own within k t o false d))
         (fell-combines f h own within k t o (stepAmong inPlace within (isScope own) q (k + 1) t o) s x (g d))
 
--- in which part of a scope
-module _ (v : Bool) (b g : Act) (l : Acts) (k t : ℕ) (r : Outcome) where
+-- in which part of a scope: its body, or one after it
+module _ (ns : List ℕ) (v : Bool) (b : Act) (l : Acts) (k t : ℕ) (r : Outcome) where
   abbrev around-it : Scope
-  around-it = scopeAt k (parts b g l)
+  around-it = scopeAt ns k (more b l)
 
   abbrev in-it : Outcome
   in-it = elim (goesThrough v k r) [ true ↦ r | false ↦ fromBody around-it r ]
 
   abbrev after-it : Outcome
-  after-it = elim (ltb t (partAt 0 l (k + 1 + size b + size g))) [ true ↦ fromFault around-it r | false ↦ fromUndo r ]
+  after-it = elim (ltb t (partAt (undoPart ns) (more b l) (k + 1))) [ true ↦ fromFault around-it r | false ↦ fromUndo r ]
 
-  scope-body : t < k + 1 + size b → inScope v k t (parts b g l) r ≡ in-it
-  unfolding inScope partAt
-  scope-body e = first-of (ltb t (k + 1 + size b)) in-it after-it (inScope v k t (parts b g l) r) refl (lt-ltb t (k + 1 + size b) e)
+  behind-body : partAt 1 (more b l) (k + 1) ≡ k + 1 + size b
+  unfolding partAt
+  behind-body = first-at l (k + 1 + size b)
 
-  scope-rest : k + 1 + size b ≤ t → inScope v k t (parts b g l) r ≡ after-it
-  unfolding inScope partAt
-  scope-rest e = second-of (ltb t (k + 1 + size b)) in-it after-it (inScope v k t (parts b g l) r) refl (le-ltb t (k + 1 + size b) e)
+  scope-body : t < k + 1 + size b → inScope ns v k t (more b l) r ≡ in-it
+  unfolding inScope
+  scope-body e =
+      first-of (ltb t (partAt 1 (more b l) (k + 1))) in-it after-it (inScope ns v k t (more b l) r) refl (lt-ltb t (partAt 1 (more b l) (k + 1)) (omega (arith, behind-body)))
 
-  scope-fault : k + 1 + size b ≤ t → t < k + 1 + size b + size g → inScope v k t (parts b g l) r ≡ fromFault around-it r
-  scope-fault e d =
-      scope-rest e
-      ∙ first-of (ltb t (partAt 0 l (k + 1 + size b + size g))) (fromFault around-it r) (fromUndo r) after-it refl
-      (lt-ltb t (partAt 0 l (k + 1 + size b + size g)) (omega (arith, first-at l (k + 1 + size b + size g))))
-
-  scope-undo : k + 1 + size b + size g ≤ t → inScope v k t (parts b g l) r ≡ fromUndo r
-  scope-undo e =
-      scope-rest (omega arith)
-      ∙ second-of (ltb t (partAt 0 l (k + 1 + size b + size g))) (fromFault around-it r) (fromUndo r) after-it refl
-      (le-ltb t (partAt 0 l (k + 1 + size b + size g)) (omega (arith, first-at l (k + 1 + size b + size g))))
+  scope-rest : k + 1 + size b ≤ t → inScope ns v k t (more b l) r ≡ after-it
+  unfolding inScope
+  scope-rest e =
+      second-of (ltb t (partAt 1 (more b l) (k + 1))) in-it after-it (inScope ns v k t (more b l) r) refl (le-ltb t (partAt 1 (more b l) (k + 1)) (omega (arith, behind-body)))
 
 -- clearing a scope's numbers
 clears : (k : ℕ) (within : Acts) (o : Order)
     → rank 11 (markOf (inner k) (withMarks (cleared k (1 + sizes within) (o .marks)) o)) ≤ rank 11 (markOf (inner k) o)
 clears k within o = cleared-rank (1 + sizes within) k (o .marks)
 
--- a scope has one rank, with an undo part or with none
-scope-rank : (v : Bool) (n : ℕ) → n ≡ kind (scope v) → (m : ℕ) → rank n m ≡ rank 11 m
+-- a scope has one rank, whatever its parts
+scope-rank : (ns : List ℕ) (v : Bool) (n : ℕ) → n ≡ kind (scope ns v) → (m : ℕ) → rank n m ≡ rank 11 m
 unfolding rank kind
-scope-rank true n e m = rw e
-scope-rank false n e m = rw e
+scope-rank [] true n e m = rw e
+scope-rank [] false n e m = rw e
+scope-rank (x ∷ ns) v n e m = rw e
 
 -- a scope, by where the raise is
-module _ (f : ℕ → ℕ) (v : Bool) (b g : Act) (l : Acts) (q k t : ℕ) (o : Order) (n : f k ≡ kind (scope v)) where
+module _ (f : ℕ → ℕ) (ns : List ℕ) (v : Bool) (b : Act) (l : Acts) (q k t : ℕ) (o : Order) (n : f k ≡ kind (scope ns v)) where
   abbrev Whole : ℕ
-  Whole = k + (1 + sizes (parts b g l))
+  Whole = k + (1 + sizes (more b l))
 
   fell-body : t < k + 1 + size b → Fell f false (k + 1) (k + 1 + size b) o (stepIn inPlace b (k + 1) (k + 1) t o)
-      → Fell f false k Whole o (inScope v k t (parts b g l) (stepAmong inPlace (parts b g l) true q (k + 1) t o))
+      → Fell f false k Whole o (inScope ns v k t (more b l) (stepAmong inPlace (more b l) true q (k + 1) t o))
   unfolding size
   fell-body e w =
-      subst (λ (x : Outcome). Fell f false k (k + (1 + sizes (parts b g l))) o x)
-      (sym (ap (inScope v k t (parts b g l)) (first-among true q b (more g l) (k + 1) t o e) ∙ scope-body v b g l k t r e))
+      subst (λ (x : Outcome). Fell f false k (k + (1 + sizes (more b l))) o x)
+      (sym (ap (inScope ns v k t (more b l)) (first-among true q b l (k + 1) t o e) ∙ scope-body ns v b l k t r e))
       (go (goesThrough v k r))
     where
       r : Outcome
       r = stepIn inPlace b (k + 1) (k + 1) t o
 
       -- what goes through a scope leaves it as it is
-      go : (x : Bool) → Fell f false k (k + (1 + sizes (parts b g l))) o (elim x as (λ _. Outcome) [ true ↦ r | false ↦ fromBody (scopeAt k (parts b g l)) r ])
+      go : (x : Bool) → Fell f false k (k + (1 + sizes (more b l))) o (elim x as (λ _. Outcome) [ true ↦ r | false ↦ fromBody (scopeAt ns k (more b l)) r ])
       go true = fell-wider (omega arith) (omega arith) w
       go false =
-          let z = body-lowered (scopeAt k (parts b g l)) k (own-at k (parts b g l)) (clears k (parts b g l)) r (w .plain) in
-          fell-scope f k (k + (1 + sizes (parts b g l))) (parts b g l) o false r (fromBody (scopeAt k (parts b g l)) r) (scope-rank v (f k) n) (omega arith) (fell-wider (omega arith) (omega arith) w) (z .0) (z .1)
+          let z = body-lowered (scopeAt ns k (more b l)) k (own-at ns k (more b l)) (clears k (more b l)) r (w .plain) in
+          fell-scope f ns k (k + (1 + sizes (more b l))) (more b l) o false r (fromBody (scopeAt ns k (more b l)) r) (scope-rank ns v (f k) n) (omega arith) (fell-wider (omega arith) (omega arith) w) (z .0) (z .1)
 
-  fell-fault : k + 1 + size b ≤ t → t < k + 1 + size b + size g → Fell f true (k + 1 + size b) (k + 1 + size b + size g) o (stepIn inPlace g (k + 1 + size b) (k + 1 + size b) t o)
-      → Fell f false k Whole o (inScope v k t (parts b g l) (stepAmong inPlace (parts b g l) true q (k + 1) t o))
-  unfolding size
-  fell-fault e d w =
-      let r = stepIn inPlace g (k + 1 + size b) (k + 1 + size b) t o in
-      let z = fault-lowered (scopeAt k (parts b g l)) k (own-at k (parts b g l)) (clears k (parts b g l)) r (w .out refl) in
-      subst (λ (x : Outcome). Fell f false k (k + (1 + sizes (parts b g l))) o x)
-      (sym (ap (inScope v k t (parts b g l)) (later-among true q b (more g l) (k + 1) t o e ∙ first-among true q g l (k + 1 + size b) t o d) ∙ scope-fault v b g l k t r e d))
-      (fell-scope f k (k + (1 + sizes (parts b g l))) (parts b g l) o true r (fromFault (scopeAt k (parts b g l)) r) (scope-rank v (f k) n) (omega arith) (fell-wider (omega arith) (omega arith) w) (z .0) (z .1))
-
-  fell-undo : k + 1 + size b + size g ≤ t
-      → Fell f true (k + 1 + size b + size g) (endWith l (k + 1 + size b + size g) t) o (stepAmong inPlace l true q (k + 1 + size b + size g) t o)
-      → Fell f false k Whole o (inScope v k t (parts b g l) (stepAmong inPlace (parts b g l) true q (k + 1) t o))
+  -- in a fault part, or in the undo part
+  fell-rest : k + 1 + size b ≤ t → Fell f true (k + 1 + size b) (endWith l (k + 1 + size b) t) o (stepAmong inPlace l true q (k + 1 + size b) t o)
+      → Fell f false k Whole o (inScope ns v k t (more b l) (stepAmong inPlace (more b l) true q (k + 1) t o))
   unfolding size fromUndo
-  fell-undo e w =
-      let r = stepAmong inPlace l true q (k + 1 + size b + size g) t o in
-      subst (λ (x : Outcome). Fell f false k (k + (1 + sizes (parts b g l))) o x)
-      (sym (ap (inScope v k t (parts b g l)) (later-among true q b (more g l) (k + 1) t o (omega arith) ∙ later-among true q g l (k + 1 + size b) t o e) ∙ scope-undo v b g l k t r e))
-      (record {
-        falls = falls-wider (omega arith) (omega (arith, end-within l (k + 1 + size b + size g) t .1)) (w .falls);
-        root = w .root;
-        plain = subst (λ (x : Result). isPlain (fromUndo (record { result = x; order = r .order; log = r .log }) .result) ≡ true) (sym (w .out refl)) refl;
-        out = λ y. absurd (false≢true y);
-      })
+  fell-rest e w =
+      subst (λ (x : Outcome). Fell f false k (k + (1 + sizes (more b l))) o x)
+      (sym (ap (inScope ns v k t (more b l)) (later-among true q b l (k + 1) t o e) ∙ scope-rest ns v b l k t r e))
+      (go (ltb t (partAt (undoPart ns) (more b l) (k + 1))))
+    where
+      r : Outcome
+      r = stepAmong inPlace l true q (k + 1 + size b) t o
+
+      wide : Fell f true (k + 1) (k + (1 + sizes (more b l))) o r
+      wide = fell-wider (omega arith) (omega (arith, end-within l (k + 1 + size b) t .1)) w
+
+      go : (x : Bool) → Fell f false k (k + (1 + sizes (more b l))) o (elim x as (λ _. Outcome) [ true ↦ fromFault (scopeAt ns k (more b l)) r | false ↦ fromUndo r ])
+      go true =
+          let z = fault-lowered (scopeAt ns k (more b l)) k (own-at ns k (more b l)) (clears k (more b l)) r (w .out refl) in
+          fell-scope f ns k (k + (1 + sizes (more b l))) (more b l) o true r (fromFault (scopeAt ns k (more b l)) r) (scope-rank ns v (f k) n) (omega arith) wide (z .0) (z .1)
+      go false =
+          record {
+            falls = falls-wider (omega arith) (omega arith) (wide .falls);
+            root = w .root;
+            plain = subst (λ (x : Result). isPlain (fromUndo (record { result = x; order = r .order; log = r .log }) .result) ≡ true) (sym (w .out refl)) refl;
+            out = λ y. absurd (false≢true y);
+          }
 
 -- a scope takes no message
-scope-no-take : (v : Bool) (within : Acts) (k : ℕ) → isTake (doingOf (scope v) within k) ≡ false
+scope-no-take : (ns : List ℕ) (v : Bool) (within : Acts) (k : ℕ) → isTake (doingOf (scope ns v) within k) ≡ false
 unfolding isTake doingOf
-scope-no-take v within k = refl
+scope-no-take ns v within k = refl
 
 -- by other names
 take-as : {x y : Doing} → x ≡ y → isTake x ≡ true → isTake y ≡ true
@@ -581,10 +578,10 @@ among-as : (f : ℕ → ℕ) (h : Bool) (l : Acts) (p : Bool) (q c t : ℕ) (o :
 among-as f h l p q c t o {e} {r} x y w =
     subst (λ (z : Outcome). Fell f h c (endWith l c t) o z) (sym y) (subst (λ (z : ℕ). Fell f h c z o r) (sym x) w)
 
-in-scope : (v : Bool) (b g : Act) (l : Acts) (q k t : ℕ) (o : Order) → k < t
-    → stepIn inPlace (act (scope v) (parts b g l)) q k t o ≡ inScope v k t (parts b g l) (stepAmong inPlace (parts b g l) true q (k + 1) t o)
+in-scope : (ns : List ℕ) (v : Bool) (l : Acts) (q k t : ℕ) (o : Order) → k < t
+    → stepIn inPlace (act (scope ns v) l) q k t o ≡ inScope ns v k t l (stepAmong inPlace l true q (k + 1) t o)
 unfolding combines arms
-in-scope v b g l q k t o e = deeper (scope v) (parts b g l) q k t o e
+in-scope ns v l q k t o e = deeper (scope ns v) l q k t o e
 
 mutual
   unfolding size rank
@@ -608,19 +605,15 @@ mutual
   step-falls {f} {h} (formed-part {own = own} {within = within} s g l) (knows {k = k} x z w) q t o (waits-within e y) i d =
       part-falls f h own within q k t o s x z e y (subst (λ (u : Doing). isTake u ≡ true) (doing-within own within k t e) i)
       (λ c. among-falls l w (isScope own) q t o y (subst (λ (u : Doing). isTake u ≡ true) (doing-within own within k t e) i) c)
-  step-falls {f} {h} (formed-scope {v = v} {b = b} {f = g} {l = l} hb hg hl) (knows {k = k} x z (knows-more kb (knows-more kg kl))) q t o (waits-itself e y) i d =
-      absurd (false≢true (sym (scope-no-take v (parts b g l) k) ∙ subst (λ (v : Doing). isTake v ≡ true) (ap (λ (j : ℕ). doingIn (act (scope v) (parts b g l)) k j) (sym e) ∙ doing-here (scope v) (parts b g l) k) i))
-  step-falls {f} {h} (formed-scope {v = v} {b = b} {f = g} {l = l} hb hg hl) (knows {k = k} x z (knows-more kb (knows-more kg kl))) q t o (waits-within e (waits-first u w)) i d =
-      subst (λ (r : Outcome). Fell f false k (k + (1 + sizes (parts b g l))) o r) (sym (in-scope v b g l q k t o e))
-      (fell-body f v b g l q k t o x u (step-falls hb kb (k + 1) t o w (take-as (doing-within (scope v) (parts b g l) k t e ∙ doing-among b (more g l) (k + 1) t u) i) (no-arm (k + 1) t hb)))
-  step-falls {f} {h} (formed-scope {v = v} {b = b} {f = g} {l = l} hb hg hl) (knows {k = k} x z (knows-more kb (knows-more kg kl))) q t o (waits-within e (waits-later u (waits-first u₁ w))) i d =
-      subst (λ (r : Outcome). Fell f false k (k + (1 + sizes (parts b g l))) o r) (sym (in-scope v b g l q k t o e))
-      (fell-fault f v b g l q k t o x u u₁
-      (step-falls hg kg (k + 1 + size b) t o w (take-as (doing-within (scope v) (parts b g l) k t e ∙ (doing-later b (more g l) (k + 1) t u ∙ doing-among g l (k + 1 + size b) t u₁)) i) (no-arm (k + 1 + size b) t hg)))
-  step-falls {f} {h} (formed-scope {v = v} {b = b} {f = g} {l = l} hb hg hl) (knows {k = k} x z (knows-more kb (knows-more kg kl))) q t o (waits-within e (waits-later u (waits-later u₁ w))) i d =
-      subst (λ (r : Outcome). Fell f false k (k + (1 + sizes (parts b g l))) o r) (sym (in-scope v b g l q k t o e))
-      (fell-undo f v b g l q k t o x u₁
-      (among-falls hl kl true q t o w (take-as (doing-within (scope v) (parts b g l) k t e ∙ (doing-later b (more g l) (k + 1) t u ∙ doing-later g l (k + 1 + size b) t u₁)) i) refl))
+  step-falls {f} {h} (formed-scope {ns = ns} {v = v} {b = b} {l = l} hb hl) (knows {k = k} x z (knows-more kb kl)) q t o (waits-itself e y) i d =
+      absurd (false≢true (sym (scope-no-take ns v (more b l) k)
+      ∙ subst (λ (v : Doing). isTake v ≡ true) (ap (λ (j : ℕ). doingIn (act (scope ns v) (more b l)) k j) (sym e) ∙ doing-here (scope ns v) (more b l) k) i))
+  step-falls {f} {h} (formed-scope {ns = ns} {v = v} {b = b} {l = l} hb hl) (knows {k = k} x z (knows-more kb kl)) q t o (waits-within e (waits-first u w)) i d =
+      subst (λ (r : Outcome). Fell f false k (k + (1 + sizes (more b l))) o r) (sym (in-scope ns v (more b l) q k t o e))
+      (fell-body f ns v b l q k t o x u (step-falls hb kb (k + 1) t o w (take-as (doing-within (scope ns v) (more b l) k t e ∙ doing-among b l (k + 1) t u) i) (no-arm (k + 1) t hb)))
+  step-falls {f} {h} (formed-scope {ns = ns} {v = v} {b = b} {l = l} hb hl) (knows {k = k} x z (knows-more kb kl)) q t o (waits-within e (waits-later u w)) i d =
+      subst (λ (r : Outcome). Fell f false k (k + (1 + sizes (more b l))) o r) (sym (in-scope ns v (more b l) q k t o e))
+      (fell-rest f ns v b l q k t o x u (among-falls hl kl true q t o w (take-as (doing-within (scope ns v) (more b l) k t e ∙ doing-later b l (k + 1) t u) i) refl))
 
   among-falls : {f : ℕ → ℕ} {h r b : Bool} {l : Acts} {c : ℕ} → FormedIn h r l → KnowsIn f l c → (p : Bool) (q t : ℕ) (o : Order) → WaitsIn (o .marks) l c t b → isTake (doingAmong l c t) ≡ true
       → (r && isPart l c t) ≡ false

@@ -10,19 +10,15 @@ use borrow.Author.Tests.{eqb-true, not-true, leb-true}
 use Rattle.plan.specs.Read.{laterOf}
 use Rattle.plan.specs.Spell.{spelling}
 use Rattle.plan.specs.Tree.{Own, empty, send, receive, set as setting, raise, leave, choose, repeat, sequence, flow, pick, scope, arm, isScope, isPick, isArm, Act, act, Acts, none, more, Plan, size, count}
-use Rattle.plan.specs.Within.{from1, ownWithin, actWithin, actsWithin, levelsBelow, ascending, planWithin}
+use Rattle.plan.specs.Within.{from1, scopeParts, ownWithin, actWithin, actsWithin, levelsBelow, ascending, planWithin}
 use Rattle.order.proofs.Standing.{own-scope}
 use Rattle.settling.proofs.Parts.{both, decide}
-
--- the parts of a scope: its body, its fault part and, where it has one, its undo part
-abbrev pub parts : (body fault : Act) → (last : Acts) → Acts
-parts b f l = more b (more f l)
 
 -- The form of a tree: `h` holds in a handler, where there is no scope; `r` holds of an arm.
 mutual
   pub data Formed : (h r : Bool) → Act → Type 0 where
     formed-part : {h r : Bool} {own : Own} {within : Acts} → isScope own ≡ false → isArm own ≡ r → FormedIn h (isPick own) within → Formed h r (act own within)
-    formed-scope : {v : Bool} {b f : Act} {l : Acts} → Formed false false b → Formed true false f → FormedIn true false l → Formed false false (act (scope v) (parts b f l))
+    formed-scope : {ns : List ℕ} {v : Bool} {b : Act} {l : Acts} → Formed false false b → FormedIn true false l → Formed false false (act (scope ns v) (more b l))
 
   pub data FormedIn : (h r : Bool) → Acts → Type 0 where
     formed-none : {h r : Bool} → FormedIn h r none
@@ -43,39 +39,30 @@ own-formed vars cs h r (repeat x) n e s = sym (not-true r (both (not r) _ e (λ 
 own-formed vars cs h r sequence n e s = sym (not-true r (both (not r) _ e (λ x y. x)))
 own-formed vars cs h r flow n e s = sym (not-true r (both (not r) _ e (λ x y. x)))
 own-formed vars cs h r pick n e s = sym (not-true r (both (not r) _ e (λ x y. x)))
-own-formed vars cs h r (scope v) n e s = absurd (false≢true (sym s))
+own-formed vars cs h r (scope ns v) n e s = absurd (false≢true (sym s))
 own-formed vars cs h r (arm x y vs) n e s = sym (both r _ e (λ x y. x))
 
--- the first of some, and the others
-formed-first : {h r : Bool} {a : Act} {l : Acts} → FormedIn h r (more a l) → Formed h r a
-formed-first (formed-more x y) = x
-
-formed-rest : {h r : Bool} {a : Act} {l : Acts} → FormedIn h r (more a l) → FormedIn h r l
-formed-rest (formed-more x y) = y
-
 -- a scope's parts
-scoped : (h r v : Bool) (l : Acts) → h ≡ false → r ≡ false → 1 < count l
-    → ((a : Act) (x : Acts) → l ≡ more a x → Formed false false a) → ((a : Act) (x : Acts) → l ≡ more a x → FormedIn true false x) → Formed h r (act (scope v) l)
+scoped : (h r : Bool) (ns : List ℕ) (v : Bool) (l : Acts) → h ≡ false → r ≡ false → 0 < count l
+    → ((a : Act) (x : Acts) → l ≡ more a x → Formed false false a) → ((a : Act) (x : Acts) → l ≡ more a x → FormedIn true false x) → Formed h r (act (scope ns v) l)
 unfolding count
-scoped h r v none e w d f g = absurd (omega arith)
-scoped h r v (more a none) e w d f g = absurd (omega arith)
-scoped h r v (more a (more b l)) e w d f g =
-    let y = g a (more b l) refl in
-    subst (λ (z : Bool). Formed z r (act (scope v) (parts a b l))) (sym e)
-    (subst (λ (z : Bool). Formed false z (act (scope v) (parts a b l))) (sym w) (formed-scope (f a (more b l) refl) (formed-first y) (formed-rest y)))
+scoped h r ns v none e w d f g = absurd (omega arith)
+scoped h r ns v (more a l) e w d f g =
+    subst (λ (z : Bool). Formed z r (act (scope ns v) (more a l))) (sym e)
+    (subst (λ (z : Bool). Formed false z (act (scope ns v) (more a l))) (sym w) (formed-scope (f a l refl) (g a l refl)))
 
 -- a scope within the limits
-formed-scope-own : (vars : ℕ) (cs : List ℕ) (h r v : Bool) (l : Acts) → ownWithin vars cs h r (scope v) (count l) ≡ true
-    → (((a : Act) (x : Acts) → l ≡ more a x → Formed h false a) × ((a : Act) (x : Acts) → l ≡ more a x → FormedIn true false x)) → Formed h r (act (scope v) l)
+formed-scope-own : (vars : ℕ) (cs : List ℕ) (h r : Bool) (ns : List ℕ) (v : Bool) (l : Acts) → ownWithin vars cs h r (scope ns v) (count l) ≡ true
+    → (((a : Act) (x : Acts) → l ≡ more a x → Formed h false a) × ((a : Act) (x : Acts) → l ≡ more a x → FormedIn true false x)) → Formed h r (act (scope ns v) l)
 unfolding ownWithin
-formed-scope-own vars cs h r v l e f =
-    both (not r) _ e (λ x y. both (eqb (count l) (cond v 3 2)) (not h) y (λ c d.
-    let z : h ≡ false = not-true h d in
-    scoped h r v l z (not-true r x) (two v (eqb-true (count l) (cond v 3 2) c)) (λ a x g. subst (λ (b : Bool). Formed b false a) z (f .0 a x g)) (f .1)))
+formed-scope-own vars cs h r ns v l e f =
+    both (not r) _ e (λ x y. both (eqb (count l) (scopeParts ns v)) _ y (λ c d. both (not h) _ d (λ i j.
+    let z : h ≡ false = not-true h i in
+    scoped h r ns v l z (not-true r x) (some v (eqb-true (count l) (scopeParts ns v) c)) (λ a x g. subst (λ (b : Bool). Formed b false a) z (f .0 a x g)) (f .1))))
   where
-    two : (v : Bool) → count l ≡ cond v 3 2 → 1 < count l
-    two true e = omega arith
-    two false e = omega arith
+    some : (v : Bool) → count l ≡ scopeParts ns v → 0 < count l
+    some true e = omega arith
+    some false e = omega arith
 
 -- A tree within the limits has this form.
 mutual
@@ -88,7 +75,7 @@ mutual
       decide (isScope own)
       (λ s. own-scope (λ o. ownWithin vars cs h r o (count l) ≡ true
       → (((a : Act) (x : Acts) → l ≡ more a x → Formed h (isPick o) a) × ((a : Act) (x : Acts) → l ≡ more a x → FormedIn (laterOf o h) (isPick o) x)) → Formed h r (act o l))
-      (λ v z f. formed-scope-own vars cs h r v l z f) own s z (formed-parts vars cs h (laterOf own h) (isPick own) l (levelsBelow r depth) w))
+      (λ ns v z f. formed-scope-own vars cs h r ns v l z f) own s z (formed-parts vars cs h (laterOf own h) (isPick own) l (levelsBelow r depth) w))
       (λ s. formed-part s (own-formed vars cs h r own (count l) z s)
       (formed-all vars cs h (isPick own) l (levelsBelow r depth)
       (subst (λ (b : Bool). actsWithin vars cs h b (isPick own) l (levelsBelow r depth) ≡ true) (ap (λ (b : Bool). b || h) s) w)))))

@@ -10,7 +10,7 @@ use Rattle.plan.specs.Tree.{Own, scope, kind, isPick, isArm, Act, act, Acts, no
 use Rattle.order.specs.Acting.{isPart}
 use Rattle.order.specs.Awaited.{awaits, kindIn, kindAmong, kindAt}
 use Rattle.settling.proofs.Parts.{or-case, first-of, second-of}
-use Rattle.settling.proofs.Formed.{parts, Formed, formed-part, formed-scope, FormedIn, formed-none, formed-more, Shaped}
+use Rattle.settling.proofs.Formed.{Formed, formed-part, formed-scope, FormedIn, formed-none, formed-more, Shaped}
 use Rattle.settling.proofs.Waiting.{WaitsIn, waits-first, waits-later, waits-itself, waits-within}
 
 -- all of these are arms, or none is
@@ -49,12 +49,12 @@ module _ (f : ℕ → ℕ) where
   arms-in : {h r : Bool} {l : Acts} → FormedIn h r l → Arms r l
   arms-in formed-none = tt
   arms-in (formed-more (formed-part s i y) z) = (i, arms-in z)
-  arms-in (formed-more (formed-scope x y w) z) = (refl, arms-in z)
+  arms-in (formed-more (formed-scope x w) z) = (refl, arms-in z)
 
   -- no part of a scope is an arm
   not-arms : {h : Bool} {a : Act} (l : Acts) → Formed h false a → Arms false l → Arms false (more a l)
   not-arms l (formed-part s i y) z = (i, z)
-  not-arms l (formed-scope x y w) z = (refl, z)
+  not-arms l (formed-scope x w) z = (refl, z)
 
   mutual
     unfolding size kind
@@ -63,15 +63,13 @@ module _ (f : ℕ → ℕ) where
     knows-in (formed-part {own = own} {within = within} s i y) k d =
         knows (d k (omega arith) (omega arith) ∙ kind-here own within k) (arms-in y)
         (knows-all y (k + 1) (λ t u v. d t (omega arith) (omega arith) ∙ kind-within own within k t (omega arith)))
-    knows-in (formed-scope {v = v} {b = b} {f = g} {l = l} x y z) k d =
-        knows (d k (omega arith) (omega arith) ∙ kind-here (scope v) (parts b g l) k) (not-arms (more g l) x (not-arms l y (arms-in z)))
-        (knows-more (knows-in x (k + 1) (λ t u w. e t (omega arith) (omega arith) ∙ kind-first b (more g l) (k + 1) t (omega arith)))
-        (knows-more (knows-in y (k + 1 + size b) (λ t u w. e t (omega arith) (omega arith) ∙ (kind-later b (more g l) (k + 1) t (omega arith) ∙ kind-first g l (k + 1 + size b) t (omega arith))))
-        (knows-all z (k + 1 + size b + size g) (λ t u w. e t (omega arith) (omega arith)
-        ∙ (kind-later b (more g l) (k + 1) t (omega arith) ∙ kind-later g l (k + 1 + size b) t (omega arith))))))
+    knows-in (formed-scope {ns = ns} {v = v} {b = b} {l = l} x z) k d =
+        knows (d k (omega arith) (omega arith) ∙ kind-here (scope ns v) (more b l) k) (not-arms l x (arms-in z))
+        (knows-more (knows-in x (k + 1) (λ t u w. e t (omega arith) (omega arith) ∙ kind-first b l (k + 1) t (omega arith)))
+        (knows-all z (k + 1 + size b) (λ t u w. e t (omega arith) (omega arith) ∙ kind-later b l (k + 1) t (omega arith))))
       where
-        e : (t : ℕ) → k < t → t < k + size (act (scope v) (parts b g l)) → f t ≡ kindAmong (parts b g l) (k + 1) t
-        e t u w = d t (omega arith) w ∙ kind-within (scope v) (parts b g l) k t u
+        e : (t : ℕ) → k < t → t < k + size (act (scope ns v) (more b l)) → f t ≡ kindAmong (more b l) (k + 1) t
+        e t u w = d t (omega arith) w ∙ kind-within (scope ns v) (more b l) k t u
 
     knows-all : {h r : Bool} {l : Acts} → FormedIn h r l → (c : ℕ) → ((t : ℕ) → c ≤ t → t < c + sizes l → f t ≡ kindAmong l c t) → KnowsIn f l c
     knows-all formed-none c d = knows-none

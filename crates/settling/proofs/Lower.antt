@@ -1,5 +1,5 @@
 -- What begins, stops or undoes leaves the marks below it as they were. Of every order, whether it stands or not. Assumes nothing.
-use Prim.Native.Nat.{ℕ, zero, suc, _+_, _≤_, _<_}
+use Prim.Native.Nat.{ℕ, zero, suc, _+_, _-_, _≤_, _<_}
 use native.Mathlib.Omega.{arith}
 use mathlib.Core.Path.{_≡_, refl, sym, ap, subst, _∙_}
 use mathlib.Core.Bool.{Bool, true, false, cond, not}
@@ -8,16 +8,17 @@ use lib.ListN.{length, getD, set, length-set, List·getD-eq-default}
 use lib.Seq.{getD-set-other, getD-set-same}
 use lib.Dec.{eqb, ltb}
 use borrow.Author.Tests.{eqb-true, ltb-true, ltb-false}
-use Rattle.plan.specs.Tree.{Exp, Own, empty, send, receive, set as setting, raise, leave, choose, repeat, sequence, flow, pick, scope, arm, isScope, hasUndo, Act, act, Acts, none, more, Plan, size, sizes}
+use Rattle.plan.specs.Tree.{Exp, Own, empty, send, receive, set as setting, raise, leave, choose, repeat, sequence, flow, pick, scope, arm, isScope, hasUndo, numbersOf, generalPart, undoPart, Act, act, Acts, none, more, Plan, size, sizes}
 use Rattle.order.specs.declared.Closing.{Closing}
 use Rattle.order.specs.declared.Order.{Order}
 use Rattle.order.specs.declared.Way.{Way as Result}
 use Rattle.order.specs.declared.Way.the-variants.{Running as running, Over as over, Raising as raising, Leaving as leaving, Undone as undone, UndoRaising as undoRaising}
 use Rattle.order.specs.Lists.{only, withoutLast}
-use Rattle.order.specs.State.{idle, active, done, faulty, undoing, handling, halted, withdrawing, Name, root, inner, withMarks, marked, markAt, markOf, marking, causing, closings, remembering}
+use Rattle.order.specs.State.{idle, active, done, faulty, undoing, handling, halted, withdrawing, Name, root, inner, withMarks, marked, markAt, markOf, marking, markWith, stateIn, stateOf, choiceOf, going, causing, closings, remembering}
 use Rattle.order.specs.Begin.{Begun, nothingBegun, awaiting, throughout, around, itsBeginning, inTurn, sideBySide, begin, beginInTurn, beginAll, beginFirst, beginAfter, part, partAt, beginPart, cleared}
-use Rattle.order.specs.Scope.{Outcome, runs, after, begunIn, whereOver, Scope, scopeAt, rootOf, isFor, isOpen, innerRuns, rememberedFor, forgetting, beginUndo, beginUndoFirst, beginUndoIn, startUndo, undo, ends, handle, undoes, turns, withdraws, faults, breaks, looksAgain, bodyOver, bodyRaised, Stopped, untouched, alsoStopped, stop, stopAll, stopFirst}
+use Rattle.order.specs.Scope.{Outcome, runs, after, begunIn, whereOver, Scope, scopeAt, behind, byNumber, choiceFor, chosenPart, chosenAt, rootOf, isFor, isOpen, innerRuns, rememberedFor, forgetting, beginUndo, beginUndoFirst, beginUndoIn, startUndo, undo, ends, handle, undoes, turns, withdraws, faults, breaks, looksAgain, bodyOver, bodyRaised, Stopped, untouched, alsoStopped, stop, stopAll, stopFirst}
 use Rattle.order.specs.Judging.{rank}
+use Rattle.order.proofs.Chosen.{state-alone, state-with}
 use Rattle.settling.proofs.Parts.{decide}
 
 -- the marks below b are the same
@@ -82,7 +83,7 @@ mutual
   same-begin (act flow within) b k ms e =
       same-throughout k (beginAll within (k + 1) (set ms k active)) e (same-then (same-set b k active ms e) (same-begin-all within b (k + 1) (set ms k active) (omega arith)))
   same-begin (act pick within) b k ms e = same-set b k active ms e
-  same-begin (act (scope v) within) b k ms e =
+  same-begin (act (scope ns v) within) b k ms e =
       same-around k (beginFirst within (k + 1) (set ms k active)) e (same-then (same-set b k active ms e) (same-begin-first within b (k + 1) (set ms k active) (omega arith)))
   same-begin (act (arm p o vs) within) b k ms e = same-itself b ms
 
@@ -135,10 +136,10 @@ mutual
     where
       go : (x y z : Bool) → Same b ms (beginUndoFirst within (k + 1) e ms .marks) → Same b ms (beginUndoIn within (k + 1) e ms .marks)
           → Same b ms (elim x as (λ _. Begun) [
-            | true ↦ cond y (cond z (beginPart 2 within (k + 1) ms) (nothingBegun ms)) (beginUndoFirst within (k + 1) e ms)
+            | true ↦ cond y (cond z (beginPart (undoPart (numbersOf own)) within (k + 1) ms) (nothingBegun ms)) (beginUndoFirst within (k + 1) e ms)
             | false ↦ beginUndoIn within (k + 1) e ms
           ] .marks)
-      go true true true f g = same-part 2 within b (k + 1) ms (omega arith)
+      go true true true f g = same-part (undoPart (numbersOf own)) within b (k + 1) ms (omega arith)
       go true true false f g = same-itself b ms
       go true false z f g = f
       go false y z f g = g
@@ -198,6 +199,17 @@ rank-set n k v ms =
     (λ e. subst (λ (x : ℕ). rank n x ≤ rank n v) (sym (getD-set-same ms k v 0 (ltb-true k (length ms) e))) (omega arith))
     (λ e. subst (λ (x : ℕ). rank n x ≤ rank n v) (sym (List·getD-eq-default (set ms k v) 0 {n = k} (omega (arith, ltb-false k (length ms) e, length-set ms k v)))) (omega arith))
 
+-- the rank of a mark is that of the one of the nine that it is
+rank-of : (n m s : ℕ) → stateIn m ≡ s → s < 16 → rank n m ≡ rank n s
+unfolding rank
+rank-of n m s e h = rw (state-alone s h, ← e)
+
+pub rank-above : (n m s x : ℕ) → eqb (stateIn m) s ≡ true → s < 16 → x < rank n s → x < rank n m
+rank-above n m s x e h g = omega (arith, rank-of n m s (eqb-true (stateIn m) s e) h, g)
+
+rank-with : (n c m : ℕ) → m < 16 → rank n (markWith c m) ≡ rank n m
+rank-with n c m h = rank-of n (markWith c m) m (state-with c m h) h
+
 -- A scope's own mark, and the marks below it: the root's is the root's mark, with none below.
 abbrev RootOf : Name → Order → Order → Type 0
 RootOf root o o′ = Unit {0}
@@ -217,13 +229,13 @@ mark-remembering (inner k) l o = refl
 
 pub record Owns (s : Scope) (b : ℕ) : Type 0 where
   pub keeps : (o o′ : Order) → Low (s .bodyAt) o o′ → markOf (s .name) o′ ≡ markOf (s .name) o
-  pub heals : (o o′ : Order) → Low (s .faultAt) o o′ → markOf (s .name) o′ ≡ markOf (s .name) o
+  pub heals : (c : ℕ) (o o′ : Order) → Low (chosenAt c s) o o′ → markOf (s .name) o′ ≡ markOf (s .name) o
   pub puts : (m : ℕ) (o : Order) → rank 11 (markOf (s .name) (marking (s .name) m o)) ≤ rank 11 m
   pub below : (m : ℕ) (o : Order) → Same b (o .marks) (marking (s .name) m o .marks)
   pub rooted : (m : ℕ) (o : Order) → RootAs (s .name) o (marking (s .name) m o)
   pub low : (o o′ : Order) → o′ .root ≡ o .root → RootAs (s .name) o o′
   pub body : b ≤ s .bodyAt
-  pub fault : b ≤ s .faultAt
+  pub fault : (c : ℕ) → b ≤ chosenAt c s
   pub first : b ≤ s .first
 
 -- its own mark has at most this rank, and below it nothing has changed
@@ -247,7 +259,11 @@ module _ (s : Scope) (b : ℕ) (h : Owns s b) where
   under-put : (m : ℕ) (o : Order) → Under (rank 11 m) s b o (marking (s .name) m o)
   under-put m o = record { rank = h .puts m o; root = h .rooted m o; marks = h .below m o }
 
-  -- then something behind where its body, or its fault part, stands
+  -- with a choice
+  under-with : (c m : ℕ) (o : Order) → m < 16 → Under (rank 11 m) s b o (marking (s .name) (markWith c m) o)
+  under-with c m o e = under-more (omega (arith, rank-with 11 c m e)) (under-put (markWith c m) o)
+
+  -- then something behind where its body, or the fault part that it chose, stands
   under-body : {n : ℕ} {o o′ o″ : Order} → Under n s b o o′ → Low (s .bodyAt) o′ o″ → Under n s b o o″
   under-body {n} {o} {o′} {o″} x y =
       record {
@@ -256,12 +272,12 @@ module _ (s : Scope) (b : ℕ) (h : Owns s b) where
         marks = same-then (x .marks) (same-less (h .body) (y .marks));
       }
 
-  under-fault : {n : ℕ} {o o′ o″ : Order} → Under n s b o o′ → Low (s .faultAt) o′ o″ → Under n s b o o″
-  under-fault {n} {o} {o′} {o″} x y =
+  under-fault : {n : ℕ} {o o′ o″ : Order} (c : ℕ) → Under n s b o o′ → Low (chosenAt c s) o′ o″ → Under n s b o o″
+  under-fault {n} {o} {o′} {o″} c x y =
       record {
-        rank = subst (λ (m : ℕ). rank 11 m ≤ n) (sym (h .heals o′ o″ y)) (x .rank);
+        rank = subst (λ (m : ℕ). rank 11 m ≤ n) (sym (h .heals c o′ o″ y)) (x .rank);
         root = root-then (s .name) (x .root) (h .low o′ o″ (y .root));
-        marks = same-then (x .marks) (same-less (h .fault) (y .marks));
+        marks = same-then (x .marks) (same-less (h .fault c) (y .marks));
       }
 
   under-where : (n : ℕ) (o : Order) (g : Order → Outcome) (r : Outcome) → Under n s b o (r .order) → ((o₁ : Order) → Under n s b o₁ (g o₁ .order)) → Under n s b o (whereOver g r .order)
@@ -282,16 +298,17 @@ module _ (s : Scope) (b : ℕ) (h : Owns s b) where
   under-handle : (o : Order) → Under 1 s b o (handle s o .order)
   unfolding handle rank
   under-handle o =
-      let o′ = marking (s .name) handling o in
-      under-where 1 o (ends s) (begunIn o′ (begin (s .fault) (s .faultAt) (o′ .marks)))
-      (under-fault (under-put handling o) (record { root = refl; marks = same-begin (s .fault) (s .faultAt) (s .faultAt) (o′ .marks) (omega arith) }))
+      let o′ = going (s .name) handling o in
+      let c = choiceOf (s .name) o in
+      under-where 1 o (ends s) (begunIn o′ (begin (chosenPart c s) (chosenAt c s) (o′ .marks)))
+      (under-fault c (under-with c handling o (omega arith)) (record { root = refl; marks = same-begin (chosenPart c s) (chosenAt c s) (chosenAt c s) (o′ .marks) (omega arith) }))
       (λ o₁. under-more (omega arith) (under-ends o₁))
 
   under-undoes : (w : Bool) (o : Order) → Under 3 s b o (undoes w s o .order)
   unfolding undoes rank
   under-undoes true o =
-      let o′ = marking (s .name) undoing o in
-      under-where 3 o (handle s) (undo (rememberedFor s o′) s o′) (under-body (under-put undoing o) (low-undo (rememberedFor s o′) s o′)) (λ o₁. under-more (omega arith) (under-handle o₁))
+      let o′ = going (s .name) undoing o in
+      under-where 3 o (handle s) (undo (rememberedFor s o′) s o′) (under-body (under-with (choiceOf (s .name) o) undoing o (omega arith)) (low-undo (rememberedFor s o′) s o′)) (λ o₁. under-more (omega arith) (under-handle o₁))
   under-undoes false o =
       let o′ = marking (s .name) withdrawing o in
       under-where 3 o (ends s) (undo (rememberedFor s o′) s o′) (under-more (omega arith) (under-body (under-put withdrawing o) (low-undo (rememberedFor s o′) s o′))) (λ o₁. under-more (omega arith) (under-ends o₁))
@@ -316,8 +333,8 @@ module _ (s : Scope) (b : ℕ) (h : Owns s b) where
   pub again-lowered : (o : Order) → Lowered s b o (looksAgain s o)
   unfolding looksAgain rank
   again-lowered o =
-      decide (eqb (markOf (s .name) o) faulty)
-      (λ e. rw (e, looksAgain) (turns-lowered true o (subst (λ (m : ℕ). 3 < rank 11 m) (sym (eqb-true (markOf (s .name) o) faulty e)) (omega arith))))
+      decide (eqb (stateOf (s .name) o) faulty)
+      (λ e. rw (e, looksAgain) (turns-lowered true o (rank-above 11 (markOf (s .name) o) faulty 3 e (omega arith) (omega arith))))
       (λ e. decide (eqb (markOf (s .name) o) halted)
       (λ d. rw (e, looksAgain, d) (turns-lowered false o (subst (λ (m : ℕ). 3 < rank 11 m) (sym (eqb-true (markOf (s .name) o) halted d)) (omega arith))))
       (λ d. rw (e, looksAgain, d) (stays refl)))
@@ -342,18 +359,26 @@ module _ (s : Scope) (b : ℕ) (h : Owns s b) where
       })
 
 -- the scope in activity k, and the root
-pub own-at : (k : ℕ) (within : Acts) → Owns (scopeAt k within) k
+chosen-behind : (ns : List ℕ) (k : ℕ) (within : Acts) (c : ℕ) → k + 1 ≤ chosenAt c (scopeAt ns k within)
+unfolding chosenAt
+chosen-behind ns k within c = go (byNumber c (scopeAt ns k within))
+  where
+    go : (v : Bool) → k + 1 ≤ cond v (partAt (c - 1) (behind within) (partAt 1 within (k + 1))) (partAt (generalPart ns) within (k + 1))
+    go true = omega (arith, part-behind (c - 1) (behind within) (partAt 1 within (k + 1)), part-behind 1 within (k + 1))
+    go false = part-behind (generalPart ns) within (k + 1)
+
+pub own-at : (ns : List ℕ) (k : ℕ) (within : Acts) → Owns (scopeAt ns k within) k
 unfolding rank
-own-at k within =
+own-at ns k within =
     record {
       keeps = λ o o′ x. x .marks .at k (omega (arith, part-behind 0 within (k + 1)));
-      heals = λ o o′ x. x .marks .at k (omega (arith, part-behind 1 within (k + 1)));
+      heals = λ c o o′ x. x .marks .at k (omega (arith, chosen-behind ns k within c));
       puts = λ m o. rank-set 11 k m (o .marks);
       below = λ m o. same-set k k m (o .marks) (omega arith);
       rooted = λ m o. record { same = refl };
       low = λ o o′ e. record { same = e };
       body = omega (arith, part-behind 0 within (k + 1));
-      fault = omega (arith, part-behind 1 within (k + 1));
+      fault = λ c. omega (arith, chosen-behind ns k within c);
       first = omega arith;
     }
 
@@ -361,23 +386,23 @@ pub own-root : (p : Plan) → Owns (rootOf p) 0
 own-root p =
     record {
       keeps = λ o o′ x. x .root;
-      heals = λ o o′ x. x .root;
+      heals = λ c o o′ x. x .root;
       puts = λ m o. omega arith;
       below = λ m o. same-itself 0 (o .marks);
       rooted = λ m o. record { same = tt };
       low = λ o o′ e. record { same = tt };
       body = omega arith;
-      fault = omega arith;
+      fault = λ c. omega arith;
       first = omega arith;
     }
 
-low-withdraws : (within : Acts) (b k : ℕ) (r : Stopped) → b ≤ k → Low b (r .order) (withdraws k (scopeAt k within) r .order)
+low-withdraws : (ns : List ℕ) (within : Acts) (b k : ℕ) (r : Stopped) → b ≤ k → Low b (r .order) (withdraws k (scopeAt ns k within) r .order)
 unfolding withdraws turns
-low-withdraws within b k r e = go (innerRuns (scopeAt k within .body) (scopeAt k within .bodyAt) (r .order .marks))
+low-withdraws ns within b k r e = go (innerRuns (scopeAt ns k within .body) (scopeAt ns k within .bodyAt) (r .order .marks))
   where
-    go : (v : Bool) → Low b (r .order) (elim v as (λ _. Outcome) [ true ↦ runs (r .order) | false ↦ undoes false (scopeAt k within) (r .order) ] .order)
+    go : (v : Bool) → Low b (r .order) (elim v as (λ _. Outcome) [ true ↦ runs (r .order) | false ↦ undoes false (scopeAt ns k within) (r .order) ] .order)
     go true = low-itself b (r .order)
-    go false = let x = under-undoes (scopeAt k within) k (own-at k within) false (r .order) in record { root = x .root .same; marks = same-less e (x .marks) }
+    go false = let x = under-undoes (scopeAt ns k within) k (own-at ns k within) false (r .order) in record { root = x .root .same; marks = same-less e (x .marks) }
 
 -- What stops.
 mutual
@@ -389,12 +414,12 @@ mutual
     where
       go : (v w : Bool) → Low b (marked k halted o) (stopFirst within (k + 1) (marked k halted o) .order) → Low b (marked k idle o) (stopAll within (k + 1) (marked k idle o) .order)
           → Low b o (elim v as (λ _. Stopped) [
-            | true ↦ elim w as (λ _. Stopped) [ true ↦ withdraws k (scopeAt k within) (stopFirst within (k + 1) (marked k halted o)) | false ↦ untouched o ]
+            | true ↦ elim w as (λ _. Stopped) [ true ↦ withdraws k (scopeAt (numbersOf own) k within) (stopFirst within (k + 1) (marked k halted o)) | false ↦ untouched o ]
             | false ↦ stopAll within (k + 1) (marked k idle o)
           ] .order)
       go true true x y =
           low-then (record { root = refl; marks = same-set b k halted (o .marks) e })
-          (low-then x (low-withdraws within b k (stopFirst within (k + 1) (marked k halted o)) e))
+          (low-then x (low-withdraws (numbersOf own) within b k (stopFirst within (k + 1) (marked k halted o)) e))
       go true false x y = low-itself b o
       go false w x y = low-then (record { root = refl; marks = same-set b k idle (o .marks) e }) y
 
@@ -415,10 +440,10 @@ low-causing (inner k) x b o = low-itself b o
 pub faults-under : (x : ℕ) (s : Scope) (b : ℕ) → Owns s b → (o : Order) → Under 5 s b o (faults x s o .order)
 unfolding faults rank
 faults-under x s b h o =
-    let o′ = marking (s .name) faulty o in
+    let o′ = marking (s .name) (markWith (choiceFor x s) faulty) o in
     let o″ = causing (s .name) x o′ in
     under-turns s b h 5 true o (stop (s .body) (s .bodyAt) o″ .order) (omega arith)
-    (under-body s b h (under-body s b h (under-put s b h faulty o) (low-causing (s .name) x (s .bodyAt) o′)) (low-stop (s .body) (s .bodyAt) (s .bodyAt) o″ (omega arith)))
+    (under-body s b h (under-body s b h (under-with s b h (choiceFor x s) faulty o (omega arith)) (low-causing (s .name) x (s .bodyAt) o′)) (low-stop (s .body) (s .bodyAt) (s .bodyAt) o″ (omega arith)))
 
 pub raised-lowered : (x : ℕ) (s : Scope) (b : ℕ) → Owns s b → (o : Order) → Lowered s b o (bodyRaised x s o)
 unfolding bodyRaised rank

@@ -1,5 +1,5 @@
 -- The returns of the functions on ranks. Assumes nothing.
-use Prim.Native.Nat.{ℕ, zero, suc, _+_, _*_, _-_, _≤_, _<_}
+use Prim.Native.Nat.{ℕ, zero, suc, _+_, _*_, _-_, _%_, _≤_, _<_}
 use native.Mathlib.Omega.{arith}
 use native.Mathlib.Numerals.{add-one}
 use mathlib.Core.Path.{_≡_, refl, sym, ap, subst, _∙_}
@@ -14,45 +14,45 @@ use Rattle.settling.proofs.Parts.{decide}
 use Rattle.settling.proofs.Settling.{weight-less}
 
 -- `rank`
-pub rank-active : (n m : ℕ) → m ≡ 1 → 7 ≡ rank n m
+pub rank-active : (n m : ℕ) → m % 16 ≡ 1 → 7 ≡ rank n m
 unfolding rank
 rank-active n m e = rw e
 
-pub rank-done : (n m : ℕ) → m ≡ 3 → 6 ≡ rank n m
+pub rank-done : (n m : ℕ) → m % 16 ≡ 3 → 6 ≡ rank n m
 unfolding rank
 rank-done n m e = rw e
 
-pub rank-faulty : (n m : ℕ) → m ≡ 4 → 5 ≡ rank n m
+pub rank-faulty : (n m : ℕ) → m % 16 ≡ 4 → 5 ≡ rank n m
 unfolding rank
 rank-faulty n m e = rw e
 
-pub rank-undoing : (n m : ℕ) → m ≡ 5 → 3 ≡ rank n m
+pub rank-undoing : (n m : ℕ) → m % 16 ≡ 5 → 3 ≡ rank n m
 unfolding rank
 rank-undoing n m e = rw e
 
-pub rank-handling : (n m : ℕ) → m ≡ 6 → 1 ≡ rank n m
+pub rank-handling : (n m : ℕ) → m % 16 ≡ 6 → 1 ≡ rank n m
 unfolding rank
 rank-handling n m e = rw e
 
-pub rank-halted : (n m : ℕ) → m ≡ 7 → 4 ≡ rank n m
+pub rank-halted : (n m : ℕ) → m % 16 ≡ 7 → 4 ≡ rank n m
 unfolding rank
 rank-halted n m e = rw e
 
-pub rank-withdrawing : (n m : ℕ) → m ≡ 8 → 2 ≡ rank n m
+pub rank-withdrawing : (n m : ℕ) → m % 16 ≡ 8 → 2 ≡ rank n m
 unfolding rank
 rank-withdrawing n m e = rw e
 
-pub rank-repeat : (n m : ℕ) → m ≡ 2 → n ≡ 7 → 8 ≡ rank n m
+pub rank-repeat : (n m : ℕ) → m % 16 ≡ 2 → n ≡ 7 → 8 ≡ rank n m
 unfolding rank
 rank-repeat n m e d = rw (e, d)
 
-pub rank-inside : (n m : ℕ) → m ≡ 2 → (n ≡ 7 → ⊥) → 6 ≡ rank n m
+pub rank-inside : (n m : ℕ) → m % 16 ≡ 2 → (n ≡ 7 → ⊥) → 6 ≡ rank n m
 unfolding rank
 rank-inside n m e d = rw (e, rank, ne-eqb n 7 d)
 
-pub rank-other : (n m : ℕ) → (m ≡ 1 → ⊥) → (m ≡ 2 → ⊥) → (m ≡ 3 → ⊥) → (m ≡ 4 → ⊥) → (m ≡ 5 → ⊥) → (m ≡ 6 → ⊥) → (m ≡ 7 → ⊥) → (m ≡ 8 → ⊥) → 0 ≡ rank n m
+pub rank-other : (n m : ℕ) → (m % 16 ≡ 1 → ⊥) → (m % 16 ≡ 2 → ⊥) → (m % 16 ≡ 3 → ⊥) → (m % 16 ≡ 4 → ⊥) → (m % 16 ≡ 5 → ⊥) → (m % 16 ≡ 6 → ⊥) → (m % 16 ≡ 7 → ⊥) → (m % 16 ≡ 8 → ⊥) → 0 ≡ rank n m
 unfolding rank
-rank-other n m a b c d e f g h = rw (ne-eqb m 2 b, ne-eqb m 1 a, ne-eqb m 3 c, ne-eqb m 4 d, ne-eqb m 7 g, ne-eqb m 5 e, ne-eqb m 8 h, ne-eqb m 6 f)
+rank-other n m a b c d e f g h = rw (ne-eqb (m % 16) 2 b, ne-eqb (m % 16) 1 a, ne-eqb (m % 16) 3 c, ne-eqb (m % 16) 4 d, ne-eqb (m % 16) 7 g, ne-eqb (m % 16) 5 e, ne-eqb (m % 16) 8 h, ne-eqb (m % 16) 6 f)
 
 -- `is_lower`: the first rank that differs tells
 weight-tells : (f : ℕ → ℕ) (n k : ℕ) (ms os : List ℕ) (x y : ℕ) → (x ≡ y → ⊥) → ltb y x ≡ ltb (weight f k n os y) (weight f k n ms x)

@@ -8,11 +8,12 @@ ghost use mathlib.Core.Path.{_≡_};
 ghost use Rattle.order.specs.Judging.{rank as rankOf};
 ghost use Rattle.settling.specs.Answering.{Counts, RankAt, Lowers};
 
-// How far a mark is from idle, for an activity of this kind.
+// How far a mark is from idle, for an activity of this kind: a choice of a fault part beside it does not matter.
 fn rank(kind: u32, mark: u8) -> u32
     ensures { λ r. ⌜ r ≡ rankOf kind mark ⌝ }
 {
-    match mark {
+    let state = mark % 16;
+    match state {
         mark::ACTIVE => 7,
         mark::INSIDE => {
             if kind == kind::REPEAT {

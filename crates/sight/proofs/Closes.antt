@@ -5,7 +5,7 @@ use mathlib.Core.List.{List, [], _∷_, _++_}
 use Prim.Native.Nat.{ℕ, zero, suc, _+_, _-_, _<_, _≤_}
 use native.Mathlib.Decide.{decLt}
 use native.Mathlib.Omega.{arith}
-use borrow.Author.Tests.{lt-ltb, le-ltb}
+use borrow.Author.Tests.{lt-ltb, le-ltb, eqb-true, not-false}
 use lib.Dec.{ltb, eqb}
 use lib.ListN.{length, getD, take, replicate}
 use lib.Seq.{take-all, take-append-seam}
@@ -66,9 +66,9 @@ unfolding partAt
 body-first none c = refl
 body-first (more a l) c = refl
 
-for-body : (o : Order) (parts : List ℕ) (k i : ℕ) (within : Acts) → Remembers o parts → i < 32
-    → isFor (scopeAt k within) (getD (o .remembered) i (closingOf 0 0)) ≡ eqb (getD parts i 0) (k + 1)
-for-body o parts k i within m h = rw (body-first within (k + 1), ← m .is i h)
+for-body : (o : Order) (parts ns : List ℕ) (k i : ℕ) (within : Acts) → Remembers o parts → i < 32
+    → isFor (scopeAt ns k within) (getD (o .remembered) i (closingOf 0 0)) ≡ eqb (getD parts i 0) (k + 1)
+for-body o parts ns k i within m h = rw (body-first within (k + 1), ← m .is i h)
 
 -- a scope with no undo part is never held
 held-by : (o : Order) (s : Scope) {b : Bool} (undo : Bool) → (undo ≡ true → b ≡ ltb 32 (length (closings (forgetting s o)) + 1)) → (undo ≡ false → b ≡ false) → b ≡ closeHeld o undo s
@@ -78,15 +78,14 @@ held-by o s false f g = g refl
 -- `close_held`
 pub close-never : {kind : ℕ} (parts : List ℕ) (kept k : ℕ) → kind ≡ 12 → ClosesRow kind parts kept k false
 close-never parts kept k e = record {
-  is = λ o u l m n z. held-by o (scopeAt k l) u (λ q. let w : _≡_ {A = ℕ} 12 11 = sym e ∙ (z ∙ rw q) in absurd (omega arith)) (λ q. refl);
+  is = λ o ns l m n. rw e;
 }
 
 pub close-room : (kind : ℕ) (parts : List ℕ) (kept k : ℕ) → kept < 32 → ClosesRow kind parts kept k false
 close-room kind parts kept k h = record {
-  is = λ o u l m n z.
-      held-by o (scopeAt k l) u
-      (λ q. sym (rw (closings-left (scopeAt k l) o) (left-few (scopeAt k l) (closings o) (omega (arith, take-few (o .kept) (o .remembered))))))
-      (λ q. refl);
+  is = λ o ns l m n.
+      let s = scopeAt ns k l in
+      held-by o s (not (eqb kind 12)) (λ q. sym (rw (closings-left s o) (left-few s (closings o) (omega (arith, take-few (o .kept) (o .remembered)))))) (λ q. refl);
 }
 
 pub record Forgets (kind : ℕ) (parts : List ℕ) (kept k i : ℕ) : Type 0 where
@@ -105,24 +104,24 @@ module _ {kind : ℕ} {parts : List ℕ} {kept k i : ℕ} (w : Forgets kind part
   pub forgets-done : 32 ≤ i → ClosesRow kind parts kept k true
   unfolding left
   forgets-done h = record {
-    is = λ o u l m n z.
-        let s = scopeAt k l in
+    is = λ o ns l m n.
+        let s = scopeAt ns k l in
         let e : length (left s (o .remembered)) ≡ length (o .remembered) =
         only-all (closingOf 0 0) (λ c. not (isFor s c)) (o .remembered)
-        (λ j g. rw (for-body o parts k j l m (omega (arith, m .long)), w .none j (omega (arith, m .long)))) in
-        held-by o s u
+        (λ j g. rw (for-body o parts ns k j l m (omega (arith, m .long)), w .none j (omega (arith, m .long)))) in
+        held-by o s (not (eqb kind 12))
         (λ q. sym (rw (closings-left s o, all-closings o m n) (lt-ltb 32 (length (left s (o .remembered)) + 1) (omega (arith, e, m .long)))))
-        (λ q. absurd (w .undoes (z ∙ rw q)));
+        (λ q. absurd (w .undoes (eqb-true kind 12 (not-false (eqb kind 12) q))));
   }
 
   module _ (h : i < 32) {b : Bool} (d : b ≡ eqb (getD parts i 0) (k + 1)) where
     pub forgets-one : b ≡ true → ClosesRow kind parts kept k false
     unfolding left
     forgets-one v = record {
-      is = λ o u l m n z.
-          let s = scopeAt k l in
-          let e = only-fewer (closingOf 0 0) (λ c. not (isFor s c)) (o .remembered) i (omega (arith, m .long)) (rw (for-body o parts k i l m h, sym d ∙ v)) in
-          held-by o s u
+      is = λ o ns l m n.
+          let s = scopeAt ns k l in
+          let e = only-fewer (closingOf 0 0) (λ c. not (isFor s c)) (o .remembered) i (omega (arith, m .long)) (rw (for-body o parts ns k i l m h, sym d ∙ v)) in
+          held-by o s (not (eqb kind 12))
           (λ q. sym (rw (closings-left s o, all-closings o m n) (le-ltb 32 (length (left s (o .remembered)) + 1) (omega (arith, e, m .long)))))
           (λ q. refl);
     }

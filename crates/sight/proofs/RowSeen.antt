@@ -1,15 +1,17 @@
 -- What a row has on offer. Assumes nothing.
 use mathlib.Core.Path.{_≡_, refl, sym, ap, _∙_}
-use mathlib.Core.Bool.{Bool, true, false, false≢true, cond, _||_}
+use mathlib.Core.Bool.{Bool, true, false, false≢true, cond, not, _||_}
 use mathlib.Core.List.{List, [], _∷_, map}
 use Prim.Native.Nat.{ℕ, zero, suc, _+_, _*_, _<_, _≤_}
 use native.Mathlib.Omega.{arith}
 use borrow.Author.Tests.{eqb-true, ne-eqb, le-leb, lt-leb}
 use lib.Dec.{eqb}
 use lib.ListN.{getD}
+use Rattle.plan.specs.Read.{isScopeCode}
 use Rattle.plan.specs.Spells.{Spells, variablesOf}
 use Rattle.plan.specs.Table.{rowOf}
-use Rattle.plan.specs.Tree.{Own, empty, send, receive, set as setting, raise, leave, choose, repeat, sequence, flow, pick, scope, arm, kind, Acts, Plan}
+use Rattle.plan.specs.Tree.{Own, empty, send, receive, set as setting, raise, leave, choose, repeat, sequence, flow, pick, scope, arm, kind, hasUndo, numbersOf, Acts, Plan}
+use Rattle.plan.specs.Within.{numbersWithin}
 use Rattle.order.specs.declared.Order.{Order}
 use Rattle.machine.specs.Fit.{noStep, takes, moves, cuts, closes, doingOf, Letter, mayTake}
 use Rattle.order.specs.Lists.{only}
@@ -19,7 +21,7 @@ use Rattle.sight.specs.declared.Sight.{Sight}
 use Rattle.fit.specs.Folds.{folded}
 use Rattle.fit.specs.Answering.{Picks}
 use Rattle.fit.specs.Lines.{Line, isReady, Stands, Rows, Wholes}
-use Rattle.sight.specs.Sights.{pointed, seen, showing, withholding, Heeding, Serving, Opening, doingBy, AwaitsRow, CutRow, BoundRow, ClosesRow, takeLetter, takeLine, doingLine, offerLine}
+use Rattle.sight.specs.Sights.{pointed, seen, showing, withholding, Exchanging, Heeding, Serving, Opening, doingBy, AwaitsRow, CutRow, BoundRow, ClosesRow, takeLetter, takeLine, doingLine, offerLine}
 use Rattle.fit.proofs.Lines.{fold-only}
 use Rattle.fit.proofs.SearchReturns.{stands-kind, stands-exchange}
 
@@ -56,29 +58,32 @@ seen-map i k (x ∷ l) s = seen-map i k l (record { pointer = pointed (offering 
 
 -- the step of a row
 doing-own : (own : Own) (w : Acts) (k q at : ℕ)
-    → doingOf own w k ≡ doingBy (kind own) (getD (rowOf own q at) 1 0) (getD (rowOf own q at) 2 0) (variablesOf own) (scopeAt k w)
-unfolding doingOf doingBy kind rowOf variablesOf
-doing-own empty w k q at = refl
-doing-own (send a b vs) w k q at = refl
-doing-own (receive a b vs) w k q at = refl
-doing-own (setting v e) w k q at = refl
-doing-own (raise zero) w k q at = refl
-doing-own (raise (suc number)) w k q at = refl
-doing-own leave w k q at = refl
-doing-own (choose e) w k q at = refl
-doing-own (repeat e) w k q at = refl
-doing-own sequence w k q at = refl
-doing-own flow w k q at = refl
-doing-own pick w k q at = refl
-doing-own (scope true) w k q at = refl
-doing-own (scope false) w k q at = refl
-doing-own (arm a b vs) w k q at = refl
+    → numbersWithin (numbersOf own) (hasUndo own) ≡ true
+    → doingOf own w k ≡ doingBy (kind own) (getD (rowOf own q at) 1 0) (getD (rowOf own q at) 2 0) (variablesOf own) (scopeAt (numbersOf own) k w)
+unfolding doingOf doingBy kind rowOf variablesOf numbersWithin
+doing-own empty w k q at h = refl
+doing-own (send a b vs) w k q at h = refl
+doing-own (receive a b vs) w k q at h = refl
+doing-own (setting v e) w k q at h = refl
+doing-own (raise zero) w k q at h = refl
+doing-own (raise (suc number)) w k q at h = refl
+doing-own leave w k q at h = refl
+doing-own (choose e) w k q at h = refl
+doing-own (repeat e) w k q at h = refl
+doing-own sequence w k q at h = refl
+doing-own flow w k q at h = refl
+doing-own pick w k q at h = refl
+doing-own (scope [] true) w k q at h = refl
+doing-own (scope [] false) w k q at h = refl
+doing-own (scope (n ∷ ns) true) w k q at h = refl
+doing-own (scope (n ∷ ns) false) w k q at h = absurd (false≢true h)
+doing-own (arm a b vs) w k q at h = refl
 
 stands-doing : {t ms : List ℕ} {k : ℕ} {x : Line} → Stands t ms k x
-    → doingOf (x .own) (x .within) k ≡ doingBy (getD t (k * 13) 0) (getD t (k * 13 + 1) 0) (getD t (k * 13 + 2) 0) (variablesOf (x .own)) (scopeAt k (x .within))
+    → doingOf (x .own) (x .within) k ≡ doingBy (getD t (k * 13) 0) (getD t (k * 13 + 1) 0) (getD t (k * 13 + 2) 0) (variablesOf (x .own)) (scopeAt (numbersOf (x .own)) k (x .within))
 unfolding Spells
 stands-doing {k = k} {x} y =
-    doing-own (x .own) (x .within) k (y .node) (y .place)
+    doing-own (x .own) (x .within) k (y .node) (y .place) (y .numbers)
     ∙ rw (← y .spelled .row .kind, ← y .spelled .row .partner, ← y .spelled .row .operation)
 
 doing-moves : (n a b : ℕ) (vs : List ℕ) (s : Scope) → 3 ≤ n → n ≤ 7 → doingBy n a b vs s ≡ cond (eqb n 4 || eqb n 5) cuts moves
@@ -89,39 +94,35 @@ doing-moves n a b vs s h g =
       ne-eqb n 2 (λ q. omega arith),
       ne-eqb n 255 (λ q. omega arith),
       ne-eqb n 11 (λ q. omega arith),
+      ne-eqb n 14 (λ q. omega arith),
       ne-eqb n 12 (λ q. omega arith),
       ne-eqb n 13 (λ q. omega arith),
       le-leb 3 n h,
       le-leb n 7 g,
     )
 
-doing-nothing : (n a b : ℕ) (vs : List ℕ) (s : Scope) → 7 < n → (n ≡ 255 → ⊥) → (n ≡ 13 → ⊥) → (eqb n 11 || eqb n 12) ≡ false → doingBy n a b vs s ≡ noStep
+doing-nothing : (n a b : ℕ) (vs : List ℕ) (s : Scope) → 7 < n → (n ≡ 255 → ⊥) → (n ≡ 13 → ⊥) → isScopeCode n ≡ false → doingBy n a b vs s ≡ noStep
 unfolding doingBy
 doing-nothing n a b vs s h x v e =
-    let y = or-neither (eqb n 11) (eqb n 12) e in
-    rw (ne-eqb n 1 (λ q. omega arith), ne-eqb n 2 (λ q. omega arith), ne-eqb n 255 x, y .0, y .1, ne-eqb n 13 v, le-leb 3 n (omega arith), lt-leb n 7 h)
+    let y = or-neither (eqb n 11) _ e in
+    let w = or-neither (eqb n 12) (eqb n 14) (y .1) in
+    rw (ne-eqb n 1 (λ q. omega arith), ne-eqb n 2 (λ q. omega arith), ne-eqb n 255 x, y .0, w .1, w .0, ne-eqb n 13 v, le-leb 3 n (omega arith), lt-leb n 7 h)
 
--- a scope's step is its close
-scope-kind : (n : ℕ) → (eqb n 11 || eqb n 12) ≡ true → n ≡ cond (eqb n 11) 11 12
-scope-kind n e = go (eqb n 11) refl e
-  where
-    go : (b : Bool) → eqb n 11 ≡ b → (b || eqb n 12) ≡ true → n ≡ cond b 11 12
-    go true z e = eqb-true n 11 z
-    go false z e = eqb-true n 12 e
-
-doing-closes : (n a b : ℕ) (vs : List ℕ) (s : Scope) → (eqb n 11 || eqb n 12) ≡ true → doingBy n a b vs s ≡ closes (eqb n 11) s
+-- a scope's step is its close: that of the kind 12 has no undo part
+doing-closes : (n a b : ℕ) (vs : List ℕ) (s : Scope) → isScopeCode n ≡ true → doingBy n a b vs s ≡ closes (not (eqb n 12)) s
 unfolding doingBy
-doing-closes n a b vs s e = go (eqb n 11) (scope-kind n e)
+doing-closes n a b vs s e = go (eqb n 11) (eqb n 12) refl refl e
   where
-    go : (u : Bool) → n ≡ cond u 11 12 → doingBy n a b vs s ≡ closes (eqb n 11) s
-    go true z = rw z
-    go false z = rw z
+    go : (x y : Bool) → eqb n 11 ≡ x → eqb n 12 ≡ y → (x || (y || eqb n 14)) ≡ true → doingBy n a b vs s ≡ closes (not (eqb n 12)) s
+    go true y z w h = let q : n ≡ 11 = eqb-true n 11 z in rw q
+    go false true z w h = let q : n ≡ 12 = eqb-true n 12 w in rw q
+    go false false z w h = let q : n ≡ 14 = eqb-true n 14 h in rw q
 
 -- `doing_row`
 module _ (t known bound parts : List ℕ) (kept i k : ℕ) (letters : List ℕ) (wait : ℕ) (least : List ℕ) (s : Sight) where
   doing-says : (n : ℕ) → getD t (k * 13) 0 ≡ n → (o : Order) (p : Plan) (l : List Letter) (x : Line) → Stands t (o .marks) k x
       → doingLine wait i o p l x s
-      ≡ seen (stepOffers p wait l i o k (doingBy n (getD t (k * 13 + 1) 0) (getD t (k * 13 + 2) 0) (variablesOf (x .own)) (scopeAt k (x .within)))) s
+      ≡ seen (stepOffers p wait l i o k (doingBy n (getD t (k * 13 + 1) 0) (getD t (k * 13 + 2) 0) (variablesOf (x .own)) (scopeAt (numbersOf (x .own)) k (x .within)))) s
   unfolding doingLine
   doing-says n z o p l x y = rw (y .activity, stands-doing y, z)
 
@@ -136,7 +137,7 @@ module _ (t known bound parts : List ℕ) (kept i k : ℕ) (letters : List ℕ) 
       send-held e q = record {
         is = λ o p l x g y.
             q ∙ sym (doing-says 1 z o p l x y
-            ∙ rw (le-leb 64 wait h, sym (v .is o _ _ (variablesOf (x .own)) (g .bindings) (g .sixteen) (stands-exchange y) (y .few)) ∙ e) (seen-hold (offering i k 0 ∷ []) s));
+            ∙ rw (le-leb 64 wait h, sym (v .is o _ _ (variablesOf (x .own)) (g .bindings) (g .sixteen) (stands-exchange y (λ q. omega arith)) (y .few)) ∙ e) (seen-hold (offering i k 0 ∷ []) s));
       }
 
       pub send-raises : {r : Sight} → b ≡ false → r ≡ showing i k 0 s → Rows t k (Serving known bound parts kept letters wait least) (doingLine wait i) s r
@@ -144,7 +145,7 @@ module _ (t known bound parts : List ℕ) (kept i k : ℕ) (letters : List ℕ) 
       send-raises e q = record {
         is = λ o p l x g y.
             q ∙ sym (doing-says 1 z o p l x y
-            ∙ rw (le-leb 64 wait h, sym (v .is o _ _ (variablesOf (x .own)) (g .bindings) (g .sixteen) (stands-exchange y) (y .few)) ∙ e) (seen-show i k 0 s));
+            ∙ rw (le-leb 64 wait h, sym (v .is o _ _ (variablesOf (x .own)) (g .bindings) (g .sixteen) (stands-exchange y (λ q. omega arith)) (y .few)) ∙ e) (seen-show i k 0 s));
       }
 
   seen-takes : (o : Order) (p : Plan) (l : List Letter) (x : Line) → Stands t (o .marks) k x
@@ -155,24 +156,24 @@ module _ (t known bound parts : List ℕ) (kept i k : ℕ) (letters : List ℕ) 
       seen-map i k (only (mayTake p o (getD t (k * 13 + 1) 0) (getD t (k * 13 + 2) 0) (variablesOf (x .own))) l) s
       ∙ (fold-only (λ v. showing i k (v .place)) (mayTake p o (getD t (k * 13 + 1) 0) (getD t (k * 13 + 2) 0) (variablesOf (x .own))) l s ∙ rw (y .activity))
 
-  module _ {r : Sight} (w : Rows t k (Heeding known letters wait least) (takeLine i (getD t (k * 13 + 1) 0) (getD t (k * 13 + 2) 0)) s r) where
+  module _ {r : Sight} (w : Rows t k (Exchanging t k (Heeding known letters wait least)) (takeLine i (getD t (k * 13 + 1) 0) (getD t (k * 13 + 2) 0)) s r) where
     pub receive-takes : getD t (k * 13) 0 ≡ 2 → Rows t k (Serving known bound parts kept letters wait least) (doingLine wait i) s r
     unfolding doingBy
-    receive-takes z = record { is = λ o p l x g y. w .is o p l x (g .heeding) y ∙ sym (doing-says 2 z o p l x y ∙ seen-takes o p l x y) }
+    receive-takes z = record { is = λ o p l x g y. w .is o p l x (record { row = λ q. omega arith; given = g .heeding }) y ∙ sym (doing-says 2 z o p l x y ∙ seen-takes o p l x y) }
 
     pub arm-takes : getD t (k * 13) 0 ≡ 255 → Rows t k (Serving known bound parts kept letters wait least) (doingLine wait i) s r
     unfolding doingBy
-    arm-takes z = record { is = λ o p l x g y. w .is o p l x (g .heeding) y ∙ sym (doing-says 255 z o p l x y ∙ seen-takes o p l x y) }
+    arm-takes z = record { is = λ o p l x g y. w .is o p l x (record { row = λ q. omega arith; given = g .heeding }) y ∙ sym (doing-says 255 z o p l x y ∙ seen-takes o p l x y) }
 
-  module _ {c : Bool} (z : c ≡ (eqb (getD t (k * 13) 0) 11 || eqb (getD t (k * 13) 0) 12)) (d : c ≡ true) {b : Bool} (v : ClosesRow (getD t (k * 13) 0) parts kept k b) where
+  module _ {c : Bool} (z : c ≡ isScopeCode (getD t (k * 13) 0)) (d : c ≡ true) {b : Bool} (v : ClosesRow (getD t (k * 13) 0) parts kept k b) where
     closes-says : (o : Order) (p : Plan) (l : List Letter) (x : Line) → Serving known bound parts kept letters wait least o p l → Stands t (o .marks) k x
         → doingLine wait i o p l x s ≡ seen (unlessHeld b (offering i k 0 ∷ [])) s
     unfolding stepOffers
     closes-says o p l x g y =
         doing-says (getD t (k * 13) 0) refl o p l x y
-        ∙ (ap (λ d. seen (stepOffers p wait l i o k d) s) (doing-closes (getD t (k * 13) 0) _ _ (variablesOf (x .own)) (scopeAt k (x .within)) (sym z ∙ d))
+        ∙ (ap (λ d. seen (stepOffers p wait l i o k d) s) (doing-closes (getD t (k * 13) 0) _ _ (variablesOf (x .own)) (scopeAt (numbersOf (x .own)) k (x .within)) (sym z ∙ d))
         ∙ ap (λ h. seen (unlessHeld h (offering i k 0 ∷ [])) s)
-        (sym (v .is o (eqb (getD t (k * 13) 0) 11) (x .within) (g .memory) (g .many) (scope-kind (getD t (k * 13) 0) (sym z ∙ d)))))
+        (sym (v .is o (numbersOf (x .own)) (x .within) (g .memory) (g .many))))
 
     pub close-held : {r : Sight} → b ≡ true → r ≡ withholding s → Rows t k (Serving known bound parts kept letters wait least) (doingLine wait i) s r
     close-held e q = record { is = λ o p l x g y. q ∙ sym (closes-says o p l x g y ∙ rw e (seen-hold (offering i k 0 ∷ []) s)) }
@@ -197,7 +198,7 @@ module _ (t known bound parts : List ℕ) (kept i k : ℕ) (letters : List ℕ) 
   doing-step h g q = record {
     is = λ o p l x v y.
         q ∙ sym (doing-says (getD t (k * 13) 0) refl o p l x y
-        ∙ (ap (λ d. seen (stepOffers p wait l i o k d) s) (doing-moves (getD t (k * 13) 0) _ _ (variablesOf (x .own)) (scopeAt k (x .within)) h g)
+        ∙ (ap (λ d. seen (stepOffers p wait l i o k d) s) (doing-moves (getD t (k * 13) 0) _ _ (variablesOf (x .own)) (scopeAt (numbersOf (x .own)) k (x .within)) h g)
         ∙ by-test o p l (eqb (getD t (k * 13) 0) 4 || eqb (getD t (k * 13) 0) 5)));
   }
     where
@@ -205,13 +206,13 @@ module _ (t known bound parts : List ℕ) (kept i k : ℕ) (letters : List ℕ) 
       by-test o p l true = seen-show i k 0 s
       by-test o p l false = seen-show i k 0 s
 
-  pub doing-none : {b : Bool} → 7 < getD t (k * 13) 0 → (getD t (k * 13) 0 ≡ 255 → ⊥) → (getD t (k * 13) 0 ≡ 13 → ⊥) → b ≡ (eqb (getD t (k * 13) 0) 11 || eqb (getD t (k * 13) 0) 12) → b ≡ false
+  pub doing-none : {b : Bool} → 7 < getD t (k * 13) 0 → (getD t (k * 13) 0 ≡ 255 → ⊥) → (getD t (k * 13) 0 ≡ 13 → ⊥) → b ≡ isScopeCode (getD t (k * 13) 0) → b ≡ false
       → Rows t k (Serving known bound parts kept letters wait least) (doingLine wait i) s s
   unfolding stepOffers
   doing-none h x1 x13 x2 e = record {
     is = λ o p l x v y.
         sym (doing-says (getD t (k * 13) 0) refl o p l x y
-        ∙ (ap (λ d. seen (stepOffers p wait l i o k d) s) (doing-nothing (getD t (k * 13) 0) _ _ (variablesOf (x .own)) (scopeAt k (x .within)) h x1 x13 (sym x2 ∙ e))
+        ∙ (ap (λ d. seen (stepOffers p wait l i o k d) s) (doing-nothing (getD t (k * 13) 0) _ _ (variablesOf (x .own)) (scopeAt (numbersOf (x .own)) k (x .within)) h x1 x13 (sym x2 ∙ e))
         ∙ seen-none s));
   }
 

@@ -11,6 +11,7 @@ use borrow.Author.Tests.{eq-eqb, ne-eqb, lt-ltb, le-ltb, le-leb, lt-leb, not-tru
 use lib.Dec.{eqb, ltb, leb}
 use lib.ListN.{length, getD, drop, take, drop-of-length-le, List·getD-eq-default}
 use lib.Seq.{drop-cons, getD-drop}
+use Rattle.plan.specs.Read.{isScopeCode}
 use Rattle.plan.specs.Spells.{Row, Spells, variablesOf}
 use Rattle.plan.specs.Table.{rowOf}
 use Rattle.plan.specs.Tree.{Own, empty, send, receive, set as setting, raise, leave, choose, repeat, sequence, flow, pick, scope, arm, kind, Act, act, Acts, none, more, Plan, size}
@@ -23,17 +24,20 @@ use Rattle.order.specs.State.{isBound}
 use Rattle.sight.specs.declared.Sight.{Sight}
 use Rattle.fit.specs.Folds.{folded}
 use Rattle.fit.specs.Lines.{Line, isReady, readyAt, Stands, Rows}
-use Rattle.sight.specs.Sights.{Marked, Heeding, Told, Tells, noLetter, AwaitsRow, CutRow, cutLine, BoundRow, showing, takeLetter, TakesLetter, takeLine}
+use Rattle.sight.specs.Sights.{Marked, Exchanging, Heeding, Told, Tells, noLetter, AwaitsRow, CutRow, cutLine, BoundRow, showing, takeLetter, TakesLetter, takeLine}
 use Rattle.fit.proofs.FitReturns.{sixteenth-beyond, sixteenth-here, asks-asking}
 use Rattle.fit.proofs.OwnKinds.{awaits-kind}
 use Rattle.fit.proofs.SearchReturns.{stands-kind, stands-exchange, and-false}
 
 -- `is_scope`
-pub scope-undone : (n : ℕ) → n ≡ 11 → true ≡ (eqb n 11 || eqb n 12)
+pub scope-undone : (n : ℕ) → n ≡ 11 → true ≡ isScopeCode n
 scope-undone n e = rw (eq-eqb _ _ e)
 
-pub scope-other : (n : ℕ) → (n ≡ 11 → ⊥) → eqb n 12 ≡ (eqb n 11 || eqb n 12)
-scope-other n e = rw (ne-eqb _ _ e)
+pub scope-open : (n : ℕ) → (n ≡ 11 → ⊥) → n ≡ 12 → true ≡ isScopeCode n
+scope-open n e d = rw (ne-eqb _ _ e, eq-eqb _ _ d)
+
+pub scope-other : (n : ℕ) → (n ≡ 11 → ⊥) → (n ≡ 12 → ⊥) → eqb n 14 ≡ isScopeCode n
+scope-other n e d = rw (ne-eqb _ _ e, ne-eqb _ _ d)
 
 -- `awaits_at`
 module _ (t picks ms : List ℕ) (k : ℕ) where
@@ -42,7 +46,7 @@ module _ (t picks ms : List ℕ) (k : ℕ) where
     is = λ x w y. rw (awaits-kind (x .own), sym (stands-kind y) ∙ z) (q .is (y .inside) w z ∙ sym (y .arms));
   }
 
-  module _ (z : getD t (k * 13) 0 ≡ 255 → ⊥) {b : Bool} (v : b ≡ (eqb (getD t (k * 13) 0) 11 || eqb (getD t (k * 13) 0) 12)) where
+  module _ (z : getD t (k * 13) 0 ≡ 255 → ⊥) {b : Bool} (v : b ≡ isScopeCode (getD t (k * 13) 0)) where
     pub awaits-scope : b ≡ true → AwaitsRow t picks ms k (eqb (getD ms k 0) 3)
     awaits-scope e = record {
       is = λ x w y.
@@ -70,8 +74,9 @@ cut-own (repeat e) w k = refl
 cut-own sequence w k = refl
 cut-own flow w k = refl
 cut-own pick w k = refl
-cut-own (scope true) w k = refl
-cut-own (scope false) w k = refl
+cut-own (scope [] true) w k = refl
+cut-own (scope [] false) w k = refl
+cut-own (scope (n ∷ ns) u) w k = refl
 cut-own (arm a b vs) w k = refl
 
 pub cut-raise : (t : List ℕ) (k : ℕ) → getD t (k * 13) 0 ≡ 4 → CutRow t k true
@@ -102,7 +107,7 @@ cut-awaits (repeat x) w k b m e = refl
 cut-awaits sequence w k b m e = refl
 cut-awaits flow w k b m e = refl
 cut-awaits pick w k b m e = refl
-cut-awaits (scope u) w k b m e = absurd (false≢true e)
+cut-awaits (scope ns u) w k b m e = absurd (false≢true e)
 cut-awaits (arm a d vs) w k b m e = absurd (false≢true e)
 
 cond-same : {A : Type 0} (b : Bool) (x : A) → cond b x x ≡ x
@@ -195,48 +200,48 @@ unchecked-few p o (v ∷ vs) = by-test (unchecked-few p o vs) (isChecked p o v)
     by-test e false = omega arith
 
 module _ (t : List ℕ) (i k : ℕ) (asked : List ℕ) (u : ℕ) (letters : List ℕ) (j least : ℕ) (s : Sight) where
-  may-take : (o : Order) (p : Plan) (x : Line) (y : Letter) → UncheckedRow t k asked u → Asking asked p o (variablesOf (x .own)) → Stands t (o .marks) k x
+  may-take : (o : Order) (p : Plan) (x : Line) (y : Letter) → (getD t (k * 13) 0 ≡ 14 → ⊥) → UncheckedRow t k asked u → Asking asked p o (variablesOf (x .own)) → Stands t (o .marks) k x
       → Tells y j (messageAt letters j) least
       → mayTake p o (getD t (k * 13 + 1) 0) (getD t (k * 13 + 2) 0) (variablesOf (x .own)) y
       ≡ (fits p o (getD t (k * 13 + 1) 0) (getD t (k * 13 + 2) 0) (variablesOf (x .own)) (messageAt letters j) && leb u least)
   unfolding mayTake
-  may-take o p x y g a z v =
-      let n : u ≡ unchecked p o (variablesOf (x .own)) = g .is p o _ _ (variablesOf (x .own)) a (stands-exchange z) in
+  may-take o p x y f₁ g a z v =
+      let n : u ≡ unchecked p o (variablesOf (x .own)) = g .is p o _ _ (variablesOf (x .own)) a (stands-exchange z f₁) in
       let f : u ≤ 4 = omega (arith, unchecked-few p o (variablesOf (x .own)), z .few) in
       rw (v .message, ← n, v .few u f)
 
   pub take-more : least < u → TakesLetter t i k asked u letters j least s s
   unfolding takeLetter
   take-more h = record {
-    is = λ o p x y g a z v. rw (may-take o p x y g a z v, lt-leb _ _ h, ← and-false (fits p o (getD t (k * 13 + 1) 0) (getD t (k * 13 + 2) 0) (variablesOf (x .own)) (messageAt letters j)));
+    is = λ o p x y f₁ g a z v. rw (may-take o p x y f₁ g a z v, lt-leb _ _ h, ← and-false (fits p o (getD t (k * 13 + 1) 0) (getD t (k * 13 + 2) 0) (variablesOf (x .own)) (messageAt letters j)));
   }
 
   module _ (h : u ≤ least) (few : j < 64) {b : Bool} (w : FitsRow t k asked letters j b) where
     pub take-unfit : b ≡ false → TakesLetter t i k asked u letters j least s s
     unfolding takeLetter
     take-unfit e = record {
-      is = λ o p x y g a z v.
-          rw (may-take o p x y g a z v, sym (w .is few p o _ _ (variablesOf (x .own)) a (stands-exchange z)) ∙ e);
+      is = λ o p x y f₁ g a z v.
+          rw (may-take o p x y f₁ g a z v, sym (w .is few p o _ _ (variablesOf (x .own)) a (stands-exchange z f₁)) ∙ e);
     }
 
     pub take-least : {r : Sight} → b ≡ true → r ≡ showing i k j s → TakesLetter t i k asked u letters j least s r
     unfolding takeLetter
     take-least e q = record {
-      is = λ o p x y g a z v.
-          q ∙ rw (may-take o p x y g a z v, sym (w .is few p o _ _ (variablesOf (x .own)) a (stands-exchange z)) ∙ e, le-leb _ _ h, z .activity, v .place);
+      is = λ o p x y f₁ g a z v.
+          q ∙ rw (may-take o p x y f₁ g a z v, sym (w .is few p o _ _ (variablesOf (x .own)) a (stands-exchange z f₁)) ∙ e, le-leb _ _ h, z .activity, v .place);
     }
 
 -- `take_row`
 pub record Taking (t : List ℕ) (slot k : ℕ) (asked : List ℕ) (u : ℕ) (letters : List ℕ) (waiting : ℕ) (least : List ℕ) (start : Sight) (j : ℕ) (c : Sight) : Type 0 where
   pub within : j ≤ waiting
-  pub same : (o : Order) (p : Plan) (l : List Letter) (x : Line) → UncheckedRow t k asked u → Asking asked p o (variablesOf (x .own)) → Told l letters waiting least
+  pub same : (o : Order) (p : Plan) (l : List Letter) (x : Line) → (getD t (k * 13) 0 ≡ 14 → ⊥) → UncheckedRow t k asked u → Asking asked p o (variablesOf (x .own)) → Told l letters waiting least
       → Stands t (o .marks) k x
       → folded (takeLetter slot (getD t (k * 13 + 1) 0) (getD t (k * 13 + 2) 0) o p x) l start
       ≡ folded (takeLetter slot (getD t (k * 13 + 1) 0) (getD t (k * 13 + 2) 0) o p x) (drop j l) c
 
 pub taking-starts : (t : List ℕ) (slot k : ℕ) (asked : List ℕ) (u : ℕ) (letters : List ℕ) (waiting : ℕ) (least : List ℕ) (start : Sight)
     → Taking t slot k asked u letters waiting least start 0 start
-taking-starts t slot k asked u letters waiting least start = record { within = omega arith; same = λ o p l x g a v z. refl }
+taking-starts t slot k asked u letters waiting least start = record { within = omega arith; same = λ o p l x f₁ g a v z. refl }
 
 module _ {t : List ℕ} {slot k : ℕ} {asked : List ℕ} {u : ℕ} {letters : List ℕ} {waiting : ℕ} {least : List ℕ} {start : Sight} {j : ℕ} {c : Sight}
     (w : Taking t slot k asked u letters waiting least start j c) where
@@ -245,18 +250,18 @@ module _ {t : List ℕ} {slot k : ℕ} {asked : List ℕ} {u : ℕ} {letters : L
   unfolding folded
   taking-again h {r} y = record {
     within = omega arith;
-    same = λ o p l x g a v z.
+    same = λ o p l x f₁ g a v z.
         let long : j < length l = omega (arith, v .long) in
         let f = takeLetter slot (getD t (k * 13 + 1) 0) (getD t (k * 13 + 2) 0) o p x in
-        let e : r ≡ f (getD l j noLetter) c = y .is o p x (getD l j noLetter) g a z (v .tells j h) in
-        w .same o p l x g a v z ∙ (ap (λ n. folded f n c) (drop-cons l j noLetter long) ∙ (ap (folded f (drop (suc j) l)) (sym e) ∙ rw (add-one j)));
+        let e : r ≡ f (getD l j noLetter) c = y .is o p x (getD l j noLetter) f₁ g a z (v .tells j h) in
+        w .same o p l x f₁ g a v z ∙ (ap (λ n. folded f n c) (drop-cons l j noLetter long) ∙ (ap (folded f (drop (suc j) l)) (sym e) ∙ rw (add-one j)));
   }
 
   pub taking-done : {known : List ℕ} → waiting ≤ j → AsksRow t known k asked → UncheckedRow t k asked u
-      → Rows t k (Heeding known letters waiting least) (takeLine slot (getD t (k * 13 + 1) 0) (getD t (k * 13 + 2) 0)) start c
+      → Rows t k (Exchanging t k (Heeding known letters waiting least)) (takeLine slot (getD t (k * 13 + 1) 0) (getD t (k * 13 + 2) 0)) start c
   unfolding takeLine folded
   taking-done h a g = record {
     is = λ o p l x q z.
-        let long : length l ≤ j = omega (arith, q .told .long) in
-        sym (w .same o p l x g (asks-asking a (q .knows) (stands-exchange z) (z .few)) (q .told) z ∙ rw (drop-of-length-le l long));
+        let long : length l ≤ j = omega (arith, q .given .told .long) in
+        sym (w .same o p l x (q .row) g (asks-asking a (q .given .knows) (stands-exchange z (q .row)) (z .few)) (q .given .told) z ∙ rw (drop-of-length-le l long));
   }

@@ -7,7 +7,7 @@ use mathlib.Core.Path.{_≡_}
 use lib.Dec.{leb, eqb}
 use lib.ListN.{length, getD}
 use Rattle.plan.specs.Spells.{variablesOf}
-use Rattle.plan.specs.Tree.{Acts, Plan, scopeCode}
+use Rattle.plan.specs.Tree.{Acts, Plan}
 use Rattle.machine.specs.declared.Message.{Message}
 use Rattle.order.specs.declared.Order.{Order}
 use Rattle.machine.specs.declared.Step.{Step}
@@ -77,6 +77,11 @@ pub record Told (l : List Letter) (letters : List ℕ) (waiting : ℕ) (least : 
   pub long : length l ≡ waiting
   pub tells : (j : ℕ) → j < waiting → Tells (getD l j noLetter) j (messageAt letters j) (getD least j 0)
 
+-- where row k is none of a scope with fault parts by number, which has their numbers in the places of an exchange
+pub record Exchanging (t : List ℕ) (k : ℕ) (Given : Order → Plan → List Letter → Type 0) (o : Order) (p : Plan) (l : List Letter) : Type 0 where
+  pub row : getD t (k * 13) 0 ≡ 14 → ⊥
+  pub given : Given o p l
+
 -- of an order, what is known of its variables, and the letters
 pub record Heeding (known letters : List ℕ) (waiting : ℕ) (least : List ℕ) (o : Order) (p : Plan) (l : List Letter) : Type 0 where
   pub knows : Knows known p o
@@ -127,9 +132,9 @@ cutLine o p l x c = cond (isReady (o .marks) x) (isCut (readyAt x) || c) c
 pub record BoundRow (t bound : List ℕ) (k : ℕ) (r : Bool) : Type 0 where
   pub is : (o : Order) (a b : ℕ) (vs : List ℕ) → o .bound ≡ bound → length bound ≡ 16 → Exchange a b vs k t → length vs ≤ 4 → r ≡ every (isBound o) vs
 
--- r says whether the close in row k, of a scope of this kind, is held
+-- r says whether the close in row k, of a scope of this kind, is held: of the three kinds 12 has no undo part
 pub record ClosesRow (kind : ℕ) (parts : List ℕ) (kept k : ℕ) (r : Bool) : Type 0 where
-  pub is : (o : Order) (ns : List ℕ) (undo : Bool) (within : Acts) → Remembers o parts → o .kept ≡ kept → kind ≡ scopeCode ns undo → r ≡ closeHeld o undo (scopeAt ns k within)
+  pub is : (o : Order) (ns : List ℕ) (within : Acts) → Remembers o parts → o .kept ≡ kept → r ≡ closeHeld o (not (eqb kind 12)) (scopeAt ns k within)
 
 -- what one message adds at a receive or arm
 unfoldable pub takeLetter : (slot partner operation : ℕ) → Order → Plan → Line → Letter → Sight → Sight
@@ -137,7 +142,7 @@ takeLetter i a b o p x y s = cond (mayTake p o a b (variablesOf (x .own)) y) (sh
 
 -- r is what the message at place j adds at row k
 pub record TakesLetter (t : List ℕ) (slot k : ℕ) (asked : List ℕ) (unchecked : ℕ) (letters : List ℕ) (j least : ℕ) (s r : Sight) : Type 0 where
-  pub is : (o : Order) (p : Plan) (x : Line) (y : Letter) → UncheckedRow t k asked unchecked → Asking asked p o (variablesOf (x .own)) → Stands t (o .marks) k x
+  pub is : (o : Order) (p : Plan) (x : Line) (y : Letter) → (getD t (k * 13) 0 ≡ 14 → ⊥) → UncheckedRow t k asked unchecked → Asking asked p o (variablesOf (x .own)) → Stands t (o .marks) k x
       → Tells y j (messageAt letters j) least
       → r ≡ takeLetter slot (getD t (k * 13 + 1) 0) (getD t (k * 13 + 2) 0) o p x y s
 

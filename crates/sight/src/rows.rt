@@ -14,20 +14,24 @@ use plan::table::WIDTH;
 ghost use Prim.Native.Nat.{_+_, _*_, _≤_, _<_};
 ghost use lib.Dec.{eqb};
 ghost use lib.ListN.{getD};
-ghost use mathlib.Core.Bool.{false, _||_};
+ghost use mathlib.Core.Bool.{false};
 ghost use mathlib.Core.Path.{_≡_};
+ghost use Rattle.plan.specs.Read.{isScopeCode};
 ghost use Rattle.fit.specs.Answering.{sixteenth};
 ghost use Rattle.fit.specs.Lines.{Rows, Wholes};
-ghost use Rattle.sight.specs.Sights.{Marked, Heeding, Serving, Opening, AwaitsRow, CutRow, cutLine, BoundRow, ClosesRow, TakesLetter, takeLine, doingLine, offerLine};
+ghost use Rattle.sight.specs.Sights.{Marked, Exchanging, Heeding, Serving, Opening, AwaitsRow, CutRow, cutLine, BoundRow, ClosesRow, TakesLetter, takeLine, doingLine, offerLine};
 
-// Whether a kind is that of a scope, with an undo part of its own or with none.
+// Whether a kind is that of a scope, with an undo part of its own, with none, or with fault parts by number.
 fn is_scope(kind: u32) -> bool
-    ensures { λ r. ⌜ r ≡ (eqb kind 11 || eqb kind 12) ⌝ }
+    ensures { λ r. ⌜ r ≡ isScopeCode kind ⌝ }
 {
     if kind == kind::SCOPE {
         return true;
     }
-    kind == kind::OPEN_SCOPE
+    if kind == kind::OPEN_SCOPE {
+        return true;
+    }
+    kind == kind::NUMBERED_SCOPE
 }
 
 // Whether row k awaits its step.
@@ -157,7 +161,7 @@ fn take_row(
     s: Sight,
 ) -> Sight
     requires { ⌜ (k < 256) × (waiting ≤ 64) ⌝ }
-    ensures { λ r. ⌜ Rows (now (table .entry)) k (Heeding (now (known .entry)) (now (letters .entry)) waiting (now (least .entry))) (takeLine slot (getD (now (table .entry)) (k * 13 + 1) 0) (getD (now (table .entry)) (k * 13 + 2) 0)) s r ⌝ }
+    ensures { λ r. ⌜ Rows (now (table .entry)) k (Exchanging (now (table .entry)) k (Heeding (now (known .entry)) (now (letters .entry)) waiting (now (least .entry)))) (takeLine slot (getD (now (table .entry)) (k * 13 + 1) 0) (getD (now (table .entry)) (k * 13 + 2) 0)) s r ⌝ }
 {
     let asked = asked_at(table, known, k);
     let unchecked = unchecked_at(table, k, &asked);

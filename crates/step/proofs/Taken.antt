@@ -176,7 +176,7 @@ module _ (t : List ℕ) (n : ℕ) (s : State) (o : Order) (x j : ℕ) where
       go sequence l e = refl
       go flow l e = refl
       go pick l e = refl
-      go (scope u) l e = refl
+      go (scope ns u) l e = refl
       go (arm a b vs) l e = absurd (h (sym e))
 
 module _ (t : List ℕ) (n : ℕ) (l : List Message) (w : ℕ) (o : Order) (x j : ℕ) where
