@@ -13,12 +13,12 @@ use Rattle.plan.specs.Tree.{generalPart, Acts, none, more, size, count}
 use Rattle.plan.proofs.Accepts.{both}
 use Rattle.order.specs.declared.Order.{Order}
 use Rattle.order.specs.declared.Spot.{Spot}
-use Rattle.order.specs.Answering.{Made, nameOf, scopeOf, Held, Numbered, NumberAt, Chooses, Faulting, PartRow, chosenIndex, ChosenRow, UndoRow}
+use Rattle.order.specs.Answering.{Made, nameOf, scopeOf, Held, Numbered, NumberAt, Chooses, Faulting, PartRow, chosenIndex, ChosenRow, UndoRow, scopeAct, SpotAt}
 use Rattle.order.specs.Begin.{part, partAt}
-use Rattle.order.specs.Scope.{generalFor, partFor, choiceFor, chosenPart, chosenAt}
+use Rattle.order.specs.Scope.{Scope, generalFor, partFor, choiceFor, chosenPart, chosenAt}
 use Rattle.order.specs.Stands.{End, Stands, StandAll}
 use Rattle.order.specs.State.{markWith, marking, causing}
-use Rattle.order.proofs.Standing.{stands-end, part-stands, part-next, general-is}
+use Rattle.order.proofs.Standing.{stands-end, first-at, part-stands, part-next, general-is}
 
 -- `general_for`
 pub general-low : (x : ℕ) → x ≤ 5 → (9 + x ≡ generalFor x) × (9 + x < 16)
@@ -181,3 +181,13 @@ undo-row-is {t} {z} {g} p {r} e = record {
       let d : r ≡ g + size (part n l) = stands-end (part n l) g t s e in
       rw (general-is (x .numbers), part-next l c n (h .general), ← q) d;
 }
+
+-- where the parts of the scope in row k stand
+module _ {t : List ℕ} {k : ℕ} {z : Spot} (y : SpotAt t k z) where
+  pub spot-parts : (v : Bool) (x : Made) → Stands (scopeAct v x) k t → z .parts ≡ k + 1 + size (x .body)
+  unfolding partAt
+  spot-parts v x s = ap (λ (c : Scope). c .partsAt) (y .same v x s) ∙ first-at (x .parts) (k + 1 + size (x .body))
+
+  pub spot-undo : {u : ℕ} → UndoRow t z u → (v : Bool) (x : Made) → Stands (scopeAct v x) k t
+      → u ≡ partAt (generalPart (x .numbers)) (x .parts) (k + 1 + size (x .body))
+  spot-undo w v x s = rw (spot-parts v x s) at (w .is x (y .held v x s))

@@ -76,22 +76,22 @@ fn undoes_ending(table: &Table, spot: Spot, order: Order) -> Went
 }
 
 // The scope undoes: after its list it runs its fault part, or where it was stopped it ends.
-pub fn undoes(table: &Table, with_fault: bool, spot: Spot, order: Order) -> Went
-    ensures { λ r. ⌜ Undoes (now (table .entry)) with_fault spot order r ⌝ }
+pub fn undoes(table: &Table, faulted: bool, spot: Spot, order: Order) -> Went
+    ensures { λ r. ⌜ Undoes (now (table .entry)) faulted spot order r ⌝ }
 {
-    if with_fault {
+    if faulted {
         return undoes_handling(table, spot, order);
     }
     undoes_ending(table, spot, order)
 }
 
 // The scope undoes where none of its inner scopes is left running.
-pub fn turns(table: &Table, with_fault: bool, spot: Spot, order: Order) -> Went
-    ensures { λ r. ⌜ Turns (now (table .entry)) with_fault spot order r ⌝ }
+pub fn turns(table: &Table, faulted: bool, spot: Spot, order: Order) -> Went
+    ensures { λ r. ⌜ Turns (now (table .entry)) faulted spot order r ⌝ }
 {
     let m = order.marks;
     if inner_runs(table, spot.body, spot.parts, m) {
         return runs(order);
     }
-    undoes(table, with_fault, spot, order)
+    undoes(table, faulted, spot, order)
 }
