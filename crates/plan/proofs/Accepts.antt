@@ -4,7 +4,7 @@ use native.Mathlib.Omega.{arith}
 use native.Mathlib.Numerals.{one-add, sub-one}
 use mathlib.Core.Path.{_≡_, refl, sym, ap, _∙_}
 use mathlib.Core.Bool.{Bool, true, false, cond, not, _&&_, _||_, false≢true, or-assoc, and-false}
-use mathlib.Core.List.{List, [], _∷_, _++_, append-assoc, append-nil}
+use mathlib.Core.List.{List, [], _∷_, _++_, append-assoc, append-nil, map}
 use Prim.Native.Nat.{ℕ, zero, suc, _+_, _-_, _≤_, _<_}
 use lib.ListN.{length, take, drop, length-append, length-drop, take-append-drop}
 use lib.Seq.{length-take-le, drop-drop, drop-append-seam}
@@ -14,11 +14,12 @@ use Rattle.numbers.specs.Shortest.{shortest}
 use Rattle.numbers.specs.declared.Number.the-variants.{Value}
 use Rattle.numbers.proofs.Laws.{shortest-is-read}
 use Rattle.plan.specs.Found.{Found, found, andThen, numberIn, fieldIn, among}
-use Rattle.plan.specs.Read.{expressionCodeIn, operationOf, leafIn, expressionIn, variablesIn, tupleIn, Head, head, exchangeIn, armIn, partnerIn, withExpressionIn, setIn, listIn, raiseIn, codeIn, partsIn, headIn, manyIn, readArm, laterOf, readAct, startForm, correlationIn, versionIn, rootIn, readAny}
-use Rattle.plan.specs.Spell.{spell, operationCode, expressionNumbers, exchangeNumbers, ownNumbers, actNumbers, actsNumbers, planNumbers, spelling}
-use Rattle.plan.specs.Tree.{Operation, sum, difference, equal, less, Exp, constant, variable, binary, Own, empty, send, receive, set, raise, leave, choose, repeat, sequence, flow, pick, scope, arm, kind, Act, act, Acts, none, more, Plan, size, sizes, count, isPick, isScope}
-use Rattle.plan.specs.Within.{expressionWithin, variablesWithin, exchangeWithin, from1, ownWithin, actWithin, actsWithin, ascending, planWithin}
-use Rattle.plan.proofs.ByKind.{raise-limits}
+use Rattle.plan.specs.Read.{expressionCodeIn, operationOf, leafIn, expressionIn, variablesIn, tupleIn, Head, head, exchangeIn, armIn, partnerIn, withExpressionIn, setIn, listIn, raiseIn, namable, faultNumberIn, isScopeCode, codeIn, partsIn, headIn, manyIn, numberedHead, numberedIn, numberedScopeIn, readArm, laterOf, readAct, startForm, correlationIn, versionIn, rootIn, readAny}
+use Rattle.plan.specs.Spell.{spell, operationCode, expressionNumbers, exchangeNumbers, ownNumbers, gapsOf, actNumbers, actsNumbers, planNumbers, spelling}
+use Rattle.plan.specs.Tree.{Operation, sum, difference, equal, less, Exp, constant, variable, binary, Own, empty, send, receive, set, raise, leave, choose, repeat, sequence, flow, pick, scope, arm, kind, numbersOf, Act, act, Acts, none, more, Plan, size, sizes, count, isPick, isScope}
+use Rattle.plan.specs.Within.{expressionWithin, variablesWithin, exchangeWithin, from1, numbersEach, numbersWithin, ownWithin, actWithin, actsWithin, ascending, planWithin}
+use Rattle.plan.proofs.Stands.{scope-numbers}
+use Rattle.plan.proofs.ByKind.{raise-limits, ByNumber, plain, numbered, by-number, namable-small}
 
 -- both of two tests hold
 pub both : (a b : Bool) {P : Type 0} → (a && b) ≡ true → (a ≡ true → b ≡ true → P) → P
@@ -74,6 +75,12 @@ module _ {rest s : List ℕ} {at : ℕ} {ns : List ℕ} where
   unfolding fieldIn
   field l m h t = and-then _ (number h t) (λ next u. rw (le-ltb _ _ l, lt-leb _ _ m) (ends u))
 
+-- the number of a fault part, none of those read
+fault-number : {rest s : List ℕ} {at x : ℕ} {ns : List ℕ} (read : List ℕ) → namable x ≡ true → among x read ≡ false → Left rest s at (x ∷ ns)
+    → Gives rest s (faultNumberIn s read at) x ns
+unfolding faultNumberIn
+fault-number {x = x} read h k t = and-then _ (number (omega (arith, namable-small x h)) t) (λ next u. rw (h, k) (ends u))
+
 -- Expressions.
 
 record Code (o : Operation) : Type 0 where
@@ -113,6 +120,13 @@ apart-next false read l v a h w m = refl
 apart-next true read l v a h w m =
     let n : eqb w v ≡ false = ne-eqb w v (λ e. false≢true (sym h ∙ rw e at m)) in
     rw (among-append w read (v ∷ []), n, a w (rw n m))
+
+-- the same where those that are read are the latest first
+apart-more : (read l : List ℕ) (v : ℕ) → Apart true read (v ∷ l) → among v l ≡ false → Apart true (v ∷ read) l
+unfolding Apart among
+apart-more read l v a h w m =
+    let n : eqb w v ≡ false = ne-eqb w v (λ e. false≢true (sym h ∙ rw e at m)) in
+    rw n (a w (rw n m))
 
 -- What an exchange within the limits keeps to.
 record Exchange (vars : ℕ) (once : Bool) (partner operation : ℕ) (variables : List ℕ) : Type 0 where
@@ -217,7 +231,7 @@ module _ {rest s : List ℕ} (vars : ℕ) (few : vars ≤ 16) where
   a-raise number l t = and-then _ (field (l .0) (l .1) (omega (arith, l .1)) t) (λ p u. ends u)
 
   module _ (handler : Bool) {depth n : ℕ} (levels : 0 < depth) (room : n < 256) where
-    code : {code at : ℕ} {ns : List ℕ} → code ≤ 13 → (handler && (eqb code 11 || eqb code 12)) ≡ false → Left rest s at (code ∷ ns)
+    code : {code at : ℕ} {ns : List ℕ} → code ≤ 14 → (handler && isScopeCode code) ≡ false → Left rest s at (code ∷ ns)
         → Gives rest s (codeIn s handler depth n at) code ns
     unfolding codeIn
     code h k t =
@@ -227,48 +241,54 @@ module _ {rest s : List ℕ} (vars : ℕ) (few : vars ≤ 16) where
     coded : (cs : List ℕ) {code at : ℕ} {h : Head} {ms ns : List ℕ} → code ≤ 10 → Left rest s at (code ∷ ms)
         → ((p : ℕ) → Left rest s p ms → Gives rest s (partsIn vars cs s code p) h ns) → Gives rest s (headIn vars cs s handler depth n at) h ns
     unfolding headIn
-    coded cs {code = c} k t parts = and-then _ (code (omega arith) (rw (ne-eqb c 11 (λ z. omega arith), ne-eqb c 12 (λ z. omega arith)) (and-false handler)) t) parts
+    coded cs {code = c} k t parts = and-then _ (code (omega arith) (rw (ne-eqb c 11 (λ z. omega arith), ne-eqb c 12 (λ z. omega arith), ne-eqb c 14 (λ z. omega arith)) (and-false handler)) t) parts
 
-    -- an activity before those within it
-    an-own : (cs : List ℕ) (own : Own) (within : ℕ) {at : ℕ} {ns : List ℕ} → ownWithin vars cs handler false own within ≡ true
+    -- an activity before those within it; a scope with fault parts by number below
+    an-own : (cs : List ℕ) (own : Own) (within : ℕ) {at : ℕ} {ns : List ℕ} → numbersOf own ≡ [] → ownWithin vars cs handler false own within ≡ true
         → Left rest s at (ownNumbers own within ++ ns) → Gives rest s (headIn vars cs s handler depth n at) (head own within) ns
     unfolding headIn partsIn ownWithin ownNumbers exchangeNumbers
-    an-own cs empty within h t = rw (eqb-true within 0 h) (coded cs (omega arith) t (λ p u. ends u))
-    an-own cs (send partner operation l) within h t =
+    an-own cs empty within k h t = rw (eqb-true within 0 h) (coded cs (omega arith) t (λ p u. ends u))
+    an-own cs (send partner operation l) within k h t =
         both (eqb within 0) _ h (λ z x. rw (eqb-true within 0 z)
         (coded cs (omega arith) t (λ p u. with-partner (exchange-of vars false partner operation l x) send u)))
-    an-own cs (receive partner operation l) within h t =
+    an-own cs (receive partner operation l) within k h t =
         both (eqb within 0) _ h (λ z x. rw (eqb-true within 0 z)
         (coded cs (omega arith) t (λ p u. with-partner (exchange-of vars true partner operation l x) receive u)))
-    an-own cs (set v e) within h t =
+    an-own cs (set v e) within k h t =
         both (eqb within 0) _ h (λ z h1. both (ltb v vars) _ h1 (λ x h2. both (not (among v cs)) _ h2 (λ y w. rw (eqb-true within 0 z)
         (coded cs (omega arith) t (λ p u. a-set cs v e x (not-true _ y) w u)))))
-    an-own cs (raise zero) within h t =
+    an-own cs (raise zero) within k h t =
         both (eqb within 0) _ h (λ z x. rw (eqb-true within 0 z) (coded cs (omega arith) t (λ p u. ends u)))
-    an-own cs (raise (suc number)) within h t =
+    an-own cs (raise (suc number)) within k h t =
         both (eqb within 0) _ h (λ z x. rw (eqb-true within 0 z) (and-then _ (code (omega arith) (and-false handler) t) (λ p u. a-raise (suc number) (raise-limits number x) u)))
-    an-own cs leave within h t = rw (eqb-true within 0 h) (coded cs (omega arith) t (λ p u. ends u))
-    an-own cs (choose e) within h t =
+    an-own cs leave within k h t = rw (eqb-true within 0 h) (coded cs (omega arith) t (λ p u. ends u))
+    an-own cs (choose e) within k h t =
         both (eqb within 2) _ h (λ z x. rw (eqb-true within 2 z) (coded cs (omega arith) t (λ p u. with-expression choose 2 e x u)))
-    an-own cs (repeat e) within h t =
+    an-own cs (repeat e) within k h t =
         both (eqb within 1) _ h (λ z x. rw (eqb-true within 1 z) (coded cs (omega arith) t (λ p u. with-expression repeat 1 e x u)))
-    an-own cs sequence within h t = coded cs (omega arith) t (λ p u. a-list sequence 32 within h (omega arith) u)
-    an-own cs flow within h t = coded cs (omega arith) t (λ p u. a-list flow 32 within h (omega arith) u)
-    an-own cs pick within h t = coded cs (omega arith) t (λ p u. a-list pick 8 within h (omega arith) u)
-    an-own cs (scope true) within h t =
-        both (eqb within 3) _ h (λ z x. rw (eqb-true within 3 z)
-        (and-then _ (code (omega arith) (rw (not-true handler x)) t) (λ p u. ends u)))
-    an-own cs (scope false) within h t =
-        both (eqb within 2) _ h (λ z x. rw (eqb-true within 2 z)
-        (and-then _ (code (omega arith) (rw (not-true handler x)) t) (λ p u. ends u)))
-    an-own cs (arm partner operation l) within h t = absurd (false≢true h)
+    an-own cs sequence within k h t = coded cs (omega arith) t (λ p u. a-list sequence 32 within h (omega arith) u)
+    an-own cs flow within k h t = coded cs (omega arith) t (λ p u. a-list flow 32 within h (omega arith) u)
+    an-own cs pick within k h t = coded cs (omega arith) t (λ p u. a-list pick 8 within h (omega arith) u)
+    an-own cs (scope [] true) within k h t =
+        both (eqb within 3) _ h (λ z x. both (not handler) _ x (λ y w. rw (eqb-true within 3 z)
+        (and-then _ (code (omega arith) (rw (not-true handler y)) t) (λ p u. ends u))))
+    an-own cs (scope [] false) within k h t =
+        both (eqb within 2) _ h (λ z x. both (not handler) _ x (λ y w. rw (eqb-true within 2 z)
+        (and-then _ (code (omega arith) (rw (not-true handler y)) t) (λ p u. ends u))))
+    an-own cs (scope (n ∷ l) undo) within k h t = let z : _≡_ {A = ℕ} 0 1 = cc in absurd (omega arith)
+    an-own cs (arm partner operation l) within k h t = absurd (false≢true h)
+
+    -- a scope with fault parts by number, before its body
+    numbered-own : (cs : List ℕ) {at : ℕ} {ns : List ℕ} → handler ≡ false → Left rest s at (14 ∷ ns) → Gives rest s (headIn vars cs s handler depth n at) numberedHead ns
+    unfolding headIn partsIn
+    numbered-own cs e t = and-then _ (code (omega arith) (rw e) t) (λ p u. ends u)
 
   -- an arm before the activity within it
   an-arm-own : (cs : List ℕ) (handler : Bool) (own : Own) (within : ℕ) {n at : ℕ} {ns : List ℕ} → n < 256 → ownWithin vars cs handler true own within ≡ true
-      → Left rest s at (ownNumbers own within ++ ns) → ((isScope own ≡ false) × (isPick own ≡ false)) × Gives rest s (armIn vars s n at) (head own within) ns
+      → Left rest s at (ownNumbers own within ++ ns) → ((isScope own ≡ false) × ((isPick own ≡ false) × (numbersOf own ≡ []))) × Gives rest s (armIn vars s n at) (head own within) ns
   unfolding ownWithin ownNumbers exchangeNumbers kind
   an-arm-own cs handler (arm partner operation l) within room h t =
-      ((refl, refl), both (eqb within 1) _ h (λ z x. rw (eqb-true within 1 z) (an-arm (exchange-of vars true partner operation l x) room t)))
+      ((refl, (refl, refl)), both (eqb within 1) _ h (λ z x. rw (eqb-true within 1 z) (an-arm (exchange-of vars true partner operation l x) room t)))
   an-arm-own cs handler empty within room h t = absurd (false≢true h)
   an-arm-own cs handler (send partner operation l) within room h t = absurd (false≢true h)
   an-arm-own cs handler (receive partner operation l) within room h t = absurd (false≢true h)
@@ -280,7 +300,7 @@ module _ {rest s : List ℕ} (vars : ℕ) (few : vars ≤ 16) where
   an-arm-own cs handler sequence within room h t = absurd (false≢true h)
   an-arm-own cs handler flow within room h t = absurd (false≢true h)
   an-arm-own cs handler pick within room h t = absurd (false≢true h)
-  an-arm-own cs handler (scope v) within room h t = absurd (false≢true h)
+  an-arm-own cs handler (scope ns v) within room h t = absurd (false≢true h)
 
 -- Activities and arms with those within them.
 
@@ -293,42 +313,93 @@ module _ (rest s : List ℕ) (vars : ℕ) (few : vars ≤ 16) (cs : List ℕ) wh
   Accepted a = (arms handler : Bool) (depth n at : ℕ) (ns : List ℕ) → n + size a ≤ 256 → actWithin vars cs handler arms a depth ≡ true
       → Left rest s at (actNumbers a ++ ns) → Gives rest s (reader vars cs s arms depth handler n at) a ns
 
-  AllAccepted : Acts → Type 0
-  AllAccepted l = (arms handler later : Bool) (depth n at : ℕ) (ns : List ℕ) → n + sizes l ≤ 256
+  EachAccepted : Acts → Type 0
+  EachAccepted none = Unit
+  EachAccepted (more a l) = Accepted a × EachAccepted l
+
+  many-accepted : (l : Acts) → EachAccepted l → (arms handler later : Bool) (depth n at : ℕ) (ns : List ℕ) → n + sizes l ≤ 256
       → actsWithin vars cs handler later arms l depth ≡ true
-      → Left rest s at (actsNumbers l ++ ns) → Gives rest s (manyIn (reader vars cs s arms depth) handler later (count l) n at) l ns
-
-  act-accepted : (own : Own) (l : Acts) → AllAccepted l → Accepted (act own l)
-  unfolding Accepted AllAccepted actWithin actNumbers size readAct readArm
-  act-accepted own l all true handler depth n at ns room h t =
-      both (ownWithin vars cs handler true own (count l)) _ h (λ x y.
-      let (k, o) = an-arm-own vars few cs handler own (count l) (omega arith) x (rw append-assoc at t) in
-      and-then _ o (λ p u. and-then _ (all false handler handler depth (n + 1) p ns (omega arith) (rw (k .0, k .1) at y) u) (λ q w. ends w)))
-  act-accepted own l all false handler zero n at ns room h t = absurd (false≢true h)
-  act-accepted own l all false handler (suc d) n at ns room h t =
-      both (ltb 0 (suc d)) _ h (λ _ h1. both (ownWithin vars cs handler false own (count l)) _ h1 (λ x y.
-      and-then _ (an-own vars few handler (omega arith) (omega arith) cs own (count l) x (rw append-assoc at t)) (λ p u.
-      and-then _ (all (isPick own) handler (laterOf own handler) d (n + 1) p ns (omega arith) (rw (sub-one (suc d)) at y) u) (λ q w. ends w))))
-
-  more-accepted : (a : Act) (l : Acts) → Accepted a → AllAccepted l → AllAccepted (more a l)
-  unfolding Accepted AllAccepted actsWithin actsNumbers sizes count manyIn
-  more-accepted a l one all arms handler later depth n at ns room h t =
+      → Left rest s at (actsNumbers [] l ++ ns) → Gives rest s (manyIn (reader vars cs s arms depth) handler later (count l) n at) l ns
+  unfolding Accepted EachAccepted actsWithin actsNumbers sizes count manyIn
+  many-accepted none each arms handler later depth n at ns room h t = ends t
+  many-accepted (more a l) each arms handler later depth n at ns room h t =
       both (actWithin vars cs handler arms a depth) _ h (λ x y.
       rw (one-add (count l))
-      (and-then _ (one arms handler depth n at (actsNumbers l ++ ns) (omega arith) x (rw append-assoc at t)) (λ p u.
-      and-then _ (all arms later later depth (n + size a) p ns (omega arith) y u) (λ q w. ends w))))
+      (and-then _ (each .0 arms handler depth n at (actsNumbers [] l ++ ns) (omega arith) x (rw (append-assoc (actNumbers a) (actsNumbers [] l) ns) at t)) (λ p u.
+      and-then _ (many-accepted l (each .1) arms later later depth (n + size a) p ns (omega arith) y u) (λ q w. ends w))))
 
-  none-accepted : AllAccepted none
-  unfolding AllAccepted actsNumbers count manyIn
-  none-accepted arms handler later depth n at ns room h t = ends t
+  -- fault parts by number, each behind its number, and what follows them
+  parts-accepted : (numbers : List ℕ) (l : Acts) → EachAccepted l → (known : List ℕ) (depth n at : ℕ) (ns : List ℕ) → count l ≡ length numbers + 2
+      → n + sizes l ≤ 256 → actsWithin vars cs true true false l depth ≡ true → numbersEach numbers ≡ true → Apart true known numbers
+      → Left rest s at (actsNumbers (map (λ x. x ∷ []) numbers) l ++ ns)
+      → Gives rest s (numberedIn (readAct depth vars cs s) s (length numbers) known n at) (record { numbers = numbers; parts = l }) ns
+  unfolding Accepted EachAccepted actsWithin actsNumbers sizes count numbersEach numberedIn
+  parts-accepted [] l each known depth n at ns many room h f a t =
+      and-then _ (rw many at (many-accepted l each false true true depth n at ns room h t)) (λ p u. ends u)
+  parts-accepted (x ∷ l) none each known depth n at ns many room h f a t = absurd (omega arith)
+  parts-accepted (x ∷ l) (more b m) each known depth n at ns many room h f a t =
+      both (actWithin vars cs true false b depth) _ h (λ u v. both (namable x) _ f (λ g f1. both (not (among x l)) _ f1 (λ i j.
+      and-then _ (fault-number known g (apart-first true known l x a) t) (λ p w.
+      and-then _ (each .0 false true depth n p (actsNumbers (map (λ y. y ∷ []) l) m ++ ns) (omega arith) u (rw append-assoc at w)) (λ q w.
+      and-then _ (parts-accepted l m (each .1) (x ∷ known) depth (n + size b) q ns (omega arith) (omega arith) v j (apart-more known l x a (not-true _ i)) w) (λ z w.
+      ends w))))))
+
+  numbered-accepted : (number : ℕ) (numbers : List ℕ) (undo : Bool) (l : Acts) → EachAccepted l → (handler : Bool) (d n at : ℕ) (ns : List ℕ)
+      → n + (1 + sizes l) ≤ 256 → ownWithin vars cs handler false (scope (number ∷ numbers) undo) (count l) ≡ true → actsWithin vars cs handler true false l d ≡ true
+      → Left rest s at (actNumbers (act (scope (number ∷ numbers) undo) l) ++ ns)
+      → Gives rest s (readAct (suc d) vars cs s handler n at) (act (scope (number ∷ numbers) undo) l) ns
+  unfolding Accepted EachAccepted Apart among ownWithin numbersWithin actsWithin sizes count readAct numberedScopeIn
+  numbered-accepted x k undo none each handler d n at ns room h y t =
+      both (eqb 0 (length (x ∷ k) + cond undo 3 2)) _ h (λ e w. let f = eqb-true 0 (length (x ∷ k) + cond undo 3 2) e in absurd (omega arith))
+  numbered-accepted x k false (more b m) each handler d n at ns room h y t =
+      both (eqb (count (more b m)) (length (x ∷ k) + 2)) _ h (λ e h1. both (not handler) _ h1 (λ g h2. absurd (false≢true h2)))
+  numbered-accepted x k true (more b m) each handler d n at ns room h y t =
+      both (eqb (count (more b m)) (length (x ∷ k) + 3)) _ h (λ e h1. both (not handler) _ h1 (λ g h2. both (leb (length (x ∷ k)) 8) _ h2 (λ i j.
+      both (actWithin vars cs handler false b d) _ y (λ u v.
+      let few-numbers = leb-true (length (x ∷ k)) 8 i in
+      let parts : count m ≡ length (x ∷ k) + 2 = omega (arith, eqb-true (count (more b m)) (length (x ∷ k) + 3) e) in
+      let left : Left rest s at (14 ∷ ((actNumbers b ++ (length (x ∷ k) ∷ actsNumbers (map (λ z. z ∷ []) (x ∷ k)) m)) ++ ns)) =
+      rw (scope-numbers (x ∷ k) b m (omega arith) parts) at t in
+      and-then _ (numbered-own vars few handler (omega arith) (omega arith) cs (not-true handler g) left) (λ p t1.
+      and-then _ (each .0 false handler d (n + 1) p (length (x ∷ k) ∷ (actsNumbers (map (λ z. z ∷ []) (x ∷ k)) m ++ ns)) (omega arith) u (rw append-assoc at t1)) (λ q t2.
+      and-then _ (field (omega arith) (omega arith) (omega arith) t2) (λ z t3.
+      and-then _ (parts-accepted (x ∷ k) m (each .1) [] d (n + 1 + size b) z ns parts (omega arith) v j (λ w o. refl) t3) (λ o t4. ends t4))))))))
+
+  plain-accepted : (own : Own) (l : Acts) → numbersOf own ≡ [] → EachAccepted l → (handler : Bool) (d n at : ℕ) (ns : List ℕ)
+      → n + (1 + sizes l) ≤ 256 → ownWithin vars cs handler false own (count l) ≡ true → actsWithin vars cs handler (laterOf own handler) (isPick own) l d ≡ true
+      → Left rest s at (actNumbers (act own l) ++ ns) → Gives rest s (readAct (suc d) vars cs s handler n at) (act own l) ns
+  unfolding actNumbers gapsOf readAct
+  plain-accepted own l e each handler d n at ns room x y t =
+      let u : Left rest s at (ownNumbers own (count l) ++ (actsNumbers [] l ++ ns)) = rw (e, append-assoc) at t in
+      and-then _ (an-own vars few handler (omega arith) (omega arith) cs own (count l) e x u) (λ p u.
+      and-then _ (many-accepted l each (isPick own) handler (laterOf own handler) d (n + 1) p ns (omega arith) y u) (λ q w. ends w))
+
+  any-accepted : (own : Own) → ByNumber own → (l : Acts) → EachAccepted l → (handler : Bool) (d n at : ℕ) (ns : List ℕ)
+      → n + (1 + sizes l) ≤ 256 → ownWithin vars cs handler false own (count l) ≡ true → actsWithin vars cs handler (laterOf own handler) (isPick own) l d ≡ true
+      → Left rest s at (actNumbers (act own l) ++ ns) → Gives rest s (readAct (suc d) vars cs s handler n at) (act own l) ns
+  any-accepted own (plain e) l = plain-accepted own l e
+  any-accepted own (numbered x k undo) l = numbered-accepted x k undo l
+
+  act-accepted : (own : Own) (l : Acts) → EachAccepted l → Accepted (act own l)
+  unfolding Accepted actWithin actNumbers gapsOf size readArm
+  act-accepted own l each true handler depth n at ns room h t =
+      both (ownWithin vars cs handler true own (count l)) _ h (λ x y.
+      let (k, o) = an-arm-own vars few cs handler own (count l) (omega arith) x (rw append-assoc at t) in
+      and-then _ o (λ p u. and-then _ (many-accepted l each false handler handler depth (n + 1) p ns (omega arith) (rw (k .0, k .1 .0) at y) (rw (k .1 .1) at u)) (λ q w. ends w)))
+  act-accepted own l each false handler zero n at ns room h t = absurd (false≢true h)
+  act-accepted own l each false handler (suc d) n at ns room h t =
+      both (ltb 0 (suc d)) _ h (λ _ h1. both (ownWithin vars cs handler false own (count l)) _ h1 (λ x y.
+      any-accepted own (by-number own) l each handler d n at ns room x (rw (sub-one (suc d)) at y) t))
 
   mutual
-    accepted : (a : Act) → Accepted a
-    accepted (act own l) = act-accepted own l (all-accepted l)
+    unfolding EachAccepted
 
-    all-accepted : (l : Acts) → AllAccepted l
-    all-accepted none = none-accepted
-    all-accepted (more a l) = more-accepted a l (accepted a) (all-accepted l)
+    accepted : (a : Act) → Accepted a
+    accepted (act own l) = act-accepted own l (each-accepted l)
+
+    each-accepted : (l : Acts) → EachAccepted l
+    each-accepted none = tt
+    each-accepted (more a l) = (accepted a, each-accepted l)
 
 -- Plans.
 

@@ -54,7 +54,7 @@ read-found g t u flags e i w = rw e (record { is = i; put = w })
 
 over-long : (p : Plan) (t u : List ℕ) → u ≡ tableOver t p → length u ≡ length t
 unfolding tableOver
-over-long p t u e = ap length e ∙ length-putAll _ _ 0 0 t
+over-long p t u e = ap length e ∙ length-putAll [] _ _ 0 0 t
 
 of-table : (p : Plan) → planWithin p ≡ true → (t u : List ℕ) → length u ≡ 11584 → {k : ℕ} → k ≡ size (p .body) + size (p .fault) → u ≡ tableOver t p
     → rowsAsked k u 0 ≡ asked p

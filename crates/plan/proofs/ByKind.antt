@@ -1,16 +1,17 @@
--- Scopes, picks and raises are known by their kinds. Assumes nothing.
+-- Scopes, picks and raises are known by their kinds, and scopes with fault parts by number from all others. Assumes nothing.
 use mathlib.Core.Path.{_≡_, refl}
 use mathlib.Core.Bool.{Bool, true, false, cond, _||_, _&&_, false≢true}
-use mathlib.Core.List.{[], _∷_}
+use mathlib.Core.List.{List, [], _∷_}
 use Prim.Native.Nat.{ℕ, zero, suc, _≤_, _<_}
 use native.Mathlib.Omega.{arith}
 use borrow.Author.Tests.{leb-true, le-leb, ne-eqb}
 use lib.Dec.{leb, eqb}
+use Rattle.plan.specs.Read.{namable, isScopeCode}
 use Rattle.plan.specs.Spell.{ownNumbers}
 use Rattle.plan.specs.Within.{raiseWithin}
-use Rattle.plan.specs.Tree.{Own, empty, send, receive, set, raise, leave, choose, repeat, sequence, flow, pick, scope, arm, kind, isScope, isPick}
+use Rattle.plan.specs.Tree.{Own, empty, send, receive, set, raise, leave, choose, repeat, sequence, flow, pick, scope, arm, kind, isScope, isPick, numbersOf}
 
-pub kind-scope : (own : Own) → (eqb (kind own) 11 || eqb (kind own) 12) ≡ isScope own
+pub kind-scope : (own : Own) → isScopeCode (kind own) ≡ isScope own
 unfolding kind
 kind-scope empty = refl
 kind-scope (send p o vs) = refl
@@ -24,8 +25,9 @@ kind-scope (repeat e) = refl
 kind-scope sequence = refl
 kind-scope flow = refl
 kind-scope pick = refl
-kind-scope (scope true) = refl
-kind-scope (scope false) = refl
+kind-scope (scope [] true) = refl
+kind-scope (scope [] false) = refl
+kind-scope (scope (n ∷ ns) undo) = refl
 kind-scope (arm p o vs) = refl
 
 pub kind-pick : (own : Own) → eqb (kind own) 10 ≡ isPick own
@@ -42,8 +44,9 @@ kind-pick (repeat e) = refl
 kind-pick sequence = refl
 kind-pick flow = refl
 kind-pick pick = refl
-kind-pick (scope true) = refl
-kind-pick (scope false) = refl
+kind-pick (scope [] true) = refl
+kind-pick (scope [] false) = refl
+kind-pick (scope (n ∷ ns) undo) = refl
 kind-pick (arm p o vs) = refl
 
 -- a raise with a number, by its code and its numbers; and the numbers that a raise may have
@@ -68,3 +71,34 @@ raise-limits n e = go (leb 16 (suc n)) (leb (suc n) 255) (rw (ne-eqb (suc n) 0 (
     go : (a b : Bool) → (a && b) ≡ true → (a ≡ true → 16 ≤ suc n) → (b ≡ true → suc n ≤ 255) → (16 ≤ suc n) × (suc n < 256)
     go true b e f g = (f refl, omega (arith, g e))
     go false b e f g = absurd (false≢true e)
+
+-- a scope with fault parts by number, or anything else
+pub data ByNumber : Own → Type 0 where
+  plain : {own : Own} → numbersOf own ≡ [] → ByNumber own
+  numbered : (number : ℕ) (numbers : List ℕ) (undo : Bool) → ByNumber (scope (number ∷ numbers) undo)
+
+pub by-number : (own : Own) → ByNumber own
+by-number empty = plain refl
+by-number (send p o vs) = plain refl
+by-number (receive p o vs) = plain refl
+by-number (set v e) = plain refl
+by-number (raise n) = plain refl
+by-number leave = plain refl
+by-number (choose e) = plain refl
+by-number (repeat e) = plain refl
+by-number sequence = plain refl
+by-number flow = plain refl
+by-number pick = plain refl
+by-number (scope [] undo) = plain refl
+by-number (scope (n ∷ ns) undo) = numbered n ns undo
+by-number (arm p o vs) = plain refl
+
+-- the number of a fault part is a byte
+pub namable-small : (n : ℕ) → namable n ≡ true → n ≤ 255
+unfolding namable
+namable-small n e = go (leb n 4) (leb 16 n) (leb n 255) e (leb-true n 4) (leb-true n 255)
+  where
+    go : (a b c : Bool) → (a || (b && c)) ≡ true → (a ≡ true → n ≤ 4) → (c ≡ true → n ≤ 255) → n ≤ 255
+    go true b c e f g = omega (arith, f refl)
+    go false true c e f g = g e
+    go false false c e f g = absurd (false≢true e)

@@ -8,11 +8,11 @@ use lib.Dec.{eqb}
 use lib.ListN.{length, getD, length-set}
 use lib.ListN as lists
 use lib.Seq.{getD-set-same, getD-set-other}
-use Rattle.plan.specs.Spell.{operationCode}
+use Rattle.plan.specs.Spell.{operationCode, gapsOf, later, passing}
 use Rattle.plan.specs.Spells.{variablesOf}
-use Rattle.plan.specs.Store.{store}
+use Rattle.plan.specs.Store.{store, padded}
 use Rattle.plan.specs.Table.{row, rowOf, noted, putRow, nodesOf, putNode, putNodes, ownNodes, putOwnNodes, putOwn, putClose, nodes, nodesAll, put, putAll}
-use Rattle.plan.specs.Tree.{Exp, constant, variable, binary, Own, empty, send, receive, set, raise, leave, choose, repeat, sequence, flow, pick, scope, arm, kind, Act, act, Acts, none, more, size, sizes}
+use Rattle.plan.specs.Tree.{Exp, constant, variable, binary, Own, empty, send, receive, set, raise, leave, choose, repeat, sequence, flow, pick, scope, arm, kind, numbersOf, Act, act, Acts, none, more, size, sizes}
 
 -- u is as long as t, and has its numbers but from k up to, not including, e
 pub record But (k e : ℕ) (t u : List ℕ) : Type 0 where
@@ -84,30 +84,55 @@ unfoldable mutual
   PartnersAll none = Unit
   PartnersAll (more a l) = Partners a × PartnersAll l
 
--- the row of an activity, whatever it is
-pub row-is : (own : Own) (m at : ℕ)
+-- the row of an activity, whatever it is but a scope with fault parts by number
+pub row-is : (own : Own) (m at : ℕ) → numbersOf own ≡ []
     → rowOf own m at ≡ row (kind own) (partnerOf own) (getD (rowOf own 0 0) 2 0) (variablesOf own) (getD (rowOf own 0 0) 8 0) (getD (rowOf own m 0) 9 0) at
-unfolding rowOf kind variablesOf
-row-is empty m at = refl
-row-is (send p o vs) m at = refl
-row-is (receive p o vs) m at = refl
-row-is (set v e) m at = refl
-row-is (raise number) m at = refl
-row-is leave m at = refl
-row-is (choose e) m at = refl
-row-is (repeat e) m at = refl
-row-is sequence m at = refl
-row-is flow m at = refl
-row-is pick m at = refl
-row-is (scope true) m at = refl
-row-is (scope false) m at = refl
-row-is (arm p o vs) m at = refl
+unfolding rowOf kind variablesOf padded store
+row-is empty m at h = refl
+row-is (send p o vs) m at h = refl
+row-is (receive p o vs) m at h = refl
+row-is (set v e) m at h = refl
+row-is (raise zero) m at h = refl
+row-is (raise (suc number)) m at h = refl
+row-is leave m at h = refl
+row-is (choose e) m at h = refl
+row-is (repeat e) m at h = refl
+row-is sequence m at h = refl
+row-is flow m at h = refl
+row-is pick m at h = refl
+row-is (scope [] undo) m at h = refl
+row-is (scope (n ∷ ns) undo) m at h = let z : _≡_ {A = ℕ} 0 1 = cc in absurd (omega arith)
+row-is (arm p o vs) m at h = refl
+
+-- of any row: how long it is, its kind, its partner and its place
+pub record Rowed (own : Own) (m at : ℕ) : Type 0 where
+  pub long : length (rowOf own m at) ≡ 11
+  pub kind-is : getD (rowOf own m at) 0 0 ≡ kind own
+  pub partner-is : getD (rowOf own m at) 1 0 ≡ partnerOf own
+  pub place-is : getD (rowOf own m at) 10 0 ≡ at
+
+pub rowed : (own : Own) (m at : ℕ) → Rowed own m at
+unfolding rowOf kind
+rowed empty m at = record { long = refl; kind-is = refl; partner-is = refl; place-is = refl }
+rowed (send p o vs) m at = record { long = refl; kind-is = refl; partner-is = refl; place-is = refl }
+rowed (receive p o vs) m at = record { long = refl; kind-is = refl; partner-is = refl; place-is = refl }
+rowed (set v e) m at = record { long = refl; kind-is = refl; partner-is = refl; place-is = refl }
+rowed (raise zero) m at = record { long = refl; kind-is = refl; partner-is = refl; place-is = refl }
+rowed (raise (suc number)) m at = record { long = refl; kind-is = refl; partner-is = refl; place-is = refl }
+rowed leave m at = record { long = refl; kind-is = refl; partner-is = refl; place-is = refl }
+rowed (choose e) m at = record { long = refl; kind-is = refl; partner-is = refl; place-is = refl }
+rowed (repeat e) m at = record { long = refl; kind-is = refl; partner-is = refl; place-is = refl }
+rowed sequence m at = record { long = refl; kind-is = refl; partner-is = refl; place-is = refl }
+rowed flow m at = record { long = refl; kind-is = refl; partner-is = refl; place-is = refl }
+rowed pick m at = record { long = refl; kind-is = refl; partner-is = refl; place-is = refl }
+rowed (scope ns undo) m at = record { long = refl; kind-is = refl; partner-is = refl; place-is = refl }
+rowed (arm p o vs) m at = record { long = refl; kind-is = refl; partner-is = refl; place-is = refl }
 
 pub row-length : (own : Own) (m at : ℕ) → length (rowOf own m at) ≡ 11
-row-length own m at = ap length (row-is own m at)
+row-length own m at = rowed own m at .long
 
 pub row-noting : (own : Own) (m at : ℕ) → Noting (kind own) (partnerOf own) → Noting (getD (rowOf own m at) 0 0) (getD (rowOf own m at) 1 0)
-row-noting own m at p = rw (row-is own m at) p
+row-noting own m at p = rw (rowed own m at .kind-is, rowed own m at .partner-is) p
 
 -- Whatever is written between the rows n and e and the nodes m and f is written nowhere else. In each law k is the number of the row and j that of
 -- the first node that it writes.
@@ -188,7 +213,7 @@ module _ (n e m f : ℕ) (ordered : n ≤ e) (small : e ≤ 256) where
   putOwnNodes-kept sequence j t h g = kept-same n e m f t
   putOwnNodes-kept flow j t h g = kept-same n e m f t
   putOwnNodes-kept pick j t h g = kept-same n e m f t
-  putOwnNodes-kept (scope undo) j t h g = kept-same n e m f t
+  putOwnNodes-kept (scope ns undo) j t h g = kept-same n e m f t
   putOwnNodes-kept (arm p o vs) j t h g = kept-same n e m f t
 
   pub putOwn-kept : (own : Own) (at k j : ℕ) (t : List ℕ) → Noting (kind own) (partnerOf own) → n ≤ k → k < e → m ≤ j → j + ownNodes own ≤ f
@@ -209,13 +234,13 @@ module _ (n e m f : ℕ) (ordered : n ≤ e) (small : e ≤ 256) where
         kept-then
         (putOwn-kept own at k j t (p .0) h (omega arith) x (omega arith))
         (kept-then
-        (putAll-kept l _ (k + 1) (j + ownNodes own) _ (p .1) (omega arith) (omega arith) (omega arith) (omega arith))
+        (putAll-kept (gapsOf (numbersOf own)) l _ (k + 1) (j + ownNodes own) _ (p .1) (omega arith) (omega arith) (omega arith) (omega arith))
         (putClose-kept k _ _ _ h (omega arith)))
 
-    pub putAll-kept : (l : Acts) (at k j : ℕ) (t : List ℕ) → PartnersAll l → n ≤ k → k + sizes l ≤ e → m ≤ j → j + nodesAll l ≤ f
-        → Kept n e m f t (putAll l at k j t)
-    putAll-kept none at k j t p h g x y = kept-same n e m f t
-    putAll-kept (more a l) at k j t p h g x y =
+    pub putAll-kept : (gs : List (List ℕ)) (l : Acts) (at k j : ℕ) (t : List ℕ) → PartnersAll l → n ≤ k → k + sizes l ≤ e → m ≤ j → j + nodesAll l ≤ f
+        → Kept n e m f t (putAll gs l at k j t)
+    putAll-kept gs none at k j t p h g x y = kept-same n e m f t
+    putAll-kept gs (more a l) at k j t p h g x y =
         kept-then
-        (put-kept a at k j t (p .0) h (omega arith) x (omega arith))
-        (putAll-kept l _ (k + size a) (j + nodes a) _ (p .1) (omega arith) (omega arith) (omega arith) (omega arith))
+        (put-kept a (passing gs at) k j t (p .0) h (omega arith) x (omega arith))
+        (putAll-kept (later gs) l _ (k + size a) (j + nodes a) _ (p .1) (omega arith) (omega arith) (omega arith) (omega arith))

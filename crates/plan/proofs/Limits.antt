@@ -1,9 +1,9 @@
 -- What is accepted as a plan is a plan within the limits. Assumes nothing.
-use borrow.Author.Tests.{ltb-false, leb-false, eqb-false, not-true, lt-ltb, le-leb, ne-eqb}
+use borrow.Author.Tests.{ltb-false, leb-false, eqb-true, eqb-false, not-true, lt-ltb, le-leb, eq-eqb, ne-eqb}
 use native.Mathlib.Omega.{arith}
 use native.Mathlib.Numerals.{sub-one}
 use mathlib.Core.Path.{_≡_, refl, sym, _∙_}
-use mathlib.Core.Bool.{Bool, true, false, not, _&&_, _||_, false≢true, and-true, and-false}
+use mathlib.Core.Bool.{Bool, true, false, cond, not, _&&_, _||_, false≢true, and-true, and-false}
 use mathlib.Core.Logic.{_↔_}
 use mathlib.Core.List.{List, [], _∷_, _++_, append-assoc, append-nil}
 use Prim.Native.Nat.{ℕ, zero, suc, _+_, _≤_, _<_}
@@ -16,14 +16,14 @@ use Rattle.numbers.specs.declared.Number.the-variants.{Value, Short, Bad}
 use Rattle.numbers.proofs.Laws.{value-bounds}
 use Rattle.plan.specs.Agree.{agree}
 use Rattle.plan.specs.Found.{Found, found, foundNumber, numberIn, fieldIn, among}
-use Rattle.plan.specs.Read.{expressionCodeIn, leafIn, expressionIn, variablesIn, tupleIn, Head, head, exchangeIn, armIn, partnerIn, withExpressionIn, setIn, listIn, raiseIn, codeIn, partsIn, headIn, manyIn, readArm, laterOf, readAct, startForm, correlationIn, versionIn, rootIn, readAny, readPlan}
+use Rattle.plan.specs.Read.{expressionCodeIn, leafIn, expressionIn, variablesIn, tupleIn, Head, head, exchangeIn, armIn, partnerIn, withExpressionIn, setIn, listIn, raiseIn, namable, faultNumberIn, isScopeCode, codeIn, partsIn, headIn, manyIn, Numbered, numberedIn, numberedScopeIn, wholeIn, readArm, readsIn, laterOf, readAct, startForm, correlationIn, versionIn, rootIn, readAny, readPlan}
 use Rattle.plan.specs.Spell.{spelling}
-use Rattle.plan.specs.Tree.{Exp, Own, send, receive, set, choose, repeat, sequence, flow, pick, arm, kind, Act, Plan, size, isPick, isScope}
-use Rattle.plan.specs.Within.{expressionWithin, variablesWithin, exchangeWithin, from1, raiseWithin, ownWithin, actWithin, actsWithin, ascending, planWithin}
+use Rattle.plan.specs.Tree.{Exp, Own, send, receive, set, choose, repeat, sequence, flow, pick, scope, arm, kind, Act, act, Acts, more, Plan, size, count, isPick, isScope}
+use Rattle.plan.specs.Within.{expressionWithin, variablesWithin, exchangeWithin, from1, raiseWithin, numbersEach, numbersWithin, ownWithin, actWithin, actsWithin, ascending, planWithin}
 use Rattle.plan.proofs.Accepts.{both, among-append, reader, spelled-is-read}
 use Rattle.plan.proofs.Agreeing.{accepted-any, accepted-agrees, spelled-is-accepted}
 use Rattle.plan.proofs.Finds.{Finds, finds-refused, finds-itself, finds-found, finds-cond, finds-code, finds-then, finds-both, finds-so}
-use Rattle.plan.proofs.Stands.{neither, field-within, many-count, plan-stands}
+use Rattle.plan.proofs.Stands.{neither, field-within, Plain, HeadIs, plain, numbered, arm-plain, head-is, Reads, many-count, NumberedStands, numbered-stands, act-stands, plan-stands}
 use Rattle.plan.proofs.Spelled.{accepted-is-spelled}
 use Rattle.plan.proofs.Bounds.{act-numbered}
 use Rattle.plan.proofs.ByKind.{raise-allowed}
@@ -122,40 +122,43 @@ module _ (vars : ℕ) (s : List ℕ) (P : Head → Type 0) where
       finds-then (field-within s 1 (most + 1) at)
       (λ within next h. finds-found (f within (rw (le-leb 1 within (h .0), le-leb within most (omega (arith, h .1))))))
 
--- what an activity or arm says of itself is within the limits
-abbrev pub HeadWithin : (vars : ℕ) (cs : List ℕ) (handler arms : Bool) → Head → Type 0
-HeadWithin vars cs handler arms h = ownWithin vars cs handler arms (h .own) (h .within) ≡ true
+-- what an activity says of itself is within the limits; a scope with fault parts by number stands in no fault or undo part
+abbrev pub HeadWithin : (vars : ℕ) (cs : List ℕ) (handler : Bool) → Head → Type 0
+HeadWithin vars cs handler h = cond (h .numbered) (not handler) (ownWithin vars cs handler false (h .own) (h .within)) ≡ true
 
-pub arm-within : (vars : ℕ) (cs s : List ℕ) (handler : Bool) (n at : ℕ)
-    → Finds (λ h next. ((isScope (h .own) ≡ false) × (isPick (h .own) ≡ false)) × HeadWithin vars cs handler true h) (armIn vars s n at)
+-- what an arm says of itself
+abbrev pub ArmWithin : (vars : ℕ) (cs : List ℕ) (handler : Bool) → Head → Type 0
+ArmWithin vars cs handler h = ((isScope (h .own) ≡ false) × (isPick (h .own) ≡ false)) × (ownWithin vars cs handler true (h .own) (h .within) ≡ true)
+
+pub arm-within : (vars : ℕ) (cs s : List ℕ) (handler : Bool) (n at : ℕ) → Finds (λ h next. ArmWithin vars cs handler h) (armIn vars s n at)
 unfolding armIn ownWithin kind
 arm-within vars cs s handler n at =
     finds-then (field-within s 0 64 at)
     (λ partner p h. finds-cond (leb 256 n) (λ t. finds-refused)
-    (λ t. exchange-within vars s (λ g. ((isScope (g .own) ≡ false) × (isPick (g .own) ≡ false)) × HeadWithin vars cs handler true g) true partner (arm partner) 1 p (h .1) (λ operation l x. ((refl, refl), x))))
+    (λ t. exchange-within vars s (ArmWithin vars cs handler) true partner (arm partner) 1 p (h .1) (λ operation l x. ((refl, refl), x))))
 
 module _ (vars : ℕ) (cs s : List ℕ) (handler : Bool) where
   partner-within : (once : Bool) (own : ℕ → ℕ → List ℕ → Own) (at : ℕ)
       → ((partner operation : ℕ) (l : List ℕ) → exchangeWithin vars once partner operation l ≡ true → ownWithin vars cs handler false (own partner operation l) 0 ≡ true)
-      → Finds (λ h next. HeadWithin vars cs handler false h) (partnerIn vars once s own at)
+      → Finds (λ h next. HeadWithin vars cs handler h) (partnerIn vars once s own at)
   unfolding partnerIn
   partner-within once own at f =
-      finds-then (field-within s 0 64 at) (λ partner p h. exchange-within vars s (HeadWithin vars cs handler false) once partner (own partner) 0 p (h .1) (f partner))
+      finds-then (field-within s 0 64 at) (λ partner p h. exchange-within vars s (HeadWithin vars cs handler) once partner (own partner) 0 p (h .1) (f partner))
 
-  set-within : (at : ℕ) → Finds (λ h next. HeadWithin vars cs handler false h) (setIn vars cs s at)
+  set-within : (at : ℕ) → Finds (λ h next. HeadWithin vars cs handler h) (setIn vars cs s at)
   unfolding setIn ownWithin
   set-within at =
       finds-then (field-within s 0 vars at)
       (λ v p h. finds-cond (among v cs) (λ t. finds-refused)
-      (λ t. with-expression-within vars s (HeadWithin vars cs handler false) (set v) 0 p (λ e x. rw (lt-ltb v vars (h .1), t, x))))
+      (λ t. with-expression-within vars s (HeadWithin vars cs handler) (set v) 0 p (λ e x. rw (lt-ltb v vars (h .1), t, x))))
 
-  raise-within : (at : ℕ) → Finds (λ h next. HeadWithin vars cs handler false h) (raiseIn s at)
+  raise-within : (at : ℕ) → Finds (λ h next. HeadWithin vars cs handler h) (raiseIn s at)
   unfolding raiseIn ownWithin
   raise-within at = finds-then (field-within s 16 256 at) (λ n p h. finds-found (raise-allowed n (h .0) (h .1)))
 
   -- the table of codes
-  parts-within : (code at : ℕ) → code ≤ 13 → (handler && (eqb code 11 || eqb code 12)) ≡ false → Finds (λ h next. HeadWithin vars cs handler false h) (partsIn vars cs s code at)
-  unfolding partsIn ownWithin raiseWithin
+  parts-within : (code at : ℕ) → code ≤ 14 → (handler && isScopeCode code) ≡ false → Finds (λ h next. HeadWithin vars cs handler h) (partsIn vars cs s code at)
+  unfolding partsIn ownWithin raiseWithin numbersWithin
   parts-within code at m k =
       finds-code code 0 (omega arith) (λ e. finds-found refl)
       (λ l. finds-code code 1 l (λ e. partner-within false send at (λ partner operation variables x. x))
@@ -163,24 +166,59 @@ module _ (vars : ℕ) (cs s : List ℕ) (handler : Bool) where
       (λ l. finds-code code 3 l (λ e. set-within at)
       (λ l. finds-code code 4 l (λ e. finds-found refl)
       (λ l. finds-code code 5 l (λ e. finds-found refl)
-      (λ l. finds-code code 6 l (λ e. with-expression-within vars s (HeadWithin vars cs handler false) choose 2 at (λ x h. h))
-      (λ l. finds-code code 7 l (λ e. with-expression-within vars s (HeadWithin vars cs handler false) repeat 1 at (λ x h. h))
-      (λ l. finds-code code 8 l (λ e. list-within vars s (HeadWithin vars cs handler false) sequence 32 at (λ x h. h))
-      (λ l. finds-code code 9 l (λ e. list-within vars s (HeadWithin vars cs handler false) flow 32 at (λ x h. h))
-      (λ l. finds-code code 10 l (λ e. list-within vars s (HeadWithin vars cs handler false) pick 8 at (λ x h. h))
+      (λ l. finds-code code 6 l (λ e. with-expression-within vars s (HeadWithin vars cs handler) choose 2 at (λ x h. h))
+      (λ l. finds-code code 7 l (λ e. with-expression-within vars s (HeadWithin vars cs handler) repeat 1 at (λ x h. h))
+      (λ l. finds-code code 8 l (λ e. list-within vars s (HeadWithin vars cs handler) sequence 32 at (λ x h. h))
+      (λ l. finds-code code 9 l (λ e. list-within vars s (HeadWithin vars cs handler) flow 32 at (λ x h. h))
+      (λ l. finds-code code 10 l (λ e. list-within vars s (HeadWithin vars cs handler) pick 8 at (λ x h. h))
       (λ l. finds-code code 11 l (λ e. finds-found (rw (sym (and-true handler) ∙ rw e at k)))
       (λ l. finds-code code 12 l (λ e. finds-found (rw (sym (and-true handler) ∙ rw e at k)))
-      (λ l. raise-within at)))))))))))))
+      (λ l. finds-code code 13 l (λ e. raise-within at)
+      (λ l. let e : code ≡ 14 = omega arith in finds-found (rw (sym (and-true handler) ∙ rw e at k))))))))))))))))
 
-  pub head-within : (depth n at : ℕ) → Finds (λ h next. HeadWithin vars cs handler false h) (headIn vars cs s handler depth n at)
+  pub head-within : (depth n at : ℕ) → Finds (λ h next. HeadWithin vars cs handler h) (headIn vars cs s handler depth n at)
   unfolding headIn codeIn
   head-within depth n at =
       finds-then
-      (finds-then {Q = λ code next. (code ≤ 13) × ((handler && (eqb code 11 || eqb code 12)) ≡ false)} (finds-itself (numberIn s at))
-      (λ code next h. finds-cond (ltb 13 code) (λ t. finds-refused)
-      (λ t. finds-cond (handler && (eqb code 11 || eqb code 12)) (λ u. finds-refused)
-      (λ u. finds-cond (eqb depth 0 || leb 256 n) (λ w. finds-refused) (λ w. finds-found (ltb-false 13 code t, u))))))
+      (finds-then {Q = λ code next. (code ≤ 14) × ((handler && isScopeCode code) ≡ false)} (finds-itself (numberIn s at))
+      (λ code next h. finds-cond (ltb 14 code) (λ t. finds-refused)
+      (λ t. finds-cond (handler && isScopeCode code) (λ u. finds-refused)
+      (λ u. finds-cond (eqb depth 0 || leb 256 n) (λ w. finds-refused) (λ w. finds-found (ltb-false 14 code t, u))))))
       (λ code next h. parts-within code next (h .0) (h .1))
+
+-- The numbers of fault parts.
+
+-- none of ns is among those known
+abbrev Others : (known ns : List ℕ) → Type 0
+Others known ns = (w : ℕ) → among w ns ≡ true → among w known ≡ false
+
+others-itself : (x : ℕ) (known ns : List ℕ) → Others (x ∷ known) ns → among x ns ≡ false
+unfolding among
+others-itself x known ns f = go (among x ns) (λ e. rw (eq-eqb x x refl) at (f x e))
+  where
+    go : (b : Bool) → (b ≡ true → true ≡ false) → b ≡ false
+    go true g = g refl
+    go false g = refl
+
+others-more : (x : ℕ) (known ns : List ℕ) → among x known ≡ false → Others (x ∷ known) ns → Others known (x ∷ ns)
+unfolding among
+others-more x known ns h f w e = go (eqb w x) refl
+  where
+    go : (b : Bool) → eqb w x ≡ b → among w known ≡ false
+    go true q = rw (eqb-true w x q) h
+    go false q = neither (eqb w x) (among w known) (f w (rw q at e)) .1
+
+numbers-allowed : (ns : List ℕ) → length ns ≤ 8 → numbersEach ns ≡ true → numbersWithin ns true ≡ true
+unfolding numbersWithin
+numbers-allowed [] h e = refl
+numbers-allowed (x ∷ ns) h e = rw (le-leb (length (x ∷ ns)) 8 h, e)
+
+-- a number that a fault part may have, none of those known
+fault-number-within : (s known : List ℕ) (at : ℕ) → Finds (λ x next. (namable x ≡ true) × (among x known ≡ false)) (faultNumberIn s known at)
+unfolding faultNumberIn
+fault-number-within s known at =
+    finds-then (finds-itself (numberIn s at))
+    (λ x next h. finds-cond (namable x && not (among x known)) (λ t. both (namable x) _ t (λ a b. finds-found (a, not-true (among x known) b))) (λ t. finds-refused))
 
 -- Activities and arms with those within them.
 
@@ -197,31 +235,82 @@ module _ (vars : ℕ) (cs s : List ℕ) where
       finds-then (r handler n at)
       (λ a p h. finds-then (many-within arms depth read r later later left (n + size a) p) (λ l q m. finds-found (rw (h, m))))
 
+  -- fault parts by number, and what follows them
+  record PartsWithin (depth : ℕ) (known : List ℕ) (c : Numbered) : Type 0 where
+    each : numbersEach (c .numbers) ≡ true
+    others : Others known (c .numbers)
+    parts : actsWithin vars cs true true false (c .parts) depth ≡ true
+
+  numbered-within : (depth : ℕ) (read : Bool → ℕ → ℕ → Found Act) → Keeps vars cs false depth read → (left : ℕ) (known : List ℕ) (n at : ℕ)
+      → Finds (λ c next. PartsWithin depth known c) (numberedIn read s left known n at)
+  unfolding numberedIn actsWithin numbersEach among
+  numbered-within depth read r zero known n at =
+      finds-then (many-within false depth read r true true 2 n at)
+      (λ l next h. finds-found (record { each = refl; others = λ w e. absurd (false≢true e); parts = h }))
+  numbered-within depth read r (suc left) known n at =
+      finds-then (fault-number-within s known at)
+      (λ x p h. finds-then (r true n p)
+      (λ a q k. finds-then (numbered-within depth read r left (x ∷ known) (n + size a) q)
+      (λ c next m. finds-found (record {
+        each = rw (h .0, others-itself x known (c .numbers) (m .others), m .each);
+        others = others-more x known (c .numbers) (h .1) (m .others);
+        parts = rw (k, m .parts);
+      }))))
+
+  scope-within : (depth : ℕ) (read : Bool → ℕ → ℕ → Found Act) → Reads s read → Keeps vars cs false depth read → (handler : Bool) → not handler ≡ true → (n at : ℕ)
+      → Finds (λ a next. actWithin vars cs handler false a (suc depth) ≡ true) (numberedScopeIn read s handler n at)
+  unfolding numberedScopeIn actWithin ownWithin count
+  scope-within depth read t r handler e n at =
+      finds-then (r handler (n + 1) at)
+      (λ body p b. finds-then (field-within s 1 9 p)
+      (λ k q f. finds-then (finds-both (numbered-stands s read t k [] (n + 1 + size body) q) (numbered-within depth read r k [] (n + 1 + size body) q))
+      (λ c next m. finds-found
+      (rw (
+        lt-ltb 0 (suc depth) (omega arith),
+        eq-eqb (1 + count (c .parts)) (length (c .numbers) + 3) (omega (arith, m .0 .many, m .0 .parts)),
+        e,
+        numbers-allowed (c .numbers) (omega (arith, m .0 .many, f .1)) (m .1 .each),
+        sub-one (suc depth),
+        b,
+        m .1 .parts,
+      )))))
+
   arm-act-within : (depth : ℕ) (read : Bool → ℕ → ℕ → Found Act) → Keeps vars cs false depth read → Keeps vars cs true depth (readArm read vars s)
   unfolding readArm actWithin
   arm-act-within depth read r handler n at =
-      finds-then (arm-within vars cs s handler n at)
-      (λ h p w. finds-then
+      finds-then (finds-both (arm-plain vars s n at) (arm-within vars cs s handler n at))
+      (λ h p w. rw (w .0 .told) (finds-then
       (finds-both (many-count read handler handler (h .within) (n + 1) p) (many-within false depth read r handler handler (h .within) (n + 1) p))
-      (λ l q m. finds-found (rw (m .0, w .1, w .0 .0, w .0 .1, m .1))))
+      (λ l q m. finds-found (rw (m .0, w .1 .1, w .1 .0 .0, w .1 .0 .1, m .1)))))
 
   reads-within : (depth : ℕ) → Keeps vars cs false depth (readAct depth vars cs s) → (arms : Bool) → Keeps vars cs arms depth (reader vars cs s arms depth)
   reads-within depth r true = arm-act-within depth (readAct depth vars cs s) r
   reads-within depth r false = r
 
-  act-within : (depth : ℕ) → Keeps vars cs false depth (readAct depth vars cs s)
-  unfolding readAct actWithin
-  act-within zero handler n at = finds-then (head-within vars cs s handler 0 n at) (λ h p w. finds-refused)
-  act-within (suc depth) handler n at =
-      finds-then (head-within vars cs s handler (suc depth) n at)
-      (λ h p w.
+  -- an activity, whatever its head is
+  whole-within : (depth : ℕ) → Keeps vars cs false depth (readAct depth vars cs s) → (handler : Bool) (n : ℕ) (h : Head) (at : ℕ) → HeadIs h → HeadWithin vars cs handler h
+      → Finds (λ a next. actWithin vars cs handler false a (suc depth) ≡ true)
+      (wholeIn (readsIn (h .own) (readAct depth vars cs s) vars s) s handler (laterOf (h .own) handler) n h at)
+  unfolding actWithin
+  whole-within depth r handler n h at (plain k) w =
       let arms = isPick (h .own) in
       let later = laterOf (h .own) handler in
       let read = reader vars cs s arms depth in
-      finds-then
-      (finds-both (many-count read handler later (h .within) (n + 1) p)
-      (many-within arms depth read (reads-within depth (act-within depth) arms) handler later (h .within) (n + 1) p))
-      (λ l q m. finds-found (rw (lt-ltb 0 (suc depth) (omega arith), m .0, w, sub-one (suc depth), m .1))))
+      let own : ownWithin vars cs handler false (h .own) (h .within) ≡ true = rw (k .told) at w in
+      rw (k .told)
+      (finds-then
+      (finds-both (many-count read handler later (h .within) (n + 1) at)
+      (many-within arms depth read (reads-within depth r arms) handler later (h .within) (n + 1) at))
+      (λ l q m. finds-found (rw (lt-ltb 0 (suc depth) (omega arith), m .0, own, sub-one (suc depth), m .1))))
+  whole-within depth r handler n h at numbered w =
+      scope-within depth (readAct depth vars cs s) (act-stands depth vars cs s) r handler w n at
+
+  act-within : (depth : ℕ) → Keeps vars cs false depth (readAct depth vars cs s)
+  unfolding readAct
+  act-within zero handler n at = finds-then (head-within vars cs s handler 0 n at) (λ h p w. finds-refused)
+  act-within (suc depth) handler n at =
+      finds-then (finds-both (head-is vars cs s handler (suc depth) n at) (head-within vars cs s handler (suc depth) n at))
+      (λ h p w. whole-within depth (act-within depth) handler n h p (w .0) (w .1))
 
 -- Plans.
 

@@ -11,13 +11,13 @@ use lib.Dec.{eqb, ltb, leb}
 use lib.ListN.{length, getD, length-append}
 use Rattle.numbers.specs.Shortest.{shortest, spelled}
 use Rattle.numbers.proofs.Laws.{spelled-last}
-use Rattle.plan.specs.Agree.{Asked, asking, Places, inBytes, askedOwn, spanOf, spanAll, askedIn, askedAll, asked}
+use Rattle.plan.specs.Agree.{Asked, asking, Places, inBytes, askedOwn, beyond, spanOf, spanAll, askedIn, askedAll, asked}
 use Rattle.plan.specs.Heard.{aheadOf, rowAsked, rowsAsked}
-use Rattle.plan.specs.Spell.{spell, ownNumbers, actNumbers, actsNumbers}
+use Rattle.plan.specs.Spell.{spell, ownNumbers, gapsOf, gap, later, passing, actNumbers, actsNumbers}
 use Rattle.plan.specs.Spells.{Row, Spells, SpellsAll, variablesOf}
 use Rattle.plan.specs.Table.{rowOf, nodes, ownNodes, bodyPlace, tableOver}
 use Rattle.plan.specs.Tree as tree
-use Rattle.plan.specs.Tree.{Own, empty, send, receive, set, raise, leave, choose, repeat, sequence, flow, pick, scope, arm, kind, Act, act, Acts, none, more, Plan, size, sizes, count}
+use Rattle.plan.specs.Tree.{Own, empty, send, receive, set, raise, leave, choose, repeat, sequence, flow, pick, scope, arm, kind, numbersOf, Act, act, Acts, none, more, Plan, size, sizes, count}
 use Rattle.plan.specs.Within.{exchangeWithin, ownWithin, actWithin, actsWithin, planWithin}
 use Rattle.plan.proofs.Accepts.{both}
 use Rattle.plan.proofs.Hears as hears
@@ -50,7 +50,7 @@ AsksOwn (repeat e) = Unit
 AsksOwn sequence = Unit
 AsksOwn flow = Unit
 AsksOwn pick = Unit
-AsksOwn (scope undo) = Unit
+AsksOwn (scope ns undo) = Unit
 AsksOwn (arm p o vs) = Exchanged p o vs
 
 unfoldable mutual
@@ -80,7 +80,7 @@ own-asks vars cs handler arms (repeat e) w h = tt
 own-asks vars cs handler arms sequence w h = tt
 own-asks vars cs handler arms flow w h = tt
 own-asks vars cs handler arms pick w h = tt
-own-asks vars cs handler arms (scope undo) w h = tt
+own-asks vars cs handler arms (scope ns undo) w h = tt
 own-asks vars cs handler arms (arm p o vs) w h = both arms _ h (λ a k. both (eqb w 1) _ k (λ b l. exchanged vars true p o vs l))
 
 mutual
@@ -118,18 +118,24 @@ module _ (c : Places) where
   fit-own sequence at h x = hears.none
   fit-own flow at h x = hears.none
   fit-own pick at h x = hears.none
-  fit-own (scope undo) at h x = hears.none
+  fit-own (scope ns undo) at h x = hears.none
   fit-own (arm p o vs) at h x = fit-one p o (at + c .passed (p ∷ o ∷ [])) vs (omega arith) x
+
+  beyond-far : (gs : List (List ℕ)) (at : ℕ) → 1 ≤ at → 1 ≤ beyond c gs at
+  beyond-far [] at h = h
+  beyond-far (g ∷ gs) at h = omega arith
 
   mutual
     unfolding askedIn Asks
 
     fit-in : (a : Act) (at : ℕ) → 1 ≤ at → Asks a → AllFit (askedIn c a at)
-    fit-in (act own l) at h x = fit-append (fit-own own at h (x .0)) (fit-all l (at + c .owned own (count l)) (omega arith) (x .1))
+    fit-in (act own l) at h x = fit-append (fit-own own at h (x .0)) (fit-all (gapsOf (numbersOf own)) l (at + c .owned own (count l)) (omega arith) (x .1))
 
-    pub fit-all : (l : Acts) (at : ℕ) → 1 ≤ at → AsksAll l → AllFit (askedAll c l at)
-    fit-all none at h x = hears.none
-    fit-all (more a l) at h x = fit-append (fit-in a at h (x .0)) (fit-all l (at + spanOf c a) (omega arith) (x .1))
+    pub fit-all : (gs : List (List ℕ)) (l : Acts) (at : ℕ) → 1 ≤ at → AsksAll l → AllFit (askedAll c gs l at)
+    fit-all gs none at h x = hears.none
+    fit-all gs (more a l) at h x =
+        let far = beyond-far gs at h in
+        fit-append (fit-in a (beyond c gs at) far (x .0)) (fit-all (later gs) l (beyond c gs at + spanOf c a) (omega arith) (x .1))
 
 -- the rows of two lists of rows
 rows-append : (m n : ℕ) (t : List ℕ) (k : ℕ) → rowsAsked (m + n) t k ≡ rowsAsked m t k ++ rowsAsked n t (k + m)
@@ -174,8 +180,9 @@ row-asked (repeat f) at n m e s t x r = row-none t n (r .kind) refl
 row-asked sequence at n m e s t x r = row-none t n (r .kind) refl
 row-asked flow at n m e s t x r = row-none t n (r .kind) refl
 row-asked pick at n m e s t x r = row-none t n (r .kind) refl
-row-asked (scope true) at n m e s t x r = row-none t n (r .kind) refl
-row-asked (scope false) at n m e s t x r = row-none t n (r .kind) refl
+row-asked (scope [] true) at n m e s t x r = row-none t n (r .kind) refl
+row-asked (scope [] false) at n m e s t x r = row-none t n (r .kind) refl
+row-asked (scope (k ∷ ns) undo) at n m e s t x r = row-none t n (r .kind) refl
 row-asked (arm p o vs) at n m e s t x r =
     rw (two-bytes p o (x .partner) (x .operation)) (row-some t n 2 (r .kind) refl (λ z. omega arith) (r .partner) (r .operation) (r .count) (r .place))
 
@@ -187,11 +194,20 @@ mutual
   unfolding spanOf inBytes actNumbers spell
 
   pub span-bytes : (a : Act) → spanOf inBytes a ≡ length (spell (actNumbers a))
-  span-bytes (act own l) = rw (span-all l) (sym (spell-long (ownNumbers own (count l)) (actsNumbers l)))
+  span-bytes (act own l) = rw (span-all (gapsOf (numbersOf own)) l) (sym (spell-long (ownNumbers own (count l)) (actsNumbers (gapsOf (numbersOf own)) l)))
 
-  pub span-all : (l : Acts) → spanAll inBytes l ≡ length (spell (actsNumbers l))
-  span-all none = refl
-  span-all (more a l) = rw (span-bytes a, span-all l) (sym (spell-long (actNumbers a) (actsNumbers l)))
+  pub span-all : (gs : List (List ℕ)) (l : Acts) → spanAll inBytes gs l ≡ length (spell (actsNumbers gs l))
+  span-all gs none = refl
+  span-all [] (more a l) = rw (span-bytes a, span-all [] l) (sym (spell-long (actNumbers a) (actsNumbers [] l)))
+  span-all (g ∷ gs) (more a l) =
+      rw (span-bytes a, span-all gs l)
+      (omega (arith, spell-long g (actNumbers a ++ actsNumbers gs l), spell-long (actNumbers a) (actsNumbers gs l)))
+
+-- the next of those within stands where it is passed to
+beyond-bytes : (gs : List (List ℕ)) (at : ℕ) → beyond inBytes gs at ≡ passing gs at
+unfolding inBytes
+beyond-bytes [] at = refl
+beyond-bytes (g ∷ gs) at = refl
 
 mutual
   unfolding Spells askedIn Asks size inBytes rowsAsked
@@ -199,12 +215,13 @@ mutual
   act-asked : (a : Act) (at n m : ℕ) (t : List ℕ) → Asks a → Spells a at n m t → rowsAsked (size a) t n ≡ askedIn inBytes a at
   act-asked (act own l) at n m t x r =
       let e : 1 + sizes l ≡ suc (sizes l) = omega arith in
-      rw (e, row-asked own at n m _ _ t (x .0) (r .row), all-asked l _ (n + 1) _ t (x .1) (r .within))
+      rw (e, row-asked own at n m _ _ t (x .0) (r .row), all-asked (gapsOf (numbersOf own)) l _ (n + 1) _ t (x .1) (r .within))
 
-  pub all-asked : (l : Acts) (at n m : ℕ) (t : List ℕ) → AsksAll l → SpellsAll l at n m t → rowsAsked (sizes l) t n ≡ askedAll inBytes l at
-  all-asked none at n m t x r = refl
-  all-asked (more a l) at n m t x r =
-      rows-append (size a) (sizes l) t n ∙ rw (act-asked a at n m t (x .0) (r .first), span-bytes a, all-asked l _ (n + size a) _ t (x .1) (r .rest))
+  pub all-asked : (gs : List (List ℕ)) (l : Acts) (at n m : ℕ) (t : List ℕ) → AsksAll l → SpellsAll gs l at n m t → rowsAsked (sizes l) t n ≡ askedAll inBytes gs l at
+  all-asked gs none at n m t x r = refl
+  all-asked gs (more a l) at n m t x r =
+      rows-append (size a) (sizes l) t n
+      ∙ rw (beyond-bytes gs at, act-asked a (passing gs at) n m t (x .0) (r .first), span-bytes a, all-asked (later gs) l _ (n + size a) _ t (x .1) (r .rest))
 
 two-sizes : (a b : Act) → size a + size b ≡ sizes (more a (more b none))
 unfolding sizes
@@ -220,10 +237,10 @@ module _ (p : Plan) (h : planWithin p ≡ true) where
 
   pub plan-fits : AllFit (asked p)
   unfolding asked spell
-  plan-fits = fit-all inBytes (more (p .body) (more (p .fault) none)) (bodyPlace p) (rw (one-byte 1 (omega arith)) (omega arith)) plan-asks
+  plan-fits = fit-all inBytes [] (more (p .body) (more (p .fault) none)) (bodyPlace p) (rw (one-byte 1 (omega arith)) (omega arith)) plan-asks
 
   pub table-asked : (t : List ℕ) → length t ≡ 11584 → rowsAsked (size (p .body) + size (p .fault)) (tableOver t p) 0 ≡ asked p
   unfolding asked tableOver
   table-asked t long =
       let e : size (p .body) + size (p .fault) ≡ sizes (more (p .body) (more (p .fault) none)) = two-sizes (p .body) (p .fault) in
-      rw e (all-asked (more (p .body) (more (p .fault) none)) (bodyPlace p) 0 0 _ plan-asks (over-spells p h t long))
+      rw e (all-asked [] (more (p .body) (more (p .fault) none)) (bodyPlace p) 0 0 _ plan-asks (over-spells p h t long))

@@ -3,8 +3,8 @@ use native.Mathlib.Omega.{arith}
 use native.Mathlib.Decide.{decLt}
 use borrow.Author.Tests.{ltb-true, ltb-false, leb-false, eqb-true}
 use mathlib.Core.Path.{_≡_, refl, sym, ap, _∙_}
-use mathlib.Core.Bool.{Bool, true, false, cond, _&&_, _||_, false≢true}
-use mathlib.Core.List.{List, [], _∷_, _++_, append-assoc, append-nil}
+use mathlib.Core.Bool.{Bool, true, false, cond, not, _&&_, _||_, false≢true}
+use mathlib.Core.List.{List, [], _∷_, _++_, append-assoc, append-nil, map}
 use Prim.Native.Nat.{ℕ, zero, suc, _+_, _≤_, _<_}
 use lib.ListN.{length, take, drop, length-append}
 use lib.Seq.{take-add, drop-drop}
@@ -15,9 +15,9 @@ use Rattle.numbers.specs.declared.Number.{Number}
 use Rattle.numbers.specs.declared.Number.the-variants.{Value, Short, Bad}
 use Rattle.numbers.proofs.Laws.{read-ends, read-is-shortest, value-bounds, shortest-long}
 use Rattle.plan.specs.Found.{Found, foundNumber, numberIn, fieldIn, among}
-use Rattle.plan.specs.Tree.{Exp, constant, variable, binary, Own, empty, send, receive, set, raise, leave, choose, repeat, sequence, flow, pick, scope, arm, kind, Act, act, Plan, size, count, isPick}
-use Rattle.plan.specs.Spell.{spell, operationCode, expressionNumbers, exchangeNumbers, ownNumbers, actNumbers, actsNumbers, planNumbers}
-use Rattle.plan.specs.Read.{expressionCodeIn, operationOf, leafIn, expressionIn, variablesIn, tupleIn, Head, exchangeIn, armIn, partnerIn, withExpressionIn, setIn, listIn, raiseIn, codeIn, partsIn, headIn, manyIn, wholeIn, readArm, readsIn, laterOf, readAct, startForm, correlationIn, versionIn, rootIn, readAny}
+use Rattle.plan.specs.Tree.{Exp, constant, variable, binary, Own, empty, send, receive, set, raise, leave, choose, repeat, sequence, flow, pick, scope, arm, kind, numbersOf, Act, act, Acts, none, more, Plan, size, count, isPick}
+use Rattle.plan.specs.Spell.{spell, operationCode, expressionNumbers, exchangeNumbers, ownNumbers, gapsOf, actNumbers, actsNumbers, planNumbers}
+use Rattle.plan.specs.Read.{expressionCodeIn, operationOf, leafIn, expressionIn, variablesIn, tupleIn, Head, head, numberedHead, exchangeIn, armIn, partnerIn, withExpressionIn, setIn, listIn, raiseIn, namable, faultNumberIn, isScopeCode, codeIn, partsIn, headIn, manyIn, Numbered, numberedIn, numberedScopeIn, wholeIn, readArm, readsIn, laterOf, readAct, startForm, correlationIn, versionIn, rootIn, readAny}
 use Rattle.plan.proofs.Finds.{Finds, finds-refused, finds-itself, finds-found, finds-cond, finds-code, finds-then, finds-both, finds-so, cond-case, code-case}
 use Rattle.plan.proofs.ByKind.{raise-numbers}
 
@@ -83,7 +83,7 @@ own-some (repeat e) within = omega arith
 own-some sequence within = omega arith
 own-some flow within = omega arith
 own-some pick within = omega arith
-own-some (scope v) within = omega arith
+own-some (scope ns v) within = omega arith
 own-some (arm partner operation variables) within = omega arith
 
 pub act-some : (a : Act) → 0 < length (actNumbers a)
@@ -210,9 +210,9 @@ tuple-stands vars once s at =
     finds-then (field-stands s 1 5 at)
     (λ k p h. finds-so (variables-stand vars once s k [] p p k stands-none (omega arith)) (λ l next a. counted-stands h a))
 
--- the numbers of a head stand from `start` on
+-- the numbers of a head stand from `start` on; of a scope with fault parts by number it is the code alone
 abbrev pub headNumbers : Head → List ℕ
-headNumbers h = ownNumbers (h .own) (h .within)
+headNumbers h = cond (h .numbered) (14 ∷ []) (ownNumbers (h .own) (h .within))
 
 -- Each reader of a head's later parts: ns stand before what it reads, and the head's numbers are ns with these.
 module _ (vars : ℕ) (s : List ℕ) {start at : ℕ} (ns : List ℕ) (a : Stands s start ns at) where
@@ -266,7 +266,7 @@ module _ (vars : ℕ) (cs s : List ℕ) {start at code : ℕ} (a : Stands s star
       (λ n p h. finds-found (rw (raise-numbers n 0 (h .1 .0)) (stands-code 13 e a (h .0))))
 
   -- the table of codes
-  pub parts-stand : code ≤ 13 → Standing s start headNumbers (partsIn vars cs s code at)
+  pub parts-stand : code ≤ 14 → Standing s start headNumbers (partsIn vars cs s code at)
   unfolding partsIn ownNumbers
   parts-stand m =
       finds-code code 0 (omega arith) (λ e. finds-found (rw e at a))
@@ -282,17 +282,94 @@ module _ (vars : ℕ) (cs s : List ℕ) {start at code : ℕ} (a : Stands s star
       (λ l. finds-code code 10 l (λ e. list-stands vars s (code ∷ []) a pick 9 (λ k. rw e))
       (λ l. finds-code code 11 l (λ e. finds-found (rw e at a))
       (λ l. finds-code code 12 l (λ e. finds-found (rw e at a))
-      (λ l. raise-stands (omega arith))))))))))))))
+      (λ l. finds-code code 13 l raise-stands
+      (λ l. let e : code ≡ 14 = omega arith in finds-found (rw e at a)))))))))))))))
 
 pub head-stands : (vars : ℕ) (cs s : List ℕ) (handler : Bool) (depth n at : ℕ) → Standing s at headNumbers (headIn vars cs s handler depth n at)
 unfolding headIn codeIn
 head-stands vars cs s handler depth n at =
     finds-then
-    (finds-then {Q = λ code next. Stands s at (code ∷ []) next × (code ≤ 13)} (number-stands s at)
-    (λ code next h. finds-cond (ltb 13 code) (λ t. finds-refused)
-    (λ t. finds-cond (handler && (eqb code 11 || eqb code 12)) (λ u. finds-refused)
-    (λ u. finds-cond (eqb depth 0 || leb 256 n) (λ w. finds-refused) (λ w. finds-found (h, ltb-false 13 code t))))))
+    (finds-then {Q = λ code next. Stands s at (code ∷ []) next × (code ≤ 14)} (number-stands s at)
+    (λ code next h. finds-cond (ltb 14 code) (λ t. finds-refused)
+    (λ t. finds-cond (handler && isScopeCode code) (λ u. finds-refused)
+    (λ u. finds-cond (eqb depth 0 || leb 256 n) (λ w. finds-refused) (λ w. finds-found (h, ltb-false 14 code t))))))
     (λ code next h. parts-stand vars cs s (h .0) (h .1))
+
+-- What a head may be: one that has no fault parts by number, and says how many stand within it; or that of a scope which has some.
+pub record Plain (h : Head) : Type 0 where
+  pub told : h .numbered ≡ false
+  pub none : numbersOf (h .own) ≡ []
+
+pub data HeadIs : Head → Type 0 where
+  plain : {h : Head} → Plain h → HeadIs h
+  numbered : HeadIs numberedHead
+
+abbrev plainly : (own : Own) (within : ℕ) → numbersOf own ≡ [] → Plain (head own within)
+plainly own within e = record { told = refl; none = e }
+
+module _ (vars : ℕ) (s : List ℕ) where
+  exchange-plain : (once : Bool) (own : ℕ → List ℕ → Own) (within at : ℕ) → ((operation : ℕ) (variables : List ℕ) → numbersOf (own operation variables) ≡ [])
+      → Finds (λ h next. Plain h) (exchangeIn vars once s own within at)
+  unfolding exchangeIn
+  exchange-plain once own within at e =
+      finds-then (finds-itself (fieldIn s 0 64 at))
+      (λ operation p h. finds-then (finds-itself (tupleIn vars once s p)) (λ l q k. finds-found (plainly _ _ (e operation l))))
+
+  partner-plain : (once : Bool) (own : ℕ → ℕ → List ℕ → Own) (at : ℕ)
+      → ((partner operation : ℕ) (variables : List ℕ) → numbersOf (own partner operation variables) ≡ []) → Finds (λ h next. Plain h) (partnerIn vars once s own at)
+  unfolding partnerIn
+  partner-plain once own at e = finds-then (finds-itself (fieldIn s 0 64 at)) (λ partner p h. exchange-plain once (own partner) 0 p (e partner))
+
+  with-expression-plain : (own : Exp → Own) (within at : ℕ) → ((e : Exp) → numbersOf (own e) ≡ []) → Finds (λ h next. Plain h) (withExpressionIn vars s own within at)
+  unfolding withExpressionIn
+  with-expression-plain own within at e = finds-then (finds-itself (expressionIn 8 vars s at)) (λ x p h. finds-found (plainly _ _ (e x)))
+
+  set-plain : (cs : List ℕ) (at : ℕ) → Finds (λ h next. Plain h) (setIn vars cs s at)
+  unfolding setIn
+  set-plain cs at =
+      finds-then (finds-itself (fieldIn s 0 vars at))
+      (λ v p h. finds-cond (among v cs) (λ t. finds-refused) (λ t. with-expression-plain (set v) 0 p (λ e. refl)))
+
+  list-plain : (own : Own) (limit at : ℕ) → numbersOf own ≡ [] → Finds (λ h next. Plain h) (listIn s own limit at)
+  unfolding listIn
+  list-plain own limit at e = finds-then (finds-itself (fieldIn s 1 limit at)) (λ k p h. finds-found (plainly _ _ e))
+
+  raise-plain : (at : ℕ) → Finds (λ h next. Plain h) (raiseIn s at)
+  unfolding raiseIn
+  raise-plain at = finds-then (finds-itself (fieldIn s 16 256 at)) (λ k p h. finds-found (plainly _ _ refl))
+
+  pub arm-plain : (n at : ℕ) → Finds (λ h next. Plain h) (armIn vars s n at)
+  unfolding armIn
+  arm-plain n at =
+      finds-then (finds-itself (fieldIn s 0 64 at))
+      (λ partner p h. finds-cond (leb 256 n) (λ t. finds-refused) (λ t. exchange-plain true (arm partner) 1 p (λ operation l. refl)))
+
+abbrev so-plain : {x : Found Head} → Finds (λ h next. Plain h) x → Finds (λ h next. HeadIs h) x
+so-plain f = finds-so f (λ h next k. plain k)
+
+pub parts-are : (vars : ℕ) (cs s : List ℕ) (code at : ℕ) → Finds (λ h next. HeadIs h) (partsIn vars cs s code at)
+unfolding partsIn
+parts-are vars cs s code at =
+    finds-cond (eqb code 0) (λ e. finds-found (plain (plainly _ _ refl)))
+    (λ l. finds-cond (eqb code 1) (λ e. so-plain (partner-plain vars s false send at (λ partner operation variables. refl)))
+    (λ l. finds-cond (eqb code 2) (λ e. so-plain (partner-plain vars s true receive at (λ partner operation variables. refl)))
+    (λ l. finds-cond (eqb code 3) (λ e. so-plain (set-plain vars s cs at))
+    (λ l. finds-cond (eqb code 4) (λ e. finds-found (plain (plainly _ _ refl)))
+    (λ l. finds-cond (eqb code 5) (λ e. finds-found (plain (plainly _ _ refl)))
+    (λ l. finds-cond (eqb code 6) (λ e. so-plain (with-expression-plain vars s choose 2 at (λ x. refl)))
+    (λ l. finds-cond (eqb code 7) (λ e. so-plain (with-expression-plain vars s repeat 1 at (λ x. refl)))
+    (λ l. finds-cond (eqb code 8) (λ e. so-plain (list-plain vars s sequence 33 at refl))
+    (λ l. finds-cond (eqb code 9) (λ e. so-plain (list-plain vars s flow 33 at refl))
+    (λ l. finds-cond (eqb code 10) (λ e. so-plain (list-plain vars s pick 9 at refl))
+    (λ l. finds-cond (eqb code 11) (λ e. finds-found (plain (plainly _ _ refl)))
+    (λ l. finds-cond (eqb code 12) (λ e. finds-found (plain (plainly _ _ refl)))
+    (λ l. finds-cond (eqb code 13) (λ e. so-plain (raise-plain vars s at))
+    (λ l. finds-found numbered))))))))))))))
+
+pub head-is : (vars : ℕ) (cs s : List ℕ) (handler : Bool) (depth n at : ℕ) → Finds (λ h next. HeadIs h) (headIn vars cs s handler depth n at)
+unfolding headIn
+head-is vars cs s handler depth n at =
+    finds-then (finds-itself (codeIn s handler depth n at)) (λ code next h. parts-are vars cs s code next)
 
 -- whatever a reader of an activity or arm finds stands where it was read
 abbrev pub Reads : List ℕ → (Bool → ℕ → ℕ → Found Act) → Type 0
@@ -306,25 +383,76 @@ many-count read handler later (suc left) n at =
     finds-then (finds-itself (read handler n at))
     (λ a p h. finds-then (many-count read later later left (n + size a) p) (λ l q e. finds-found (omega arith)))
 
+pub fault-number-stands : (s read : List ℕ) (at : ℕ) → Standing s at one (faultNumberIn s read at)
+unfolding faultNumberIn
+fault-number-stands s read at =
+    finds-then (number-stands s at)
+    (λ x next h. finds-cond (namable x && not (among x read)) (λ t. finds-found h) (λ t. finds-refused))
+
+-- The fault parts by number that c has, `left` of them, with what follows them: they stand from `at` on, each behind its number.
+pub record NumberedStands (s : List ℕ) (at left : ℕ) (c : Numbered) (next : ℕ) : Type 0 where
+  pub all : Stands s at (actsNumbers (map one (c .numbers)) (c .parts)) next
+  pub many : length (c .numbers) ≡ left
+  pub parts : count (c .parts) ≡ left + 2
+
+-- the numbers of a scope that has fault parts by number: its code, its body, their count, and then each behind its number
+pub scope-numbers : (numbers : List ℕ) (body : Act) (parts : Acts) → 0 < length numbers → count parts ≡ length numbers + 2
+    → actNumbers (act (scope numbers true) (more body parts)) ≡ 14 ∷ (actNumbers body ++ (length numbers ∷ actsNumbers (map one numbers) parts))
+unfolding actNumbers ownNumbers gapsOf count
+scope-numbers [] body parts h e = absurd (omega arith)
+scope-numbers (x ∷ l) body none h e = absurd (omega arith)
+scope-numbers (x ∷ l) body (more a parts) h e = refl
+
 module _ (s : List ℕ) (read : Bool → ℕ → ℕ → Found Act) (r : Reads s read) where
-  pub many-stands : (handler later : Bool) (left n at : ℕ) → Standing s at actsNumbers (manyIn read handler later left n at)
+  pub many-stands : (handler later : Bool) (left n at : ℕ) → Standing s at (actsNumbers []) (manyIn read handler later left n at)
   unfolding manyIn actsNumbers
   many-stands handler later zero n at = finds-found stands-none
   many-stands handler later (suc left) n at =
       finds-then (r handler n at)
       (λ a p h. finds-then (many-stands later later left (n + size a) p) (λ l q m. finds-found (stands-append h m)))
 
-  pub whole-stands : (handler later : Bool) (n : ℕ) (h : Head) (start at : ℕ) → Stands s start (headNumbers h) at
-      → Standing s start actNumbers (wholeIn read handler later n h at)
-  unfolding actNumbers
-  whole-stands handler later n h start at a =
-      finds-then (finds-both (many-count read handler later (h .within) (n + 1) at) (many-stands handler later (h .within) (n + 1) at))
-      (λ l next m. finds-found (rw (m .0) (stands-append a (m .1))))
+  pub numbered-stands : (left : ℕ) (known : List ℕ) (n at : ℕ) → Finds (NumberedStands s at left) (numberedIn read s left known n at)
+  unfolding numberedIn actsNumbers count
+  numbered-stands zero known n at =
+      finds-then (finds-both (many-count read true true 2 n at) (many-stands true true 2 n at))
+      (λ l next m. finds-found (record { all = m .1; many = refl; parts = m .0 }))
+  numbered-stands (suc left) known n at =
+      finds-then (fault-number-stands s known at)
+      (λ x p h. finds-then (r true n p)
+      (λ a q k. finds-then (numbered-stands left (x ∷ known) (n + size a) q)
+      (λ c next m. finds-found (record {
+        all = stands-append h (stands-append k (m .all));
+        many = omega (arith, m .many);
+        parts = omega (arith, m .parts);
+      }))))
+
+  numbered-scope-stands : (handler : Bool) (n start at : ℕ) → Stands s start (14 ∷ []) at → Standing s start actNumbers (numberedScopeIn read s handler n at)
+  unfolding numberedScopeIn
+  numbered-scope-stands handler n start at a =
+      finds-then (r handler (n + 1) at)
+      (λ body p b. finds-then (finds-both (field-stands s 1 9 p) (field-within s 1 9 p))
+      (λ k q f. finds-then (numbered-stands k [] (n + 1 + size body) q)
+      (λ c next m. finds-found
+      (rw (scope-numbers (c .numbers) body (c .parts) (omega (arith, m .many, f .1 .0)) (omega (arith, m .many, m .parts)), m .many)
+      (stands-append a (stands-append b (stands-append (f .0) (m .all))))))))
+
+  plain-stands : (handler later : Bool) (n : ℕ) (h : Head) (start at : ℕ) → Plain h → Stands s start (headNumbers h) at
+      → Standing s start actNumbers (wholeIn read s handler later n h at)
+  unfolding actNumbers gapsOf
+  plain-stands handler later n h start at k a =
+      rw (k .told)
+      (finds-then (finds-both (many-count read handler later (h .within) (n + 1) at) (many-stands handler later (h .within) (n + 1) at))
+      (λ l next m. finds-found (rw (k .none, m .0) (stands-append (rw (k .told) at a) (m .1)))))
+
+  pub whole-stands : (handler later : Bool) (n : ℕ) (h : Head) (start at : ℕ) → HeadIs h → Stands s start (headNumbers h) at
+      → Standing s start actNumbers (wholeIn read s handler later n h at)
+  whole-stands handler later n h start at (plain k) a = plain-stands handler later n h start at k a
+  whole-stands handler later n h start at numbered a = numbered-scope-stands handler n start at a
 
   pub arm-act-stands : (vars : ℕ) → Reads s (readArm read vars s)
   unfolding readArm
   arm-act-stands vars handler n at =
-      finds-then (arm-stands vars s n at) (λ h next a. whole-stands handler handler n h at next a)
+      finds-then (finds-both (arm-plain vars s n at) (arm-stands vars s n at)) (λ h next a. plain-stands handler handler n h at next (a .0) (a .1))
 
   pub reads-stand : (arms : Bool) (vars : ℕ) → Reads s (cond arms (readArm read vars s) read)
   reads-stand arms vars = cond-case (Reads s) arms (λ t. arm-act-stands vars) (λ t. r)
@@ -333,10 +461,10 @@ pub act-stands : (depth vars : ℕ) (cs s : List ℕ) → Reads s (readAct depth
 unfolding readAct
 act-stands zero vars cs s handler n at = finds-then (head-stands vars cs s handler 0 n at) (λ h next a. finds-refused)
 act-stands (suc depth) vars cs s handler n at =
-    finds-then (head-stands vars cs s handler (suc depth) n at)
+    finds-then (finds-both (head-is vars cs s handler (suc depth) n at) (head-stands vars cs s handler (suc depth) n at))
     (λ h next a. whole-stands s (readsIn (h .own) (readAct depth vars cs s) vars s)
     (reads-stand s (readAct depth vars cs s) (act-stands depth vars cs s) (isPick (h .own)) vars)
-    handler (laterOf (h .own) handler) n h at next a)
+    handler (laterOf (h .own) handler) n h at next (a .0) (a .1))
 
 -- a plan's numbers stand from 0 on, and nothing stands after them
 pub record PlanStands (s : List ℕ) (p : Plan) (next : ℕ) : Type 0 where

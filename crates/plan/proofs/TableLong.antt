@@ -5,9 +5,10 @@ use mathlib.Core.List.{List, [], _∷_}
 use Prim.Native.Nat.{ℕ, _+_, _*_}
 use lib.Dec.{eqb}
 use lib.ListN.{length}
+use Rattle.plan.specs.Spell.{gapsOf, later, passing}
 use Rattle.plan.specs.Store.{store}
 use Rattle.plan.specs.Table.{rowOf, noted, putRow, putNode, putNodes, putOwnNodes, putOwn, putClose, put, putAll}
-use Rattle.plan.specs.Tree.{Exp, constant, variable, binary, Own, empty, send, receive, set, raise, leave, choose, repeat, sequence, flow, pick, scope, arm, Act, act, Acts, none, more, size}
+use Rattle.plan.specs.Tree.{Exp, constant, variable, binary, Own, empty, send, receive, set, raise, leave, choose, repeat, sequence, flow, pick, scope, arm, numbersOf, Act, act, Acts, none, more, size}
 use Rattle.plan.proofs.Stores.{length-store}
 
 length-noted : (k p : ℕ) (t : List ℕ) → length (noted k p t) ≡ length t
@@ -37,7 +38,7 @@ length-putOwnNodes (repeat e) m t = length-putNodes e m t
 length-putOwnNodes sequence m t = refl
 length-putOwnNodes flow m t = refl
 length-putOwnNodes pick m t = refl
-length-putOwnNodes (scope undo) m t = refl
+length-putOwnNodes (scope ns undo) m t = refl
 length-putOwnNodes (arm a b vs) m t = refl
 
 length-putOwn : (own : Own) (at n m : ℕ) (t : List ℕ) → length (putOwn own at n m t) ≡ length t
@@ -48,8 +49,8 @@ mutual
   unfolding put putClose
 
   length-put : (a : Act) (at n m : ℕ) (t : List ℕ) → length (put a at n m t) ≡ length t
-  length-put (act own l) at n m t = length-store _ (n * 13) 11 _ ∙ (length-putAll l _ (n + 1) _ _ ∙ length-putOwn own at n m t)
+  length-put (act own l) at n m t = length-store _ (n * 13) 11 _ ∙ (length-putAll (gapsOf (numbersOf own)) l _ (n + 1) _ _ ∙ length-putOwn own at n m t)
 
-  pub length-putAll : (l : Acts) (at n m : ℕ) (t : List ℕ) → length (putAll l at n m t) ≡ length t
-  length-putAll none at n m t = refl
-  length-putAll (more a l) at n m t = length-putAll l _ _ _ _ ∙ length-put a at n m t
+  pub length-putAll : (gs : List (List ℕ)) (l : Acts) (at n m : ℕ) (t : List ℕ) → length (putAll gs l at n m t) ≡ length t
+  length-putAll gs none at n m t = refl
+  length-putAll gs (more a l) at n m t = length-putAll (later gs) l _ _ _ _ ∙ length-put a (passing gs at) n m t

@@ -28,6 +28,8 @@ pub const OPEN_SCOPE: usize = super::kind::OPEN_SCOPE as usize;
 
 pub const NUMBERED_RAISE: usize = super::kind::NUMBERED_RAISE as usize;
 
+pub const NUMBERED_SCOPE: usize = super::kind::NUMBERED_SCOPE as usize;
+
 pub const LAST: usize = super::kind::LAST as usize;
 
 pub const ARM: usize = super::kind::ARM as usize;

@@ -30,7 +30,10 @@ pub const OPEN_SCOPE: u32 = 12;
 // A raise with the number of its fault.
 pub const NUMBERED_RAISE: u32 = 13;
 
+// A scope with fault parts by number, and with an undo part.
+pub const NUMBERED_SCOPE: u32 = 14;
+
 // The last code of an activity: what stands on file above it is no activity.
-pub const LAST: u32 = NUMBERED_RAISE;
+pub const LAST: u32 = NUMBERED_SCOPE;
 
 pub const ARM: u32 = 255;

@@ -5,6 +5,7 @@ mod expressions;
 mod fields;
 pub mod kind;
 mod kinds;
+mod named;
 mod owns;
 mod reading;
 mod root;
@@ -41,13 +42,17 @@ pub enum Nodes {
     Refused { number: u32, place: usize },
 }
 
-// What reading an activity's own numbers finds: its kind, how many stand directly within it, the next place and the number of the next node.
+// What reading an activity's own numbers finds: its kind, how many stand directly within it, the next place and the number of the next node; of a scope with
+// fault parts by number only the place of its body, since its numbers stand between its parts.
 pub enum Own {
     Read {
         kind: u32,
         within: u32,
         next: usize,
         nodes: usize,
+    },
+    Numbered {
+        body: usize,
     },
     Refused {
         number: u32,

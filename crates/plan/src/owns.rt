@@ -18,7 +18,7 @@ ghost use mathlib.Core.Path.{_≡_};
 ghost use Rattle.plan.specs.Answers.{fieldOf, messageOwn, expressionOwn, listOwn, OwnRead};
 ghost use Rattle.plan.specs.Fits.{NumberFits};
 ghost use Rattle.plan.specs.Nodes.{Base, Room, IsMessage, IsExpression, IsList, nodeHeadIn};
-ghost use Rattle.plan.specs.Read.{exchangeIn, partnerIn, armIn, withExpressionIn, setIn, listIn, raiseIn, codeIn, partsIn, headIn};
+ghost use Rattle.plan.specs.Read.{exchangeIn, partnerIn, armIn, withExpressionIn, setIn, listIn, raiseIn, isScopeCode, codeIn, partsIn, headIn};
 ghost use Rattle.plan.specs.Store.{chosen};
 ghost use Rattle.plan.specs.Table.{row, putRow};
 
@@ -269,7 +269,7 @@ fn raise_own(s: &[u8], at: usize, n: usize, m: usize, place: usize, table: &mut 
 
 // Whether a scope stands where none may.
 fn misplaced(code: u32, handler: bool) -> bool
-    ensures { λ r. ⌜ r ≡ (handler && (eqb code 11 || eqb code 12)) ⌝ }
+    ensures { λ r. ⌜ r ≡ (handler && isScopeCode code) ⌝ }
 {
     if handler { is_scope(code) } else { false }
 }
@@ -354,7 +354,8 @@ fn parts_own(
         kind::PICK => list_own(s, at, kind::PICK, 9, n, m, place, table),
         kind::SCOPE => plain_own(at, kind::SCOPE, 3, n, m, place, table),
         kind::OPEN_SCOPE => plain_own(at, kind::OPEN_SCOPE, 2, n, m, place, table),
-        _ => raise_own(s, at, n, m, place, table),
+        kind::NUMBERED_RAISE => raise_own(s, at, n, m, place, table),
+        _ => Own::Numbered { body: at },
     }
 }
 

@@ -7,6 +7,7 @@ ghost use lib.ListN.{getD};
 ghost use mathlib.Core.Bool.{_||_};
 ghost use mathlib.Core.List.{[], _∷_};
 ghost use mathlib.Core.Path.{_≡_};
+ghost use Rattle.plan.specs.Numbering.{numbersRow};
 ghost use Rattle.plan.specs.Table.{noted, putRow, putClose, putNode};
 
 // The table of a plan, as `accept` writes it.
@@ -35,6 +36,12 @@ pub const VARIABLES: usize = 4;
 pub const VARIABLE: usize = 8;
 
 pub const EXPRESSION: usize = 9;
+
+// A scope has the count of its fault parts by number where those have their count, and their numbers, eight at most, in the places that it has no use for: the
+// first two from FIRST_NUMBERS on, the third and those after it from OTHER_NUMBERS on.
+pub const FIRST_NUMBERS: usize = PARTNER;
+
+pub const OTHER_NUMBERS: usize = VARIABLES;
 
 // The place of the first byte; the number after the last activity within; and the place after the last byte.
 pub const PLACE: usize = 10;
@@ -102,6 +109,31 @@ pub(crate) fn write_row(
     table[b + EXPRESSION] = expression as u32;
     table[b + PLACE] = place as u32;
     note(table, kind, partner);
+}
+
+// Row n of a scope with `count` fault parts by number, but for its end and its stop.
+pub(crate) fn write_numbers(
+    table: &mut Table,
+    n: usize,
+    numbers: [u32; 8],
+    count: usize,
+    place: usize,
+)
+    requires { ⌜ (n < 256) × ((count ≤ 8) × (place ≤ 4096)) ⌝ }
+    ensures { λ _. ⌜ now (table .exit) ≡ putRow n (numbersRow numbers count place) (now (table .entry)) ⌝ }
+{
+    let b = n * WIDTH;
+    table[b] = kind::NUMBERED_SCOPE;
+    table[b + FIRST_NUMBERS] = numbers[0];
+    table[b + 2] = numbers[1];
+    table[b + COUNT] = count as u32;
+    table[b + OTHER_NUMBERS] = numbers[2];
+    table[b + 5] = numbers[3];
+    table[b + 6] = numbers[4];
+    table[b + 7] = numbers[5];
+    table[b + 8] = numbers[6];
+    table[b + 9] = numbers[7];
+    table[b + PLACE] = place as u32;
 }
 
 // The end and the stop of row n: the number after its last activity, and the place after its last byte.

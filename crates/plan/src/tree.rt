@@ -1,18 +1,23 @@
-// Reads an activity and a list of activities, which call each other.
+// Reads an activity, a list of activities, and a scope with fault parts by number, which call each other.
+use super::Field;
 use super::Out;
 use super::Own;
+use super::fields::field_at;
 use super::kind;
 use super::kinds::is_scope;
+use super::named::fault_number_at;
+use super::named::with_number;
 use super::owns::own_at;
 use super::table::Table;
 use super::table::close_row;
-ghost use Prim.Native.Nat.{_≤_, _<_};
-ghost use lib.Dec.{eqb};
-ghost use mathlib.Core.Bool.{_&&_, _||_};
+use super::table::write_numbers;
+ghost use Prim.Native.Nat.{_+_, _≤_, _<_};
+ghost use mathlib.Core.Bool.{false, true, _&&_, _||_};
 ghost use mathlib.Core.Path.{_≡_};
-ghost use Rattle.plan.specs.Answers.{ActRead, ActsRead};
-ghost use Rattle.plan.specs.Nodes.{Base, nodeIn};
-ghost use Rattle.plan.specs.Read.{starts, manyIn};
+ghost use Rattle.plan.specs.Answers.{ActRead, ActsRead, NumberedRead};
+ghost use Rattle.plan.specs.Nodes.{Base, ScopeRoom, NumbersRoom, nodeIn};
+ghost use Rattle.plan.specs.Numbering.{backwards};
+ghost use Rattle.plan.specs.Read.{isScopeCode, starts, manyIn, numberedIn, numberedScopeIn};
 ghost use Rattle.plan.specs.Store.{chosen};
 ghost use Rattle.plan.specs.Within.{levelsBelow};
 
@@ -28,7 +33,7 @@ fn levels_below(arm: bool, depth: usize) -> usize
 
 // Whether those after the first within stand in a fault part or an undo part.
 fn later_of(kind: u32, handler: bool) -> bool
-    ensures { λ r. ⌜ r ≡ ((eqb kind 11 || eqb kind 12) || handler) ⌝ }
+    ensures { λ r. ⌜ r ≡ (isScopeCode kind || handler) ⌝ }
 {
     if is_scope(kind) { true } else { handler }
 }
@@ -44,6 +49,7 @@ fn starts_of(kind: u32, first: bool, every: bool) -> bool
         kind::PICK => true,
         kind::SCOPE => first,
         kind::OPEN_SCOPE => first,
+        kind::NUMBERED_SCOPE => first,
         _ => false,
     }
 }
@@ -73,6 +79,10 @@ fn activity_at(
     let own = own_at(s, at, arm, handler, depth, vars, correlation, n, m, table);
     match own {
         Own::Refused { number, place } => Out::Refused { number, place },
+        Own::Numbered { body } => {
+            let below = levels_below(arm, depth);
+            numbered_scope_at(s, body, at, handler, below, vars, correlation, n, m, table)
+        }
         Own::Read {
             kind,
             within,
@@ -194,6 +204,169 @@ pub(crate) fn activities_at(
                     first,
                     every: both(first, every),
                 },
+            }
+        }
+    }
+}
+
+// A scope with fault parts by number, from its body on; its code stands at `place`.
+fn numbered_scope_at(
+    s: &[u8],
+    at: usize,
+    place: usize,
+    handler: bool,
+    depth: usize,
+    vars: u32,
+    correlation: &[u8; 16],
+    n: usize,
+    m: usize,
+    table: &mut Table,
+) -> Out
+    requires { ⌜ ScopeRoom (now s) vars m place at × (n < 256) ⌝ }
+    ensures { λ r. ⌜ ActRead (numberedScopeIn (nodeIn false depth vars (chosen 0 (now (correlation .entry))) (now (s .entry))) (now (s .entry)) handler n at) place n m r (now (table .entry)) (now (table .exit)) ⌝ }
+{
+    let body = activity_at(
+        s,
+        at,
+        false,
+        handler,
+        depth,
+        vars,
+        correlation,
+        n + 1,
+        m,
+        table,
+    );
+    match body {
+        Out::Refused {
+            number: _,
+            place: _,
+        } => body,
+        Out::Read {
+            next,
+            count,
+            nodes,
+            first,
+            every: _,
+        } => {
+            let f = field_at(s, next, 1, 9);
+            match f {
+                Field::Refused { number, place } => Out::Refused { number, place },
+                Field::Got {
+                    value: many,
+                    next: parts,
+                } => {
+                    let rest = numbered_at(
+                        s,
+                        parts,
+                        many,
+                        [0u32; 8],
+                        0,
+                        depth,
+                        vars,
+                        correlation,
+                        count,
+                        nodes,
+                        n,
+                        place,
+                        table,
+                    );
+                    match rest {
+                        Out::Refused {
+                            number: _,
+                            place: _,
+                        } => rest,
+                        Out::Read {
+                            next: stop,
+                            count: end,
+                            nodes: last,
+                            first: _,
+                            every: _,
+                        } => {
+                            close_row(table, n, end, stop);
+                            Out::Read {
+                                next: stop,
+                                count: end,
+                                nodes: last,
+                                first,
+                                every: first,
+                            }
+                        }
+                    }
+                }
+            }
+        }
+    }
+}
+
+// `left` fault parts by number, each behind its number, and the two parts that follow them: those of the scope with the number `row`, whose code stands at
+// `place` and of whose numbers the first k are read. Its row is written once all are.
+fn numbered_at(
+    s: &[u8],
+    at: usize,
+    left: u32,
+    numbers: [u32; 8],
+    k: usize,
+    depth: usize,
+    vars: u32,
+    correlation: &[u8; 16],
+    n: usize,
+    m: usize,
+    row: usize,
+    place: usize,
+    table: &mut Table,
+) -> Out
+    requires { ⌜ NumbersRoom (now s) vars n m row place at × (k + left ≤ 8) ⌝ }
+    ensures { λ r. ⌜ NumberedRead (numberedIn (nodeIn false depth vars (chosen 0 (now (correlation .entry))) (now (s .entry))) (now (s .entry)) left (backwards k numbers) n at) numbers k row place at n m r (now (table .entry)) (now (table .exit)) ⌝ }
+{
+    if left == 0 {
+        write_numbers(table, row, numbers, k, place);
+        return activities_at(
+            s,
+            at,
+            false,
+            true,
+            true,
+            2,
+            depth,
+            vars,
+            correlation,
+            n,
+            m,
+            table,
+        );
+    }
+    let f = fault_number_at(s, at, numbers, k);
+    match f {
+        Field::Refused { number, place } => Out::Refused { number, place },
+        Field::Got { value, next } => {
+            let part = activity_at(s, next, false, true, depth, vars, correlation, n, m, table);
+            match part {
+                Out::Refused {
+                    number: _,
+                    place: _,
+                } => part,
+                Out::Read {
+                    next: after,
+                    count,
+                    nodes,
+                    first: _,
+                    every: _,
+                } => numbered_at(
+                    s,
+                    after,
+                    left - 1,
+                    with_number(numbers, k, value),
+                    k + 1,
+                    depth,
+                    vars,
+                    correlation,
+                    count,
+                    nodes,
+                    row,
+                    place,
+                    table,
+                ),
             }
         }
     }
