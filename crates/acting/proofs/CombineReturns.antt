@@ -1,20 +1,20 @@
 -- The returns of the functions by which an activity goes on after a step within it, and of a step in an activity. Assumes nothing.
 use mathlib.Core.Path.{_≡_, refl, sym, ap, subst, _∙_}
 use mathlib.Core.Bool.{Bool, true, false, cond, not, _&&_, false≢true, and-false}
-use mathlib.Core.List.{List, []}
+use mathlib.Core.List.{List, [], _∷_}
 use Prim.Native.Nat.{ℕ, zero, suc, _+_, _<_, _≤_}
 use native.Mathlib.Omega.{arith}
 use borrow.Author.Tests.{eq-eqb, ne-eqb, lt-ltb, le-ltb, ltb-true}
 use lib.Dec.{eqb, ltb}
 use lib.ListN.{length}
-use Rattle.plan.specs.Tree.{Own, empty, send, receive, set as setting, raise, leave, choose, repeat, sequence, flow, pick, scope, arm, kind, isScope, hasUndo, isPick, Act, act, Acts, none, more, size, sizes}
+use Rattle.plan.specs.Tree.{Own, empty, send, receive, set as setting, raise, leave, choose, repeat, sequence, flow, pick, scope, arm, kind, isScope, hasUndo, numbersOf, generalPart, undoPart, isPick, Act, act, Acts, none, more, size, sizes}
 use Rattle.order.specs.declared.Order.{Order}
 use Rattle.order.specs.declared.Spot.{Spot}
 use Rattle.order.specs.declared.Way.{Way}
 use Rattle.order.specs.declared.Way.the-variants.{Running, Over, Raising, Leaving, Undone, UndoRaising}
 use Rattle.order.specs.declared.Went.{Went}
 use Rattle.order.specs.Acting.{finishes, raises, again, isPart, joins, goesOn, inScope, combines, Actor, itsOwn, inPlace, replaces, performs, itself, arms, stepIn, stepAmong}
-use Rattle.order.specs.Answering.{KindOf, scopeKind, went, outcome, isOver, ofUndo, scopeAct, SpotAt, Makes, runsOf, finishesOf, StepsAt, Among, ChildWith, Arms, Follows, JoinsAt, Through, InScope, hasParts, GoesOn, Combines, raisesOf, actorOf, Performs, PartOf, StepsIn}
+use Rattle.order.specs.Answering.{KindOf, scopeKind, went, outcome, isOver, ofUndo, Made, scopeAct, SpotAt, UndoRow, Makes, runsOf, finishesOf, StepsAt, Among, ChildWith, Arms, Follows, JoinsAt, Through, InScope, hasParts, GoesOn, Combines, raisesOf, actorOf, Performs, PartOf, StepsIn}
 use Rattle.order.specs.Begin.{part, partAt, beginAfter}
 use Rattle.order.specs.Event.{Event}
 use Rattle.order.specs.Expression.{conflictingReceive}
@@ -25,7 +25,8 @@ use Rattle.order.specs.Stands.{End, Stands}
 use Rattle.order.specs.State.{closings, markAt, marked}
 use Rattle.order.proofs.Deciding.{yes, no, where-not}
 use Rattle.order.proofs.Owns.{of-kind}
-use Rattle.order.proofs.Standing.{size-pos, stands-end, stands-inside, row-kind, scope-kind, own-scope, first-at, if-parts}
+use Rattle.order.proofs.PartReturns.{spot-parts, spot-undo}
+use Rattle.order.proofs.Standing.{size-pos, stands-end, stands-inside, row-kind, scope-kind, own-scope, first-at, scope-line, numbered-undo, if-parts}
 use Rattle.order.proofs.MemoryReturns.{closings-are}
 
 -- `has_parts`
@@ -72,92 +73,93 @@ through-is v k Leaving o = refl
 through-is v k Undone o = refl
 through-is v k (UndoRaising x) o = refl
 
-undo-part : (v : Bool) → kind (scope v) ≡ cond v 11 12
-unfolding kind
-undo-part v = refl
-
 module _ {t : List ℕ} {k : ℕ} (r : Went) {kd : ℕ} (q : KindOf t k kd) where
   pub through-never : (kd ≡ 12 → ⊥) → Through t k r false
-  through-never h = record { is = λ v l s. go v (row-kind q (scope v) l s ∙ undo-part v) }
+  unfolding kind
+  through-never h = record { is = λ ns v l s. go ns v l s (row-kind q (scope ns v) l s) }
     where
-      go : (v : Bool) → kd ≡ cond v 11 12 → false ≡ goesThrough v k (outcome r)
-      go true e = sym (through-is true k (r .way) (r .order))
-      go false e = absurd (h e)
+      go : (ns : List ℕ) (v : Bool) (l : Acts) → Stands (act (scope ns v) l) k t → kd ≡ kind (scope ns v) → false ≡ goesThrough v k (outcome r)
+      go ns true l s e = sym (through-is true k (r .way) (r .order))
+      go [] false l s e = absurd (h e)
+      go (n ∷ ns) false l s e = absurd (false≢true (numbered-undo n ns false (scope-line t k (n ∷ ns) false l s .numbers)))
 
   module _ (h : kd ≡ 12) {m : ℕ} (i : m ≡ markAt k (r .order)) where
     pub through-not : (m ≡ 0 → ⊥) → Through t k r false
     through-not g = record {
-      is = λ v l s.
+      is = λ ns v l s.
           let d : eqb (markAt k (r .order)) 0 ≡ false = ne-eqb _ _ (λ x. g (i ∙ x)) in
           sym (through-is v k (r .way) (r .order) ∙ rw d (and-false (not v)));
     }
 
     pub through-so : m ≡ 0 → {b : Bool} → b ≡ ofUndo (r .way) → Through t k r b
-    through-so g {b} j = record { is = λ v l s. go v (row-kind q (scope v) l s ∙ undo-part v) }
+    unfolding kind
+    through-so g {b} j = record { is = λ ns v l s. go ns v (row-kind q (scope ns v) l s) }
       where
-        go : (v : Bool) → kd ≡ cond v 11 12 → b ≡ goesThrough v k (outcome r)
-        go true e = absurd (omega arith)
-        go false e = j ∙ sym (through-is false k (r .way) (r .order) ∙ rw (eq-eqb _ _ (sym i ∙ g)))
+        go : (ns : List ℕ) (v : Bool) → kd ≡ kind (scope ns v) → b ≡ goesThrough v k (outcome r)
+        go [] true e = absurd (omega arith)
+        go (n ∷ ns) true e = absurd (omega arith)
+        go ns false e = j ∙ sym (through-is false k (r .way) (r .order) ∙ rw (eq-eqb _ _ (sym i ∙ g)))
 
 -- `in_scope`
 module _ (t : List ℕ) (k x : ℕ) (r : Went) {z : Spot} (y : SpotAt t k z) where
   InAct : Went → Act → Type 0
-  InAct p (act own l) = p ≡ went (inScope (hasUndo own) k x l (outcome r))
+  InAct p (act own l) = p ≡ went (inScope (numbersOf own) (hasUndo own) k x l (outcome r))
 
-  fault-at : (v : Bool) (b f : Act) (l : Acts) → Stands (scopeAct v b f l) k t → z .fault ≡ k + 1 + size b
-  unfolding part partAt
-  fault-at v b f l s = ap (λ (s : Scope). s .faultAt) (y .same v b f l s)
+  abbrev body-end : Made → ℕ
+  body-end m = partAt 0 (m .parts) (k + 1 + size (m .body))
 
-  module _ (h : x < z .fault) {c : Bool} (i : Through t k r c) where
+  parts-at : (v : Bool) (m : Made) → Stands (scopeAct v m) k t → z .parts ≡ body-end m
+  parts-at v m s = spot-parts y v m s ∙ sym (first-at (m .parts) (k + 1 + size (m .body)))
+
+  module _ (h : x < z .parts) {c : Bool} (i : Through t k r c) where
     pub in-through : c ≡ true → InScope t k x r r
     unfolding inScope partAt InAct
     in-through j = record {
-      is = λ v l s. if-parts (InAct r) t k (λ v b f l sb sf s.
-          let m : x < k + 1 + size b = omega (arith, fault-at v b f l s) in
-          let w = scopeAt k (more b (more f l)) in
-          sym (ap went (yes (ltb x (k + 1 + size b)) _ _ (lt-ltb _ _ m)
-          ∙ yes (goesThrough v k (outcome r)) (outcome r) (fromBody w (outcome r)) (sym (i .is v (more b (more f l)) s) ∙ j)))) v l s;
+      is = λ ns v l s. if-parts (InAct r) t k (λ v m sb s.
+          let n : x < body-end m = omega (arith, parts-at v m s) in
+          let l = more (m .body) (m .parts) in
+          sym (ap went (yes (ltb x (body-end m)) _ _ (lt-ltb _ _ n)
+          ∙ yes (goesThrough v k (outcome r)) (outcome r) (fromBody (scopeAt (m .numbers) k l) (outcome r)) (sym (i .is (m .numbers) v l s) ∙ j)))) ns v l s;
     }
 
     pub in-body : c ≡ false → {p : Went} → Makes t z fromBody r p → InScope t k x r p
     unfolding inScope partAt InAct
     in-body j {p} g = record {
-      is = λ v l s. if-parts (InAct p) t k (λ v b f l sb sf s.
-          let m : x < k + 1 + size b = omega (arith, fault-at v b f l s) in
-          let w = scopeAt k (more b (more f l)) in
-          g .is b f (y .held v b f l s)
-          ∙ (ap (λ (c : Scope). went (fromBody c (outcome r))) (y .same v b f l s)
-          ∙ sym (ap went (yes (ltb x (k + 1 + size b)) _ _ (lt-ltb _ _ m)
-          ∙ no (goesThrough v k (outcome r)) (outcome r) (fromBody w (outcome r)) (sym (i .is v (more b (more f l)) s) ∙ j))))) v l s;
+      is = λ ns v l s. if-parts (InAct p) t k (λ v m sb s.
+          let n : x < body-end m = omega (arith, parts-at v m s) in
+          let l = more (m .body) (m .parts) in
+          g .is m (y .held v m s)
+          ∙ (ap (λ (c : Scope). went (fromBody c (outcome r))) (y .same v m s)
+          ∙ sym (ap went (yes (ltb x (body-end m)) _ _ (lt-ltb _ _ n)
+          ∙ no (goesThrough v k (outcome r)) (outcome r) (fromBody (scopeAt (m .numbers) k l) (outcome r)) (sym (i .is (m .numbers) v l s) ∙ j))))) ns v l s;
     }
 
-  module _ (h : z .fault ≤ x) {n : ℕ} (e : End t (z .fault) n) where
-    past-fault : (v : Bool) (b f : Act) (l : Acts) → Stands (scopeAct v b f l) k t → n ≡ partAt 0 l (k + 1 + size b + size f)
-    past-fault v b f l s =
-        omega (arith, fault-at v b f l s, stands-end f (z .fault) t (y .held v b f l s .fault) e, first-at l (k + 1 + size b + size f))
+  module _ (h : z .parts ≤ x) {n : ℕ} (e : UndoRow t z n) where
+    abbrev faults-end : Made → ℕ
+    faults-end m = partAt (generalPart (m .numbers)) (m .parts) (k + 1 + size (m .body))
 
     pub in-fault : x < n → {p : Went} → Makes t z fromFault r p → InScope t k x r p
     unfolding inScope partAt InAct
     in-fault d {p} g = record {
-      is = λ v l s. if-parts (InAct p) t k (λ v b f l sb sf s.
-          let m : k + 1 + size b ≤ x = omega (arith, fault-at v b f l s) in
-          let q : x < partAt 0 l (k + 1 + size b + size f) = omega (arith, past-fault v b f l s) in
-          let w = scopeAt k (more b (more f l)) in
-          g .is b f (y .held v b f l s)
-          ∙ (ap (λ (c : Scope). went (fromFault c (outcome r))) (y .same v b f l s)
-          ∙ sym (ap went (no (ltb x (k + 1 + size b)) _ _ (le-ltb _ _ m)
-          ∙ yes (ltb x (partAt 0 l (k + 1 + size b + size f))) (fromFault w (outcome r)) (fromUndo (outcome r)) (lt-ltb _ _ q))))) v l s;
+      is = λ ns v l s. if-parts (InAct p) t k (λ v m sb s.
+          let a : body-end m ≤ x = omega (arith, parts-at v m s) in
+          let b : x < faults-end m = omega (arith, spot-undo y e v m s) in
+          let w = scopeAt (m .numbers) k (more (m .body) (m .parts)) in
+          g .is m (y .held v m s)
+          ∙ (ap (λ (c : Scope). went (fromFault c (outcome r))) (y .same v m s)
+          ∙ sym (ap went (no (ltb x (body-end m)) _ _ (le-ltb _ _ a)
+          ∙ yes (ltb x (faults-end m)) (fromFault w (outcome r)) (fromUndo (outcome r)) (lt-ltb _ _ b))))) ns v l s;
     }
 
     pub in-undo : n ≤ x → {p : Went} → p ≡ went (fromUndo (outcome r)) → InScope t k x r p
     unfolding inScope partAt InAct
     in-undo d {p} g = record {
-      is = λ v l s. if-parts (InAct p) t k (λ v b f l sb sf s.
-          let m : k + 1 + size b ≤ x = omega (arith, fault-at v b f l s) in
-          let q : partAt 0 l (k + 1 + size b + size f) ≤ x = omega (arith, past-fault v b f l s) in
-          let w = scopeAt k (more b (more f l)) in
-          g ∙ sym (ap went (no (ltb x (k + 1 + size b)) _ _ (le-ltb _ _ m)
-          ∙ no (ltb x (partAt 0 l (k + 1 + size b + size f))) (fromFault w (outcome r)) (fromUndo (outcome r)) (le-ltb _ _ q)))) v l s;
+      is = λ ns v l s. if-parts (InAct p) t k (λ v m sb s.
+          let a : body-end m ≤ x = omega (arith, parts-at v m s) in
+          let b : faults-end m ≤ x = omega (arith, spot-undo y e v m s) in
+          let w = scopeAt (m .numbers) k (more (m .body) (m .parts)) in
+          g ∙ sym (ap went (no (ltb x (body-end m)) _ _ (le-ltb _ _ a)
+          ∙ no (ltb x (faults-end m)) (fromFault w (outcome r)) (fromUndo (outcome r)) (le-ltb _ _ b)))) ns v l s;
     }
 
 -- `goes_on`: by the kind of the row and its mark
@@ -242,8 +244,9 @@ module _ (t : List ℕ) (k e child : ℕ) (o : Order) {kd : ℕ} (q : KindOf t k
     inside-over sequence l x h d = absurd (h8 h)
     inside-over flow l x h d = absurd (h9 h)
     inside-over pick l x h d = refl
-    inside-over (scope true) l x h d = absurd (false≢true d)
-    inside-over (scope false) l x h d = absurd (false≢true d)
+    inside-over (scope [] true) l x h d = absurd (false≢true d)
+    inside-over (scope [] false) l x h d = absurd (false≢true d)
+    inside-over (scope (n ∷ ns) v) l x h d = absurd (false≢true d)
     inside-over (arm p q vs) l x h d = absurd (false≢true d)
 
     pub inside-finishes : m ≡ 2 → {p : Went} → p ≡ finishesOf k o → GoesOn t k e child o p
@@ -288,7 +291,7 @@ combines-waits (repeat e) l k x R n h = goes-waits k 2 (again k) R h
 combines-waits sequence l k x R n h = goes-waits k 1 (λ o. whereOver (finishes k) (begunIn o (beginAfter l (k + 1) x (o .marks)))) R h
 combines-waits flow l k x R n h = goes-waits k 1 (joins k l) R h
 combines-waits pick l k x R n h = goes-waits k 2 (finishes k) R h
-combines-waits (scope v) l k x R n h = absurd (false≢true (sym n))
+combines-waits (scope ns v) l k x R n h = absurd (false≢true (sym n))
 combines-waits (arm p q vs) l k x R n h = refl
 
 combines-plain : (own : Own) (l : Acts) (k x : ℕ) (R : Outcome) → isScope own ≡ false → hasParts (kind own) ≡ false → went (combines own l k x R) ≡ went R
@@ -305,7 +308,7 @@ combines-plain (repeat e) l k x R n h = absurd (false≢true (sym h))
 combines-plain sequence l k x R n h = absurd (false≢true (sym h))
 combines-plain flow l k x R n h = absurd (false≢true (sym h))
 combines-plain pick l k x R n h = absurd (false≢true (sym h))
-combines-plain (scope v) l k x R n h = absurd (false≢true (sym n))
+combines-plain (scope ns v) l k x R n h = absurd (false≢true (sym n))
 combines-plain (arm p q vs) l k x R n h = refl
 
 module _ (t : List ℕ) (k e child x : ℕ) (r : Went) {kd : ℕ} (q : KindOf t k kd) where
@@ -317,7 +320,7 @@ module _ (t : List ℕ) (k e child x : ℕ) (r : Went) {kd : ℕ} (q : KindOf t 
     unfolding combines
     combines-scope h {p} g = record {
       is = λ own l s c w.
-          own-scope (λ y. Stands (act y l) k t → p ≡ went (combines y l k x (outcome r))) (λ v s. g .is v l s) own (scope-there own l s ∙ h) s;
+          own-scope (λ y. Stands (act y l) k t → p ≡ went (combines y l k x (outcome r))) (λ ns v s. g .is ns v l s) own (scope-there own l s ∙ h) s;
     }
 
     module _ (n : a ≡ false) {v : Bool} (i : v ≡ hasParts kd) where
@@ -373,22 +376,22 @@ undo-same : (R : Outcome) → went (fromUndo R) ≡ went (fromUndo (outcome (wen
 unfolding fromUndo
 undo-same = by-way fromUndo (λ o g. refl) (λ o g. refl) (λ x o g. refl) (λ o g. refl) (λ o g. refl) (λ x o g. refl)
 
-scope-same : (v : Bool) (k x : ℕ) (l : Acts) (R : Outcome) → went (inScope v k x l R) ≡ went (inScope v k x l (outcome (went R)))
+scope-same : (ns : List ℕ) (v : Bool) (k x : ℕ) (l : Acts) (R : Outcome) → went (inScope ns v k x l R) ≡ went (inScope ns v k x l (outcome (went R)))
 unfolding inScope goesThrough
-scope-same v k x l R = go (ltb x (partAt 1 l (k + 1))) (ltb x (partAt 2 l (k + 1))) (goesThrough v k R)
+scope-same ns v k x l R = go (ltb x (partAt 1 l (k + 1))) (ltb x (partAt (undoPart ns) l (k + 1))) (goesThrough v k R)
   where
     go : (a b c : Bool) → _≡_ {A = Went}
         (went (elim a [
-          | true ↦ elim c [ true ↦ R | false ↦ fromBody (scopeAt k l) R ]
-          | false ↦ elim b [ true ↦ fromFault (scopeAt k l) R | false ↦ fromUndo R ]
+          | true ↦ elim c [ true ↦ R | false ↦ fromBody (scopeAt ns k l) R ]
+          | false ↦ elim b [ true ↦ fromFault (scopeAt ns k l) R | false ↦ fromUndo R ]
         ]))
         (went (elim a [
-          | true ↦ elim c [ true ↦ outcome (went R) | false ↦ fromBody (scopeAt k l) (outcome (went R)) ]
-          | false ↦ elim b [ true ↦ fromFault (scopeAt k l) (outcome (went R)) | false ↦ fromUndo (outcome (went R)) ]
+          | true ↦ elim c [ true ↦ outcome (went R) | false ↦ fromBody (scopeAt ns k l) (outcome (went R)) ]
+          | false ↦ elim b [ true ↦ fromFault (scopeAt ns k l) (outcome (went R)) | false ↦ fromUndo (outcome (went R)) ]
         ]))
     go true b true = refl
-    go true b false = body-same (scopeAt k l) R
-    go false true c = fault-same (scopeAt k l) R
+    go true b false = body-same (scopeAt ns k l) R
+    go false true c = fault-same (scopeAt ns k l) R
     go false false c = undo-same R
 
 combines-same : (own : Own) (l : Acts) (k x : ℕ) (R : Outcome) → went (combines own l k x R) ≡ went (combines own l k x (outcome (went R)))
@@ -405,15 +408,15 @@ combines-same (repeat e) l k x R = goes-same k 2 (again k) R
 combines-same sequence l k x R = goes-same k 1 (λ o. whereOver (finishes k) (begunIn o (beginAfter l (k + 1) x (o .marks)))) R
 combines-same flow l k x R = goes-same k 1 (joins k l) R
 combines-same pick l k x R = goes-same k 2 (finishes k) R
-combines-same (scope v) l k x R = scope-same v k x l R
+combines-same (scope ns v) l k x R = scope-same ns v k x l R
 combines-same (arm p q vs) l k x R = refl
 
 -- what room a scope needs
 room-of : (own : Own) (l : Acts) (k : ℕ) (o : Order) → hasRoom own l k (closings o) ≡ true
-    → hasUndo own ≡ true → length (closings (forgetting (scopeAt k l) o)) < 32
+    → hasUndo own ≡ true → length (closings (forgetting (scopeAt (numbersOf own) k l) o)) < 32
 unfolding hasRoom forgetting
 room-of own l k o h e =
-    let xs = only (λ e. not (isFor (scopeAt k l) e)) (closings o) in
+    let xs = only (λ e. not (isFor (scopeAt (numbersOf own) k l) e)) (closings o) in
     let m : ltb (length xs) 32 ≡ true = rw e at h in
     rw (closings-are xs o) (ltb-true (length xs) 32 m)
 

@@ -6,7 +6,7 @@ use Prim.Native.Nat.{ℕ, _+_, _-_, _<_, _≤_}
 use native.Mathlib.Omega.{arith}
 use borrow.Author.Tests.{eq-eqb, ne-eqb, lt-ltb, le-ltb, ltb-false}
 use lib.Dec.{eqb, ltb}
-use Rattle.plan.specs.Tree.{Act, act, Acts, none, more, Plan, size, sizes}
+use Rattle.plan.specs.Tree.{Act, act, Acts, none, more, Plan, size, sizes, count}
 use Rattle.order.specs.declared.Closing.{Closing}
 use Rattle.order.specs.declared.End.{End}
 use Rattle.order.specs.declared.End.the-variants.{None, Well, Handled, Failed, Left}
@@ -17,7 +17,8 @@ use Rattle.order.specs.declared.Way.{Way}
 use Rattle.order.specs.declared.Way.the-variants.{Running, Over, Raising, Leaving, Undone, UndoRaising}
 use Rattle.order.specs.declared.Went.{Went}
 use Rattle.order.specs.Acting.{Actor, stepIn, stepRoot, endOf, faultOf, movedTo, acted}
-use Rattle.order.specs.Answering.{went, outcome, nextOf, endedOf, Makes, StepsIn, RootSpot, ActsOrder}
+use Rattle.order.specs.Answering.{went, outcome, nextOf, endedOf, Makes, StepsIn, rootMade, RootSpot, ActsOrder}
+use Rattle.order.specs.Begin.{part, partAt}
 use Rattle.order.specs.Event.{Event}
 use Rattle.order.specs.Room.{hasRoom, roomIn, roomAmong, roomPlan}
 use Rattle.order.specs.Scope.{Scope, Outcome, rootOf, fromBody, fromFault}
@@ -82,10 +83,19 @@ moved-same R = go (R .result) (R .order) (R .log)
 
 -- `root_spot`
 pub root-is : (t : List ℕ) (activities : ℕ) {e : ℕ} → e ≤ 256 → (activities ≤ 256 → e ≡ activities) → {n f : ℕ} → standing.End t 0 n → f < 256 → (n < 256 → f ≡ n)
-    → RootSpot t activities (record { root = true; first = 0; end = e; body = 0; fault = f })
+    → RootSpot t activities (record { root = true; first = 0; end = e; body = 0; parts = f; count = 0 })
+unfolding standing.Stands part partAt count
 root-is t activities {e} h i {n} {f} z u j = record {
   low = u;
-  held = λ p s. record { end = h; body = s .body; next = omega (arith, fault-at p s); fault = rw (fault-at p s) (s .fault) };
+  held = λ p s. record {
+    end = h;
+    body = s .body;
+    next = omega (arith, fault-at p s);
+    parts = record { first = rw (fault-at p s) (s .fault); rest = tt };
+    general = omega arith;
+    many = refl;
+    numbers = record { row = omega arith; few = omega arith; is = λ i l. absurd (omega arith) };
+  };
   same = λ p s.
       let m : activities ≤ 256 = omega (arith, s .many, stands-inside (p .fault) (size (p .body)) t (s .fault)) in
       let c : e - 0 ≡ size (p .body) + size (p .fault) = omega (arith, s .many, i m) in
@@ -113,8 +123,8 @@ room-beyond (act own l) k x xs h =
 
 -- `acted`
 module _ (t : List ℕ) (activities : ℕ) (v : Actor) (x : ℕ) (o : Order) {z : Spot} (y : RootSpot t activities z) where
-  fault-row : (p : Plan) → PlanStands p activities t → z .fault ≡ size (p .body)
-  fault-row p s = ap (λ (c : Scope). c .faultAt) (y .same p s)
+  fault-row : (p : Plan) → PlanStands p activities t → z .parts ≡ size (p .body)
+  fault-row p s = ap (λ (c : Scope). c .partsAt) (y .same p s)
 
   room-body : (p : Plan) → x < size (p .body) → roomPlan p x (closings o) ≡ true → roomIn (p .body) 0 x (closings o) ≡ true
   unfolding roomIn
@@ -122,7 +132,7 @@ module _ (t : List ℕ) (activities : ℕ) (v : Actor) (x : ℕ) (o : Order) {z 
       let m : x < 0 + size (p .body) = omega arith in
       sym (yes (ltb x (0 + size (p .body))) (roomIn (p .body) 0 x (closings o)) _ (lt-ltb _ _ m)) ∙ g
 
-  pub step-body : x < z .fault → {r : Went} → StepsIn t v 0 0 x o r → {p : Went} → Makes t z fromBody r p → {n : Next}
+  pub step-body : x < z .parts → {r : Went} → StepsIn t v 0 0 x o r → {p : Went} → Makes t z fromBody r p → {n : Next}
       → n ≡ nextOf (movedTo (outcome p) (endOf (outcome p))) → ActsOrder t activities v x o n
   unfolding acted stepRoot
   step-body h {r} a {p} b {n} c = record {
@@ -132,7 +142,7 @@ module _ (t : List ℕ) (activities : ℕ) (v : Actor) (x : ℕ) (o : Order) {z 
         let R = stepIn v (q .body) 0 0 x o in
         let d : r ≡ went R = a .is (q .body) (omega arith) (w .body) (room-body q m room) in
         let e : p ≡ went (fromBody (rootOf q) (outcome (went R)))
-        = (rw d at (b .is (q .body) (q .fault) (y .held q w))) ∙ ap (λ (s : Scope). went (fromBody s (outcome (went R)))) (y .same q w) in
+        = (rw d at (b .is (rootMade q) (y .held q w))) ∙ ap (λ (s : Scope). went (fromBody s (outcome (went R)))) (y .same q w) in
         let f : p ≡ went (stepRoot v q x o)
         = e ∙ (sym (body-same (rootOf q) R) ∙ sym (ap went (yes (ltb x (size (q .body))) (fromBody (rootOf q) R) _ (lt-ltb _ _ m)))) in
         (rw f at c) ∙ sym (moved-same (stepRoot v q x o));
@@ -151,18 +161,18 @@ module _ (t : List ℕ) (activities : ℕ) (v : Actor) (x : ℕ) (o : Order) {z 
       go true e v = v
       go false e v = room-beyond (p .fault) (0 + size (p .body)) x (closings o) (ltb-false _ _ e)
 
-  pub step-fault : z .fault ≤ x → {r : Went} → StepsIn t v (z .fault) (z .fault) x o r → {p : Went} → Makes t z fromFault r p → {n : Next}
+  pub step-fault : z .parts ≤ x → {r : Went} → StepsIn t v (z .parts) (z .parts) x o r → {p : Went} → Makes t z fromFault r p → {n : Next}
       → n ≡ nextOf (movedTo (outcome p) (endOf (outcome p))) → ActsOrder t activities v x o n
   unfolding acted stepRoot
   step-fault h {r} a {p} b {n} c = record {
     is = λ q s room.
         let w = plan-stands s in
-        let i : z .fault ≡ size (q .body) = fault-row q w in
+        let i : z .parts ≡ size (q .body) = fault-row q w in
         let m : size (q .body) ≤ x = omega arith in
         let R = stepIn v (q .fault) (size (q .body)) (size (q .body)) x o in
         let d : r ≡ went R = (rw i at a) .is (q .fault) (omega (arith, y .low)) (w .fault) (room-fault q m room) in
         let e : p ≡ went (fromFault (rootOf q) (outcome (went R)))
-        = (rw d at (b .is (q .body) (q .fault) (y .held q w))) ∙ ap (λ (s : Scope). went (fromFault s (outcome (went R)))) (y .same q w) in
+        = (rw d at (b .is (rootMade q) (y .held q w))) ∙ ap (λ (s : Scope). went (fromFault s (outcome (went R)))) (y .same q w) in
         let f : p ≡ went (stepRoot v q x o)
         = e ∙ (sym (fault-same (rootOf q) R) ∙ sym (ap went (no (ltb x (size (q .body))) (fromBody (rootOf q) _) (fromFault (rootOf q) R) (le-ltb _ _ m)))) in
         (rw f at c) ∙ sym (moved-same (stepRoot v q x o));

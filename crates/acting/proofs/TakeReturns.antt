@@ -63,13 +63,13 @@ module _ (t : List ℕ) (k p q : ℕ) (vs : List ℕ) (l : Acts) where
   unfolding Stands variablesOf ownWithin
   receive-names s =
       both (not (s .first .arms)) _ (s .first .limits) (λ a b.
-      both (eqb (count l) 0) _ b (λ c d. line-names (s .first) true p q (omega arith) d))
+      both (eqb (count l) 0) _ b (λ c d. line-names (s .first) refl true p q (omega arith) d))
 
   arm-names : Stands (act (arm p q vs) l) k t → Names t k vs
   unfolding Stands variablesOf ownWithin
   arm-names s =
       both (s .first .arms) _ (s .first .limits) (λ a b.
-      both (eqb (count l) 1) _ b (λ c d. line-names (s .first) true p q (omega arith) d))
+      both (eqb (count l) 1) _ b (λ c d. line-names (s .first) refl true p q (omega arith) d))
 
 none-past : (l : Acts) (c x : ℕ) → c + sizes l ≤ x → actAmong l c x ≡ act empty none
 unfolding actIn size
@@ -123,7 +123,7 @@ module _ (t : List ℕ) (n x : ℕ) (xs : List ℕ) (o : Order) where
     no-take h i sequence e = refl
     no-take h i flow e = refl
     no-take h i pick e = refl
-    no-take h i (scope u) e = refl
+    no-take h i (scope ns u) e = refl
     no-take h i (arm p y vs) e = absurd (i (sym e))
 
     pub takes-none : (kd ≡ 2 → ⊥) → (kd ≡ 255 → ⊥) → TakesOrder t n x xs o o

@@ -20,6 +20,7 @@ use order::marks::mark_at;
 use order::marks::marked;
 use order::marks::quiet;
 use order::marks::runs;
+use order::parts::undo_row;
 use order::rows::end_of;
 use order::rows::kind_of;
 use order::rows::spot_at;
@@ -129,14 +130,13 @@ fn in_scope(table: &Table, k: usize, t: usize, r: Went) -> Went
     ensures { λ p. ⌜ InScope (now (table .entry)) k t r p ⌝ }
 {
     let s = spot_at(table, k);
-    let fault = s.fault;
-    if t < fault {
+    if t < s.parts {
         if goes_through(table, k, r) {
             return r;
         }
         return from_body(table, s, r);
     }
-    if t < end_of(table, fault) {
+    if t < undo_row(table, s) {
         return from_fault(table, s, r);
     }
     from_undo(r)

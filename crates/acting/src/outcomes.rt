@@ -4,13 +4,14 @@ use order::Spot;
 use order::Way;
 use order::Went;
 use order::mark;
-use order::marks::causing;
 use order::marks::cleared;
 use order::marks::mark_of;
 use order::marks::marking;
 use order::marks::runs;
+use order::marks::state_of;
 use order::marks::with_marks;
 use order::memory::forgetting;
+use order::parts::faulting;
 use plan::table::Table;
 use scopes::scopes::ends;
 use scopes::scopes::turns;
@@ -25,7 +26,7 @@ ghost use Rattle.order.specs.Scope.{faults as faultsOf, breaks as breaksOf, loo
 fn faults(table: &Table, number: u8, spot: Spot, order: Order) -> Went
     ensures { λ p. ⌜ Leads (now (table .entry)) spot (faultsOf number) order p ⌝ }
 {
-    let o = causing(spot, number, marking(spot, mark::FAULTY, order));
+    let o = faulting(table, spot, number, order);
     let p = stop(table, spot.body, o);
     turns(table, true, spot, p)
 }
@@ -48,11 +49,10 @@ fn breaks(table: &Table, number: u8, spot: Spot, order: Order) -> Went
 fn looks_again(table: &Table, spot: Spot, order: Order) -> Went
     ensures { λ p. ⌜ Leads (now (table .entry)) spot looksAgain order p ⌝ }
 {
-    let m = mark_of(spot, order);
-    if m == mark::FAULTY {
+    if state_of(spot, order) == mark::FAULTY {
         return turns(table, true, spot, order);
     }
-    if m == mark::HALTED {
+    if mark_of(spot, order) == mark::HALTED {
         return turns(table, false, spot, order);
     }
     runs(order)
@@ -83,11 +83,10 @@ fn body_raised(table: &Table, number: u8, spot: Spot, order: Order) -> Went
 fn undo_over(table: &Table, spot: Spot, order: Order) -> Went
     ensures { λ p. ⌜ Leads (now (table .entry)) spot undoOver order p ⌝ }
 {
-    let m = mark_of(spot, order);
-    if m == mark::UNDOING {
+    if state_of(spot, order) == mark::UNDOING {
         return undoes(table, true, spot, order);
     }
-    if m == mark::WITHDRAWING {
+    if mark_of(spot, order) == mark::WITHDRAWING {
         return undoes(table, false, spot, order);
     }
     runs(order)
@@ -97,11 +96,10 @@ fn undo_over(table: &Table, spot: Spot, order: Order) -> Went
 fn undo_raised(table: &Table, number: u8, spot: Spot, order: Order) -> Went
     ensures { λ p. ⌜ Leads (now (table .entry)) spot (undoRaised number) order p ⌝ }
 {
-    let m = mark_of(spot, order);
-    if m == mark::UNDOING {
+    if state_of(spot, order) == mark::UNDOING {
         return breaks(table, number, spot, order);
     }
-    if m == mark::WITHDRAWING {
+    if mark_of(spot, order) == mark::WITHDRAWING {
         return breaks(table, number, spot, order);
     }
     runs(order)
@@ -130,7 +128,7 @@ pub(crate) fn from_body(table: &Table, spot: Spot, r: Went) -> Went
 fn part_over(spot: Spot, order: Order) -> Went
     ensures { λ p. ⌜ PartOver spot order p ⌝ }
 {
-    if mark_of(spot, order) == mark::HANDLING {
+    if state_of(spot, order) == mark::HANDLING {
         return ends(spot, order);
     }
     runs(order)
@@ -140,7 +138,7 @@ fn part_over(spot: Spot, order: Order) -> Went
 fn part_raised(table: &Table, number: u8, spot: Spot, order: Order) -> Went
     ensures { λ p. ⌜ Leads (now (table .entry)) spot (partRaised number) order p ⌝ }
 {
-    if mark_of(spot, order) == mark::HANDLING {
+    if state_of(spot, order) == mark::HANDLING {
         return breaks(table, number, spot, order);
     }
     runs(order)

@@ -81,13 +81,14 @@ pub(crate) fn root_spot(table: &Table, activities: usize) -> Spot
     ensures { λ r. ⌜ RootSpot (now (table .entry)) activities r ⌝ }
 {
     let end = capped(activities);
-    let fault = some_row(end_of(table, 0));
+    let parts = some_row(end_of(table, 0));
     Spot {
         root: true,
         first: 0,
         end,
         body: 0,
-        fault,
+        parts,
+        count: 0,
     }
 }
 
@@ -96,7 +97,7 @@ pub fn acted(table: &Table, activities: usize, order: Order, t: usize, raise: bo
     ensures { λ r. ⌜ ActsOrder (now (table .entry)) activities (actorOf raise) t order r ⌝ }
 {
     let s = root_spot(table, activities);
-    let fault = s.fault;
+    let fault = s.parts;
     if t < fault {
         let r = step_in(table, 0, 0, t, raise, order);
         let p = from_body(table, s, r);

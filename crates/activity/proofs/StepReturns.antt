@@ -1,6 +1,6 @@
 -- The returns of the functions by which an activity has its step. Assumes nothing.
 use mathlib.Core.Path.{_≡_, refl, sym, ap, _∙_}
-use mathlib.Core.Bool.{Bool, true, false, cond, not, _&&_}
+use mathlib.Core.Bool.{Bool, true, false, cond, not, _&&_, false≢true}
 use mathlib.Core.List.{List, [], _∷_, _++_}
 use Prim.Native.Nat.{ℕ, zero, suc, _+_, _*_, _-_, _<_, _≤_}
 use native.Mathlib.Numerals.{add-one}
@@ -12,9 +12,10 @@ use lib.Seq.{drop-cons}
 use Rattle.plan.specs.Found.{among}
 use Rattle.plan.specs.Spells.{SpellsOwn, variablesOf}
 use Rattle.plan.specs.Table.{rowOf}
-use Rattle.plan.specs.Tree.{Exp, Own, empty, send, receive, set as setting, raise, leave, choose, repeat, sequence, flow, pick, scope, arm, kind, Act, act, Acts, none, more, size, sizes, count}
-use Rattle.plan.specs.Within.{ownWithin, exchangeWithin, variablesWithin, raiseWithin}
+use Rattle.plan.specs.Tree.{Exp, Own, empty, send, receive, set as setting, raise, leave, choose, repeat, sequence, flow, pick, scope, arm, kind, numbersOf, Act, act, Acts, none, more, size, sizes, count}
+use Rattle.plan.specs.Within.{numbersWithin, ownWithin, exchangeWithin, variablesWithin, raiseWithin}
 use Rattle.plan.proofs.Accepts.{both}
+use Rattle.plan.proofs.TableSpells.{row-count, row-variables}
 use Rattle.order.specs.declared.Closing.{Closing}
 use Rattle.order.specs.declared.Entered.{Entered}
 use Rattle.order.specs.declared.Order.{Order}
@@ -33,7 +34,7 @@ use Rattle.order.proofs.EvaluationReturns.{fault-known, value-known}
 use Rattle.order.proofs.Owns.{of-kind}
 use Rattle.order.proofs.MemoryReturns.{closings-are}
 use Rattle.order.proofs.Deciding.{yes, no, goes-on, stays}
-use Rattle.order.proofs.Standing.{size-pos, stands-end, stands-inside, row-kind, if-two, if-one}
+use Rattle.order.proofs.Standing.{size-pos, stands-end, stands-inside, row-kind, scope-line, numbered-undo, if-two, if-one}
 
 -- `finishes`, `raises`, `leaves`, `again`
 module _ (k : ℕ) (o : Order) where
@@ -129,17 +130,17 @@ variables-small vars once (v ∷ l) h f (suc i) g =
     both (ltb v vars) _ h (λ a b. both (not (once && among v l)) _ b (λ c d. variables-small vars once l d f i (omega arith)))
 
 -- what the limits say of the tuple of a send, a receive or an arm
-pub line-names : {own : Own} {n k e : ℕ} {t : List ℕ} (w : Line own n k e t) (once : Bool) (p q : ℕ) → k < e
+pub line-names : {own : Own} {n k e : ℕ} {t : List ℕ} (w : Line own n k e t) → numbersOf own ≡ [] → (once : Bool) (p q : ℕ) → k < e
     → exchangeWithin (w .variables) once p q (variablesOf own) ≡ true → Names t k (variablesOf own)
 unfolding exchangeWithin
-line-names {own} w once p q z h =
+line-names {own} w u once p q z h =
     both (ltb p 64) _ h (λ a b.
     both (ltb q 64) _ b (λ c d.
     both (leb 1 (length (variablesOf own))) _ d (λ e f.
     both (leb (length (variablesOf own)) 4) _ f (λ g i. record {
       row = omega (arith, w .inside);
-      count = w .row .count;
-      variables = w .row .variables;
+      count = w .row .count ∙ row-count own (w .node) (w .at) u;
+      variables = λ j m. w .row .variables j m ∙ row-variables own (w .node) (w .at) j u m;
       few = leb-true (length (variablesOf own)) 4 g;
       small = variables-small (w .variables) once (variablesOf own) i (w .few);
     }))))
@@ -149,7 +150,7 @@ pub send-names : (t : List ℕ) (k p q : ℕ) (vs : List ℕ) (l : Acts) → Sta
 unfolding Stands variablesOf ownWithin
 send-names t k p q vs l s =
     both (not (s .first .arms)) _ (s .first .limits) (λ a b.
-    both (eqb (count l) 0) _ b (λ c d. line-names (s .first) false p q (omega arith) d))
+    both (eqb (count l) 0) _ b (λ c d. line-names (s .first) refl false p q (omega arith) d))
 
 module _ (t : List ℕ) (k : ℕ) (o : Order) {b : Bool} (x : AllBound t k o b) where
   pub send-sends : b ≡ true → {r : Went} → r ≡ finishesOf k o → StepOf 1 t k o r
@@ -388,39 +389,39 @@ takes-is t k o {b} x {r} y = record {
 
 -- `closes`: the closings that are left
 module _ (q k : ℕ) (o : Order) {f : Order} (y : Forgets (k + 1) o f) where
-  abbrev left-in : Acts → List Closing
-  left-in l = only (λ c. not (isFor (scopeAt k l) c)) (closings o)
+  abbrev left-in : List ℕ → Acts → List Closing
+  left-in ns l = only (λ c. not (isFor (scopeAt ns k l) c)) (closings o)
 
-  forgotten : (l : Acts) → f ≡ forgetting (scopeAt k l) o
+  forgotten : (ns : List ℕ) (l : Acts) → f ≡ forgetting (scopeAt ns k l) o
   unfolding forgetting partAt
-  forgotten none = y .is
-  forgotten (more a l) = y .is
+  forgotten ns none = y .is
+  forgotten ns (more a l) = y .is
 
-  kept-all : (l : Acts) → f .kept ≡ length (closings (forgetting (scopeAt k l) o))
+  kept-all : (ns : List ℕ) (l : Acts) → f .kept ≡ length (closings (forgetting (scopeAt ns k l) o))
   unfolding forgetting
-  kept-all l = ap (λ (w : Order). w .kept) (forgotten l) ∙ ap length (sym (closings-are (left-in l) o))
+  kept-all ns l = ap (λ (w : Order). w .kept) (forgotten ns l) ∙ ap length (sym (closings-are (left-in ns l) o))
 
   pub closes-is : f .kept < 32 → {p : Order} → Remembers k q f p → {r : Went} → r ≡ finishesOf k p → Closes q k o r
   unfolding closing forgetting adds
   closes-is i {p} j {r} g = record {
-    is = λ x z l room.
-        let m : p ≡ remembering (closings (forgetting (scopeAt k l) o) ++ adds true q k (scopeAt k l) o) o
-        = rw (closings-are (left-in l) o) (j .is x z i (left-in l) o (forgotten l)) in
+    is = λ x z ns l room.
+        let m : p ≡ remembering (closings (forgetting (scopeAt ns k l) o) ++ adds true q k (scopeAt ns k l) o) o
+        = rw (closings-are (left-in ns l) o) (j .is x z i (left-in ns l) o (forgotten ns l)) in
         rw m at g;
   }
 
   pub closes-full : 32 ≤ f .kept → {r : Went} → Closes q k o r
-  closes-full i = record { is = λ x z l room. absurd (omega (arith, kept-all l, room refl)) }
+  closes-full i = record { is = λ x z ns l room. absurd (omega (arith, kept-all ns l, room refl)) }
 
 -- `hands_on`
 pub hands-is : (q k : ℕ) (o : Order) {p : Order} → Hands (k + 1) q o p → {r : Went} → r ≡ finishesOf k p → HandsOn q k o r
 unfolding closing forgetting adds listOf partAt
-hands-is q k o {p} y {r} g = record { is = λ x z l. g ∙ rw (y .is z) (sym (go l)) }
+hands-is q k o {p} y {r} g = record { is = λ x z ns l. g ∙ rw (y .is z) (sym (go ns l)) }
   where
-    go : (l : Acts) → went (closing false q k (scopeAt k l) o)
+    go : (ns : List ℕ) (l : Acts) → went (closing false q k (scopeAt ns k l) o)
         ≡ finishesOf k (remembering (only (notFor (k + 1)) (closings o) ++ handed q (only (forPart (k + 1)) (closings o))) o)
-    go none = rw (closings-are (only (notFor (k + 1)) (closings o)) o)
-    go (more a l) = rw (closings-are (only (notFor (k + 1)) (closings o)) o)
+    go ns none = rw (closings-are (only (notFor (k + 1)) (closings o)) o)
+    go ns (more a l) = rw (closings-are (only (notFor (k + 1)) (closings o)) o)
 
 -- `itself`: by the kind of the row
 pub itself-far : (t : List ℕ) (pt k : ℕ) (o : Order) {r : Went} → 256 ≤ k → StepsAt t pt k o r
@@ -437,13 +438,29 @@ module _ (t : List ℕ) (pt k : ℕ) (o : Order) {kd : ℕ} (q : KindOf t k kd) 
   unfolding itself
   itself-closes e {r} x = record {
     is = λ own l d s room.
-        of-kind 11 (λ w. Roomy w l k o → r ≡ went (itself w l pt k o)) (λ room. x .is (below own l s) d l room) own (sym (row-kind q own l s) ∙ e) room;
+        of-kind 11 (λ w. Roomy w l k o → r ≡ went (itself w l pt k o)) (λ room. x .is (below own l s) d [] l room) own (sym (row-kind q own l s) ∙ e) room;
   }
+
+  -- fault parts by number come with an undo part
+  pub itself-numbered : kd ≡ 14 → {r : Went} → Closes pt k o r → StepsAt t pt k o r
+  unfolding itself
+  itself-numbered e {r} x = record {
+    is = λ own l d s room.
+        of-kind 14 (λ w. Stands (act w l) k t → Roomy w l k o → r ≡ went (itself w l pt k o))
+        (λ n ns v s room. by-undo n ns v l (numbered-undo n ns v (scope-line t k (n ∷ ns) v l s .numbers)) (x .is (below (scope (n ∷ ns) v) l s) d (n ∷ ns) l) room)
+        own (sym (row-kind q own l s) ∙ e) s room;
+  }
+    where
+      by-undo : {r : Went} (n : ℕ) (ns : List ℕ) (v : Bool) (l : Acts) → v ≡ true
+          → (Roomy (scope (n ∷ ns) true) l k o → r ≡ went (closing true pt k (scopeAt (n ∷ ns) k l) o))
+          → Roomy (scope (n ∷ ns) v) l k o → r ≡ went (closing v pt k (scopeAt (n ∷ ns) k l) o)
+      by-undo n ns true l e f room = f room
+      by-undo n ns false l e f room = absurd (false≢true e)
 
   pub itself-hands : kd ≡ 12 → {r : Went} → HandsOn pt k o r → StepsAt t pt k o r
   unfolding itself
   itself-hands e {r} x = record {
-    is = λ own l d s room. of-kind 12 (λ w. r ≡ went (itself w l pt k o)) (x .is (below own l s) d l) own (sym (row-kind q own l s) ∙ e);
+    is = λ own l d s room. of-kind 12 (λ w. r ≡ went (itself w l pt k o)) (x .is (below own l s) d [] l) own (sym (row-kind q own l s) ∙ e);
   }
 
   pub itself-receives : kd ≡ 2 → {r : Went} → r ≡ finishesOf k o → StepsAt t pt k o r
@@ -461,7 +478,7 @@ module _ (t : List ℕ) (pt k : ℕ) (o : Order) {kd : ℕ} (q : KindOf t k kd) 
   itself-leaves e {r} g = record { is = λ own l d s room. of-kind 5 (λ w. r ≡ went (itself w l pt k o)) g own (sym (row-kind q own l s) ∙ e) }
 
   module _ (h1 : kd ≡ 1 → ⊥) (h2 : kd ≡ 2 → ⊥) (h3 : kd ≡ 3 → ⊥) (h4 : kd ≡ 4 → ⊥) (h5 : kd ≡ 5 → ⊥) (h6 : kd ≡ 6 → ⊥) (h7 : kd ≡ 7 → ⊥)
-      (h11 : kd ≡ 11 → ⊥) (h12 : kd ≡ 12 → ⊥) (h13 : kd ≡ 13 → ⊥) (h255 : kd ≡ 255 → ⊥) where
+      (h11 : kd ≡ 11 → ⊥) (h12 : kd ≡ 12 → ⊥) (h13 : kd ≡ 13 → ⊥) (h14 : kd ≡ 14 → ⊥) (h255 : kd ≡ 255 → ⊥) where
     runs-itself : {r : Went} → r ≡ runsOf o → (own : Own) (l : Acts) → kd ≡ kind own → r ≡ went (itself own l pt k o)
     unfolding itself kind
     runs-itself g empty l e = g
@@ -476,8 +493,9 @@ module _ (t : List ℕ) (pt k : ℕ) (o : Order) {kd : ℕ} (q : KindOf t k kd) 
     runs-itself g sequence l e = g
     runs-itself g flow l e = g
     runs-itself g pick l e = g
-    runs-itself g (scope true) l e = absurd (h11 e)
-    runs-itself g (scope false) l e = absurd (h12 e)
+    runs-itself g (scope [] true) l e = absurd (h11 e)
+    runs-itself g (scope [] false) l e = absurd (h12 e)
+    runs-itself g (scope (n ∷ ns) v) l e = absurd (h14 e)
     runs-itself g (arm p q vs) l e = absurd (h255 e)
 
     pub itself-runs : {r : Went} → r ≡ runsOf o → StepsAt t pt k o r

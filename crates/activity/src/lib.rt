@@ -289,6 +289,7 @@ pub fn itself(table: &Table, q: usize, k: usize, order: Order) -> Went
         kind::CHOOSE => chooses(table, k, order),
         kind::REPEAT => decides(table, k, order),
         kind::SCOPE => closes(q, k, order),
+        kind::NUMBERED_SCOPE => closes(q, k, order),
         kind::OPEN_SCOPE => hands_on(q, k, order),
         kind::ARM => takes(table, k, order),
         _ => runs(order),

@@ -1,7 +1,7 @@
 -- The returns of the functions that begin an activity, and an order. Assumes nothing.
 use mathlib.Core.Path.{_≡_, refl, sym, ap, _∙_}
 use mathlib.Core.Bool.{Bool, true, false, cond, _&&_, false≢true, and-assoc, and-true}
-use mathlib.Core.List.{List}
+use mathlib.Core.List.{List, [], _∷_}
 use Prim.Native.Nat.{ℕ, zero, suc, _+_, _<_, _≤_}
 use native.Mathlib.Omega.{arith}
 use borrow.Author.Tests.{ne-eqb}
@@ -71,8 +71,9 @@ by-kind (repeat e) l k ms = refl
 by-kind sequence l k ms = throughout-entered k (beginInTurn l (k + 1) (set ms k 1))
 by-kind flow l k ms = throughout-entered k (beginAll l (k + 1) (set ms k 1))
 by-kind pick l k ms = refl
-by-kind (scope true) l k ms = around-entered k (beginFirst l (k + 1) (set ms k 1))
-by-kind (scope false) l k ms = around-entered k (beginFirst l (k + 1) (set ms k 1))
+by-kind (scope [] true) l k ms = around-entered k (beginFirst l (k + 1) (set ms k 1))
+by-kind (scope [] false) l k ms = around-entered k (beginFirst l (k + 1) (set ms k 1))
+by-kind (scope (n ∷ ns) v) l k ms = around-entered k (beginFirst l (k + 1) (set ms k 1))
 by-kind (arm p o vs) l k ms = refl
 
 pub begin-far : (t : List ℕ) (k : ℕ) (ms : List ℕ) {r : Entered} → 256 ≤ k → Begins t k ms r
@@ -118,7 +119,7 @@ module _ (t : List ℕ) (k : ℕ) (ms : List ℕ) {kd : ℕ} (q : KindOf t k kd)
       unfolding begin
       begin-scope h {r} {p} x g = record {
         is = λ a s. if-scope (λ a. p ≡ entered (begin a k ms)) t k (rw (← kind-at q a s) (sym y ∙ h))
-            (λ v c f l sc sf s. g ∙ (ap (aroundOf k) (x .is c sc) ∙ sym (around-entered k (begin c (k + 1) (set ms k 1))))) a s;
+            (λ v m sb s. g ∙ (ap (aroundOf k) (x .is (m .body) sb) ∙ sym (around-entered k (begin (m .body) (k + 1) (set ms k 1))))) a s;
       }
 
       -- no scope has no body
@@ -126,7 +127,7 @@ module _ (t : List ℕ) (k : ℕ) (ms : List ℕ) {kd : ℕ} (q : KindOf t k kd)
       unfolding size
       begin-bare h g {p} = record {
         is = λ a s. if-scope (λ a. p ≡ entered (begin a k ms)) t k (rw (← kind-at q a s) (sym y ∙ h))
-            (λ v c f l sc sf s. absurd (omega (arith, stands-end _ k t s z, size-pos c))) a s;
+            (λ v m sb s. absurd (omega (arith, stands-end _ k t s z, size-pos (m .body)))) a s;
       }
 
       pub begin-awaiting : (kd ≡ 0 → ⊥) → (kd ≡ 255 → ⊥) → (kd ≡ 8 → ⊥) → (kd ≡ 9 → ⊥) → b ≡ false

@@ -2,6 +2,7 @@ pub mod Whole
 pub mod Standing
 pub mod Deciding
 mod RowReturns
+pub mod PartReturns
 mod MarkReturns
 mod InsideReturns
 pub mod MemoryReturns

@@ -6,6 +6,7 @@ pub mod kind;
 pub mod mark;
 pub mod marks;
 pub mod memory;
+pub mod parts;
 pub mod rows;
 
 // An order. Where `root` is 0 the slot is free; else `root` is the mark of the root, which counts as a scope and has no number.
@@ -68,14 +69,14 @@ pub struct Entered {
 }
 
 // A scope by the rows of the table: the root, or the scope with the number `first`. Its numbers are `first` to `end`, its body stands from `body`
-// on, its fault parts by number, right after the body, from `parts` on, and its general fault part, right after these, from `fault` on.
+// on, and its fault parts, right after the body, from `parts` on: `count` by number, and then the general one.
 pub struct Spot {
     pub root: bool,
     pub first: usize,
     pub end: usize,
     pub body: usize,
     pub parts: usize,
-    pub fault: usize,
+    pub count: usize,
 }
 
 // An order after a step, how it ended, if it did, and the number of the fault that the root handled, or that went out of the root, where it ended so.

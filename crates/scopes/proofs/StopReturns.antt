@@ -11,7 +11,7 @@ use Rattle.plan.specs.Tree.{Own, isScope, Act, act, Acts, more, size, sizes}
 use Rattle.order.specs.declared.Order.{Order}
 use Rattle.order.specs.declared.Spot.{Spot}
 use Rattle.order.specs.declared.Went.{Went}
-use Rattle.order.specs.Answering.{KindOf, scopeKind, scopeAct, SpotAt, Turns, Withdraws, Stops, StopsAll}
+use Rattle.order.specs.Answering.{KindOf, scopeKind, Made, scopeAct, SpotAt, Turns, Withdraws, Stops, StopsAll}
 use Rattle.order.specs.Scope.{Scope, scopeAt, isOpen, turns, Stopped, untouched, withdraws, stop, stopAll}
 use Rattle.order.specs.Stands.{End, Stands}
 use Rattle.order.specs.State.{markAt, marked}
@@ -28,20 +28,20 @@ open-done e = rw (ne-eqb _ _ e)
 -- `withdrawn`
 pub withdrawn-is : {t : List ℕ} {k : ℕ} {z : Spot} → SpotAt t k z → {o : Order} {r : Went} → Turns t false z o r → Withdraws t k o (r .order)
 withdrawn-is {t} {k} {z} x {o} {r} y = record {
-  is = λ v b f l s.
-      ap (λ (w : Went). w .order) (y .is b f (x .held v b f l s))
-      ∙ ap (λ (c : Scope). turns false c o .order) (x .same v b f l s);
+  is = λ v m s.
+      ap (λ (w : Went). w .order) (y .is m (x .held v m s))
+      ∙ ap (λ (c : Scope). turns false c o .order) (x .same v m s);
 }
 
 -- a scope that is open, one that is not, and any other activity
-stop-scope : (v : Bool) (b f : Act) (l : Acts) (k : ℕ) (o : Order) → isOpen (markAt k o) ≡ true
-    → stop (scopeAct v b f l) k o ≡ withdraws k (scopeAt k (more b (more f l))) (stop b (k + 1) (marked k 7 o))
+stop-scope : (v : Bool) (m : Made) (k : ℕ) (o : Order) → isOpen (markAt k o) ≡ true
+    → stop (scopeAct v m) k o ≡ withdraws k (scopeAt (m .numbers) k (more (m .body) (m .parts))) (stop (m .body) (k + 1) (marked k 7 o))
 unfolding stop
-stop-scope v b f l k o e = yes (isOpen (markAt k o)) _ (untouched o) e
+stop-scope v m k o e = yes (isOpen (markAt k o)) _ (untouched o) e
 
-stop-shut : (v : Bool) (b f : Act) (l : Acts) (k : ℕ) (o : Order) → isOpen (markAt k o) ≡ false → stop (scopeAct v b f l) k o ≡ untouched o
+stop-shut : (v : Bool) (m : Made) (k : ℕ) (o : Order) → isOpen (markAt k o) ≡ false → stop (scopeAct v m) k o ≡ untouched o
 unfolding stop
-stop-shut v b f l k o e = no (isOpen (markAt k o)) _ (untouched o) e
+stop-shut v m k o e = no (isOpen (markAt k o)) _ (untouched o) e
 
 stop-other : (own : Own) (l : Acts) (k : ℕ) (o : Order) → isScope own ≡ false → stop (act own l) k o ≡ stopAll l (k + 1) (marked k 0 o)
 unfolding stop
@@ -58,17 +58,17 @@ module _ (t : List ℕ) (k : ℕ) (o : Order) {kd : ℕ} (q : KindOf t k kd) {x 
     pub stop-opened : v ≡ true → {o₁ : Order} → o₁ ≡ marked k 7 o → {p : Order} → Stops t (k + 1) o₁ p → {r : Order} → Withdraws t k p r → Stops t k o r
     unfolding withdraws
     stop-opened g {o₁} e {p} x {r} y = record {
-      is = λ a s. if-scope (λ a. r ≡ stop a k o .order) t k (here h a s) (λ u b f l sb sf s.
-          let a : p ≡ stop b (k + 1) (marked k 7 o) .order = rw e at (x .is b sb) in
+      is = λ a s. if-scope (λ a. r ≡ stop a k o .order) t k (here h a s) (λ u m sb s.
+          let a : p ≡ stop (m .body) (k + 1) (marked k 7 o) .order = rw e at (x .is (m .body) sb) in
           let c : isOpen (markAt k o) ≡ true = rw (← i) (sym j ∙ g) in
-          (rw a at (y .is u b f l s)) ∙ ap (λ (d : Stopped). d .order) (sym (stop-scope u b f l k o c))) a s;
+          (rw a at (y .is u m s)) ∙ ap (λ (d : Stopped). d .order) (sym (stop-scope u m k o c))) a s;
     }
 
     pub stop-closed : v ≡ false → Stops t k o o
     stop-closed g = record {
-      is = λ a s. if-scope (λ a. o ≡ stop a k o .order) t k (here h a s) (λ u b f l sb sf s.
+      is = λ a s. if-scope (λ a. o ≡ stop a k o .order) t k (here h a s) (λ u m sb s.
           let c : isOpen (markAt k o) ≡ false = rw (← i) (sym j ∙ g) in
-          ap (λ (d : Stopped). d .order) (sym (stop-shut u b f l k o c))) a s;
+          ap (λ (d : Stopped). d .order) (sym (stop-shut u m k o c))) a s;
     }
 
   -- no scope has no body
@@ -76,7 +76,7 @@ module _ (t : List ℕ) (k : ℕ) (o : Order) {kd : ℕ} (q : KindOf t k kd) {x 
   unfolding size
   stop-bare h z g {r} = record {
     is = λ a s. if-scope (λ a. r ≡ stop a k o .order) t k (here h a s)
-        (λ u b f l sb sf s. absurd (omega (arith, stands-end (scopeAct u b f l) k t s z, size-pos b))) a s;
+        (λ u m sb s. absurd (omega (arith, stands-end (scopeAct u m) k t s z, size-pos (m .body)))) a s;
   }
 
   pub stop-all : x ≡ false → {e : ℕ} → End t k e → {o₁ : Order} → o₁ ≡ marked k 0 o → {r : Order} → StopsAll t (k + 1) e o₁ r → Stops t k o r

@@ -8,7 +8,7 @@ use native.Mathlib.Omega.{arith}
 use borrow.Author.Tests.{eq-eqb, ne-eqb, lt-ltb, le-ltb, ltb-true, ltb-false}
 use lib.Dec.{eqb, ltb}
 use lib.ListN.{length, getD, take, drop}
-use Rattle.plan.specs.Tree.{Own, scope, kind, isScope, hasUndo, Act, act, Acts, none, more, size, sizes}
+use Rattle.plan.specs.Tree.{Own, scope, kind, isScope, hasUndo, numbersOf, generalPart, undoPart, Act, act, Acts, none, more, size, sizes, count}
 use Rattle.order.specs.declared.Closing.{Closing}
 use Rattle.order.specs.declared.Entered.{Entered}
 use Rattle.order.specs.declared.Order.{Order}
@@ -17,29 +17,29 @@ use Rattle.order.specs.declared.Found.the-variants.{At, Nothing}
 use Rattle.order.specs.declared.Spot.{Spot}
 use Rattle.order.specs.declared.Way.the-variants.{Over}
 use Rattle.order.specs.declared.Went.{Went}
-use Rattle.order.specs.Answering.{entered, went, isOver, begunOf, scopeKind, forPart, Begins, BeginsPart, LooksTo, BeginsUndo, KindOf, Entry, Without, LastAt, Last, FindsLast, StartsUndo, Held, scopeOf, UndoesList}
+use Rattle.order.specs.Answering.{entered, went, isOver, begunOf, scopeKind, undoKind, forPart, Begins, Made, UndoRow, SpotAt, BeginsPart, LooksTo, BeginsUndo, KindOf, Entry, Without, LastAt, Last, FindsLast, StartsUndo, Held, scopeOf, UndoesList}
 use Rattle.order.specs.Begin.{Begun, nothingBegun, begin, part, partAt, beginPart}
 use Rattle.order.specs.Lists.{only, withoutFirst, withoutLast}
 use Rattle.order.specs.Scope.{Scope, isFor, listOf, rememberedFor, beginUndo, beginUndoFirst, beginUndoIn, startUndo, undo}
 use Rattle.order.specs.Stands.{End, Stands, StandAll}
 use Rattle.order.specs.State.{closingOf, closings, remembering}
-use Rattle.order.proofs.Owns.{of-kind}
-use Rattle.order.proofs.Standing.{stands-inside, stands-end, row-kind, scope-kind, own-scope, if-none, if-more, if-parts, if-undo}
+use Rattle.order.proofs.PartReturns.{spot-undo}
+use Rattle.order.proofs.Standing.{stands-inside, stands-end, row-kind, scope-kind, own-scope, if-none, if-more, part-stands, scope-line, numbered-undo, undo-kind, own-undo, undo-last}
 use Rattle.order.proofs.Deciding.{yes, no, where-over, where-not}
 use Rattle.order.proofs.MemoryReturns.{closings-are, only-append, only-takes}
 
 -- `begin_part`
-pub part-is : {t : List ℕ} {e : ℕ} {ms : List ℕ} {fault undone : ℕ} → End t (e + 1) fault → End t fault undone
-    → {r : Entered} → Begins t undone ms r → BeginsPart t e ms r
-unfolding Stands
-part-is {t} {e} {ms} {fault} {undone} x y {r} z = record { is = is }
+pub part-is : {t : List ℕ} {e : ℕ} {ms : List ℕ} {z : Spot} → SpotAt t e z → {u : ℕ} → UndoRow t z u → {r : Entered} → Begins t u ms r → BeginsPart t e ms r
+unfolding Stands count beginPart part partAt
+part-is {t} {e} {ms} {z} y {u} w {r} x = record { is = is }
   where
-    is : (b f u : Act) → Stands (act (scope true) (more b (more f (more u none)))) e t → r ≡ entered (begin u (e + 1 + size b + size f) ms)
-    is b f u s =
-        let p : fault ≡ e + 1 + size b = stands-end b (e + 1) t (s .rest .first) x in
-        let q : undone ≡ fault + size f = stands-end f fault t (rw p (s .rest .rest .first)) y in
-        let w : undone ≡ e + 1 + size b + size f = omega arith in
-        rw w at (z .is u (rw w (s .rest .rest .rest .first)))
+    is : (ns : List ℕ) (l : Acts) → Stands (act (scope ns true) l) e t → r ≡ entered (beginPart (undoPart ns) l (e + 1) ms)
+    is ns none s = absurd (omega (arith, scope-line t e ns true none s .parts))
+    is ns (more b l) s =
+        let m : Made = record { body = b; numbers = ns; parts = l } in
+        let g : u ≡ partAt (generalPart ns) l (e + 1 + size b) = spot-undo y w true m s in
+        let d : Stands (part (generalPart ns) l) u t = rw g (part-stands t l (e + 1 + size b) (generalPart ns) (s .rest .rest) (undo-last t e m s)) in
+        rw g at (x .is (part (generalPart ns) l) d)
 
 -- `looks_to`
 module _ {t : List ℕ} {j kd : ℕ} (q : KindOf t j kd) (h : j < 256) where
@@ -69,7 +69,7 @@ mutual
     where
       by-test : (x y z : Bool) → z ≡ false → beginUndoFirst l (k + 1) e ms ≡ nothingBegun ms → beginUndoIn l (k + 1) e ms ≡ nothingBegun ms
           → _≡_ {A = Begun} (elim x [
-            | true ↦ cond y (cond z (beginPart 2 l (k + 1) ms) (nothingBegun ms)) (beginUndoFirst l (k + 1) e ms)
+            | true ↦ cond y (cond z (beginPart (undoPart (numbersOf own)) l (k + 1) ms) (nothingBegun ms)) (beginUndoFirst l (k + 1) e ms)
             | false ↦ beginUndoIn l (k + 1) e ms
           ]) (nothingBegun ms)
       by-test true true true g f i = absurd (false≢true (sym g))
@@ -140,7 +140,7 @@ module _ {t : List ℕ} {from to e : ℕ} {ms : List ℕ} {j end : ℕ} (w : Loo
       });
     }
 
-    module _ (g : e < n) {kd : ℕ} (q : KindOf t j kd) where
+    module _ (g : e < n) {kd : ℕ} (q : KindOf t j kd) {u : Bool} (d : u ≡ undoKind kd) where
       -- the one in row j is looked through
       first : (r : Entered) → ((a : Act) → Stands a j t → n ≡ j + size a → r ≡ entered (beginUndo a j e ms)) → BeginsUndo t from to e ms r
       first r f = w .on r (record {
@@ -148,60 +148,51 @@ module _ {t : List ℕ} {from to e : ℕ} {ms : List ℕ} {j end : ℕ} (w : Loo
             (λ a l i sa sl x. f a sa i ∙ ap entered (sym (undo-first a l j e ms (omega arith))));
       })
 
-      pub looking-found : kd ≡ 11 → j ≡ e → {r : Entered} → BeginsPart t e ms r → BeginsUndo t from to e ms r
-      unfolding beginUndo beginPart part partAt
+      has-undo : (own : Own) (l : Acts) → Stands (act own l) j t → u ≡ hasUndo own
+      has-undo own l s = d ∙ rw (row-kind q own l s) (undo-kind t j own l s)
+
+      pub looking-found : u ≡ true → j ≡ e → {r : Entered} → BeginsPart t e ms r → BeginsUndo t from to e ms r
+      unfolding beginUndo
       looking-found k i {r} x = first r go
         where
-          here : (l : Acts) → Stands (act (scope true) l) j t → r ≡ entered (beginUndo (act (scope true) l) j e ms)
-          here l s =
-              if-undo (λ l. Stands (act (scope true) l) j t → r ≡ entered (beginUndo (act (scope true) l) j e ms)) t j
-              (λ b f u su s. rw (eq-eqb j e i) (rw (← i) at (x .is b f u (rw i at s)))) l s s
-
           go : (a : Act) → Stands a j t → n ≡ j + size a → r ≡ entered (beginUndo a j e ms)
           go (act own l) s m =
-              of-kind 11 (λ w. Stands (act w l) j t → r ≡ entered (beginUndo (act w l) j e ms)) (λ s. here l s) own (sym (row-kind q own l s) ∙ k) s
+              own-undo (λ w. Stands (act w l) j t → r ≡ entered (beginUndo (act w l) j e ms))
+              (λ ns s. rw (eq-eqb j e i) (rw (← i) at (x .is ns l (rw i at s)))) own (sym (has-undo own l s) ∙ k) s
 
-      pub looking-other : kd ≡ 11 → (j ≡ e → ⊥) → BeginsUndo t from to e ms (record { marks = ms; over = true })
+      pub looking-other : u ≡ true → (j ≡ e → ⊥) → BeginsUndo t from to e ms (record { marks = ms; over = true })
       unfolding beginUndo
       looking-other k i = first (record { marks = ms; over = true }) go
         where
-          here : (l : Acts) → record { marks = ms; over = true } ≡ entered (beginUndo (act (scope true) l) j e ms)
-          here l = rw (ne-eqb j e i)
-
           go : (a : Act) → Stands a j t → n ≡ j + size a → record { marks = ms; over = true } ≡ entered (beginUndo a j e ms)
           go (act own l) s m =
-              of-kind 11 (λ w. record { marks = ms; over = true } ≡ entered (beginUndo (act w l) j e ms)) (here l) own (sym (row-kind q own l s) ∙ k)
+              own-undo (λ w. record { marks = ms; over = true } ≡ entered (beginUndo (act w l) j e ms)) (λ ns. rw (ne-eqb j e i)) own (sym (has-undo own l s) ∙ k)
 
-      pub looking-deeper : (kd ≡ 11 → ⊥) → {m : ℕ} → LooksTo t j m → Looking t from to e ms (j + 1) m
-      unfolding Stands beginUndo size kind
+      pub looking-deeper : u ≡ false → {m : ℕ} → LooksTo t j m → Looking t from to e ms (j + 1) m
+      unfolding Stands beginUndo size kind count
       looking-deeper k {m} y = record { within = y .within; on = λ r x. first r (go r x) }
         where
-          in-body : (r : Entered) → UndoesIn t (j + 1) m e ms r → (l : Acts) → Stands (act (scope false) l) j t → r ≡ entered (beginUndo (act (scope false) l) j e ms)
-          in-body r x l s =
-              if-parts (λ a. r ≡ entered (beginUndo a j e ms)) t j
-              (λ v b f l sb sf s. by-undo v b f l sb s) false l s
-            where
-              by-undo : (v : Bool) (b f : Act) (l : Acts) → Stands b (j + 1) t → Stands (act (scope v) (more b (more f l))) j t
-                  → r ≡ entered (beginUndo (act (scope v) (more b (more f l))) j e ms)
-              by-undo true b f l sb s = absurd (k (row-kind q (scope true) (more b (more f l)) s))
-              by-undo false b f l sb s =
-                  let i : m ≡ j + 1 + size b = stands-end b (j + 1) t sb (y .body (s .first .row .kind)) in
-                  x .is (more b none) (one-stands b (j + 1) t sb) (omega (arith, one-size b)) ∙ ap entered (one-undo b (j + 1) e ms)
-
           go : (r : Entered) → UndoesIn t (j + 1) m e ms r → (a : Act) → Stands a j t → n ≡ j + size a → r ≡ entered (beginUndo a j e ms)
           go r x (act own l) s i = by-test (isScope own) refl
             where
-              scoped : (v : Bool) → Stands (act (scope v) l) j t → r ≡ entered (beginUndo (act (scope v) l) j e ms)
-              scoped true s = absurd (k (row-kind q (scope true) l s))
-              scoped false s = in-body r x l s
+              in-body : (l : Acts) → Stands (act (scope [] false) l) j t → r ≡ entered (beginUndo (act (scope [] false) l) j e ms)
+              in-body none s = absurd (omega (arith, scope-line t j [] false none s .parts))
+              in-body (more b l) s =
+                  let i : m ≡ j + 1 + size b = stands-end b (j + 1) t (s .rest .first) (y .body (s .first .row .kind)) in
+                  x .is (more b none) (one-stands b (j + 1) t (s .rest .first)) (omega (arith, one-size b)) ∙ ap entered (one-undo b (j + 1) e ms)
+
+              scoped : (ns : List ℕ) (v : Bool) → Stands (act (scope ns v) l) j t → r ≡ entered (beginUndo (act (scope ns v) l) j e ms)
+              scoped ns true s = absurd (false≢true (sym k ∙ has-undo (scope ns true) l s))
+              scoped [] false s = in-body l s
+              scoped (n ∷ ns) false s = absurd (false≢true (numbered-undo n ns false (scope-line t j (n ∷ ns) false l s .numbers)))
 
               by-test : (b : Bool) → isScope own ≡ b → r ≡ entered (beginUndo (act own l) j e ms)
-              by-test true c = own-scope (λ w. Stands (act w l) j t → r ≡ entered (beginUndo (act w l) j e ms)) (λ v s. scoped v s) own c s
+              by-test true c = own-scope (λ w. Stands (act w l) j t → r ≡ entered (beginUndo (act w l) j e ms)) (λ ns v s. scoped ns v s) own c s
               by-test false c =
                   let d : m ≡ j + (1 + sizes l) = stands-end (act own l) j t s (y .other (λ u. not-open own c (sym (s .first .row .kind) ∙ u))) in
                   x .is l (s .rest) (omega arith)
                   ∙ ap entered (sym (no (isScope own)
-                  (cond (hasUndo own) (cond (eqb j e) (beginPart 2 l (j + 1) ms) (nothingBegun ms)) (beginUndoFirst l (j + 1) e ms))
+                  (cond (hasUndo own) (cond (eqb j e) (beginPart (undoPart (numbersOf own)) l (j + 1) ms) (nothingBegun ms)) (beginUndoFirst l (j + 1) e ms))
                   (beginUndoIn l (j + 1) e ms) c))
 
 -- a list around its i-th
@@ -258,16 +249,16 @@ module _ {P : Closing → Bool} {xs : List Closing} {i : ℕ} (w : LastAt P xs i
 
 -- `start_undo`
 pub start-is : {t : List ℕ} {z : Spot} {o : Order} {i : ℕ} → i < length (closings o) → {c : Closing} → Entry o i c → {e : ℕ} → e ≡ c .scope
-    → {p : Order} → Without o i p → {b : Entered} → BeginsUndo t (z .body) (z .fault) e (p .marks) b → {r : Went} → r ≡ begunOf p b → StartsUndo t z o i r
+    → {p : Order} → Without o i p → {b : Entered} → BeginsUndo t (z .body) (z .parts) e (p .marks) b → {r : Went} → r ≡ begunOf p b → StartsUndo t z o i r
 unfolding startUndo
 start-is {t} {z} {o} {i} h {c} x {e} k {p} y {b} u {r} q = record { is = is; fewer = rw (ap (λ (w : Went). w .order .kept) q) (y .fewer h) }
   where
-    is : (a f : Act) → Held z a f t → LastAt (forPart (z .body)) (closings o) i
-        → r ≡ went (startUndo (getD (closings o) i (closingOf 0 0) .scope) (scopeOf z a f) o)
-    is a f s w =
+    is : (a : Made) → Held z a t → LastAt (forPart (z .body)) (closings o) i
+        → r ≡ went (startUndo (getD (closings o) i (closingOf 0 0) .scope) (scopeOf z a) o)
+    is a s w =
         let g : e ≡ getD (closings o) i (closingOf 0 0) .scope = k ∙ ap (λ (c : Closing). c .scope) (x .is (w .within)) in
         let m : p ≡ remembering (withoutLast (forPart (z .body)) (closings o)) o = y .is h ∙ rw (without-last w) in
-        let d : b ≡ entered (beginUndo a (z .body) e (p .marks)) = u .is a (s .body) (s .next) in
+        let d : b ≡ entered (beginUndo (a .body) (z .body) e (p .marks)) = u .is (a .body) (s .body) (s .next) in
         q ∙ rw (d, ← g, m)
 
 undo-over : (e : ℕ) (l : List ℕ) (s : Scope) (o : Order) → isOver (startUndo e s o .result) ≡ true → went (undo (e ∷ l) s o) ≡ went (undo l s (startUndo e s o .order))
@@ -294,7 +285,7 @@ module _ {t : List ℕ} {z : Spot} {o₀ o : Order} (w : Undoing t z o₀ o) {f 
   pub undoing-done : f ≡ Nothing → UndoesList t z o₀ (record { way = Over; order = o })
   unfolding undo rememberedFor listOf Last
   undoing-done e = w .on _ (record {
-    is = λ b g h.
+    is = λ b h.
         let n : only (forPart (z .body)) (closings o) ≡ [] = rw e at (x .is) in
         rw n;
   })
@@ -307,31 +298,31 @@ module _ {t : List ℕ} {z : Spot} {o₀ o : Order} (w : Undoing t z o₀ o) {f 
     unfolding Last
     at-last = rw e at (x .is)
 
-    list-is : (b g : Act) → rememberedFor (scopeOf z b g) o ≡ last ∷ reverse (scopes (only (forPart (z .body)) (take i (closings o) ++ drop (i + 1) (closings o))))
+    list-is : (b : Made) → rememberedFor (scopeOf z b) o ≡ last ∷ reverse (scopes (only (forPart (z .body)) (take i (closings o) ++ drop (i + 1) (closings o))))
     unfolding rememberedFor listOf
-    list-is b g = only-last at-last
+    list-is b = only-last at-last
 
-    went-is : (b g : Act) → Held z b g t → r ≡ went (startUndo last (scopeOf z b g) o)
-    went-is b g h = y .is b g h at-last
+    went-is : (b : Made) → Held z b t → r ≡ went (startUndo last (scopeOf z b) o)
+    went-is b h = y .is b h at-last
 
     pub undoing-stops : v ≡ false → UndoesList t z o₀ r
     undoing-stops n = w .on r (record {
-      is = λ b g h.
-          let s = scopeOf z b g in
-          let m : isOver (startUndo last s o .result) ≡ false = sym (rw (ap (λ (u : Went). u .way) (went-is b g h)) at q) ∙ n in
-          rw (list-is b g) (went-is b g h ∙ sym (undo-not last _ s o m));
+      is = λ b h.
+          let s = scopeOf z b in
+          let m : isOver (startUndo last s o .result) ≡ false = sym (rw (ap (λ (u : Went). u .way) (went-is b h)) at q) ∙ n in
+          rw (list-is b) (went-is b h ∙ sym (undo-not last _ s o m));
     })
 
     pub undoing-again : v ≡ true → Undoing t z o₀ (r .order)
     unfolding rememberedFor listOf
     undoing-again n = record {
       on = λ p u. w .on p (record {
-        is = λ b g h.
-            let s = scopeOf z b g in
-            let m : isOver (startUndo last s o .result) ≡ true = sym (rw (ap (λ (u : Went). u .way) (went-is b g h)) at q) ∙ n in
-            let k : r .order ≡ startUndo last s o .order = ap (λ (u : Went). u .order) (went-is b g h) in
+        is = λ b h.
+            let s = scopeOf z b in
+            let m : isOver (startUndo last s o .result) ≡ true = sym (rw (ap (λ (u : Went). u .way) (went-is b h)) at q) ∙ n in
+            let k : r .order ≡ startUndo last s o .order = ap (λ (u : Went). u .order) (went-is b h) in
             let c : closings (r .order) ≡ take i (closings o) ++ drop (i + 1) (closings o) = rw k (kept-after last s o i at-last) in
-            rw (list-is b g, ← c) (u .is b g h ∙ sym (undo-over last _ s o m ∙ rw (← k)));
+            rw (list-is b, ← c) (u .is b h ∙ sym (undo-over last _ s o m ∙ rw (← k)));
       });
     }
 

@@ -8,9 +8,13 @@ use order::Went;
 use order::inside::inner_runs;
 use order::mark;
 use order::marks::begun_in;
+use order::marks::choice_of;
+use order::marks::handling;
 use order::marks::is_over;
 use order::marks::marking;
 use order::marks::runs;
+use order::marks::undoing;
+use order::parts::chosen_row;
 use plan::table::Table;
 ghost use mathlib.Core.Bool.{true, false};
 ghost use mathlib.Core.Path.{_≡_};
@@ -27,13 +31,14 @@ pub fn ends(spot: Spot, order: Order) -> Went
     }
 }
 
-// The scope runs its fault part.
+// The scope runs the fault part that it chose.
 fn handle(table: &Table, spot: Spot, order: Order) -> Went
     ensures { λ r. ⌜ Handles (now (table .entry)) spot order r ⌝ }
 {
-    let o = marking(spot, mark::HANDLING, order);
+    let c = chosen_row(table, spot, choice_of(spot, order));
+    let o = handling(spot, order);
     let m = o.marks;
-    let r = begun_in(o, begin(table, spot.fault, m));
+    let r = begun_in(o, begin(table, c, m));
     let w = r.way;
     if is_over(w) {
         let p = r.order;
@@ -46,7 +51,7 @@ fn handle(table: &Table, spot: Spot, order: Order) -> Went
 fn undoes_handling(table: &Table, spot: Spot, order: Order) -> Went
     ensures { λ r. ⌜ Undoes (now (table .entry)) true spot order r ⌝ }
 {
-    let o = marking(spot, mark::UNDOING, order);
+    let o = undoing(spot, order);
     let r = undo(table, spot, o);
     let w = r.way;
     if is_over(w) {
@@ -71,22 +76,22 @@ fn undoes_ending(table: &Table, spot: Spot, order: Order) -> Went
 }
 
 // The scope undoes: after its list it runs its fault part, or where it was stopped it ends.
-pub fn undoes(table: &Table, handling: bool, spot: Spot, order: Order) -> Went
-    ensures { λ r. ⌜ Undoes (now (table .entry)) handling spot order r ⌝ }
+pub fn undoes(table: &Table, faulted: bool, spot: Spot, order: Order) -> Went
+    ensures { λ r. ⌜ Undoes (now (table .entry)) faulted spot order r ⌝ }
 {
-    if handling {
+    if faulted {
         return undoes_handling(table, spot, order);
     }
     undoes_ending(table, spot, order)
 }
 
 // The scope undoes where none of its inner scopes is left running.
-pub fn turns(table: &Table, handling: bool, spot: Spot, order: Order) -> Went
-    ensures { λ r. ⌜ Turns (now (table .entry)) handling spot order r ⌝ }
+pub fn turns(table: &Table, faulted: bool, spot: Spot, order: Order) -> Went
+    ensures { λ r. ⌜ Turns (now (table .entry)) faulted spot order r ⌝ }
 {
     let m = order.marks;
-    if inner_runs(table, spot.body, spot.fault, m) {
+    if inner_runs(table, spot.body, spot.parts, m) {
         return runs(order);
     }
-    undoes(table, handling, spot, order)
+    undoes(table, faulted, spot, order)
 }

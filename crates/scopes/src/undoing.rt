@@ -6,14 +6,17 @@ use order::Order;
 use order::Spot;
 use order::Way;
 use order::Went;
+use order::kind::has_undo;
 use order::marks::begun_in;
 use order::marks::is_over;
 use order::memory::entry;
 use order::memory::last_for;
 use order::memory::wide;
 use order::memory::without;
+use order::parts::undo_row;
 use order::rows::end_of;
 use order::rows::kind_of;
+use order::rows::spot_at;
 use plan::kind;
 use plan::table::Table;
 ghost use Prim.Native.Nat.{_<_};
@@ -26,9 +29,8 @@ fn begin_part(table: &Table, e: usize, marks: [u8; 256]) -> Entered
     requires { ⌜ e < 256 ⌝ }
     ensures { λ r. ⌜ BeginsPart (now (table .entry)) e marks r ⌝ }
 {
-    let fault = end_of(table, e + 1);
-    let undo = end_of(table, fault);
-    begin(table, undo, marks)
+    let s = spot_at(table, e);
+    begin(table, undo_row(table, s), marks)
 }
 
 // The row where the rows end that are looked through for a scope in row j: those within it, and of a scope with no undo part those of its body.
@@ -57,7 +59,7 @@ fn begin_undo(table: &Table, from: usize, to: usize, e: usize, marks: [u8; 256])
             j = n;
             continue;
         }
-        if kind_of(table, j) == kind::SCOPE {
+        if has_undo(kind_of(table, j)) {
             if j == e {
                 return begin_part(table, e, marks);
             }
@@ -78,7 +80,7 @@ fn start_undo(table: &Table, spot: Spot, order: Order, i: usize) -> Went
     let e = wide(c.scope);
     let o = without(order, i);
     let m = o.marks;
-    begun_in(o, begin_undo(table, spot.body, spot.fault, e, m))
+    begun_in(o, begin_undo(table, spot.body, spot.parts, e, m))
 }
 
 // What is remembered for the scope is undone, the last first.

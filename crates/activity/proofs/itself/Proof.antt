@@ -1,10 +1,10 @@
 -- `activity::itself` meets its contract. Assumes nothing.
 use borrow.Author.Needs.{needs}
-use Rattle.activity.proofs.StepReturns.{itself-far, itself-of, itself-closes, itself-hands, itself-receives, itself-raises, itself-leaves, itself-runs}
+use Rattle.activity.proofs.StepReturns.{itself-far, itself-of, itself-closes, itself-numbered, itself-hands, itself-receives, itself-raises, itself-leaves, itself-runs}
 use Rattle.activity.proofs.itself.Statement.{statement}
 use Rattle.activity.proofs.itself.Tie as tie
 
-ruleset cases = (itself-far, itself-of, itself-closes, itself-hands, itself-receives, itself-raises, itself-leaves, itself-runs)
+ruleset cases = (itself-far, itself-of, itself-closes, itself-numbered, itself-hands, itself-receives, itself-raises, itself-leaves, itself-runs)
 
 pub itself-spec : {M : Type 1} → statement M
 itself-spec =
@@ -32,6 +32,8 @@ itself-spec =
     -- decides-requires
     (λ c κs. search needs)
     -- closes-requires
+    (λ c κs. search needs)
+    -- closes-requires-2
     (λ c κs. search needs)
     -- hands-on-requires
     (λ c κs. search needs)
@@ -62,4 +64,6 @@ itself-spec =
     -- returns-12
     (λ c. search cases)
     -- returns-13
+    (λ c. search cases)
+    -- returns-14
     (λ c. search cases))

@@ -19,7 +19,7 @@ in-scope-spec =
     (λ c κs. search needs)
     -- returns-2
     (λ c. search cases)
-    -- end-of-requires
+    -- undo-row-requires
     (λ c κs. search needs)
     -- from-fault-requires
     (λ c κs. search needs)

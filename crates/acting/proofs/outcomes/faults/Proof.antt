@@ -9,9 +9,7 @@ ruleset cases = (faults-is)
 pub faults-spec : {M : Type 1} → statement M
 faults-spec =
     tie.close (tie.spec
-    -- marking-requires
-    (λ c κs. search needs)
-    -- causing-requires
+    -- faulting-requires
     (λ c κs. search needs)
     -- stop-requires
     (λ c κs. search needs)

@@ -9,12 +9,14 @@ ruleset cases = (looks-faulty, looks-halted, looks-not)
 pub looks-again-spec : {M : Type 1} → statement M
 looks-again-spec =
     tie.close (tie.spec
-    -- mark-of-requires
+    -- state-of-requires
     (λ c κs. search needs)
     -- turns-requires
     (λ c κs. search needs)
     -- returns
     (λ c. search cases)
+    -- mark-of-requires
+    (λ c κs. search needs)
     -- turns-requires-2
     (λ c κs. search needs)
     -- returns-2

@@ -9,7 +9,7 @@ ruleset cases = (part-ends, part-not)
 pub part-over-spec : {M : Type 1} → statement M
 part-over-spec =
     tie.close (tie.spec
-    -- mark-of-requires
+    -- state-of-requires
     (λ c κs. search needs)
     -- ends-requires
     (λ c κs. search needs)

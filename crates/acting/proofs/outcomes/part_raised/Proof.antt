@@ -9,7 +9,7 @@ ruleset cases = (part-breaks, part-absorbed)
 pub part-raised-spec : {M : Type 1} → statement M
 part-raised-spec =
     tie.close (tie.spec
-    -- mark-of-requires
+    -- state-of-requires
     (λ c κs. search needs)
     -- breaks-requires
     (λ c κs. search needs)

@@ -9,12 +9,14 @@ ruleset cases = (undone-next, undone-ends, undone-not)
 pub undo-over-spec : {M : Type 1} → statement M
 undo-over-spec =
     tie.close (tie.spec
-    -- mark-of-requires
+    -- state-of-requires
     (λ c κs. search needs)
     -- undoes-requires
     (λ c κs. search needs)
     -- returns
     (λ c. search cases)
+    -- mark-of-requires
+    (λ c κs. search needs)
     -- undoes-requires-2
     (λ c κs. search needs)
     -- returns-2

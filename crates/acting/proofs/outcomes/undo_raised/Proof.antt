@@ -9,12 +9,14 @@ ruleset cases = (undo-breaks, undo-breaks-too, undo-absorbed)
 pub undo-raised-spec : {M : Type 1} → statement M
 undo-raised-spec =
     tie.close (tie.spec
-    -- mark-of-requires
+    -- state-of-requires
     (λ c κs. search needs)
     -- breaks-requires
     (λ c κs. search needs)
     -- returns
     (λ c. search cases)
+    -- mark-of-requires
+    (λ c κs. search needs)
     -- breaks-requires-2
     (λ c κs. search needs)
     -- returns-2

@@ -17,5 +17,7 @@ spot-at-spec =
     (λ c. search needs)
     -- end-of-requires-2
     (λ c κs. search needs)
+    -- count-parts-requires
+    (λ c κs. search needs)
     -- returns-2
     (λ c. search cases))

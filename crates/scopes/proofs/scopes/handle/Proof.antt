@@ -9,7 +9,11 @@ ruleset cases = (handle-over, handle-runs)
 pub handle-spec : {M : Type 1} → statement M
 handle-spec =
     tie.close (tie.spec
-    -- marking-requires
+    -- choice-of-requires
+    (λ c κs. search needs)
+    -- chosen-row-requires
+    (λ c κs. search needs)
+    -- handling-requires
     (λ c κs. search needs)
     -- begin-requires
     (λ c κs. search needs)

@@ -9,7 +9,7 @@ ruleset cases = (undoes-handles, undoes-waits)
 pub undoes-handling-spec : {M : Type 1} → statement M
 undoes-handling-spec =
     tie.close (tie.spec
-    -- marking-requires
+    -- undoing-requires
     (λ c κs. search needs)
     -- undo-requires
     (λ c κs. search needs)

@@ -9,11 +9,9 @@ ruleset cases = (part-is)
 pub begin-part-spec : {M : Type 1} → statement M
 begin-part-spec =
     tie.close (tie.spec
-    -- add-end-of
-    (λ c. search needs)
-    -- end-of-requires
+    -- spot-at-requires
     (λ c κs. search needs)
-    -- end-of-requires-2
+    -- undo-row-requires
     (λ c κs. search needs)
     -- begin-requires
     (λ c κs. search needs)

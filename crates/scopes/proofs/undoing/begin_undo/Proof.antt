@@ -30,6 +30,8 @@ begin-undo-spec =
     (λ c. search cases)
     -- kind-of-requires
     (λ c κs. search needs)
+    -- has-undo-requires
+    (λ c κs. search needs)
     -- begin-part-requires
     (λ c κs. search needs)
     -- returns-2
