@@ -6,21 +6,21 @@ use mathlib.Core.Bool.{Bool, true, false, cond, _&&_, false≢true}
 use mathlib.Core.List.{List, [], _∷_, map}
 use lib.ListN.{length, getD}
 use lib.Dec.{eqb, ltb, leb}
-use borrow.Author.Tests.{eq-eqb, ltb-true, leb-true, leb-false, lt-ltb, le-leb}
+use borrow.Author.Tests.{eq-eqb, ltb-true, ltb-false, leb-true, lt-ltb, le-leb}
 use Rattle.plan.specs.Tree.{generalPart, undoPart, Act, act, Acts, none, more, Plan, size, sizes, count}
 use Rattle.order.specs.Lists.{some, only, each}
 use Rattle.order.specs.State.{Name, root, inner, choiceIn}
 use Rattle.order.specs.Begin.{part, partAt}
 use Rattle.order.specs.Scope.{Scope, scopeAt, rootOf, generalFor, partFor, choiceFor, chosenPart, chosenAt}
 use Rattle.undoing.specs.Demand3.{Inner, firsts, scopesOf}
-use Rattle.undoing.specs.Ties.{Place}
+use Rattle.undoing.specs.Ties.{isName, Place}
 use Rattle.undoing.specs.Orderly.{partBy, isPartFor}
 use Rattle.undoing.specs.Standing.{choiceOn}
 use Rattle.undoing.proofs.Parts.{both, decide, one-some}
 use Rattle.undoing.proofs.Choices.{named}
 use Rattle.undoing.proofs.Accounts.{choiceBy, Known}
 use Rattle.undoing.proofs.Marks.{trio, Quiet, Kept, Run, Nth, nth-here, nth-later, quiet-part, quiet-agree, quiet-join, agree-below, agree-above}
-use Rattle.undoing.proofs.Orders.{innerAt, Faulty, Remedy, Healers, heals-by, heals-all, Rest, rest-undo, rest-none}
+use Rattle.undoing.proofs.Orders.{innerAt, Faulty, Remedy, remedy-names, Healers, heals-by, heals-all, Rest, rest-undo, rest-none}
 
 -- Where the i-th of a list stands.
 pub part-from : (i : ℕ) (l : Acts) (c : ℕ) → c ≤ partAt i l c
@@ -34,6 +34,11 @@ unfolding part partAt count size
 part-to i none c h = absurd (omega arith)
 part-to zero (more a l) c h = omega arith
 part-to (suc i) (more a l) c h = omega (arith, part-to i l (c + size a) (omega arith))
+
+-- the undo part stands behind the body
+pub undo-from : (xs : List ℕ) (b f : Act) (u : Acts) (k : ℕ) → k + 1 + size b ≤ partAt (undoPart xs) (trio b f u) (k + 1)
+unfolding partAt
+undo-from xs b f u k = part-from (generalPart xs) (more f u) (k + 1 + size b)
 
 -- it alone had a change, and runs; or is quiet
 pub nth-begun : {ms ns : List ℕ} (i : ℕ) (l : Acts) (c : ℕ) → i < count l → Quiet ms c (sizes l) → Kept (partAt i l c) (size (part i l)) ms ns → Run ns (part i l) (partAt i l c) → Nth ns i l c
@@ -52,6 +57,47 @@ nth-over (suc i) (more a l) c h q w r =
     quiet-join (quiet-agree (quiet-part q (omega arith) (omega arith)) (agree-below w (omega (arith, part-from i l (c + size a)))))
     (nth-over i l (c + size a) (omega arith) (quiet-part q (omega arith) (omega arith)) w r) refl
 
+-- one that runs, and goes on so or ends
+pub nth-there : {ms : List ℕ} {i : ℕ} {l : Acts} {c : ℕ} → Nth ms i l c → i < count l
+unfolding count
+nth-there (nth-here r q) = omega arith
+nth-there (nth-later q r) = omega (arith, nth-there r)
+
+pub nth-run : {ms : List ℕ} {i : ℕ} {l : Acts} {c : ℕ} → Nth ms i l c → Run ms (part i l) (partAt i l c)
+unfolding part partAt
+nth-run (nth-here r q) = r
+nth-run (nth-later q r) = nth-run r
+
+pub nth-goes : {ms ns : List ℕ} {i : ℕ} {l : Acts} {c : ℕ} → Nth ms i l c → Kept (partAt i l c) (size (part i l)) ms ns → Run ns (part i l) (partAt i l c) → Nth ns i l c
+unfolding part partAt
+nth-goes (nth-here {a} {l} {c} r q) w z = nth-here {l = l} z (quiet-agree q (agree-above w (omega arith)))
+nth-goes (nth-later {i} {a} {l} {c} q r) w z = nth-later {a = a} {c = c} (quiet-agree q (agree-below w (part-from i l (c + size a)))) (nth-goes r w z)
+
+pub nth-ends : {ms ns : List ℕ} {i : ℕ} {l : Acts} {c : ℕ} → Nth ms i l c → Kept (partAt i l c) (size (part i l)) ms ns → Quiet ns (partAt i l c) (size (part i l)) → Quiet ns c (sizes l)
+unfolding part partAt size
+nth-ends (nth-here r q) w z = quiet-join z (quiet-agree q (agree-above w (omega arith))) refl
+nth-ends (nth-later {i} {a} {l} {c} q r) w z = quiet-join (quiet-agree q (agree-below w (part-from i l (c + size a)))) (nth-ends r w z) refl
+
+-- the others are quiet
+pub nth-below : {ms : List ℕ} {i : ℕ} {l : Acts} {c : ℕ} → Nth ms i l c → (j : ℕ) → c ≤ j → j < partAt i l c → getD ms j 0 ≡ 0
+unfolding partAt
+nth-below (nth-here r q) j h e = absurd (omega arith)
+nth-below (nth-later {i} {a} {l} {c} q r) j h e =
+    decide (ltb j (c + size a)) (λ t. q .at j h (ltb-true j (c + size a) t)) (λ t. nth-below r j (ltb-false j (c + size a) t) e)
+
+pub nth-above : {ms : List ℕ} {i : ℕ} {l : Acts} {c : ℕ} → Nth ms i l c → (j : ℕ) → partAt i l c + size (part i l) ≤ j → j < c + sizes l → getD ms j 0 ≡ 0
+unfolding part partAt size
+nth-above (nth-here r q) j h e = q .at j h (omega arith)
+nth-above (nth-later q r) j h e = nth-above r j h (omega arith)
+
+-- one stands before the next
+pub part-order : (i j : ℕ) (l : Acts) (c : ℕ) → i < j → i < count l → partAt i l c + size (part i l) ≤ partAt j l c
+unfolding part partAt count
+part-order i j none c h e = absurd (omega arith)
+part-order i zero (more a l) c h e = absurd (omega arith)
+part-order zero (suc j) (more a l) c h e = part-from j l (c + size a)
+part-order (suc i) (suc j) (more a l) c h e = part-order i j l (c + size a) (omega arith) (omega arith)
+
 -- What the plan says of each.
 pub healer : {p : Plan} {s : Name} {xs : List ℕ} {v : Bool} {q u : Place} {l : Acts} {c : ℕ} → Healers p s xs v q u l c → (i : ℕ) → i ≤ length xs
     → Faulty p s (partAt i l c) × Remedy p q (part i l) (partAt i l c)
@@ -67,6 +113,21 @@ unfolding count
 healers-many (heals-by z r h) = omega (arith, healers-many h)
 healers-many (heals-all z r (rest-undo y)) = refl
 healers-many (heals-all z r rest-none) = refl
+
+pub healers-there : {p : Plan} {s : Name} {xs : List ℕ} {v : Bool} {q u : Place} {l : Acts} {c : ℕ} → Healers p s xs v q u l c → length xs < count l
+unfolding count
+healers-there (heals-by z r h) = omega (arith, healers-there h)
+healers-there (heals-all z r h) = omega arith
+
+-- no scope stands in them
+pub healers-names : {p : Plan} {s : Name} {xs : List ℕ} {v : Bool} {q u : Place} {l : Acts} {c : ℕ} → Healers p s xs v q u l c → (j : ℕ) → c ≤ j → j < c + sizes l → isName p (inner j) ≡ false
+unfolding size
+healers-names (heals-by {f} {l} {c} z r h) j e d = decide (ltb j (c + size f)) (λ t. remedy-names r j e (ltb-true j (c + size f) t)) (λ t. healers-names h j (ltb-false j (c + size f) t) (omega arith))
+healers-names (heals-all {f} {l} {c} z r h) j e d = decide (ltb j (c + size f)) (λ t. remedy-names r j e (ltb-true j (c + size f) t)) (λ t. later c h (ltb-false j (c + size f) t) d)
+  where
+    later : {p : Plan} {v : Bool} {u : Place} {l : Acts} (i : ℕ) → Rest p v u l (i + size f) → i + size f ≤ j → j < i + (size f + sizes l) → isName p (inner j) ≡ false
+    later i (rest-undo y) e d = remedy-names y j e (omega arith)
+    later i rest-none e d = absurd (omega arith)
 
 -- and the last is the undo part, where there is one
 pub undoer : {p : Plan} {s : Name} {xs : List ℕ} {q u : Place} {l : Acts} {c : ℕ} → Healers p s xs true q u l c → Remedy p u (part (generalPart xs) l) (partAt (generalPart xs) l c)
