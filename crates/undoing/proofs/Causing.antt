@@ -4,9 +4,9 @@ use mathlib.Core.Path.{_≡_, refl, ap}
 use mathlib.Core.Bool.{true}
 use mathlib.Core.List.{_∷_}
 use Rattle.order.specs.declared.Order.{Order}
-use Rattle.order.specs.State.{Name, root, inner, faulty, markOf, marking, causing}
+use Rattle.order.specs.State.{Name, root, inner, faulty, markOf, markWith, marking, causing}
 use Rattle.order.specs.Event.{faulted}
-use Rattle.order.specs.Scope.{Outcome, after, Scope, turns, stop, faults}
+use Rattle.order.specs.Scope.{Outcome, after, Scope, choiceFor, turns, stop, faults}
 
 -- an order with the number of a scope's fault in it, by its fields
 abbrev pub caused : Name → (number : ℕ) → Order → Order
@@ -28,6 +28,10 @@ faultsIn x s o =
     let r = stop (s .body) (s .bodyAt) o in
     after (faulted (s .name) x ∷ r .log) (turns true s (r .order))
 
-pub faults-is : (x : ℕ) (s : Scope) (o : Order) → faults x s o ≡ faultsIn x s (caused (s .name) x (marking (s .name) faulty o))
+-- its mark says which fault part it is to run
+abbrev pub chosenMark : (number : ℕ) → Scope → ℕ
+chosenMark x s = markWith (choiceFor x s) faulty
+
+pub faults-is : (x : ℕ) (s : Scope) (o : Order) → faults x s o ≡ faultsIn x s (caused (s .name) x (marking (s .name) (chosenMark x s) o))
 unfolding faults
-faults-is x s o = ap (faultsIn x s) (causing-is (s .name) x (marking (s .name) faulty o))
+faults-is x s o = ap (faultsIn x s) (causing-is (s .name) x (marking (s .name) (chosenMark x s) o))
