@@ -5,19 +5,19 @@ use mathlib.Core.Bool.{Bool, true, false, cond, _&&_, _||_, false≢true}
 use mathlib.Core.List.{List, [], _∷_, _++_, append-nil, append-assoc}
 use lib.Dec.{eqb, ltb}
 use borrow.Author.Tests.{eqb-true}
-use Rattle.plan.specs.Tree.{Exp, constant, variable, binary, Own, empty, send, receive, set as setting, raise, leave, choose, repeat, sequence, flow, pick, scope, arm, kind, isPick, Act, act, Acts, none, more, Plan, size, sizes, isScope}
+use Rattle.plan.specs.Tree.{Exp, constant, variable, binary, Own, empty, send, receive, set as setting, raise, leave, choose, repeat, sequence, flow, pick, scope, arm, kind, isPick, Act, act, Acts, none, more, Plan, size, sizes, isScope, undoPart}
 use Rattle.order.specs.declared.Order.{Order}
 use Rattle.order.specs.declared.End.{End}
 use Rattle.order.specs.declared.End.the-variants.{None, Well, Handled, Failed, Left}
 use Rattle.machine.specs.declared.Message.{Message}
 use Rattle.order.specs.Lists.{only}
-use Rattle.order.specs.State.{root, inside, binding, noOrder, marked, markOf, marking, markAt, withMarks, faulty, halted, active, undoing, withdrawing, handling, done, causing}
+use Rattle.order.specs.State.{root, inside, binding, noOrder, marked, markOf, marking, markAt, withMarks, faulty, halted, active, undoing, withdrawing, handling, done, causing, stateOf, markWith}
 use Rattle.order.specs.Expression.{conflictingReceive, Value, fault, value, evaluate, isTrue}
 use Rattle.order.specs.Event.{Event, started, faulted, ended, raised}
 use Rattle.order.specs.Begin.{Begun, beginAfter, beginPart, partAt, quiet, cleared}
 use Rattle.order.specs.declared.Way.{Way as Result}
 use Rattle.order.specs.declared.Way.the-variants.{Running as running, Over as over, Raising as raising, Leaving as leaving, Undone as undone, UndoRaising as undoRaising}
-use Rattle.order.specs.Scope.{Outcome, runs, begunIn, whereOver, Scope, scopeAt, rootOf, isOpen, closing, ends, undoes, turns, stop, faults, breaks, looksAgain, bodyOver, bodyRaised, undoOver, undoRaised, fromBody, partOver, partRaised, fromFault, fromUndo, goesThrough}
+use Rattle.order.specs.Scope.{Outcome, runs, begunIn, whereOver, Scope, scopeAt, rootOf, isOpen, closing, ends, undoes, turns, stop, faults, breaks, looksAgain, bodyOver, bodyRaised, undoOver, undoRaised, fromBody, partOver, partRaised, fromFault, fromUndo, goesThrough, choiceFor}
 use Rattle.order.specs.Acting.{finishes, orRaises, enters, again, repeats, allBound, itself, isPart, arms, goesOn, joins, inScope, combines, stepIn, stepAmong, stepRoot, endOf, movedTo, begunOrder, itsOwn, inPlace, replaces, performs, Moved, acted}
 use Rattle.order.specs.Judging.{Verdict, clear, clash, conflict, following, upon, judged, spare, settled, stepOrder}
 use Rattle.undoing.proofs.Judged.{isTake, OnClash, Higher, conflict-awaited}
@@ -40,7 +40,7 @@ Still l = only isDeed l ≡ []
 faults-still : (s : Scope) (number : ℕ) (o : Order) → Still (faults number s o .log)
 unfolding faults only isDeed
 faults-still s number o =
-    let o₁ = causing (s .name) number (marking (s .name) faulty o) in
+    let o₁ = causing (s .name) number (marking (s .name) (markWith (choiceFor number s) faulty) o) in
     let r = stop (s .body) (s .bodyAt) o₁ in
     silent-append isDeed deeds-aside (faulted (s .name) number ∷ r .log) (turns true s (r .order) .log)
     (stop-silent isDeed deeds-aside (s .body) (s .bodyAt) o₁) (turns-on-silent isDeed deeds-aside true s (r .order))
@@ -56,7 +56,7 @@ either b x y z e h g = outcome-either isDeed deeds-aside b x y h g z e
 looks-still : (s : Scope) (o : Order) → Still (looksAgain s o .log)
 unfolding looksAgain
 looks-still s o =
-    either (eqb (markOf (s .name) o) faulty) (turns true s o) (elim (eqb (markOf (s .name) o) halted) [ true ↦ turns false s o | false ↦ runs o ]) (looksAgain s o) refl
+    either (eqb (stateOf (s .name) o) faulty) (turns true s o) (elim (eqb (markOf (s .name) o) halted) [ true ↦ turns false s o | false ↦ runs o ]) (looksAgain s o) refl
     (turns-on-silent isDeed deeds-aside true s o)
     (either (eqb (markOf (s .name) o) halted) (turns false s o) (runs o) (elim (eqb (markOf (s .name) o) halted) [ true ↦ turns false s o | false ↦ runs o ]) refl
     (turns-on-silent isDeed deeds-aside false s o) (runs-silent isDeed deeds-aside o))
@@ -74,7 +74,7 @@ raised-still s number o = either (isOpen (markOf (s .name) o)) (faults number s 
 undo-over-still : (s : Scope) (o : Order) → Still (undoOver s o .log)
 unfolding undoOver
 undo-over-still s o =
-    either (eqb (markOf (s .name) o) undoing) (undoes true s o) (elim (eqb (markOf (s .name) o) withdrawing) [ true ↦ undoes false s o | false ↦ runs o ]) (undoOver s o) refl
+    either (eqb (stateOf (s .name) o) undoing) (undoes true s o) (elim (eqb (markOf (s .name) o) withdrawing) [ true ↦ undoes false s o | false ↦ runs o ]) (undoOver s o) refl
     (undoes-silent isDeed deeds-aside true s o)
     (either (eqb (markOf (s .name) o) withdrawing) (undoes false s o) (runs o) (elim (eqb (markOf (s .name) o) withdrawing) [ true ↦ undoes false s o | false ↦ runs o ]) refl
     (undoes-silent isDeed deeds-aside false s o) (runs-silent isDeed deeds-aside o))
@@ -82,7 +82,7 @@ undo-over-still s o =
 undo-raised-still : (s : Scope) (number : ℕ) (o : Order) → Still (undoRaised number s o .log)
 unfolding undoRaised
 undo-raised-still s number o =
-    either (eqb (markOf (s .name) o) undoing || eqb (markOf (s .name) o) withdrawing) (breaks number s o) (runs o) (undoRaised number s o) refl (breaks-still s number o) (runs-silent isDeed deeds-aside o)
+    either (eqb (stateOf (s .name) o) undoing || eqb (markOf (s .name) o) withdrawing) (breaks number s o) (runs o) (undoRaised number s o) refl (breaks-still s number o) (runs-silent isDeed deeds-aside o)
 
 -- what it makes of a step in it
 pub body-deeds : (s : Scope) (r : Outcome) → only isDeed (fromBody s r .log) ≡ only isDeed (r .log)
@@ -99,11 +99,11 @@ body-deeds s r = go (r .result)
 
 part-over-still : (s : Scope) (o : Order) → Still (partOver s o .log)
 unfolding partOver
-part-over-still s o = either (eqb (markOf (s .name) o) handling) (ends s o) (runs o) (partOver s o) refl (ends-silent isDeed deeds-aside s o) (runs-silent isDeed deeds-aside o)
+part-over-still s o = either (eqb (stateOf (s .name) o) handling) (ends s o) (runs o) (partOver s o) refl (ends-silent isDeed deeds-aside s o) (runs-silent isDeed deeds-aside o)
 
 part-raised-still : (s : Scope) (number : ℕ) (o : Order) → Still (partRaised number s o .log)
 unfolding partRaised
-part-raised-still s number o = either (eqb (markOf (s .name) o) handling) (breaks number s o) (runs o) (partRaised number s o) refl (breaks-still s number o) (runs-silent isDeed deeds-aside o)
+part-raised-still s number o = either (eqb (stateOf (s .name) o) handling) (breaks number s o) (runs o) (partRaised number s o) refl (breaks-still s number o) (runs-silent isDeed deeds-aside o)
 
 pub fault-deeds : (s : Scope) (r : Outcome) → only isDeed (fromFault s r .log) ≡ only isDeed (r .log)
 unfolding fromFault
@@ -144,12 +144,12 @@ unfolding joins
 joins-still k within o =
     either (quiet (k + 1) (sizes within) (o .marks)) (finishes k o) (runs o) (joins k within o) refl (finishes-still k o) (runs-silent isDeed deeds-aside o)
 
-scope-deeds : (v : Bool) (k t : ℕ) (within : Acts) (r : Outcome) → only isDeed (inScope v k t within r .log) ≡ only isDeed (r .log)
+scope-deeds : (ns : List ℕ) (v : Bool) (k t : ℕ) (within : Acts) (r : Outcome) → only isDeed (inScope ns v k t within r .log) ≡ only isDeed (r .log)
 unfolding inScope fromUndo
-scope-deeds v k t within r =
+scope-deeds ns v k t within r =
     decide (ltb t (partAt 1 within (k + 1)))
-    (λ e. decide (goesThrough v k r) (λ g. rw (e, inScope, g)) (λ g. rw (e, inScope, g) (body-deeds (scopeAt k within) r)))
-    (λ e. decide (ltb t (partAt 2 within (k + 1))) (λ d. rw (e, d, inScope) (fault-deeds (scopeAt k within) r)) (λ d. rw (e, d, inScope) refl))
+    (λ e. decide (goesThrough v k r) (λ g. rw (e, inScope, g)) (λ g. rw (e, inScope, g) (body-deeds (scopeAt ns k within) r)))
+    (λ e. decide (ltb t (partAt (undoPart ns) within (k + 1))) (λ d. rw (e, d, inScope) (fault-deeds (scopeAt ns k within) r)) (λ d. rw (e, d, inScope) refl))
 
 combines-deeds : (own : Own) (within : Acts) (k t : ℕ) (r : Outcome) → only isDeed (combines own within k t r .log) ≡ only isDeed (r .log)
 unfolding combines only
@@ -167,7 +167,7 @@ combines-deeds sequence within k t r =
     (λ o. where-silent isDeed deeds-aside (finishes k) (begunIn o (beginAfter within (k + 1) t (o .marks))) (after-silent isDeed deeds-aside within (k + 1) t (o .marks)) (finishes-still k))
 combines-deeds flow within k t r = goes-deeds k active (joins k within) r (joins-still k within)
 combines-deeds pick within k t r = goes-deeds k inside (finishes k) r (finishes-still k)
-combines-deeds (scope v) within k t r = scope-deeds v k t within r
+combines-deeds (scope ns v) within k t r = scope-deeds ns v k t within r
 combines-deeds (arm p op vs) within k t r = refl
 
 -- The step of an activity.
@@ -205,7 +205,7 @@ itself-deeds (repeat e) within q k o =
 itself-deeds sequence within q k o = refl
 itself-deeds flow within q k o = refl
 itself-deeds pick within q k o = refl
-itself-deeds (scope u) within q k o = refl
+itself-deeds (scope ns u) within q k o = refl
 itself-deeds (arm p op vs) within q k o = part-silent isDeed deeds-aside 0 within (k + 1) (o .marks)
 
 -- Marks say nothing of a deed.
@@ -229,7 +229,7 @@ deed-marked (repeat e) j k m o = rw (evaluate-marked e k m o)
 deed-marked sequence j k m o = refl
 deed-marked flow j k m o = refl
 deed-marked pick j k m o = refl
-deed-marked (scope v) j k m o = refl
+deed-marked (scope ns v) j k m o = refl
 deed-marked (arm p op vs) j k m o = refl
 
 -- the same choice of two that are the same
@@ -327,7 +327,7 @@ raise-deed (repeat x) within q k o h = absurd (false≢true h)
 raise-deed sequence within q k o h = absurd (false≢true h)
 raise-deed flow within q k o h = absurd (false≢true h)
 raise-deed pick within q k o h = absurd (false≢true h)
-raise-deed (scope v) within q k o h = absurd (false≢true h)
+raise-deed (scope ns v) within q k o h = absurd (false≢true h)
 raise-deed (arm x y vs) within q k o h = refl
 
 -- by the same choice of what is done and what is logged
@@ -428,7 +428,7 @@ deed-taking (repeat e) within k m o = refl
 deed-taking sequence within k m o = refl
 deed-taking flow within k m o = refl
 deed-taking pick within k m o = refl
-deed-taking (scope v) within k m o = refl
+deed-taking (scope ns v) within k m o = refl
 deed-taking (arm p op vs) within k m o = refl
 
 -- by the same choice of what is done and what is logged

@@ -7,16 +7,16 @@ use mathlib.Core.List.{List, [], _∷_, _++_}
 use lib.ListN.{getD, set}
 use lib.Dec.{eqb, ltb}
 use borrow.Author.Tests.{eqb-true, eqb-false}
-use Rattle.plan.specs.Tree.{Own, empty, send, receive, set as setting, raise, leave, choose, repeat, sequence, flow, pick, scope, arm, kind, isScope, isPick, Act, act, Acts, none, more, Plan, size, sizes}
+use Rattle.plan.specs.Tree.{Own, empty, send, receive, set as setting, raise, leave, choose, repeat, sequence, flow, pick, scope, arm, kind, isScope, isPick, Act, act, Acts, none, more, Plan, size, sizes, undoPart}
 use Rattle.order.specs.declared.Order.{Order}
-use Rattle.order.specs.State.{Name, root, inner, idle, active, inside, faulty, undoing, handling, withdrawing, marked, markAt, markOf, marking, binding, causing}
+use Rattle.order.specs.State.{Name, root, inner, idle, active, inside, faulty, undoing, handling, withdrawing, marked, markAt, markOf, marking, binding, causing, stateOf, markWith}
 use Rattle.order.specs.Event.{Event}
 use Rattle.order.specs.Lists.{some}
 use Rattle.order.specs.Expression.{unboundVariable, conflictingReceive, Value, fault, value, evaluate, isTrue}
 use Rattle.order.specs.Begin.{part, partAt, beginPart, beginAfter}
 use Rattle.order.specs.declared.Way.{Way as Result}
 use Rattle.order.specs.declared.Way.the-variants.{Running as running, Over as over, Raising as raising, Leaving as leaving, Undone as undone, UndoRaising as undoRaising}
-use Rattle.order.specs.Scope.{Outcome, runs, begunIn, whereOver, Scope, scopeAt, rootOf, isOpen, forgetting, closing, turns, stop, faults, breaks, looksAgain, bodyOver, bodyRaised, undoOver, undoRaised, fromBody, partOver, partRaised, fromFault, goesThrough, fromUndo}
+use Rattle.order.specs.Scope.{Outcome, runs, begunIn, whereOver, Scope, scopeAt, rootOf, isOpen, forgetting, closing, turns, stop, faults, breaks, looksAgain, bodyOver, bodyRaised, undoOver, undoRaised, fromBody, partOver, partRaised, fromFault, goesThrough, fromUndo, choiceFor}
 use Rattle.order.specs.Acting.{finishes, raises, leaves, orRaises, enters, again, repeats, allBound, itself, isPart, arms, goesOn, joins, inScope, combines, stepIn, stepAmong, stepRoot, Actor, replaces, performs}
 use Rattle.undoing.specs.Entirely.{isRash}
 use Rattle.undoing.proofs.Parts.{both, decide, some-append}
@@ -104,7 +104,7 @@ itself-drops (repeat e) within q k o = or-drops k o _ (evaluate e o) (λ n. mild
 itself-drops sequence within q k o = mild-drops o (runs o) refl
 itself-drops flow within q k o = mild-drops o (runs o) refl
 itself-drops pick within q k o = mild-drops o (runs o) refl
-itself-drops (scope v) within q k o = mild-drops o (closing v q k (scopeAt k within) o) refl
+itself-drops (scope xs v) within q k o = mild-drops o (closing v q k (scopeAt xs k within) o) refl
 itself-drops (arm a b vs) within q k o =
     mild-drops o (begunIn o (beginPart 0 within (k + 1) (o .marks))) (mild-begun o (beginPart 0 within (k + 1) (o .marks)) (part-silent isGrave graves-aside 0 within (k + 1) (o .marks)) .goes)
 
@@ -158,13 +158,13 @@ body-drops s o r w = go (r .result) refl
         }
       where
         raised : (v : Bool) (z : Outcome) → z ≡ elim v [ true ↦ faults x s (r .order) | false ↦ looksAgain s (r .order) ] → isMild (z .result) ≡ true
-        raised true z e = subst (λ (q : Outcome). isMild (q .result) ≡ true) (sym e) (mild-turns true s (stop (s .body) (s .bodyAt) (causing (s .name) x (marking (s .name) faulty (r .order))) .order) .goes)
+        raised true z e = subst (λ (q : Outcome). isMild (q .result) ≡ true) (sym e) (mild-turns true s (stop (s .body) (s .bodyAt) (causing (s .name) x (marking (s .name) (markWith (choiceFor x s) faulty) (r .order))) .order) .goes)
         raised false z e = subst (λ (q : Outcome). isMild (q .result) ≡ true) (sym e) (mild-looks s (r .order) .goes)
     go leaving e = record { stays = λ d. absurd (false≢true d); rash = λ d. w .rash (subst (λ (y : Result). isBad y ≡ true) (sym e) refl) }
     go undone e = record { stays = λ d. absurd (mild-calm (undoOver s (r .order) .result) (mild-undo-over s (r .order) .goes) d); rash = λ d. absurd (mild-good (undoOver s (r .order) .result) (mild-undo-over s (r .order) .goes) d) }
     go (undoRaising x) e =
         record {
-          stays = λ d. broke (eqb (markOf (s .name) (r .order)) undoing || eqb (markOf (s .name) (r .order)) withdrawing) (undoRaised x s (r .order)) refl;
+          stays = λ d. broke (eqb (stateOf (s .name) (r .order)) undoing || eqb (markOf (s .name) (r .order)) withdrawing) (undoRaised x s (r .order)) refl;
           rash = λ d. more-rash (r .log) (undoRaised x s (r .order) .log) (w .rash (subst (λ (y : Result). isBad y ≡ true) (sym e) refl));
         }
       where
@@ -181,7 +181,7 @@ fault-drops s o r w = go (r .result) refl
     go over e = record { stays = λ d. absurd (mild-calm (partOver s (r .order) .result) (mild-part-over s (r .order) .goes) d); rash = λ d. absurd (mild-good (partOver s (r .order) .result) (mild-part-over s (r .order) .goes) d) }
     go (raising x) e =
         record {
-          stays = λ d. broke (eqb (markOf (s .name) (r .order)) handling) (partRaised x s (r .order)) refl;
+          stays = λ d. broke (eqb (stateOf (s .name) (r .order)) handling) (partRaised x s (r .order)) refl;
           rash = λ d. more-rash (r .log) (partRaised x s (r .order) .log) (w .rash (subst (λ (y : Result). isBad y ≡ true) (sym e) refl));
         }
       where
@@ -217,10 +217,10 @@ combines-drops (repeat e) within k t o r w = on-drops o k inside (again k) r w (
 combines-drops sequence within k t o r w = on-drops o k active _ r w (λ q. mild-follows within k t q)
 combines-drops flow within k t o r w = on-drops o k active (joins k within) r w (λ q. mild-joins k within q)
 combines-drops pick within k t o r w = on-drops o k inside (finishes k) r w (mild-finishes k)
-combines-drops (scope v) within k t o r w =
-    drops-either o (ltb t (partAt 1 within (k + 1))) (elim (goesThrough v k r) [ true ↦ r | false ↦ fromBody (scopeAt k within) r ]) (elim (ltb t (partAt 2 within (k + 1))) [ true ↦ fromFault (scopeAt k within) r | false ↦ fromUndo r ]) _ refl
-    (drops-either o (goesThrough v k r) r (fromBody (scopeAt k within) r) _ refl w (body-drops (scopeAt k within) o r w))
-    (drops-either o (ltb t (partAt 2 within (k + 1))) (fromFault (scopeAt k within) r) (fromUndo r) _ refl (fault-drops (scopeAt k within) o r w) (undo-drops o r w))
+combines-drops (scope xs v) within k t o r w =
+    drops-either o (ltb t (partAt 1 within (k + 1))) (elim (goesThrough v k r) [ true ↦ r | false ↦ fromBody (scopeAt xs k within) r ]) (elim (ltb t (partAt (undoPart xs) within (k + 1))) [ true ↦ fromFault (scopeAt xs k within) r | false ↦ fromUndo r ]) _ refl
+    (drops-either o (goesThrough v k r) r (fromBody (scopeAt xs k within) r) _ refl w (body-drops (scopeAt xs k within) o r w))
+    (drops-either o (ltb t (partAt (undoPart xs) within (k + 1))) (fromFault (scopeAt xs k within) r) (fromUndo r) _ refl (fault-drops (scopeAt xs k within) o r w) (undo-drops o r w))
 combines-drops (arm a b vs) within k t o r w = w
 
 -- what acts: the activity itself, or a raise in its place
@@ -298,10 +298,10 @@ module _ (h : Event → Bool) where
   combines-has sequence within k t r e = on-has k active (λ o. whereOver (finishes k) (begunIn o (beginAfter within (k + 1) t (o .marks)))) r e
   combines-has flow within k t r e = on-has k active (joins k within) r e
   combines-has pick within k t r e = on-has k inside (finishes k) r e
-  combines-has (scope v) within k t r e =
-      has-either (ltb t (partAt 1 within (k + 1))) (elim (goesThrough v k r) [ true ↦ r | false ↦ fromBody (scopeAt k within) r ]) (elim (ltb t (partAt 2 within (k + 1))) [ true ↦ fromFault (scopeAt k within) r | false ↦ fromUndo r ]) _ refl
-      (has-either (goesThrough v k r) r (fromBody (scopeAt k within) r) _ refl e (body-has (scopeAt k within) r e))
-      (has-either (ltb t (partAt 2 within (k + 1))) (fromFault (scopeAt k within) r) (fromUndo r) _ refl (fault-has (scopeAt k within) r e) e)
+  combines-has (scope xs v) within k t r e =
+      has-either (ltb t (partAt 1 within (k + 1))) (elim (goesThrough v k r) [ true ↦ r | false ↦ fromBody (scopeAt xs k within) r ]) (elim (ltb t (partAt (undoPart xs) within (k + 1))) [ true ↦ fromFault (scopeAt xs k within) r | false ↦ fromUndo r ]) _ refl
+      (has-either (goesThrough v k r) r (fromBody (scopeAt xs k within) r) _ refl e (body-has (scopeAt xs k within) r e))
+      (has-either (ltb t (partAt (undoPart xs) within (k + 1))) (fromFault (scopeAt xs k within) r) (fromUndo r) _ refl (fault-has (scopeAt xs k within) r e) e)
   combines-has (arm a b vs) within k t r e = e
 
 -- where none is rash with more, none was

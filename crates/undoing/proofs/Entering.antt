@@ -6,15 +6,15 @@ use mathlib.Core.Bool.{Bool, true, false, cond, _&&_, _||_, false≢true}
 use mathlib.Core.List.{List, [], _∷_, _++_}
 use lib.Dec.{eqb, ltb, leb}
 use borrow.Author.Tests.{eqb-true, eqb-false, ltb-true, ltb-false, lt-ltb, le-leb}
-use Rattle.plan.specs.Tree.{Own, empty, send, receive, set as setting, raise, leave, choose, repeat, sequence, flow, pick, scope, arm, kind, Act, act, Acts, none, more, Plan, size, sizes, count, isScope, hasUndo, isPick}
+use Rattle.plan.specs.Tree.{Own, empty, send, receive, set as setting, raise, leave, choose, repeat, sequence, flow, pick, scope, arm, kind, Act, act, Acts, none, more, Plan, size, sizes, count, isScope, hasUndo, isPick, numbersOf, undoPart}
 use Rattle.order.specs.declared.Order.{Order}
-use Rattle.order.specs.State.{idle, active, inside, faulty, undoing, handling, halted, withdrawing, done, withMarks, markAt, marked, markOf, marking, binding, causing}
+use Rattle.order.specs.State.{idle, active, inside, faulty, undoing, handling, halted, withdrawing, done, withMarks, markAt, marked, markOf, marking, binding, causing, stateOf, going, markWith}
 use Rattle.order.specs.Event.{Event, began, closed, faulted, stopped, raised, left, ended}
 use Rattle.order.specs.Expression.{unboundVariable, conflictingReceive, Value, fault, value, evaluate, isTrue}
 use Rattle.order.specs.Begin.{Begun, nothingBegun, begin, beginInTurn, beginAfter, part, partAt, beginPart, cleared, quiet}
 use Rattle.order.specs.declared.Way.{Way as Result}
 use Rattle.order.specs.declared.Way.the-variants.{Running as running, Over as over, Raising as raising, Leaving as leaving, Undone as undone, UndoRaising as undoRaising}
-use Rattle.order.specs.Scope.{Outcome, rootOf, runs, after, begunIn, whereOver, Scope, scopeAt, isOpen, innerRuns, closing, beginUndo, beginUndoFirst, beginUndoIn, startUndo, undo, ends, handle, undoes, turns, rememberedFor, untouched, withdraws, stop, stopAll, stopFirst, alsoStopped, faults, breaks, looksAgain, bodyOver, bodyRaised, undoOver, undoRaised, fromBody, partOver, partRaised, fromFault, fromUndo, goesThrough}
+use Rattle.order.specs.Scope.{Outcome, rootOf, runs, after, begunIn, whereOver, Scope, scopeAt, isOpen, innerRuns, closing, beginUndo, beginUndoFirst, beginUndoIn, startUndo, undo, ends, handle, undoes, turns, rememberedFor, untouched, withdraws, stop, stopAll, stopFirst, alsoStopped, faults, breaks, looksAgain, bodyOver, bodyRaised, undoOver, undoRaised, fromBody, partOver, partRaised, fromFault, fromUndo, goesThrough, choiceFor}
 use Rattle.order.specs.Scope as definitions
 use Rattle.order.specs.Acting.{finishes, raises, orRaises, enters, again, repeats, allBound, itself, arms, goesOn, joins, inScope, combines, stepIn, stepAmong, stepRoot, Actor, replaces, performs}
 use Rattle.undoing.specs.Orderly.{isBeganOf}
@@ -74,7 +74,7 @@ pub scope-lasts : (own : Own) → isScope own ≡ true → lasts (kind own) ≡ 
 unfolding lasts kind
 scope-lasts own s = ap (λ (x : Own). lasts (kind x)) (scope-own own s) ∙ go (hasUndo own)
   where
-    go : (v : Bool) → lasts (kind (scope v)) ≡ true
+    go : (v : Bool) → lasts (kind (scope ns v)) ≡ true
     go true = refl
     go false = refl
 
@@ -254,10 +254,10 @@ module _ (f : ℕ → ℕ) where
 
     pub undo-strict : {a : Act} {k : ℕ} → Knows f a k → (e : ℕ) (ms : List ℕ) → Strict no a k (beginUndo a k e ms .log)
     undo-strict (knows {own} {within} {k} x n r y) e ms =
-        either-strict (isScope own) (cond (hasUndo own) (cond (eqb k e) (beginPart 2 within (k + 1) ms) (nothingBegun ms)) (beginUndoFirst within (k + 1) e ms)) (beginUndoIn within (k + 1) e ms) _ refl
+        either-strict (isScope own) (cond (hasUndo own) (cond (eqb k e) (beginPart (undoPart (numbersOf own)) within (k + 1) ms) (nothingBegun ms)) (beginUndoFirst within (k + 1) e ms)) (beginUndoIn within (k + 1) e ms) _ refl
         (λ s. scope-of no own within k _ s
-        (cond-wide (hasUndo own) (cond (eqb k e) (beginPart 2 within (k + 1) ms) (nothingBegun ms)) (beginUndoFirst within (k + 1) e ms)
-        (λ u. cond-wide (eqb k e) (beginPart 2 within (k + 1) ms) (nothingBegun ms) (λ v. part-wide y (scope-arms own within s r) 1 (let z = scope-three own within s u n in omega arith) ms) (λ v. wide-zero no within (k + 1) [] (λ j. refl)))
+        (cond-wide (hasUndo own) (cond (eqb k e) (beginPart (undoPart (numbersOf own)) within (k + 1) ms) (nothingBegun ms)) (beginUndoFirst within (k + 1) e ms)
+        (λ u. cond-wide (eqb k e) (beginPart (undoPart (numbersOf own)) within (k + 1) ms) (nothingBegun ms) (λ v. part-wide y (scope-arms own within s r) 1 (let z = scope-three own within s u n in omega arith) ms) (λ v. wide-zero no within (k + 1) [] (λ j. refl)))
         (λ u. undo-first-wide y e ms)))
         (strict-of no own within k _ (undo-in-strict y e ms))
 
@@ -279,7 +279,7 @@ module _ (f : ℕ → ℕ) where
     pub inBody : (x : ℕ → ℕ → ℕ) (l : List Event) → Strict x (s .body) (s .bodyAt) l → Wide x r c l
     pub inFault : (l : List Event) → Starts (s .fault) (s .faultAt) l → Wide no r c l
 
-  sit-scope : {within : Acts} {k : ℕ} → KnowsIn f within (k + 1) → Arms false within → 2 ≤ count within → Sit (scopeAt k within) within (k + 1)
+  sit-scope : {within : Acts} {k : ℕ} → KnowsIn f within (k + 1) → Arms false within → 2 ≤ count within → Sit (scopeAt ns k within) within (k + 1)
   unfolding part partAt count
   sit-scope knows-none r n = absurd (omega arith)
   sit-scope (knows-more x knows-none) r n = absurd (omega arith)
@@ -340,12 +340,12 @@ module _ (f : ℕ → ℕ) where
     handle-goes : (o : Order) → Goes r c (handle s o)
     unfolding handle
     handle-goes o =
-        let o₁ = marking (s .name) handling o in
+        let o₁ = going (s .name) handling o in
         goes-where (ends s) (begunIn o₁ (begin (s .fault) (s .faultAt) (o₁ .marks))) (goes-begun o₁ (begin (s .fault) (s .faultAt) (o₁ .marks)) (h .inFault _ (begin-starts f (h .fault) (h .named) (o₁ .marks)))) (λ q. ends-goes q)
 
     undoes-goes : (w : Bool) (o : Order) → Goes r c (undoes w s o)
     unfolding undoes
-    undoes-goes true o = let o₁ = marking (s .name) undoing o in goes-where (handle s) (undo (rememberedFor s o₁) s o₁) (list-goes (rememberedFor s o₁) o₁) (λ q. handle-goes q)
+    undoes-goes true o = let o₁ = going (s .name) undoing o in goes-where (handle s) (undo (rememberedFor s o₁) s o₁) (list-goes (rememberedFor s o₁) o₁) (λ q. handle-goes q)
     undoes-goes false o = let o₁ = marking (s .name) withdrawing o in goes-where (ends s) (undo (rememberedFor s o₁) s o₁) (list-goes (rememberedFor s o₁) o₁) (λ q. ends-goes q)
 
     turns-goes : (w : Bool) (o : Order) → Goes r c (turns w s o)
@@ -355,7 +355,7 @@ module _ (f : ℕ → ℕ) where
     looks-goes : (o : Order) → Goes r c (looksAgain s o)
     unfolding looksAgain
     looks-goes o =
-        goes-either (eqb (markOf (s .name) o) faulty) (turns true s o) (elim (eqb (markOf (s .name) o) halted) [ true ↦ turns false s o | false ↦ runs o ]) (looksAgain s o) refl (turns-goes true o)
+        goes-either (eqb (stateOf (s .name) o) faulty) (turns true s o) (elim (eqb (markOf (s .name) o) halted) [ true ↦ turns false s o | false ↦ runs o ]) (looksAgain s o) refl (turns-goes true o)
         (goes-either (eqb (markOf (s .name) o) halted) (turns false s o) (runs o) _ refl (turns-goes false o) (goes-runs o))
 
     over-goes : (o : Order) → Goes r c (bodyOver s o)
@@ -365,7 +365,7 @@ module _ (f : ℕ → ℕ) where
     undone-goes : (o : Order) → Goes r c (undoOver s o)
     unfolding undoOver
     undone-goes o =
-        goes-either (eqb (markOf (s .name) o) undoing) (undoes true s o) (elim (eqb (markOf (s .name) o) withdrawing) [ true ↦ undoes false s o | false ↦ runs o ]) (undoOver s o) refl (undoes-goes true o)
+        goes-either (eqb (stateOf (s .name) o) undoing) (undoes true s o) (elim (eqb (markOf (s .name) o) withdrawing) [ true ↦ undoes false s o | false ↦ runs o ]) (undoOver s o) refl (undoes-goes true o)
         (goes-either (eqb (markOf (s .name) o) withdrawing) (undoes false s o) (runs o) _ refl (undoes-goes false o) (goes-runs o))
 
     breaks-goes : (number : ℕ) (o : Order) → Goes r c (breaks number s o)
@@ -374,15 +374,15 @@ module _ (f : ℕ → ℕ) where
 
     part-goes : (o : Order) → Goes r c (partOver s o)
     unfolding partOver
-    part-goes o = goes-either (eqb (markOf (s .name) o) handling) (ends s o) (runs o) (partOver s o) refl (ends-goes o) (goes-runs o)
+    part-goes o = goes-either (eqb (stateOf (s .name) o) handling) (ends s o) (runs o) (partOver s o) refl (ends-goes o) (goes-runs o)
 
     undo-raised-goes : (number : ℕ) (o : Order) → Goes r c (undoRaised number s o)
     unfolding undoRaised
-    undo-raised-goes number o = goes-either (eqb (markOf (s .name) o) undoing || eqb (markOf (s .name) o) withdrawing) (breaks number s o) (runs o) (undoRaised number s o) refl (breaks-goes number o) (goes-runs o)
+    undo-raised-goes number o = goes-either (eqb (stateOf (s .name) o) undoing || eqb (markOf (s .name) o) withdrawing) (breaks number s o) (runs o) (undoRaised number s o) refl (breaks-goes number o) (goes-runs o)
 
     part-raised-goes : (number : ℕ) (o : Order) → Goes r c (partRaised number s o)
     unfolding partRaised
-    part-raised-goes number o = goes-either (eqb (markOf (s .name) o) handling) (breaks number s o) (runs o) (partRaised number s o) refl (breaks-goes number o) (goes-runs o)
+    part-raised-goes number o = goes-either (eqb (stateOf (s .name) o) handling) (breaks number s o) (runs o) (partRaised number s o) refl (breaks-goes number o) (goes-runs o)
 
   -- Stopping.
   halt-strict : {a : Act} {k : ℕ} (v : Bool) (x y z : definitions.Stopped) → z ≡ elim v [ true ↦ x | false ↦ y ] → (v ≡ true → Strict no a k (x .log)) → (v ≡ false → Strict no a k (y .log))
@@ -410,10 +410,10 @@ module _ (f : ℕ → ℕ) where
 
     pub stop-strict : {a : Act} {k : ℕ} → Knows f a k → (o : Order) → Strict no a k (stop a k o .log)
     stop-strict (knows {own} {within} {k} x n r y) o =
-        halt-strict (isScope own) (elim (isOpen (markAt k o)) [ true ↦ withdraws k (scopeAt k within) (stopFirst within (k + 1) (marked k halted o)) | false ↦ untouched o ]) (stopAll within (k + 1) (marked k idle o)) _ refl
-        (λ s. halt-strict (isOpen (markAt k o)) (withdraws k (scopeAt k within) (stopFirst within (k + 1) (marked k halted o))) (untouched o) _ refl
+        halt-strict (isScope own) (elim (isOpen (markAt k o)) [ true ↦ withdraws k (scopeAt (numbersOf own) k within) (stopFirst within (k + 1) (marked k halted o)) | false ↦ untouched o ]) (stopAll within (k + 1) (marked k idle o)) _ refl
+        (λ s. halt-strict (isOpen (markAt k o)) (withdraws k (scopeAt ns k within) (stopFirst within (k + 1) (marked k halted o))) (untouched o) _ refl
         (λ v. scope-of no own within k _ s (wide-event no (stopped k) (λ j. refl) (wide-append no _ _ (stop-first-wide y (marked k halted o))
-        (turns-goes (scopeAt k within) within (k + 1) (sit-scope y (scope-arms own within s r) (scope-two own within s n)) false _ .wide))))
+        (turns-goes (scopeAt (numbersOf own) k within) within (k + 1) (sit-scope y (scope-arms own within s r) (scope-two own within s n)) false _ .wide))))
         (λ v. strict-zero no (act own within) k [] (λ j. refl)))
         (λ s. strict-of no own within k _ (stop-all-strict y (marked k idle o)))
 
@@ -434,7 +434,7 @@ module _ (f : ℕ → ℕ) where
     faults-goes : (number : ℕ) (o : Order) → Goes r c (faults number s o)
     unfolding faults isBeganOf
     faults-goes number o =
-        let o₁ = causing (s .name) number (marking (s .name) faulty o) in
+        let o₁ = causing (s .name) number (marking (s .name) (markWith (choiceFor number s) faulty) o) in
         let q = stop (s .body) (s .bodyAt) o₁ in
         let t = turns-goes s r c h true (q .order) in
         record { wide = wide-event no (faulted (s .name) number) (λ j. refl) (wide-append no (q .log) (turns true s (q .order) .log) (h .inBody no _ (stop-strict (h .body) o₁)) (t .wide)); stays = t .stays }
@@ -593,7 +593,7 @@ module _ (f : ℕ → ℕ) where
     itself-at sequence within q₀ k o n r y = silent (act sequence within) k (runs o) (λ j. refl)
     itself-at flow within q₀ k o n r y = silent (act flow within) k (runs o) (λ j. refl)
     itself-at pick within q₀ k o n r y = silent (act pick within) k (runs o) (λ j. refl)
-    itself-at (scope v) within q₀ k o n r y = silent (act (scope v) within) k (closing v q₀ k (scopeAt k within) o) (λ j. refl)
+    itself-at (scope ns v) within q₀ k o n r y = silent (act (scope ns v) within) k (closing v q₀ k (scopeAt ns k within) o) (λ j. refl)
     itself-at (arm a b vs) within q₀ k o n r y =
         begun-at (act (arm a b vs) within) k o (beginPart 0 within (k + 1) (o .marks)) (plain-of (allow t) (arm a b vs) within k _ refl refl refl (part-list y r 0 (omega arith) (o .marks)))
 
@@ -716,15 +716,15 @@ module _ (f : ℕ → ℕ) where
     combines-at sequence within k o n r y h w = sequence-at within k o y r h w
     combines-at flow within k o n r y h w = on-at flow within k active (joins k within) o w (joins-silent k within) (joins-stays k within)
     combines-at pick within k o n r y h w = on-at pick within k inside (finishes k) o w (λ q j. refl) (λ q. refl)
-    combines-at (scope u) within k o n r y h w =
-        let s = scopeAt k within in
+    combines-at (scope ns u) within k o n r y h w =
+        let s = scopeAt ns k within in
         let i = sit-scope y r (two-of u (count within) n) in
         let v : Steps (allow t) within (k + 1) o = record { wide = strict-wide (allow t) (w .strict); leaves = w .leaves } in
-        let z : Steps (allow t) within (k + 1) (inScope u k t within o)
-        = steps-either (ltb t (partAt 1 within (k + 1))) (elim (goesThrough u k o) [ true ↦ o | false ↦ fromBody s o ]) (elim (ltb t (partAt 2 within (k + 1))) [ true ↦ fromFault s o | false ↦ fromUndo o ]) _ refl
+        let z : Steps (allow t) within (k + 1) (inScope ns u k t within o)
+        = steps-either (ltb t (partAt 1 within (k + 1))) (elim (goesThrough u k o) [ true ↦ o | false ↦ fromBody s o ]) (elim (ltb t (partAt (undoPart ns) within (k + 1))) [ true ↦ fromFault s o | false ↦ fromUndo o ]) _ refl
         (steps-either (goesThrough u k o) o (fromBody s o) _ refl v (body-steps (allow t) s within (k + 1) i o v))
-        (steps-either (ltb t (partAt 2 within (k + 1))) (fromFault s o) (fromUndo o) _ refl (fault-steps (allow t) s within (k + 1) i o v) (undo-steps (allow t) s within (k + 1) i o v)) in
-        record { strict = scope-of (allow t) (scope u) within k _ refl (z .wide); leaves = z .leaves }
+        (steps-either (ltb t (partAt (undoPart ns) within (k + 1))) (fromFault s o) (fromUndo o) _ refl (fault-steps (allow t) s within (k + 1) i o v) (undo-steps (allow t) s within (k + 1) i o v)) in
+        record { strict = scope-of (allow t) (scope ns u) within k _ refl (z .wide); leaves = z .leaves }
     combines-at (arm a b vs) within k o n r y h w = up-at (arm a b vs) within k o w
 
     either-list : {l : Acts} {c : ℕ} (v : Bool) (p q z : Outcome) → z ≡ elim v [ true ↦ p | false ↦ q ] → (v ≡ true → StepsIn (allow t) l c p) → (v ≡ false → StepsIn (allow t) l c q)

@@ -335,7 +335,7 @@ rows-row x l i (more a r) c h g f = record { one = let e = g .one in omega arith
     weaker l i (more a r) c g = record { one = let e = g .one in omega arith; other = weaker l c r (c + size a) (g .other) }
 
 -- a scope's kind is one of two
-pub scope-not : (n : ℕ) (v : Bool) → eqb 11 n ≡ false → eqb 12 n ≡ false → eqb (kind (scope v)) n ≡ false
+pub scope-not : (n : ℕ) (v : Bool) → eqb 11 n ≡ false → eqb 12 n ≡ false → eqb (kind (scope xs v)) n ≡ false
 unfolding kind
 scope-not n true x y = x
 scope-not n false x y = y
@@ -363,9 +363,9 @@ module _ (f : ℕ → ℕ) where
       subst (λ (l : List Event). Starts (act flow within) k (began k ∷ l)) (sym (through-log k (beginAll within (k + 1) (set ms k active))))
       (node-starts flow within k _ (λ l. Even l 1 within (k + 1)) (a refl (set ms k active)) (λ e h. absurd (false≢true e)) (λ e h. h) (λ e h. absurd (false≢true e)))
   own-starts pick within k i ms t a b = leaf-starts pick within k refl refl refl
-  own-starts (scope v) within k i ms t a b =
-      subst (λ (l : List Event). Starts (act (scope v) within) k (began k ∷ l)) (sym (around-log k (beginFirst within (k + 1) (set ms k active))))
-      (node-starts (scope v) within k _ (λ l. First l 1 within (k + 1)) (b refl (set ms k active))
+  own-starts (scope xs v) within k i ms t a b =
+      subst (λ (l : List Event). Starts (act (scope xs v) within) k (began k ∷ l)) (sym (around-log k (beginFirst within (k + 1) (set ms k active))))
+      (node-starts (scope xs v) within k _ (λ l. First l 1 within (k + 1)) (b refl (set ms k active))
       (λ e h. absurd (false≢true (sym (scope-not 8 v refl refl) ∙ e))) (λ e h. absurd (false≢true (sym (scope-not 9 v refl refl) ∙ e))) (λ e h. h))
   own-starts (arm p o vs) within k i ms t a b = absurd (false≢true (sym i))
 

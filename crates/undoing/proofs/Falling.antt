@@ -8,16 +8,16 @@ use lib.ListN.{getD, set}
 use lib.Seq.{getD-set-other}
 use lib.Dec.{eqb, ltb}
 use borrow.Author.Tests.{eqb-true, eqb-false, eq-eqb, ne-eqb, lt-ltb, le-ltb, ltb-true, ltb-false}
-use Rattle.plan.specs.Tree.{Exp, Own, empty, send, receive, set as setting, raise, leave, choose, repeat, sequence, flow, pick, scope, arm, kind, isScope, isArm, isPick, Act, act, Acts, none, more, Plan, size, sizes}
+use Rattle.plan.specs.Tree.{Exp, Own, empty, send, receive, set as setting, raise, leave, choose, repeat, sequence, flow, pick, scope, arm, kind, isScope, isArm, isPick, Act, act, Acts, none, more, Plan, size, sizes, numbersOf}
 use Rattle.order.specs.declared.Order.{Order}
 use Rattle.order.specs.declared.Way.{Way as Result}
 use Rattle.order.specs.declared.Way.the-variants.{Running as running, Over as over, Raising as raising, Leaving as leaving, Undone as undone, UndoRaising as undoRaising}
-use Rattle.order.specs.State.{idle, active, inside, done, faulty, undoing, handling, halted, withdrawing, Name, root, inner, withMarks, marked, markAt, markOf, marking, closings, remembering, causing}
+use Rattle.order.specs.State.{idle, active, inside, done, faulty, undoing, handling, halted, withdrawing, Name, root, inner, withMarks, marked, markAt, markOf, marking, closings, remembering, causing, stateOf, going, markWith}
 use Rattle.order.specs.Lists.{withoutLast}
 use Rattle.order.specs.Expression.{conflictingReceive}
 use Rattle.order.specs.Event.{Event}
 use Rattle.order.specs.Begin.{Begun, begin, beginAfter, part, partAt, quiet, cleared}
-use Rattle.order.specs.Scope.{Outcome, runs, after, begunIn, whereOver, Scope, scopeAt, rootOf, isFor, isOpen, innerRuns, rememberedFor, beginUndo, startUndo, undo, stop, ends, handle, undoes, turns, faults, breaks, looksAgain, bodyOver, bodyRaised, undoRaised, fromBody, partRaised, fromFault, fromUndo, goesThrough}
+use Rattle.order.specs.Scope.{Outcome, runs, after, begunIn, whereOver, Scope, scopeAt, rootOf, isFor, isOpen, innerRuns, rememberedFor, beginUndo, startUndo, undo, stop, ends, handle, undoes, turns, faults, breaks, looksAgain, bodyOver, bodyRaised, undoRaised, fromBody, partRaised, fromFault, fromUndo, goesThrough, choiceFor}
 use Rattle.order.specs.Acting.{finishes, raises, again, isPart, arms, goesOn, joins, inScope, combines, inPlace, replaces, performs, stepIn, stepAmong}
 use Rattle.order.specs.Awaited.{Doing, doingOf, awaits}
 use Rattle.order.specs.Judging.{rank}
@@ -216,7 +216,7 @@ fell-combines f h own within k t o r s n w = go own s n
         goes active (λ o₁. whereOver (finishes k) (begunIn o₁ (beginAfter within (k + 1) t (o₁ .marks)))) (λ o₁ d. goes-sequence f k t within o₁ (omega (arith, z .0)) d)
     go flow s n = goes active (joins k within) (λ o₁ d. goes-flow f k _ within o₁ d)
     go pick s n = goes inside (finishes k) (λ o₁ d. goes-finishes f k _ inside o₁ (inside-some (f k)) d)
-    go (scope v) s n = absurd (false≢true (sym s))
+    go (scope xs v) s n = absurd (false≢true (sym s))
     go (arm a b vs) s n = plainly
 
 -- Scopes.
@@ -250,14 +250,14 @@ plain-undo (e ∷ l) s o =
 plain-handle : (s : Scope) (o : Order) → isPlain (handle s o .result) ≡ true
 unfolding handle
 plain-handle s o =
-    let o′ = marking (s .name) handling o in
+    let o′ = going (s .name) handling o in
     let b = begin (s .fault) (s .faultAt) (o′ .marks) in
     plain-where (ends s) (begunIn o′ b) (plain-begun o′ b) (λ o₁. refl)
 
 plain-undoes : (w : Bool) (s : Scope) (o : Order) → isPlain (undoes w s o .result) ≡ true
 unfolding undoes
 plain-undoes true s o =
-    let o′ = marking (s .name) undoing o in
+    let o′ = going (s .name) undoing o in
     plain-where (handle s) (undo (rememberedFor s o′) s o′) (plain-undo (rememberedFor s o′) s o′) (λ o₁. plain-handle s o₁)
 plain-undoes false s o =
     let o′ = marking (s .name) withdrawing o in
@@ -274,7 +274,7 @@ plain-turns w s o = go (innerRuns (s .body) (s .bodyAt) (o .marks))
 plain-again : (s : Scope) (o : Order) → isPlain (looksAgain s o .result) ≡ true
 unfolding looksAgain
 plain-again s o =
-    decide (eqb (markOf (s .name) o) faulty) (λ e. rw (e, looksAgain) (plain-turns true s o))
+    decide (eqb (stateOf (s .name) o) faulty) (λ e. rw (e, looksAgain) (plain-turns true s o))
     (λ e. decide (eqb (markOf (s .name) o) halted) (λ d. rw (e, looksAgain, d) (plain-turns false s o)) (λ d. rw (e, looksAgain, d) refl))
 
 plain-over : (s : Scope) (o : Order) → isPlain (bodyOver s o .result) ≡ true
@@ -283,7 +283,7 @@ plain-over s o = decide (eqb (markOf (s .name) o) active) (λ e. rw (e, bodyOver
 
 plain-raised : (s : Scope) (number : ℕ) (o : Order) → isPlain (bodyRaised number s o .result) ≡ true
 unfolding bodyRaised faults
-plain-raised s number o = decide (isOpen (markOf (s .name) o)) (λ e. rw (e, bodyRaised) (plain-turns true s (stop (s .body) (s .bodyAt) (causing (s .name) number (marking (s .name) faulty o)) .order))) (λ e. rw (e, bodyRaised) (plain-again s o))
+plain-raised s number o = decide (isOpen (markOf (s .name) o)) (λ e. rw (e, bodyRaised) (plain-turns true s (stop (s .body) (s .bodyAt) (causing (s .name) number (marking (s .name) (markWith (choiceFor number s) faulty) o)) .order))) (λ e. rw (e, bodyRaised) (plain-again s o))
 
 -- a scope that a raise in a part ends, or that lets it be
 part-lowered : (s : Scope) (b : ℕ) → Owns s b
@@ -291,7 +291,7 @@ part-lowered : (s : Scope) (b : ℕ) → Owns s b
     → (number : ℕ) (o : Order) → Lowered s b o (partRaised number s o) × (isPlain (partRaised number s o .result) ≡ true)
 unfolding partRaised breaks rank
 part-lowered s b h f number o =
-    decide (eqb (markOf (s .name) o) handling)
+    decide (eqb (stateOf (s .name) o) handling)
     (λ e. rw (e, partRaised) (breaks-lowered s b h number o (subst (λ (m : ℕ). 0 < rank 11 m) (sym (eqb-true (markOf (s .name) o) handling e)) (omega arith)) f, refl))
     (λ e. rw (e, partRaised) (stays refl, refl))
 
@@ -300,7 +300,7 @@ undo-lowered : (s : Scope) (b : ℕ) → Owns s b
     → (number : ℕ) (o : Order) → Lowered s b o (undoRaised number s o) × (isPlain (undoRaised number s o .result) ≡ true)
 unfolding undoRaised breaks rank
 undo-lowered s b h f number o =
-    decide (eqb (markOf (s .name) o) undoing)
+    decide (eqb (stateOf (s .name) o) undoing)
     (λ e. rw (e, undoRaised) (breaks-lowered s b h number o (subst (λ (m : ℕ). 0 < rank 11 m) (sym (eqb-true (markOf (s .name) o) undoing e)) (omega arith)) f, refl))
     (λ e. decide (eqb (markOf (s .name) o) withdrawing)
     (λ d. rw (e, undoRaised, d) (breaks-lowered s b h number o (subst (λ (m : ℕ). 0 < rank 11 m) (sym (eqb-true (markOf (s .name) o) withdrawing d)) (omega arith)) f, refl))
@@ -332,14 +332,14 @@ module _ (s : Scope) (b : ℕ) (h : Owns s b)
       (let u = part-lowered s b h f number (r .order) in (lowered-after (r .log) (r .order) (partRaised number s (r .order)) (u .0), u .1))
 
 -- a scope with an undo part and one with none have the same ranks
-rank-scope : (z : Bool) (m : ℕ) → rank (kind (scope z)) m ≡ rank 11 m
+rank-scope : (z : Bool) (m : ℕ) → rank (kind (scope xs z)) m ≡ rank 11 m
 unfolding rank kind
 rank-scope true m = refl
 rank-scope false m = refl
 
 -- a scope with a number: what fell in it still does, or it does itself
-fell-scope : (f : ℕ → ℕ) (z : Bool) (k d : ℕ) (within : Acts) (o : Order) (h : Bool) (r r₁ : Outcome) → f k ≡ kind (scope z) → k < d → Fell f h (k + 1) d o r
-    → Lowered (scopeAt k within) k (r .order) r₁ → isPlain (r₁ .result) ≡ true → Fell f false k d o r₁
+fell-scope : (f : ℕ → ℕ) (z : Bool) (k d : ℕ) (within : Acts) (o : Order) (h : Bool) (r r₁ : Outcome) → f k ≡ kind (scope xs z) → k < d → Fell f h (k + 1) d o r
+    → Lowered (scopeAt xs k within) k (r .order) r₁ → isPlain (r₁ .result) ≡ true → Fell f false k d o r₁
 fell-scope f z k d within o h r r₁ n v w (stays e) y =
     record {
       falls = subst (λ (x : Order). Falls f k d (o .marks) (x .marks)) (sym e) (falls-wider (omega arith) (omega arith) (w .falls));
@@ -355,7 +355,7 @@ fell-scope f z k d within o h r r₁ n v w (lowers i u) y =
         to = v;
         same = same-then (same-less (omega arith) (falls-below (w .falls))) (u .marks);
         less = subst (λ (j : ℕ). rank j (getD (r₁ .order .marks) k 0) < rank j (getD (o .marks) k 0)) (sym n)
-            (subst (λ (x : ℕ). x < rank (kind (scope z)) (getD (o .marks) k 0)) (sym (rank-scope z (getD (r₁ .order .marks) k 0)))
+            (subst (λ (x : ℕ). x < rank (kind (scope xs z)) (getD (o .marks) k 0)) (sym (rank-scope z (getD (r₁ .order .marks) k 0)))
             (subst (λ (x : ℕ). rank 11 (getD (r₁ .order .marks) k 0) < x) (sym (rank-scope z (getD (o .marks) k 0)))
             (subst (λ (x : ℕ). rank 11 (getD (r₁ .order .marks) k 0) < rank 11 x) (falls-below (w .falls) .at k (omega arith)) (omega (arith, i, u .rank)))));
       };
@@ -387,7 +387,7 @@ raised-receive (repeat x) within q k o h = absurd (false≢true h)
 raised-receive sequence within q k o h = absurd (false≢true h)
 raised-receive flow within q k o h = absurd (false≢true h)
 raised-receive pick within q k o h = absurd (false≢true h)
-raised-receive (scope v) within q k o h = absurd (false≢true h)
+raised-receive (scope xs v) within q k o h = absurd (false≢true h)
 raised-receive (arm x y vs) within q k o h = refl
 
 -- a receive that awaits its step is active
@@ -405,7 +405,7 @@ receive-active (repeat x) within k b m h a w = absurd (false≢true h)
 receive-active sequence within k b m h a w = absurd (false≢true h)
 receive-active flow within k b m h a w = absurd (false≢true h)
 receive-active pick within k b m h a w = absurd (false≢true h)
-receive-active (scope v) within k b m h a w = absurd (false≢true h)
+receive-active (scope xs v) within k b m h a w = absurd (false≢true h)
 receive-active (arm x y vs) within k b m h a w = absurd (false≢true (sym a))
 
 -- the definitions, by where the step is
@@ -491,7 +491,7 @@ raise-through (repeat x) within k t o s = refl
 raise-through sequence within k t o s = refl
 raise-through flow within k t o s = refl
 raise-through pick within k t o s = refl
-raise-through (scope v) within k t o s = absurd (false≢true (sym s))
+raise-through (scope xs v) within k t o s = absurd (false≢true (sym s))
 raise-through (arm x y vs) within k t o s = refl
 
 -- what a pick is when one of its arms acts
@@ -539,37 +539,37 @@ clears : (k : ℕ) (within : Acts) (o : Order)
 clears k within o = cleared-rank (1 + sizes within) k (o .marks)
 
 -- a scope, by where the raise is
-module _ (f : ℕ → ℕ) (z : Bool) (b g : Act) (u : Acts) (y k t : ℕ) (o : Order) (n : f k ≡ kind (scope z)) where
+module _ (f : ℕ → ℕ) (z : Bool) (b g : Act) (u : Acts) (y k t : ℕ) (o : Order) (n : f k ≡ kind (scope xs z)) where
   abbrev Whole : ℕ
   Whole = k + (1 + sizes (trio b g u))
 
   fell-body : t < k + 1 + size b → Fell f false (k + 1) (k + 1 + size b) o (stepIn inPlace b (k + 1) (k + 1) t o)
-      → Fell f false k Whole o (inScope z k t (trio b g u) (stepAmong inPlace (trio b g u) true y (k + 1) t o))
+      → Fell f false k Whole o (inScope xs z k t (trio b g u) (stepAmong inPlace (trio b g u) true y (k + 1) t o))
   unfolding size
   fell-body e w =
       subst (λ (x : Outcome). Fell f false k (k + (1 + sizes (trio b g u))) o x)
-      (sym (ap (inScope z k t (trio b g u)) (first-among b (more g u) true y (k + 1) t o e) ∙ in-parts z b g u k t r true _ (lt-ltb t (k + 1 + size b) e) refl))
+      (sym (ap (inScope xs z k t (trio b g u)) (first-among b (more g u) true y (k + 1) t o e) ∙ in-parts z b g u k t r true _ (lt-ltb t (k + 1 + size b) e) refl))
       (go (goesThrough z k r))
     where
       r : Outcome
       r = stepIn inPlace b (k + 1) (k + 1) t o
 
-      go : (v : Bool) → Fell f false k (k + (1 + sizes (trio b g u))) o (elim v [ true ↦ r | false ↦ fromBody (scopeAt k (trio b g u)) r ])
+      go : (v : Bool) → Fell f false k (k + (1 + sizes (trio b g u))) o (elim v [ true ↦ r | false ↦ fromBody (scopeAt xs k (trio b g u)) r ])
       go true = fell-wider (omega arith) (omega arith) w
       go false =
-          let x = body-lowered (scopeAt k (trio b g u)) k (own-at k (trio b g u)) (clears k (trio b g u)) r (w .plain) in
-          fell-scope f z k (k + (1 + sizes (trio b g u))) (trio b g u) o false r (fromBody (scopeAt k (trio b g u)) r) n (omega arith) (fell-wider (omega arith) (omega arith) w) (x .0) (x .1)
+          let x = body-lowered (scopeAt (numbersOf own) k (trio b g u)) k (own-at k (trio b g u)) (clears k (trio b g u)) r (w .plain) in
+          fell-scope f z k (k + (1 + sizes (trio b g u))) (trio b g u) o false r (fromBody (scopeAt xs k (trio b g u)) r) n (omega arith) (fell-wider (omega arith) (omega arith) w) (x .0) (x .1)
 
   fell-fault : k + 1 + size b ≤ t → t < k + 1 + size b + size g → Fell f true (k + 1 + size b) (k + 1 + size b + size g) o (stepIn inPlace g (k + 1 + size b) (k + 1 + size b) t o)
-      → Fell f false k Whole o (inScope z k t (trio b g u) (stepAmong inPlace (trio b g u) true y (k + 1) t o))
+      → Fell f false k Whole o (inScope xs z k t (trio b g u) (stepAmong inPlace (trio b g u) true y (k + 1) t o))
   unfolding size
   fell-fault e d w =
       let r = stepIn inPlace g (k + 1 + size b) (k + 1 + size b) t o in
-      let x = fault-lowered (scopeAt k (trio b g u)) k (own-at k (trio b g u)) (clears k (trio b g u)) r (w .out refl) in
+      let x = fault-lowered (scopeAt (numbersOf own) k (trio b g u)) k (own-at k (trio b g u)) (clears k (trio b g u)) r (w .out refl) in
       subst (λ (x : Outcome). Fell f false k (k + (1 + sizes (trio b g u))) o x)
-      (sym (ap (inScope z k t (trio b g u)) (later-among b (more g u) true y (k + 1) t o e ∙ first-among g u true y (k + 1 + size b) t o d)
+      (sym (ap (inScope xs z k t (trio b g u)) (later-among b (more g u) true y (k + 1) t o e ∙ first-among g u true y (k + 1 + size b) t o d)
       ∙ in-parts z b g u k t r false true (le-ltb t (k + 1 + size b) e) (lt-ltb t (k + 1 + size b + size g) d)))
-      (fell-scope f z k (k + (1 + sizes (trio b g u))) (trio b g u) o true r (fromFault (scopeAt k (trio b g u)) r) n (omega arith) (fell-wider (omega arith) (omega arith) w) (x .0) (x .1))
+      (fell-scope f z k (k + (1 + sizes (trio b g u))) (trio b g u) o true r (fromFault (scopeAt xs k (trio b g u)) r) n (omega arith) (fell-wider (omega arith) (omega arith) w) (x .0) (x .1))
 
 -- in the undo part of a scope that has one
 fell-undo : (f : ℕ → ℕ) (b g u : Act) (y k t : ℕ) (o : Order) → k + 1 + size b + size g ≤ t → t < k + 1 + size b + size g + size u
@@ -591,7 +591,7 @@ fell-undo f b g u y k t o e d w =
     })
 
 -- a scope takes no message
-scope-no-take : (z : Bool) (within : Acts) (k : ℕ) → isTake (doingOf (scope z) within k) ≡ false
+scope-no-take : (z : Bool) (within : Acts) (k : ℕ) → isTake (doingOf (scope xs z) within k) ≡ false
 unfolding isTake doingOf
 scope-no-take z within k = refl
 
@@ -605,9 +605,9 @@ among-as f h l w q c t o {e} {r} x y z =
     subst (λ (i : Outcome). Fell f h c (endWith l c t) o i) (sym y) (subst (λ (i : ℕ). Fell f h c i o r) (sym x) z)
 
 in-scope : (z : Bool) (b g : Act) (u : Acts) (q k t : ℕ) (o : Order) → k < t
-    → stepIn inPlace (act (scope z) (trio b g u)) q k t o ≡ inScope z k t (trio b g u) (stepAmong inPlace (trio b g u) true q (k + 1) t o)
+    → stepIn inPlace (act (scope xs z) (trio b g u)) q k t o ≡ inScope xs z k t (trio b g u) (stepAmong inPlace (trio b g u) true q (k + 1) t o)
 unfolding combines arms kind
-in-scope z b g u q k t o e = deeper (scope z) (trio b g u) q k t o e
+in-scope z b g u q k t o e = deeper (scope xs z) (trio b g u) q k t o e
 
 mutual
   unfolding size kind rank
@@ -632,22 +632,22 @@ mutual
       part-falls f h own within y₀ k t o s x z e q (subst (λ (u : Doing). isTake u ≡ true) (doing-within own within k t e) i)
       (λ c. among-falls l w (isScope own) y₀ t o q (subst (λ (u : Doing). isTake u ≡ true) (doing-within own within k t e) i) c)
   step-falls {f} {h} (formed-scope {v = v₀} {b = b} {f = g} {u = u} hb hg hu) (knows {k = k} x y z (knows-more kb (knows-more kg ku))) y₀ t o (waits-itself e q) i d =
-      absurd (false≢true (sym (scope-no-take v₀ (trio b g u) k) ∙ subst (λ (v : Doing). isTake v ≡ true) (ap (λ (v : ℕ). doingIn (act (scope v₀) (trio b g u)) k v) (sym e) ∙ doing-here (scope v₀) (trio b g u) k) i))
+      absurd (false≢true (sym (scope-no-take v₀ (trio b g u) k) ∙ subst (λ (v : Doing). isTake v ≡ true) (ap (λ (v : ℕ). doingIn (act (scope xs v₀) (trio b g u)) k v) (sym e) ∙ doing-here (scope xs v₀) (trio b g u) k) i))
   step-falls {f} {h} (formed-scope {v = v₀} {b = b} {f = g} {u = u} hb hg hu) (knows {k = k} x y z (knows-more kb (knows-more kg ku))) y₀ t o (waits-within e (waits-first v w)) i d =
       subst (λ (r : Outcome). Fell f false k (k + (1 + sizes (trio b g u))) o r) (sym (in-scope v₀ b g u y₀ k t o e))
-      (fell-body f v₀ b g u y₀ k t o x v (step-falls hb kb (k + 1) t o w (take-as (doing-within (scope v₀) (trio b g u) k t e ∙ doing-among b (more g u) (k + 1) t v) i) (no-arm (k + 1) t hb)))
+      (fell-body f v₀ b g u y₀ k t o x v (step-falls hb kb (k + 1) t o w (take-as (doing-within (scope xs v₀) (trio b g u) k t e ∙ doing-among b (more g u) (k + 1) t v) i) (no-arm (k + 1) t hb)))
   step-falls {f} {h} (formed-scope {v = v₀} {b = b} {f = g} {u = u} hb hg hu) (knows {k = k} x y z (knows-more kb (knows-more kg ku))) y₀ t o (waits-within e (waits-later v (waits-first v₁ w))) i d =
       subst (λ (r : Outcome). Fell f false k (k + (1 + sizes (trio b g u))) o r) (sym (in-scope v₀ b g u y₀ k t o e))
       (fell-fault f v₀ b g u y₀ k t o x v v₁
-      (step-falls hg kg (k + 1 + size b) t o w (take-as (doing-within (scope v₀) (trio b g u) k t e ∙ (doing-later b (more g u) (k + 1) t v ∙ doing-among g u (k + 1 + size b) t v₁)) i) (no-arm (k + 1 + size b) t hg)))
+      (step-falls hg kg (k + 1 + size b) t o w (take-as (doing-within (scope xs v₀) (trio b g u) k t e ∙ (doing-later b (more g u) (k + 1) t v ∙ doing-among g u (k + 1 + size b) t v₁)) i) (no-arm (k + 1 + size b) t hg)))
   step-falls {f} {h} (formed-scope {v = v₀} {b = b} {f = g} {u = u} hb hg hu) (knows {k = k} x y z (knows-more kb (knows-more kg ku))) y₀ t o (waits-within e (waits-later v (waits-later v₁ w))) i d =
       subst (λ (r : Outcome). Fell f false k (k + (1 + sizes (trio b g u))) o r) (sym (in-scope v₀ b g u y₀ k t o e))
-      (rest-falls hu b g k ku y₀ t o v₁ w (take-as (doing-within (scope v₀) (trio b g u) k t e ∙ (doing-later b (more g u) (k + 1) t v ∙ doing-later g u (k + 1 + size b) t v₁)) i))
+      (rest-falls hu b g k ku y₀ t o v₁ w (take-as (doing-within (scope xs v₀) (trio b g u) k t e ∙ (doing-later b (more g u) (k + 1) t v ∙ doing-later g u (k + 1 + size b) t v₁)) i))
 
   -- in what stands after the fault part of a scope
   rest-falls : {f : ℕ → ℕ} {z c : Bool} {u : Acts} → FormedRest z u → (b g : Act) (k : ℕ) → KnowsIn f u (k + 1 + size b + size g) → (y₀ t : ℕ) (o : Order) → k + 1 + size b + size g ≤ t
       → WaitsIn (o .marks) u (k + 1 + size b + size g) t c → isTake (doingAmong u (k + 1 + size b + size g) t) ≡ true
-      → Fell f false k (k + (1 + sizes (trio b g u))) o (inScope z k t (trio b g u) (stepAmong inPlace (trio b g u) true y₀ (k + 1) t o))
+      → Fell f false k (k + (1 + sizes (trio b g u))) o (inScope xs z k t (trio b g u) (stepAmong inPlace (trio b g u) true y₀ (k + 1) t o))
   rest-falls {f} (formed-undo {u = u} hu) b g k (knows-more ku knows-none) y₀ t o e (waits-first v w) i =
       fell-undo f b g u y₀ k t o e v
       (step-falls hu ku (k + 1 + size b + size g) t o w (take-as (doing-among u none (k + 1 + size b + size g) t v) i) (no-arm (k + 1 + size b + size g) t hu))

@@ -8,12 +8,12 @@ use lib.ListN.{length, getD, set, length-set}
 use lib.Seq.{getD-set-same}
 use lib.Dec.{eqb, ltb}
 use borrow.Author.Tests.{eqb-true, eqb-false, eq-eqb, ne-eqb, ltb-true, ltb-false, lt-ltb, le-ltb}
-use Rattle.plan.specs.Tree.{Own, empty, send, receive, set as setting, raise, leave, choose, repeat, sequence, flow, pick, scope, arm, kind, isArm, isPick, isScope, Act, act, Acts, none, more, Plan, size, sizes, count}
+use Rattle.plan.specs.Tree.{Own, empty, send, receive, set as setting, raise, leave, choose, repeat, sequence, flow, pick, scope, arm, kind, isArm, isPick, isScope, Act, act, Acts, none, more, Plan, size, sizes, count, undoPart}
 use Rattle.order.specs.declared.Order.{Order}
 use Rattle.order.specs.declared.End.{End}
 use Rattle.order.specs.declared.End.the-variants.{None, Well, Handled, Failed, Left}
 use Rattle.order.specs.Lists.{some}
-use Rattle.order.specs.State.{isLive, noOrder, idle, active, inside, done, faulty, undoing, handling, withdrawing, withMarks, markAt, marked, markOf, marking, binding}
+use Rattle.order.specs.State.{isLive, noOrder, idle, active, inside, done, faulty, undoing, handling, withdrawing, withMarks, markAt, marked, markOf, marking, binding, stateOf}
 use Rattle.order.specs.Event.{Event}
 use Rattle.order.specs.Expression.{unboundVariable, conflictingReceive, Value, fault, value, evaluate, isTrue}
 use Rattle.order.specs.Begin.{Begun, begin, beginAfter, part, partAt, beginPart, cleared, quiet}
@@ -57,7 +57,7 @@ pick-kind (repeat x) e = absurd (false≢true e)
 pick-kind sequence e = absurd (false≢true e)
 pick-kind flow e = absurd (false≢true e)
 pick-kind pick e = refl
-pick-kind (scope v) e = absurd (false≢true e)
+pick-kind (scope ns v) e = absurd (false≢true e)
 pick-kind (arm x y vs) e = absurd (false≢true e)
 
 pub arm-kind : (own : Own) → isArm own ≡ true → kind own ≡ 255
@@ -74,7 +74,7 @@ arm-kind (repeat x) e = absurd (false≢true e)
 arm-kind sequence e = absurd (false≢true e)
 arm-kind flow e = absurd (false≢true e)
 arm-kind pick e = absurd (false≢true e)
-arm-kind (scope v) e = absurd (false≢true e)
+arm-kind (scope ns v) e = absurd (false≢true e)
 arm-kind (arm x y vs) e = refl
 
 -- with more begun
@@ -102,7 +102,7 @@ begins-said (act (repeat e) within) l k ms h = rw (eq-eqb k k refl)
 begins-said (act sequence within) l k ms h = rw (eq-eqb k k refl)
 begins-said (act flow within) l k ms h = rw (eq-eqb k k refl)
 begins-said (act pick within) l k ms h = rw (eq-eqb k k refl)
-begins-said (act (scope v) within) l k ms h = rw (eq-eqb k k refl)
+begins-said (act (scope ns v) within) l k ms h = rw (eq-eqb k k refl)
 begins-said (act (arm p o vs) within) l k ms h = absurd (false≢true (sym (h .0)))
 
 first-said : (l : Acts) (c : ℕ) (ms : List ℕ) → Arms false l → 1 ≤ count l → hasBegan c (beginPart 0 l c ms .log) ≡ true
@@ -242,11 +242,11 @@ module _ (f : ℕ → ℕ) where
     undo-raised-falls : (number : ℕ) (o : Order) → Falls b o (undoRaised number s o)
     unfolding undoRaised
     undo-raised-falls number o =
-        falls-either (eqb (markOf (s .name) o) undoing || eqb (markOf (s .name) o) withdrawing) (breaks number s o) (runs o) (undoRaised number s o) refl (breaks-falls number o) (goes-falls (goes-runs f b e o))
+        falls-either (eqb (stateOf (s .name) o) undoing || eqb (markOf (s .name) o) withdrawing) (breaks number s o) (runs o) (undoRaised number s o) refl (breaks-falls number o) (goes-falls (goes-runs f b e o))
 
     part-raised-falls : (number : ℕ) (o : Order) → Falls b o (partRaised number s o)
     unfolding partRaised
-    part-raised-falls number o = falls-either (eqb (markOf (s .name) o) handling) (breaks number s o) (runs o) (partRaised number s o) refl (breaks-falls number o) (goes-falls (goes-runs f b e o))
+    part-raised-falls number o = falls-either (eqb (stateOf (s .name) o) handling) (breaks number s o) (runs o) (partRaised number s o) refl (breaks-falls number o) (goes-falls (goes-runs f b e o))
 
   -- Activities other than scopes.
   pub again-goes : (k e : ℕ) (o : Order) → eqb (f k) 7 ≡ true → Goes f (k + 1) e o (again k o)
@@ -454,14 +454,14 @@ module _ (f : ℕ → ℕ) where
     -- what it makes of a step within it
     scope-steps : (v : Bool) (within : Acts) (k t : ℕ) (o : Order) (r : Outcome) → isScopeKind (f k) ≡ true → 2 ≤ count within → KnowsIn f within (k + 1)
         → k + 1 + sizes within ≤ length (o .marks) → Steps g (k + 1) o r
-        → Steps g (k + 1) o (inScope v k t within r)
+        → Steps g (k + 1) o (inScope ns v k t within r)
     unfolding inScope
     scope-steps v within k t o r q n y m w =
-        let s = scopeAt k within in
+        let s = scopeAt ns k within in
         let h = scope-within f q n y in
-        steps-either (ltb t (partAt 1 within (k + 1))) (elim (goesThrough v k r) [ true ↦ r | false ↦ fromBody s r ]) (elim (ltb t (partAt 2 within (k + 1))) [ true ↦ fromFault s r | false ↦ fromUndo r ]) _ refl
+        steps-either (ltb t (partAt 1 within (k + 1))) (elim (goesThrough v k r) [ true ↦ r | false ↦ fromBody s r ]) (elim (ltb t (partAt (undoPart ns) within (k + 1))) [ true ↦ fromFault s r | false ↦ fromUndo r ]) _ refl
         (steps-either (goesThrough v k r) r (fromBody s r) _ refl w (body-steps s (k + 1) (k + 1 + sizes within) h o r m w))
-        (steps-either (ltb t (partAt 2 within (k + 1))) (fromFault s r) (fromUndo r) _ refl (fault-steps s (k + 1) (k + 1 + sizes within) h o r w) (undo-steps o r w))
+        (steps-either (ltb t (partAt (undoPart ns) within (k + 1))) (fromFault s r) (fromUndo r) _ refl (fault-steps s (k + 1) (k + 1 + sizes within) h o r w) (undo-steps o r w))
 
     combines-steps : (own : Own) (within : Acts) (k t : ℕ) (o : Order) (r : Outcome) → f k ≡ kind own → needs own ≤ count within → KnowsIn f within (k + 1)
         → k + 1 + sizes within ≤ length (o .marks)
@@ -478,8 +478,8 @@ module _ (f : ℕ → ℕ) where
     combines-steps sequence within k t o r e n y m q w = goes-on-steps {e = k + 1 + sizes within} k active o _ r refl (λ s. q) w (λ o₁ d. follows-goes k t o₁ y (omega arith))
     combines-steps flow within k t o r e n y m q w = goes-on-steps {e = 0} k active o (joins k within) r refl (λ s. q) w (λ o₁ d. joins-goes k 0 within o₁)
     combines-steps pick within k t o r e n y m q w = goes-on-steps {e = 0} k inside o (finishes k) r refl (λ s. q) w (λ o₁ d. finishes-goes f k 0 o₁)
-    combines-steps (scope true) within k t o r e n y m q w = scope-steps true within k t o r (ap isScopeKind e) (omega arith) y m w
-    combines-steps (scope false) within k t o r e n y m q w = scope-steps false within k t o r (ap isScopeKind e) n y m w
+    combines-steps (scope ns true) within k t o r e n y m q w = scope-steps true within k t o r (ap isScopeKind e) (omega arith) y m w
+    combines-steps (scope ns false) within k t o r e n y m q w = scope-steps false within k t o r (ap isScopeKind e) n y m w
     combines-steps (arm a b vs) within k t o r e n y m q w = w
 
     -- nothing happens
@@ -584,7 +584,7 @@ module _ (f : ℕ → ℕ) where
     itself-steps sequence within q₀ k o e n a y m q h = still-steps (k + 1) o (λ j z. false≢true (h j z .1))
     itself-steps flow within q₀ k o e n a y m q h = still-steps (k + 1) o (λ j z. false≢true (h j z .1))
     itself-steps pick within q₀ k o e n a y m q h = still-steps (k + 1) o (λ j z. false≢true (h j z .1))
-    itself-steps (scope v) within q₀ k o e n a y m q h = idle-steps k o (closing v q₀ k (scopeAt k within) o) refl (λ j. refl) (λ j z. h j z .0)
+    itself-steps (scope ns v) within q₀ k o e n a y m q h = idle-steps k o (closing v q₀ k (scopeAt ns k within) o) refl (λ j. refl) (λ j z. h j z .0)
     itself-steps (arm b c vs) within q₀ k o e n a y m q h =
         let w = goes-begun f {b = k + 1} {e = k + 1 + sizes within} o (beginPart 0 within (k + 1) (o .marks)) (part-began f y 0 (omega arith) (o .marks) m) (omega arith) (omega arith) in
         record {

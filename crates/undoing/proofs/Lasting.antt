@@ -6,10 +6,10 @@ use mathlib.Core.Bool.{Bool, true, false, _&&_, false≢true, or-true, cond}
 use mathlib.Core.List.{List, [], _∷_}
 use lib.ListN.{length, length-set}
 use lib.Dec.{eqb, ltb}
-use Rattle.plan.specs.Tree.{Own, isScope, Act, Acts, none, more, size, sizes, count, hasUndo}
+use Rattle.plan.specs.Tree.{Own, isScope, Act, Acts, none, more, size, sizes, count, hasUndo, numbersOf, undoPart}
 use Rattle.order.specs.declared.Order.{Order}
 use Rattle.order.specs.Lists.{some, withoutLast}
-use Rattle.order.specs.State.{Name, root, inner, idle, active, done, faulty, undoing, handling, halted, withdrawing, closings, remembering, markAt, marked, markOf, marking}
+use Rattle.order.specs.State.{Name, root, inner, idle, active, done, faulty, undoing, handling, halted, withdrawing, closings, remembering, markAt, marked, markOf, marking, stateOf, going}
 use Rattle.order.specs.Begin.{Begun, begin, beginInTurn, beginAfter, part, partAt, beginPart, nothingBegun}
 use Rattle.order.specs.declared.Way.{Way as Result}
 use Rattle.order.specs.declared.Way.the-variants.{Running as running, Over as over, Raising as raising, Leaving as leaving, Undone as undone, UndoRaising as undoRaising}
@@ -85,9 +85,9 @@ module _ (f : ℕ → ℕ) where
 
     pub undo-began : {a : Act} {k : ℕ} → Knows f a k → (e : ℕ) (ms : List ℕ) → k + size a ≤ length ms → Began f k (size a) ms (beginUndo a k e ms)
     undo-began (knows {own} {within} {k} x n r y) e ms h =
-        either-began (isScope own) (cond (hasUndo own) (cond (eqb k e) (beginPart 2 within (k + 1) ms) (nothingBegun ms)) (beginUndoFirst within (k + 1) e ms)) (beginUndoIn within (k + 1) e ms) _ refl
-        (λ s. cond-began (hasUndo own) (cond (eqb k e) (beginPart 2 within (k + 1) ms) (nothingBegun ms)) (beginUndoFirst within (k + 1) e ms)
-        (λ u. cond-began (eqb k e) (beginPart 2 within (k + 1) ms) (nothingBegun ms)
+        either-began (isScope own) (cond (hasUndo own) (cond (eqb k e) (beginPart (undoPart (numbersOf own)) within (k + 1) ms) (nothingBegun ms)) (beginUndoFirst within (k + 1) e ms)) (beginUndoIn within (k + 1) e ms) _ refl
+        (λ s. cond-began (hasUndo own) (cond (eqb k e) (beginPart (undoPart (numbersOf own)) within (k + 1) ms) (nothingBegun ms)) (beginUndoFirst within (k + 1) e ms)
+        (λ u. cond-began (eqb k e) (beginPart (undoPart ns) within (k + 1) ms) (nothingBegun ms)
         (λ v. began-wider f (part-began y 2 (let z = undo-needs own (count within) s u n in omega arith) ms (omega arith)) (omega arith) (omega arith)) (nothing-began f k (1 + sizes within) ms))
         (began-wider f (undo-first-began y e ms (omega arith)) (omega arith) (omega arith)))
         (began-wider f (undo-in-began y e ms (omega arith)) (omega arith) (omega arith))
@@ -221,8 +221,8 @@ module _ (f : ℕ → ℕ) where
     handle-goes : (o : Order) → e ≤ length (o .marks) → Goes b e o (handle s o)
     unfolding handle
     handle-goes o m =
-        let o₁ = marking (s .name) handling o in
-        goes-marking (s .name) handling o (handle s o) (h .name)
+        let o₁ = going (s .name) handling o in
+        goes-going (s .name) handling o (handle s o) (h .name)
         (goes-where (ends s) (begunIn o₁ (begin (s .fault) (s .faultAt) (o₁ .marks)))
         (goes-begun o₁ (begin (s .fault) (s .faultAt) (o₁ .marks)) (begin-began f (h .fault) (o₁ .marks) (omega (arith, h .faultTo, marking-length (s .name) handling o))) (h .faultFrom) (h .faultTo))
         (λ o₂ d. ends-goes o₂))
@@ -230,9 +230,9 @@ module _ (f : ℕ → ℕ) where
     undoes-goes : (w : Bool) (o : Order) → e ≤ length (o .marks) → Goes b e o (undoes w s o)
     unfolding undoes
     undoes-goes true o m =
-        let o₁ = marking (s .name) undoing o in
+        let o₁ = going (s .name) undoing o in
         let n = marking-length (s .name) undoing o in
-        goes-marking (s .name) undoing o (undoes true s o) (h .name)
+        goes-going (s .name) undoing o (undoes true s o) (h .name)
         (goes-where (handle s) (undo (rememberedFor s o₁) s o₁) (undo-goes (rememberedFor s o₁) o₁ (omega arith)) (λ o₂ d. handle-goes o₂ (omega arith)))
     undoes-goes false o m =
         let o₁ = marking (s .name) withdrawing o in
@@ -247,7 +247,7 @@ module _ (f : ℕ → ℕ) where
     pub looks-goes : (o : Order) → e ≤ length (o .marks) → Goes b e o (looksAgain s o)
     unfolding looksAgain
     looks-goes o m =
-        goes-either (eqb (markOf (s .name) o) faulty) (turns true s o) (elim (eqb (markOf (s .name) o) halted) [ true ↦ turns false s o | false ↦ runs o ]) (looksAgain s o) refl (turns-goes true o m)
+        goes-either (eqb (stateOf (s .name) o) faulty) (turns true s o) (elim (eqb (markOf (s .name) o) halted) [ true ↦ turns false s o | false ↦ runs o ]) (looksAgain s o) refl (turns-goes true o m)
         (goes-either (eqb (markOf (s .name) o) halted) (turns false s o) (runs o) _ refl (turns-goes false o m) (goes-runs b e o))
 
     pub over-goes : (o : Order) → e ≤ length (o .marks) → Goes b e o (bodyOver s o)
@@ -259,16 +259,16 @@ module _ (f : ℕ → ℕ) where
     pub undone-goes : (o : Order) → e ≤ length (o .marks) → Goes b e o (undoOver s o)
     unfolding undoOver
     undone-goes o m =
-        goes-either (eqb (markOf (s .name) o) undoing) (undoes true s o) (elim (eqb (markOf (s .name) o) withdrawing) [ true ↦ undoes false s o | false ↦ runs o ]) (undoOver s o) refl (undoes-goes true o m)
+        goes-either (eqb (stateOf (s .name) o) undoing) (undoes true s o) (elim (eqb (markOf (s .name) o) withdrawing) [ true ↦ undoes false s o | false ↦ runs o ]) (undoOver s o) refl (undoes-goes true o m)
         (goes-either (eqb (markOf (s .name) o) withdrawing) (undoes false s o) (runs o) _ refl (undoes-goes false o m) (goes-runs b e o))
 
     pub part-goes : (o : Order) → Goes b e o (partOver s o)
     unfolding partOver
-    part-goes o = goes-either (eqb (markOf (s .name) o) handling) (ends s o) (runs o) (partOver s o) refl (ends-goes o) (goes-runs b e o)
+    part-goes o = goes-either (eqb (stateOf (s .name) o) handling) (ends s o) (runs o) (partOver s o) refl (ends-goes o) (goes-runs b e o)
 
   -- A scope that stands at k has its parts beyond it.
   pub scope-within : {within : Acts} {k : ℕ} → isScopeKind (f k) ≡ true → 2 ≤ count within → KnowsIn f within (k + 1)
-      → Within (scopeAt k within) (k + 1) (k + 1 + sizes within)
+      → Within (scopeAt ns k within) (k + 1) (k + 1 + sizes within)
   scope-within {within} {k} q n y =
       let b = part-within within (k + 1) 0 (omega arith) in
       let g = part-within within (k + 1) 1 (omega arith) in
@@ -347,10 +347,10 @@ module _ (f : ℕ → ℕ) where
     pub stop-halts : {a : Act} {k : ℕ} → Knows f a k → (o : Order) → k + size a ≤ length (o .marks) → Halts k (size a) o (stop a k o)
     stop-halts (knows {own} {within} {k} x n r y) o h =
         halts-either (isScope own)
-        (elim (isOpen (markAt k o)) [ true ↦ withdraws k (scopeAt k within) (stopFirst within (k + 1) (marked k halted o)) | false ↦ untouched o ])
+        (elim (isOpen (markAt k o)) [ true ↦ withdraws k (scopeAt ns k within) (stopFirst within (k + 1) (marked k halted o)) | false ↦ untouched o ])
         (stopAll within (k + 1) (marked k idle o)) _ refl
-        (λ s. halts-either (isOpen (markAt k o)) (withdraws k (scopeAt k within) (stopFirst within (k + 1) (marked k halted o))) (untouched o) _ refl
-        (λ v. withdraws-halts (scopeAt k within) o (stopFirst within (k + 1) (marked k halted o)) (ap isScopeKind x ∙ (scope-kind own ∙ s)) (scope-within (ap isScopeKind x ∙ (scope-kind own ∙ s)) (scope-needs own (count within) s n) y) (omega arith)
+        (λ s. halts-either (isOpen (markAt k o)) (withdraws k (scopeAt ns k within) (stopFirst within (k + 1) (marked k halted o))) (untouched o) _ refl
+        (λ v. withdraws-halts (scopeAt (numbersOf own) k within) o (stopFirst within (k + 1) (marked k halted o)) (ap isScopeKind x ∙ (scope-kind own ∙ s)) (scope-within (ap isScopeKind x ∙ (scope-kind own ∙ s)) (scope-needs own (count within) s n) y) (omega arith)
         (stop-first-halts y (marked k halted o) (omega (arith, length-set (o .marks) k halted))))
         (λ v. untouched-halts k _ o))
         (λ s. halts-marked {k = k} {c = k + 1} {m = sizes within} o (stopAll within (k + 1) (marked k idle o)) (omega arith) (omega arith) (stop-all-halts y (marked k idle o) (omega (arith, length-set (o .marks) k idle))))

@@ -7,18 +7,18 @@ use mathlib.Core.List.{List, [], _∷_, _++_}
 use lib.ListN.{set}
 use lib.Dec.{eqb, ltb}
 use borrow.Author.Tests.{eqb-true, eqb-false, eq-eqb, ltb-true, ltb-false, lt-ltb}
-use Rattle.plan.specs.Tree.{Own, empty, send, receive, set as setting, raise, leave, choose, repeat, sequence, flow, pick, scope, arm, kind, isScope, Act, act, Acts, none, more, Plan, size, sizes, count, hasUndo}
+use Rattle.plan.specs.Tree.{Own, empty, send, receive, set as setting, raise, leave, choose, repeat, sequence, flow, pick, scope, arm, kind, isScope, Act, act, Acts, none, more, Plan, size, sizes, count, hasUndo, numbersOf, undoPart}
 use Rattle.order.specs.declared.Order.{Order}
 use Rattle.order.specs.declared.End.{End}
 use Rattle.order.specs.declared.End.the-variants.{None, Well, Handled, Failed, Left}
 use Rattle.order.specs.Lists.{some}
-use Rattle.order.specs.State.{root, idle, active, inside, faulty, undoing, handling, halted, withdrawing, done, withMarks, markAt, marked, markOf, marking, causing}
+use Rattle.order.specs.State.{root, idle, active, inside, faulty, undoing, handling, halted, withdrawing, done, withMarks, markAt, marked, markOf, marking, causing, stateOf, going, markWith}
 use Rattle.order.specs.Event.{Event, began, closed, faulted, stopped, raised, left, ended}
 use Rattle.order.specs.Expression.{unboundVariable, conflictingReceive, Value, fault, value, evaluate, isTrue}
 use Rattle.order.specs.Begin.{Begun, throughout, around, itsBeginning, inTurn, begin, beginInTurn, beginAll, beginAfter, part, partAt, beginPart, cleared, quiet, nothingBegun}
 use Rattle.order.specs.declared.Way.{Way as Result}
 use Rattle.order.specs.declared.Way.the-variants.{Running as running, Over as over, Raising as raising, Leaving as leaving, Undone as undone, UndoRaising as undoRaising}
-use Rattle.order.specs.Scope.{Outcome, rootOf, runs, begunIn, whereOver, Scope, scopeAt, isOpen, innerRuns, closing, beginUndo, beginUndoIn, startUndo, undo, ends, handle, undoes, turns, rememberedFor, untouched, withdraws, stop, stopAll, stopFirst, faults, breaks, looksAgain, bodyOver, bodyRaised, undoOver, undoRaised, fromBody, partOver, partRaised, fromFault, fromUndo, goesThrough, beginUndoFirst}
+use Rattle.order.specs.Scope.{Outcome, rootOf, runs, begunIn, whereOver, Scope, scopeAt, isOpen, innerRuns, closing, beginUndo, beginUndoIn, startUndo, undo, ends, handle, undoes, turns, rememberedFor, untouched, withdraws, stop, stopAll, stopFirst, faults, breaks, looksAgain, bodyOver, bodyRaised, undoOver, undoRaised, fromBody, partOver, partRaised, fromFault, fromUndo, goesThrough, beginUndoFirst, choiceFor}
 use Rattle.order.specs.Scope as definitions
 use Rattle.order.specs.Acting.{finishes, raises, orRaises, again, repeats, allBound, itself, arms, goesOn, joins, inScope, combines, stepIn, stepAmong, stepRoot, endOf, movedTo, Actor, replaces, performs, acted}
 use Rattle.undoing.proofs.Stepping.{scope-performs}
@@ -36,7 +36,7 @@ module _ (lead : ℕ → Lead) where
       leads-part : {own : Own} {within : Acts} {k : ℕ} → isScope own ≡ false → least own ≤ count within → LeadsIn within (k + 1) (leadOf own k)
           → Leads (act own within) k
       leads-scope : {v : Bool} {b g : Act} {u : Acts} {k : ℕ} → lead (k + 1) ≡ together k → lead (k + 1 + size b) ≡ alone
-          → Leads b (k + 1) → Leads g (k + 1 + size b) → LeadsRest v u (k + 1 + size b + size g) → Leads (act (scope v) (trio b g u)) k
+          → Leads b (k + 1) → Leads g (k + 1 + size b) → LeadsRest v u (k + 1 + size b + size g) → Leads (act (scope xs v) (trio b g u)) k
 
     pub data LeadsIn : Acts → ℕ → Lead → Type 0 where
       leads-none : {c : ℕ} {q : Lead} → LeadsIn none c q
@@ -153,7 +153,7 @@ module _ (lead : ℕ → Lead) where
     own-led sequence within k s q e ms x y = led-through k q (inOrder k) (beginInTurn within (k + 1) (set ms k active)) e (λ j l. rw (eq-eqb k k refl)) (x (set ms k active))
     own-led flow within k s q e ms x y = led-through k q (together k) (beginAll within (k + 1) (set ms k active)) e (λ j l. rw (eq-eqb k k refl)) (y (set ms k active))
     own-led pick within k s q e ms x y = led-alone k q e
-    own-led (scope v) within k s q e ms x y = absurd (false≢true (sym s))
+    own-led (scope xs v) within k s q e ms x y = absurd (false≢true (sym s))
     own-led (arm p o vs) within k s q e ms x y = led-none q k
 
     mutual
@@ -236,7 +236,7 @@ module _ (lead : ℕ → Lead) where
 
       undo-fine : {a : Act} {k : ℕ} → Leads a k → (e : ℕ) (ms : List ℕ) → Fine (beginUndo a k e ms .log)
       undo-fine (leads-part {own} {within} {k} s n y) e ms =
-          either-fine (isScope own) (cond (hasUndo own) (cond (eqb k e) (beginPart 2 within (k + 1) ms) (nothingBegun ms)) (beginUndoFirst within (k + 1) e ms)) (beginUndoIn within (k + 1) e ms) _ refl
+          either-fine (isScope own) (cond (hasUndo own) (cond (eqb k e) (beginPart (undoPart (numbersOf own)) within (k + 1) ms) (nothingBegun ms)) (beginUndoFirst within (k + 1) e ms)) (beginUndoIn within (k + 1) e ms) _ refl
           (λ v. absurd (false≢true (sym s ∙ v))) (undo-in-fine y e ms)
       undo-fine (leads-scope {v = true} {b} {g} {u} {k} x y hb hg hu) e ms =
           cond-fine (eqb k e) (beginPart 2 (trio b g u) (k + 1) ms) (nothingBegun ms) (rest-fine hu b g k ms refl) fine-none
@@ -282,12 +282,12 @@ module _ (lead : ℕ → Lead) where
       handle-fine : (o : Order) → Fine (handle s o .log)
       unfolding handle
       handle-fine o =
-          let o₁ = marking (s .name) handling o in
+          let o₁ = going (s .name) handling o in
           where-fine (ends s) (begunIn o₁ (begin (s .fault) (s .faultAt) (o₁ .marks))) (begin-fine (h .fault) (h .free) (o₁ .marks)) (λ o₂. ends-fine o₂)
 
       undoes-fine : (w : Bool) (o : Order) → Fine (undoes w s o .log)
       unfolding undoes
-      undoes-fine true o = let o₁ = marking (s .name) undoing o in where-fine (handle s) (undo (rememberedFor s o₁) s o₁) (list-fine (rememberedFor s o₁) o₁) (λ o₂. handle-fine o₂)
+      undoes-fine true o = let o₁ = going (s .name) undoing o in where-fine (handle s) (undo (rememberedFor s o₁) s o₁) (list-fine (rememberedFor s o₁) o₁) (λ o₂. handle-fine o₂)
       undoes-fine false o = let o₁ = marking (s .name) withdrawing o in where-fine (ends s) (undo (rememberedFor s o₁) s o₁) (list-fine (rememberedFor s o₁) o₁) (λ o₂. ends-fine o₂)
 
       turns-fine : (w : Bool) (o : Order) → Fine (turns w s o .log)
@@ -297,7 +297,7 @@ module _ (lead : ℕ → Lead) where
       looks-fine : (o : Order) → Fine (looksAgain s o .log)
       unfolding looksAgain
       looks-fine o =
-          choose-fine (eqb (markOf (s .name) o) faulty) (turns true s o) (elim (eqb (markOf (s .name) o) halted) [ true ↦ turns false s o | false ↦ runs o ]) (looksAgain s o) refl (turns-fine true o)
+          choose-fine (eqb (stateOf (s .name) o) faulty) (turns true s o) (elim (eqb (markOf (s .name) o) halted) [ true ↦ turns false s o | false ↦ runs o ]) (looksAgain s o) refl (turns-fine true o)
           (choose-fine (eqb (markOf (s .name) o) halted) (turns false s o) (runs o) _ refl (turns-fine false o) fine-none)
 
       over-fine : (o : Order) → Fine (bodyOver s o .log)
@@ -307,7 +307,7 @@ module _ (lead : ℕ → Lead) where
       undone-fine : (o : Order) → Fine (undoOver s o .log)
       unfolding undoOver
       undone-fine o =
-          choose-fine (eqb (markOf (s .name) o) undoing) (undoes true s o) (elim (eqb (markOf (s .name) o) withdrawing) [ true ↦ undoes false s o | false ↦ runs o ]) (undoOver s o) refl (undoes-fine true o)
+          choose-fine (eqb (stateOf (s .name) o) undoing) (undoes true s o) (elim (eqb (markOf (s .name) o) withdrawing) [ true ↦ undoes false s o | false ↦ runs o ]) (undoOver s o) refl (undoes-fine true o)
           (choose-fine (eqb (markOf (s .name) o) withdrawing) (undoes false s o) (runs o) _ refl (undoes-fine false o) fine-none)
 
       breaks-fine : (number : ℕ) (o : Order) → Fine (breaks number s o .log)
@@ -316,9 +316,9 @@ module _ (lead : ℕ → Lead) where
 
       part-fine : (o : Order) → Fine (partOver s o .log)
       unfolding partOver
-      part-fine o = choose-fine (eqb (markOf (s .name) o) handling) (ends s o) (runs o) (partOver s o) refl (ends-fine o) fine-none
+      part-fine o = choose-fine (eqb (stateOf (s .name) o) handling) (ends s o) (runs o) (partOver s o) refl (ends-fine o) fine-none
 
-    scope-part : {b g : Act} {k : ℕ} (u : Acts) → lead (k + 1 + size b) ≡ alone → Leads b (k + 1) → Leads g (k + 1 + size b) → Part (scopeAt k (trio b g u))
+    scope-part : {b g : Act} {k : ℕ} (u : Acts) → lead (k + 1 + size b) ≡ alone → Leads b (k + 1) → Leads g (k + 1 + size b) → Part (scopeAt xs k (trio b g u))
     unfolding part partAt
     scope-part u y hb hg = record { body = hb; fault = hg; free = y }
 
@@ -337,11 +337,11 @@ module _ (lead : ℕ → Lead) where
 
       stop-fine : {a : Act} {k : ℕ} → Leads a k → (o : Order) → Fine (stop a k o .log)
       stop-fine (leads-part {own} {within} {k} s n y) o =
-          halt-fine (isScope own) (elim (isOpen (markAt k o)) [ true ↦ withdraws k (scopeAt k within) (stopFirst within (k + 1) (marked k halted o)) | false ↦ untouched o ]) (stopAll within (k + 1) (marked k idle o)) _ refl
+          halt-fine (isScope own) (elim (isOpen (markAt k o)) [ true ↦ withdraws k (scopeAt (numbersOf own) k within) (stopFirst within (k + 1) (marked k halted o)) | false ↦ untouched o ]) (stopAll within (k + 1) (marked k idle o)) _ refl
           (λ v. absurd (false≢true (sym s ∙ v))) (λ v. stop-all-fine y (marked k idle o))
       stop-fine (leads-scope {v = v₀} {b} {g} {u} {k} x y hb hg hu) o =
-          halt-fine (isOpen (markAt k o)) (withdraws k (scopeAt k (trio b g u)) (stop b (k + 1) (marked k halted o))) (untouched o) _ refl
-          (λ v. withdraws-fine k (scopeAt k (trio b g u)) (stop b (k + 1) (marked k halted o)) (scope-part u y hb hg) (stop-fine hb (marked k halted o))) (λ v. fine-none)
+          halt-fine (isOpen (markAt k o)) (withdraws k (scopeAt xs k (trio b g u)) (stop b (k + 1) (marked k halted o))) (untouched o) _ refl
+          (λ v. withdraws-fine k (scopeAt xs k (trio b g u)) (stop b (k + 1) (marked k halted o)) (scope-part u y hb hg) (stop-fine hb (marked k halted o))) (λ v. fine-none)
 
       stop-all-fine : {l : Acts} {c : ℕ} {q : Lead} → LeadsIn l c q → (o : Order) → Fine (stopAll l c o .log)
       stop-all-fine leads-none o = fine-none
@@ -351,7 +351,7 @@ module _ (lead : ℕ → Lead) where
       faults-fine : (number : ℕ) (o : Order) → Fine (faults number s o .log)
       unfolding faults isBeganOf
       faults-fine number o =
-          let o₁ = causing (s .name) number (marking (s .name) faulty o) in
+          let o₁ = causing (s .name) number (marking (s .name) (markWith (choiceFor number s) faulty) o) in
           let r = stop (s .body) (s .bodyAt) o₁ in
           fine-event (faulted (s .name) number) (r .log ++ turns true s (r .order) .log) (λ j. refl)
           (fine-append (r .log) (turns true s (r .order) .log) (stop-fine (h .body) o₁) (turns-fine s h true (r .order)))
@@ -362,11 +362,11 @@ module _ (lead : ℕ → Lead) where
 
       undo-raised-fine : (number : ℕ) (o : Order) → Fine (undoRaised number s o .log)
       unfolding undoRaised
-      undo-raised-fine number o = choose-fine (eqb (markOf (s .name) o) undoing || eqb (markOf (s .name) o) withdrawing) (breaks number s o) (runs o) (undoRaised number s o) refl (breaks-fine s h number o) fine-none
+      undo-raised-fine number o = choose-fine (eqb (stateOf (s .name) o) undoing || eqb (markOf (s .name) o) withdrawing) (breaks number s o) (runs o) (undoRaised number s o) refl (breaks-fine s h number o) fine-none
 
       part-raised-fine : (number : ℕ) (o : Order) → Fine (partRaised number s o .log)
       unfolding partRaised
-      part-raised-fine number o = choose-fine (eqb (markOf (s .name) o) handling) (breaks number s o) (runs o) (partRaised number s o) refl (breaks-fine s h number o) fine-none
+      part-raised-fine number o = choose-fine (eqb (stateOf (s .name) o) handling) (breaks number s o) (runs o) (partRaised number s o) refl (breaks-fine s h number o) fine-none
 
       body-fine : (r : Outcome) → Fine (r .log) → Fine (fromBody s r .log)
       unfolding fromBody
@@ -422,7 +422,7 @@ module _ (lead : ℕ → Lead) where
         (led-fine (λ j b. rw (lt-ltb k t (omega arith), lt-ltb t j (omega arith), or-true)) (after-led y (o .marks))) (λ o₁. fine-none))
     combines-fine flow within k r s y n w = on-fine k active (joins k within) r w (λ o. joins-fine k within o)
     combines-fine pick within k r s y n w = on-fine k inside (finishes k) r w (λ o. fine-none)
-    combines-fine (scope v) within k r s y n w = absurd (false≢true (sym s))
+    combines-fine (scope xs v) within k r s y n w = absurd (false≢true (sym s))
     combines-fine (arm a b vs) within k r s y n w = w
 
     or-fine : (k : ℕ) (o : Order) (x : ℕ → Outcome) (v : Value) → ((n : ℕ) → Fine (x n .log)) → Fine (orRaises k o x v .log)
@@ -459,17 +459,17 @@ module _ (lead : ℕ → Lead) where
     itself-fine sequence within q k o s n y e = fine-none
     itself-fine flow within q k o s n y e = fine-none
     itself-fine pick within q k o s n y e = fine-none
-    itself-fine (scope v) within q k o s n y e = absurd (false≢true (sym s))
+    itself-fine (scope xs v) within q k o s n y e = absurd (false≢true (sym s))
     itself-fine (arm a b vs) within q k o s n y e = step-part e y 0 (omega arith) (o .marks)
 
     closing-fine : (v : Bool) (q k : ℕ) (s : Scope) (o : Order) → Fine (closing v q k s o .log)
     unfolding closing isBeganOf
     closing-fine v q k s o = fine-event (closed k) [] (λ j. refl) fine-none
 
-    in-scope-fine : (v : Bool) (b g : Act) (u : Acts) (k : ℕ) (r : Outcome) → Part (scopeAt k (trio b g u)) → Fine (r .log) → Fine (inScope v k t (trio b g u) r .log)
+    in-scope-fine : (v : Bool) (b g : Act) (u : Acts) (k : ℕ) (r : Outcome) → Part (scopeAt xs k (trio b g u)) → Fine (r .log) → Fine (inScope xs v k t (trio b g u) r .log)
     unfolding inScope fromUndo
     in-scope-fine v b g u k r h w =
-        let s = scopeAt k (trio b g u) in
+        let s = scopeAt xs k (trio b g u) in
         choose-fine (ltb t (partAt 1 (trio b g u) (k + 1))) (elim (goesThrough v k r) [ true ↦ r | false ↦ fromBody s r ]) (elim (ltb t (partAt 2 (trio b g u) (k + 1))) [ true ↦ fromFault s r | false ↦ fromUndo r ]) _ refl
         (choose-fine (goesThrough v k r) r (fromBody s r) _ refl w (body-fine s h r w))
         (choose-fine (ltb t (partAt 2 (trio b g u) (k + 1))) (fromFault s r) (fromUndo r) _ refl (fault-fine s h r w) w)
@@ -496,9 +496,9 @@ module _ (lead : ℕ → Lead) where
           below : eqb k t ≡ false → k + 1 ≤ t
           below e = let z = eqb-false k t e in omega arith
       step-fine actor (leads-scope {v = v₀} {b} {g} {u} {k} x y hb hg hu) q o m =
-          case-fine (eqb k t) (performs actor (scope v₀) (trio b g u) q k o) (inScope v₀ k t (trio b g u) (stepAmong actor (trio b g u) true q (k + 1) t (arms (scope v₀) (trio b g u) k t o))) _ refl
-          (λ e. subst (λ (r : Outcome). Fine (r .log)) (sym (scope-performs actor v₀ (trio b g u) q k o)) (closing-fine v₀ q k (scopeAt k (trio b g u)) o))
-          (λ e. let o₁ = arms (scope v₀) (trio b g u) k t o in
+          case-fine (eqb k t) (performs actor (scope xs v₀) (trio b g u) q k o) (inScope v₀ k t (trio b g u) (stepAmong actor (trio b g u) true q (k + 1) t (arms (scope xs v₀) (trio b g u) k t o))) _ refl
+          (λ e. subst (λ (r : Outcome). Fine (r .log)) (sym (scope-performs actor v₀ (trio b g u) q k o)) (closing-fine v₀ q k (scopeAt xs k (trio b g u)) o))
+          (λ e. let o₁ = arms (scope xs v₀) (trio b g u) k t o in
           in-scope-fine v₀ b g u k (stepAmong actor (trio b g u) true q (k + 1) t o₁) (scope-part u y hb hg)
           (case-fine (ltb t (k + 1 + size b)) (stepIn actor b (k + 1) (k + 1) t o₁) (stepAmong actor (more g u) true q (k + 1 + size b) t o₁) _ refl
           (λ d. step-fine actor hb (k + 1) o₁ (let i = eqb-false k t e in omega arith))

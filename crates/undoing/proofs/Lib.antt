@@ -1,5 +1,6 @@
 pub mod Causing
 pub mod Parts
+pub mod Choices
 pub mod Accounts
 pub mod Moves
 pub mod Marks

@@ -7,16 +7,16 @@ use mathlib.Core.List.{List, [], _∷_, _++_, reverse, reverse-cons}
 use lib.ListN.{set}
 use lib.Dec.{eqb, ltb, leb}
 use borrow.Author.Tests.{eqb-true, eqb-false, eq-eqb, ltb-true, ltb-false, lt-ltb, le-ltb, leb-true}
-use Rattle.plan.specs.Tree.{Own, empty, send, receive, set as setting, raise, leave, choose, repeat, sequence, flow, pick, scope, arm, kind, Act, act, Acts, none, more, Plan, size, sizes, count, isScope, hasUndo, isPick}
+use Rattle.plan.specs.Tree.{Own, empty, send, receive, set as setting, raise, leave, choose, repeat, sequence, flow, pick, scope, arm, kind, Act, act, Acts, none, more, Plan, size, sizes, count, isScope, hasUndo, isPick, numbersOf, undoPart}
 use Rattle.order.specs.declared.Order.{Order}
 use Rattle.order.specs.Lists.{every, some, only, withoutLast}
-use Rattle.order.specs.State.{idle, active, inside, faulty, undoing, handling, halted, withdrawing, done, withMarks, closings, remembering, markAt, marked, markOf, marking, binding, causing}
+use Rattle.order.specs.State.{idle, active, inside, faulty, undoing, handling, halted, withdrawing, done, withMarks, closings, remembering, markAt, marked, markOf, marking, binding, causing, stateOf, going, markWith}
 use Rattle.order.specs.Event.{Event, began, stopped, faulted, ended}
 use Rattle.order.specs.Expression.{conflictingReceive, Value, fault, value, evaluate, isTrue}
 use Rattle.order.specs.Begin.{Begun, nothingBegun, throughout, around, itsBeginning, inTurn, begin, beginInTurn, beginAll, beginFirst, beginAfter, part, partAt, beginPart, cleared, quiet}
 use Rattle.order.specs.declared.Way.{Way as Result}
 use Rattle.order.specs.declared.Way.the-variants.{Running as running, Over as over, Raising as raising, Leaving as leaving, Undone as undone, UndoRaising as undoRaising}
-use Rattle.order.specs.Scope.{Outcome, rootOf, runs, begunIn, whereOver, Scope, scopeAt, isOpen, innerRuns, closing, beginUndo, beginUndoFirst, beginUndoIn, startUndo, undo, ends, handle, undoes, turns, rememberedFor, untouched, withdraws, stop, stopAll, stopFirst, faults, breaks, looksAgain, bodyOver, bodyRaised, undoOver, undoRaised, fromBody, partOver, partRaised, fromFault, fromUndo, goesThrough}
+use Rattle.order.specs.Scope.{Outcome, rootOf, runs, begunIn, whereOver, Scope, scopeAt, isOpen, innerRuns, closing, beginUndo, beginUndoFirst, beginUndoIn, startUndo, undo, ends, handle, undoes, turns, rememberedFor, untouched, withdraws, stop, stopAll, stopFirst, faults, breaks, looksAgain, bodyOver, bodyRaised, undoOver, undoRaised, fromBody, partOver, partRaised, fromFault, fromUndo, goesThrough, choiceFor}
 use Rattle.order.specs.Scope as definitions
 use Rattle.order.specs.Acting.{finishes, raises, orRaises, enters, again, repeats, allBound, itself, arms, goesOn, joins, inScope, combines, stepIn, stepAmong, stepRoot, Actor, replaces, performs}
 use Rattle.undoing.specs.Orderly.{isBeganOf}
@@ -52,7 +52,7 @@ module _ (t : ℕ) where
 
   unfoldable mutual
     pub Local : List Event → Act → (k : ℕ) → Type 0
-    Local l (act own within) k = Two (isScope own ≡ true → Near l (hasUndo own) k (partAt 1 within (k + 1)) (partAt 2 within (k + 1)) (k + size (act own within))) (LocalIn l within (k + 1))
+    Local l (act own within) k = Two (isScope own ≡ true → Near l (hasUndo own) k (partAt 1 within (k + 1)) (partAt (undoPart (numbersOf own)) within (k + 1)) (k + size (act own within))) (LocalIn l within (k + 1))
 
     pub LocalIn : List Event → Acts → (c : ℕ) → Type 0
     LocalIn l none c = Unit {0}
@@ -80,7 +80,7 @@ module _ (t : ℕ) where
 
     local-append : (l m : List Event) (a : Act) (k : ℕ) → Local l a k → Local m a k → Local (l ++ m) a k
     local-append l m (act own within) k h g =
-        record { one = λ s. near-append l m (hasUndo own) k (partAt 1 within (k + 1)) (partAt 2 within (k + 1)) (k + size (act own within)) (h .one s) (g .one s); other = in-append l m within (k + 1) (h .other) (g .other) }
+        record { one = λ s. near-append l m (hasUndo own) k (partAt 1 within (k + 1)) (partAt (undoPart (numbersOf own)) within (k + 1)) (k + size (act own within)) (h .one s) (g .one s); other = in-append l m within (k + 1) (h .other) (g .other) }
 
     pub in-append : (l m : List Event) (r : Acts) (c : ℕ) → LocalIn l r c → LocalIn m r c → LocalIn (l ++ m) r c
     in-append l m none c h g = tt
@@ -144,7 +144,7 @@ module _ (t : ℕ) where
     own-local flow within k ms a b c =
         plain-local flow within k _ refl (in-event (began k) _ within (k + 1) (single k (k + 1) (sizes within) (omega arith)) (subst (λ (l : List Event). LocalIn l within (k + 1)) (sym (through-log k (beginAll within (k + 1) (set ms k active)))) (b refl (set ms k active))))
     own-local pick within k ms a b c = plain-local pick within k _ refl (in-zero _ within (k + 1) (single k (k + 1) (sizes within) (omega arith)))
-    own-local (scope v) within k ms a b c =
+    own-local (scope xs v) within k ms a b c =
         record {
           one = λ s. near-began (rw (eq-eqb k k refl));
           other = in-event (began k) _ within (k + 1) (single k (k + 1) (sizes within) (omega arith)) (subst (λ (l : List Event). LocalIn l within (k + 1)) (sym (around-log k (beginFirst within (k + 1) (set ms k active)))) (c refl (set ms k active)));
@@ -209,14 +209,14 @@ module _ (t : ℕ) where
       undo-local (knows {own} {within} {k} x n r y) e ms =
           decide (isScope own)
           (λ s. subst (λ (b : Begun). Local (b .log) (act own within) k)
-          (sym (first-of (isScope own) (cond (hasUndo own) (cond (eqb k e) (beginPart 2 within (k + 1) ms) (nothingBegun ms)) (beginUndoFirst within (k + 1) e ms)) (beginUndoIn within (k + 1) e ms) (beginUndo (act own within) k e ms) refl s))
-          (cond-local (act own within) k (hasUndo own) (cond (eqb k e) (beginPart 2 within (k + 1) ms) (nothingBegun ms)) (beginUndoFirst within (k + 1) e ms)
+          (sym (first-of (isScope own) (cond (hasUndo own) (cond (eqb k e) (beginPart (undoPart (numbersOf own)) within (k + 1) ms) (nothingBegun ms)) (beginUndoFirst within (k + 1) e ms)) (beginUndoIn within (k + 1) e ms) (beginUndo (act own within) k e ms) refl s))
+          (cond-local (act own within) k (hasUndo own) (cond (eqb k e) (beginPart (undoPart (numbersOf own)) within (k + 1) ms) (nothingBegun ms)) (beginUndoFirst within (k + 1) e ms)
           (λ u. let z = part-local y (scope-arms own within s r) 2 (let v = scope-three own within s u n in omega arith) ms in
-          cond-local (act own within) k (eqb k e) (beginPart 2 within (k + 1) ms) (nothingBegun ms) (λ v. record { one = λ c. near-none (λ j a b w. z .1 j b); other = z .0 })
+          cond-local (act own within) k (eqb k e) (beginPart (undoPart (numbersOf own)) within (k + 1) ms) (nothingBegun ms) (λ v. record { one = λ c. near-none (λ j a b w. z .1 j b); other = z .0 })
           (λ v. local-zero [] (act own within) k (record { at = λ j a b. refl })))
           (λ u. record { one = λ c. near-none (λ j a b w. undo-first-times y e ms j (rw u at w)); other = undo-first-local y e ms })))
           (λ s. subst (λ (b : Begun). Local (b .log) (act own within) k)
-          (sym (second-of (isScope own) (cond (hasUndo own) (cond (eqb k e) (beginPart 2 within (k + 1) ms) (nothingBegun ms)) (beginUndoFirst within (k + 1) e ms)) (beginUndoIn within (k + 1) e ms) (beginUndo (act own within) k e ms) refl s))
+          (sym (second-of (isScope own) (cond (hasUndo own) (cond (eqb k e) (beginPart (undoPart (numbersOf own)) within (k + 1) ms) (nothingBegun ms)) (beginUndoFirst within (k + 1) e ms)) (beginUndoIn within (k + 1) e ms) (beginUndo (act own within) k e ms) refl s))
           (plain-local own within k _ s (undo-in-local y e ms)))
 
       undo-first-local : {l : Acts} {c : ℕ} → KnowsIn f l c → (e : ℕ) (ms : List ℕ) → LocalIn (beginUndoFirst l c e ms .log) l c
@@ -242,7 +242,7 @@ module _ (t : ℕ) where
       inBody : (l : List Event) → Local l (s .body) (s .bodyAt) → ((j : ℕ) → s .bodyAt + size (s .body) ≤ j → times j l ≡ 0) → LocalIn l r c
       inFault : (l : List Event) → Local l (s .fault) (s .faultAt) → Starts (s .fault) (s .faultAt) l → LocalIn l r c
 
-    sits-scope : {within : Acts} {k : ℕ} → KnowsIn f within (k + 1) → Arms false within → 2 ≤ count within → Sits (scopeAt k within) within (k + 1)
+    sits-scope : {within : Acts} {k : ℕ} → KnowsIn f within (k + 1) → Arms false within → 2 ≤ count within → Sits (scopeAt xs k within) within (k + 1)
     unfolding part partAt count
     sits-scope knows-none r n = absurd (omega arith)
     sits-scope (knows-more x knows-none) r n = absurd (omega arith)
@@ -289,12 +289,12 @@ module _ (t : ℕ) where
       handle-local : (o : Order) → LocalIn (handle s o .log) r c
       unfolding handle
       handle-local o =
-          let o₁ = marking (s .name) handling o in
+          let o₁ = going (s .name) handling o in
           where-local r c (ends s) (begunIn o₁ (begin (s .fault) (s .faultAt) (o₁ .marks))) (h .inFault _ (begin-local (h .fault) (o₁ .marks)) (begin-starts f (h .fault) (h .named) (o₁ .marks))) (λ q. ends-local q)
 
       undoes-local : (w : Bool) (o : Order) → LocalIn (undoes w s o .log) r c
       unfolding undoes
-      undoes-local true o = let o₁ = marking (s .name) undoing o in where-local r c (handle s) (undo (rememberedFor s o₁) s o₁) (list-local (rememberedFor s o₁) o₁) (λ q. handle-local q)
+      undoes-local true o = let o₁ = going (s .name) undoing o in where-local r c (handle s) (undo (rememberedFor s o₁) s o₁) (list-local (rememberedFor s o₁) o₁) (λ q. handle-local q)
       undoes-local false o = let o₁ = marking (s .name) withdrawing o in where-local r c (ends s) (undo (rememberedFor s o₁) s o₁) (list-local (rememberedFor s o₁) o₁) (λ q. ends-local q)
 
       turns-local : (w : Bool) (o : Order) → LocalIn (turns w s o .log) r c
@@ -304,7 +304,7 @@ module _ (t : ℕ) where
       looks-local : (o : Order) → LocalIn (looksAgain s o .log) r c
       unfolding looksAgain
       looks-local o =
-          either-local r c (eqb (markOf (s .name) o) faulty) (turns true s o) (elim (eqb (markOf (s .name) o) halted) [ true ↦ turns false s o | false ↦ runs o ]) (looksAgain s o) refl (turns-local true o)
+          either-local r c (eqb (stateOf (s .name) o) faulty) (turns true s o) (elim (eqb (markOf (s .name) o) halted) [ true ↦ turns false s o | false ↦ runs o ]) (looksAgain s o) refl (turns-local true o)
           (either-local r c (eqb (markOf (s .name) o) halted) (turns false s o) (runs o) _ refl (turns-local false o) (runs-local r c o))
 
       over-local : (o : Order) → LocalIn (bodyOver s o .log) r c
@@ -314,7 +314,7 @@ module _ (t : ℕ) where
       undone-local : (o : Order) → LocalIn (undoOver s o .log) r c
       unfolding undoOver
       undone-local o =
-          either-local r c (eqb (markOf (s .name) o) undoing) (undoes true s o) (elim (eqb (markOf (s .name) o) withdrawing) [ true ↦ undoes false s o | false ↦ runs o ]) (undoOver s o) refl (undoes-local true o)
+          either-local r c (eqb (stateOf (s .name) o) undoing) (undoes true s o) (elim (eqb (markOf (s .name) o) withdrawing) [ true ↦ undoes false s o | false ↦ runs o ]) (undoOver s o) refl (undoes-local true o)
           (either-local r c (eqb (markOf (s .name) o) withdrawing) (undoes false s o) (runs o) _ refl (undoes-local false o) (runs-local r c o))
 
       breaks-local : (number : ℕ) (o : Order) → LocalIn (breaks number s o .log) r c
@@ -323,15 +323,15 @@ module _ (t : ℕ) where
 
       undo-raised-local : (number : ℕ) (o : Order) → LocalIn (undoRaised number s o .log) r c
       unfolding undoRaised
-      undo-raised-local number o = either-local r c (eqb (markOf (s .name) o) undoing || eqb (markOf (s .name) o) withdrawing) (breaks number s o) (runs o) (undoRaised number s o) refl (breaks-local number o) (runs-local r c o)
+      undo-raised-local number o = either-local r c (eqb (stateOf (s .name) o) undoing || eqb (markOf (s .name) o) withdrawing) (breaks number s o) (runs o) (undoRaised number s o) refl (breaks-local number o) (runs-local r c o)
 
       part-over-local : (o : Order) → LocalIn (partOver s o .log) r c
       unfolding partOver
-      part-over-local o = either-local r c (eqb (markOf (s .name) o) handling) (ends s o) (runs o) (partOver s o) refl (ends-local o) (runs-local r c o)
+      part-over-local o = either-local r c (eqb (stateOf (s .name) o) handling) (ends s o) (runs o) (partOver s o) refl (ends-local o) (runs-local r c o)
 
       part-raised-local : (number : ℕ) (o : Order) → LocalIn (partRaised number s o .log) r c
       unfolding partRaised
-      part-raised-local number o = either-local r c (eqb (markOf (s .name) o) handling) (breaks number s o) (runs o) (partRaised number s o) refl (breaks-local number o) (runs-local r c o)
+      part-raised-local number o = either-local r c (eqb (stateOf (s .name) o) handling) (breaks number s o) (runs o) (partRaised number s o) refl (breaks-local number o) (runs-local r c o)
 
     -- Stopping.
     halt-local : (a : Act) (k : ℕ) (v : Bool) (x y z : definitions.Stopped) → z ≡ elim v [ true ↦ x | false ↦ y ] → (v ≡ true → Local (x .log) a k) → (v ≡ false → Local (y .log) a k) → Local (z .log) a k
@@ -343,12 +343,12 @@ module _ (t : ℕ) where
 
       stop-local : {a : Act} {k : ℕ} → Knows f a k → (o : Order) → Local (stop a k o .log) a k
       stop-local (knows {own} {within} {k} x n r y) o =
-          halt-local (act own within) k (isScope own) (elim (isOpen (markAt k o)) [ true ↦ withdraws k (scopeAt k within) (stopFirst within (k + 1) (marked k halted o)) | false ↦ untouched o ]) (stopAll within (k + 1) (marked k idle o)) _ refl
-          (λ s. halt-local (act own within) k (isOpen (markAt k o)) (withdraws k (scopeAt k within) (stopFirst within (k + 1) (marked k halted o))) (untouched o) _ refl
+          halt-local (act own within) k (isScope own) (elim (isOpen (markAt k o)) [ true ↦ withdraws k (scopeAt (numbersOf own) k within) (stopFirst within (k + 1) (marked k halted o)) | false ↦ untouched o ]) (stopAll within (k + 1) (marked k idle o)) _ refl
+          (λ s. halt-local (act own within) k (isOpen (markAt k o)) (withdraws k (scopeAt (numbersOf own) k within) (stopFirst within (k + 1) (marked k halted o))) (untouched o) _ refl
           (λ v. record {
             one = λ e. near-stopped (rw (eq-eqb k k refl));
             other = in-event (stopped k) _ within (k + 1) (record { at = λ j p q. refl }) (in-append _ _ within (k + 1) (stop-first-local y (marked k halted o))
-                (turns-local (scopeAt k within) within (k + 1) (sits-scope y (scope-arms own within s r) (scope-two own within s n)) false _));
+                (turns-local (scopeAt (numbersOf own) k within) within (k + 1) (sits-scope y (scope-arms own within s r) (scope-two own within s n)) false _));
           })
           (λ v. local-zero [] (act own within) k (record { at = λ j p q. refl })))
           (λ s. plain-local own within k _ s (stop-all-local y (marked k idle o)))
@@ -367,7 +367,7 @@ module _ (t : ℕ) where
       faults-local : (number : ℕ) (o : Order) → LocalIn (faults number s o .log) r c
       unfolding faults times isBeganOf
       faults-local number o =
-          let o₁ = causing (s .name) number (marking (s .name) faulty o) in
+          let o₁ = causing (s .name) number (marking (s .name) (markWith (choiceFor number s) faulty) o) in
           let q = stop (s .body) (s .bodyAt) o₁ in
           in-event (faulted (s .name) number) _ r c (record { at = λ j x y. refl }) (in-append (q .log) (turns true s (q .order) .log) r c (h .inBody _ (stop-local (h .body) o₁) (stop-strict f (h .body) o₁ .above)) (turns-local s r c h true (q .order)))
 
@@ -448,7 +448,7 @@ module _ (t : ℕ) where
     itself-local sequence within q₀ k o n r y = in-none [] within (k + 1) (λ j. refl)
     itself-local flow within q₀ k o n r y = in-none [] within (k + 1) (λ j. refl)
     itself-local pick within q₀ k o n r y = in-none [] within (k + 1) (λ j. refl)
-    itself-local (scope v) within q₀ k o n r y = in-none _ within (k + 1) (λ j. refl)
+    itself-local (scope xs v) within q₀ k o n r y = in-none _ within (k + 1) (λ j. refl)
     itself-local (arm a b vs) within q₀ k o n r y = part-local y r 0 (omega arith) (o .marks) .0
 
     combines-local : (own : Own) (within : Acts) (k : ℕ) (q : Outcome) → needs own ≤ count within → Arms (isPick own) within → KnowsIn f within (k + 1) → LocalIn (q .log) within (k + 1)
@@ -466,12 +466,12 @@ module _ (t : ℕ) where
         on-local within (k + 1) k active _ q w (λ o. where-local within (k + 1) (finishes k) (begunIn o (beginAfter within (k + 1) t (o .marks))) (after-local y r (o .marks) .0) (λ o₁. in-none [] within (k + 1) (λ j. refl)))
     combines-local flow within k q n r y w = on-local within (k + 1) k active (joins k within) q w (λ o. joins-local within (k + 1) k within o)
     combines-local pick within k q n r y w = on-local within (k + 1) k inside (finishes k) q w (λ o. in-none [] within (k + 1) (λ j. refl))
-    combines-local (scope u) within k q n r y w =
-        let s = scopeAt k within in
+    combines-local (scope xs u) within k q n r y w =
+        let s = scopeAt xs k within in
         let i = sits-scope y r (two-of u (count within) n) in
-        either-local within (k + 1) (ltb t (partAt 1 within (k + 1))) (elim (goesThrough u k q) [ true ↦ q | false ↦ fromBody s q ]) (elim (ltb t (partAt 2 within (k + 1))) [ true ↦ fromFault s q | false ↦ fromUndo q ]) _ refl
+        either-local within (k + 1) (ltb t (partAt 1 within (k + 1))) (elim (goesThrough u k q) [ true ↦ q | false ↦ fromBody s q ]) (elim (ltb t (partAt (undoPart xs) within (k + 1))) [ true ↦ fromFault s q | false ↦ fromUndo q ]) _ refl
         (either-local within (k + 1) (goesThrough u k q) q (fromBody s q) _ refl w (body-local s within (k + 1) i q w))
-        (either-local within (k + 1) (ltb t (partAt 2 within (k + 1))) (fromFault s q) (fromUndo q) _ refl (fault-local s within (k + 1) i q w) w)
+        (either-local within (k + 1) (ltb t (partAt (undoPart xs) within (k + 1))) (fromFault s q) (fromUndo q) _ refl (fault-local s within (k + 1) i q w) w)
     combines-local (arm a b vs) within k q n r y w = w
 
     case-local : (r : Acts) (c : ℕ) (v : Bool) (x y z : Outcome) → z ≡ elim v [ true ↦ x | false ↦ y ] → (v ≡ true → LocalIn (x .log) r c) → (v ≡ false → LocalIn (y .log) r c) → LocalIn (z .log) r c

@@ -10,7 +10,7 @@ use borrow.Author.Tests.{eqb-true, eqb-false, eq-eqb, ne-eqb, ltb-true, ltb-fals
 use Rattle.plan.specs.Tree.{Own, empty, send, receive, set as setting, raise, leave, choose, repeat, sequence, flow, pick, scope, arm, kind, Act, act, Acts, none, more, Plan, size, sizes, count, isScope, isPick}
 use Rattle.order.specs.declared.Order.{Order}
 use Rattle.order.specs.Lists.{some}
-use Rattle.order.specs.State.{Name, root, inner, idle, active, inside, faulty, undoing, handling, halted, withdrawing, done, withMarks, markAt, marked, markOf, marking, binding}
+use Rattle.order.specs.State.{Name, root, inner, idle, active, inside, faulty, undoing, handling, halted, withdrawing, done, withMarks, markAt, marked, markOf, marking, binding, stateOf}
 use Rattle.order.specs.Event.{Event, began, faulted, ended}
 use Rattle.order.specs.Expression.{unboundVariable, conflictingReceive, Value, fault, value, evaluate, isTrue}
 use Rattle.order.specs.Begin.{Begun, begin, beginInTurn, beginAfter, part, partAt, beginPart, cleared, quiet}
@@ -93,7 +93,7 @@ module _ (f : ℕ → ℕ) where
 
     undo-raised-none : (number : ℕ) (o : Order) (j : ℕ) → times j (undoRaised number s o .log) ≡ 0
     unfolding undoRaised breaks times isBeganOf
-    undo-raised-none number o j = go (eqb (markOf (s .name) o) undoing || eqb (markOf (s .name) o) withdrawing)
+    undo-raised-none number o j = go (eqb (stateOf (s .name) o) undoing || eqb (markOf (s .name) o) withdrawing)
       where
         go : (b : Bool) → times j (log-of (elim b [ true ↦ breaks number s o | false ↦ runs o ])) ≡ 0
         go true = refl
@@ -101,7 +101,7 @@ module _ (f : ℕ → ℕ) where
 
     part-over-none : (o : Order) (j : ℕ) → times j (partOver s o .log) ≡ 0
     unfolding partOver times isBeganOf
-    part-over-none o j = go (eqb (markOf (s .name) o) handling)
+    part-over-none o j = go (eqb (stateOf (s .name) o) handling)
       where
         go : (b : Bool) → times j (log-of (elim b [ true ↦ ends s o | false ↦ runs o ])) ≡ 0
         go true = refl
@@ -109,7 +109,7 @@ module _ (f : ℕ → ℕ) where
 
     part-raised-none : (number : ℕ) (o : Order) (j : ℕ) → times j (partRaised number s o .log) ≡ 0
     unfolding partRaised breaks times isBeganOf
-    part-raised-none number o j = go (eqb (markOf (s .name) o) handling)
+    part-raised-none number o j = go (eqb (stateOf (s .name) o) handling)
       where
         go : (b : Bool) → times j (log-of (elim b [ true ↦ breaks number s o | false ↦ runs o ])) ≡ 0
         go true = refl
@@ -173,7 +173,7 @@ module _ (f : ℕ → ℕ) where
   itself-lone sequence within q₀ k o n y = lone-zero f (runs o) (λ j. refl)
   itself-lone flow within q₀ k o n y = lone-zero f (runs o) (λ j. refl)
   itself-lone pick within q₀ k o n y = lone-zero f (runs o) (λ j. refl)
-  itself-lone (scope v) within q₀ k o n y = lone-zero f (closing v q₀ k (scopeAt k within) o) (λ j. refl)
+  itself-lone (scope ns v) within q₀ k o n y = lone-zero f (closing v q₀ k (scopeAt ns k within) o) (λ j. refl)
   itself-lone (arm a b vs) within q₀ k o n y = lone-begun f o (beginPart 0 within (k + 1) (o .marks)) (part-onto f y 0 (omega arith) (o .marks))
 
   -- where the step's part of a list ends: what it logs stands before, what follows in a sequence after
@@ -276,7 +276,7 @@ module _ (f : ℕ → ℕ) where
   combines-once actor sequence within q₀ k t o s r y h w = sequence-once actor false q₀ k t o y r h w
   combines-once actor flow within q₀ k t o s r y h w = on-once k active (joins k within) _ w (joins-none k within)
   combines-once actor pick within q₀ k t o s r y h w = on-once k inside (finishes k) _ w (λ q j. refl)
-  combines-once actor (scope v) within q₀ k t o s r y h w = absurd (false≢true (sym s))
+  combines-once actor (scope ns v) within q₀ k t o s r y h w = absurd (false≢true (sym s))
   combines-once actor (arm a b vs) within q₀ k t o s r y h w = w
 
   part-from : (l : Acts) (c t : ℕ) → isPart l c t ≡ true → c ≤ t

@@ -8,9 +8,9 @@ use lib.ListN.{length, getD, set, length-set}
 use lib.Seq.{getD-set-same}
 use lib.Dec.{eqb, ltb, leb}
 use borrow.Author.Tests.{eqb-true, eqb-false, eq-eqb, ltb-true, ltb-false, lt-ltb, le-ltb}
-use Rattle.plan.specs.Tree.{Own, empty, send, receive, set as setting, raise, leave, choose, repeat, sequence, flow, pick, scope, arm, kind, Act, act, Acts, none, more, Plan, size, sizes, count, isScope, hasUndo, isPick}
+use Rattle.plan.specs.Tree.{Own, empty, send, receive, set as setting, raise, leave, choose, repeat, sequence, flow, pick, scope, arm, kind, Act, act, Acts, none, more, Plan, size, sizes, count, isScope, hasUndo, isPick, numbersOf, undoPart}
 use Rattle.order.specs.declared.Order.{Order}
-use Rattle.order.specs.State.{Name, root, inner, idle, active, inside, faulty, undoing, handling, halted, withdrawing, done, withMarks, closings, remembering, markAt, marked, markOf, marking}
+use Rattle.order.specs.State.{Name, root, inner, idle, active, inside, faulty, undoing, handling, halted, withdrawing, done, withMarks, closings, remembering, markAt, marked, markOf, marking, stateOf, going}
 use Rattle.order.specs.Event.{Event, began, stopped, faulted, ended}
 use Rattle.order.specs.Lists.{withoutLast}
 use Rattle.order.specs.Begin.{Begun, nothingBegun, throughout, around, itsBeginning, inTurn, sideBySide, begin, beginInTurn, beginAll, beginFirst, beginAfter, part, partAt, beginPart}
@@ -128,7 +128,7 @@ module _ (f : ℕ → ℕ) where
   own-onto sequence within k e ms t a b = let z = t refl (set ms k active) in onto-through k (beginInTurn within (k + 1) (set ms k active)) (ap lasts e) (z .0) (z .1)
   own-onto flow within k e ms t a b = let z = a refl (set ms k active) in onto-through k (beginAll within (k + 1) (set ms k active)) (ap lasts e) (z .0) (z .1)
   own-onto pick within k e ms t a b = onto-waits k _
-  own-onto (scope v) within k e ms t a b = let z = b refl (set ms k active) in onto-scope k (beginFirst within (k + 1) (set ms k active)) (z .0) (z .1)
+  own-onto (scope xs v) within k e ms t a b = let z = b refl (set ms k active) in onto-scope k (beginFirst within (k + 1) (set ms k active)) (z .0) (z .1)
   own-onto (arm p o vs) within k e ms t a b = onto-nothing ms
 
   mutual
@@ -190,9 +190,9 @@ module _ (f : ℕ → ℕ) where
 
     undo-onto : {a : Act} {k : ℕ} → Knows f a k → (e : ℕ) (ms : List ℕ) → Onto (beginUndo a k e ms)
     undo-onto (knows {own} {within} {k} x n r y) e ms =
-        either-onto (isScope own) (cond (hasUndo own) (cond (eqb k e) (beginPart 2 within (k + 1) ms) (nothingBegun ms)) (beginUndoFirst within (k + 1) e ms)) (beginUndoIn within (k + 1) e ms) _ refl
-        (λ s. cond-onto (hasUndo own) (cond (eqb k e) (beginPart 2 within (k + 1) ms) (nothingBegun ms)) (beginUndoFirst within (k + 1) e ms)
-        (λ u. cond-onto (eqb k e) (beginPart 2 within (k + 1) ms) (nothingBegun ms) (λ v. part-onto y 2 (let z = scope-three own within s u n in omega arith) ms) (onto-nothing ms))
+        either-onto (isScope own) (cond (hasUndo own) (cond (eqb k e) (beginPart (undoPart (numbersOf own)) within (k + 1) ms) (nothingBegun ms)) (beginUndoFirst within (k + 1) e ms)) (beginUndoIn within (k + 1) e ms) _ refl
+        (λ s. cond-onto (hasUndo own) (cond (eqb k e) (beginPart (undoPart (numbersOf own)) within (k + 1) ms) (nothingBegun ms)) (beginUndoFirst within (k + 1) e ms)
+        (λ u. cond-onto (eqb k e) (beginPart (undoPart (numbersOf own)) within (k + 1) ms) (nothingBegun ms) (λ v. part-onto y 2 (let z = scope-three own within s u n in omega arith) ms) (onto-nothing ms))
         (undo-first-onto y e ms)) (undo-in-onto y e ms)
 
     -- in the body of a scope
@@ -261,11 +261,11 @@ module _ (f : ℕ → ℕ) where
 
     handle-lone : (o : Order) → Lone (handle s o)
     unfolding handle
-    handle-lone o = let o₁ = marking (s .name) handling o in lone-where (ends s) (begunIn o₁ (begin (s .fault) (s .faultAt) (o₁ .marks))) (lone-begun o₁ (begin (s .fault) (s .faultAt) (o₁ .marks)) (begin-onto kf (o₁ .marks))) (λ q. ends-lone q)
+    handle-lone o = let o₁ = going (s .name) handling o in lone-where (ends s) (begunIn o₁ (begin (s .fault) (s .faultAt) (o₁ .marks))) (lone-begun o₁ (begin (s .fault) (s .faultAt) (o₁ .marks)) (begin-onto kf (o₁ .marks))) (λ q. ends-lone q)
 
     undoes-lone : (w : Bool) (o : Order) → Lone (undoes w s o)
     unfolding undoes
-    undoes-lone true o = let o₁ = marking (s .name) undoing o in lone-where (handle s) (undo (rememberedFor s o₁) s o₁) (list-lone (rememberedFor s o₁) o₁) (λ q. handle-lone q)
+    undoes-lone true o = let o₁ = going (s .name) undoing o in lone-where (handle s) (undo (rememberedFor s o₁) s o₁) (list-lone (rememberedFor s o₁) o₁) (λ q. handle-lone q)
     undoes-lone false o = let o₁ = marking (s .name) withdrawing o in lone-where (ends s) (undo (rememberedFor s o₁) s o₁) (list-lone (rememberedFor s o₁) o₁) (λ q. ends-lone q)
 
     pub turns-lone : (w : Bool) (o : Order) → Lone (turns w s o)
@@ -275,13 +275,13 @@ module _ (f : ℕ → ℕ) where
     pub undone-lone : (o : Order) → Lone (undoOver s o)
     unfolding undoOver
     undone-lone o =
-        lone-either (eqb (markOf (s .name) o) undoing) (undoes true s o) (elim (eqb (markOf (s .name) o) withdrawing) [ true ↦ undoes false s o | false ↦ runs o ]) (undoOver s o) refl (undoes-lone true o)
+        lone-either (eqb (stateOf (s .name) o) undoing) (undoes true s o) (elim (eqb (markOf (s .name) o) withdrawing) [ true ↦ undoes false s o | false ↦ runs o ]) (undoOver s o) refl (undoes-lone true o)
         (lone-either (eqb (markOf (s .name) o) withdrawing) (undoes false s o) (runs o) _ refl (undoes-lone false o) (lone-runs o))
 
     pub looks-lone : (o : Order) → Lone (looksAgain s o)
     unfolding looksAgain
     looks-lone o =
-        lone-either (eqb (markOf (s .name) o) faulty) (turns true s o) (elim (eqb (markOf (s .name) o) halted) [ true ↦ turns false s o | false ↦ runs o ]) (looksAgain s o) refl (turns-lone true o)
+        lone-either (eqb (stateOf (s .name) o) faulty) (turns true s o) (elim (eqb (markOf (s .name) o) halted) [ true ↦ turns false s o | false ↦ runs o ]) (looksAgain s o) refl (turns-lone true o)
         (lone-either (eqb (markOf (s .name) o) halted) (turns false s o) (runs o) _ refl (turns-lone false o) (lone-runs o))
 
     -- it begins nothing while an inner scope runs
@@ -289,7 +289,7 @@ module _ (f : ℕ → ℕ) where
     unfolding turns
     turns-none w o e = ap (λ (b : Bool). elim b [ true ↦ runs o | false ↦ undoes w s o ]) e
 
-    looks-by : (o : Order) (v w : Bool) → eqb (markOf (s .name) o) faulty ≡ v → eqb (markOf (s .name) o) halted ≡ w
+    looks-by : (o : Order) (v w : Bool) → eqb (stateOf (s .name) o) faulty ≡ v → eqb (markOf (s .name) o) halted ≡ w
         → looksAgain s o ≡ elim v [ true ↦ turns true s o | false ↦ elim w [ true ↦ turns false s o | false ↦ runs o ] ]
     unfolding looksAgain
     looks-by o v w d c =
@@ -298,12 +298,12 @@ module _ (f : ℕ → ℕ) where
 
     pub looks-none : (o : Order) → innerRuns (s .body) (s .bodyAt) (o .marks) ≡ true → looksAgain s o ≡ runs o
     looks-none o e =
-        decide (eqb (markOf (s .name) o) faulty)
+        decide (eqb (stateOf (s .name) o) faulty)
         (λ d. looks-by o true (eqb (markOf (s .name) o) halted) d refl ∙ turns-none true o e)
         (λ d. decide (eqb (markOf (s .name) o) halted) (λ c. looks-by o false true d c ∙ turns-none false o e) (λ c. looks-by o false false d c))
 
     -- nor where it does not wait
-    pub looks-still : (o : Order) → eqb (markOf (s .name) o) faulty ≡ false → eqb (markOf (s .name) o) halted ≡ false → looksAgain s o ≡ runs o
+    pub looks-still : (o : Order) → eqb (stateOf (s .name) o) faulty ≡ false → eqb (markOf (s .name) o) halted ≡ false → looksAgain s o ≡ runs o
     looks-still o d c = looks-by o false false d c
 
   -- by whether an activity is a scope
@@ -446,7 +446,7 @@ module _ (f : ℕ → ℕ) where
   FirstStops (more a l) c o = Stops a c (stop a c o)
 
   first-stops : {within : Acts} {k : ℕ} (own : Own) (o : Order) → isScope own ≡ true → f k ≡ kind own → KnowsIn f within (k + 1) → 2 ≤ count within → k + 1 + sizes within ≤ length (o .marks)
-      → FirstStops within (k + 1) (marked k halted o) → Stops (act own within) k (withdraws k (scopeAt k within) (stopFirst within (k + 1) (marked k halted o)))
+      → FirstStops within (k + 1) (marked k halted o) → Stops (act own within) k (withdraws k (scopeAt (numbersOf own) k within) (stopFirst within (k + 1) (marked k halted o)))
   unfolding stop size count
   first-stops own o s e knows-none n m w = absurd (omega arith)
   first-stops own o s e (knows-more x knows-none) n m w = absurd (omega arith)
@@ -458,8 +458,8 @@ module _ (f : ℕ → ℕ) where
 
     pub stop-stops : {a : Act} {k : ℕ} → Knows f a k → (o : Order) → k + size a ≤ length (o .marks) → Stops a k (stop a k o)
     stop-stops (knows {own} {within} {k} e n r y) o m =
-        stops-either (isScope own) (elim (isOpen (markAt k o)) [ true ↦ withdraws k (scopeAt k within) (stopFirst within (k + 1) (marked k halted o)) | false ↦ untouched o ]) (stopAll within (k + 1) (marked k idle o)) _ refl
-        (λ s. stops-either (isOpen (markAt k o)) (withdraws k (scopeAt k within) (stopFirst within (k + 1) (marked k halted o))) (untouched o) _ refl
+        stops-either (isScope own) (elim (isOpen (markAt k o)) [ true ↦ withdraws k (scopeAt (numbersOf own) k within) (stopFirst within (k + 1) (marked k halted o)) | false ↦ untouched o ]) (stopAll within (k + 1) (marked k idle o)) _ refl
+        (λ s. stops-either (isOpen (markAt k o)) (withdraws k (scopeAt xs k within) (stopFirst within (k + 1) (marked k halted o))) (untouched o) _ refl
         (λ v. first-stops own o s e y (scope-two own within s n) (omega arith) (stop-first-stops y (marked k halted o) (omega (arith, length-set (o .marks) k halted))))
         (λ v. record { once = once-none [] (λ j. refl); light = λ c. light-none [] (λ j. refl) }))
         (λ s. let z = stop-all-stops y (marked k idle o) (omega (arith, length-set (o .marks) k idle)) in
