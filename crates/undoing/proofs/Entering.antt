@@ -6,21 +6,22 @@ use mathlib.Core.Bool.{Bool, true, false, cond, _&&_, _||_, false≢true}
 use mathlib.Core.List.{List, [], _∷_, _++_}
 use lib.Dec.{eqb, ltb, leb}
 use borrow.Author.Tests.{eqb-true, eqb-false, ltb-true, ltb-false, lt-ltb, le-leb}
-use Rattle.plan.specs.Tree.{Own, empty, send, receive, set as setting, raise, leave, choose, repeat, sequence, flow, pick, scope, arm, kind, Act, act, Acts, none, more, Plan, size, sizes, count, isScope, hasUndo, isPick, numbersOf, undoPart}
+use Rattle.plan.specs.Tree.{Own, empty, send, receive, set as setting, raise, leave, choose, repeat, sequence, flow, pick, scope, arm, kind, Act, act, Acts, none, more, Plan, size, sizes, count, isScope, hasUndo, isPick, numbersOf, undoPart, generalPart}
 use Rattle.order.specs.declared.Order.{Order}
-use Rattle.order.specs.State.{idle, active, inside, faulty, undoing, handling, halted, withdrawing, done, withMarks, markAt, marked, markOf, marking, binding, causing, stateOf, going, markWith}
+use Rattle.order.specs.State.{idle, active, inside, faulty, undoing, handling, halted, withdrawing, done, withMarks, markAt, marked, markOf, marking, binding, causing, stateOf, going, markWith, choiceOf}
 use Rattle.order.specs.Event.{Event, began, closed, faulted, stopped, raised, left, ended}
 use Rattle.order.specs.Expression.{unboundVariable, conflictingReceive, Value, fault, value, evaluate, isTrue}
 use Rattle.order.specs.Begin.{Begun, nothingBegun, begin, beginInTurn, beginAfter, part, partAt, beginPart, cleared, quiet}
 use Rattle.order.specs.declared.Way.{Way as Result}
 use Rattle.order.specs.declared.Way.the-variants.{Running as running, Over as over, Raising as raising, Leaving as leaving, Undone as undone, UndoRaising as undoRaising}
-use Rattle.order.specs.Scope.{Outcome, rootOf, runs, after, begunIn, whereOver, Scope, scopeAt, isOpen, innerRuns, closing, beginUndo, beginUndoFirst, beginUndoIn, startUndo, undo, ends, handle, undoes, turns, rememberedFor, untouched, withdraws, stop, stopAll, stopFirst, alsoStopped, faults, breaks, looksAgain, bodyOver, bodyRaised, undoOver, undoRaised, fromBody, partOver, partRaised, fromFault, fromUndo, goesThrough, choiceFor}
+use Rattle.order.specs.Scope.{Outcome, rootOf, runs, after, begunIn, whereOver, Scope, scopeAt, isOpen, innerRuns, closing, beginUndo, beginUndoFirst, beginUndoIn, startUndo, undo, ends, handle, undoes, turns, rememberedFor, untouched, withdraws, stop, stopAll, stopFirst, alsoStopped, faults, breaks, looksAgain, bodyOver, bodyRaised, undoOver, undoRaised, fromBody, partOver, partRaised, fromFault, fromUndo, goesThrough, choiceFor, chosenPart, chosenAt}
 use Rattle.order.specs.Scope as definitions
 use Rattle.order.specs.Acting.{finishes, raises, orRaises, enters, again, repeats, allBound, itself, arms, goesOn, joins, inScope, combines, stepIn, stepAmong, stepRoot, Actor, replaces, performs}
 use Rattle.undoing.specs.Orderly.{isBeganOf}
 use Rattle.undoing.specs.Begun.{lasts}
 use Rattle.undoing.specs.Entirely.{times}
 use Rattle.undoing.proofs.Parts.{both, decide}
+use Rattle.undoing.proofs.Choices.{chosen-each, root-chosen, general-there, undo-there}
 use Rattle.undoing.proofs.Orders.{least}
 use Rattle.undoing.proofs.Places.{first-of, second-of}
 use Rattle.undoing.proofs.Planning.{scope-own}
@@ -64,31 +65,29 @@ pub record Wide (x : ℕ → ℕ → ℕ) (r : Acts) (c : ℕ) (l : List Event) 
   pub above : (j : ℕ) → c + sizes r ≤ j → times j l ≡ 0
 
 -- no scope is a sequence or a flow, or has arms
-pub scope-kind : (own : Own) (n : ℕ) → isScope own ≡ true → eqb 11 n ≡ false → eqb 12 n ≡ false → eqb (kind own) n ≡ false
-scope-kind own n s h g = ap (λ (x : Own). eqb (kind x) n) (scope-own own s) ∙ scope-not n (hasUndo own) h g
+pub scope-kind : (own : Own) (n : ℕ) → isScope own ≡ true → eqb 11 n ≡ false → eqb 12 n ≡ false → eqb 14 n ≡ false → eqb (kind own) n ≡ false
+scope-kind own n s h g i = ap (λ (x : Own). eqb (kind x) n) (scope-own own s) ∙ scope-not n (numbersOf own) (hasUndo own) h g i
 
 pub scope-arms : (own : Own) (within : Acts) → isScope own ≡ true → Arms (isPick own) within → Arms false within
 scope-arms own within s r = subst (λ (b : Bool). Arms b within) (ap isPick (scope-own own s)) r
 
 pub scope-lasts : (own : Own) → isScope own ≡ true → lasts (kind own) ≡ true
 unfolding lasts kind
-scope-lasts own s = ap (λ (x : Own). lasts (kind x)) (scope-own own s) ∙ go (hasUndo own)
+scope-lasts own s = ap (λ (x : Own). lasts (kind x)) (scope-own own s) ∙ go (numbersOf own) (hasUndo own)
   where
-    go : (v : Bool) → lasts (kind (scope ns v)) ≡ true
-    go true = refl
-    go false = refl
+    go : (ns : List ℕ) (v : Bool) → lasts (kind (scope ns v)) ≡ true
+    go [] true = refl
+    go [] false = refl
+    go (n ∷ ns) v = refl
 
-pub scope-three : (own : Own) (within : Acts) → isScope own ≡ true → hasUndo own ≡ true → needs own ≤ count within → 3 ≤ count within
+-- its undo part stands within it, and its fault parts
+pub scope-undo : (own : Own) (within : Acts) → isScope own ≡ true → hasUndo own ≡ true → needs own ≤ count within → undoPart (numbersOf own) < count within
 unfolding needs
-scope-three own within s u h = rw (s, u) at h
+scope-undo own within s u h = undo-there own (count within) u (rw s at h)
 
-pub two-of : (v : Bool) (n : ℕ) → cond v 3 2 ≤ n → 2 ≤ n
-two-of true n h = omega arith
-two-of false n h = h
-
-pub scope-two : (own : Own) (within : Acts) → isScope own ≡ true → needs own ≤ count within → 2 ≤ count within
+pub scope-general : (own : Own) (within : Acts) → isScope own ≡ true → needs own ≤ count within → generalPart (numbersOf own) < count within
 unfolding needs
-scope-two own within s h = two-of (hasUndo own) (count within) (rw s at h)
+scope-general own within s h = general-there own (count within) (rw s at h)
 
 module _ (x : ℕ → ℕ → ℕ) where
   strict-of : (own : Own) (within : Acts) (k : ℕ) (l : List Event) → StrictIn x within (k + 1) l → Strict x (act own within) k l
@@ -112,8 +111,8 @@ module _ (x : ℕ → ℕ → ℕ) where
       let n : times k l ≡ 0 = w .below k (omega arith) in
       record {
         holds = record {
-          rows = λ e. absurd (false≢true (sym (scope-kind own 8 s refl refl) ∙ e));
-          even = λ e. absurd (false≢true (sym (scope-kind own 9 s refl refl) ∙ e));
+          rows = λ e. absurd (false≢true (sym (scope-kind own 8 s refl refl refl) ∙ e));
+          even = λ e. absurd (false≢true (sym (scope-kind own 9 s refl refl refl) ∙ e));
           first = λ e. subst (λ (n : ℕ). First l n within (k + 1)) (sym n) (w .first);
           rest = w .holds;
         };
@@ -231,10 +230,11 @@ module _ (f : ℕ → ℕ) where
   part-list (knows-more {a = act own w} {l} {c} x y) r zero h ms = list-first (act own w) l c (begin (act own w) c ms .log) (begin-starts f x (r .0) ms)
   part-list (knows-more {a = act own w} {l} {c} x y) r (suc i) h ms = list-later (act own w) l c _ (part-list y (r .1) i (omega arith) ms)
 
-  part-wide : {l : Acts} {c : ℕ} → KnowsIn f l c → Arms false l → (i : ℕ) → suc i < count l → (ms : List ℕ) → Wide no l c (beginPart (suc i) l c ms .log)
+  part-wide : {l : Acts} {c : ℕ} → KnowsIn f l c → Arms false l → (i : ℕ) → 1 ≤ i → i < count l → (ms : List ℕ) → Wide no l c (beginPart i l c ms .log)
   unfolding beginPart part partAt count
-  part-wide knows-none r i h ms = absurd (omega arith)
-  part-wide (knows-more {a = act own w} {l} {c} x y) r i h ms = list-wide (act own w) l c _ (part-list y (r .1) i (omega arith) ms)
+  part-wide knows-none r i g h ms = absurd (omega arith)
+  part-wide (knows-more x y) r zero g h ms = absurd (omega arith)
+  part-wide (knows-more {a = act own w} {l} {c} x y) r (suc i) g h ms = list-wide (act own w) l c _ (part-list y (r .1) i (omega arith) ms)
 
   either-strict : {a : Act} {k : ℕ} (v : Bool) (x y z : Begun) → z ≡ elim v [ true ↦ x | false ↦ y ] → (v ≡ true → Strict no a k (x .log)) → Strict no a k (y .log) → Strict no a k (z .log)
   either-strict {a} {k} true x y z e g h = subst (λ (r : Begun). Strict no a k (r .log)) (sym e) (g refl)
@@ -257,7 +257,7 @@ module _ (f : ℕ → ℕ) where
         either-strict (isScope own) (cond (hasUndo own) (cond (eqb k e) (beginPart (undoPart (numbersOf own)) within (k + 1) ms) (nothingBegun ms)) (beginUndoFirst within (k + 1) e ms)) (beginUndoIn within (k + 1) e ms) _ refl
         (λ s. scope-of no own within k _ s
         (cond-wide (hasUndo own) (cond (eqb k e) (beginPart (undoPart (numbersOf own)) within (k + 1) ms) (nothingBegun ms)) (beginUndoFirst within (k + 1) e ms)
-        (λ u. cond-wide (eqb k e) (beginPart (undoPart (numbersOf own)) within (k + 1) ms) (nothingBegun ms) (λ v. part-wide y (scope-arms own within s r) 1 (let z = scope-three own within s u n in omega arith) ms) (λ v. wide-zero no within (k + 1) [] (λ j. refl)))
+        (λ u. cond-wide (eqb k e) (beginPart (undoPart (numbersOf own)) within (k + 1) ms) (nothingBegun ms) (λ v. part-wide y (scope-arms own within s r) (undoPart (numbersOf own)) (omega arith) (scope-undo own within s u n) ms) (λ v. wide-zero no within (k + 1) [] (λ j. refl)))
         (λ u. undo-first-wide y e ms)))
         (strict-of no own within k _ (undo-in-strict y e ms))
 
@@ -271,25 +271,21 @@ module _ (f : ℕ → ℕ) where
     undo-in-strict (knows-more {a} {l} {c} x y) e ms =
         either-in (ltb e (c + size a)) (beginUndo a c e ms) (beginUndoIn l (c + size a) e ms) _ refl (strict-first no a l c _ (undo-strict x e ms)) (strict-later no a l c _ (undo-in-strict y e ms))
 
-  -- A scope whose body and fault part are the first two of a list.
+  -- A scope whose body is the first of a list, and its fault parts are among those after it.
   pub record Sit (s : Scope) (r : Acts) (c : ℕ) : Type 0 where
     pub body : Knows f (s .body) (s .bodyAt)
-    pub fault : Knows f (s .fault) (s .faultAt)
-    pub named : Named f (s .fault)
     pub inBody : (x : ℕ → ℕ → ℕ) (l : List Event) → Strict x (s .body) (s .bodyAt) l → Wide x r c l
-    pub inFault : (l : List Event) → Starts (s .fault) (s .faultAt) l → Wide no r c l
+    pub inFault : (choice : ℕ) (ms : List ℕ) → Wide no r c (begin (chosenPart choice s) (chosenAt choice s) ms .log)
 
-  sit-scope : {within : Acts} {k : ℕ} → KnowsIn f within (k + 1) → Arms false within → 2 ≤ count within → Sit (scopeAt ns k within) within (k + 1)
-  unfolding part partAt count
-  sit-scope knows-none r n = absurd (omega arith)
-  sit-scope (knows-more x knows-none) r n = absurd (omega arith)
-  sit-scope {k = k} (knows-more {a = act own₀ w₀} x (knows-more {a = act own w} {l} y z)) r n =
+  sit-scope : {within : Acts} {k : ℕ} (ns : List ℕ) → KnowsIn f within (k + 1) → Arms false within → generalPart ns < count within → Sit (scopeAt ns k within) within (k + 1)
+  unfolding part partAt beginPart count
+  sit-scope ns knows-none r n = absurd (omega arith)
+  sit-scope {k = k} ns (knows-more {a = act own₀ w₀} {l} x y) r n =
       record {
         body = x;
-        fault = y;
-        named = r .1 .0;
-        inBody = λ v m h. strict-wide v (strict-first v (act own₀ w₀) (more (act own w) l) (k + 1) m h);
-        inFault = λ m h. list-wide (act own₀ w₀) (more (act own w) l) (k + 1) m (list-first (act own w) l (k + 1 + size (act own₀ w₀)) m h);
+        inBody = λ v m h. strict-wide v (strict-first v (act own₀ w₀) l (k + 1) m h);
+        inFault = chosen-each (λ a j. (ms : List ℕ) → Wide no (more (act own₀ w₀) l) (k + 1) (begin a j ms .log)) ns k (more (act own₀ w₀) l)
+            (λ i h g. part-wide (knows-more {a = act own₀ w₀} x y) r i h (omega arith));
       }
 
   -- an outcome of a scope's own
@@ -341,7 +337,8 @@ module _ (f : ℕ → ℕ) where
     unfolding handle
     handle-goes o =
         let o₁ = going (s .name) handling o in
-        goes-where (ends s) (begunIn o₁ (begin (s .fault) (s .faultAt) (o₁ .marks))) (goes-begun o₁ (begin (s .fault) (s .faultAt) (o₁ .marks)) (h .inFault _ (begin-starts f (h .fault) (h .named) (o₁ .marks)))) (λ q. ends-goes q)
+        let i = choiceOf (s .name) o in
+        goes-where (ends s) (begunIn o₁ (begin (chosenPart i s) (chosenAt i s) (o₁ .marks))) (goes-begun o₁ (begin (chosenPart i s) (chosenAt i s) (o₁ .marks)) (h .inFault i (o₁ .marks))) (λ q. ends-goes q)
 
     undoes-goes : (w : Bool) (o : Order) → Goes r c (undoes w s o)
     unfolding undoes
@@ -411,9 +408,9 @@ module _ (f : ℕ → ℕ) where
     pub stop-strict : {a : Act} {k : ℕ} → Knows f a k → (o : Order) → Strict no a k (stop a k o .log)
     stop-strict (knows {own} {within} {k} x n r y) o =
         halt-strict (isScope own) (elim (isOpen (markAt k o)) [ true ↦ withdraws k (scopeAt (numbersOf own) k within) (stopFirst within (k + 1) (marked k halted o)) | false ↦ untouched o ]) (stopAll within (k + 1) (marked k idle o)) _ refl
-        (λ s. halt-strict (isOpen (markAt k o)) (withdraws k (scopeAt ns k within) (stopFirst within (k + 1) (marked k halted o))) (untouched o) _ refl
+        (λ s. halt-strict (isOpen (markAt k o)) (withdraws k (scopeAt (numbersOf own) k within) (stopFirst within (k + 1) (marked k halted o))) (untouched o) _ refl
         (λ v. scope-of no own within k _ s (wide-event no (stopped k) (λ j. refl) (wide-append no _ _ (stop-first-wide y (marked k halted o))
-        (turns-goes (scopeAt (numbersOf own) k within) within (k + 1) (sit-scope y (scope-arms own within s r) (scope-two own within s n)) false _ .wide))))
+        (turns-goes (scopeAt (numbersOf own) k within) within (k + 1) (sit-scope (numbersOf own) y (scope-arms own within s r) (scope-general own within s n)) false _ .wide))))
         (λ v. strict-zero no (act own within) k [] (λ j. refl)))
         (λ s. strict-of no own within k _ (stop-all-strict y (marked k idle o)))
 
@@ -718,7 +715,7 @@ module _ (f : ℕ → ℕ) where
     combines-at pick within k o n r y h w = on-at pick within k inside (finishes k) o w (λ q j. refl) (λ q. refl)
     combines-at (scope ns u) within k o n r y h w =
         let s = scopeAt ns k within in
-        let i = sit-scope y r (two-of u (count within) n) in
+        let i = sit-scope ns y r (scope-general (scope ns u) within refl n) in
         let v : Steps (allow t) within (k + 1) o = record { wide = strict-wide (allow t) (w .strict); leaves = w .leaves } in
         let z : Steps (allow t) within (k + 1) (inScope ns u k t within o)
         = steps-either (ltb t (partAt 1 within (k + 1))) (elim (goesThrough u k o) [ true ↦ o | false ↦ fromBody s o ]) (elim (ltb t (partAt (undoPart ns) within (k + 1))) [ true ↦ fromFault s o | false ↦ fromUndo o ]) _ refl
@@ -765,10 +762,10 @@ module _ (f : ℕ → ℕ) where
       sit-root =
           record {
             body = kb;
-            fault = kf;
-            named = named;
             inBody = λ v m h. strict-wide v (strict-first v (p .body) (more (p .fault) none) 0 m h);
-            inFault = λ m h. list-wide (p .body) (more (p .fault) none) 0 m (subst (λ (c : ℕ). InList (more (p .fault) none) c m) (omega arith) (list-first (p .fault) none (size (p .body)) m h));
+            inFault = root-chosen (λ a j. (ms : List ℕ) → Wide no (whole p) 0 (begin a j ms .log)) p
+                (λ ms. list-wide (p .body) (more (p .fault) none) 0 _ (subst (λ (c : ℕ). InList (more (p .fault) none) c (begin (p .fault) (size (p .body)) ms .log)) (omega arith)
+                (list-first (p .fault) none (size (p .body)) _ (begin-starts f kf named ms))));
           }
 
       pub root-at : (actor : Actor) (o : Order) → Steps (allow t) (whole p) 0 (stepRoot actor p t o)

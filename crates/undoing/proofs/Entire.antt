@@ -334,11 +334,12 @@ rows-row x l i (more a r) c h g f = record { one = let e = g .one in omega arith
     weaker l i none c g = tt
     weaker l i (more a r) c g = record { one = let e = g .one in omega arith; other = weaker l c r (c + size a) (g .other) }
 
--- a scope's kind is one of two
-pub scope-not : (n : ℕ) (v : Bool) → eqb 11 n ≡ false → eqb 12 n ≡ false → eqb (kind (scope xs v)) n ≡ false
+-- a scope's kind is one of three
+pub scope-not : (n : ℕ) (xs : List ℕ) (v : Bool) → eqb 11 n ≡ false → eqb 12 n ≡ false → eqb 14 n ≡ false → eqb (kind (scope xs v)) n ≡ false
 unfolding kind
-scope-not n true x y = x
-scope-not n false x y = y
+scope-not n [] true x y z = x
+scope-not n [] false x y z = y
+scope-not n (i ∷ xs) v x y z = z
 
 module _ (f : ℕ → ℕ) where
   own-starts : (own : Own) (within : Acts) (k : ℕ) → isArm own ≡ false → (ms : List ℕ)
@@ -366,7 +367,7 @@ module _ (f : ℕ → ℕ) where
   own-starts (scope xs v) within k i ms t a b =
       subst (λ (l : List Event). Starts (act (scope xs v) within) k (began k ∷ l)) (sym (around-log k (beginFirst within (k + 1) (set ms k active))))
       (node-starts (scope xs v) within k _ (λ l. First l 1 within (k + 1)) (b refl (set ms k active))
-      (λ e h. absurd (false≢true (sym (scope-not 8 v refl refl) ∙ e))) (λ e h. absurd (false≢true (sym (scope-not 9 v refl refl) ∙ e))) (λ e h. h))
+      (λ e h. absurd (false≢true (sym (scope-not 8 xs v refl refl refl) ∙ e))) (λ e h. absurd (false≢true (sym (scope-not 9 xs v refl refl refl) ∙ e))) (λ e h. h))
   own-starts (arm p o vs) within k i ms t a b = absurd (false≢true (sym i))
 
   -- one that is no arm

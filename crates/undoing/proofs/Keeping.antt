@@ -8,7 +8,7 @@ use lib.ListN.{length, getD, set, length-set}
 use lib.Seq.{getD-set-same}
 use lib.Dec.{eqb, ltb}
 use borrow.Author.Tests.{eqb-true, eqb-false, eq-eqb, ne-eqb, ltb-true, ltb-false, lt-ltb, le-ltb}
-use Rattle.plan.specs.Tree.{Own, empty, send, receive, set as setting, raise, leave, choose, repeat, sequence, flow, pick, scope, arm, kind, isArm, isPick, isScope, Act, act, Acts, none, more, Plan, size, sizes, count, undoPart}
+use Rattle.plan.specs.Tree.{Own, empty, send, receive, set as setting, raise, leave, choose, repeat, sequence, flow, pick, scope, arm, kind, isArm, isPick, isScope, Act, act, Acts, none, more, Plan, size, sizes, count, undoPart, generalPart}
 use Rattle.order.specs.declared.Order.{Order}
 use Rattle.order.specs.declared.End.{End}
 use Rattle.order.specs.declared.End.the-variants.{None, Well, Handled, Failed, Left}
@@ -24,16 +24,17 @@ use Rattle.order.specs.Acting.{finishes, raises, leaves, orRaises, enters, agai
 use Rattle.machine.specs.Fit.{awaits}
 use Rattle.undoing.specs.Orderly.{isBeganOf}
 use Rattle.undoing.specs.Begun.{lasts, acts, ownsIn, ownsAmong, ownsAt, hasBegan, goesIn, isScopeKind}
-use Rattle.undoing.proofs.Causing.{caused, faults-is}
+use Rattle.undoing.proofs.Causing.{caused, chosenMark, faults-is}
 use Rattle.undoing.proofs.Parts.{both, decide, some-append}
+use Rattle.undoing.proofs.Choices.{root-chosen}
 use Rattle.undoing.proofs.Seats.{marking-length}
 use Rattle.undoing.proofs.Breaking.{cleared-kept}
 use Rattle.undoing.proofs.Orders.{least}
 use Rattle.undoing.proofs.Places.{first-of, second-of}
 use Rattle.undoing.proofs.Waiting.{Waits, waits-itself, waits-within, WaitsIn, waits-first, waits-later}
 use Rattle.undoing.proofs.Roots.{Awaited, in-body, in-fault}
-use Rattle.undoing.proofs.Truly.{or-case, began-in, began-neither, Up, Stay, stay-up, stay-then, stay-other, not-cleared, stay-idle, stay-cleared, shifts, Arms, needs, Knows, knows, KnowsIn, knows-none, knows-more, Began}
-use Rattle.undoing.proofs.Lasting.{isRaising, part-began, after-began, owned-other, stay-marking, Goes, goes-runs, goes-where, goes-begun, goes-marked, goes-either, finishes-goes, Within, turns-goes, looks-goes, over-goes, undone-goes, part-goes, scope-within, stop-halts}
+use Rattle.undoing.proofs.Truly.{scope-kind, or-case, began-in, began-neither, Up, Stay, stay-up, stay-then, stay-other, not-cleared, stay-idle, stay-cleared, shifts, Arms, needs, Knows, knows, KnowsIn, knows-none, knows-more, Began}
+use Rattle.undoing.proofs.Lasting.{isRaising, part-began, after-began, owned-other, stay-marking, Goes, goes-runs, goes-where, goes-begun, goes-marked, goes-either, finishes-goes, Within, turns-goes, looks-goes, over-goes, undone-goes, part-goes, scope-needs, scope-within, stop-halts}
 
 -- a repeat and no other of these that are no scopes
 repeat-shifts : (n : ℕ) → isScopeKind n ≡ false → shifts n ≡ true → eqb n 7 ≡ true
@@ -208,8 +209,8 @@ module _ (f : ℕ → ℕ) where
     faults-falls : (number : ℕ) (o : Order) → e ≤ length (o .marks) → Falls b o (faults number s o)
     unfolding some isBeganOf
     faults-falls number o m =
-        let o₁ = caused (s .name) number (marking (s .name) faulty o) in
-        let n = marking-length (s .name) faulty o in
+        let o₁ = caused (s .name) number (marking (s .name) (chosenMark number s) o) in
+        let n = marking-length (s .name) (chosenMark number s) o in
         let w = stop-halts f (h .body) o₁ (omega (arith, h .bodyTo)) in
         let r = stop (s .body) (s .bodyAt) o₁ in
         let v = turns-goes f s b e h true (r .order) (omega (arith, w .long)) in
@@ -218,7 +219,7 @@ module _ (f : ℕ → ℕ) where
           range = λ j z. began-in j (r .log) (turns true s (r .order) .log) z (λ q. let g = w .range j q in omega (arith, h .bodyFrom)) (λ q. v .range j q .0);
           stays = λ j z y.
               let q = began-neither j (r .log) (turns true s (r .order) .log) y in
-              stay-then (stay-marking f (s .name) b faulty o j (h .name) z)
+              stay-then (stay-marking f (s .name) b (chosenMark number s) o j (h .name) z)
               (stay-then (w .stays j z (q .0)) (v .stays j (λ d. absurd (owned-other f (s .name) b j (h .name) z d)) (q .1)));
           long = v .long ∙ (w .long ∙ n);
           quits = λ q. absurd (false≢true (sym (v .calm) ∙ q));
@@ -452,13 +453,13 @@ module _ (f : ℕ → ℕ) where
         go (undoRaising x) d = steps-as r (undoRaising x) (λ q. ap isRaising d) w
 
     -- what it makes of a step within it
-    scope-steps : (v : Bool) (within : Acts) (k t : ℕ) (o : Order) (r : Outcome) → isScopeKind (f k) ≡ true → 2 ≤ count within → KnowsIn f within (k + 1)
+    scope-steps : (ns : List ℕ) (v : Bool) (within : Acts) (k t : ℕ) (o : Order) (r : Outcome) → isScopeKind (f k) ≡ true → generalPart ns < count within → KnowsIn f within (k + 1)
         → k + 1 + sizes within ≤ length (o .marks) → Steps g (k + 1) o r
         → Steps g (k + 1) o (inScope ns v k t within r)
     unfolding inScope
-    scope-steps v within k t o r q n y m w =
+    scope-steps ns v within k t o r q n y m w =
         let s = scopeAt ns k within in
-        let h = scope-within f q n y in
+        let h = scope-within f ns q n y in
         steps-either (ltb t (partAt 1 within (k + 1))) (elim (goesThrough v k r) [ true ↦ r | false ↦ fromBody s r ]) (elim (ltb t (partAt (undoPart ns) within (k + 1))) [ true ↦ fromFault s r | false ↦ fromUndo r ]) _ refl
         (steps-either (goesThrough v k r) r (fromBody s r) _ refl w (body-steps s (k + 1) (k + 1 + sizes within) h o r m w))
         (steps-either (ltb t (partAt (undoPart ns) within (k + 1))) (fromFault s r) (fromUndo r) _ refl (fault-steps s (k + 1) (k + 1 + sizes within) h o r w) (undo-steps o r w))
@@ -478,8 +479,8 @@ module _ (f : ℕ → ℕ) where
     combines-steps sequence within k t o r e n y m q w = goes-on-steps {e = k + 1 + sizes within} k active o _ r refl (λ s. q) w (λ o₁ d. follows-goes k t o₁ y (omega arith))
     combines-steps flow within k t o r e n y m q w = goes-on-steps {e = 0} k active o (joins k within) r refl (λ s. q) w (λ o₁ d. joins-goes k 0 within o₁)
     combines-steps pick within k t o r e n y m q w = goes-on-steps {e = 0} k inside o (finishes k) r refl (λ s. q) w (λ o₁ d. finishes-goes f k 0 o₁)
-    combines-steps (scope ns true) within k t o r e n y m q w = scope-steps true within k t o r (ap isScopeKind e) (omega arith) y m w
-    combines-steps (scope ns false) within k t o r e n y m q w = scope-steps false within k t o r (ap isScopeKind e) n y m w
+    combines-steps (scope ns v) within k t o r e n y m q w =
+        scope-steps ns v within k t o r (ap isScopeKind e ∙ scope-kind (scope ns v)) (scope-needs f (scope ns v) (count within) refl n) y m w
     combines-steps (arm a b vs) within k t o r e n y m q w = w
 
     -- nothing happens
@@ -701,7 +702,16 @@ module _ (f : ℕ → ℕ) where
         inFault = fromFault (rootOf p) (stepIn actor (p .fault) (size (p .body)) (size (p .body)) t o)
 
         w : Within f (rootOf p) 0 (size (p .body) + size (p .fault))
-        w = record { name = refl; body = kb; fault = kf; bodyFrom = omega arith; bodyTo = omega arith; faultFrom = omega arith; faultTo = omega arith }
+        w =
+            record {
+              name = refl;
+              body = kb;
+              fault = root-chosen (λ a j. Knows f a j) p kf;
+              bodyFrom = omega arith;
+              bodyTo = omega arith;
+              faultFrom = root-chosen (λ a j. 0 ≤ j) p (omega arith);
+              faultTo = root-chosen (λ a j. j + size a ≤ size (p .body) + size (p .fault)) p (omega arith);
+            }
 
     -- Where an order lives on after its step.
     pub order-steps : (actor : Actor) (t : ℕ) (o : Order) → size (p .body) + size (p .fault) ≤ length (o .marks) → isLive (acted actor p t o .order) ≡ true

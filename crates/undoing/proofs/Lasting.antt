@@ -6,19 +6,20 @@ use mathlib.Core.Bool.{Bool, true, false, _&&_, false≢true, or-true, cond}
 use mathlib.Core.List.{List, [], _∷_}
 use lib.ListN.{length, length-set}
 use lib.Dec.{eqb, ltb}
-use Rattle.plan.specs.Tree.{Own, isScope, Act, Acts, none, more, size, sizes, count, hasUndo, numbersOf, undoPart}
+use Rattle.plan.specs.Tree.{Own, isScope, Act, Acts, none, more, size, sizes, count, hasUndo, numbersOf, undoPart, generalPart}
 use Rattle.order.specs.declared.Order.{Order}
 use Rattle.order.specs.Lists.{some, withoutLast}
-use Rattle.order.specs.State.{Name, root, inner, idle, active, done, faulty, undoing, handling, halted, withdrawing, closings, remembering, markAt, marked, markOf, marking, stateOf, going}
+use Rattle.order.specs.State.{Name, root, inner, idle, active, done, faulty, undoing, handling, halted, withdrawing, closings, remembering, markAt, marked, markOf, marking, stateOf, markWith, choiceOf}
 use Rattle.order.specs.Begin.{Begun, begin, beginInTurn, beginAfter, part, partAt, beginPart, nothingBegun}
 use Rattle.order.specs.declared.Way.{Way as Result}
 use Rattle.order.specs.declared.Way.the-variants.{Running as running, Over as over, Raising as raising, Leaving as leaving, Undone as undone, UndoRaising as undoRaising}
-use Rattle.order.specs.Scope.{Outcome, runs, begunIn, whereOver, Scope, scopeAt, isOpen, innerRuns, beginUndo, beginUndoIn, startUndo, undo, ends, handle, undoes, turns, rememberedFor, untouched, withdraws, stop, stopAll, stopFirst, alsoStopped, looksAgain, bodyOver, undoOver, partOver, isFor, beginUndoFirst}
+use Rattle.order.specs.Scope.{Outcome, runs, begunIn, whereOver, Scope, scopeAt, isOpen, innerRuns, beginUndo, beginUndoIn, startUndo, undo, ends, handle, undoes, turns, rememberedFor, untouched, withdraws, stop, stopAll, stopFirst, alsoStopped, looksAgain, bodyOver, undoOver, partOver, isFor, beginUndoFirst, chosenPart, chosenAt}
 use Rattle.order.specs.Scope as definitions
 use Rattle.order.specs.Acting.{finishes}
 use Rattle.undoing.specs.Orderly.{isBeganOf}
 use Rattle.undoing.specs.Begun.{lasts, hasBegan, isScopeKind}
 use Rattle.undoing.proofs.Parts.{both, decide}
+use Rattle.undoing.proofs.Choices.{chosen-each, general-there, undo-there}
 use Rattle.undoing.proofs.Seats.{marking-length}
 use Rattle.undoing.proofs.Truly.{began-in, began-neither, Up, up-other, Stay, stay-still, stay-then, stay-other, stay-idle, shifts, needs, Knows, knows, KnowsIn, knows-none, knows-more, Began, began-wider, begin-began, turn-list, nothing-began, scope-kind}
 
@@ -67,13 +68,13 @@ module _ (f : ℕ → ℕ) where
   either-began {k} {n} {ms} true x y z e b d = subst (λ (r : Begun). Began f k n ms r) (sym e) (b refl)
   either-began {k} {n} {ms} false x y z e b d = subst (λ (r : Begun). Began f k n ms r) (sym e) d
 
-  pub scope-needs : (own : Own) (n : ℕ) → isScope own ≡ true → needs own ≤ n → 2 ≤ n
+  pub scope-needs : (own : Own) (n : ℕ) → isScope own ≡ true → needs own ≤ n → generalPart (numbersOf own) < n
   unfolding needs
-  scope-needs own n s h = decide (hasUndo own) (λ u. let z : 3 ≤ n = rw (s, u) at h in omega arith) (λ u. rw (s, u) at h)
+  scope-needs own n s h = general-there own n (rw s at h)
 
-  undo-needs : (own : Own) (n : ℕ) → isScope own ≡ true → hasUndo own ≡ true → needs own ≤ n → 3 ≤ n
+  undo-needs : (own : Own) (n : ℕ) → isScope own ≡ true → hasUndo own ≡ true → needs own ≤ n → undoPart (numbersOf own) < n
   unfolding needs
-  undo-needs own n s u h = rw (s, u) at h
+  undo-needs own n s u h = undo-there own n u (rw s at h)
 
   cond-began : {k n : ℕ} {ms : List ℕ} (v : Bool) (x y : Begun) → (v ≡ true → Began f k n ms x) → Began f k n ms y → Began f k n ms (cond v x y)
   cond-began true x y b d = b refl
@@ -87,8 +88,8 @@ module _ (f : ℕ → ℕ) where
     undo-began (knows {own} {within} {k} x n r y) e ms h =
         either-began (isScope own) (cond (hasUndo own) (cond (eqb k e) (beginPart (undoPart (numbersOf own)) within (k + 1) ms) (nothingBegun ms)) (beginUndoFirst within (k + 1) e ms)) (beginUndoIn within (k + 1) e ms) _ refl
         (λ s. cond-began (hasUndo own) (cond (eqb k e) (beginPart (undoPart (numbersOf own)) within (k + 1) ms) (nothingBegun ms)) (beginUndoFirst within (k + 1) e ms)
-        (λ u. cond-began (eqb k e) (beginPart (undoPart ns) within (k + 1) ms) (nothingBegun ms)
-        (λ v. began-wider f (part-began y 2 (let z = undo-needs own (count within) s u n in omega arith) ms (omega arith)) (omega arith) (omega arith)) (nothing-began f k (1 + sizes within) ms))
+        (λ u. cond-began (eqb k e) (beginPart (undoPart (numbersOf own)) within (k + 1) ms) (nothingBegun ms)
+        (λ v. began-wider f (part-began y (undoPart (numbersOf own)) (undo-needs own (count within) s u n) ms (omega arith)) (omega arith) (omega arith)) (nothing-began f k (1 + sizes within) ms))
         (began-wider f (undo-first-began y e ms (omega arith)) (omega arith) (omega arith)))
         (began-wider f (undo-in-began y e ms (omega arith)) (omega arith) (omega arith))
 
@@ -193,15 +194,22 @@ module _ (f : ℕ → ℕ) where
   finishes-goes k e o =
       record { grows = λ j x h u. up-other (o .marks) k idle j (λ d. h (ap (λ (i : ℕ). i + 1) d)) u; truly = λ j x h. absurd (false≢true h); range = λ j h. absurd (false≢true h); stays = λ j y n. stay-idle (o .marks) k j; long = length-set (o .marks) k idle; calm = refl }
 
+  -- each fault part of a scope
+  abbrev pub KnowsEach : Scope → Type 0
+  KnowsEach s = (choice : ℕ) → Knows f (chosenPart choice s) (chosenAt choice s)
+
+  pub each-knows : {within : Acts} (ns : List ℕ) (k : ℕ) → generalPart ns < count within → KnowsIn f within (k + 1) → KnowsEach (scopeAt ns k within)
+  each-knows {within} ns k n y = chosen-each (λ a j. Knows f a j) ns k within (λ i x z. part-knows y i (omega arith))
+
   -- A scope whose parts stand from b to e, and its name before b.
   pub record Within (s : Scope) (b e : ℕ) : Type 0 where
     pub name : Owned (s .name) b
     pub body : Knows f (s .body) (s .bodyAt)
-    pub fault : Knows f (s .fault) (s .faultAt)
+    pub fault : KnowsEach s
     pub bodyFrom : b ≤ s .bodyAt
     pub bodyTo : s .bodyAt + size (s .body) ≤ e
-    pub faultFrom : b ≤ s .faultAt
-    pub faultTo : s .faultAt + size (s .fault) ≤ e
+    pub faultFrom : (c : ℕ) → b ≤ chosenAt c s
+    pub faultTo : (c : ℕ) → chosenAt c s + size (chosenPart c s) ≤ e
 
   module _ (s : Scope) (b e : ℕ) (h : Within s b e) where
     ends-goes : (o : Order) → Goes b e o (ends s o)
@@ -221,18 +229,21 @@ module _ (f : ℕ → ℕ) where
     handle-goes : (o : Order) → e ≤ length (o .marks) → Goes b e o (handle s o)
     unfolding handle
     handle-goes o m =
-        let o₁ = going (s .name) handling o in
-        goes-going (s .name) handling o (handle s o) (h .name)
-        (goes-where (ends s) (begunIn o₁ (begin (s .fault) (s .faultAt) (o₁ .marks)))
-        (goes-begun o₁ (begin (s .fault) (s .faultAt) (o₁ .marks)) (begin-began f (h .fault) (o₁ .marks) (omega (arith, h .faultTo, marking-length (s .name) handling o))) (h .faultFrom) (h .faultTo))
+        let m₁ = markWith (choiceOf (s .name) o) handling in
+        let o₁ = marking (s .name) m₁ o in
+        let c = choiceOf (s .name) o in
+        goes-marking (s .name) m₁ o (handle s o) (h .name)
+        (goes-where (ends s) (begunIn o₁ (begin (chosenPart c s) (chosenAt c s) (o₁ .marks)))
+        (goes-begun o₁ (begin (chosenPart c s) (chosenAt c s) (o₁ .marks)) (begin-began f (h .fault c) (o₁ .marks) (omega (arith, h .faultTo c, marking-length (s .name) m₁ o))) (h .faultFrom c) (h .faultTo c))
         (λ o₂ d. ends-goes o₂))
 
     undoes-goes : (w : Bool) (o : Order) → e ≤ length (o .marks) → Goes b e o (undoes w s o)
     unfolding undoes
     undoes-goes true o m =
-        let o₁ = going (s .name) undoing o in
-        let n = marking-length (s .name) undoing o in
-        goes-going (s .name) undoing o (undoes true s o) (h .name)
+        let m₁ = markWith (choiceOf (s .name) o) undoing in
+        let o₁ = marking (s .name) m₁ o in
+        let n = marking-length (s .name) m₁ o in
+        goes-marking (s .name) m₁ o (undoes true s o) (h .name)
         (goes-where (handle s) (undo (rememberedFor s o₁) s o₁) (undo-goes (rememberedFor s o₁) o₁ (omega arith)) (λ o₂ d. handle-goes o₂ (omega arith)))
     undoes-goes false o m =
         let o₁ = marking (s .name) withdrawing o in
@@ -267,19 +278,18 @@ module _ (f : ℕ → ℕ) where
     part-goes o = goes-either (eqb (stateOf (s .name) o) handling) (ends s o) (runs o) (partOver s o) refl (ends-goes o) (goes-runs b e o)
 
   -- A scope that stands at k has its parts beyond it.
-  pub scope-within : {within : Acts} {k : ℕ} → isScopeKind (f k) ≡ true → 2 ≤ count within → KnowsIn f within (k + 1)
+  pub scope-within : {within : Acts} {k : ℕ} (ns : List ℕ) → isScopeKind (f k) ≡ true → generalPart ns < count within → KnowsIn f within (k + 1)
       → Within (scopeAt ns k within) (k + 1) (k + 1 + sizes within)
-  scope-within {within} {k} q n y =
+  scope-within {within} {k} ns q n y =
       let b = part-within within (k + 1) 0 (omega arith) in
-      let g = part-within within (k + 1) 1 (omega arith) in
       record {
         name = (refl, q);
         body = part-knows y 0 (omega arith);
-        fault = part-knows y 1 (omega arith);
+        fault = each-knows ns k n y;
         bodyFrom = b .0;
         bodyTo = b .1;
-        faultFrom = g .0;
-        faultTo = g .1;
+        faultFrom = chosen-each (λ a j. k + 1 ≤ j) ns k within (λ i x z. part-within within (k + 1) i (omega arith) .0);
+        faultTo = chosen-each (λ a j. j + size a ≤ k + 1 + sizes within) ns k within (λ i x z. part-within within (k + 1) i (omega arith) .1);
       }
 
   -- Stopping: what is logged stands in its stretch and is marked; no mark before it that lasts is cleared; and what is no scope is set only where it was.
@@ -347,10 +357,10 @@ module _ (f : ℕ → ℕ) where
     pub stop-halts : {a : Act} {k : ℕ} → Knows f a k → (o : Order) → k + size a ≤ length (o .marks) → Halts k (size a) o (stop a k o)
     stop-halts (knows {own} {within} {k} x n r y) o h =
         halts-either (isScope own)
-        (elim (isOpen (markAt k o)) [ true ↦ withdraws k (scopeAt ns k within) (stopFirst within (k + 1) (marked k halted o)) | false ↦ untouched o ])
+        (elim (isOpen (markAt k o)) [ true ↦ withdraws k (scopeAt (numbersOf own) k within) (stopFirst within (k + 1) (marked k halted o)) | false ↦ untouched o ])
         (stopAll within (k + 1) (marked k idle o)) _ refl
-        (λ s. halts-either (isOpen (markAt k o)) (withdraws k (scopeAt ns k within) (stopFirst within (k + 1) (marked k halted o))) (untouched o) _ refl
-        (λ v. withdraws-halts (scopeAt (numbersOf own) k within) o (stopFirst within (k + 1) (marked k halted o)) (ap isScopeKind x ∙ (scope-kind own ∙ s)) (scope-within (ap isScopeKind x ∙ (scope-kind own ∙ s)) (scope-needs own (count within) s n) y) (omega arith)
+        (λ s. halts-either (isOpen (markAt k o)) (withdraws k (scopeAt (numbersOf own) k within) (stopFirst within (k + 1) (marked k halted o))) (untouched o) _ refl
+        (λ v. withdraws-halts (scopeAt (numbersOf own) k within) o (stopFirst within (k + 1) (marked k halted o)) (ap isScopeKind x ∙ (scope-kind own ∙ s)) (scope-within (numbersOf own) (ap isScopeKind x ∙ (scope-kind own ∙ s)) (scope-needs own (count within) s n) y) (omega arith)
         (stop-first-halts y (marked k halted o) (omega (arith, length-set (o .marks) k halted))))
         (λ v. untouched-halts k _ o))
         (λ s. halts-marked {k = k} {c = k + 1} {m = sizes within} o (stopAll within (k + 1) (marked k idle o)) (omega arith) (omega arith) (stop-all-halts y (marked k idle o) (omega (arith, length-set (o .marks) k idle))))

@@ -7,28 +7,29 @@ use mathlib.Core.List.{List, [], _∷_, _++_, reverse, reverse-cons}
 use lib.ListN.{set}
 use lib.Dec.{eqb, ltb, leb}
 use borrow.Author.Tests.{eqb-true, eqb-false, eq-eqb, ltb-true, ltb-false, lt-ltb, le-ltb, leb-true}
-use Rattle.plan.specs.Tree.{Own, empty, send, receive, set as setting, raise, leave, choose, repeat, sequence, flow, pick, scope, arm, kind, Act, act, Acts, none, more, Plan, size, sizes, count, isScope, hasUndo, isPick, numbersOf, undoPart}
+use Rattle.plan.specs.Tree.{Own, empty, send, receive, set as setting, raise, leave, choose, repeat, sequence, flow, pick, scope, arm, kind, Act, act, Acts, none, more, Plan, size, sizes, count, isScope, hasUndo, isPick, numbersOf, undoPart, generalPart}
 use Rattle.order.specs.declared.Order.{Order}
 use Rattle.order.specs.Lists.{every, some, only, withoutLast}
-use Rattle.order.specs.State.{idle, active, inside, faulty, undoing, handling, halted, withdrawing, done, withMarks, closings, remembering, markAt, marked, markOf, marking, binding, causing, stateOf, going, markWith}
+use Rattle.order.specs.State.{idle, active, inside, faulty, undoing, handling, halted, withdrawing, done, withMarks, closings, remembering, markAt, marked, markOf, marking, binding, causing, stateOf, going, markWith, choiceOf}
 use Rattle.order.specs.Event.{Event, began, stopped, faulted, ended}
 use Rattle.order.specs.Expression.{conflictingReceive, Value, fault, value, evaluate, isTrue}
 use Rattle.order.specs.Begin.{Begun, nothingBegun, throughout, around, itsBeginning, inTurn, begin, beginInTurn, beginAll, beginFirst, beginAfter, part, partAt, beginPart, cleared, quiet}
 use Rattle.order.specs.declared.Way.{Way as Result}
 use Rattle.order.specs.declared.Way.the-variants.{Running as running, Over as over, Raising as raising, Leaving as leaving, Undone as undone, UndoRaising as undoRaising}
-use Rattle.order.specs.Scope.{Outcome, rootOf, runs, begunIn, whereOver, Scope, scopeAt, isOpen, innerRuns, closing, beginUndo, beginUndoFirst, beginUndoIn, startUndo, undo, ends, handle, undoes, turns, rememberedFor, untouched, withdraws, stop, stopAll, stopFirst, faults, breaks, looksAgain, bodyOver, bodyRaised, undoOver, undoRaised, fromBody, partOver, partRaised, fromFault, fromUndo, goesThrough, choiceFor}
+use Rattle.order.specs.Scope.{Outcome, rootOf, runs, begunIn, whereOver, Scope, scopeAt, isOpen, innerRuns, closing, beginUndo, beginUndoFirst, beginUndoIn, startUndo, undo, ends, handle, undoes, turns, rememberedFor, untouched, withdraws, stop, stopAll, stopFirst, faults, breaks, looksAgain, bodyOver, bodyRaised, undoOver, undoRaised, fromBody, partOver, partRaised, fromFault, fromUndo, goesThrough, choiceFor, chosenPart, chosenAt}
 use Rattle.order.specs.Scope as definitions
 use Rattle.order.specs.Acting.{finishes, raises, orRaises, enters, again, repeats, allBound, itself, arms, goesOn, joins, inScope, combines, stepIn, stepAmong, stepRoot, Actor, replaces, performs}
 use Rattle.undoing.specs.Orderly.{isBeganOf}
 use Rattle.undoing.specs.Begun.{hasBegan}
 use Rattle.undoing.specs.Entirely.{times, isStopOf}
 use Rattle.undoing.proofs.Parts.{both, decide, every-append, some-append}
+use Rattle.undoing.proofs.Choices.{chosen-each, root-chosen}
 use Rattle.undoing.proofs.Orders.{least}
 use Rattle.undoing.proofs.Places.{first-of, second-of}
 use Rattle.undoing.proofs.Stepping.{at-first}
 use Rattle.undoing.proofs.Truly.{Arms, needs, Knows, knows, KnowsIn, knows-none, knows-more}
 use Rattle.undoing.proofs.Entire.{Two, times-append, times-event, Zero, zero-part, Starts, Ranks, Named, begin-starts, turn-starts, all-starts}
-use Rattle.undoing.proofs.Entering.{scope-arms, scope-three, scope-two, two-of, Strict, StrictIn, InList, part-list, undo-strict, undo-in-strict, stop-strict, stop-all-strict, StepsAt, StepsIn, step-at, among-at}
+use Rattle.undoing.proofs.Entering.{scope-arms, scope-undo, scope-general, Strict, StrictIn, InList, part-list, undo-strict, undo-in-strict, stop-strict, stop-all-strict, StepsAt, StepsIn, step-at, among-at}
 
 abbrev log-of : Outcome → List Event
 log-of o = o .log
@@ -69,7 +70,7 @@ module _ (t : ℕ) where
 
     local-zero : (l : List Event) (a : Act) (k : ℕ) → Zero l k (size a) → Local l a k
     local-zero l (act own within) k z =
-        record { one = λ s. near-none (λ j x y w. z .at j (omega arith) (omega (arith, part-to 2 within (k + 1)))); other = in-zero l within (k + 1) (zero-part z (omega arith) (omega arith)) }
+        record { one = λ s. near-none (λ j x y w. z .at j (omega arith) (omega (arith, part-to (undoPart (numbersOf own)) within (k + 1)))); other = in-zero l within (k + 1) (zero-part z (omega arith) (omega arith)) }
 
     in-zero : (l : List Event) (r : Acts) (c : ℕ) → Zero l c (sizes r) → LocalIn l r c
     in-zero l none c z = tt
@@ -211,7 +212,7 @@ module _ (t : ℕ) where
           (λ s. subst (λ (b : Begun). Local (b .log) (act own within) k)
           (sym (first-of (isScope own) (cond (hasUndo own) (cond (eqb k e) (beginPart (undoPart (numbersOf own)) within (k + 1) ms) (nothingBegun ms)) (beginUndoFirst within (k + 1) e ms)) (beginUndoIn within (k + 1) e ms) (beginUndo (act own within) k e ms) refl s))
           (cond-local (act own within) k (hasUndo own) (cond (eqb k e) (beginPart (undoPart (numbersOf own)) within (k + 1) ms) (nothingBegun ms)) (beginUndoFirst within (k + 1) e ms)
-          (λ u. let z = part-local y (scope-arms own within s r) 2 (let v = scope-three own within s u n in omega arith) ms in
+          (λ u. let z = part-local y (scope-arms own within s r) (undoPart (numbersOf own)) (scope-undo own within s u n) ms in
           cond-local (act own within) k (eqb k e) (beginPart (undoPart (numbersOf own)) within (k + 1) ms) (nothingBegun ms) (λ v. record { one = λ c. near-none (λ j a b w. z .1 j b); other = z .0 })
           (λ v. local-zero [] (act own within) k (record { at = λ j a b. refl })))
           (λ u. record { one = λ c. near-none (λ j a b w. undo-first-times y e ms j (rw u at w)); other = undo-first-local y e ms })))
@@ -234,25 +235,21 @@ module _ (t : ℕ) where
           (sym (second-of (ltb e (c + size a)) (beginUndo a c e ms) (beginUndoIn l (c + size a) e ms) (beginUndoIn (more a l) c e ms) refl b))
           (tail-in a l c _ (undo-in-local y e ms) (undo-in-strict f y e ms .below)))
 
-    -- A scope whose body and fault part are the first two of a list.
+    -- A scope whose body is the first of a list, and its fault parts are among those after it.
     record Sits (s : Scope) (r : Acts) (c : ℕ) : Type 0 where
       body : Knows f (s .body) (s .bodyAt)
-      fault : Knows f (s .fault) (s .faultAt)
-      named : Named f (s .fault)
       inBody : (l : List Event) → Local l (s .body) (s .bodyAt) → ((j : ℕ) → s .bodyAt + size (s .body) ≤ j → times j l ≡ 0) → LocalIn l r c
-      inFault : (l : List Event) → Local l (s .fault) (s .faultAt) → Starts (s .fault) (s .faultAt) l → LocalIn l r c
+      inFault : (choice : ℕ) (ms : List ℕ) → LocalIn (begin (chosenPart choice s) (chosenAt choice s) ms .log) r c
 
-    sits-scope : {within : Acts} {k : ℕ} → KnowsIn f within (k + 1) → Arms false within → 2 ≤ count within → Sits (scopeAt xs k within) within (k + 1)
-    unfolding part partAt count
-    sits-scope knows-none r n = absurd (omega arith)
-    sits-scope (knows-more x knows-none) r n = absurd (omega arith)
-    sits-scope {k = k} (knows-more {a = act own₀ w₀} x (knows-more {a = act own w} {l} y z)) r n =
+    sits-scope : {within : Acts} {k : ℕ} (xs : List ℕ) → KnowsIn f within (k + 1) → Arms false within → generalPart xs < count within → Sits (scopeAt xs k within) within (k + 1)
+    unfolding part partAt beginPart count
+    sits-scope xs knows-none r n = absurd (omega arith)
+    sits-scope {k = k} xs (knows-more {a} {l} x y) r n =
         record {
           body = x;
-          fault = y;
-          named = r .1 .0;
-          inBody = λ m h e. head-in (act own₀ w₀) (more (act own w) l) (k + 1) m h e;
-          inFault = λ m h e. tail-in (act own₀ w₀) (more (act own w) l) (k + 1) m (head-in (act own w) l (k + 1 + size (act own₀ w₀)) m h (e .above)) (e .below);
+          inBody = λ m h e. head-in a l (k + 1) m h e;
+          inFault = chosen-each (λ b j. (ms : List ℕ) → LocalIn (begin b j ms .log) (more a l) (k + 1)) xs k (more a l)
+              (λ i h g ms. part-local (knows-more {a = a} x y) r i (omega arith) ms .0);
         }
 
     module _ (r : Acts) (c : ℕ) where
@@ -290,7 +287,8 @@ module _ (t : ℕ) where
       unfolding handle
       handle-local o =
           let o₁ = going (s .name) handling o in
-          where-local r c (ends s) (begunIn o₁ (begin (s .fault) (s .faultAt) (o₁ .marks))) (h .inFault _ (begin-local (h .fault) (o₁ .marks)) (begin-starts f (h .fault) (h .named) (o₁ .marks))) (λ q. ends-local q)
+          let i = choiceOf (s .name) o in
+          where-local r c (ends s) (begunIn o₁ (begin (chosenPart i s) (chosenAt i s) (o₁ .marks))) (h .inFault i (o₁ .marks)) (λ q. ends-local q)
 
       undoes-local : (w : Bool) (o : Order) → LocalIn (undoes w s o .log) r c
       unfolding undoes
@@ -348,7 +346,7 @@ module _ (t : ℕ) where
           (λ v. record {
             one = λ e. near-stopped (rw (eq-eqb k k refl));
             other = in-event (stopped k) _ within (k + 1) (record { at = λ j p q. refl }) (in-append _ _ within (k + 1) (stop-first-local y (marked k halted o))
-                (turns-local (scopeAt (numbersOf own) k within) within (k + 1) (sits-scope y (scope-arms own within s r) (scope-two own within s n)) false _));
+                (turns-local (scopeAt (numbersOf own) k within) within (k + 1) (sits-scope (numbersOf own) y (scope-arms own within s r) (scope-general own within s n)) false _));
           })
           (λ v. local-zero [] (act own within) k (record { at = λ j p q. refl })))
           (λ s. plain-local own within k _ s (stop-all-local y (marked k idle o)))
@@ -468,7 +466,7 @@ module _ (t : ℕ) where
     combines-local pick within k q n r y w = on-local within (k + 1) k inside (finishes k) q w (λ o. in-none [] within (k + 1) (λ j. refl))
     combines-local (scope xs u) within k q n r y w =
         let s = scopeAt xs k within in
-        let i = sits-scope y r (two-of u (count within) n) in
+        let i = sits-scope xs y r (scope-general (scope xs u) within refl n) in
         either-local within (k + 1) (ltb t (partAt 1 within (k + 1))) (elim (goesThrough u k q) [ true ↦ q | false ↦ fromBody s q ]) (elim (ltb t (partAt (undoPart xs) within (k + 1))) [ true ↦ fromFault s q | false ↦ fromUndo q ]) _ refl
         (either-local within (k + 1) (goesThrough u k q) q (fromBody s q) _ refl w (body-local s within (k + 1) i q w))
         (either-local within (k + 1) (ltb t (partAt (undoPart xs) within (k + 1))) (fromFault s q) (fromUndo q) _ refl (fault-local s within (k + 1) i q w) w)
@@ -518,10 +516,9 @@ module _ (t : ℕ) where
       sits-root =
           record {
             body = kb;
-            fault = kf;
-            named = named;
             inBody = λ l h e. head-in (p .body) (more (p .fault) none) 0 l h e;
-            inFault = λ l h e. fault-in l h (e .below) (e .above);
+            inFault = root-chosen (λ a j. (ms : List ℕ) → LocalIn (begin a j ms .log) all 0) p
+                (λ ms. let e = begin-starts f kf named ms in fault-in _ (begin-local kf ms) (e .below) (e .above));
           }
 
       pub root-local : (actor : Actor) (o : Order) → t < size (p .body) + size (p .fault) → LocalIn (stepRoot actor p t o .log) all 0

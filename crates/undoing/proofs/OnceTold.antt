@@ -21,13 +21,13 @@ use Rattle.order.specs.Acting.{finishes, raises, orRaises, enters, again, repea
 use Rattle.undoing.specs.Orderly.{isBeganOf}
 use Rattle.undoing.specs.Begun.{lasts, hasBegan}
 use Rattle.undoing.specs.Entirely.{times}
-use Rattle.undoing.proofs.Causing.{caused, faults-is}
+use Rattle.undoing.proofs.Causing.{caused, chosenMark, faults-is}
 use Rattle.undoing.proofs.Parts.{both, decide}
 use Rattle.undoing.proofs.Orders.{least}
 use Rattle.undoing.proofs.Places.{first-of, second-of}
 use Rattle.undoing.proofs.Seats.{marking-length}
 use Rattle.undoing.proofs.Truly.{Up, Arms, needs, Knows, knows, KnowsIn, knows-none, knows-more}
-use Rattle.undoing.proofs.Lasting.{isRaising, Halts, stop-halts}
+use Rattle.undoing.proofs.Lasting.{isRaising, KnowsEach, Halts, stop-halts}
 use Rattle.undoing.proofs.Keeping as keeping
 use Rattle.undoing.proofs.Entire.{times-append, times-event, Starts, Ranks, turn-starts, begin-starts}
 use Rattle.undoing.proofs.Entering.{Strict, StepsAt, step-at}
@@ -57,13 +57,13 @@ module _ (f : ℕ → ℕ) where
     rests-still : looksAgain s (r .order) ≡ runs (r .order) → Rests s r
     rests-light : Light f (r .log) → Rests s r
 
-  module _ (s : Scope) (kb : Knows f (s .body) (s .bodyAt)) (kf : Knows f (s .fault) (s .faultAt)) where
+  module _ (s : Scope) (kb : Knows f (s .body) (s .bodyAt)) (kf : KnowsEach f s) where
     faults-once : (number : ℕ) (o : Order) → s .bodyAt + size (s .body) ≤ length (o .marks) → Once f (faults number s o .log)
     unfolding times isBeganOf
     faults-once number o m =
-        let o₁ = caused (s .name) number (marking (s .name) faulty o) in
+        let o₁ = caused (s .name) number (marking (s .name) (chosenMark number s) o) in
         let q = stop (s .body) (s .bodyAt) o₁ in
-        let w = stop-stops f kb o₁ (omega (arith, marking-length (s .name) faulty o)) in
+        let w = stop-stops f kb o₁ (omega (arith, marking-length (s .name) (chosenMark number s) o)) in
         subst (λ (z : Outcome). Once f (z .log)) (sym (faults-is number s o))
         (once-event f (faulted (s .name) number) _ (λ j. refl)
         (decide (innerRuns (s .body) (s .bodyAt) (q .order .marks))

@@ -8,24 +8,24 @@ use lib.ListN.{length, getD, set, length-set}
 use lib.Seq.{getD-set-same}
 use lib.Dec.{eqb, ltb, leb}
 use borrow.Author.Tests.{eqb-true, eqb-false, eq-eqb, ltb-true, ltb-false, lt-ltb, le-ltb}
-use Rattle.plan.specs.Tree.{Own, empty, send, receive, set as setting, raise, leave, choose, repeat, sequence, flow, pick, scope, arm, kind, Act, act, Acts, none, more, Plan, size, sizes, count, isScope, hasUndo, isPick, numbersOf, undoPart}
+use Rattle.plan.specs.Tree.{Own, empty, send, receive, set as setting, raise, leave, choose, repeat, sequence, flow, pick, scope, arm, kind, Act, act, Acts, none, more, Plan, size, sizes, count, isScope, hasUndo, isPick, numbersOf, undoPart, generalPart}
 use Rattle.order.specs.declared.Order.{Order}
-use Rattle.order.specs.State.{Name, root, inner, idle, active, inside, faulty, undoing, handling, halted, withdrawing, done, withMarks, closings, remembering, markAt, marked, markOf, marking, stateOf, going}
+use Rattle.order.specs.State.{Name, root, inner, idle, active, inside, faulty, undoing, handling, halted, withdrawing, done, withMarks, closings, remembering, markAt, marked, markOf, marking, stateOf, going, choiceOf}
 use Rattle.order.specs.Event.{Event, began, stopped, faulted, ended}
 use Rattle.order.specs.Lists.{withoutLast}
 use Rattle.order.specs.Begin.{Begun, nothingBegun, throughout, around, itsBeginning, inTurn, sideBySide, begin, beginInTurn, beginAll, beginFirst, beginAfter, part, partAt, beginPart}
 use Rattle.order.specs.declared.Way.{Way as Result}
 use Rattle.order.specs.declared.Way.the-variants.{Running as running, Over as over, Raising as raising, Leaving as leaving, Undone as undone, UndoRaising as undoRaising}
-use Rattle.order.specs.Scope.{Outcome, runs, begunIn, whereOver, Scope, scopeAt, isOpen, innerRuns, innerRunsIn, isFor, beginUndo, beginUndoFirst, beginUndoIn, startUndo, undo, ends, handle, undoes, turns, rememberedFor, untouched, withdraws, stop, stopAll, stopFirst, alsoStopped, faults, breaks, looksAgain, bodyOver, bodyRaised, undoOver, undoRaised, partOver, partRaised}
+use Rattle.order.specs.Scope.{Outcome, runs, begunIn, whereOver, Scope, scopeAt, isOpen, innerRuns, innerRunsIn, isFor, beginUndo, beginUndoFirst, beginUndoIn, startUndo, undo, ends, handle, undoes, turns, rememberedFor, untouched, withdraws, stop, stopAll, stopFirst, alsoStopped, faults, breaks, looksAgain, bodyOver, bodyRaised, undoOver, undoRaised, partOver, partRaised, chosenPart, chosenAt}
 use Rattle.order.specs.Scope as definitions
 use Rattle.undoing.specs.Orderly.{isBeganOf}
 use Rattle.undoing.specs.Begun.{lasts}
 use Rattle.undoing.specs.Entirely.{times}
 use Rattle.undoing.proofs.Parts.{both, neither, decide}
 use Rattle.undoing.proofs.Truly.{Up, up-other, Arms, needs, Knows, knows, KnowsIn, knows-none, knows-more, Began}
-use Rattle.undoing.proofs.Lasting.{undo-began, Halts, stop-halts, stop-all-halts, stop-first-halts}
+use Rattle.undoing.proofs.Lasting.{KnowsEach, each-knows, undo-began, Halts, stop-halts, stop-all-halts, stop-first-halts}
 use Rattle.undoing.proofs.Entire.{times-append, times-event, Starts, Ranks, Named, begin-starts, turn-starts, all-starts, first-starts}
-use Rattle.undoing.proofs.Entering.{scope-arms, scope-three, scope-two, scope-lasts, Strict, StrictIn, undo-strict, stop-strict, stop-all-strict}
+use Rattle.undoing.proofs.Entering.{scope-arms, scope-undo, scope-general, scope-lasts, Strict, StrictIn, undo-strict, stop-strict, stop-all-strict}
 
 module _ (f : ℕ → ℕ) where
   -- what lasts begins at most once; not at all
@@ -192,7 +192,7 @@ module _ (f : ℕ → ℕ) where
     undo-onto (knows {own} {within} {k} x n r y) e ms =
         either-onto (isScope own) (cond (hasUndo own) (cond (eqb k e) (beginPart (undoPart (numbersOf own)) within (k + 1) ms) (nothingBegun ms)) (beginUndoFirst within (k + 1) e ms)) (beginUndoIn within (k + 1) e ms) _ refl
         (λ s. cond-onto (hasUndo own) (cond (eqb k e) (beginPart (undoPart (numbersOf own)) within (k + 1) ms) (nothingBegun ms)) (beginUndoFirst within (k + 1) e ms)
-        (λ u. cond-onto (eqb k e) (beginPart (undoPart (numbersOf own)) within (k + 1) ms) (nothingBegun ms) (λ v. part-onto y 2 (let z = scope-three own within s u n in omega arith) ms) (onto-nothing ms))
+        (λ u. cond-onto (eqb k e) (beginPart (undoPart (numbersOf own)) within (k + 1) ms) (nothingBegun ms) (λ v. part-onto y (undoPart (numbersOf own)) (scope-undo own within s u n) ms) (onto-nothing ms))
         (undo-first-onto y e ms)) (undo-in-onto y e ms)
 
     -- in the body of a scope
@@ -249,7 +249,7 @@ module _ (f : ℕ → ℕ) where
   lone-either true x y z e g h = subst Lone (sym e) g
   lone-either false x y z e g h = subst Lone (sym e) h
 
-  module _ (s : Scope) (kb : Knows f (s .body) (s .bodyAt)) (kf : Knows f (s .fault) (s .faultAt)) where
+  module _ (s : Scope) (kb : Knows f (s .body) (s .bodyAt)) (kf : KnowsEach f s) where
     ends-lone : (o : Order) → Lone (ends s o)
     unfolding times isBeganOf
     ends-lone o = lone-zero (ends s o) (λ j. refl)
@@ -261,7 +261,10 @@ module _ (f : ℕ → ℕ) where
 
     handle-lone : (o : Order) → Lone (handle s o)
     unfolding handle
-    handle-lone o = let o₁ = going (s .name) handling o in lone-where (ends s) (begunIn o₁ (begin (s .fault) (s .faultAt) (o₁ .marks))) (lone-begun o₁ (begin (s .fault) (s .faultAt) (o₁ .marks)) (begin-onto kf (o₁ .marks))) (λ q. ends-lone q)
+    handle-lone o =
+        let o₁ = going (s .name) handling o in
+        let c = choiceOf (s .name) o in
+        lone-where (ends s) (begunIn o₁ (begin (chosenPart c s) (chosenAt c s) (o₁ .marks))) (lone-begun o₁ (begin (chosenPart c s) (chosenAt c s) (o₁ .marks)) (begin-onto (kf c) (o₁ .marks))) (λ q. ends-lone q)
 
     undoes-lone : (w : Bool) (o : Order) → Lone (undoes w s o)
     unfolding undoes
@@ -366,7 +369,7 @@ module _ (f : ℕ → ℕ) where
       go false q g x y = x
 
   -- a scope that ends after its list began nothing that lasts
-  withdrawn : (s : Scope) (k : ℕ) → s .name ≡ inner k → (kb : Knows f (s .body) (s .bodyAt)) (kf : Knows f (s .fault) (s .faultAt)) → lasts (f k) ≡ true → (o : Order) → k < length (o .marks) → s .bodyAt + size (s .body) ≤ length (o .marks)
+  withdrawn : (s : Scope) (k : ℕ) → s .name ≡ inner k → (kb : Knows f (s .body) (s .bodyAt)) (kf : KnowsEach f s) → lasts (f k) ≡ true → (o : Order) → k < length (o .marks) → s .bodyAt + size (s .body) ≤ length (o .marks)
       → eqb (getD (undoes false s o .order .marks) k 0) idle ≡ true → Light (undoes false s o .log)
   unfolding undoes
   withdrawn s k i kb kf n o h m e = go (u .result) refl e
@@ -402,30 +405,30 @@ module _ (f : ℕ → ℕ) where
   unfolding turns
   turns-some s w o e = ap (λ (b : Bool). elim b [ true ↦ runs o | false ↦ undoes w s o ]) e
 
-  withdraws-stops : {b g : Act} {l : Acts} {k : ℕ} (own : Own) (o : Order) → isScope own ≡ true → f k ≡ kind own → (kb : Knows f b (k + 1)) (kf : Knows f g (k + 1 + size b))
+  withdraws-stops : {b : Act} {l : Acts} {k : ℕ} (own : Own) (o : Order) → isScope own ≡ true → f k ≡ kind own → (kb : Knows f b (k + 1)) (kf : KnowsEach f (scopeAt (numbersOf own) k (more b l)))
       → k + 1 + size b ≤ length (o .marks) → Stops b (k + 1) (stop b (k + 1) (marked k halted o)) → Halts f (k + 1) (size b) (marked k halted o) (stop b (k + 1) (marked k halted o))
-      → Stops (act own (more b (more g l))) k (withdraws k (scopeAt k (more b (more g l))) (stop b (k + 1) (marked k halted o)))
+      → Stops (act own (more b l)) k (withdraws k (scopeAt (numbersOf own) k (more b l)) (stop b (k + 1) (marked k halted o)))
   unfolding withdraws part partAt lasts kind times isBeganOf
-  withdraws-stops {b} {g} {l} {k} own o s e kb kf m w v =
+  withdraws-stops {b} {l} {k} own o s e kb kf m w v =
       decide (innerRuns b (k + 1) (r .order .marks))
       (λ d. let z = turns-none sc kb kf false (r .order) d in
       record {
         once = once-event (stopped k) _ (λ j. refl) (subst (λ (q : Outcome). Once (r .log ++ q .log)) (sym z) (once-light (r .log) (w .once) (light-none [] (λ j. refl))));
-        light = λ c. absurd (up-not (eqb (getD (r .order .marks) k 0) idle) up (sym (inner-as own (more b (more g l)) k (r .order .marks) true s) ∙ subst (λ (q : Outcome). innerRuns (act own (more b (more g l))) k (q .order .marks) ≡ false) z c));
+        light = λ c. absurd (up-not (eqb (getD (r .order .marks) k 0) idle) up (sym (inner-as own (more b l) k (r .order .marks) true s) ∙ subst (λ (q : Outcome). innerRuns (act own (more b l)) k (q .order .marks) ≡ false) z c));
       })
       (λ d. let z = turns-some sc false (r .order) d in
       record {
         once = once-event (stopped k) _ (λ j. refl) (light-once (turns false sc (r .order) .log) (w .light d) (turns-lone sc kb kf false (r .order) .once));
         light = λ c. light-event (stopped k) _ (λ j. refl) (light-light (turns false sc (r .order) .log) (w .light d) (subst (λ (q : Outcome). Light (q .log)) (sym z)
             (withdrawn sc k refl kb kf last (r .order) (omega (arith, v .long, length-set (o .marks) k halted)) (omega (arith, v .long, length-set (o .marks) k halted))
-            (idle-of (eqb (getD (undoes false sc (r .order) .order .marks) k 0) idle) (sym (inner-as own (more b (more g l)) k (undoes false sc (r .order) .order .marks) true s) ∙ subst (λ (q : Outcome). innerRuns (act own (more b (more g l))) k (q .order .marks) ≡ false) z c)))));
+            (idle-of (eqb (getD (undoes false sc (r .order) .order .marks) k 0) idle) (sym (inner-as own (more b l) k (undoes false sc (r .order) .order .marks) true s) ∙ subst (λ (q : Outcome). innerRuns (act own (more b l)) k (q .order .marks) ≡ false) z c)))));
       })
     where
       r : definitions.Stopped
       r = stop b (k + 1) (marked k halted o)
 
       sc : Scope
-      sc = scopeAt k (more b (more g l))
+      sc = scopeAt (numbersOf own) k (more b l)
 
       last : lasts (f k) ≡ true
       last = ap lasts e ∙ scope-lasts own s
@@ -445,13 +448,12 @@ module _ (f : ℕ → ℕ) where
   FirstStops none c o = Unit {0}
   FirstStops (more a l) c o = Stops a c (stop a c o)
 
-  first-stops : {within : Acts} {k : ℕ} (own : Own) (o : Order) → isScope own ≡ true → f k ≡ kind own → KnowsIn f within (k + 1) → 2 ≤ count within → k + 1 + sizes within ≤ length (o .marks)
+  first-stops : {within : Acts} {k : ℕ} (own : Own) (o : Order) → isScope own ≡ true → f k ≡ kind own → KnowsIn f within (k + 1) → generalPart (numbersOf own) < count within → k + 1 + sizes within ≤ length (o .marks)
       → FirstStops within (k + 1) (marked k halted o) → Stops (act own within) k (withdraws k (scopeAt (numbersOf own) k within) (stopFirst within (k + 1) (marked k halted o)))
   unfolding stop size count
   first-stops own o s e knows-none n m w = absurd (omega arith)
-  first-stops own o s e (knows-more x knows-none) n m w = absurd (omega arith)
-  first-stops {k = k} own o s e (knows-more {a = b} x (knows-more {a = g} {l} z y)) n m w =
-      withdraws-stops {g = g} {l = l} own o s e x z (omega arith) w (stop-halts f x (marked k halted o) (omega (arith, length-set (o .marks) k halted)))
+  first-stops {k = k} own o s e (knows-more {a = b} {l} x y) n m w =
+      withdraws-stops {l = l} own o s e x (each-knows f (numbersOf own) k n (knows-more x y)) (omega arith) w (stop-halts f x (marked k halted o) (omega (arith, length-set (o .marks) k halted)))
 
   mutual
     unfolding stop size count times innerRuns
@@ -459,8 +461,8 @@ module _ (f : ℕ → ℕ) where
     pub stop-stops : {a : Act} {k : ℕ} → Knows f a k → (o : Order) → k + size a ≤ length (o .marks) → Stops a k (stop a k o)
     stop-stops (knows {own} {within} {k} e n r y) o m =
         stops-either (isScope own) (elim (isOpen (markAt k o)) [ true ↦ withdraws k (scopeAt (numbersOf own) k within) (stopFirst within (k + 1) (marked k halted o)) | false ↦ untouched o ]) (stopAll within (k + 1) (marked k idle o)) _ refl
-        (λ s. stops-either (isOpen (markAt k o)) (withdraws k (scopeAt xs k within) (stopFirst within (k + 1) (marked k halted o))) (untouched o) _ refl
-        (λ v. first-stops own o s e y (scope-two own within s n) (omega arith) (stop-first-stops y (marked k halted o) (omega (arith, length-set (o .marks) k halted))))
+        (λ s. stops-either (isOpen (markAt k o)) (withdraws k (scopeAt (numbersOf own) k within) (stopFirst within (k + 1) (marked k halted o))) (untouched o) _ refl
+        (λ v. first-stops own o s e y (scope-general own within s n) (omega arith) (stop-first-stops y (marked k halted o) (omega (arith, length-set (o .marks) k halted))))
         (λ v. record { once = once-none [] (λ j. refl); light = λ c. light-none [] (λ j. refl) }))
         (λ s. let z = stop-all-stops y (marked k idle o) (omega (arith, length-set (o .marks) k idle)) in
         record { once = z .once; light = λ c. z .light (sym (inner-as own within k (stopAll within (k + 1) (marked k idle o) .order .marks) false s) ∙ c) })
