@@ -86,8 +86,8 @@ module _ (p : Plan) (f : ℕ → ℕ) (A : ℕ → Type 0) (ms : List ℕ) where
   mutual
     pub data Calm : Act → ℕ → Type 0 where
       calm-part : {own : Own} {within : Acts} {k : ℕ} → isScope own ≡ false → CalmIn within (k + 1) → Calm (act own within) k
-      calm-undo : {b g u : Act} {k : ℕ} → News (k + 1 + size b + size g) (size u) → (isOpen (getD ms k 0) ≡ true → Calm b (k + 1)) → Calm (act (scope true) (trio b g (more u none))) k
-      calm-through : {b g : Act} {u : Acts} {k : ℕ} → Calm b (k + 1) → Calm (act (scope false) (trio b g u)) k
+      calm-undo : {b g u : Act} {k : ℕ} → News (k + 1 + size b + size g) (size u) → (isOpen (getD ms k 0) ≡ true → Calm b (k + 1)) → Calm (act (scope xs true) (trio b g (more u none))) k
+      calm-through : {b g : Act} {u : Acts} {k : ℕ} → Calm b (k + 1) → Calm (act (scope xs false) (trio b g u)) k
 
     pub data CalmIn : Acts → ℕ → Type 0 where
       calm-none : {c : ℕ} → CalmIn none c
@@ -169,18 +169,18 @@ module _ (p : Plan) (f : ℕ → ℕ) (A : ℕ → Type 0) (ms : List ℕ) where
       run-calm (sits-part s g u y l) (run-all e r z) = calm-part s (all-calm l r)
       run-calm (sits-part s g u y l) (run-body e r q) = absurd (false≢true (sym s))
       run-calm (sits-part s g u y l) (run-done e q) = absurd (false≢true (sym s))
-      run-calm (sits-part s g u y l) (run-turned e q) = absurd (false≢true (sym s))
+      run-calm (sits-part s g u y l) (run-turned e) = absurd (false≢true (sym s))
       run-calm (sits-scope kn d i sb y sf su) (run-awaits s x e q) = absurd (false≢true (sym s))
       run-calm (sits-scope kn d i sb y sf su) (run-one s e r) = absurd (false≢true (sym s))
       run-calm (sits-scope {v = true} {b = b} {f = g} {k = k} kn d i sb y sf (rest-undo {u = u} su)) (run-body e r q) =
           calm-undo {b = b} {g = g} {u = u} {k = k} (quiet-news (quiet-part q (omega arith) (omega arith))) (λ v. run-calm sb r)
       run-calm (sits-scope {v = true} {b = b} {f = g} {k = k} kn d i sb y sf (rest-undo {u = u} su)) (run-done e q) =
           calm-undo {b = b} {g = g} {u = u} {k = k} (quiet-news (quiet-part q (omega arith) (omega arith))) (λ v. quiet-calm sb (quiet-part q (omega arith) (omega arith)))
-      run-calm (sits-scope {v = true} {b = b} {f = g} {k = k} kn d i sb y sf (rest-undo {u = u} su)) (run-turned e q) =
+      run-calm (sits-scope {v = true} {b = b} {f = g} {k = k} kn d i sb y sf (rest-undo {u = u} su)) (run-turned e) =
           calm-undo {b = b} {g = g} {u = u} {k = k} (quiet-news (quiet-part q (omega arith) (omega arith))) (λ v. absurd (false≢true (sym (turned-not-open e) ∙ v)))
       run-calm (sits-scope {v = false} kn d i sb y sf su) (run-body e r q) = calm-through (run-calm sb r)
       run-calm (sits-scope {v = false} kn d i sb y sf su) (run-done e q) = calm-through (quiet-calm sb (quiet-part q (omega arith) (omega arith)))
-      run-calm (sits-scope {v = false} {n} {c} {ns} {b} {f = g} {u} {k} kn d i sb y sf su) (run-turned e q) = calm-through (excuse-calm sb (ex .at k n ns b g u kn (turned-is e)))
+      run-calm (sits-scope {v = false} {n} {c} {ns} {b} {f = g} {u} {k} kn d i sb y sf su) (run-turned e) = calm-through (excuse-calm sb (ex .at k n ns b g u kn (turned-is e)))
 
       one-calm : {x : Place} {l : Acts} {c : ℕ} → SitsIn p x l c → One ms l c → CalmIn l c
       one-calm (sits-more s y) (one-here r q) = calm-more (run-calm s r) (quiet-calm-in y q)
@@ -197,13 +197,13 @@ module _ (p : Plan) (f : ℕ → ℕ) (A : ℕ → Type 0) (ms : List ℕ) where
 
       pub stopped-calm : {x : Place} {a : Act} {k : ℕ} → Sits p x a k → Stopped ms a k → Calm a k
       stopped-calm (sits-part s g u y l) (stopped-part s₁ e r) = calm-part s (stopped-calm-in l r)
-      stopped-calm (sits-part s g u y l) (stopped-scope e q) = absurd (false≢true (sym s))
+      stopped-calm (sits-part s g u y l) (stopped-scope e) = absurd (false≢true (sym s))
       stopped-calm (sits-part s g u y l) (stopped-quiet q) = quiet-calm (sits-part s g u y l) q
       stopped-calm (sits-scope kn d i sb y sf su) (stopped-quiet q) = quiet-calm (sits-scope kn d i sb y sf su) q
       stopped-calm (sits-scope kn d i sb y sf su) (stopped-part s e r) = absurd (false≢true (sym s))
-      stopped-calm (sits-scope {v = true} {b = b} {f = g} {k = k} kn d i sb y sf (rest-undo {u = u} su)) (stopped-scope e q) =
+      stopped-calm (sits-scope {v = true} {b = b} {f = g} {k = k} kn d i sb y sf (rest-undo {u = u} su)) (stopped-scope e) =
           calm-undo {b = b} {g = g} {u = u} {k = k} (quiet-news (quiet-part q (omega arith) (omega arith))) (λ v. absurd (false≢true (sym (turned-not-open e) ∙ v)))
-      stopped-calm (sits-scope {v = false} {n} {c} {ns} {b} {f = g} {u} {k} kn d i sb y sf su) (stopped-scope e q) = calm-through (excuse-calm sb (ex .at k n ns b g u kn (turned-is e)))
+      stopped-calm (sits-scope {v = false} {n} {c} {ns} {b} {f = g} {u} {k} kn d i sb y sf su) (stopped-scope e) = calm-through (excuse-calm sb (ex .at k n ns b g u kn (turned-is e)))
 
       stopped-calm-in : {x : Place} {l : Acts} {c : ℕ} → SitsIn p x l c → StoppedIn ms l c → CalmIn l c
       stopped-calm-in sits-none stopped-none = calm-none
@@ -356,15 +356,15 @@ module _ (p : Plan) (f : ℕ → ℕ) (A : ℕ → Type 0) (ms : List ℕ) where
 
   -- a scope is stopped, as it is found
   scope-fresh : (x : Bool) (b g : Act) (u : Acts) (k : ℕ) (o : Order) → Knows f b (k + 1) → Knows f g (k + 1 + size b) → Named f g → (isOpen (getD ms k 0) ≡ true → Calm b (k + 1))
-      → Opened k (size (act (scope x) (trio b g u))) (o .marks) → Found (o .marks) b g u k → (Calm b (k + 1) → Stoppable (o .marks) b (k + 1) → Fresh (stop b (k + 1) (marked k halted o) .log))
-      → Fresh (stop (act (scope x) (trio b g u)) k o .log)
+      → Opened k (size (act (scope xs x) (trio b g u))) (o .marks) → Found (o .marks) b g u k → (Calm b (k + 1) → Stoppable (o .marks) b (k + 1) → Fresh (stop b (k + 1) (marked k halted o) .log))
+      → Fresh (stop (act (scope xs x) (trio b g u)) k o .log)
   unfolding stop size kind some
   scope-fresh x b g u k o kb kf i c h (found-quiet z) go =
-      subst (λ (y : definitions.Stopped). Fresh (y .log)) (sym (stop-is (scope x) (trio b g u) k o true false refl (rw (z .at k (omega arith) (omega arith))))) (fresh-none [] (λ j. refl))
+      subst (λ (y : definitions.Stopped). Fresh (y .log)) (sym (stop-is (scope xs x) (trio b g u) k o true false refl (rw (z .at k (omega arith) (omega arith))))) (fresh-none [] (λ j. refl))
   scope-fresh x b g u k o kb kf i c h (found-open y a z) go =
-      subst (λ (y : definitions.Stopped). Fresh (y .log)) (sym (stop-is (scope x) (trio b g u) k o true true refl y))
+      subst (λ (y : definitions.Stopped). Fresh (y .log)) (sym (stop-is (scope xs x) (trio b g u) k o true true refl y))
       (let c₂ = c (h .at k (omega arith) (omega arith) y) in withdraws-fresh b g u k (stop b (k + 1) (marked k halted o)) kb kf i c₂ (go c₂ a))
-  scope-fresh x b g u k o kb kf i c h (found-turned y a z) go = subst (λ (y : definitions.Stopped). Fresh (y .log)) (sym (stop-is (scope x) (trio b g u) k o true false refl y)) (fresh-none [] (λ j. refl))
+  scope-fresh x b g u k o kb kf i c h (found-turned y a z) go = subst (λ (y : definitions.Stopped). Fresh (y .log)) (sym (stop-is (scope xs x) (trio b g u) k o true false refl y)) (fresh-none [] (λ j. refl))
 
   mutual
     unfolding stop size kind some

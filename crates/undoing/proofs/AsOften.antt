@@ -70,7 +70,7 @@ kind-once t (repeat u) x y e f = omega arith
 kind-once t sequence x y e f = f
 kind-once t flow x y e f = f
 kind-once t pick x y e f = omega arith
-kind-once t (scope u) x y e f = omega arith
+kind-once t (scope xs u) x y e f = omega arith
 kind-once t (arm p o vs) x y e f = omega arith
 
 one-once : (t k : ℕ) → oftenIn t (k ∷ []) ≤ 1
@@ -97,9 +97,9 @@ mutual
 
   back-once : {p : Plan} {x : Place} (a : Act) (k e t : ℕ) → Sits p x a k → directly a k e ≡ true → oftenIn t (backIn a k e) ≤ 1
   back-once (act own within) k e t (sits-part s g v y l) d = subst (λ (z : List ℕ). oftenIn t z ≤ 1) (sym (back-part own within k e s)) (back-once-in within (k + 1) e t l (sym (directly-is own within k e false s) ∙ d))
-  back-once (act (scope true) (more b (more f (more u none)))) k e t (sits-scope kn v i sb z sf (rest-undo su)) d =
+  back-once (act (scope xs true) (more b (more f (more u none)))) k e t (sits-scope kn v i sb z sf (rest-undo su)) d =
       subst (λ (z : List ℕ). oftenIn t z ≤ 1) (sym (back-scope b f u k e (direct-scope true (trio b f (more u none)) k e d))) (surely-once u (k + 1 + size b + size f) t)
-  back-once (act (scope false) (more b (more f none))) k e t (sits-scope kn v i sb z sf rest-none) d =
+  back-once (act (scope xs false) (more b (more f none))) k e t (sits-scope kn v i sb z sf rest-none) d =
       subst (λ (z : List ℕ). oftenIn t z ≤ 1) (sym (back-without b f k e (direct-scope false (trio b f none) k e d))) (omega arith)
 
   back-once-in : {p : Plan} {x : Place} (l : Acts) (c e t : ℕ) → SitsIn p x l c → directlyIn l c e ≡ true → oftenIn t (backAmong l c e) ≤ 1
@@ -115,7 +115,7 @@ mutual
   back-alone (act own within) k e f t (sits-part s g v y l) d b n h =
       ap (some (eqb t)) (back-part own within k f s)
       ∙ back-alone-in within (k + 1) e f t l (sym (directly-is own within k e false s) ∙ d) (sym (directly-is own within k f false s) ∙ b) n (ap (some (eqb t)) (sym (back-part own within k e s)) ∙ h)
-  back-alone (act (scope z₀) (more b (more g u))) k e f t (sits-scope kn v i sb z sf su) d c n h =
+  back-alone (act (scope xs z₀) (more b (more g u))) k e f t (sits-scope kn v i sb z) d c n h =
       absurd (eqb-false e f n (sym (eqb-true k e (direct-scope z₀ (trio b g u) k e d)) ∙ eqb-true k f (direct-scope z₀ (trio b g u) k f c)))
 
   back-alone-in : {p : Plan} {x : Place} (l : Acts) (c e f t : ℕ) → SitsIn p x l c → directlyIn l c e ≡ true → directlyIn l c f ≡ true → eqb e f ≡ false → some (eqb t) (backAmong l c e) ≡ true → some (eqb t) (backAmong l c f) ≡ false

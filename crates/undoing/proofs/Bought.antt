@@ -551,7 +551,7 @@ mutual
 
   knowns : {p : Plan} {q : Place} {a : Act} {k : ℕ} → Sits p q a k → Each (Placed p) (scopesIn a k (nameOf q) (beyondOf q))
   knowns {p} (sits-part {q = q} {own} {within} {k} s g v y l) = subst (λ z. Each (Placed p) z) (sym (scopes-is own within k (nameOf q) (beyondOf q) false s)) (knowns-in l)
-  knowns {p} (sits-scope {v = v₀} {n = n} {c = c} {ns = ns} {b = b} {f = f} {u = u} {k = k} kn v i sb z sf su) =
+  knowns {p} (sits-scope {v = v₀} {n = n} {c = c} {ns = ns} {b = b} {f = f} {u = u} {k = k} kn v i sb z) =
       subst (λ w. Each (Placed p) (innerAt v₀ k n ns (trio b f u) ∷ (scopesIn b (k + 1) (inner k) (cond v₀ [] (n ∷ ns)) ++ w)))
       (sym (rw (bare-scopes f (k + 1 + size b) (inner k) (cond v₀ [] (n ∷ ns)) (remedy-bare sf), rest-scopes su (inner k) (cond v₀ [] (n ∷ ns)))))
       (each-more (record { known = kn; outer = c; place = v .place }) (each-append (knowns sb) each-none))

@@ -87,13 +87,13 @@ pub backs-other : (own : Own) (within : Acts) (k e : ℕ) → eqb k e ≡ false 
 backs-other own within k e t = backs-is own within k e false (decide (isScope own) (λ s. rw (s, t)) (λ s. rw s))
 
 pub backs-own : (b f u : Act) (k e : ℕ) → eqb k e ≡ true
-    → backs (act (scope true) (trio b f (more u none))) k e ≡ record { has = true; tree = u; at = k + 1 + size b + size f; sure = surely u (k + 1 + size b + size f) }
+    → backs (act (scope xs true) (trio b f (more u none))) k e ≡ record { has = true; tree = u; at = k + 1 + size b + size f; sure = surely u (k + 1 + size b + size f) }
 unfolding part partAt kind
-backs-own b f u k e t = backs-is (scope true) (trio b f (more u none)) k e true t
+backs-own b f u k e t = backs-is (scope xs true) (trio b f (more u none)) k e true t
 
-pub backs-without : (b f : Act) (k e : ℕ) → eqb k e ≡ true → hasBack (act (scope false) (trio b f none)) k e ≡ false
+pub backs-without : (b f : Act) (k e : ℕ) → eqb k e ≡ true → hasBack (act (scope xs false) (trio b f none)) k e ≡ false
 unfolding kind
-backs-without b f k e t = ap (λ (z : Back). z .has) (backs-is (scope false) (trio b f none) k e true t)
+backs-without b f k e t = ap (λ (z : Back). z .has) (backs-is (scope xs false) (trio b f none) k e true t)
 
 -- none where there is no scope
 mutual
@@ -119,14 +119,14 @@ rest-backs (rest-none {k = c}) e h = backs-none c e h
 
 -- Where the undo part of scope e is: of a scope, its own, or one in its body.
 pub data Whose (b f : Act) (u : Acts) (v : Bool) (k e : ℕ) : Type 0 where
-  own-back : (w : Act) → k ≡ e → v ≡ true → u ≡ more w none → backs (act (scope v) (trio b f u)) k e ≡ record { has = true; tree = w; at = k + 1 + size b + size f; sure = surely w (k + 1 + size b + size f) }
+  own-back : (w : Act) → k ≡ e → v ≡ true → u ≡ more w none → backs (act (scope xs v) (trio b f u)) k e ≡ record { has = true; tree = w; at = k + 1 + size b + size f; sure = surely w (k + 1 + size b + size f) }
       → Whose b f u v k e
-  body-back : hasBack b (k + 1) e ≡ true → backs (act (scope v) (trio b f u)) k e ≡ backs b (k + 1) e → Whose b f u v k e
+  body-back : hasBack b (k + 1) e ≡ true → backs (act (scope xs v) (trio b f u)) k e ≡ backs b (k + 1) e → Whose b f u v k e
 
 whose-other : {p : Plan} {q q₁ : Place} {b f : Act} {u : Acts} {v : Bool} {k : ℕ} → Remedy p q f (k + 1 + size b) → Rest p v q₁ u (k + 1 + size b + size f) → (e : ℕ)
-    → hasBack (act (scope v) (trio b f u)) k e ≡ true → eqb k e ≡ false → Whose b f u v k e
+    → hasBack (act (scope xs v) (trio b f u)) k e ≡ true → eqb k e ≡ false → Whose b f u v k e
 whose-other {b = b} {f = f} {u = u} {v = v} {k = k} sf su e h t =
-    let x = backs-other (scope v) (trio b f u) k e t in
+    let x = backs-other (scope xs v) (trio b f u) k e t in
     decide (ltb e (k + 1 + size b))
     (λ i. let y = x ∙ backs-in-is b (more f u) (k + 1) e true i in body-back (ap (λ (z : Back). z .has) (sym y) ∙ h) y)
     (λ i. let y = x ∙ backs-in-is b (more f u) (k + 1) e false i in
@@ -135,15 +135,15 @@ whose-other {b = b} {f = f} {u = u} {v = v} {k = k} sf su e h t =
     (λ j. absurd (rest-backs su e (ap (λ (z : Back). z .has) (sym (y ∙ backs-in-is f u (k + 1 + size b) e false j)) ∙ h))))
 
 pub whose-true : {p : Plan} {q q₁ : Place} {b f u : Act} {k : ℕ} → Remedy p q f (k + 1 + size b) → Remedy p q₁ u (k + 1 + size b + size f) → (e : ℕ)
-    → hasBack (act (scope true) (trio b f (more u none))) k e ≡ true → Whose b f (more u none) true k e
+    → hasBack (act (scope xs true) (trio b f (more u none))) k e ≡ true → Whose b f (more u none) true k e
 whose-true {b = b} {f = f} {u = u} {k = k} sf su e h = decide (eqb k e) (λ t. own-back u (eqb-true k e t) refl refl (backs-own b f u k e t)) (λ t. whose-other sf (rest-undo su) e h t)
 
-pub whose-false : {p : Plan} {q : Place} (b f : Act) (k : ℕ) → Remedy p q f (k + 1 + size b) → (e : ℕ) → hasBack (act (scope false) (trio b f none)) k e ≡ true
-    → (hasBack b (k + 1) e ≡ true) × (backs (act (scope false) (trio b f none)) k e ≡ backs b (k + 1) e)
+pub whose-false : {p : Plan} {q : Place} (b f : Act) (k : ℕ) → Remedy p q f (k + 1 + size b) → (e : ℕ) → hasBack (act (scope xs false) (trio b f none)) k e ≡ true
+    → (hasBack b (k + 1) e ≡ true) × (backs (act (scope xs false) (trio b f none)) k e ≡ backs b (k + 1) e)
 whose-false {p} {q} b f k sf e h =
     decide (eqb k e) (λ t. absurd (false≢true (sym (backs-without b f k e t) ∙ h))) (λ t. go (whose-other {q₁ = q} sf rest-none e h t))
   where
-    go : Whose b f none false k e → (hasBack b (k + 1) e ≡ true) × (backs (act (scope false) (trio b f none)) k e ≡ backs b (k + 1) e)
+    go : Whose b f none false k e → (hasBack b (k + 1) e ≡ true) × (backs (act (scope xs false) (trio b f none)) k e ≡ backs b (k + 1) e)
     go (own-back u n d d₁ x) = absurd (false≢true d)
     go (body-back hb x) = (hb, x)
 
@@ -162,8 +162,8 @@ mutual
   back-spans (sits-scope {v = true} {b = b} {f} {k = k} kn v i sb z sf (rest-undo {u = u} su)) e h = go (whose-true sf su e h) (λ hb. back-spans sb e hb)
     where
       go : Whose b f (more u none) true k e → (hasBack b (k + 1) e ≡ true → Spans (k + 1 + 1) (size b) (backs b (k + 1) e) × (backAt b (k + 1) e + size (backPart b (k + 1) e) ≤ k + 1 + size b))
-          → Spans (k + 1) (1 + (size b + (size f + (size u + 0)))) (backs (act (scope true) (trio b f (more u none))) k e)
-          × (backAt (act (scope true) (trio b f (more u none))) k e + size (backPart (act (scope true) (trio b f (more u none))) k e) ≤ k + (1 + (size b + (size f + (size u + 0)))))
+          → Spans (k + 1) (1 + (size b + (size f + (size u + 0)))) (backs (act (scope xs true) (trio b f (more u none))) k e)
+          × (backAt (act (scope xs true) (trio b f (more u none))) k e + size (backPart (act (scope xs true) (trio b f (more u none))) k e) ≤ k + (1 + (size b + (size f + (size u + 0)))))
       go (own-back w o d y x) r =
           let n : u ≡ w = cc in
           let m : size w ≡ size u = ap size (sym n) in
@@ -222,10 +222,10 @@ within-shapes s (shape-run (run-one _ _ r)) = all-shapes (one-each r)
 within-shapes s (shape-run (run-all _ r _)) = all-shapes r
 within-shapes s (shape-run (run-body _ _ _)) = absurd (not-scope s)
 within-shapes s (shape-run (run-done _ _)) = absurd (not-scope s)
-within-shapes s (shape-run (run-turned _ _)) = absurd (not-scope s)
+within-shapes s (shape-run (run-turned _)) = absurd (not-scope s)
 within-shapes s (shape-stopped (stopped-part _ _ r)) = stopped-shapes r
 within-shapes {within = within} {k} s (shape-stopped (stopped-quiet q)) = quiet-shapes within (k + 1) (quiet-part q (omega arith) (omega arith))
-within-shapes s (shape-stopped (stopped-scope _ _)) = absurd (not-scope s)
+within-shapes s (shape-stopped (stopped-scope _)) = absurd (not-scope s)
 within-shapes s (shape-undoing (undoing-part _ _ r)) = undoing-shapes r
 within-shapes s (shape-undoing (undoing-scope _ _ _)) = absurd (not-scope s)
 within-shapes s (shape-undoing (undoing-through _ _ _)) = absurd (not-scope s)
@@ -237,32 +237,32 @@ turned-shape (turned-waits _ r _ _) = shape-stopped r
 turned-shape (turned-undoes _ r _) = shape-undoing r
 turned-shape (turned-heals _ q _) = shape-quiet q
 
-body-shape : {ms : List ℕ} {v : Bool} {b f : Act} {u : Acts} {k : ℕ} → Shape ms (act (scope v) (trio b f u)) k → Shape ms b (k + 1)
+body-shape : {ms : List ℕ} {v : Bool} {b f : Act} {u : Acts} {k : ℕ} → Shape ms (act (scope xs v) (trio b f u)) k → Shape ms b (k + 1)
 unfolding size
 body-shape (shape-run (run-awaits s _ _ _)) = absurd (not-scope s)
 body-shape (shape-run (run-one s _ _)) = absurd (not-scope s)
 body-shape (shape-run (run-body _ r _)) = shape-run r
 body-shape (shape-run (run-done _ q)) = shape-quiet (quiet-part q (omega arith) (omega arith))
-body-shape (shape-run (run-turned t _)) = turned-shape t
+body-shape (shape-run (run-turned t)) = turned-shape t
 body-shape (shape-stopped (stopped-part s _ _)) = absurd (not-scope s)
 body-shape (shape-stopped (stopped-quiet q)) = shape-quiet (quiet-part q (omega arith) (omega arith))
-body-shape (shape-stopped (stopped-scope t _)) = turned-shape t
+body-shape (shape-stopped (stopped-scope t)) = turned-shape t
 body-shape (shape-undoing (undoing-part s _ _)) = absurd (not-scope s)
 body-shape (shape-undoing (undoing-scope _ q _)) = shape-quiet (quiet-part q (omega arith) (omega arith))
 body-shape (shape-undoing (undoing-through _ r _)) = shape-undoing r
 body-shape (shape-quiet q) = shape-quiet (quiet-part q (omega arith) (omega arith))
 
 -- its undo part, where something in it awaits
-undo-runs : {ms : List ℕ} {b f u : Act} {k t : ℕ} → Shape ms (act (scope true) (trio b f (more u none))) k → Waits ms u (k + 1 + size b + size f) t false → Run ms u (k + 1 + size b + size f)
+undo-runs : {ms : List ℕ} {b f u : Act} {k t : ℕ} → Shape ms (act (scope xs true) (trio b f (more u none))) k → Waits ms u (k + 1 + size b + size f) t false → Run ms u (k + 1 + size b + size f)
 unfolding size
 undo-runs (shape-run (run-awaits s _ _ _)) w = absurd (not-scope s)
 undo-runs (shape-run (run-one s _ _)) w = absurd (not-scope s)
 undo-runs (shape-run (run-body _ _ q)) w = absurd (quiet-waits w refl (quiet-part q (omega arith) (omega arith)))
 undo-runs (shape-run (run-done _ q)) w = absurd (quiet-waits w refl (quiet-part q (omega arith) (omega arith)))
-undo-runs (shape-run (run-turned _ q)) w = absurd (quiet-waits w refl (quiet-part q (omega arith) (omega arith)))
+undo-runs (shape-run (run-turned _)) w = absurd (quiet-waits w refl (quiet-part q (omega arith) (omega arith)))
 undo-runs (shape-stopped (stopped-part s _ _)) w = absurd (not-scope s)
 undo-runs (shape-stopped (stopped-quiet q)) w = absurd (quiet-waits w refl (quiet-part q (omega arith) (omega arith)))
-undo-runs (shape-stopped (stopped-scope _ q)) w = absurd (quiet-waits w refl (quiet-part q (omega arith) (omega arith)))
+undo-runs (shape-stopped (stopped-scope _)) w = absurd (quiet-waits w refl (quiet-part q (omega arith) (omega arith)))
 undo-runs (shape-undoing (undoing-part s _ _)) w = absurd (not-scope s)
 undo-runs (shape-undoing (undoing-scope _ _ r)) w = r
 undo-runs (shape-quiet q) w = absurd (quiet-waits w refl (quiet-part q (omega arith) (omega arith)))
@@ -290,7 +290,7 @@ mutual
       go : Whose b f (more u none) true k e → WaitsIn ms (trio b f (more u none)) (k + 1) t false
           → (Waits ms b (k + 1) t false → hasBack b (k + 1) e ≡ true → Inside t (backs b (k + 1) e) → Runs ms t (backs b (k + 1) e))
           → (hasBack b (k + 1) e ≡ true → Spans (k + 1 + 1) (size b) (backs b (k + 1) e) × (backAt b (k + 1) e + size (backPart b (k + 1) e) ≤ k + 1 + size b))
-          → Runs ms t (backs (act (scope true) (trio b f (more u none))) k e)
+          → Runs ms t (backs (act (scope xs true) (trio b f (more u none))) k e)
       go (own-back u₁ o₁ d d₁ x) (waits-first m n) r r₁ = let i₁ = subst (Inside t) x i in absurd (omega arith)
       go (own-back u₁ o₁ d d₁ x) (waits-later m (waits-first n o)) r r₁ = let i₁ = subst (Inside t) x i in absurd (omega arith)
       go (own-back u₁ o₁ d d₁ x) (waits-later m (waits-later n (waits-first o c))) r r₁ =

@@ -47,7 +47,7 @@ module _ {p : Plan} where
     locate (sits-scope {v = true} {n = n} {ns = ns} {b = b} {f} {k = k} kn v i sb z sf (rest-undo {q = q} {u = u} su)) (knows _ _ _ (knows-more kb (knows-more kf (knows-more ku knows-none)))) (leads-scope _ _ wb wf (leads-undo _ wu)) e h =
         go (whose-true sf su e h) (λ hb. locate sb kb wb e hb)
       where
-        go : Whose b f (more u none) true k e → (hasBack b (k + 1) e ≡ true → Located p e (backs b (k + 1) e)) → Located p e (backs (act (scope true) (trio b f (more u none))) k e)
+        go : Whose b f (more u none) true k e → (hasBack b (k + 1) e ≡ true → Located p e (backs b (k + 1) e)) → Located p e (backs (act (scope xs true) (trio b f (more u none))) k e)
         go (own-back u₁ o d d₁ x) r =
             let y : u ≡ u₁ = cc in
             subst (Located p e) (sym x) (subst (λ (c : Act). Located p e (record { has = true; tree = c; at = k + 1 + size b + size f; sure = surely c (k + 1 + size b + size f) })) y
@@ -55,7 +55,7 @@ module _ {p : Plan} where
         go (body-back hb x) r = subst (Located p e) (sym x) (r hb)
     locate (sits-scope {v = false} {b = b} {f} {k = k} kn v i sb z sf rest-none) (knows _ _ _ (knows-more kb (knows-more kf knows-none))) (leads-scope _ _ wb wf leads-no) e h =
         let x = whose-false b f k sf e h in subst (Located p e) (sym (x .1)) (locate sb kb wb e (x .0))
-    locate (sits-scope kn v i sb z sf su) kk (leads-part s _ _) e h = absurd (not-scope s)
+    locate (sits-scope kn v i sb z) kk (leads-part s _ _) e h = absurd (not-scope s)
 
     locate-in : {q : Place} {l : Acts} {c : ℕ} → SitsIn p q l c → KnowsIn (kindAt p) l c → {r : Lead} → LeadsIn (leadAt p) l c r → (e : ℕ) → hasBackIn l c e ≡ true → Located p e (backsIn l c e)
     locate-in (sits-none {c = c}) kn w e h = absurd (backs-none c e h)
@@ -95,8 +95,8 @@ rest-sure (rest-undo {u = u} {k = c} s) e =
 rest-sure (rest-none {k = c}) e = none-sure c e
 
 module _ {p : Plan} where
-  own-has : {q : Place} (b f : Act) (u : Acts) (v : Bool) (k e t : ℕ) → Rest p v q u (k + 1 + size b + size f) → eqb k e ≡ true → some (eqb t) (backIn (act (scope v) (trio b f u)) k e) ≡ true
-      → hasBack (act (scope v) (trio b f u)) k e ≡ true
+  own-has : {q : Place} (b f : Act) (u : Acts) (v : Bool) (k e t : ℕ) → Rest p v q u (k + 1 + size b + size f) → eqb k e ≡ true → some (eqb t) (backIn (act (scope xs v) (trio b f u)) k e) ≡ true
+      → hasBack (act (scope xs v) (trio b f u)) k e ≡ true
   own-has b f (more u none) true k e t (rest-undo s) d h = ap (λ (z : Back). z .has) (backs-own b f u k e d)
   own-has b f none false k e t rest-none d h = absurd (nothing-in t (back-without b f k e d) h)
 
@@ -104,9 +104,9 @@ module _ {p : Plan} where
     has-back : {q : Place} {a : Act} {k : ℕ} → Sits p q a k → (e t : ℕ) → some (eqb t) (backIn a k e) ≡ true → hasBack a k e ≡ true
     has-back (sits-part {own = own} {within} {k} s g v y l) e t h =
         let x = backs-part own within k e s in ap (λ (z : Back). z .has) x ∙ has-back-in l e t (ap (λ (z : Back). some (eqb t) (z .sure)) (sym x) ∙ h)
-    has-back (sits-scope {v = v₀} {b = b} {f} {u} {k} kn v i sb z sf su) e t h =
+    has-back (sits-scope {v = v₀} {b = b} {f} {u} {k} kn v i sb z) e t h =
         decide (eqb k e) (λ d. own-has b f u v₀ k e t su d h)
-        (λ d. let x = backs-other (scope v₀) (trio b f u) k e d in
+        (λ d. let x = backs-other (scope xs v₀) (trio b f u) k e d in
         decide (ltb e (k + 1 + size b))
         (λ i. let y = x ∙ backs-in-is b (more f u) (k + 1) e true i in ap (λ (z : Back). z .has) y ∙ has-back sb e t (ap (λ (z : Back). some (eqb t) (z .sure)) (sym y) ∙ h))
         (λ i. let y = x ∙ backs-in-is b (more f u) (k + 1) e false i in

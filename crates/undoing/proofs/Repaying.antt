@@ -50,14 +50,14 @@ back-in-is a l c e b t = subst (λ (z : Bool). backAmong (more a l) c e ≡ elim
 pub back-part : (own : Own) (within : Acts) (k e : ℕ) → isScope own ≡ false → backIn (act own within) k e ≡ backAmong within (k + 1) e
 back-part own within k e s = back-is own within k e false (rw s)
 
-pub back-scope : (b f u : Act) (k e : ℕ) → eqb k e ≡ true → backIn (act (scope true) (trio b f (more u none))) k e ≡ surely u (k + 1 + size b + size f)
+pub back-scope : (b f u : Act) (k e : ℕ) → eqb k e ≡ true → backIn (act (scope xs true) (trio b f (more u none))) k e ≡ surely u (k + 1 + size b + size f)
 unfolding part partAt
-back-scope b f u k e t = back-is (scope true) (trio b f (more u none)) k e true t
+back-scope b f u k e t = back-is (scope xs true) (trio b f (more u none)) k e true t
 
 -- one with no undo part has none
-pub back-without : (b f : Act) (k e : ℕ) → eqb k e ≡ true → backIn (act (scope false) (trio b f none)) k e ≡ []
+pub back-without : (b f : Act) (k e : ℕ) → eqb k e ≡ true → backIn (act (scope xs false) (trio b f none)) k e ≡ []
 unfolding part partAt surely isSure hasAll
-back-without b f k e t = back-is (scope false) (trio b f none) k e true t
+back-without b f k e t = back-is (scope xs false) (trio b f none) k e true t
 
 -- an account of what began by other words
 comes-so : {left left′ : List ℕ → List ℕ} {sure sure′ : List ℕ} {r : Begun} → Comes left sure r → sure′ ≡ sure → left′ (r .marks) ≡ left (r .marks) → Comes left′ sure′ r
@@ -81,7 +81,7 @@ unfolding directly
 later-directly a l c e d t = rw t at d
 
 -- the undo part of a scope that has one
-third : (b f u : Act) (k e : ℕ) (ms : List ℕ) → eqb k e ≡ true → beginUndo (act (scope true) (trio b f (more u none))) k e ms ≡ begin u (k + 1 + size b + size f) ms
+third : (b f u : Act) (k e : ℕ) (ms : List ℕ) → eqb k e ≡ true → beginUndo (act (scope xs true) (trio b f (more u none))) k e ms ≡ begin u (k + 1 + size b + size f) ms
 unfolding beginUndo beginPart part partAt
 third b f u k e ms t = rw t
 
@@ -116,9 +116,9 @@ due-later a l c e h = rw (out-directly a c e h, back-in-is a l c e false (le-ltb
 
 module _ (p : Plan) where
   -- The undo part of a scope that is reached in an activity begins: what is due for it is to come, and nothing where it was handed on.
-  through-comes : {x : Place} {u : Acts} {c : ℕ} → Rest p false x u c → (b f : Act) (k e : ℕ) → k < e → (r : Begun) → Comes (undoLeftIn (act (scope false) (trio b f u)) k) (dueIn (act (scope false) (trio b f u)) k e) r
+  through-comes : {x : Place} {u : Acts} {c : ℕ} → Rest p false x u c → (b f : Act) (k e : ℕ) → k < e → (r : Begun) → Comes (undoLeftIn (act (scope xs false) (trio b f u)) k) (dueIn (act (scope xs false) (trio b f u)) k e) r
   through-comes rest-none b f k e h r =
-      let z : dueIn (act (scope false) (trio b f none)) k e ≡ [] = rw (directly-is (scope false) (trio b f none) k e true refl, ne-eqb k e (omega arith)) in
+      let z : dueIn (act (scope xs false) (trio b f none)) k e ≡ [] = rw (directly-is (scope xs false) (trio b f none) k e true refl, ne-eqb k e (omega arith)) in
       record { over = λ y. z; runs = λ y. undo-left-none b f k (r .marks) ∙ sym z }
 
   mutual
@@ -134,9 +134,9 @@ module _ (p : Plan) where
         (comes-so (undo-comes-in l e (sym (reaches-is own within k e s) ∙ d) m o₀ o f (quiet-part q (omega arith) (omega arith)) (omega arith) r i) (due-part own within k e s) (undo-left-is own within k _ s))
     undo-comes (sits-scope {v = true} {b = b} {f = f′} {k = k} kn v w sb z sf (rest-undo {u = u} su)) e d m o₀ o f q h r i =
         let t : eqb k e ≡ true = d in
-        subst (Comes (undoLeftIn (act (scope true) (trio b f′ (more u none))) k) (dueIn (act (scope true) (trio b f′ (more u none))) k e)) (sym (third b f′ u k e (o .marks) t))
+        subst (Comes (undoLeftIn (act (scope xs true) (trio b f′ (more u none))) k) (dueIn (act (scope xs true) (trio b f′ (more u none))) k e)) (sym (third b f′ u k e (o .marks) t))
         (comes-so (remedy-comes p su o (quiet-part q (omega arith) (omega arith)) (omega arith) i)
-        (rw (directly-is (scope true) (trio b f′ (more u none)) k e true refl, t, back-scope b f′ u k e t)) (undo-left-scope b f′ u k _))
+        (rw (directly-is (scope xs true) (trio b f′ (more u none)) k e true refl, t, back-scope b f′ u k e t)) (undo-left-scope b f′ u k _))
     undo-comes (sits-scope {v = false} {b = b} {f = f′} {u = u} {k = k} kn v w sb z sf su) e d m o₀ o f q h r i =
         let y = reaches-range b (k + 1) e d in through-comes su b f′ k e (omega arith) _
 
@@ -166,9 +166,9 @@ mutual
 
   unreached-due : {p : Plan} {x : Place} {a : Act} {k : ℕ} → Sits p x a k → (e : ℕ) → reaches a k e ≡ false → dueIn a k e ≡ []
   unreached-due (sits-part {own = own} {within} {k} s g v y l) e d = due-part own within k e s ∙ unreached-dues l e (sym (reaches-is own within k e s) ∙ d)
-  unreached-due (sits-scope {v = true} {b = b} {f = f} {u = u} {k = k} kn v i sb z sf su) e d = rw (directly-is (scope true) (trio b f u) k e true refl, d)
+  unreached-due (sits-scope {v = true} {b = b} {f = f} {u = u} {k = k} kn v i sb z) e d = rw (directly-is (scope xs true) (trio b f u) k e true refl, d)
   unreached-due (sits-scope {v = false} {b = b} {f = f} {k = k} kn v i sb z sf rest-none) e d =
-      decide (eqb k e) (λ t. rw (directly-is (scope false) (trio b f none) k e true refl, t, back-without b f k e t)) (λ t. rw (directly-is (scope false) (trio b f none) k e true refl, t))
+      decide (eqb k e) (λ t. rw (directly-is (scope xs false) (trio b f none) k e true refl, t, back-without b f k e t)) (λ t. rw (directly-is (scope xs false) (trio b f none) k e true refl, t))
 
   unreached-dues : {p : Plan} {x : Place} {l : Acts} {c : ℕ} → SitsIn p x l c → (e : ℕ) → reachesIn l c e ≡ false → dueAmong l c e ≡ []
   unreached-dues (sits-none {c = c}) e d = none-due c e
@@ -262,16 +262,16 @@ nothing-repays left t ms ns (undoRaising x) f = tt
 -- A step in a body of which an undo part runs.
 module _ (p : Plan) where
   scope-repays : {x : Place} {c : Bool} (b f u : Act) (q₀ k t : ℕ) (o : Order) → Remedy p x u (k + 1 + size b + size f) → PartOf x (k + 1 + size b + size f)
-      → Waits (o .marks) (act (scope true) (trio b f (more u none))) k t c → c ≡ false → getD (o .marks) k 0 ≡ idle → Quiet (o .marks) (k + 1) (size b + size f) → Run (o .marks) u (k + 1 + size b + size f)
+      → Waits (o .marks) (act (scope xs true) (trio b f (more u none))) k t c → c ≡ false → getD (o .marks) k 0 ≡ idle → Quiet (o .marks) (k + 1) (size b + size f) → Run (o .marks) u (k + 1 + size b + size f)
       → Fit x o → k + spread b f (more u none) ≤ length (o .marks)
-      → Repays (undoLeftIn (act (scope true) (trio b f (more u none))) k) t o (stepIn itsOwn (act (scope true) (trio b f (more u none))) q₀ k t o)
+      → Repays (undoLeftIn (act (scope xs true) (trio b f (more u none))) k) t o (stepIn itsOwn (act (scope xs true) (trio b f (more u none))) q₀ k t o)
   unfolding Whole size
   scope-repays b f u q₀ k t o su y₁ (waits-itself e d) c x q r v m = absurd (no-less (undoing-waits (undoing-scope {b = b} {f = f} {u = u} x q r) (waits-itself e d) c) e)
   scope-repays b f u q₀ k t o su y₁ (waits-within e (waits-first d w)) c x q r v m = absurd (quiet-waits w refl (quiet-part q (omega arith) (omega arith)))
   scope-repays b f u q₀ k t o su y₁ (waits-within e (waits-later d (waits-first y w))) c x q r v m = absurd (quiet-waits w refl (quiet-part q (omega arith) (omega arith)))
   scope-repays b f u q₀ k t o su y₁ (waits-within e (waits-later d (waits-later y (waits-first z w)))) c x q r v m =
       let n = k + 1 + size b + size f in
-      subst (Repays (undoLeftIn (act (scope true) (trio b f (more u none))) k) t o) (sym (undo-step p itsOwn b f u q₀ k t o y z))
+      subst (Repays (undoLeftIn (act (scope xs true) (trio b f (more u none))) k) t o) (sym (undo-step p itsOwn b f u q₀ k t o y z))
       (repays-so (repays-up (leftIn u n) t o (stepIn itsOwn u n n t o) (closings-step u n n t o (remedy-bare su))
       (not-undone p u n t o _ _ (stepIn itsOwn u n n t o .result) (steps-part p itsOwn su n t o _ y₁ w refl r v (omega arith) .comes))
       (remedy-less p su n t o _ y₁ w refl r v (omega arith)))
@@ -279,24 +279,24 @@ module _ (p : Plan) where
 
   -- by what stands after the fault part
   rest-repays : {z : Bool} {x : Place} {l : Acts} {n : ℕ} → Rest p z x l n → {c : Bool} (b f u : Act) (q₀ k t : ℕ) (o : Order) → n ≡ k + 1 + size b + size f → l ≡ more u none → ((i : ℕ) → PartOf x i)
-      → Waits (o .marks) (act (scope true) (trio b f (more u none))) k t c → c ≡ false → getD (o .marks) k 0 ≡ idle → Quiet (o .marks) (k + 1) (size b + size f) → Run (o .marks) u (k + 1 + size b + size f)
+      → Waits (o .marks) (act (scope xs true) (trio b f (more u none))) k t c → c ≡ false → getD (o .marks) k 0 ≡ idle → Quiet (o .marks) (k + 1) (size b + size f) → Run (o .marks) u (k + 1 + size b + size f)
       → Fit x o → k + spread b f (more u none) ≤ length (o .marks)
-      → Repays (undoLeftIn (act (scope true) (trio b f (more u none))) k) t o (stepIn itsOwn (act (scope true) (trio b f (more u none))) q₀ k t o)
+      → Repays (undoLeftIn (act (scope xs true) (trio b f (more u none))) k) t o (stepIn itsOwn (act (scope xs true) (trio b f (more u none))) q₀ k t o)
   rest-repays (rest-undo {q = x} {u = a} {k = n} su) b f u q₀ k t o g h y₁ w c y q r v m =
       let z : a ≡ u = cc in
       scope-repays b f u q₀ k t o (subst (λ (j : ℕ). Remedy p x u j) g (subst (λ (j : Act). Remedy p x j n) z su)) (y₁ (k + 1 + size b + size f)) w c y q r v m
   rest-repays rest-none b f u q₀ k t o g h y₁ w c y q r v m = absurd (let z : _≡_ {A = ℕ} 0 1 = cc in omega arith)
 
   through-repays : {x : Place} {u : Acts} {n : ℕ} → Rest p false x u n → {c : Bool} (b f : Act) (q₀ k t : ℕ) (m₀ : Name) (o : Order)
-      → Waits (o .marks) (act (scope false) (trio b f u)) k t c → c ≡ false → getD (o .marks) k 0 ≡ idle → Undoing (o .marks) b (k + 1) → Quiet (o .marks) (k + 1 + size b) (size f + sizes u)
+      → Waits (o .marks) (act (scope xs false) (trio b f u)) k t c → c ≡ false → getD (o .marks) k 0 ≡ idle → Undoing (o .marks) b (k + 1) → Quiet (o .marks) (k + 1 + size b) (size f + sizes u)
       → (Waits (o .marks) b (k + 1) t false → Acted (k + 1) (size b) o (UndoAs p m₀ b (k + 1) t o) (stepIn itsOwn b (k + 1) (k + 1) t o))
       → (Waits (o .marks) b (k + 1) t false → closings (stepIn itsOwn b (k + 1) (k + 1) t o .order) ≡ closings o)
-      → Repays (undoLeftIn (act (scope false) (trio b f u)) k) t o (stepIn itsOwn (act (scope false) (trio b f u)) q₀ k t o)
+      → Repays (undoLeftIn (act (scope xs false) (trio b f u)) k) t o (stepIn itsOwn (act (scope xs false) (trio b f u)) q₀ k t o)
   unfolding size
   through-repays rest-none b f q₀ k t m₀ o (waits-itself e d) c x r q a g = absurd (no-less (undoing-waits (undoing-through {f = f} {u = none} x r q) (waits-itself e d) c) e)
   through-repays rest-none b f q₀ k t m₀ o (waits-within e (waits-first d w)) c x r q a g =
-      subst (Repays (undoLeftIn (act (scope false) (trio b f none)) k) t o) (sym (through-is p itsOwn b f none q₀ k t m₀ o x e d (a w)))
-      (record { lists = g w; less = nothing-repays (undoLeftIn (act (scope false) (trio b f none)) k) t (o .marks) _ (stepIn itsOwn b (k + 1) (k + 1) t o .result) (λ ms. undo-left-none b f k ms) })
+      subst (Repays (undoLeftIn (act (scope xs false) (trio b f none)) k) t o) (sym (through-is p itsOwn b f none q₀ k t m₀ o x e d (a w)))
+      (record { lists = g w; less = nothing-repays (undoLeftIn (act (scope xs false) (trio b f none)) k) t (o .marks) _ (stepIn itsOwn b (k + 1) (k + 1) t o .result) (λ ms. undo-left-none b f k ms) })
   through-repays rest-none b f q₀ k t m₀ o (waits-within e (waits-later d w)) c x r q a g = absurd (quiet-waits-in w refl q)
 
   mutual
@@ -349,8 +349,8 @@ back-first a l c e t = back-in-is a l c e true (lt-ltb e (c + size a) (directly-
 pub back-later : (a : Act) (l : Acts) (c e : ℕ) → directlyIn l (c + size a) e ≡ true → backAmong (more a l) c e ≡ backAmong l (c + size a) e
 back-later a l c e t = back-in-is a l c e false (le-ltb e (c + size a) (directly-range-in l (c + size a) e t .0))
 
-pub direct-scope : (z : Bool) (within : Acts) (k e : ℕ) → directly (act (scope z) within) k e ≡ true → eqb k e ≡ true
-direct-scope z within k e d = sym (directly-is (scope z) within k e true refl) ∙ d
+pub direct-scope : (z : Bool) (within : Acts) (k e : ℕ) → directly (act (scope xs z) within) k e ≡ true → eqb k e ≡ true
+direct-scope z within k e d = sym (directly-is (scope xs z) within k e true refl) ∙ d
 
 -- What takes a scope back is a step of its undo part: a number that is none of a tree's takes none of its scopes back.
 mutual
@@ -359,9 +359,9 @@ mutual
   pub back-none : (a : Act) (k e t : ℕ) {p : Plan} {x : Place} → Sits p x a k → directly a k e ≡ true → Off t k (size a) → some (eqb t) (backIn a k e) ≡ false
   back-none (act own within) k e t (sits-part s g v y l) d f =
       ap (some (eqb t)) (back-part own within k e s) ∙ back-none-in within (k + 1) e t l (sym (directly-is own within k e false s) ∙ d) (off-part f (omega arith) (omega arith))
-  back-none (act (scope true) (more b (more f (more u none)))) k e t (sits-scope kn v i sb z sf (rest-undo su)) d g =
+  back-none (act (scope xs true) (more b (more f (more u none)))) k e t (sits-scope kn v i sb z sf (rest-undo su)) d g =
       ap (some (eqb t)) (back-scope b f u k e (direct-scope true (trio b f (more u none)) k e d)) ∙ surely-none u (k + 1 + size b + size f) t (off-part g (omega arith) (omega arith))
-  back-none (act (scope false) (more b (more f none))) k e t (sits-scope kn v i sb z sf rest-none) d g =
+  back-none (act (scope xs false) (more b (more f none))) k e t (sits-scope kn v i sb z sf rest-none) d g =
       ap (some (eqb t)) (back-without b f k e (direct-scope false (trio b f none) k e d))
 
   pub back-none-in : (l : Acts) (c e t : ℕ) {p : Plan} {x : Place} → SitsIn p x l c → directlyIn l c e ≡ true → Off t c (sizes l) → some (eqb t) (backAmong l c e) ≡ false
@@ -372,9 +372,9 @@ mutual
       (λ b. let z = later-directly a l c e d b in ap (some (eqb t)) (back-later a l c e z) ∙ back-none-in l (c + size a) e t y z (off-part f (omega arith) (omega arith)))
 
 -- A step that takes back, in a body of which an undo part runs, is still to come.
-scope-due : {ms : List ℕ} (b f u : Act) (k e t : ℕ) (c : Bool) → Waits ms (act (scope true) (trio b f (more u none))) k t c → c ≡ false → eqb k e ≡ true → getD ms k 0 ≡ idle
-    → Quiet ms (k + 1) (size b + size f) → Run ms u (k + 1 + size b + size f) → some (eqb t) (backIn (act (scope true) (trio b f (more u none))) k e) ≡ true
-    → some (eqb t) (undoLeftIn (act (scope true) (trio b f (more u none))) k ms) ≡ true
+scope-due : {ms : List ℕ} (b f u : Act) (k e t : ℕ) (c : Bool) → Waits ms (act (scope xs true) (trio b f (more u none))) k t c → c ≡ false → eqb k e ≡ true → getD ms k 0 ≡ idle
+    → Quiet ms (k + 1) (size b + size f) → Run ms u (k + 1 + size b + size f) → some (eqb t) (backIn (act (scope xs true) (trio b f (more u none))) k e) ≡ true
+    → some (eqb t) (undoLeftIn (act (scope xs true) (trio b f (more u none))) k ms) ≡ true
 scope-due b f u k e t c (waits-itself z g) n d x q r h = absurd (no-less (undoing-waits (undoing-scope {b = b} {f = f} {u = u} x q r) (waits-itself z g) n) z)
 scope-due b f u k e t c (waits-within z (waits-first g w)) n d x q r h = absurd (quiet-waits w refl (quiet-part q (omega arith) (omega arith)))
 scope-due b f u k e t c (waits-within z (waits-later g (waits-first y w))) n d x q r h = absurd (quiet-waits w refl (quiet-part q (omega arith) (omega arith)))
@@ -392,10 +392,10 @@ mutual
       ∙ undo-due-in within (k + 1) e t _ l (sym (directly-is own within k e false s) ∙ d) w (opens-idle own (getD ms k 0) i) r (ap (some (eqb t)) (sym (back-part own within k e s)) ∙ h)
   undo-due (act own within) k e t b (sits-part s g v y l) d (waits-within z w) f (undoing-scope _ _ _) h = absurd (not-scope s)
   undo-due (act own within) k e t b (sits-part s g v y l) d (waits-within z w) f (undoing-through _ _ _) h = absurd (not-scope s)
-  undo-due (act (scope true) (more b′ (more f′ u))) k e t b (sits-scope kn v i sb z sf su) d w f (undoing-part s _ _) h = absurd (not-scope s)
-  undo-due (act (scope true) (more b′ (more f′ u))) k e t b (sits-scope kn v i sb z sf su) d w f (undoing-scope {u = u′} x q r) h = scope-due b′ f′ u′ k e t b w f (direct-scope true (trio b′ f′ (more u′ none)) k e d) x q r h
-  undo-due (act (scope false) (more b′ (more f′ u))) k e t b (sits-scope kn v i sb z sf su) d w f (undoing-part s _ _) h = absurd (not-scope s)
-  undo-due (act (scope false) (more b′ (more f′ none))) k e t b (sits-scope kn v i sb z sf rest-none) d w f (undoing-through x r q) h =
+  undo-due (act (scope xs true) (more b′ (more f′ u))) k e t b (sits-scope kn v i sb z) d w f (undoing-part s _ _) h = absurd (not-scope s)
+  undo-due (act (scope xs true) (more b′ (more f′ u))) k e t b (sits-scope kn v i sb z) d w f (undoing-scope {u = u′} x q r) h = scope-due b′ f′ u′ k e t b w f (direct-scope true (trio b′ f′ (more u′ none)) k e d) x q r h
+  undo-due (act (scope xs false) (more b′ (more f′ u))) k e t b (sits-scope kn v i sb z) d w f (undoing-part s _ _) h = absurd (not-scope s)
+  undo-due (act (scope xs false) (more b′ (more f′ none))) k e t b (sits-scope kn v i sb z sf rest-none) d w f (undoing-through x r q) h =
       absurd (false≢true (ap (some (eqb t)) (sym (back-without b′ f′ k e (direct-scope false (trio b′ f′ none) k e d))) ∙ h))
 
   undo-due-in : {p : Plan} {x : Place} {ms : List ℕ} (l : Acts) (c e t : ℕ) (b : Bool) → SitsIn p x l c → directlyIn l c e ≡ true → WaitsIn ms l c t b → b ≡ false → UndoingIn ms l c
@@ -436,7 +436,7 @@ kind-place p q own within k t v f h = go own h
     go sequence h = f h
     go flow h = f h
     go pick h = absurd (false≢true h)
-    go (scope u) h = absurd (false≢true h)
+    go (scope xs u) h = absurd (false≢true h)
     go (arm x y vs) h = absurd (false≢true h)
 
 mutual
@@ -445,7 +445,7 @@ mutual
   surely-place : {p : Plan} {q : Place} {a : Act} {k : ℕ} → Sits p q a k → (t : ℕ) → some (eqb t) (surely a k) ≡ true → placeOf p t ≡ q
   surely-place {p = p} {q = q} (sits-part {own = own} {within} {k} s g v y l) t h =
       kind-place p q own within k t (v .place) (λ z. surely-places l t z) (ap (some (eqb t)) (sym (surely-is own within k)) ∙ h)
-  surely-place (sits-scope {v = z₀} {b = b} {f = f} {u = u} {k = k} kn v i sb z sf su) t h = absurd (false≢true (ap (some (eqb t)) (sym (surely-is (scope z₀) (trio b f u) k)) ∙ h))
+  surely-place (sits-scope {v = z₀} {b = b} {f = f} {u = u} {k = k} kn v i sb z) t h = absurd (false≢true (ap (some (eqb t)) (sym (surely-is (scope xs z₀) (trio b f u) k)) ∙ h))
 
   surely-places : {p : Plan} {q : Place} {l : Acts} {c : ℕ} → SitsIn p q l c → (t : ℕ) → some (eqb t) (surelyAmong l c) ≡ true → placeOf p t ≡ q
   surely-places sits-none t h = absurd (false≢true h)
@@ -462,9 +462,9 @@ mutual
   pub back-place : {p : Plan} {x : Place} (a : Act) (k e t : ℕ) → Sits p x a k → directly a k e ≡ true → some (eqb t) (backIn a k e) ≡ true → placeOf p t ≡ undoOf (nameOf x) (beyondOf x) (lastOf x)
   back-place (act own within) k e t (sits-part s g v y l) d h =
       back-places within (k + 1) e t l (sym (directly-is own within k e false s) ∙ d) (ap (some (eqb t)) (sym (back-part own within k e s)) ∙ h)
-  back-place (act (scope true) (more b (more f (more u none)))) k e t (sits-scope kn v i sb z sf (rest-undo su)) d h =
+  back-place (act (scope xs true) (more b (more f (more u none)))) k e t (sits-scope kn v i sb z sf (rest-undo su)) d h =
       remedy-place su t (ap (some (eqb t)) (sym (back-scope b f u k e (direct-scope true (trio b f (more u none)) k e d))) ∙ h)
-  back-place (act (scope false) (more b (more f none))) k e t (sits-scope kn v i sb z sf rest-none) d h =
+  back-place (act (scope xs false) (more b (more f none))) k e t (sits-scope kn v i sb z sf rest-none) d h =
       absurd (false≢true (ap (some (eqb t)) (sym (back-without b f k e (direct-scope false (trio b f none) k e d))) ∙ h))
 
   back-places : {p : Plan} {x : Place} (l : Acts) (c e t : ℕ) → SitsIn p x l c → directlyIn l c e ≡ true → some (eqb t) (backAmong l c e) ≡ true → placeOf p t ≡ undoOf (nameOf x) (beyondOf x) (lastOf x)
@@ -490,7 +490,7 @@ kind-sub t (repeat a) x y z x′ y′ z′ e f g h = h
 kind-sub t sequence x y z x′ y′ z′ e f g h = f h
 kind-sub t flow x y z x′ y′ z′ e f g h = g h
 kind-sub t pick x y z x′ y′ z′ e f g h = h
-kind-sub t (scope u) x y z x′ y′ z′ e f g h = h
+kind-sub t (scope xs u) x y z x′ y′ z′ e f g h = h
 kind-sub t (arm a b vs) x y z x′ y′ z′ e f g h = h
 
 -- of two lists
@@ -571,7 +571,7 @@ mutual
   left-back (sits-scope {v = true} {b = b} {f = f} {k = k} kn v i sb z sf (rest-undo {u = u} su)) t ms h =
       record {
         scope = k;
-        direct = directly-is (scope true) (trio b f (more u none)) k k true refl ∙ eq-eqb k k refl;
+        direct = directly-is (scope xs true) (trio b f (more u none)) k k true refl ∙ eq-eqb k k refl;
         takes = ap (some (eqb t)) (back-scope b f u k k (eq-eqb k k refl)) ∙ left-sure u (k + 1 + size b + size f) t ms (ap (some (eqb t)) (sym (undo-left-scope b f u k ms)) ∙ h);
       }
   left-back (sits-scope {v = false} {b = b} {f = f} {k = k} kn v i sb z sf rest-none) t ms h = absurd (false≢true (ap (some (eqb t)) (sym (undo-left-none b f k ms)) ∙ h))
@@ -592,7 +592,7 @@ none-without t (x ∷ l) h = decide (eqb t x) (λ e. absurd (false≢true (sym h
 mutual
   pub close-place : {p : Plan} {x : Place} (a : Act) (k e : ℕ) → Sits p x a k → directly a k e ≡ true → placeOf p e ≡ bodyOf (nameOf x) (beyondOf x) (lastOf x)
   close-place (act own within) k e (sits-part s g v y l) d = close-places within (k + 1) e l (sym (directly-is own within k e false s) ∙ d)
-  close-place {p = p} (act (scope z₀) (more b (more f u))) k e (sits-scope {n = n} {c} {ns} kn v i sb z sf su) d =
+  close-place {p = p} (act (scope xs z₀) (more b (more f u))) k e (sits-scope {n = n} {c} {ns} kn v i sb z) d =
       subst (λ (j : ℕ). placeOf p j ≡ bodyOf n ns c) (eqb-true k e (direct-scope z₀ (trio b f u) k e d)) (v .place)
 
   close-places : {p : Plan} {x : Place} (l : Acts) (c e : ℕ) → SitsIn p x l c → directlyIn l c e ≡ true → placeOf p e ≡ bodyOf (nameOf x) (beyondOf x) (lastOf x)

@@ -38,7 +38,7 @@ doing (repeat x) e = refl
 doing sequence e = absurd (false≢true e)
 doing flow e = absurd (false≢true e)
 doing pick e = refl
-doing (scope v) e = absurd (false≢true e)
+doing (scope xs v) e = absurd (false≢true e)
 doing (arm p o vs) e = absurd (false≢true e)
 
 holds-so : (own : Own) → isScope own ≡ false → holdingOf (kind own) ≡ holding own
@@ -55,7 +55,7 @@ holds-so (repeat x) s = refl
 holds-so sequence s = refl
 holds-so flow s = refl
 holds-so pick s = refl
-holds-so (scope v) s = absurd (false≢true (sym s))
+holds-so (scope xs v) s = absurd (false≢true (sym s))
 holds-so (arm p o vs) s = refl
 
 -- a scope in a phase has one of its two marks
@@ -151,7 +151,7 @@ module _ (ms : List ℕ) where
     stopped-so (stopped-part {own} {within} {k} s e r) = stop-plain own within k s ∙ rw (e, stopped-all-so r)
     stopped-so (stopped-quiet {a} {k} q) = quiet-stopped a k q
     stopped-so (stopped-scope {v} {b} {f} {u} {k} t q) =
-        let z : scopeRuns (trio b f u) k ms ≡ true = rw (turned-so u t q, or-true, or-true) in stop-scope (scope v) (trio b f u) k refl ∙ stop-turned (getD ms k 0) (quiet k (1 + sizes (trio b f u)) ms) (turned-not-open t) z
+        let z : scopeRuns (trio b f u) k ms ≡ true = rw (turned-so u t q, or-true, or-true) in stop-scope (scope xs v) (trio b f u) k refl ∙ stop-turned (getD ms k 0) (quiet k (1 + sizes (trio b f u)) ms) (turned-not-open t) z
 
     stopped-all-so : {l : Acts} {c : ℕ} → StoppedIn ms l c → stoppedAll l c ms ≡ true
     stopped-all-so stopped-none = refl

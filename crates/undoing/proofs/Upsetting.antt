@@ -69,7 +69,7 @@ up-combines (repeat x) within k t r s n = up-goes k inside (again k) r n
 up-combines sequence within k t r s n = up-goes k active (λ o. whereOver (finishes k) (begunIn o (beginAfter within (k + 1) t (o .marks)))) r n
 up-combines flow within k t r s n = up-goes k active (joins k within) r n
 up-combines pick within k t r s n = up-goes k inside (finishes k) r n
-up-combines (scope v) within k t r s n = absurd (false≢true (sym s))
+up-combines (scope xs v) within k t r s n = absurd (false≢true (sym s))
 up-combines (arm x y vs) within k t r s n = refl
 
 -- by the same choice of what is done and what comes of it
@@ -106,31 +106,31 @@ no-less y z = omega arith
 
 -- In a body of which an undo part runs.
 module _ (p : Plan) where
-  scope-raises : {c : Bool} (b f u : Act) (q₀ k t : ℕ) (o : Order) → bare u ≡ true → Waits (o .marks) (act (scope true) (trio b f (more u none))) k t c → c ≡ false
+  scope-raises : {c : Bool} (b f u : Act) (q₀ k t : ℕ) (o : Order) → bare u ≡ true → Waits (o .marks) (act (scope xs true) (trio b f (more u none))) k t c → c ≡ false
       → getD (o .marks) k 0 ≡ idle → Quiet (o .marks) (k + 1) (size b + size f) → Run (o .marks) u (k + 1 + size b + size f)
-      → isTake (doingIn (act (scope true) (trio b f (more u none))) k t) ≡ true → stepIn inPlace (act (scope true) (trio b f (more u none))) q₀ k t o .result ≡ undoRaising conflictingReceive
+      → isTake (doingIn (act (scope xs true) (trio b f (more u none))) k t) ≡ true → stepIn inPlace (act (scope xs true) (trio b f (more u none))) q₀ k t o .result ≡ undoRaising conflictingReceive
   unfolding Whole kind
   scope-raises b f u q₀ k t o su (waits-itself e d) c x q r h = absurd (no-less (undoing-waits (undoing-scope x q r) (waits-itself e d) c) e)
   scope-raises b f u q₀ k t o su (waits-within e (waits-first d w)) c x q r h = absurd (quiet-waits w refl (quiet-part q (omega arith) (omega arith)))
   scope-raises b f u q₀ k t o su (waits-within e (waits-later d (waits-first y w))) c x q r h = absurd (quiet-waits w refl (quiet-part q (omega arith) (omega arith)))
   scope-raises b f u q₀ k t o su (waits-within e (waits-later d (waits-later y (waits-first z w)))) c x q r h =
-      let i : doingIn (act (scope true) (trio b f (more u none))) k t ≡ doingIn u (k + 1 + size b + size f) t
-      = doing-within (scope true) (trio b f (more u none)) k t e
+      let i : doingIn (act (scope xs true) (trio b f (more u none))) k t ≡ doingIn u (k + 1 + size b + size f) t
+      = doing-within (scope xs true) (trio b f (more u none)) k t e
       ∙ (doing-later b (more f (more u none)) (k + 1) t d ∙ (doing-later f (more u none) (k + 1 + size b) t y ∙ doing-among u none (k + 1 + size b + size f) t z)) in
       ap (λ (r : Outcome). r .result) (undo-step p inPlace b f u q₀ k t o y z)
       ∙ up-raised (stepIn inPlace u (k + 1 + size b + size f) (k + 1 + size b + size f) t o) (raise-out u (k + 1 + size b + size f) (k + 1 + size b + size f) t o su (ap isTake (sym i) ∙ h))
 
   -- looked through
-  through-raises : {c : Bool} (b f : Act) (u : Acts) (q₀ k t : ℕ) (m₀ : Name) (o : Order) → Waits (o .marks) (act (scope false) (trio b f u)) k t c → c ≡ false
-      → getD (o .marks) k 0 ≡ idle → Undoing (o .marks) b (k + 1) → Quiet (o .marks) (k + 1 + size b) (size f + sizes u) → isTake (doingIn (act (scope false) (trio b f u)) k t) ≡ true
+  through-raises : {c : Bool} (b f : Act) (u : Acts) (q₀ k t : ℕ) (m₀ : Name) (o : Order) → Waits (o .marks) (act (scope xs false) (trio b f u)) k t c → c ≡ false
+      → getD (o .marks) k 0 ≡ idle → Undoing (o .marks) b (k + 1) → Quiet (o .marks) (k + 1 + size b) (size f + sizes u) → isTake (doingIn (act (scope xs false) (trio b f u)) k t) ≡ true
       → (Waits (o .marks) b (k + 1) t false → Acted (k + 1) (size b) o (UndoAs p m₀ b (k + 1) t o) (stepIn inPlace b (k + 1) (k + 1) t o))
       → (Waits (o .marks) b (k + 1) t false → isTake (doingIn b (k + 1) t) ≡ true → stepIn inPlace b (k + 1) (k + 1) t o .result ≡ undoRaising conflictingReceive)
-      → stepIn inPlace (act (scope false) (trio b f u)) q₀ k t o .result ≡ undoRaising conflictingReceive
+      → stepIn inPlace (act (scope xs false) (trio b f u)) q₀ k t o .result ≡ undoRaising conflictingReceive
   unfolding size
   through-raises b f u q₀ k t m₀ o (waits-itself e d) c x r q h a g = absurd (no-less (undoing-waits (undoing-through {f = f} {u = u} x r q) (waits-itself e d) c) e)
   through-raises b f u q₀ k t m₀ o (waits-within e (waits-first d w)) c x r q h a g =
       ap (λ (r : Outcome). r .result) (through-is p inPlace b f u q₀ k t m₀ o x e d (a w))
-      ∙ g w (ap isTake (sym (doing-within (scope false) (trio b f u) k t e ∙ doing-among b (more f u) (k + 1) t d)) ∙ h)
+      ∙ g w (ap isTake (sym (doing-within (scope xs false) (trio b f u) k t e ∙ doing-among b (more f u) (k + 1) t d)) ∙ h)
   through-raises b f u q₀ k t m₀ o (waits-within e (waits-later d w)) c x r q h a g = absurd (quiet-waits-in w refl q)
 
   rest-bare : {z : Bool} {x : Place} {l : Acts} {k : ℕ} → Rest p z x l k → (u : Act) → l ≡ more u none → bare u ≡ true

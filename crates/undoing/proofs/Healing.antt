@@ -1,0 +1,69 @@
+-- The parts of a scope one by one, beyond what the plan says of them: which of them runs, in which a step is, and that its undo part is quiet unless it is the one
+-- that runs. Assumes nothing.
+use Prim.Native.Nat.{ℕ, zero, suc, _+_, _≤_, _<_}
+use native.Mathlib.Omega.{arith}
+use mathlib.Core.Path.{_≡_, refl, ap}
+use mathlib.Core.Bool.{Bool, true, false, cond}
+use mathlib.Core.List.{List, [], _∷_}
+use lib.ListN.{length}
+use Rattle.plan.specs.Tree.{empty, generalPart, Act, act, Acts, none, more, Plan, size, sizes, count}
+use Rattle.order.specs.State.{Name, choiceIn}
+use Rattle.order.specs.Begin.{part, partAt}
+use Rattle.undoing.specs.Ties.{Place}
+use Rattle.undoing.specs.Standing.{choiceOn}
+use Rattle.undoing.proofs.Marks.{Quiet, Run, Nth, nth-here, nth-later, Turned, turned-waits, turned-undoes, turned-heals, quiet-part}
+use Rattle.undoing.proofs.Orders.{Healers, heals-by, heals-all, rest-undo, rest-none}
+use Rattle.undoing.proofs.Waiting.{Waits, WaitsIn, waits-first, waits-later}
+use Rattle.undoing.proofs.Choices.{general-is}
+use Rattle.undoing.proofs.Remedies.{part-from, part-to, healers-many, chosen-most, choice-on}
+
+-- the i-th of a list runs, and each other is quiet
+pub nth-run : {ms : List ℕ} {i : ℕ} {l : Acts} {c : ℕ} → Nth ms i l c → (i < count l) × Run ms (part i l) (partAt i l c)
+unfolding part partAt count
+nth-run (nth-here r q) = (omega arith, r)
+nth-run (nth-later q r) = (omega (arith, nth-run r .0), nth-run r .1)
+
+pub nth-quiet : {ms : List ℕ} {i : ℕ} {l : Acts} {c : ℕ} → Nth ms i l c → (j : ℕ) → (j ≡ i → ⊥) → j < count l → Quiet ms (partAt j l c) (size (part j l))
+unfolding part partAt count size
+nth-quiet (nth-here r q) zero f h = absurd (f refl)
+nth-quiet (nth-here {a} {l} {c} r q) (suc j) f h = quiet-part q (part-from j l (c + size a)) (part-to j l (c + size a) (omega arith))
+nth-quiet (nth-later q r) zero f h = q
+nth-quiet (nth-later q r) (suc j) f h = nth-quiet r j (λ e. f (ap suc e)) (omega arith)
+
+-- the fault part that a scope chose is none after the general one
+pub choice-least : (xs : List ℕ) (m : ℕ) → choiceOn xs m < generalPart xs
+choice-least xs m = omega (arith, general-is xs, chosen-most xs (choiceIn m), choice-on xs m (choiceIn m) refl)
+
+-- in which of a list a step is
+pub record PartWaits (ms : List ℕ) (l : Acts) (c t : ℕ) (b : Bool) : Type 0 where
+  pub index : ℕ
+  pub there : index < count l
+  pub waits : Waits ms (part index l) (partAt index l c) t b
+  pub upto : t < partAt index l c + size (part index l)
+
+pub part-waits : {ms : List ℕ} {l : Acts} {c t : ℕ} {b : Bool} → WaitsIn ms l c t b → PartWaits ms l c t b
+unfolding part partAt count
+part-waits (waits-first h w) = record { index = 0; there = omega arith; waits = w; upto = h }
+part-waits (waits-later h w) = let r = part-waits w in record { index = suc (r .index); there = omega (arith, r .there); waits = r .waits; upto = r .upto }
+
+-- a scope with no undo part has nothing after its general fault part
+pub healers-none : {p : Plan} {s : Name} {xs : List ℕ} {q w : Place} {l : Acts} {c : ℕ} → Healers p s xs false q w l c → part (generalPart xs) l ≡ act empty none
+unfolding part
+healers-none (heals-by f r h) = healers-none h
+healers-none (heals-all f r rest-none) = refl
+
+-- one with an undo part has it there
+pub undo-there : {p : Plan} {s : Name} {xs : List ℕ} {v : Bool} {q w : Place} {l : Acts} {c : ℕ} → Healers p s xs v q w l c → v ≡ true → generalPart xs < count l
+undo-there {xs = xs} {v} {l = l} h e =
+    let n : count l ≡ length xs + cond v 2 1 = healers-many h in let m : count l ≡ length xs + 2 = rw e at n in omega (arith, general-is xs)
+
+-- which is quiet where all of them are, and where the scope has turned
+pub undo-all : {p : Plan} {s : Name} {xs ms : List ℕ} {v : Bool} {q w : Place} {l : Acts} {c : ℕ} → Healers p s xs v q w l c → v ≡ true → Quiet ms c (sizes l)
+    → Quiet ms (partAt (generalPart xs) l c) (size (part (generalPart xs) l))
+undo-all {xs = xs} {l = l} {c} h e z = quiet-part z (part-from (generalPart xs) l c) (part-to (generalPart xs) l c (undo-there h e))
+
+pub undo-turned : {p : Plan} {s : Name} {xs ms : List ℕ} {v : Bool} {q w : Place} {b : Act} {l : Acts} {m kb c : ℕ} → Healers p s xs v q w l c → v ≡ true → Turned ms xs m b kb l c
+    → Quiet ms (partAt (generalPart xs) l c) (size (part (generalPart xs) l))
+undo-turned h e (turned-waits x y n z) = undo-all h e z
+undo-turned h e (turned-undoes x y z) = undo-all h e z
+undo-turned {xs = xs} h e (turned-heals {m = m} x y r) = nth-quiet r (generalPart xs) (λ d. omega (arith, choice-least xs m)) (undo-there h e)
