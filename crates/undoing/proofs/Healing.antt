@@ -11,18 +11,13 @@ use Rattle.order.specs.State.{Name, choiceIn}
 use Rattle.order.specs.Begin.{part, partAt}
 use Rattle.undoing.specs.Ties.{Place}
 use Rattle.undoing.specs.Standing.{choiceOn}
-use Rattle.undoing.proofs.Marks.{Quiet, Run, Nth, nth-here, nth-later, Turned, turned-waits, turned-undoes, turned-heals, quiet-part}
+use Rattle.undoing.proofs.Marks.{Quiet, Nth, nth-here, nth-later, Turned, turned-waits, turned-undoes, turned-heals, quiet-part}
 use Rattle.undoing.proofs.Orders.{Healers, heals-by, heals-all, rest-undo, rest-none}
 use Rattle.undoing.proofs.Waiting.{Waits, WaitsIn, waits-first, waits-later}
 use Rattle.undoing.proofs.Choices.{general-is}
 use Rattle.undoing.proofs.Remedies.{part-from, part-to, healers-many, chosen-most, choice-on}
 
--- the i-th of a list runs, and each other is quiet
-pub nth-run : {ms : List ℕ} {i : ℕ} {l : Acts} {c : ℕ} → Nth ms i l c → (i < count l) × Run ms (part i l) (partAt i l c)
-unfolding part partAt count
-nth-run (nth-here r q) = (omega arith, r)
-nth-run (nth-later q r) = (omega (arith, nth-run r .0), nth-run r .1)
-
+-- where the i-th of a list runs each other is quiet
 pub nth-quiet : {ms : List ℕ} {i : ℕ} {l : Acts} {c : ℕ} → Nth ms i l c → (j : ℕ) → (j ≡ i → ⊥) → j < count l → Quiet ms (partAt j l c) (size (part j l))
 unfolding part partAt count size
 nth-quiet (nth-here r q) zero f h = absurd (f refl)
