@@ -12,7 +12,7 @@ use Rattle.order.specs.Begin.{part, partAt}
 use Rattle.undoing.specs.Ties.{Place}
 use Rattle.undoing.specs.Standing.{choiceOn}
 use Rattle.undoing.proofs.Marks.{Quiet, Nth, nth-here, nth-later, Turned, turned-waits, turned-undoes, turned-heals, quiet-part}
-use Rattle.undoing.proofs.Orders.{Healers, heals-by, heals-all, rest-undo, rest-none}
+use Rattle.undoing.proofs.Orders.{bare, bareIn, remedy-bare, Healers, heals-by, heals-all, rest-undo, rest-none}
 use Rattle.undoing.proofs.Waiting.{Waits, WaitsIn, waits-first, waits-later}
 use Rattle.undoing.proofs.Choices.{general-is}
 use Rattle.undoing.proofs.Remedies.{part-from, part-to, healers-many, chosen-most, choice-on}
@@ -29,23 +29,26 @@ nth-quiet (nth-later q r) (suc j) f h = nth-quiet r j (λ e. f (ap suc e)) (omeg
 pub choice-least : (xs : List ℕ) (m : ℕ) → choiceOn xs m < generalPart xs
 choice-least xs m = omega (arith, general-is xs, chosen-most xs (choiceIn m), choice-on xs m (choiceIn m) refl)
 
--- in which of a list a step is
-pub record PartWaits (ms : List ℕ) (l : Acts) (c t : ℕ) (b : Bool) : Type 0 where
-  pub index : ℕ
-  pub there : index < count l
-  pub waits : Waits ms (part index l) (partAt index l c) t b
-  pub upto : t < partAt index l c + size (part index l)
-
-pub part-waits : {ms : List ℕ} {l : Acts} {c t : ℕ} {b : Bool} → WaitsIn ms l c t b → PartWaits ms l c t b
+-- a step that stands in the i-th of a list is awaited there
+pub waits-at : {ms : List ℕ} {l : Acts} {c t : ℕ} {b : Bool} → WaitsIn ms l c t b → (i : ℕ) → i < count l → partAt i l c ≤ t → t < partAt i l c + size (part i l) → Waits ms (part i l) (partAt i l c) t b
 unfolding part partAt count
-part-waits (waits-first h w) = record { index = 0; there = omega arith; waits = w; upto = h }
-part-waits (waits-later h w) = let r = part-waits w in record { index = suc (r .index); there = omega (arith, r .there); waits = r .waits; upto = r .upto }
+waits-at (waits-first h w) zero n lo hi = w
+waits-at (waits-first {a} {l} {c} h w) (suc i) n lo hi = absurd (omega (arith, part-from i l (c + size a)))
+waits-at (waits-later h w) zero n lo hi = absurd (omega arith)
+waits-at (waits-later h w) (suc i) n lo hi = waits-at w i (omega arith) lo hi
 
 -- a scope with no undo part has nothing after its general fault part
 pub healers-none : {p : Plan} {s : Name} {xs : List ℕ} {q w : Place} {l : Acts} {c : ℕ} → Healers p s xs false q w l c → part (generalPart xs) l ≡ act empty none
 unfolding part
 healers-none (heals-by f r h) = healers-none h
 healers-none (heals-all f r rest-none) = refl
+
+-- no scope stands in them
+pub healers-bare : {p : Plan} {s : Name} {xs : List ℕ} {v : Bool} {q w : Place} {l : Acts} {c : ℕ} → Healers p s xs v q w l c → bareIn l ≡ true
+unfolding bare
+healers-bare (heals-by f r h) = rw (remedy-bare r, healers-bare h)
+healers-bare (heals-all f r (rest-undo u)) = rw (remedy-bare r, remedy-bare u)
+healers-bare (heals-all f r rest-none) = rw (remedy-bare r)
 
 -- one with an undo part has it there
 pub undo-there : {p : Plan} {s : Name} {xs : List ℕ} {v : Bool} {q w : Place} {l : Acts} {c : ℕ} → Healers p s xs v q w l c → v ≡ true → generalPart xs < count l

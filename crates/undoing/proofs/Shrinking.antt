@@ -161,7 +161,7 @@ module _ (f : ℕ → ℕ) (lead : ℕ → Lead) (own? : ℕ → Bool) (t : ℕ)
         let i = climb-in w v (off-part o (omega arith) (omega arith)) m (let z = eqb-false m k d in omega arith) (omega arith) y in
         let x = i .from in let z = i .to in
         led own k (1 + sizes within) (i .number) o (omega arith) (omega arith) (i .begun) (i .leads)))
-    climb (leads-scope x y z w v) b o m h e d = absurd (false≢true b)
+    climb (leads-scope x n y z) b o m h e d = absurd (false≢true b)
 
     climb-in : {w : Acts} {c : ℕ} {q : Lead} → LeadsIn lead w c q → bareIn w ≡ true → Off t c (sizes w) → (m : ℕ) → c ≤ m → m < c + sizes w → hasBegan m l ≡ true → Beginner q c m
     climb-in leads-none b o m h e y = absurd (omega arith)
