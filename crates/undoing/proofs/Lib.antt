@@ -5,6 +5,7 @@ pub mod Accounts
 pub mod Moves
 pub mod Marks
 pub mod Orders
+pub mod Remedies
 pub mod Beginning
 pub mod Seats
 pub mod Undo
