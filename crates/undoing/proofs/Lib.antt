@@ -19,6 +19,7 @@ pub mod Combining
 pub mod Stepping
 pub mod Roots
 pub mod Places
+pub mod Landing
 pub mod Planning
 pub mod Offered
 pub mod Judged
