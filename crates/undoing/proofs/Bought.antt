@@ -25,6 +25,7 @@ use Rattle.undoing.proofs.Marks.{trio}
 use Rattle.undoing.proofs.Moves.{undone-inside, closed-inside, not-begun, runner-name}
 use Rattle.undoing.proofs.Orders.{bare, bareIn, innerAt, onto, Sits, sits-part, sits-scope, SitsIn, sits-none, sits-more, remedy-bare}
 use Rattle.undoing.proofs.Healing.{healers-bare}
+use Rattle.undoing.proofs.Roots.{root-fault}
 use Rattle.undoing.proofs.Planning.{Promised, promised, scopes-is}
 use Rattle.undoing.proofs.Offered.{Each, each-none, each-more, each-append}
 use Rattle.undoing.proofs.Demanded as demanded
@@ -558,7 +559,7 @@ mutual
 
 all-placed : (p : Plan) → Promised p → Each (Placed p) (scopesOf p)
 unfolding scopesOf
-all-placed p h = each-append (subst (λ (ns : List Name). Each (Placed p) (scopesIn (p .body) 0 root ns)) (h .alone) (knowns (h .seat .body))) (subst (λ z. Each (Placed p) z) (sym (bare-scopes (p .fault) (size (p .body)) root [] (remedy-bare (h .seat .fault)))) each-none)
+all-placed p h = each-append (subst (λ (ns : List Name). Each (Placed p) (scopesIn (p .body) 0 root ns)) (h .alone) (knowns (h .seat .body))) (subst (λ z. Each (Placed p) z) (sym (bare-scopes (p .fault) (size (p .body)) root [] (remedy-bare (root-fault (h .seat))))) each-none)
 
 placed-known : {p : Plan} {l : List Inner} → Each (Placed p) l → Each (Known p) l
 placed-known each-none = each-none
