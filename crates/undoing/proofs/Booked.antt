@@ -7,7 +7,7 @@ use mathlib.Core.List.{List, [], _∷_, reverse, map}
 use lib.ListN.{length}
 use lib.Dec.{eqb}
 use borrow.Author.Tests.{eqb-true, eq-eqb, lt-ltb, le-ltb}
-use Rattle.plan.specs.Tree.{Act, Acts, none, more, Plan, size, sizes}
+use Rattle.plan.specs.Tree.{Act, Acts, Plan, size}
 use Rattle.order.specs.declared.Closing.{Closing}
 use Rattle.order.specs.declared.Order.{Order}
 use Rattle.order.specs.declared.End.the-variants.{None}
@@ -27,8 +27,9 @@ use Rattle.undoing.specs.Answered.{backIn, backOf, isClose, isBack, Book
 use Rattle.undoing.proofs.Parts.{decide}
 use Rattle.undoing.proofs.Accounts.{Phase, live, waits, heals, phase, phase-faulty, phase-undoing, phase-handling}
 use Rattle.undoing.proofs.Moves.{HoldsAt, tied-at, move-fault}
-use Rattle.undoing.proofs.Marks.{Quiet, Run, Nth, nth-here, nth-later, Turned, turned-waits, turned-undoes, turned-heals, Stopped, Undoing, Stoppable, not-open, quiet-part, quiet-agree, agree-below, agree-above}
+use Rattle.undoing.proofs.Marks.{Quiet, Run, Turned, turned-waits, turned-undoes, turned-heals, Stopped, Undoing, Stoppable, not-open, quiet-agree, agree-below, agree-above}
 use Rattle.undoing.proofs.Orders.{listOf, momentOf, onto, Does}
+use Rattle.undoing.proofs.Healing.{only-runs, one-quiet, quiet-one}
 use Rattle.undoing.proofs.Seats.{faulting-elsewhere, stopped-rests, remembered-list}
 use Rattle.undoing.proofs.Undo.{UndoneAs, Undone, undoes-list}
 use Rattle.undoing.proofs.Turning.{TurnsAs, handles}
@@ -129,20 +130,6 @@ heals-quiet : {ms xs : List ℕ} {m kb kf : ℕ} {b : Act} {l : Acts} → Turned
 heals-quiet (turned-waits {w = w} e x n y) d = absurd (let z : heals ≡ waits w = sym d ∙ e in let x : _≡_ {A = ℕ} 0 1 = cc in omega arith)
 heals-quiet (turned-undoes {w = w} e x y) d = absurd (let z : heals ≡ Phase.undoes w = sym d ∙ e in let x : _≡_ {A = ℕ} 0 1 = cc in omega arith)
 heals-quiet (turned-heals e q r) d = q
-
--- its one fault part runs
-only-runs : {ms : List ℕ} {i c : ℕ} {f : Act} → Nth ms i (more f none) c → i ≡ 0 → Run ms f c
-only-runs (nth-here r q) e = r
-only-runs (nth-later q r) e = absurd (omega arith)
-
--- one list of parts, or the one part
-one-quiet : {ms : List ℕ} (f : Act) {c : ℕ} → Quiet ms c (sizes (more f none)) → Quiet ms c (size f)
-unfolding size
-one-quiet f q = quiet-part q (omega arith) (omega arith)
-
-quiet-one : {ms : List ℕ} (f : Act) {c : ℕ} → Quiet ms c (size f) → Quiet ms c (sizes (more f none))
-unfolding size
-quiet-one f q = quiet-part q (omega arith) (omega arith)
 
 -- nothing runs and nothing is remembered
 quiet-owed : (p : Plan) (o : Order) → undoLeftIn (p .body) 0 (o .marks) ≡ [] → owed p o ≡ duesIn p (listOf p root o)

@@ -11,7 +11,7 @@ use Rattle.order.specs.State.{Name, choiceIn}
 use Rattle.order.specs.Begin.{part, partAt}
 use Rattle.undoing.specs.Ties.{Place}
 use Rattle.undoing.specs.Standing.{choiceOn}
-use Rattle.undoing.proofs.Marks.{Quiet, Nth, nth-here, nth-later, Turned, turned-waits, turned-undoes, turned-heals, quiet-part}
+use Rattle.undoing.proofs.Marks.{Quiet, Run, Nth, nth-here, nth-later, Turned, turned-waits, turned-undoes, turned-heals, quiet-part}
 use Rattle.undoing.proofs.Orders.{bare, bareIn, remedy-bare, Healers, heals-by, heals-all, rest-undo, rest-none}
 use Rattle.undoing.proofs.Waiting.{Waits, WaitsIn, waits-first, waits-later}
 use Rattle.undoing.proofs.Choices.{general-is}
@@ -65,3 +65,16 @@ pub undo-turned : {p : Plan} {s : Name} {xs ms : List ℕ} {v : Bool} {q w : Pla
 undo-turned h e (turned-waits x y n z) = undo-all h e z
 undo-turned h e (turned-undoes x y z) = undo-all h e z
 undo-turned {xs = xs} h e (turned-heals {m = m} x y r) = nth-quiet r (generalPart xs) (λ d. omega (arith, choice-least xs m)) (undo-there h e)
+
+-- The root has one part after its body: it runs where one of its parts does, and is quiet where they are.
+pub only-runs : {ms : List ℕ} {i c : ℕ} {f : Act} → Nth ms i (more f none) c → i ≡ 0 → Run ms f c
+only-runs (nth-here r q) e = r
+only-runs (nth-later q r) e = absurd (omega arith)
+
+pub one-quiet : {ms : List ℕ} (f : Act) {c : ℕ} → Quiet ms c (sizes (more f none)) → Quiet ms c (size f)
+unfolding size
+one-quiet f q = quiet-part q (omega arith) (omega arith)
+
+pub quiet-one : {ms : List ℕ} (f : Act) {c : ℕ} → Quiet ms c (size f) → Quiet ms c (sizes (more f none))
+unfolding size
+quiet-one f q = quiet-part q (omega arith) (omega arith)
