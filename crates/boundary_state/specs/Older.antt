@@ -48,7 +48,7 @@ abbrev pub oldPlan : List ℕ → List ℕ
 oldPlan s = take (planEnd s - 36) (drop 36 s)
 
 -- "Close remembers the scope for the nearest scope around it": whether row j is a scope that row k stands in, and by the rows below j the part that the closing of
--- scope k is remembered for: the body of the nearest such scope, which is the row after it, or the root's. No plan of that time has a scope of code 12.
+-- scope k is remembered for: the body of the nearest such scope, which is the row after it, or the root's. No plan of that time has a scope of code 12 or 14.
 abbrev pub isAround : (table : List ℕ) → (j k : ℕ) → Bool
 isAround t j k = eqb (getD t (j * 13) 0) 11 && ltb k (getD t (j * 13 + 11) 0)
 

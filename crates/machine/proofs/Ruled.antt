@@ -17,6 +17,7 @@ use Rattle.order.specs.Expression.{isFaultNumber}
 use Rattle.order.specs.Lists.{every}
 use Rattle.order.specs.State.{idle, active, faulty, undoing, handling, withdrawing, stateIn}
 use Rattle.machine.specs.State.{letters}
+use Rattle.machine.specs.Planned.{Bare}
 use Rattle.machine.specs.Limits.{exchanged, messageInLimits, rootInLimits, markInLimits, orderInLimits, inLimits}
 
 -- `exchange_ruled`
@@ -157,13 +158,13 @@ unfolding rootInLimits among
 root-undoes m h e = rw (ne-eqb m 0 (λ z. omega arith), ne-eqb m 1 (λ z. omega arith)) e
 
 -- `bare`
-pub bare-chosen : (m : ℕ) {r : Bool} → r ≡ among (stateIn m) (faulty ∷ undoing ∷ handling ∷ []) → r ≡ true → leb 0 8 ≡ markInLimits m
+pub bare-chosen : (m : ℕ) {r : Bool} → r ≡ among (stateIn m) (faulty ∷ undoing ∷ handling ∷ []) → r ≡ true → Bare m 0
 unfolding markInLimits
-bare-chosen m e t = rw (sym e ∙ t) (sym (or-true (leb m withdrawing)))
+bare-chosen m e t = record { is = rw (sym e ∙ t) (sym (or-true (leb m withdrawing))) }
 
-pub bare-other : (m : ℕ) {r : Bool} → r ≡ among (stateIn m) (faulty ∷ undoing ∷ handling ∷ []) → r ≡ false → leb m 8 ≡ markInLimits m
+pub bare-other : (m : ℕ) {r : Bool} → r ≡ among (stateIn m) (faulty ∷ undoing ∷ handling ∷ []) → r ≡ false → Bare m m
 unfolding markInLimits
-bare-other m e t = rw (sym e ∙ t) (sym (or-false (leb m withdrawing)))
+bare-other m e t = record { is = rw (sym e ∙ t) (sym (or-false (leb m withdrawing))) }
 
 -- `marks_ruled`: all marks are within their limits if the largest of those before the place i, without their choices, is at most 8, and all from there on are
 pub record Ruling (l : List ℕ) (i largest : ℕ) : Type 0 where
@@ -173,10 +174,10 @@ pub ruling-starts : (l : List ℕ) → Ruling l 0 0
 ruling-starts l = record { same = refl }
 
 module _ {l : List ℕ} {i largest : ℕ} (a : Ruling l i largest) where
-  pub ruling-more : i < length l → {b r : ℕ} → leb b 8 ≡ markInLimits (getD l i 0) → ((n : ℕ) → leb r n ≡ (leb largest n && leb b n)) → Ruling l (i + 1) r
+  pub ruling-more : i < length l → {b r : ℕ} → Bare (getD l i 0) b → ((n : ℕ) → leb r n ≡ (leb largest n && leb b n)) → Ruling l (i + 1) r
   unfolding every
   ruling-more h {b} {r} e f = record {
-    same = a .same ∙ rw (drop-cons l i 0 h, add-one i, f 8, e) (grouped (leb largest 8) (markInLimits (getD l i 0)) _);
+    same = a .same ∙ rw (drop-cons l i 0 h, add-one i, f 8, e .is) (grouped (leb largest 8) (markInLimits (getD l i 0)) _);
   }
     where
       grouped : (x y z : Bool) → (x && (y && z)) ≡ ((x && y) && z)

@@ -18,6 +18,7 @@ ghost use Rattle.plan.specs.Read.{readPlan};
 ghost use Rattle.order.specs.Expression.{isFaultNumber};
 ghost use Rattle.order.specs.Lists.{every};
 ghost use Rattle.order.specs.State.{faulty, undoing, handling, stateIn};
+ghost use Rattle.machine.specs.Planned.{Bare};
 ghost use Rattle.machine.specs.Limits.{exchanged, messageInLimits, rootInLimits, markInLimits, orderInLimits, inLimits, planIn};
 
 // Whether a partner, an operation and a count of values are within their rules.
@@ -85,7 +86,7 @@ fn root_ruled(mark: u8) -> bool
 // A mark without a choice that it may have: at most 8 where it is within its limits. A state saved before there were choices has none, and is within them as
 // it was.
 fn bare(mark: u8) -> u8
-    ensures { λ r. ⌜ leb r 8 ≡ markInLimits mark ⌝ }
+    ensures { λ r. ⌜ Bare mark r ⌝ }
 {
     if is_chosen(mark) {
         return 0;

@@ -107,10 +107,10 @@ among-append w [] b = refl
 among-append w (x ∷ a) b = rw (among-append w a b) (sym (or-assoc (eqb w x) (among w a) (among w b)))
 
 -- where `once` holds, no variable of l is among those that are read
-Apart : (once : Bool) (read l : List ℕ) → Type 0
+unfoldable pub Apart : (once : Bool) (read l : List ℕ) → Type 0
 Apart once read l = (w : ℕ) → among w l ≡ true → (once && among w read) ≡ false
 
-apart-first : (once : Bool) (read l : List ℕ) (v : ℕ) → Apart once read (v ∷ l) → (once && among v read) ≡ false
+pub apart-first : (once : Bool) (read l : List ℕ) (v : ℕ) → Apart once read (v ∷ l) → (once && among v read) ≡ false
 unfolding Apart among
 apart-first once read l v a = a v (rw (eq-eqb v v refl))
 
@@ -122,7 +122,7 @@ apart-next true read l v a h w m =
     rw (among-append w read (v ∷ []), n, a w (rw n m))
 
 -- the same where those that are read are the latest first
-apart-more : (read l : List ℕ) (v : ℕ) → Apart true read (v ∷ l) → among v l ≡ false → Apart true (v ∷ read) l
+pub apart-more : (read l : List ℕ) (v : ℕ) → Apart true read (v ∷ l) → among v l ≡ false → Apart true (v ∷ read) l
 unfolding Apart among
 apart-more read l v a h w m =
     let n : eqb w v ≡ false = ne-eqb w v (λ e. false≢true (sym h ∙ rw e at m)) in
@@ -359,7 +359,7 @@ module _ (rest s : List ℕ) (vars : ℕ) (few : vars ≤ 16) (cs : List ℕ) wh
       let few-numbers = leb-true (length (x ∷ k)) 8 i in
       let parts : count m ≡ length (x ∷ k) + 2 = omega (arith, eqb-true (count (more b m)) (length (x ∷ k) + 3) e) in
       let left : Left rest s at (14 ∷ ((actNumbers b ++ (length (x ∷ k) ∷ actsNumbers (map (λ z. z ∷ []) (x ∷ k)) m)) ++ ns)) =
-          rw (scope-numbers (x ∷ k) b m (omega arith) parts) at t in
+      rw (scope-numbers (x ∷ k) b m (omega arith) parts) at t in
       and-then _ (numbered-own vars few handler (omega arith) (omega arith) cs (not-true handler g) left) (λ p t1.
       and-then _ (each .0 false handler d (n + 1) p (length (x ∷ k) ∷ (actsNumbers (map (λ z. z ∷ []) (x ∷ k)) m ++ ns)) (omega arith) u (rw append-assoc at t1)) (λ q t2.
       and-then _ (field (omega arith) (omega arith) (omega arith) t2) (λ z t3.

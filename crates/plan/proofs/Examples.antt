@@ -1,18 +1,18 @@
 -- Closed plans on each side of the limits: what document 01 allows is within them, what it refuses is not. Assumes nothing.
-use Prim.Native.Nat.{ℕ, zero, suc}
+use Prim.Native.Nat.{ℕ, zero, suc, _+_}
 use mathlib.Core.Path.{_≡_, refl}
 use mathlib.Core.Bool.{Bool, true, false}
 use mathlib.Core.List.{List, [], _∷_}
-use lib.ListN.{replicate}
+use lib.ListN.{length, replicate}
 use Rattle.numbers.specs.Shortest.{spelled, shortest}
 use Rattle.numbers.specs.Number.{lastGroup, groups, numberAt}
 use Rattle.plan.specs.Agree.{inBytes, askedOwn, spanOf, spanAll, askedIn, askedAll, asked, agreesWith, judged}
 use Rattle.plan.specs.Found as found
 use Rattle.plan.specs.Found.{Found, numberIn, fieldIn, among}
-use Rattle.plan.specs.Read.{expressionCodeIn, leafIn, expressionIn, variablesIn, tupleIn, exchangeIn, armIn, partnerIn, withExpressionIn, setIn, listIn, raiseIn, codeIn, partsIn, headIn, manyIn, readArm, readAct, starts, startForm, firstStarts, everyStarts, correlationIn, versionIn, rootIn, readAny, readPlan}
-use Rattle.plan.specs.Spell.{spell, operationCode, expressionNumbers, exchangeNumbers, ownNumbers, actNumbers, actsNumbers, planNumbers, spelling}
+use Rattle.plan.specs.Read.{expressionCodeIn, leafIn, expressionIn, variablesIn, tupleIn, exchangeIn, armIn, partnerIn, withExpressionIn, setIn, listIn, raiseIn, namable, faultNumberIn, codeIn, partsIn, headIn, manyIn, numberedIn, numberedScopeIn, readArm, readAct, starts, startForm, firstStarts, everyStarts, correlationIn, versionIn, rootIn, readAny, readPlan}
+use Rattle.plan.specs.Spell.{spell, operationCode, expressionNumbers, exchangeNumbers, ownNumbers, gapsOf, actNumbers, actsNumbers, planNumbers, spelling}
 use Rattle.plan.specs.Tree.{less, Exp, constant, variable, binary, Own, empty, send, receive, set, raise, leave, choose, sequence, flow, pick, scope, arm, kind, Act, act, Acts, none, more, Plan, size, sizes, count}
-use Rattle.plan.specs.Within.{expressionWithin, variablesWithin, exchangeWithin, ownWithin, raiseWithin, actWithin, actsWithin, ascending, planWithin}
+use Rattle.plan.specs.Within.{expressionWithin, variablesWithin, exchangeWithin, numbersEach, numbersWithin, ownWithin, raiseWithin, actWithin, actsWithin, ascending, planWithin}
 
 abbrev alone : Own → Act
 alone own = act own none
@@ -29,11 +29,11 @@ ask = alone (receive 3 5 (0 ∷ 1 ∷ []))
 
 -- the scope of plan C: empty but for its undo part
 abbrev undone : Act → Act
-undone a = act (scope true) (more (alone empty) (more (alone empty) (more a none)))
+undone a = act (scope [] true) (more (alone empty) (more (alone empty) (more a none)))
 
 -- a scope with no undo part: its body and its fault part
 abbrev handing : Act → Act → Act
-handing a b = act (scope false) (more a (more b none))
+handing a b = act (scope [] false) (more a (more b none))
 
 abbrev nested : ℕ → Act → Act
 nested zero a = a
@@ -48,12 +48,19 @@ arms = one pick (one (arm 63 0 (1 ∷ 0 ∷ [])) (alone (raise 0)))
 
 -- plan A: 01 02 01 00 02 03 05 02 00 01 00
 a-is-spelled : spelling (of ask) ≡ 1 ∷ 2 ∷ 1 ∷ 0 ∷ 2 ∷ 3 ∷ 5 ∷ 2 ∷ 0 ∷ 1 ∷ 0 ∷ []
-unfolding spelling planNumbers actNumbers actsNumbers ownNumbers exchangeNumbers spell shortest spelled count
+unfolding spelling planNumbers actNumbers actsNumbers ownNumbers gapsOf exchangeNumbers spell shortest spelled count
 a-is-spelled = refl
 
 abbrev times : ℕ → Act → Acts
 times zero a = none
 times (suc n) a = more a (times n a)
+
+-- a scope with fault parts for these numbers, whose body is a receive and whose other parts are empty; the same with these parts after its body
+abbrev naming : List ℕ → Act
+naming ns = act (scope ns true) (more ask (times (length ns + 2) (alone empty)))
+
+abbrev parted : Acts → Act
+parted l = act (scope (0 ∷ 255 ∷ []) true) (more ask l)
 
 -- 235 + n activities in all
 abbrev broad : ℕ → Plan
@@ -64,7 +71,8 @@ flagged [] = []
 flagged (p ∷ l) = planWithin p ∷ flagged l
 
 -- plan A; plan C's form; 16 deep; an expression 8 deep; an arm whose activity is 16 deep; 256 activities; a scope
--- with no undo part around one that has it; a body that is one; raises with the numbers 16 and 255
+-- with no undo part around one that has it; a body that is one; raises with the numbers 16 and 255; fault parts for the numbers 0, 4, 16 and 255, and
+-- for eight
 abbrev allowed : List Plan
 allowed =
     of ask
@@ -76,11 +84,14 @@ allowed =
     ∷ of (act sequence (more ask (more (handing (undone (alone empty)) (alone (raise 0))) none)))
     ∷ of (handing ask (alone empty))
     ∷ of (act sequence (more ask (more (alone (raise 16)) (more (alone (raise 255)) none))))
+    ∷ of (naming (0 ∷ 4 ∷ 16 ∷ 255 ∷ []))
+    ∷ of (naming (0 ∷ 1 ∷ 2 ∷ 3 ∷ 4 ∷ 16 ∷ 17 ∷ 18 ∷ []))
     ∷ []
 
 -- a scope in an undo part; a scope in the fault part; a variable twice in a receive; 17 deep; an expression 9 deep; an arm's activity 17 deep;
 -- a variable for correlation set; body no start form; an arm where an activity is due; an empty sequence; 257 activities; a scope
--- with no undo part in the fault part of one; one with three parts; one whose body is no start form; raises with the numbers 1, 15 and 256
+-- with no undo part in the fault part of one; one with three parts; one whose body is no start form; raises with the numbers 1, 15 and 256; fault parts for
+-- the numbers 5, 15 and 256, for one twice, for nine; with a part too few, and one too many; with no undo part; such a scope in a fault part
 abbrev refused : List Plan
 refused =
     of (act sequence (more ask (more (undone (undone (alone empty))) none)))
@@ -95,15 +106,24 @@ refused =
     ∷ of (act sequence (more ask (more (alone sequence) none)))
     ∷ broad 22
     ∷ of (handing ask (handing (alone empty) (alone empty)))
-    ∷ of (act (scope false) (more ask (more (alone empty) (more (alone empty) none))))
+    ∷ of (act (scope [] false) (more ask (more (alone empty) (more (alone empty) none))))
     ∷ of (handing (alone empty) ask)
     ∷ of (act sequence (more ask (more (alone (raise 1)) none)))
     ∷ of (act sequence (more ask (more (alone (raise 15)) none)))
     ∷ of (act sequence (more ask (more (alone (raise 256)) none)))
+    ∷ of (naming (5 ∷ []))
+    ∷ of (naming (15 ∷ []))
+    ∷ of (naming (256 ∷ []))
+    ∷ of (naming (16 ∷ 0 ∷ 16 ∷ []))
+    ∷ of (naming (0 ∷ 1 ∷ 2 ∷ 3 ∷ 4 ∷ 16 ∷ 17 ∷ 18 ∷ 19 ∷ []))
+    ∷ of (parted (times 3 (alone empty)))
+    ∷ of (parted (times 5 (alone empty)))
+    ∷ of (act (scope (0 ∷ []) false) (more ask (times 2 (alone empty))))
+    ∷ of (parted (more (naming (0 ∷ [])) (times 3 (alone empty))))
     ∷ []
 
-pub both-sides : (flagged allowed ≡ replicate 9 true) × (flagged refused ≡ replicate 17 false)
-unfolding planWithin spelling planNumbers actNumbers actsNumbers ownNumbers exchangeNumbers spell shortest spelled count ascending actWithin actsWithin ownWithin raiseWithin exchangeWithin variablesWithin among size sizes startForm firstStarts everyStarts starts kind expressionNumbers operationCode expressionWithin
+pub both-sides : (flagged allowed ≡ replicate 11 true) × (flagged refused ≡ replicate 26 false)
+unfolding planWithin spelling planNumbers actNumbers actsNumbers ownNumbers gapsOf exchangeNumbers spell shortest spelled count ascending actWithin actsWithin ownWithin namable numbersEach numbersWithin raiseWithin exchangeWithin variablesWithin among size sizes startForm firstStarts everyStarts starts kind expressionNumbers operationCode expressionWithin
 both-sides = (refl, refl)
 
 -- Receives that disagree: document 02, request 8.
@@ -137,7 +157,7 @@ pub disagree : all (
     ∷ unstarted (0 ∷ [])
     ∷ [])
     ≡ (21 ∷ 14 ∷ []) ∷ (0 ∷ 17 ∷ []) ∷ (0 ∷ 17 ∷ []) ∷ (21 ∷ 15 ∷ []) ∷ (0 ∷ 17 ∷ []) ∷ (9 ∷ 17 ∷ []) ∷ (7 ∷ 3 ∷ []) ∷ (9 ∷ 18 ∷ []) ∷ []
-unfolding lastGroup groups numberAt numberIn fieldIn among kind size count expressionCodeIn leafIn expressionIn variablesIn tupleIn exchangeIn armIn partnerIn withExpressionIn setIn listIn raiseIn codeIn partsIn headIn manyIn readArm readAct starts startForm firstStarts everyStarts correlationIn versionIn rootIn readAny readPlan inBytes askedOwn spanOf spanAll askedIn askedAll asked agreesWith judged spelled shortest spell operationCode expressionNumbers exchangeNumbers ownNumbers
+unfolding lastGroup groups numberAt numberIn fieldIn among kind size count expressionCodeIn leafIn expressionIn variablesIn tupleIn exchangeIn armIn partnerIn withExpressionIn setIn listIn raiseIn namable faultNumberIn codeIn partsIn headIn manyIn numberedIn numberedScopeIn readArm readAct starts startForm firstStarts everyStarts correlationIn versionIn rootIn readAny readPlan inBytes askedOwn spanOf spanAll askedIn askedAll asked agreesWith judged spelled shortest spell operationCode expressionNumbers exchangeNumbers ownNumbers gapsOf
 disagree = refl
 
 -- Code 12: document 02, request 13.
@@ -146,20 +166,20 @@ disagree = refl
 abbrev from : ℕ → List ℕ → List ℕ
 from code l = 1 ∷ 1 ∷ 0 ∷ code ∷ 2 ∷ 0 ∷ 0 ∷ 1 ∷ 0 ∷ l
 
--- a body of code 12 has two parts, and then comes the root's fault part; three: 9, at the byte after the plan; code 11 has three; code 14: 4; code 12 in
+-- a body of code 12 has two parts, and then comes the root's fault part; three: 9, at the byte after the plan; code 11 has three; code 15: 4; code 12 in
 -- the fault part, in the undo part of one of code 11, in the root's fault part: 8; a body of code 12 that is no start form: 7
 pub coded : all (
     from 12 (0 ∷ 0 ∷ [])
     ∷ from 12 (0 ∷ 0 ∷ 0 ∷ [])
     ∷ from 11 (0 ∷ 0 ∷ 0 ∷ [])
-    ∷ from 14 (0 ∷ 0 ∷ [])
+    ∷ from 15 (0 ∷ 0 ∷ [])
     ∷ from 12 (12 ∷ 0 ∷ 0 ∷ 0 ∷ [])
     ∷ from 11 (0 ∷ 12 ∷ 0 ∷ 0 ∷ 0 ∷ [])
     ∷ from 12 (0 ∷ 12 ∷ 0 ∷ 0 ∷ [])
     ∷ (1 ∷ 1 ∷ 0 ∷ 12 ∷ 0 ∷ 0 ∷ 0 ∷ [])
     ∷ [])
     ≡ (0 ∷ 11 ∷ []) ∷ (9 ∷ 11 ∷ []) ∷ (0 ∷ 12 ∷ []) ∷ (4 ∷ 3 ∷ []) ∷ (8 ∷ 9 ∷ []) ∷ (8 ∷ 10 ∷ []) ∷ (8 ∷ 10 ∷ []) ∷ (7 ∷ 3 ∷ []) ∷ []
-unfolding lastGroup groups numberAt numberIn fieldIn among kind size count expressionCodeIn leafIn expressionIn variablesIn tupleIn exchangeIn armIn partnerIn withExpressionIn setIn listIn raiseIn codeIn partsIn headIn manyIn readArm readAct starts startForm firstStarts everyStarts correlationIn versionIn rootIn readAny readPlan inBytes askedOwn spanOf spanAll askedIn askedAll asked agreesWith judged spelled shortest spell operationCode expressionNumbers exchangeNumbers ownNumbers
+unfolding lastGroup groups numberAt numberIn fieldIn among kind size count expressionCodeIn leafIn expressionIn variablesIn tupleIn exchangeIn armIn partnerIn withExpressionIn setIn listIn raiseIn namable faultNumberIn codeIn partsIn headIn manyIn numberedIn numberedScopeIn readArm readAct starts startForm firstStarts everyStarts correlationIn versionIn rootIn readAny readPlan inBytes askedOwn spanOf spanAll askedIn askedAll asked agreesWith judged spelled shortest spell operationCode expressionNumbers exchangeNumbers ownNumbers gapsOf
 coded = refl
 
 -- Code 13: document 02, request 4.
@@ -179,5 +199,31 @@ pub numbered : all (
     ∷ (1 ∷ 1 ∷ 0 ∷ 13 ∷ 16 ∷ 0 ∷ [])
     ∷ [])
     ≡ (0 ∷ 14 ∷ []) ∷ (0 ∷ 15 ∷ []) ∷ (0 ∷ 14 ∷ []) ∷ (5 ∷ 12 ∷ []) ∷ (5 ∷ 12 ∷ []) ∷ (5 ∷ 12 ∷ []) ∷ (2 ∷ 12 ∷ []) ∷ (2 ∷ 13 ∷ []) ∷ (3 ∷ 12 ∷ []) ∷ (7 ∷ 3 ∷ []) ∷ []
-unfolding lastGroup groups numberAt numberIn fieldIn among kind size count expressionCodeIn leafIn expressionIn variablesIn tupleIn exchangeIn armIn partnerIn withExpressionIn setIn listIn raiseIn codeIn partsIn headIn manyIn readArm readAct starts startForm firstStarts everyStarts correlationIn versionIn rootIn readAny readPlan inBytes askedOwn spanOf spanAll askedIn askedAll asked agreesWith judged spelled shortest spell operationCode expressionNumbers exchangeNumbers ownNumbers
+unfolding lastGroup groups numberAt numberIn fieldIn among kind size count expressionCodeIn leafIn expressionIn variablesIn tupleIn exchangeIn armIn partnerIn withExpressionIn setIn listIn raiseIn namable faultNumberIn codeIn partsIn headIn manyIn numberedIn numberedScopeIn readArm readAct starts startForm firstStarts everyStarts correlationIn versionIn rootIn readAny readPlan inBytes askedOwn spanOf spanAll askedIn askedAll asked agreesWith judged spelled shortest spell operationCode expressionNumbers exchangeNumbers ownNumbers gapsOf
 numbered = refl
+
+-- Code 14: document 02, request 4.
+
+-- fault parts for the numbers 0 and 255, then the general fault part, the undo part and the root's fault part; counts of 0 and 9: 5, at the count; the
+-- numbers 5, 15 and 256, and one twice: 5, at that number; cut after the body, and after a number: 2, at the end; a count not in the shortest form: 3; a
+-- code 15 in a fault part by number: 4; code 14 in one, in the general fault part and in the undo part: 8; a body that is no start form: 7
+pub by-numbers : all (
+    from 14 (2 ∷ 0 ∷ 0 ∷ 255 ∷ 1 ∷ 0 ∷ 0 ∷ 0 ∷ 0 ∷ [])
+    ∷ from 14 (0 ∷ 0 ∷ 0 ∷ 0 ∷ [])
+    ∷ from 14 (9 ∷ 0 ∷ 0 ∷ 0 ∷ [])
+    ∷ from 14 (1 ∷ 5 ∷ 0 ∷ 0 ∷ 0 ∷ 0 ∷ [])
+    ∷ from 14 (1 ∷ 15 ∷ 0 ∷ 0 ∷ 0 ∷ 0 ∷ [])
+    ∷ from 14 (1 ∷ 128 ∷ 2 ∷ 0 ∷ 0 ∷ 0 ∷ 0 ∷ [])
+    ∷ from 14 (2 ∷ 4 ∷ 0 ∷ 4 ∷ 0 ∷ 0 ∷ 0 ∷ 0 ∷ [])
+    ∷ from 14 []
+    ∷ from 14 (1 ∷ 0 ∷ [])
+    ∷ from 14 (129 ∷ 0 ∷ 0 ∷ 0 ∷ [])
+    ∷ from 14 (1 ∷ 0 ∷ 15 ∷ 0 ∷ 0 ∷ 0 ∷ [])
+    ∷ from 14 (1 ∷ 0 ∷ 14 ∷ 0 ∷ 0 ∷ 0 ∷ [])
+    ∷ from 14 (1 ∷ 0 ∷ 0 ∷ 14 ∷ 0 ∷ 0 ∷ [])
+    ∷ from 14 (1 ∷ 0 ∷ 0 ∷ 0 ∷ 14 ∷ 0 ∷ [])
+    ∷ (1 ∷ 1 ∷ 0 ∷ 14 ∷ 0 ∷ 1 ∷ 0 ∷ 0 ∷ 0 ∷ 0 ∷ 0 ∷ [])
+    ∷ [])
+    ≡ (0 ∷ 18 ∷ []) ∷ (5 ∷ 9 ∷ []) ∷ (5 ∷ 9 ∷ []) ∷ (5 ∷ 10 ∷ []) ∷ (5 ∷ 10 ∷ []) ∷ (5 ∷ 10 ∷ []) ∷ (5 ∷ 12 ∷ []) ∷ (2 ∷ 9 ∷ []) ∷ (2 ∷ 11 ∷ []) ∷ (3 ∷ 9 ∷ []) ∷ (4 ∷ 11 ∷ []) ∷ (8 ∷ 11 ∷ []) ∷ (8 ∷ 12 ∷ []) ∷ (8 ∷ 13 ∷ []) ∷ (7 ∷ 3 ∷ []) ∷ []
+unfolding lastGroup groups numberAt numberIn fieldIn among kind size count expressionCodeIn leafIn expressionIn variablesIn tupleIn exchangeIn armIn partnerIn withExpressionIn setIn listIn raiseIn namable faultNumberIn codeIn partsIn headIn manyIn numberedIn numberedScopeIn readArm readAct starts startForm firstStarts everyStarts correlationIn versionIn rootIn readAny readPlan inBytes askedOwn spanOf spanAll askedIn askedAll asked agreesWith judged spelled shortest spell operationCode expressionNumbers exchangeNumbers ownNumbers gapsOf
+by-numbers = refl

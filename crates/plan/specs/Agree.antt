@@ -19,14 +19,16 @@ pub record Asked : Type 0 where
 abbrev pub asking : (partner operation many place : ℕ) → Asked
 asking partner operation many place = record { partner = partner; operation = operation; many = many; place = place }
 
--- How places are counted: how many of them an activity or arm takes before those within it, and how many its first numbers take.
+-- How places are counted: how many of them an activity or arm takes before those within it, how many its first numbers take, and how many the numbers
+-- between those within it take.
 pub record Places : Type 0 where
   pub owned : Own → (within : ℕ) → ℕ
   pub passed : List ℕ → ℕ
+  pub between : List ℕ → ℕ
 
 -- in the bytes of a plan
 unfoldable pub inBytes : Places
-inBytes = record { owned = λ own within. length (spell (ownNumbers own within)); passed = λ ns. length (spell ns) }
+inBytes = record { owned = λ own within. length (spell (ownNumbers own within)); passed = λ ns. length (spell ns); between = λ ns. length (spell ns) }
 
 -- what an activity or arm at `at` asks for by itself; a receive's count stands after its code, its partner and its operation, and an arm has no code
 unfoldable pub askedOwn : Places → Own → (at : ℕ) → List Asked
@@ -47,7 +49,7 @@ askedOwn c (arm p o vs) at = asking p o (length vs) (at + c .passed (p ∷ o ∷
 -- a place after what stands before the next of those within
 abbrev pub beyond : Places → List (List ℕ) → (at : ℕ) → ℕ
 beyond c [] at = at
-beyond c (g ∷ gs) at = at + c .passed g
+beyond c (g ∷ gs) at = at + c .between g
 
 -- how many places an activity takes with all that stands within it
 unfoldable mutual

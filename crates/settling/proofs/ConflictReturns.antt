@@ -245,7 +245,9 @@ taken-at t (repeat x) l k at q h s f e = absurd (false≢true e)
 taken-at t sequence l k at q h s f e = absurd (false≢true e)
 taken-at t flow l k at q h s f e = absurd (false≢true e)
 taken-at t pick l k at q h s f e = absurd (false≢true e)
-taken-at t (scope ns v) l k at q h s f e = absurd (false≢true e)
+taken-at t (scope [] true) l k at q h s f e = absurd (false≢true e)
+taken-at t (scope [] false) l k at q h s f e = absurd (false≢true e)
+taken-at t (scope (n ∷ ns) v) l k at q h s f e = absurd (false≢true e)
 taken-at t (arm a b vs) l k at q h s f e =
     record {
       partner = a;

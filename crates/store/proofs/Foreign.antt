@@ -12,7 +12,7 @@ use Rattle.order.specs.State.{noOrder}
 use Rattle.machine.specs.declared.Message.{Message}
 use Rattle.machine.specs.declared.Tally.{Tally}
 use Rattle.machine.specs.Calls.{post, collect, preview, step, run}
-use Rattle.machine.specs.Limits.{planIn, inLimits, orderInLimits, rootInLimits}
+use Rattle.machine.specs.Limits.{planIn, inLimits, orderInLimits, rootInLimits, markInLimits}
 use Rattle.machine.specs.State.{fresh, unplanned, noTally}
 use Rattle.store.specs.Packed.{holds, keptAs, unpacked}
 
@@ -21,7 +21,7 @@ unfolding unpacked
 unpacked-none l h = rw h
 
 no-plan : planIn unplanned ≡ refused 2 0
-unfolding planIn inLimits fresh every orderInLimits rootInLimits isFaultNumber among noOrder readAny readPlan versionIn numberIn numberAt groups
+unfolding planIn inLimits fresh every orderInLimits rootInLimits markInLimits isFaultNumber among noOrder readAny readPlan versionIn numberIn numberAt groups
 no-plan = refl
 
 -- what the calls answer for such bytes

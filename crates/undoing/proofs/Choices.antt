@@ -18,6 +18,10 @@ pub general-is : (ns : List ℕ) → generalPart ns ≡ 1 + length ns
 general-is [] = refl
 general-is (n ∷ ns) = omega (arith, general-is ns)
 
+pub general-suc : (ns : List ℕ) → generalPart ns ≡ suc (length ns)
+general-suc [] = refl
+general-suc (n ∷ ns) = ap suc (general-suc ns)
+
 -- which of those within a scope is the part for a choice
 abbrev pub named : (choice : ℕ) → (numbers : List ℕ) → Bool
 named c ns = ltb 0 c && (ltb c 9 && leb c (length ns))

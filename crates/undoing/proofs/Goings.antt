@@ -22,7 +22,7 @@ use Rattle.order.specs.Acting.{finishes, raises, leaves, orRaises, enters, agai
 use Rattle.undoing.specs.Ties.{isName, Place, endTold}
 use Rattle.undoing.proofs.Parts.{decide}
 use Rattle.undoing.proofs.Accounts.{phase}
-use Rattle.undoing.proofs.Moves.{Everywhere, Fore, Spot, move-raise, order-left}
+use Rattle.undoing.proofs.Moves.{Everywhere, unchanged, Fore, Spot, move-raise, order-left}
 use Rattle.undoing.proofs.Marks.{isDoer, Quiet, Kept, holding, Run, run-awaits, run-one, One, one-here, one-later, able-part, quiet-part, quiet-agree, quiet-join, agree-below, agree-above, kept-wider, kept-then, kept-itself, kept-set, quiet-stoppable}
 use Rattle.undoing.proofs.Orders.{momentOf, fairAfter, Fit, fit-kept, fit-marked, Does, does-then, does-nothing, does-still, does-one, plain-marked, least, SitsIn, sits-none, sits-more}
 use Rattle.undoing.proofs.Beginning.{Begins, begins, begins-in-turn, begins-nothing, quiet-set, quiet-cons}
@@ -159,24 +159,22 @@ module _ (p : Plan) where
 
   -- it stays as it is
   pub acts-runs : (a : Act) (k n t : ℕ) (o : Order) → Run (o .marks) a k → Acted k n o (RunAs p a k t o) (runs o)
-  acts-runs a k n t o r = record { kept = kept-itself k n (o .marks); rooted = refl; comes = (r, does-nothing (λ s i. (refl, refl))) }
+  acts-runs a k n t o r = record { kept = kept-itself k n (o .marks); rooted = refl; comes = (r, does-nothing (λ s i. (refl, refl, refl))) }
 
   -- values are bound: no scope has a change
   bound-everywhere : (v x : ℕ) (o : Order) → Everywhere p (momentOf p o) (momentOf p (binding v x o))
-  bound-everywhere v x o root i = (refl, refl)
-  bound-everywhere v x o (inner k) i = (refl, refl)
+  bound-everywhere v x o root i = (refl, refl, refl)
+  bound-everywhere v x o (inner k) i = (refl, refl, refl)
 
   -- marks that were idle are cleared: no scope has a change
   cleared-everywhere : (k n : ℕ) (o : Order) → Quiet (o .marks) k n → Everywhere p (momentOf p o) (momentOf p (withMarks (cleared k n (o .marks)) o))
-  cleared-everywhere k n o q root i = (refl, refl)
-  cleared-everywhere k n o q (inner j) i = (
-    ap phase (decide (ltb j k)
-        (λ t. cleared-kept n k (o .marks) .below j (ltb-true j k t))
-        (λ t. decide (ltb j (k + n))
-        (λ u. cleared-quiet n k (o .marks) .at j (ltb-false j k t) (ltb-true j (k + n) u) ∙ sym (q .at j (ltb-false j k t) (ltb-true j (k + n) u)))
-        (λ u. cleared-kept n k (o .marks) .above j (ltb-false j (k + n) u)))),
-    refl,
-  )
+  cleared-everywhere k n o q root i = (refl, refl, refl)
+  cleared-everywhere k n o q (inner j) i =
+      unchanged (decide (ltb j k)
+      (λ t. cleared-kept n k (o .marks) .below j (ltb-true j k t))
+      (λ t. decide (ltb j (k + n))
+      (λ u. cleared-quiet n k (o .marks) .at j (ltb-false j k t) (ltb-true j (k + n) u) ∙ sym (q .at j (ltb-false j k t) (ltb-true j (k + n) u)))
+      (λ u. cleared-kept n k (o .marks) .above j (ltb-false j (k + n) u)))) refl
 
   -- a repeat decides again
   pub go-again : (e : Exp) (within : Acts) (k : ℕ) (o : Order) → isName p (inner k) ≡ false → Quiet (o .marks) (k + 1) (sizes within) → k < length (o .marks)
@@ -222,7 +220,7 @@ module _ (p : Plan) where
       go-after {l = []} (kept-set k (1 + sizes within) k inside (o .marks) (omega arith) (omega arith)) refl (does-nothing (plain-marked p k inside o z))
       (go-begun (choose e) within k o₁ (finishes k) _ _ _ refl (getD-set-same (o .marks) k inside 0 (omega arith)) b
       (λ q₁. let o₂ = withMarks (beginPart i within (k + 1) (o₁ .marks) .marks) o₁ in
-      go-finishes (choose e) within k o₂ o₂ refl refl (λ s j. (refl, refl)) z q₁ (omega (arith, length-set (o .marks) k inside, b .kept .many))))
+      go-finishes (choose e) within k o₂ o₂ refl refl (λ s j. (refl, refl, refl)) z q₁ (omega (arith, length-set (o .marks) k inside, b .kept .many))))
     where
       o₁ : Order
       o₁ = marked k inside o
@@ -248,9 +246,9 @@ module _ (p : Plan) where
   acts-itself (send x y vs) within q₀ k o s a i c z u f l e q m = go (allBound o vs)
     where
       go : (b : Bool) → Acted k (1 + sizes within) o (RunAs p (act (send x y vs) within) k k o) (cond b (finishes k o) (raises unboundVariable k o))
-      go true = go-run k (go-finishes (send x y vs) within k o o refl refl (λ s j. (refl, refl)) z q (omega arith))
+      go true = go-run k (go-finishes (send x y vs) within k o o refl refl (λ s j. (refl, refl, refl)) z q (omega arith))
       go false = acts-raises unboundVariable (send x y vs) within k o u f s z q
-  acts-itself (receive x y vs) within q₀ k o s a i c z u f l e q m = go-run k (go-finishes (receive x y vs) within k o o refl refl (λ s j. (refl, refl)) z q (omega arith))
+  acts-itself (receive x y vs) within q₀ k o s a i c z u f l e q m = go-run k (go-finishes (receive x y vs) within k o o refl refl (λ s j. (refl, refl, refl)) z q (omega arith))
   acts-itself (setting v x) within q₀ k o s a i c z u f l e q m =
       acts-or-raises (setting v x) within k o _ (evaluate x o) u f s z q
       (λ n. go-run k (go-finishes (setting v x) within k o (binding v n o) refl refl (bound-everywhere v n o) z q (omega arith)))
@@ -267,9 +265,9 @@ module _ (p : Plan) where
     where
       go : (b : Bool) → Acted k (1 + sizes within) o (RunAs p (act (repeat x) within) k k o) (elim b [ true ↦ repeats k within o | false ↦ finishes k o ])
       go true = go-run k (go-repeats x within k o (u .before) f l c z q m)
-      go false = go-run k (go-finishes (repeat x) within k o o refl refl (λ s j. (refl, refl)) z q (omega arith))
+      go false = go-run k (go-finishes (repeat x) within k o o refl refl (λ s j. (refl, refl, refl)) z q (omega arith))
   acts-itself sequence within q₀ k o s a i c z u f l e q m = absurd (false≢true i)
   acts-itself flow within q₀ k o s a i c z u f l e q m = absurd (false≢true i)
   acts-itself pick within q₀ k o s a i c z u f l e q m = acts-runs (act pick within) k _ k o (run-awaits s i e q)
-  acts-itself (scope v) within q₀ k o s a i c z u f l e q m = absurd (false≢true (sym s))
+  acts-itself (scope xs v) within q₀ k o s a i c z u f l e q m = absurd (false≢true (sym s))
   acts-itself (arm x y vs) within q₀ k o s a i c z u f l e q m = absurd (false≢true (sym a))

@@ -12,22 +12,23 @@ use Rattle.order.specs.declared.Order.{Order}
 use Rattle.order.specs.declared.End.{End}
 use Rattle.order.specs.declared.End.the-variants.{None, Well, Handled, Failed, Left}
 use Rattle.order.specs.Lists.{some}
-use Rattle.order.specs.State.{root, idle, active, inside, faulty, undoing, handling, halted, withdrawing, done, withMarks, markAt, marked, markOf, marking, causing, stateOf, going, markWith}
+use Rattle.order.specs.State.{root, idle, active, inside, faulty, undoing, handling, halted, withdrawing, done, withMarks, markAt, marked, markOf, marking, causing, stateOf, going, markWith, choiceOf}
 use Rattle.order.specs.Event.{Event, began, closed, faulted, stopped, raised, left, ended}
 use Rattle.order.specs.Expression.{unboundVariable, conflictingReceive, Value, fault, value, evaluate, isTrue}
 use Rattle.order.specs.Begin.{Begun, throughout, around, itsBeginning, inTurn, begin, beginInTurn, beginAll, beginAfter, part, partAt, beginPart, cleared, quiet, nothingBegun}
 use Rattle.order.specs.declared.Way.{Way as Result}
 use Rattle.order.specs.declared.Way.the-variants.{Running as running, Over as over, Raising as raising, Leaving as leaving, Undone as undone, UndoRaising as undoRaising}
-use Rattle.order.specs.Scope.{Outcome, rootOf, runs, begunIn, whereOver, Scope, scopeAt, isOpen, innerRuns, closing, beginUndo, beginUndoIn, startUndo, undo, ends, handle, undoes, turns, rememberedFor, untouched, withdraws, stop, stopAll, stopFirst, faults, breaks, looksAgain, bodyOver, bodyRaised, undoOver, undoRaised, fromBody, partOver, partRaised, fromFault, fromUndo, goesThrough, beginUndoFirst, choiceFor}
+use Rattle.order.specs.Scope.{Outcome, rootOf, runs, begunIn, whereOver, Scope, scopeAt, isOpen, innerRuns, closing, beginUndo, beginUndoIn, startUndo, undo, ends, handle, undoes, turns, rememberedFor, untouched, withdraws, stop, stopAll, stopFirst, faults, breaks, looksAgain, bodyOver, bodyRaised, undoOver, undoRaised, fromBody, partOver, partRaised, fromFault, fromUndo, goesThrough, beginUndoFirst, choiceFor, chosenPart, chosenAt}
 use Rattle.order.specs.Scope as definitions
 use Rattle.order.specs.Acting.{finishes, raises, orRaises, again, repeats, allBound, itself, arms, goesOn, joins, inScope, combines, stepIn, stepAmong, stepRoot, endOf, movedTo, Actor, replaces, performs, acted}
 use Rattle.undoing.proofs.Stepping.{scope-performs}
 use Rattle.undoing.specs.Orderly.{isBeganOf}
 use Rattle.undoing.specs.Begun.{hasBegan, Lead, alone, together, inOrder, inStep, leadOf, mayLead}
 use Rattle.undoing.proofs.Parts.{both, decide, some-append}
-use Rattle.undoing.proofs.Marks.{trio}
+use Rattle.undoing.proofs.Choices.{chosen-each, root-chosen, general-there, undo-there}
 use Rattle.undoing.proofs.Orders.{least}
 use Rattle.undoing.proofs.Truly.{or-case, began-in}
+use Rattle.plan.specs.Within.{scopeParts}
 
 module _ (lead : ℕ → Lead) where
   -- a tree whose leads are known
@@ -35,17 +36,12 @@ module _ (lead : ℕ → Lead) where
     pub data Leads : Act → ℕ → Type 0 where
       leads-part : {own : Own} {within : Acts} {k : ℕ} → isScope own ≡ false → least own ≤ count within → LeadsIn within (k + 1) (leadOf own k)
           → Leads (act own within) k
-      leads-scope : {v : Bool} {b g : Act} {u : Acts} {k : ℕ} → lead (k + 1) ≡ together k → lead (k + 1 + size b) ≡ alone
-          → Leads b (k + 1) → Leads g (k + 1 + size b) → LeadsRest v u (k + 1 + size b + size g) → Leads (act (scope xs v) (trio b g u)) k
+      leads-scope : {xs : List ℕ} {v : Bool} {b : Act} {l : Acts} {k : ℕ} → lead (k + 1) ≡ together k → scopeParts xs v ≤ count (more b l)
+          → Leads b (k + 1) → LeadsIn l (k + 1 + size b) alone → Leads (act (scope xs v) (more b l)) k
 
     pub data LeadsIn : Acts → ℕ → Lead → Type 0 where
       leads-none : {c : ℕ} {q : Lead} → LeadsIn none c q
       leads-more : {a : Act} {l : Acts} {c : ℕ} {q : Lead} → lead c ≡ q → Leads a c → LeadsIn l (c + size a) q → LeadsIn (more a l) c q
-
-    -- what stands after a fault part
-    pub data LeadsRest : Bool → Acts → ℕ → Type 0 where
-      leads-undo : {u : Act} {c : ℕ} → lead c ≡ alone → Leads u c → LeadsRest true (more u none) c
-      leads-no : {c : ℕ} → LeadsRest false none c
 
   module _ (t : ℕ) where
     -- with more events it may still
@@ -161,7 +157,7 @@ module _ (lead : ℕ → Lead) where
 
       begin-led : {a : Act} {k : ℕ} → Leads a k → (q : Lead) → lead k ≡ q → (ms : List ℕ) → Led q k (begin a k ms .log)
       begin-led (leads-part {own} {within} {k} s n y) q e ms = own-led own within k s q e ms (λ ns. turn-led y ns) (λ ns. all-led y ns)
-      begin-led (leads-scope {v = v₀} {b} {g} {u} {k} x y hb hg hu) q e ms = led-around k q (begin b (k + 1) (set ms k active)) e (begin-led hb (together k) x (set ms k active))
+      begin-led (leads-scope {b = b} {k = k} x n hb hl) q e ms = led-around k q (begin b (k + 1) (set ms k active)) e (begin-led hb (together k) x (set ms k active))
 
       turn-led : {l : Acts} {c : ℕ} {q : Lead} → LeadsIn l c q → (ms : List ℕ) → Led q c (beginInTurn l c ms .log)
       turn-led (leads-none {c} {q}) ms = led-none q c
@@ -227,9 +223,11 @@ module _ (lead : ℕ → Lead) where
     cond-fine true x y w v = w
     cond-fine false x y w v = v
 
-    rest-fine : {u : Acts} {c : ℕ} → LeadsRest true u c → (b g : Act) (k : ℕ) (ms : List ℕ) → c ≡ k + 1 + size b + size g → Fine (beginPart 2 (trio b g u) (k + 1) ms .log)
-    unfolding beginPart part partAt
-    rest-fine (leads-undo {u} {c} z hu) b g k ms d = subst (λ (i : ℕ). Fine (begin u i ms .log)) d (begin-fine hu z ms)
+    -- a part of a scope after its body
+    later-fine : {l : Acts} (b : Act) (k : ℕ) → LeadsIn l (k + 1 + size b) alone → (i : ℕ) → 1 ≤ i → i < count (more b l) → (ms : List ℕ) → Fine (beginPart i (more b l) (k + 1) ms .log)
+    unfolding beginPart part partAt count
+    later-fine b k y zero h n ms = absurd (omega arith)
+    later-fine b k y (suc i) h n ms = fine-alone (part-led y i (omega arith) ms)
 
     mutual
       unfolding beginUndo beginPart part partAt kind
@@ -238,9 +236,9 @@ module _ (lead : ℕ → Lead) where
       undo-fine (leads-part {own} {within} {k} s n y) e ms =
           either-fine (isScope own) (cond (hasUndo own) (cond (eqb k e) (beginPart (undoPart (numbersOf own)) within (k + 1) ms) (nothingBegun ms)) (beginUndoFirst within (k + 1) e ms)) (beginUndoIn within (k + 1) e ms) _ refl
           (λ v. absurd (false≢true (sym s ∙ v))) (undo-in-fine y e ms)
-      undo-fine (leads-scope {v = true} {b} {g} {u} {k} x y hb hg hu) e ms =
-          cond-fine (eqb k e) (beginPart 2 (trio b g u) (k + 1) ms) (nothingBegun ms) (rest-fine hu b g k ms refl) fine-none
-      undo-fine (leads-scope {v = false} {b} {g} {u} {k} x y hb hg hu) e ms = undo-fine hb e ms
+      undo-fine (leads-scope {xs} {v = true} {b} {l} {k} x n hb hl) e ms =
+          cond-fine (eqb k e) (beginPart (undoPart xs) (more b l) (k + 1) ms) (nothingBegun ms) (later-fine b k hl (undoPart xs) (omega arith) (undo-there (scope xs true) (count (more b l)) refl n) ms) fine-none
+      undo-fine (leads-scope {v = false} x n hb hl) e ms = undo-fine hb e ms
 
       undo-in-fine : {l : Acts} {c : ℕ} {q : Lead} → LeadsIn l c q → (e : ℕ) (ms : List ℕ) → Fine (beginUndoIn l c e ms .log)
       undo-in-fine leads-none e ms = fine-none
@@ -266,8 +264,7 @@ module _ (lead : ℕ → Lead) where
     -- a scope whose parts are so
     record Part (s : Scope) : Type 0 where
       body : Leads (s .body) (s .bodyAt)
-      fault : Leads (s .fault) (s .faultAt)
-      free : lead (s .faultAt) ≡ alone
+      fault : (choice : ℕ) (ms : List ℕ) → Fine (begin (chosenPart choice s) (chosenAt choice s) ms .log)
 
     module _ (s : Scope) (h : Part s) where
       ends-fine : (o : Order) → Fine (ends s o .log)
@@ -283,7 +280,8 @@ module _ (lead : ℕ → Lead) where
       unfolding handle
       handle-fine o =
           let o₁ = going (s .name) handling o in
-          where-fine (ends s) (begunIn o₁ (begin (s .fault) (s .faultAt) (o₁ .marks))) (begin-fine (h .fault) (h .free) (o₁ .marks)) (λ o₂. ends-fine o₂)
+          let c = choiceOf (s .name) o in
+          where-fine (ends s) (begunIn o₁ (begin (chosenPart c s) (chosenAt c s) (o₁ .marks))) (h .fault c (o₁ .marks)) (λ o₂. ends-fine o₂)
 
       undoes-fine : (w : Bool) (o : Order) → Fine (undoes w s o .log)
       unfolding undoes
@@ -318,9 +316,15 @@ module _ (lead : ℕ → Lead) where
       unfolding partOver
       part-fine o = choose-fine (eqb (stateOf (s .name) o) handling) (ends s o) (runs o) (partOver s o) refl (ends-fine o) fine-none
 
-    scope-part : {b g : Act} {k : ℕ} (u : Acts) → lead (k + 1 + size b) ≡ alone → Leads b (k + 1) → Leads g (k + 1 + size b) → Part (scopeAt xs k (trio b g u))
-    unfolding part partAt
-    scope-part u y hb hg = record { body = hb; fault = hg; free = y }
+    scope-part : {b : Act} {l : Acts} {k : ℕ} (xs : List ℕ) (v : Bool) → scopeParts xs v ≤ count (more b l) → Leads b (k + 1) → LeadsIn l (k + 1 + size b) alone
+        → Part (scopeAt xs k (more b l))
+    unfolding beginPart part partAt
+    scope-part {b} {l} {k} xs v n hb hl =
+        record {
+          body = hb;
+          fault = chosen-each (λ a j. (ms : List ℕ) → Fine (begin a j ms .log)) xs k (more b l)
+              (λ i h e. later-fine b k hl i h (let z = general-there (scope xs v) (count (more b l)) n in omega arith));
+        }
 
     -- stopping
     halt-fine : (v : Bool) (x y z : definitions.Stopped) → z ≡ elim v [ true ↦ x | false ↦ y ] → (v ≡ true → Fine (x .log)) → (v ≡ false → Fine (y .log))
@@ -339,9 +343,9 @@ module _ (lead : ℕ → Lead) where
       stop-fine (leads-part {own} {within} {k} s n y) o =
           halt-fine (isScope own) (elim (isOpen (markAt k o)) [ true ↦ withdraws k (scopeAt (numbersOf own) k within) (stopFirst within (k + 1) (marked k halted o)) | false ↦ untouched o ]) (stopAll within (k + 1) (marked k idle o)) _ refl
           (λ v. absurd (false≢true (sym s ∙ v))) (λ v. stop-all-fine y (marked k idle o))
-      stop-fine (leads-scope {v = v₀} {b} {g} {u} {k} x y hb hg hu) o =
-          halt-fine (isOpen (markAt k o)) (withdraws k (scopeAt xs k (trio b g u)) (stop b (k + 1) (marked k halted o))) (untouched o) _ refl
-          (λ v. withdraws-fine k (scopeAt xs k (trio b g u)) (stop b (k + 1) (marked k halted o)) (scope-part u y hb hg) (stop-fine hb (marked k halted o))) (λ v. fine-none)
+      stop-fine (leads-scope {xs} {v = v₀} {b} {l} {k} x n hb hl) o =
+          halt-fine (isOpen (markAt k o)) (withdraws k (scopeAt xs k (more b l)) (stop b (k + 1) (marked k halted o))) (untouched o) _ refl
+          (λ v. withdraws-fine k (scopeAt xs k (more b l)) (stop b (k + 1) (marked k halted o)) (scope-part xs v₀ n hb hl) (stop-fine hb (marked k halted o))) (λ v. fine-none)
 
       stop-all-fine : {l : Acts} {c : ℕ} {q : Lead} → LeadsIn l c q → (o : Order) → Fine (stopAll l c o .log)
       stop-all-fine leads-none o = fine-none
@@ -466,13 +470,13 @@ module _ (lead : ℕ → Lead) where
     unfolding closing isBeganOf
     closing-fine v q k s o = fine-event (closed k) [] (λ j. refl) fine-none
 
-    in-scope-fine : (v : Bool) (b g : Act) (u : Acts) (k : ℕ) (r : Outcome) → Part (scopeAt xs k (trio b g u)) → Fine (r .log) → Fine (inScope xs v k t (trio b g u) r .log)
+    in-scope-fine : (xs : List ℕ) (v : Bool) (within : Acts) (k : ℕ) (r : Outcome) → Part (scopeAt xs k within) → Fine (r .log) → Fine (inScope xs v k t within r .log)
     unfolding inScope fromUndo
-    in-scope-fine v b g u k r h w =
-        let s = scopeAt xs k (trio b g u) in
-        choose-fine (ltb t (partAt 1 (trio b g u) (k + 1))) (elim (goesThrough v k r) [ true ↦ r | false ↦ fromBody s r ]) (elim (ltb t (partAt 2 (trio b g u) (k + 1))) [ true ↦ fromFault s r | false ↦ fromUndo r ]) _ refl
+    in-scope-fine xs v within k r h w =
+        let s = scopeAt xs k within in
+        choose-fine (ltb t (partAt 1 within (k + 1))) (elim (goesThrough v k r) [ true ↦ r | false ↦ fromBody s r ]) (elim (ltb t (partAt (undoPart xs) within (k + 1))) [ true ↦ fromFault s r | false ↦ fromUndo r ]) _ refl
         (choose-fine (goesThrough v k r) r (fromBody s r) _ refl w (body-fine s h r w))
-        (choose-fine (ltb t (partAt 2 (trio b g u) (k + 1))) (fromFault s r) (fromUndo r) _ refl (fault-fine s h r w) w)
+        (choose-fine (ltb t (partAt (undoPart xs) within (k + 1))) (fromFault s r) (fromUndo r) _ refl (fault-fine s h r w) w)
 
     case-fine : (v : Bool) (x y z : Outcome) → z ≡ elim v [ true ↦ x | false ↦ y ] → (v ≡ true → Fine (x .log)) → (v ≡ false → Fine (y .log)) → Fine (z .log)
     case-fine true x y z e w v = subst (λ (r : Outcome). Fine (r .log)) (sym e) (w refl)
@@ -495,21 +499,14 @@ module _ (lead : ℕ → Lead) where
         where
           below : eqb k t ≡ false → k + 1 ≤ t
           below e = let z = eqb-false k t e in omega arith
-      step-fine actor (leads-scope {v = v₀} {b} {g} {u} {k} x y hb hg hu) q o m =
-          case-fine (eqb k t) (performs actor (scope xs v₀) (trio b g u) q k o) (inScope v₀ k t (trio b g u) (stepAmong actor (trio b g u) true q (k + 1) t (arms (scope xs v₀) (trio b g u) k t o))) _ refl
-          (λ e. subst (λ (r : Outcome). Fine (r .log)) (sym (scope-performs actor v₀ (trio b g u) q k o)) (closing-fine v₀ q k (scopeAt xs k (trio b g u)) o))
-          (λ e. let o₁ = arms (scope xs v₀) (trio b g u) k t o in
-          in-scope-fine v₀ b g u k (stepAmong actor (trio b g u) true q (k + 1) t o₁) (scope-part u y hb hg)
-          (case-fine (ltb t (k + 1 + size b)) (stepIn actor b (k + 1) (k + 1) t o₁) (stepAmong actor (more g u) true q (k + 1 + size b) t o₁) _ refl
+      step-fine actor (leads-scope {xs} {v = v₀} {b} {l} {k} x n hb hl) q o m =
+          case-fine (eqb k t) (performs actor (scope xs v₀) (more b l) q k o) (inScope xs v₀ k t (more b l) (stepAmong actor (more b l) true q (k + 1) t (arms (scope xs v₀) (more b l) k t o))) _ refl
+          (λ e. subst (λ (r : Outcome). Fine (r .log)) (sym (scope-performs actor xs v₀ (more b l) q k o)) (closing-fine v₀ q k (scopeAt xs k (more b l)) o))
+          (λ e. let o₁ = arms (scope xs v₀) (more b l) k t o in
+          in-scope-fine xs v₀ (more b l) k (stepAmong actor (more b l) true q (k + 1) t o₁) (scope-part xs v₀ n hb hl)
+          (case-fine (ltb t (k + 1 + size b)) (stepIn actor b (k + 1) (k + 1) t o₁) (stepAmong actor l true q (k + 1 + size b) t o₁) _ refl
           (λ d. step-fine actor hb (k + 1) o₁ (let i = eqb-false k t e in omega arith))
-          (λ d. case-fine (ltb t (k + 1 + size b + size g)) (stepIn actor g (k + 1 + size b) (k + 1 + size b) t o₁) (stepAmong actor u true q (k + 1 + size b + size g) t o₁) _ refl
-          (λ c. step-fine actor hg (k + 1 + size b) o₁ (ltb-false t (k + 1 + size b) d))
-          (λ c. rest-step-fine actor hu q o₁ (ltb-false t (k + 1 + size b + size g) c)))))
-
-      rest-step-fine : (actor : Actor) {v : Bool} {u : Acts} {c : ℕ} → LeadsRest v u c → (q : ℕ) (o : Order) → c ≤ t → Fine (stepAmong actor u true q c t o .log)
-      rest-step-fine actor (leads-undo {u} {c} z hu) q o m =
-          case-fine (ltb t (c + size u)) (stepIn actor u c c t o) (stepAmong actor none true q (c + size u) t o) _ refl (λ d. step-fine actor hu c o m) (λ d. fine-none)
-      rest-step-fine actor leads-no q o m = fine-none
+          (λ d. among-fine actor hl true q o₁ (ltb-false t (k + 1 + size b) d))))
 
       among-fine : (actor : Actor) {l : Acts} {c : ℕ} {q : Lead} → LeadsIn l c q → (v : Bool) (r : ℕ) (o : Order) → c ≤ t → Fine (stepAmong actor l v r c t o .log)
       among-fine actor leads-none v r o m = fine-none
@@ -523,7 +520,7 @@ module _ (lead : ℕ → Lead) where
     order-fine actor p hb hf e o = go (endOf (stepRoot actor p t o))
       where
         h : Part (rootOf p)
-        h = record { body = hb; fault = hf; free = e }
+        h = record { body = hb; fault = root-chosen (λ a j. (ms : List ℕ) → Fine (begin a j ms .log)) p (λ ms. begin-fine hf e ms) }
 
         w : Fine (stepRoot actor p t o .log)
         w = case-fine (ltb t (size (p .body))) (fromBody (rootOf p) (stepIn actor (p .body) 0 0 t o)) (fromFault (rootOf p) (stepIn actor (p .fault) (size (p .body)) (size (p .body)) t o)) (stepRoot actor p t o) refl

@@ -5,6 +5,7 @@ pub mod Accounts
 pub mod Moves
 pub mod Marks
 pub mod Orders
+pub mod Remedies
 pub mod Beginning
 pub mod Seats
 pub mod Undo
@@ -18,6 +19,7 @@ pub mod Combining
 pub mod Stepping
 pub mod Roots
 pub mod Places
+pub mod Landing
 pub mod Planning
 pub mod Offered
 pub mod Judged
@@ -68,6 +70,7 @@ pub mod Nearing
 pub mod NearTold
 pub mod Dropping
 pub mod Bodies
+pub mod Healing
 pub mod Afresh
 pub mod AfreshSteps
 pub mod AfreshTold

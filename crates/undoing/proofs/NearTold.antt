@@ -39,22 +39,12 @@ use Rattle.undoing.proofs.Slots.{post-same, collect-same, Sane, same-sa
 use Rattle.undoing.proofs.Happening.{orderIn, withMessage, Happens, nothing-here, goes-here, starts-here, step-happens}
 use Rattle.undoing.proofs.Demanded.{step-after}
 use Rattle.undoing.proofs.BegunTold.{body-knows, fault-knows}
+use Rattle.undoing.proofs.Fitting.{waits-to}
 use Rattle.undoing.proofs.Entire.{Two}
 use Rattle.undoing.proofs.EntirelyTold.{formed-named}
 use Rattle.undoing.proofs.Nearing.{Near, near-stands, near-began, near-stopped, near-none, Local, LocalIn, in-append, in-none, all, root-local, start-local}
 
 -- what awaits has one of the numbers
-mutual
-  unfolding size
-
-  waits-to : {ms : List ℕ} {a : Act} {k t : ℕ} {b : Bool} → Waits ms a k t b → t < k + size a
-  waits-to (waits-itself e h) = omega arith
-  waits-to (waits-within h w) = let z = waits-in-to w in omega arith
-
-  waits-in-to : {ms : List ℕ} {l : Acts} {c t : ℕ} {b : Bool} → WaitsIn ms l c t b → t < c + sizes l
-  waits-in-to (waits-first h w) = omega arith
-  waits-in-to (waits-later h w) = let z = waits-in-to w in omega arith
-
 pub awaited-to : {p : Plan} {ms : List ℕ} {t : ℕ} → Awaited p ms t → t < size (p .body) + size (p .fault)
 awaited-to (in-body e w) = omega arith
 awaited-to (in-fault e w) = waits-to w

@@ -7,25 +7,28 @@ use mathlib.Core.List.{List, [], _∷_}
 use lib.ListN.{length}
 use lib.Dec.{eqb, ltb}
 use borrow.Author.Tests.{eqb-true, eqb-false, lt-ltb, le-ltb}
-use Rattle.plan.specs.Tree.{Plan, size}
+use Rattle.plan.specs.Tree.{none, more, Plan, size}
 use Rattle.order.specs.declared.Order.{Order}
 use Rattle.order.specs.declared.End.{End}
 use Rattle.order.specs.declared.End.the-variants.{None, Well, Handled, Failed, Left}
-use Rattle.order.specs.State.{Name, root, inner, done, halted, withdrawing, markOf, noOrder}
+use Rattle.order.specs.State.{Name, root, inner, done, halted, withdrawing, choiceIn, markOf, noOrder}
 use Rattle.order.specs.Event.{Event, started, began, closed, faulted, stopped, ended, raised, left}
+use Rattle.order.specs.Begin.{part, partAt}
 use Rattle.order.specs.declared.Way.{Way as Result}
 use Rattle.order.specs.declared.Way.the-variants.{Running as running, Over as over, Raising as raising, Leaving as leaving, Undone as undone, UndoRaising as undoRaising}
-use Rattle.order.specs.Scope.{Outcome, Scope, rootOf, fromBody, fromFault}
+use Rattle.order.specs.Scope.{Outcome, Scope, rootOf, chosenPart, chosenAt, fromBody, fromFault}
 use Rattle.order.specs.Acting.{Actor, stepIn, stepRoot, endOf, Moved, movedTo, acted}
 use Rattle.undoing.specs.Demand3.{closingsOf, undoneOf, noneNow, isOver}
-use Rattle.undoing.specs.Ties.{endTold}
+use Rattle.undoing.specs.Ties.{faultOf, endTold}
+use Rattle.undoing.specs.Standing.{choiceOn}
 use Rattle.undoing.proofs.Accounts.{Phase, live, waits, heals, phase}
 use Rattle.undoing.proofs.Moves.{HoldsAt, tied-at, root-well, root-unturned}
-use Rattle.undoing.proofs.Marks.{Quiet, turned-waits, turned-undoes, turned-heals}
-use Rattle.undoing.proofs.Orders.{endsTurned, older, momentOf, fairAfter, onto, Does, does-then}
+use Rattle.undoing.proofs.Marks.{Quiet, quiet-part, Nth, nth-here, nth-later, turned-waits, turned-undoes, turned-heals}
+use Rattle.undoing.proofs.Orders.{endsTurned, older, momentOf, fairAfter, onto, Does, does-then, Remedy}
+use Rattle.undoing.proofs.Remedies.{chosen-most, choice-on}
 use Rattle.undoing.proofs.Seats.{Seat, inside-rest, quiet-inner}
 use Rattle.undoing.proofs.Waiting.{Waits, quiet-waits}
-use Rattle.undoing.proofs.Scoping.{scope-live, scope-done, scope-turned, Turning, Running, StepsAs, Steps, Reach, waits-mark, undoes-mark, from-live, from-stopped, from-undoing, from-heals}
+use Rattle.undoing.proofs.Scoping.{Acted, RunAs, scope-live, scope-done, scope-turned, Turning, Running, StepsAs, Steps, Reach, waits-mark, undoes-mark, from-live, from-stopped, from-undoing, from-heals}
 use Rattle.undoing.proofs.Stepping.{awake-first, steps, steps-stopped, steps-undoing, steps-part}
 
 -- activity t of the root's body or fault part awaits its step
@@ -48,7 +51,16 @@ root-is actor p t o b e =
 
 -- the numbers of the root
 root-reach : (p : Plan) → Reach (rootOf p)
+unfolding size
 root-reach p = record { start = omega arith; lone = λ i x y. absurd (omega arith); end = omega arith; owns = tt }
+
+-- it has the one fault part
+pub root-fault : {p : Plan} (h : Seat p (rootOf p)) → Remedy p (faultOf root (h .beyond) (h .around)) (p .fault) (size (p .body))
+unfolding chosenPart chosenAt
+root-fault h = h .fault 0
+
+pub choice-none : (m : ℕ) → choiceOn [] m ≡ 0
+choice-none m = choice-on [] m (choiceIn m) refl ∙ omega (arith, chosen-most [] (choiceIn m))
 
 -- weaker: what turned runs
 weaker : {p : Plan} {s : Scope} {o : Order} {r : Outcome} → Steps p s (Turning s) o r → Steps p s (Running s) o r
@@ -63,8 +75,18 @@ weaker {p} {s} {o} {r} v = record { apart = v .apart; comes = go (r .result) (v 
     go (undoRaising x) c = c
 
 module _ (p : Plan) (actor : Actor) (h : Seat p (rootOf p)) where
+  -- its fault part has its step
+  root-heals : (i t : ℕ) (o : Order) → i ≡ 0 → Waits (o .marks) (p .fault) (size (p .body)) t false → Nth (o .marks) i (more (p .fault) none) (size (p .body)) → phase (o .root) ≡ heals
+      → size (p .body) + size (p .fault) ≤ length (o .marks)
+      → Acted (partAt i (more (p .fault) none) (size (p .body))) (size (part i (more (p .fault) none))) o
+      (RunAs p (part i (more (p .fault) none)) (partAt i (more (p .fault) none) (size (p .body))) t o) (stepIn actor (p .fault) (size (p .body)) (size (p .body)) t o)
+  unfolding part partAt
+  root-heals i t o e w (nth-here r q) v m = steps-part p actor (root-fault h) (size (p .body)) t o false tt w refl r v m
+  root-heals i t o e w (nth-later q r) v m = absurd (omega arith)
+
   pub root-steps : (t : ℕ) (o : Order) → Awaited p (o .marks) t → Standing p o → (o .root ≡ halted → ⊥) → (o .root ≡ withdrawing → ⊥)
       → Steps p (rootOf p) (Running (rootOf p)) o (stepRoot actor p t o)
+  unfolding size
   root-steps t o (in-body e w) st x y =
       subst (λ (r : Outcome). Steps p (rootOf p) (Running (rootOf p)) o r) (sym (root-is actor p t o true (lt-ltb t (size (p .body)) e))) (go (st .runs))
     where
@@ -79,14 +101,14 @@ module _ (p : Plan) (actor : Actor) (h : Seat p (rootOf p)) where
 
       go : Running (rootOf p) (o .marks) (o .root) → Steps p (rootOf p) (Running (rootOf p)) o (fromBody (rootOf p) (stepIn actor (p .body) 0 0 t o))
       go (scope-live d r q) =
-          from-live p (rootOf p) t o (stepIn actor (p .body) 0 0 t o) h d q m (steps p actor (h .body) 0 t o false (h .at) w refl r (ap phase d) (omega arith))
+          from-live p (rootOf p) t o (stepIn actor (p .body) 0 0 t o) h d q (omega (arith, m)) (steps p actor (h .body) 0 t o false (h .at) w refl r (ap phase d) (omega (arith, m)))
       go (scope-done d q z) = absurd (st .going d)
       go (scope-turned (turned-waits {w = a} q z _ v)) =
-          weaker (from-stopped p a (rootOf p) o (stepIn actor (p .body) 0 0 t o) h (λ d. absurd (no-stop a d q)) q v m (steps-stopped p actor (h .body) 0 t o false (h .at) w refl z (omega arith)))
+          weaker (from-stopped p a (rootOf p) o (stepIn actor (p .body) 0 0 t o) h (λ d. absurd (no-stop a d q)) q v (omega (arith, m)) (steps-stopped p actor (h .body) 0 t o false (h .at) w refl z (omega (arith, m))))
       go (scope-turned (turned-undoes {w = a} q z v)) =
-          weaker (from-undoing p a (rootOf p) t o (stepIn actor (p .body) 0 0 t o) h (root-reach p) (λ d. absurd (no-withdrawal a d q)) q v m (λ i a b. absurd (omega arith))
+          weaker (from-undoing p a (rootOf p) t o (stepIn actor (p .body) 0 0 t o) h (root-reach p) (λ d. absurd (no-withdrawal a d q)) q v (omega (arith, m))
           (steps-undoing p actor (h .body) 0 t o false (h .at) w refl z root (awake-first p actor (λ n. markOf n o) root (h .beyond) a q)
-          (a, ap (λ (n : Name). phase (markOf n o)) (awake-first p actor (λ n. markOf n o) root (h .beyond) a q) ∙ q) (omega arith)))
+          (a, ap (λ (n : Name). phase (markOf n o)) (awake-first p actor (λ n. markOf n o) root (h .beyond) a q) ∙ q) (omega (arith, m))))
       go (scope-turned (turned-heals q z v)) = absurd (quiet-waits w refl z)
   root-steps t o (in-fault e w) st x y =
       subst (λ (r : Outcome). Steps p (rootOf p) (Running (rootOf p)) o r) (sym (root-is actor p t o false (le-ltb t (size (p .body)) e))) (go (st .runs))
@@ -95,13 +117,13 @@ module _ (p : Plan) (actor : Actor) (h : Seat p (rootOf p)) where
       m = st .many
 
       go : Running (rootOf p) (o .marks) (o .root) → Steps p (rootOf p) (Running (rootOf p)) o (fromFault (rootOf p) (stepIn actor (p .fault) (size (p .body)) (size (p .body)) t o))
-      go (scope-live d r q) = absurd (quiet-waits w refl q)
+      go (scope-live d r q) = absurd (quiet-waits w refl (quiet-part q (omega arith) (omega arith)))
       go (scope-done d q z) = absurd (st .going d)
-      go (scope-turned (turned-waits q z _ v)) = absurd (quiet-waits w refl v)
-      go (scope-turned (turned-undoes q z v)) = absurd (quiet-waits w refl v)
+      go (scope-turned (turned-waits q z _ v)) = absurd (quiet-waits w refl (quiet-part v (omega arith) (omega arith)))
+      go (scope-turned (turned-undoes q z v)) = absurd (quiet-waits w refl (quiet-part v (omega arith) (omega arith)))
       go (scope-turned (turned-heals q z v)) =
-          weaker (from-heals p (rootOf p) t o (stepIn actor (p .fault) (size (p .body)) (size (p .body)) t o) h (root-reach p) q z m (λ i a b. absurd (omega arith))
-          (steps-part p actor (h .fault) (size (p .body)) t o false tt w refl v q (omega arith)))
+          weaker (from-heals p (rootOf p) t o (stepIn actor (p .fault) (size (p .body)) (size (p .body)) t o) h (root-reach p) q z v (omega (arith, m))
+          (root-heals (choiceOn [] (o .root)) t o (choice-none (o .root)) w v q m))
 
 -- an end
 abbrev isSome : End → Bool

@@ -4,32 +4,33 @@ use native.Mathlib.Omega.{arith}
 use mathlib.Core.Path.{_≡_, refl, sym, ap, subst, _∙_}
 use mathlib.Core.Bool.{Bool, true, false, cond, not, _&&_, _||_, false≢true, and-false, and-true}
 use mathlib.Core.List.{List, [], _∷_, _++_}
-use lib.ListN.{getD, set}
+use lib.ListN.{length, getD, set}
 use lib.Seq.{getD-set-other}
-use lib.Dec.{eqb, ltb}
-use borrow.Author.Tests.{eqb-true}
-use Rattle.plan.specs.Tree.{Own, empty, send, receive, set as setting, raise, leave, choose, repeat, sequence, flow, pick, scope, arm, kind, isPick, isScope, Act, act, Acts, none, more, Plan, size, sizes}
+use lib.Dec.{eqb, ltb, leb}
+use borrow.Author.Tests.{eqb-true, ltb-false, leb-true, leb-false}
+use Rattle.plan.specs.Tree.{Own, empty, send, receive, set as setting, raise, leave, choose, repeat, sequence, flow, pick, scope, arm, kind, isPick, isScope, Act, act, Acts, none, more, Plan, size, sizes, generalPart, count}
 use Rattle.order.specs.declared.Order.{Order}
 use Rattle.order.specs.declared.End.{End}
 use Rattle.order.specs.declared.End.the-variants.{None, Well, Handled, Failed, Left}
 use Rattle.order.specs.Lists.{only, withoutLast}
-use Rattle.order.specs.State.{Name, root, inner, closings, remembering, idle, inside, binding, marked, markOf, marking, markAt, withMarks, faulty, halted, active, undoing, withdrawing, handling, done, causing}
+use Rattle.order.specs.State.{Name, root, inner, closings, remembering, idle, inside, binding, marked, markOf, marking, markAt, withMarks, faulty, halted, active, undoing, withdrawing, handling, done, causing, stateOf, going, markWith, stateIn, choiceOf}
 use Rattle.order.specs.Expression.{unboundVariable, conflictingReceive, Value, fault, value, evaluate, isTrue}
 use Rattle.order.specs.Event.{Event, started, began, closed, faulted, stopped, ended, raised, left}
 use Rattle.order.specs.Begin.{Begun, begin, beginAfter, beginPart, part, partAt, quiet, cleared}
 use Rattle.order.specs.declared.Way.{Way as Result}
 use Rattle.order.specs.declared.Way.the-variants.{Running as running, Over as over, Raising as raising, Leaving as leaving, Undone as undone, UndoRaising as undoRaising}
-use Rattle.order.specs.Scope.{Outcome, runs, after, begunIn, whereOver, Scope, scopeAt, rootOf, isOpen, innerRuns, closing, beginUndo, startUndo, undo, ends, handle, undoes, turns, stop, faults, breaks, looksAgain, bodyOver, bodyRaised, undoOver, undoRaised, fromBody, partOver, partRaised, fromFault, fromUndo, rememberedFor, forgetting, isFor, goesThrough}
+use Rattle.order.specs.Scope.{Outcome, runs, after, begunIn, whereOver, Scope, scopeAt, rootOf, isOpen, innerRuns, closing, beginUndo, startUndo, undo, ends, handle, undoes, turns, stop, faults, breaks, looksAgain, bodyOver, bodyRaised, undoOver, undoRaised, fromBody, partOver, partRaised, fromFault, fromUndo, rememberedFor, forgetting, isFor, goesThrough, choiceFor, chosenPart, chosenAt}
 use Rattle.order.specs.Acting.{finishes, raises, orRaises, enters, again, repeats, allBound, itself, isPart, arms, goesOn, joins, inScope, combines, stepIn, stepAmong, stepRoot, endOf, faultOf as faultNumber, movedTo, begunOrder, Actor, replaces, performs, acted}
 use Rattle.undoing.specs.Ties.{isName, fits, Place, bodyOf, faultOf, undoOf, nameOf, placeIn, placeAmong, placeOf, beyondOf, lastOf, firstOf, beyondIn, lastIn, runAt, seen, placeParts}
 use Rattle.undoing.proofs.Parts.{decide, both as both-true}
-use Rattle.undoing.proofs.Marks.{trio}
-use Rattle.undoing.proofs.Orders.{bare, bareIn, Sits, sits-part, sits-scope, SitsIn, sits-none, sits-more, Remedy, remedy, remedy-bare, Rest, rest-undo, rest-none}
+use Rattle.undoing.proofs.Choices.{general-is, general-suc}
+use Rattle.undoing.proofs.Orders.{bare, bareIn, Sits, sits-part, sits-scope, SitsIn, sits-none, sits-more, Remedy, remedy, remedy-bare, Healers, heals-by, heals-all, Rest, rest-undo, rest-none}
 use Rattle.undoing.proofs.Seats.{Seat}
 use Rattle.undoing.proofs.Moves.{Before}
 use Rattle.undoing.proofs.Breaking.{cleared-kept}
 use Rattle.undoing.proofs.Stepping.{scope-performs}
 use Rattle.undoing.proofs.Places.{first-of, second-of, parts, place-here, place-within, place-scope, place-first, place-later, parts-first, parts-later}
+use Rattle.undoing.proofs.Landing.{Landed, landed, beyond, lands, lands-count, lands-before, lands-after, at-from, lands-step, lands-fault, lands-undo, beyond-after, beyond-step}
 use Rattle.undoing.proofs.Aside.{Aside, silent-append, begin-silent, after-silent, part-silent, runs-silent, begin-undo-silent, ends-silent, stop-silent}
 
 -- a raise or a fault
@@ -100,12 +101,14 @@ mild-undo (e ∷ l) s o =
 pub mild-handle : (s : Scope) (o : Order) → Mild (handle s o)
 unfolding handle
 mild-handle s o =
-    let o₁ = marking (s .name) handling o in
-    mild-where (ends s) (begunIn o₁ (begin (s .fault) (s .faultAt) (o₁ .marks))) (mild-begun o₁ (begin (s .fault) (s .faultAt) (o₁ .marks)) (begin-silent isGrave graves-aside (s .fault) (s .faultAt) (o₁ .marks))) (mild-ends s)
+    let o₁ = going (s .name) handling o in
+    let c = choiceOf (s .name) o in
+    mild-where (ends s) (begunIn o₁ (begin (chosenPart c s) (chosenAt c s) (o₁ .marks)))
+    (mild-begun o₁ (begin (chosenPart c s) (chosenAt c s) (o₁ .marks)) (begin-silent isGrave graves-aside (chosenPart c s) (chosenAt c s) (o₁ .marks))) (mild-ends s)
 
 pub mild-undoes : (b : Bool) (s : Scope) (o : Order) → Mild (undoes b s o)
 unfolding undoes
-mild-undoes true s o = let o₁ = marking (s .name) undoing o in mild-where (handle s) (undo (rememberedFor s o₁) s o₁) (mild-undo (rememberedFor s o₁) s o₁) (mild-handle s)
+mild-undoes true s o = let o₁ = going (s .name) undoing o in mild-where (handle s) (undo (rememberedFor s o₁) s o₁) (mild-undo (rememberedFor s o₁) s o₁) (mild-handle s)
 mild-undoes false s o = let o₁ = marking (s .name) withdrawing o in mild-where (ends s) (undo (rememberedFor s o₁) s o₁) (mild-undo (rememberedFor s o₁) s o₁) (mild-ends s)
 
 pub mild-turns : (b : Bool) (s : Scope) (o : Order) → Mild (turns b s o)
@@ -115,7 +118,7 @@ mild-turns b s o = mild-either (innerRuns (s .body) (s .bodyAt) (o .marks)) (run
 pub mild-looks : (s : Scope) (o : Order) → Mild (looksAgain s o)
 unfolding looksAgain
 mild-looks s o =
-    mild-either (eqb (markOf (s .name) o) faulty) (turns true s o) (elim (eqb (markOf (s .name) o) halted) [ true ↦ turns false s o | false ↦ runs o ]) (mild-turns true s o)
+    mild-either (eqb (stateOf (s .name) o) faulty) (turns true s o) (elim (eqb (markOf (s .name) o) halted) [ true ↦ turns false s o | false ↦ runs o ]) (mild-turns true s o)
     (mild-either (eqb (markOf (s .name) o) halted) (turns false s o) (runs o) (mild-turns false s o) (mild-runs o) (elim (eqb (markOf (s .name) o) halted) [ true ↦ turns false s o | false ↦ runs o ]) refl)
     (looksAgain s o) refl
 
@@ -127,13 +130,13 @@ mild-over s o =
 pub mild-undo-over : (s : Scope) (o : Order) → Mild (undoOver s o)
 unfolding undoOver
 mild-undo-over s o =
-    mild-either (eqb (markOf (s .name) o) undoing) (undoes true s o) (elim (eqb (markOf (s .name) o) withdrawing) [ true ↦ undoes false s o | false ↦ runs o ]) (mild-undoes true s o)
+    mild-either (eqb (stateOf (s .name) o) undoing) (undoes true s o) (elim (eqb (markOf (s .name) o) withdrawing) [ true ↦ undoes false s o | false ↦ runs o ]) (mild-undoes true s o)
     (mild-either (eqb (markOf (s .name) o) withdrawing) (undoes false s o) (runs o) (mild-undoes false s o) (mild-runs o) (elim (eqb (markOf (s .name) o) withdrawing) [ true ↦ undoes false s o | false ↦ runs o ]) refl)
     (undoOver s o) refl
 
 pub mild-part-over : (s : Scope) (o : Order) → Mild (partOver s o)
 unfolding partOver
-mild-part-over s o = mild-either (eqb (markOf (s .name) o) handling) (ends s o) (runs o) (mild-ends s o) (mild-runs o) (partOver s o) refl
+mild-part-over s o = mild-either (eqb (stateOf (s .name) o) handling) (ends s o) (runs o) (mild-ends s o) (mild-runs o) (partOver s o) refl
 
 pub mild-finishes : (k : ℕ) (o : Order) → Mild (finishes k o)
 unfolding only
@@ -269,7 +272,7 @@ module _ (p : Plan) (t : ℕ) (φ : Name → Bool) (b : Bool) (q : Place) (k : �
   out-itself sequence within q₀ s e l = out-mild (runs o) (mild-runs o)
   out-itself flow within q₀ s e l = out-mild (runs o) (mild-runs o)
   out-itself pick within q₀ s e l = out-mild (runs o) (mild-runs o)
-  out-itself (scope v) within q₀ s e l = absurd (false≢true (sym s))
+  out-itself (scope xs v) within q₀ s e l = absurd (false≢true (sym s))
   out-itself (arm x op vs) within q₀ s e l =
       out-mild (begunIn o (beginPart 0 within (k + 1) (o .marks))) (mild-begun o (beginPart 0 within (k + 1) (o .marks)) (part-silent isGrave graves-aside 0 within (k + 1) (o .marks)))
 
@@ -296,7 +299,7 @@ module _ (p : Plan) (t : ℕ) (φ : Name → Bool) (b : Bool) (q : Place) (k : �
   out-combines sequence within r s h = out-goes active (λ o. whereOver (finishes k) (begunIn o (beginAfter within (k + 1) t (o .marks)))) r (mild-follows within k t) h
   out-combines flow within r s h = out-goes active (joins k within) r (mild-joins k within) h
   out-combines pick within r s h = out-goes inside (finishes k) r (mild-finishes k) h
-  out-combines (scope v) within r s h = absurd (false≢true (sym s))
+  out-combines (scope xs v) within r s h = absurd (false≢true (sym s))
   out-combines (arm x op vs) within r s h = h
 
 -- What a scope makes of a step in it. Its name stands before the number of its body.
@@ -348,12 +351,15 @@ unfolding runAt
 run-here φ n x xs c e = rw e
 
 -- a mark that is one of these is not that of an open scope
-undoes-not-open : (m : ℕ) → (eqb m undoing || eqb m withdrawing) ≡ true → isOpen m ≡ false
+undoes-not-open : (m : ℕ) → (eqb (stateIn m) undoing || eqb m withdrawing) ≡ true → isOpen m ≡ false
 undoes-not-open m e =
-    decide (eqb m undoing) (λ d. rw (eqb-true m undoing d)) (λ d. rw (eqb-true m withdrawing (rw d at e)))
+    decide (eqb m active) (λ d. absurd (false≢true (rw (eqb-true m active d) at e)))
+    (λ d. decide (eqb m done) (λ c. absurd (false≢true (rw (eqb-true m done c) at e))) (λ c. rw (d, c)))
 
-heals-not-open : (m : ℕ) → eqb m handling ≡ true → isOpen m ≡ false
-heals-not-open m e = rw (eqb-true m handling e)
+heals-not-open : (m : ℕ) → eqb (stateIn m) handling ≡ true → isOpen m ≡ false
+heals-not-open m e =
+    decide (eqb m active) (λ d. absurd (false≢true (rw (eqb-true m active d) at e)))
+    (λ d. decide (eqb m done) (λ c. absurd (false≢true (rw (eqb-true m done c) at e))) (λ c. rw (d, c)))
 
 module _ (p : Plan) (t : ℕ) (φ : Name → Bool) (s : Scope) (m : Name) (o : Order) (h : Scoped p s) where
   scope-mild : (l : List Event) (r : Outcome) → Shape p t φ o l → Mild r → ScopeOut p t φ s m o (after l r)
@@ -383,7 +389,7 @@ module _ (p : Plan) (t : ℕ) (φ : Name → Bool) (s : Scope) (m : Name) (o : O
   faults-out : {x : ℕ} {ns : List Name} {c : Name} (l : List Event) (o₁ : Order) → isOpen (markOf (s .name) o) ≡ true → Raise p t φ x (bodyOf (s .name) ns c) l → ScopeOut p t φ s m o (after l (faults x s o₁))
   unfolding faults
   faults-out {x} {ns} {c} l o₁ n g =
-      let o₂ = causing (s .name) x (marking (s .name) faulty o₁) in
+      let o₂ = causing (s .name) x (marking (s .name) (markWith (choiceFor x s) faulty) o₁) in
       let r = stop (s .body) (s .bodyAt) o₂ in
       let e = mild-turns true s (r .order) in
       scope-result (l ++ ((faulted (s .name) x ∷ r .log) ++ turns true s (r .order) .log)) (turns true s (r .order)) (e .goes)
@@ -418,14 +424,14 @@ module _ (p : Plan) (t : ℕ) (φ : Name → Bool) (s : Scope) (m : Name) (o : O
       so true e g k = faults-out (r .log) o₁ (ap isOpen (sym (mark-below (s .name) (s .bodyAt) o o₁ (h .before) k)) ∙ e) g
       so false e g k = looks-out (r .log) o₁ (ap isOpen (sym (mark-below (s .name) (s .bodyAt) o o₁ (h .before) k)) ∙ e) g
 
-      un : {x : ℕ} (b : Bool) (l : List Event) → (eqb (markOf (s .name) o₁) undoing || eqb (markOf (s .name) o₁) withdrawing) ≡ b → l ≡ raised t x ∷ [] → seen φ (placeOf p t) ≡ undoOf (s .name) ns c₀
+      un : {x : ℕ} (b : Bool) (l : List Event) → (eqb (stateOf (s .name) o₁) undoing || eqb (markOf (s .name) o₁) withdrawing) ≡ b → l ≡ raised t x ∷ [] → seen φ (placeOf p t) ≡ undoOf (s .name) ns c₀
           → Below (s .bodyAt) o o₁ → ScopeOut p t φ s m o (after l (elim b [ true ↦ breaks x s o₁ | false ↦ runs o₁ ]))
       un {x} true l e d g k =
           subst (λ (z : List Event). ScopeOut p t φ s m o (after z (breaks x s o₁))) (sym d)
           (record { comes = ended-so (in-undo g y) (ap isOpen (sym (mark-below (s .name) (s .bodyAt) o o₁ (h .before) k)) ∙ undoes-not-open (markOf (s .name) o₁) e) k })
       un false l e d g k =
           subst (λ (z : List Event). ScopeOut p t φ s m o (after z (runs o₁))) (sym d)
-          (record { comes = shape-lost g (h .name) (ap (λ (x : ℕ). eqb x undoing || eqb x withdrawing) (sym (mark-below (s .name) (s .bodyAt) o o₁ (h .before) k)) ∙ e) refl })
+          (record { comes = shape-lost g (h .name) (ap (λ (x : ℕ). eqb (stateIn x) undoing || eqb x withdrawing) (sym (mark-below (s .name) (s .bodyAt) o o₁ (h .before) k)) ∙ e) refl })
 
       go : (x : Result) → r .result ≡ x → OutAs p t φ b (bodyOf (s .name) ns c₀) (s .bodyAt) o (r .log) o₁ x → ScopeOut p t φ s m o (fromBody s (record { result = x; order = o₁; log = r .log }))
       go running z c = scope-mild (r .log) (looksAgain s o₁) c (mild-looks s o₁)
@@ -433,30 +439,30 @@ module _ (p : Plan) (t : ℕ) (φ : Name → Bool) (s : Scope) (m : Name) (o : O
       go (raising x) z c = so (isOpen (markOf (s .name) o₁)) refl (c .0) (c .1)
       go leaving z c = record { comes = c }
       go undone z c = scope-mild (r .log) (undoOver s o₁) c (mild-undo-over s o₁)
-      go (undoRaising x) z c = un (eqb (markOf (s .name) o₁) undoing || eqb (markOf (s .name) o₁) withdrawing) (r .log) refl (c .0) (c .1 ∙ here (ap isOut z) (c .2)) (c .2)
+      go (undoRaising x) z c = un (eqb (stateOf (s .name) o₁) undoing || eqb (markOf (s .name) o₁) withdrawing) (r .log) refl (c .0) (c .1 ∙ here (ap isOut z) (c .2)) (c .2)
 
-  -- a step in its fault part
-  fault-out : {ns : List Name} {c₀ : Name} (r : Outcome) → firstOf ns c₀ ≡ m → s .bodyAt ≤ s .faultAt → Out p t φ true (faultOf (s .name) ns c₀) (s .faultAt) o r → ScopeOut p t φ s m o (fromFault s r)
+  -- a step in a fault part, which has the number j
+  fault-out : {ns : List Name} {c₀ : Name} (j : ℕ) (r : Outcome) → firstOf ns c₀ ≡ m → s .bodyAt ≤ j → Out p t φ true (faultOf (s .name) ns c₀) j o r → ScopeOut p t φ s m o (fromFault s r)
   unfolding fromFault partRaised breaks only
-  fault-out {ns} {c₀} r y f w = go (r .result) (w .comes)
+  fault-out {ns} {c₀} j r y f w = go (r .result) (w .comes)
     where
       o₁ : Order
       o₁ = r .order
 
-      un : {x : ℕ} (b : Bool) (l : List Event) → eqb (markOf (s .name) o₁) handling ≡ b → l ≡ raised t x ∷ [] → placeOf p t ≡ faultOf (s .name) ns c₀
+      un : {x : ℕ} (b : Bool) (l : List Event) → eqb (stateOf (s .name) o₁) handling ≡ b → l ≡ raised t x ∷ [] → placeOf p t ≡ faultOf (s .name) ns c₀
           → Below (s .bodyAt) o o₁ → ScopeOut p t φ s m o (after l (elim b [ true ↦ breaks x s o₁ | false ↦ runs o₁ ]))
       un {x} true l e d g k =
           subst (λ (z : List Event). ScopeOut p t φ s m o (after z (breaks x s o₁))) (sym d)
           (record { comes = ended-so (in-fault g y) (ap isOpen (sym (mark-below (s .name) (s .bodyAt) o o₁ (h .before) k)) ∙ heals-not-open (markOf (s .name) o₁) e) k })
       un false l e d g k =
           subst (λ (z : List Event). ScopeOut p t φ s m o (after z (runs o₁))) (sym d)
-          (record { comes = shape-lost (ap (seen φ) g) (h .name) (ap (λ (x : ℕ). eqb x handling) (sym (mark-below (s .name) (s .bodyAt) o o₁ (h .before) k)) ∙ e) refl })
+          (record { comes = shape-lost (ap (seen φ) g) (h .name) (ap (λ (x : ℕ). eqb (stateIn x) handling) (sym (mark-below (s .name) (s .bodyAt) o o₁ (h .before) k)) ∙ e) refl })
 
-      go : (x : Result) → OutAs p t φ true (faultOf (s .name) ns c₀) (s .faultAt) o (r .log) o₁ x → ScopeOut p t φ s m o (fromFault s (record { result = x; order = o₁; log = r .log }))
+      go : (x : Result) → OutAs p t φ true (faultOf (s .name) ns c₀) j o (r .log) o₁ x → ScopeOut p t φ s m o (fromFault s (record { result = x; order = o₁; log = r .log }))
       go running c = record { comes = c }
       go over c = scope-mild (r .log) (partOver s o₁) c (mild-part-over s o₁)
       go (raising n) c =
-          un (eqb (markOf (s .name) o₁) handling) (r .log) refl (c .2 refl .0) (c .2 refl .1)
+          un (eqb (stateOf (s .name) o₁) handling) (r .log) refl (c .2 refl .0) (c .2 refl .1)
           (record { marks = λ i x. c .1 .marks i (omega arith); rooted = c .1 .rooted })
       go leaving c = record { comes = c }
       go undone c = record { comes = c }
@@ -494,8 +500,8 @@ shape-marked p t φ k v o e (shape-lost {q} x y z c) = shape-lost x y (fits-mark
   where
     fits-marked : (q : Place) → isName p (nameOf q) ≡ true → fits q o ≡ fits q (marked k v o)
     fits-marked (bodyOf n ns m) i = ap isOpen (sym (mark-plain p n k v o e i))
-    fits-marked (faultOf n ns m) i = ap (λ (x : ℕ). eqb x handling) (sym (mark-plain p n k v o e i))
-    fits-marked (undoOf n ns m) i = ap (λ (x : ℕ). eqb x undoing || eqb x withdrawing) (sym (mark-plain p n k v o e i))
+    fits-marked (faultOf n ns m) i = ap (λ (x : ℕ). eqb (stateIn x) handling) (sym (mark-plain p n k v o e i))
+    fits-marked (undoOf n ns m) i = ap (λ (x : ℕ). eqb (stateIn x) undoing || eqb x withdrawing) (sym (mark-plain p n k v o e i))
 
 out-marked : (p : Plan) (t : ℕ) (φ : Name → Bool) (b : Bool) (q : Place) (k v : ℕ) (o : Order) (r : Outcome) → isName p (inner k) ≡ false → Out p t φ b q k (marked k v o) r → Out p t φ b q k o r
 out-marked p t φ b q k v o r e w = record { comes = go (r .result) (w .comes) }
@@ -582,24 +588,24 @@ among-out actor p t φ q a m v q₀ c o l f g =
     (out-wider p t φ _ (bareIn m) q c (c + size a) o (stepAmong actor m v q₀ (c + size a) t o) (omega arith) (λ d. both-true (bare a) (bareIn m) d (λ x y. y)) (g (l ∙ place-later a m c t q e))))
 
 -- A scope in a place.
-module _ (p : Plan) (t : ℕ) (φ : Name → Bool) (q : Place) (z₀ : Bool) (b f : Act) (u : Acts) (q₀ k : ℕ) (o : Order) where
+module _ (p : Plan) (t : ℕ) (φ : Name → Bool) (q : Place) (xs : List ℕ) (z₀ : Bool) (b : Act) (ps : Acts) (q₀ k : ℕ) (o : Order) where
   -- what its name and its body are
-  scoped : isName p (inner k) ≡ true → Scoped p (scopeAt k (trio b f u))
+  scoped : isName p (inner k) ≡ true → Scoped p (scopeAt xs k (more b ps))
   unfolding part partAt
   scoped n = record { before = omega arith; name = n }
 
   -- it comes to this where it stands
-  scope-as : (r : Outcome) → ScopeOut p t φ (scopeAt k (trio b f u)) (nameOf q) o r → Out p t φ false q k o r
+  scope-as : (r : Outcome) → ScopeOut p t φ (scopeAt xs k (more b ps)) (nameOf q) o r → Out p t φ false q k o r
   unfolding part partAt breaks forgetting
   scope-as r w = record { comes = go (r .log) (r .order) (r .result) (w .comes) }
     where
-      go : (l : List Event) (o′ : Order) (x : Result) → ScopeAs p t φ (scopeAt k (trio b f u)) (nameOf q) o l o′ x → OutAs p t φ false q k o l o′ x
+      go : (l : List Event) (o′ : Order) (x : Result) → ScopeAs p t φ (scopeAt xs k (more b ps)) (nameOf q) o l o′ x → OutAs p t φ false q k o l o′ x
       go l o′ running c = c
       go l o′ over c = c
       go _ _ (raising y) (ended-so {o₁} g n d) = (
         raise-out g,
         record {
-          marks = λ i x. cleared-kept (1 + sizes (trio b f u)) k (set (o₁ .marks) k idle) .below i x ∙ (getD-set-other (o₁ .marks) k i idle 0 (omega arith) ∙ d .marks i (omega arith));
+          marks = λ i x. cleared-kept (1 + sizes (more b ps)) k (set (o₁ .marks) k idle) .below i x ∙ (getD-set-other (o₁ .marks) k i idle 0 (omega arith) ∙ d .marks i (omega arith));
           rooted = d .rooted;
         },
         (λ e. absurd (false≢true e)),
@@ -663,35 +669,46 @@ module _ (p : Plan) (t : ℕ) (φ : Name → Bool) (q : Place) (z₀ : Bool) (b 
       go false (undoRaising x) e i = run-here φ (inner k) (nameOf q) (beyondOf q) (lastOf q) (awake (sym (and-true (eqb (markAt k (r .order)) idle)) ∙ e))
 
   -- in which part the step is
-  in-body : (r : Outcome) (v : Bool) → ltb t (k + 1 + size b) ≡ true → goesThrough z₀ k r ≡ v → inScope z₀ k t (trio b f u) r ≡ elim v [ true ↦ r | false ↦ fromBody (scopeAt k (trio b f u)) r ]
+  in-body : (r : Outcome) (v : Bool) → ltb t (k + 1 + size b) ≡ true → goesThrough z₀ k r ≡ v → inScope xs z₀ k t (more b ps) r ≡ elim v [ true ↦ r | false ↦ fromBody (scopeAt xs k (more b ps)) r ]
   unfolding inScope part partAt
   in-body r v d e =
-      first-of (ltb t (k + 1 + size b)) (elim (goesThrough z₀ k r) [ true ↦ r | false ↦ fromBody (scopeAt k (trio b f u)) r ])
-      (elim (ltb t (partAt 0 u (k + 1 + size b + size f))) [ true ↦ fromFault (scopeAt k (trio b f u)) r | false ↦ fromUndo r ]) (inScope z₀ k t (trio b f u) r) refl d
-      ∙ ap (λ (z : Bool). elim z as (λ _. Outcome) [ true ↦ r | false ↦ fromBody (scopeAt k (trio b f u)) r ]) e
+      first-of (ltb t (partAt 0 ps (k + 1 + size b))) (elim (goesThrough z₀ k r) [ true ↦ r | false ↦ fromBody (scopeAt xs k (more b ps)) r ])
+      (elim (ltb t (partAt (generalPart xs) ps (k + 1 + size b))) [ true ↦ fromFault (scopeAt xs k (more b ps)) r | false ↦ fromUndo r ]) (inScope xs z₀ k t (more b ps) r) refl (ap (ltb t) (at-first ps (k + 1 + size b)) ∙ d)
+      ∙ ap (λ (z : Bool). elim z as (λ _. Outcome) [ true ↦ r | false ↦ fromBody (scopeAt xs k (more b ps)) r ]) e
 
-  in-rest : (r : Outcome) (v : Bool) → ltb t (k + 1 + size b) ≡ false → ltb t (k + 1 + size b + size f) ≡ v
-      → inScope z₀ k t (trio b f u) r ≡ elim v [ true ↦ fromFault (scopeAt k (trio b f u)) r | false ↦ fromUndo r ]
+  in-rest : (r : Outcome) (v : Bool) → ltb t (k + 1 + size b) ≡ false → ltb t (partAt (generalPart xs) ps (k + 1 + size b)) ≡ v
+      → inScope xs z₀ k t (more b ps) r ≡ elim v [ true ↦ fromFault (scopeAt xs k (more b ps)) r | false ↦ fromUndo r ]
   unfolding inScope part partAt
   in-rest r v d e =
-      second-of (ltb t (k + 1 + size b)) (elim (goesThrough z₀ k r) [ true ↦ r | false ↦ fromBody (scopeAt k (trio b f u)) r ])
-      (elim (ltb t (partAt 0 u (k + 1 + size b + size f))) [ true ↦ fromFault (scopeAt k (trio b f u)) r | false ↦ fromUndo r ]) (inScope z₀ k t (trio b f u) r) refl d
-      ∙ ap (λ (z : Bool). elim z as (λ _. Outcome) [ true ↦ fromFault (scopeAt k (trio b f u)) r | false ↦ fromUndo r ]) (ap (ltb t) (at-first u (k + 1 + size b + size f)) ∙ e)
+      second-of (ltb t (partAt 0 ps (k + 1 + size b))) (elim (goesThrough z₀ k r) [ true ↦ r | false ↦ fromBody (scopeAt xs k (more b ps)) r ])
+      (elim (ltb t (partAt (generalPart xs) ps (k + 1 + size b))) [ true ↦ fromFault (scopeAt xs k (more b ps)) r | false ↦ fromUndo r ]) (inScope xs z₀ k t (more b ps) r) refl (ap (ltb t) (at-first ps (k + 1 + size b)) ∙ d)
+      ∙ ap (λ (z : Bool). elim z as (λ _. Outcome) [ true ↦ fromFault (scopeAt xs k (more b ps)) r | false ↦ fromUndo r ]) e
 
-  scope-out : (actor : Actor) → isName p (inner k) ≡ true → Agrees p φ o → bare f ≡ true → placeOf p t ≡ placeIn (act (scope z₀) (trio b f u)) k t q
-      → (placeOf p t ≡ placeIn b (k + 1) t (bodyOf (inner k) (beyondIn z₀ q) (lastIn z₀ q)) → Out p t φ (bare b) (bodyOf (inner k) (beyondIn z₀ q) (lastIn z₀ q)) (k + 1) o (stepIn actor b (k + 1) (k + 1) t o))
-      → (placeOf p t ≡ placeIn f (k + 1 + size b) t (faultOf (inner k) (beyondIn z₀ q) (lastIn z₀ q)) → Out p t φ (bare f) (faultOf (inner k) (beyondIn z₀ q) (lastIn z₀ q)) (k + 1 + size b) o (stepIn actor f (k + 1 + size b) (k + 1 + size b) t o))
-      → (placeOf p t ≡ placeParts u (k + 1 + size b + size f) t (undoOf (nameOf q) (beyondOf q) (lastOf q)) (undoOf (nameOf q) (beyondOf q) (lastOf q)) (undoOf (nameOf q) (beyondOf q) (lastOf q))
-      → Out p t φ true (undoOf (nameOf q) (beyondOf q) (lastOf q)) (k + 1 + size b + size f) o (stepAmong actor u true q₀ (k + 1 + size b + size f) t o))
-      → Out p t φ (bare (act (scope z₀) (trio b f u))) q k o (stepIn actor (act (scope z₀) (trio b f u)) q₀ k t o)
+  -- the places of its parts
+  abbrev ofBody : Place
+  ofBody = bodyOf (inner k) (beyondIn z₀ q) (lastIn z₀ q)
+
+  abbrev ofFault : Place
+  ofFault = faultOf (inner k) (beyondIn z₀ q) (lastIn z₀ q)
+
+  abbrev ofUndo : Place
+  ofUndo = undoOf (nameOf q) (beyondOf q) (lastOf q)
+
+  scope-out : (actor : Actor) → isName p (inner k) ≡ true → Agrees p φ o → placeOf p t ≡ placeIn (act (scope xs z₀) (more b ps)) k t q
+      → (placeOf p t ≡ placeIn b (k + 1) t ofBody → Out p t φ (bare b) ofBody (k + 1) o (stepIn actor b (k + 1) (k + 1) t o))
+      → ((i : ℕ) → i ≤ length xs → placeOf p t ≡ placeIn (part i ps) (partAt i ps (k + 1 + size b)) t ofFault
+      → Out p t φ true ofFault (partAt i ps (k + 1 + size b)) o (stepIn actor (part i ps) (partAt i ps (k + 1 + size b)) (partAt i ps (k + 1 + size b)) t o))
+      → ((i : ℕ) → length xs < i → i < count ps → placeOf p t ≡ placeIn (part i ps) (partAt i ps (k + 1 + size b)) t ofUndo
+      → Out p t φ true ofUndo (partAt i ps (k + 1 + size b)) o (stepIn actor (part i ps) (partAt i ps (k + 1 + size b)) (partAt i ps (k + 1 + size b)) t o))
+      → Out p t φ (bare (act (scope xs z₀) (more b ps))) q k o (stepIn actor (act (scope xs z₀) (more b ps)) q₀ k t o)
   unfolding bare itself closing combines arms part partAt only isGrave stepIn
-  scope-out actor n a zf l ib jf ju =
+  scope-out actor n a l ib jf ju =
       decide (eqb k t)
-      (λ e. subst (λ (r : Outcome). Out p t φ false q k o r) (sym (step-here actor (scope z₀) (trio b f u) q₀ k t o e ∙ scope-performs actor z₀ (trio b f u) q₀ k o)) (out-mild p t φ false q k o (closing z₀ q₀ k (scopeAt k (trio b f u)) o) (record { goes = refl; calm = refl })))
-      (λ e. subst (λ (r : Outcome). Out p t φ false q k o r) (sym (step-within actor (scope z₀) (trio b f u) q₀ k t o e)) (inside-it (l ∙ place-scope z₀ (trio b f u) k t q e)))
+      (λ e. subst (λ (r : Outcome). Out p t φ false q k o r) (sym (step-here actor (scope xs z₀) (more b ps) q₀ k t o e ∙ scope-performs actor xs z₀ (more b ps) q₀ k o)) (out-mild p t φ false q k o (closing z₀ q₀ k (scopeAt xs k (more b ps)) o) (record { goes = refl; calm = refl })))
+      (λ e. subst (λ (r : Outcome). Out p t φ false q k o r) (sym (step-within actor (scope xs z₀) (more b ps) q₀ k t o e)) (inside-it (l ∙ place-scope xs z₀ (more b ps) k t q e)))
     where
       S : Scope
-      S = scopeAt k (trio b f u)
+      S = scopeAt xs k (more b ps)
 
       around-it : firstOf (beyondIn z₀ q) (lastIn z₀ q) ≡ nameOf q
       around-it = go z₀
@@ -706,73 +723,93 @@ module _ (p : Plan) (t : ℕ) (φ : Name → Bool) (q : Place) (z₀ : Bool) (b 
       r₁ : Outcome
       r₁ = stepIn actor b (k + 1) (k + 1) t o
 
-      of-body : (v : Bool) → goesThrough z₀ k r₁ ≡ v → Out p t φ (bare b) (bodyOf (inner k) (beyondIn z₀ q) (lastIn z₀ q)) (k + 1) o r₁ → Out p t φ false q k o (elim v [ true ↦ r₁ | false ↦ fromBody S r₁ ])
+      of-body : (v : Bool) → goesThrough z₀ k r₁ ≡ v → Out p t φ (bare b) ofBody (k + 1) o r₁ → Out p t φ false q k o (elim v [ true ↦ r₁ | false ↦ fromBody S r₁ ])
       of-body true e w = through-as r₁ e n a w
       of-body false e w = scope-as (fromBody S r₁) (body-out p t φ S (nameOf q) o (scoped n) (bare b) r₁ around-it (λ i d. stays-here r₁ e n a d i) w)
 
-      inside-it : placeOf p t ≡ parts z₀ (trio b f u) k t q → Out p t φ false q k o (inScope z₀ k t (trio b f u) (stepAmong actor (trio b f u) true q₀ (k + 1) t o))
+      -- a part after the body
+      later : ltb t (k + 1 + size b) ≡ false → placeOf p t ≡ placeParts (length xs) ps (k + 1 + size b) t ofFault ofFault ofUndo → Landed ps (k + 1 + size b) t
+          → Out p t φ false q k o (inScope xs z₀ k t (more b ps) (stepAmong actor ps true q₀ (k + 1 + size b) t o))
+      later d l₁ (landed i w) =
+          decide (leb i (length xs))
+          (λ e. let h = leb-true i (length xs) e in
+          via (in-rest _ true d (lands-before w (generalPart xs) (omega (arith, general-is xs))) ∙ ap (fromFault S) (lands-step actor w q₀ o))
+          (scope-as _ (fault-out p t φ S (nameOf q) o (scoped n) (partAt i ps (k + 1 + size b)) _ around-it (omega (arith, at-from i ps (k + 1 + size b)))
+          (jf i h (l₁ ∙ lands-fault w (length xs) h ofFault ofUndo)))))
+          (λ e. let h = leb-false i (length xs) e in
+          via (in-rest _ false d (lands-after w (ltb-false t (k + 1 + size b) d) (generalPart xs) (omega (arith, general-is xs))) ∙ ap fromUndo (lands-step actor w q₀ o))
+          (undo-as (partAt i ps (k + 1 + size b)) _ (omega (arith, at-from i ps (k + 1 + size b))) (ju i h (lands-count w) (l₁ ∙ lands-undo w (length xs) h ofFault ofUndo))))
+      later d l₁ (beyond h) =
+          via (in-rest _ false d (beyond-after ps (k + 1 + size b) t h (generalPart xs)) ∙ ap fromUndo (beyond-step actor ps (k + 1 + size b) t q₀ o h))
+          (undo-as (k + 1) (runs o) (omega arith) (out-mild p t φ true ofUndo (k + 1) o (runs o) (mild-runs o)))
+
+      inside-it : placeOf p t ≡ parts xs z₀ (more b ps) k t q → Out p t φ false q k o (inScope xs z₀ k t (more b ps) (stepAmong actor (more b ps) true q₀ (k + 1) t o))
       inside-it l₁ =
           decide (ltb t (k + 1 + size b))
-          (λ d. via (ap (inScope z₀ k t (trio b f u)) (among-first actor b (more f u) true q₀ (k + 1) t o d) ∙ in-body r₁ (goesThrough z₀ k r₁) d refl)
-          (of-body (goesThrough z₀ k r₁) refl (ib (l₁ ∙ parts-first b (more f u) (k + 1) t _ _ _ d))))
-          (λ d. decide (ltb t (k + 1 + size b + size f))
-          (λ v. via (in-rest _ true d v ∙ ap (fromFault S) (among-later actor b (more f u) true q₀ (k + 1) t o d ∙ among-first actor f u true q₀ (k + 1 + size b) t o v))
-          (scope-as (fromFault S (stepIn actor f (k + 1 + size b) (k + 1 + size b) t o)) (fault-out p t φ S (nameOf q) o (scoped n) (stepIn actor f (k + 1 + size b) (k + 1 + size b) t o) around-it (omega arith)
-          (subst (λ (z : Bool). Out p t φ z (faultOf (inner k) (beyondIn z₀ q) (lastIn z₀ q)) (k + 1 + size b) o (stepIn actor f (k + 1 + size b) (k + 1 + size b) t o)) zf
-          (jf (l₁ ∙ (parts-later b (more f u) (k + 1) t _ _ _ d ∙ parts-first f u (k + 1 + size b) t _ _ _ v)))))))
-          (λ v. via (in-rest _ false d v ∙ ap fromUndo (among-later actor b (more f u) true q₀ (k + 1) t o d ∙ among-later actor f u true q₀ (k + 1 + size b) t o v))
-          (undo-as (k + 1 + size b + size f) (stepAmong actor u true q₀ (k + 1 + size b + size f) t o) (omega arith)
-          (ju (l₁ ∙ (parts-later b (more f u) (k + 1) t _ _ _ d ∙ parts-later f u (k + 1 + size b) t _ _ _ v))))))
+          (λ d. via (ap (inScope xs z₀ k t (more b ps)) (among-first actor b ps true q₀ (k + 1) t o d) ∙ in-body r₁ (goesThrough z₀ k r₁) d refl)
+          (of-body (goesThrough z₀ k r₁) refl (ib (l₁ ∙ parts-first (generalPart xs) b ps (k + 1) t _ _ _ d))))
+          (λ d. via (ap (inScope xs z₀ k t (more b ps)) (among-later actor b ps true q₀ (k + 1) t o d))
+          (later d (l₁ ∙ (ap (λ (i : ℕ). placeParts i (more b ps) (k + 1) t ofBody ofFault ofUndo) (general-suc xs) ∙ parts-later (length xs) b ps (k + 1) t ofBody ofFault ofUndo d))
+          (lands ps (k + 1 + size b) t (ltb-false t (k + 1 + size b) d))))
 
 -- in an empty list
 nothing-out : (actor : Actor) (p : Plan) (t : ℕ) (φ : Name → Bool) (b : Bool) (q : Place) (v : Bool) (q₀ c : ℕ) (o : Order) → Out p t φ b q c o (stepAmong actor none v q₀ c t o)
 unfolding stepIn
 nothing-out actor p t φ b q v q₀ c o = out-mild p t φ b q c o (runs o) (mild-runs o)
 
--- the undo part of a scope
-rest-out : (actor : Actor) (p : Plan) (t : ℕ) (φ : Name → Bool) (q : Place) (a : Act) (q₀ c : ℕ) (o : Order) → bare a ≡ true → placeOf p t ≡ placeParts (more a none) c t q q q
-    → (placeOf p t ≡ placeIn a c t q → Out p t φ (bare a) q c o (stepIn actor a c c t o)) → Out p t φ true q c o (stepAmong actor (more a none) true q₀ c t o)
-rest-out actor p t φ q a q₀ c o z l f =
-    decide (ltb t (c + size a))
-    (λ e. subst (λ (r : Outcome). Out p t φ true q c o r) (sym (among-first actor a none true q₀ c t o e))
-    (subst (λ (y : Bool). Out p t φ y q c o (stepIn actor a c c t o)) z (f (l ∙ parts-first a none c t q q q e))))
-    (λ e. subst (λ (r : Outcome). Out p t φ true q c o r) (sym (among-later actor a none true q₀ c t o e)) (out-wider p t φ true true q c (c + size a) o (stepAmong actor none true q₀ (c + size a) t o) (omega arith) (λ d. d) (nothing-out actor p t φ true q true q₀ (c + size a) o)))
-
 -- Every step in a tree.
 mutual
-  unfolding bare
+  unfolding bare part partAt count
 
   outs : (actor : Actor) {p : Plan} {x : Place} {a : Act} {k : ℕ} → Sits p x a k → (t : ℕ) (φ : Name → Bool) (q : Place) (q₀ : ℕ) (o : Order) → Agrees p φ o → placeOf p t ≡ placeIn a k t q
       → Out p t φ (bare a) q k o (stepIn actor a q₀ k t o)
   outs actor {p} (sits-part {own = own} {within = within} {k = k} s g v y l) t φ q q₀ o c e = part-out actor p t φ q own within q₀ k o s (y .noScope) e c (λ o₁ c₁ d. outs-in actor l t φ q (isScope own) q₀ o₁ c₁ d)
-  outs actor {p} (sits-scope {v = z₀} {b = b} {f = f} {u = u} {k = k} kn v i sb z sf su) t φ q q₀ o c e =
-      scope-out p t φ q z₀ b f u q₀ k o actor (kn .name) c (remedy-bare sf) e
-      (λ d. outs actor sb t φ (bodyOf (inner k) (beyondIn z₀ q) (lastIn z₀ q)) (k + 1) o c d) (λ d. outs-remedy actor sf t φ (faultOf (inner k) (beyondIn z₀ q) (lastIn z₀ q)) (k + 1 + size b) o c d)
-      (λ d. outs-rest actor su t φ (undoOf (nameOf q) (beyondOf q) (lastOf q)) q₀ o c d)
+  outs actor {p} (sits-scope {xs = xs} {v = z₀} {b = b} {f = f} {u = u} {k = k} kn v i sb z) t φ q q₀ o c e =
+      scope-out p t φ q xs z₀ b (more f u) q₀ k o actor (kn .name) c e
+      (λ d. outs actor sb t φ (bodyOf (inner k) (beyondIn z₀ q) (lastIn z₀ q)) (k + 1) o c d)
+      (λ i h d. outs-heal actor z t φ (faultOf (inner k) (beyondIn z₀ q) (lastIn z₀ q)) i h o c d)
+      (λ i h g d. outs-undo actor z t φ (undoOf (nameOf q) (beyondOf q) (lastOf q)) i h g o c d)
 
   outs-in : (actor : Actor) {p : Plan} {x : Place} {l : Acts} {c : ℕ} → SitsIn p x l c → (t : ℕ) (φ : Name → Bool) (q : Place) (v : Bool) (q₀ : ℕ) (o : Order) → Agrees p φ o → placeOf p t ≡ placeAmong l c t q
       → Out p t φ (bareIn l) q c o (stepAmong actor l v q₀ c t o)
   outs-in actor {p} (sits-none {c = c}) t φ q v q₀ o h e = nothing-out actor p t φ (bareIn none) q v q₀ c o
   outs-in actor {p} (sits-more {a = a} {l = l} {c = c} s y) t φ q v q₀ o h e = among-out actor p t φ q a l v q₀ c o e (λ d. outs actor s t φ q (cond v c q₀) o h d) (λ d. outs-in actor y t φ q v q₀ o h d)
 
-  outs-rest : (actor : Actor) {p : Plan} {z : Bool} {x : Place} {l : Acts} {c : ℕ} → Rest p z x l c → (t : ℕ) (φ : Name → Bool) (q : Place) (q₀ : ℕ) (o : Order) → Agrees p φ o → placeOf p t ≡ placeParts l c t q q q
-      → Out p t φ true q c o (stepAmong actor l true q₀ c t o)
-  outs-rest actor {p} (rest-undo {u = u} {k = c} su) t φ q q₀ o h e = rest-out actor p t φ q u q₀ c o (remedy-bare su) e (λ d. outs-remedy actor su t φ q c o h d)
-  outs-rest actor {p} (rest-none {k = c}) t φ q q₀ o h e = nothing-out actor p t φ true q true q₀ c o
+  -- a fault part, and the undo part
+  outs-heal : (actor : Actor) {p : Plan} {s : Name} {xs : List ℕ} {z : Bool} {x y : Place} {l : Acts} {c : ℕ} → Healers p s xs z x y l c → (t : ℕ) (φ : Name → Bool) (q : Place) (i : ℕ) → i ≤ length xs
+      → (o : Order) → Agrees p φ o → placeOf p t ≡ placeIn (part i l) (partAt i l c) t q → Out p t φ true q (partAt i l c) o (stepIn actor (part i l) (partAt i l c) (partAt i l c) t o)
+  outs-heal actor (heals-by z r h) t φ q zero e o g d = outs-remedy actor r t φ q o g d
+  outs-heal actor (heals-by z r h) t φ q (suc i) e o g d = outs-heal actor h t φ q i (omega arith) o g d
+  outs-heal actor (heals-all z r h) t φ q zero e o g d = outs-remedy actor r t φ q o g d
+  outs-heal actor (heals-all z r h) t φ q (suc i) e o g d = absurd (omega arith)
 
-  outs-remedy : (actor : Actor) {p : Plan} {x : Place} {a : Act} {k : ℕ} → Remedy p x a k → (t : ℕ) (φ : Name → Bool) (q : Place) (q₀ : ℕ) (o : Order) → Agrees p φ o → placeOf p t ≡ placeIn a k t q
-      → Out p t φ (bare a) q k o (stepIn actor a q₀ k t o)
-  outs-remedy actor {p} (remedy {own = own} {within = within} {k = k} s a g v z l d) t φ q q₀ o h e = part-out actor p t φ q own within q₀ k o s z e h (λ o₁ h₁ v. outs-in actor l t φ q (isScope own) q₀ o₁ h₁ v)
+  outs-undo : (actor : Actor) {p : Plan} {s : Name} {xs : List ℕ} {z : Bool} {x y : Place} {l : Acts} {c : ℕ} → Healers p s xs z x y l c → (t : ℕ) (φ : Name → Bool) (q : Place) (i : ℕ) → length xs < i → i < count l
+      → (o : Order) → Agrees p φ o → placeOf p t ≡ placeIn (part i l) (partAt i l c) t q → Out p t φ true q (partAt i l c) o (stepIn actor (part i l) (partAt i l c) (partAt i l c) t o)
+  outs-undo actor (heals-by z r h) t φ q zero e n o g d = absurd (omega arith)
+  outs-undo actor (heals-by z r h) t φ q (suc i) e n o g d = outs-undo actor h t φ q i (omega arith) (omega arith) o g d
+  outs-undo actor (heals-all z r h) t φ q zero e n o g d = absurd (omega arith)
+  outs-undo actor (heals-all z r h) t φ q (suc i) e n o g d = outs-rest actor h t φ q i (omega arith) o g d
+
+  outs-rest : (actor : Actor) {p : Plan} {z : Bool} {y : Place} {l : Acts} {c : ℕ} → Rest p z y l c → (t : ℕ) (φ : Name → Bool) (q : Place) (i : ℕ) → i < count l
+      → (o : Order) → Agrees p φ o → placeOf p t ≡ placeIn (part i l) (partAt i l c) t q → Out p t φ true q (partAt i l c) o (stepIn actor (part i l) (partAt i l c) (partAt i l c) t o)
+  outs-rest actor (rest-undo y) t φ q zero n o g d = outs-remedy actor y t φ q o g d
+  outs-rest actor (rest-undo y) t φ q (suc i) n o g d = absurd (omega arith)
+  outs-rest actor rest-none t φ q i n o g d = absurd (omega arith)
+
+  outs-remedy : (actor : Actor) {p : Plan} {x : Place} {a : Act} {k : ℕ} → Remedy p x a k → (t : ℕ) (φ : Name → Bool) (q : Place) (o : Order) → Agrees p φ o → placeOf p t ≡ placeIn a k t q
+      → Out p t φ true q k o (stepIn actor a k k t o)
+  outs-remedy actor {p} (remedy {own = own} {within = within} {k = k} s a g v z l d) t φ q o h e =
+      subst (λ (y : Bool). Out p t φ y q k o (stepIn actor (act own within) k k t o)) (rw (s, d))
+      (part-out actor p t φ q own within k k o s z e h (λ o₁ h₁ v. outs-in actor l t φ q (isScope own) k o₁ h₁ v))
 
 -- From the root.
 root-out : (actor : Actor) (p : Plan) → Seat p (rootOf p) → (t : ℕ) (φ : Name → Bool) (o : Order) → Agrees p φ o → ScopeOut p t φ (rootOf p) root o (stepRoot actor p t o)
-unfolding stepRoot placeOf
+unfolding stepRoot placeOf chosenPart chosenAt
 root-out actor p h t φ o g =
     decide (ltb t (size (p .body)))
     (λ e. rw (e, stepRoot) (body-out p t φ (rootOf p) root o w (bare (p .body)) (stepIn actor (p .body) 0 0 t o) refl (λ i d. run-none φ root root) (outs actor (h .body) t φ (bodyOf root [] root) 0 o g (rw (e, placeOf) refl))))
-    (λ e. rw (e, stepRoot) (fault-out p t φ (rootOf p) root o w (stepIn actor (p .fault) (size (p .body)) (size (p .body)) t o) refl (omega arith)
-    (subst (λ (z : Bool). Out p t φ z (faultOf root [] root) (size (p .body)) o (stepIn actor (p .fault) (size (p .body)) (size (p .body)) t o)) (remedy-bare (h .fault))
-    (outs-remedy actor (h .fault) t φ (faultOf root [] root) (size (p .body)) o g (rw (e, placeOf) refl)))))
+    (λ e. rw (e, stepRoot) (fault-out p t φ (rootOf p) root o w (size (p .body)) (stepIn actor (p .fault) (size (p .body)) (size (p .body)) t o) refl (omega arith)
+    (outs-remedy actor (h .fault 0) t φ (faultOf root [] root) o g (rw (e, placeOf) refl))))
   where
     w : Scoped p (rootOf p)
     w = record { before = tt; name = refl }

@@ -8,12 +8,12 @@ use lib.ListN.{length, getD, length-set}
 use lib.Seq.{getD-set-same, getD-set-other}
 use lib.Dec.{eqb, ltb, leb}
 use borrow.Author.Tests.{eqb-true, eqb-false, eq-eqb, ne-eqb, ltb-true, ltb-false, lt-ltb, le-ltb, le-leb}
-use Rattle.plan.specs.Tree.{Own, empty, send, receive, set as setting, raise, leave, choose, repeat, sequence, flow, pick, scope, arm, kind, isArm, isPick, isScope, Act, act, Acts, none, more, Plan, size, sizes, count}
+use Rattle.plan.specs.Tree.{Own, empty, send, receive, set as setting, raise, leave, choose, repeat, sequence, flow, pick, scope, arm, kind, isArm, isPick, isScope, generalPart, undoPart, Act, act, Acts, none, more, Plan, size, sizes, count}
 use Rattle.order.specs.declared.Closing.{Closing}
 use Rattle.order.specs.declared.Order.{Order}
 use Rattle.order.specs.declared.End.the-variants.{None, Left}
 use Rattle.order.specs.Lists.{only}
-use Rattle.order.specs.State.{Name, root, inner, same, idle, active, inside, done, closings, remembering, marked, markOf, closingOf}
+use Rattle.order.specs.State.{Name, root, inner, same, idle, active, inside, done, closings, choiceIn, remembering, marked, markOf, closingOf}
 use Rattle.order.specs.Expression.{conflictingReceive}
 use Rattle.order.specs.Event.{Event, raised}
 use Rattle.order.specs.Begin.{part, partAt, beginPart}
@@ -25,16 +25,19 @@ use Rattle.order.specs.Acting.{raises, itself, Actor, itsOwn, inPlace, replaces
 use Rattle.machine.specs.Fit.{awaits}
 use Rattle.undoing.specs.Demand3.{Inner, inUndoPart}
 use Rattle.undoing.specs.Ties.{isName, Place, bodyOf, undoOf, nameOf, faultOf, beyondOf, lastOf, bodyOfName}
+use Rattle.undoing.specs.Standing.{choiceOn}
 use Rattle.undoing.proofs.Parts.{both, decide, only-append, same-swap, map-append}
+use Rattle.undoing.proofs.Choices.{general-is}
 use Rattle.undoing.proofs.Accounts.{Phase, live, heals, phase, Known}
-use Rattle.undoing.proofs.Moves.{Spot, move-close, RunIn, runnerAt, Before}
-use Rattle.undoing.proofs.Marks.{run-loud, trio, spread, Agree, Quiet, Kept, holding, Run, run-awaits, run-one, run-all, run-body, run-done, run-turned, One, one-here, one-later, All, all-run, all-quiet, Turned, turned-waits, turned-undoes, turned-heals, turned-not-open, Stopped, stopped-part, stopped-quiet, stopped-scope, StoppedIn, stopped-more, Undoing, undoing-part, undoing-scope, UndoingIn, undoing-here, undoing-later, able-quiet, able-run, StoppableIn, able-more, quiet-part, quiet-agree, quiet-join, agree-below, agree-above, kept-wider, kept-set, run-agree, all-agree, stopped-agree, stopped-in-agree, quiet-stoppable, all-stoppable, undoing-through, turned-not-rest}
-use Rattle.undoing.proofs.Orders.{listOf, momentOf, Does, does-one, plain-marked, Fit, fit-marked, bare, bareIn, innerAt, least, Sits, sits-part, sits-scope, SitsIn, sits-more, Remedy, remedy, remedy-names, remedy-bare, runner-kept, Rest, rest-undo, rest-none}
+use Rattle.undoing.proofs.Moves.{Spot, unchanged, move-close, RunIn, runnerAt, Before}
+use Rattle.undoing.proofs.Marks.{run-loud, trio, spread, Agree, Quiet, Kept, holding, Nth, Run, run-awaits, run-one, run-all, run-body, run-done, run-turned, One, one-here, one-later, All, all-run, all-quiet, Turned, turned-waits, turned-undoes, turned-heals, turned-not-open, Stopped, stopped-part, stopped-quiet, stopped-scope, StoppedIn, stopped-more, Undoing, undoing-part, undoing-scope, UndoingIn, undoing-here, undoing-later, able-quiet, able-run, StoppableIn, able-more, quiet-part, quiet-agree, quiet-join, agree-below, agree-above, kept-wider, kept-set, run-agree, all-agree, stopped-agree, stopped-in-agree, quiet-stoppable, all-stoppable, undoing-through, turned-not-rest}
+use Rattle.undoing.proofs.Orders.{listOf, momentOf, Does, does-one, plain-marked, Fit, fit-marked, bare, bareIn, innerAt, least, Sits, sits-part, sits-scope, SitsIn, sits-more, Remedy, remedy, remedy-names, remedy-bare, runner-kept, Healers, heals-by, heals-all, Rest, rest-undo, rest-none}
+use Rattle.undoing.proofs.Remedies.{part-from, part-to, part-order, undo-from, nth-there, nth-run, nth-goes, nth-ends, nth-below, nth-above, undoer, chosen-most, choice-on}
 use Rattle.undoing.proofs.Beginning.{Begins, quiet-set, quiet-cons}
 use Rattle.undoing.proofs.Seats.{Seat, remembering-closings, inside-rest, quiet-inner, quiet-inner-in, inner-is, isForName, bodies-apart, remembered-list, mark-kept}
 use Rattle.undoing.proofs.Turning.{Apart}
 use Rattle.undoing.proofs.Stopping.{seat-of}
-use Rattle.undoing.proofs.Waiting.{opens, Waits, waits-itself, waits-within, WaitsIn, waits-first, waits-later, idle-awaits, opens-idle, quiet-waits, quiet-waits-in, stopped-waits, undoing-waits}
+use Rattle.undoing.proofs.Waiting.{opens, Waits, waits-itself, waits-within, WaitsIn, waits-first, waits-later, idle-awaits, opens-idle, quiet-waits, quiet-waits-in, nth-waits, stopped-waits, undoing-waits}
 use Rattle.undoing.proofs.Breaking.{forgotten-list, forgotten-other}
 use Rattle.undoing.proofs.Scoping.{Acted, RunAs, StopAs, ScopesRest, UndoAs, scope-live, scope-done, scope-turned, Turning, Running, StepsAs, Steps, Reach, from-live, from-stopped, from-undoing, from-heals, looks-is}
 use Rattle.undoing.proofs.Goings.{begins-at, acts-raises, acts-itself, acts-runs}
@@ -49,19 +52,20 @@ step-is actor own within y₀ k t o b s e =
     (ap (λ (z : Bool). elim (eqb k t) [ true ↦ performs actor own within y₀ k o | false ↦ combines own within k t (stepAmong actor within z y₀ (k + 1) t (arms own within k t o)) ]) s)
 
 -- a scope closes in its step: no raise stands in its place
-pub scope-performs : (actor : Actor) (v : Bool) (within : Acts) (y₀ k : ℕ) (o : Order) → performs actor (scope v) within y₀ k o ≡ closing v y₀ k (scopeAt k within) o
+pub scope-performs : (actor : Actor) (xs : List ℕ) (v : Bool) (within : Acts) (y₀ k : ℕ) (o : Order) → performs actor (scope xs v) within y₀ k o ≡ closing v y₀ k (scopeAt xs k within) o
 unfolding performs replaces itself kind
-scope-performs itsOwn v within y₀ k o = refl
-scope-performs inPlace true within y₀ k o = refl
-scope-performs inPlace false within y₀ k o = refl
+scope-performs itsOwn xs v within y₀ k o = refl
+scope-performs inPlace [] true within y₀ k o = refl
+scope-performs inPlace [] false within y₀ k o = refl
+scope-performs inPlace (x ∷ xs) v within y₀ k o = refl
 
 -- in a scope
-pub scope-is : (actor : Actor) (v : Bool) (within : Acts) (y₀ k t : ℕ) (o : Order) (b : Bool) → eqb k t ≡ b
-    → stepIn actor (act (scope v) within) y₀ k t o ≡ elim b [ true ↦ closing v y₀ k (scopeAt k within) o | false ↦ inScope v k t within (stepAmong actor within true y₀ (k + 1) t o) ]
+pub scope-is : (actor : Actor) (xs : List ℕ) (v : Bool) (within : Acts) (y₀ k t : ℕ) (o : Order) (b : Bool) → eqb k t ≡ b
+    → stepIn actor (act (scope xs v) within) y₀ k t o ≡ elim b [ true ↦ closing v y₀ k (scopeAt xs k within) o | false ↦ inScope xs v k t within (stepAmong actor within true y₀ (k + 1) t o) ]
 unfolding stepIn combines arms
-scope-is actor v within y₀ k t o b e =
-    subst (λ (z : Bool). stepIn actor (act (scope v) within) y₀ k t o ≡ elim z [ true ↦ closing v y₀ k (scopeAt k within) o | false ↦ inScope v k t within (stepAmong actor within true y₀ (k + 1) t o) ]) e
-    (ap (λ (r : Outcome). elim (eqb k t) [ true ↦ r | false ↦ inScope v k t within (stepAmong actor within true y₀ (k + 1) t o) ]) (scope-performs actor v within y₀ k o))
+scope-is actor xs v within y₀ k t o b e =
+    subst (λ (z : Bool). stepIn actor (act (scope xs v) within) y₀ k t o ≡ elim z [ true ↦ closing v y₀ k (scopeAt xs k within) o | false ↦ inScope xs v k t within (stepAmong actor within true y₀ (k + 1) t o) ]) e
+    (ap (λ (r : Outcome). elim (eqb k t) [ true ↦ r | false ↦ inScope xs v k t within (stepAmong actor within true y₀ (k + 1) t o) ]) (scope-performs actor xs v within y₀ k o))
 
 -- in a list
 pub among-is : (actor : Actor) (a : Act) (l : Acts) (y₀ c t : ℕ) (o : Order) (b : Bool) → ltb t (c + size a) ≡ b
@@ -141,23 +145,27 @@ through-so s k o undone l i e f g = rw (e, goesThrough)
 through-so s k o (undoRaising x) l i e f g = rw (e, goesThrough)
 
 -- in which part of a scope the step is
-pub in-parts : (z : Bool) (b f : Act) (u : Acts) (k t : ℕ) (r : Outcome) (x y : Bool) → ltb t (k + 1 + size b) ≡ x → ltb t (k + 1 + size b + size f) ≡ y
-    → inScope z k t (trio b f u) r
-    ≡ elim x [ true ↦ elim (goesThrough z k r) [ true ↦ r | false ↦ fromBody (scopeAt k (trio b f u)) r ] | false ↦ elim y [ true ↦ fromFault (scopeAt k (trio b f u)) r | false ↦ fromUndo r ] ]
+pub in-parts : (xs : List ℕ) (z : Bool) (b f : Act) (u : Acts) (k t : ℕ) (r : Outcome) (x y : Bool) → ltb t (k + 1 + size b) ≡ x → ltb t (partAt (undoPart xs) (trio b f u) (k + 1)) ≡ y
+    → inScope xs z k t (trio b f u) r
+    ≡ elim x [ true ↦ elim (goesThrough z k r) [ true ↦ r | false ↦ fromBody (scopeAt xs k (trio b f u)) r ] | false ↦ elim y [ true ↦ fromFault (scopeAt xs k (trio b f u)) r | false ↦ fromUndo r ] ]
 unfolding inScope part partAt
-in-parts z b f u k t r x y e d =
-    subst (λ (w : Bool). inScope z k t (trio b f u) r
-    ≡ elim x [ true ↦ elim (goesThrough z k r) [ true ↦ r | false ↦ fromBody (scopeAt k (trio b f u)) r ] | false ↦ elim w [ true ↦ fromFault (scopeAt k (trio b f u)) r | false ↦ fromUndo r ] ]) d
-    (subst (λ (w : Bool). inScope z k t (trio b f u) r
+in-parts xs z b f u k t r x y e d =
+    subst (λ (w : Bool). inScope xs z k t (trio b f u) r
+    ≡ elim x [ true ↦ elim (goesThrough z k r) [ true ↦ r | false ↦ fromBody (scopeAt xs k (trio b f u)) r ] | false ↦ elim w [ true ↦ fromFault (scopeAt xs k (trio b f u)) r | false ↦ fromUndo r ] ]) d
+    (subst (λ (w : Bool). inScope xs z k t (trio b f u) r
     ≡ elim w [
-      | true ↦ elim (goesThrough z k r) [ true ↦ r | false ↦ fromBody (scopeAt k (trio b f u)) r ]
-      | false ↦ elim (ltb t (k + 1 + size b + size f)) [ true ↦ fromFault (scopeAt k (trio b f u)) r | false ↦ fromUndo r ]
-    ]) e
-    (ap (λ (w : ℕ). elim (ltb t (k + 1 + size b)) [
-      | true ↦ elim (goesThrough z k r) [ true ↦ r | false ↦ fromBody (scopeAt k (trio b f u)) r ]
-      | false ↦ elim (ltb t w) [ true ↦ fromFault (scopeAt k (trio b f u)) r | false ↦ fromUndo r ]
-    ])
-    (at-first u (k + 1 + size b + size f))))
+      | true ↦ elim (goesThrough z k r) [ true ↦ r | false ↦ fromBody (scopeAt xs k (trio b f u)) r ]
+      | false ↦ elim (ltb t (partAt (undoPart xs) (trio b f u) (k + 1))) [ true ↦ fromFault (scopeAt xs k (trio b f u)) r | false ↦ fromUndo r ]
+    ]) e refl)
+
+-- in the i-th of its parts
+pub parts-nth : (actor : Actor) (i : ℕ) (l : Acts) (y₀ c t : ℕ) (o : Order) → i < count l → partAt i l c ≤ t → t < partAt i l c + size (part i l)
+    → stepAmong actor l true y₀ c t o ≡ stepIn actor (part i l) (partAt i l c) (partAt i l c) t o
+unfolding part partAt count
+parts-nth actor i none y₀ c t o n h e = absurd (omega arith)
+parts-nth actor zero (more a l) y₀ c t o n h e = parts-is actor a l y₀ c t o true (lt-ltb t (c + size a) e)
+parts-nth actor (suc i) (more a l) y₀ c t o n h e =
+    parts-is actor a l y₀ c t o false (le-ltb t (c + size a) (omega (arith, part-from i l (c + size a)))) ∙ parts-nth actor i l y₀ (c + size a) t o (omega arith) h e
 
 -- A raise stands only in the place of a receive or an arm: any other acts itself.
 pub plain-performs : (actor : Actor) (own : Own) (within : Acts) (y₀ k : ℕ) (o : Order) → (eqb (kind own) 2 || eqb (kind own) 255) ≡ false
@@ -225,30 +233,30 @@ module _ (p : Plan) (actor : Actor) where
   closed-mark (inner j) k l o t = getD-set-other (o .marks) k j idle 0 (eqb-false j k t)
 
   -- the close of a scope that is done is right
-  closes : {n c : Name} {ns : List Name} (z : Bool) (b f : Act) (u : Acts) (y₀ k : ℕ) (o : Order) → y₀ ≡ bodyOfName n → Known p (innerAt z k n ns (trio b f u)) → Spot p (bodyOf n ns c) k
-      → Seat p (scopeAt k (trio b f u))
+  closes : {n c : Name} {ns : List Name} (xs : List ℕ) (z : Bool) (b f : Act) (u : Acts) (y₀ k : ℕ) (o : Order) → y₀ ≡ bodyOfName n → Known p (innerAt xs z k n ns (trio b f u)) → Spot p (bodyOf n ns c) k
+      → Seat p (scopeAt xs k (trio b f u))
       → phase (markOf n o) ≡ live → getD (o .marks) k 0 ≡ done → Quiet (o .marks) (k + 1) (size b + (size f + sizes u)) → k < length (o .marks)
-      → Acted k (spread b f u) o (RunAs p (act (scope z) (trio b f u)) k k o) (closing z y₀ k (scopeAt k (trio b f u)) o)
+      → Acted k (spread b f u) o (RunAs p (act (scope xs z) (trio b f u)) k k o) (closing z y₀ k (scopeAt xs k (trio b f u)) o)
   unfolding closing size part partAt
-  closes {n} {c} {ns} z b f u y₀ k o y kn g h v e q m =
+  closes {n} {c} {ns} xs z b f u y₀ k o y kn g h v e q m =
       record {
         kept = kept-set k _ k idle (o .marks) (omega arith) (omega arith);
         rooted = refl;
         comes = (
           quiet-cons (getD-set-same (o .marks) k idle 0 m) (quiet-part (quiet-set idle q (omega arith)) (omega arith) (omega arith)),
-          does-one (λ past x. move-close p (momentOf p o) (momentOf p o₁) past x (innerAt z k n ns (trio b f u)) kn g (ap phase e)
+          does-one (λ past x. move-close p (momentOf p o) (momentOf p o₁) past x (innerAt xs z k n ns (trio b f u)) kn g (ap phase e)
               (inside-rest p s o h (quiet-inner b (k + 1) (quiet-part q (omega arith) (omega arith)))) v
               (ap phase (getD-set-same (o .marks) k idle 0 m))
               (closed-list z y₀ k s (inner k) n o h y (kn .apart) ∙ forgotten-list p s o h)
               (closed-mark n k l₁ o (same-swap n (inner k) ∙ kn .apart))
               (closed-own z y₀ k s n o h y
               ∙ ap (λ (l : List ℕ). cond z (k ∷ []) (listOf p (inner k) o) ++ l) (forgotten-other p s n o h (same-swap n (inner k) ∙ kn .apart)))
-              (λ i j t w. (ap phase (closed-mark i k l₁ o t), closed-list z y₀ k s i n o h y w ∙ forgotten-other p s i o h t))),
+              (λ i j t w. unchanged (closed-mark i k l₁ o t) (closed-list z y₀ k s i n o h y w ∙ forgotten-other p s i o h t))),
         );
       }
     where
       s : Scope
-      s = scopeAt k (trio b f u)
+      s = scopeAt xs k (trio b f u)
 
       l₁ : List Closing
       l₁ = closings (forgetting s o) ++ adds z y₀ k s o
@@ -354,7 +362,7 @@ module _ (p : Plan) (actor : Actor) where
   arm-itself sequence within y₀ k o e = absurd (false≢true e)
   arm-itself flow within y₀ k o e = absurd (false≢true e)
   arm-itself pick within y₀ k o e = absurd (false≢true e)
-  arm-itself (scope v) within y₀ k o e = absurd (false≢true e)
+  arm-itself (scope xs v) within y₀ k o e = absurd (false≢true e)
   arm-itself (arm x y vs) within y₀ k o e = (refl, refl, refl)
 
   -- an arm begins what stands within it
@@ -395,10 +403,10 @@ module _ (p : Plan) (actor : Actor) where
       )
   arm-steps {ms = ms} (sits-part {q = x} {own} {within} {k} s g v y l) y₀ t o (waits-within h w) q q₁ m f =
       absurd (quiet-waits-in w (opens-idle own (getD ms k 0) (q .at k (omega arith) (omega arith))) (quiet-part q (omega arith) (omega arith)))
-  arm-steps {ms = ms} (sits-scope {v = v₁} {k = k} kn v i sb z sf su) y₀ t o (waits-itself {b = b} e d) q q₁ m f =
-      absurd (false≢true (idle-awaits (scope v₁) b (rw (q .at k (omega arith) (omega arith)) at d) .0))
-  arm-steps {ms = ms} (sits-scope {v = v₁} {k = k} kn v i sb z sf su) y₀ t o (waits-within h w) q q₁ m f =
-      absurd (quiet-waits-in w (opens-idle (scope v₁) (getD ms k 0) (q .at k (omega arith) (omega arith))) (quiet-part q (omega arith) (omega arith)))
+  arm-steps {ms = ms} (sits-scope {xs} {v = v₁} {k = k} kn v i sb z) y₀ t o (waits-itself {b = b} e d) q q₁ m f =
+      absurd (false≢true (idle-awaits (scope xs v₁) b (rw (q .at k (omega arith) (omega arith)) at d) .0))
+  arm-steps {ms = ms} (sits-scope {xs} {v = v₁} {k = k} kn v i sb z) y₀ t o (waits-within h w) q q₁ m f =
+      absurd (quiet-waits-in w (opens-idle (scope xs v₁) (getD ms k 0) (q .at k (omega arith) (omega arith))) (quiet-part q (omega arith) (omega arith)))
 
   -- in a list
   arms-steps : {x : Place} {l : Acts} {c : ℕ} {ms : List ℕ} {b : Bool} → SitsIn p x l c → (y₀ t : ℕ) (o : Order) → WaitsIn ms l c t b
@@ -435,7 +443,7 @@ module _ (p : Plan) (actor : Actor) where
   held-itself sequence within y₀ k o s e = plain-performs actor sequence within y₀ k o refl
   held-itself flow within y₀ k o s e = plain-performs actor flow within y₀ k o refl
   held-itself pick within y₀ k o s e = absurd (false≢true e)
-  held-itself (scope v) within y₀ k o s e = absurd (false≢true e)
+  held-itself (scope xs v) within y₀ k o s e = absurd (false≢true e)
   held-itself (arm x y vs) within y₀ k o s e = absurd (false≢true e)
 
   -- what is no open arm and awaits is no arm
@@ -509,7 +517,7 @@ module _ (p : Plan) (actor : Actor) where
       (subst (λ (y : Outcome). Acted k (1 + sizes within) o (RunAs p (act flow within) k k o) y) (sym (plain-performs actor flow within y₀ k o refl)) (acts-runs p (act flow within) k _ k o (run-all x r a)))
   part-steps own within y₀ k t o b s g z u v l m (waits-itself e d) f (run-body x r q) i j = absurd (false≢true (sym s))
   part-steps own within y₀ k t o b s g z u v l m (waits-itself e d) f (run-done x q) i j = absurd (false≢true (sym s))
-  part-steps own within y₀ k t o b s g z u v l m (waits-itself e d) f (run-turned x q) i j = absurd (false≢true (sym s))
+  part-steps own within y₀ k t o b s g z u v l m (waits-itself e d) f (run-turned x) i j = absurd (false≢true (sym s))
   part-steps own within y₀ k t o b s g z u v l m (waits-within h w) f (run-awaits s₁ _ x q) i j =
       part-pick own within y₀ k t o s g z u v l m h x q w (λ y. both (isPick own) (eqb (getD (o .marks) k 0) active) y (λ a c. a))
   part-steps own within y₀ k t o b s g z u v l m (waits-within h w) f (run-one s₁ x r) i j =
@@ -519,17 +527,17 @@ module _ (p : Plan) (actor : Actor) where
       (combines-all p within k t o (stepAmong actor within false y₀ (k + 1) t o) z x m (j (opens flow (getD (o .marks) k 0)) w refl r))
   part-steps own within y₀ k t o b s g z u v l m (waits-within h w) f (run-body x r q) i j = absurd (false≢true (sym s))
   part-steps own within y₀ k t o b s g z u v l m (waits-within h w) f (run-done x q) i j = absurd (false≢true (sym s))
-  part-steps own within y₀ k t o b s g z u v l m (waits-within h w) f (run-turned x q) i j = absurd (false≢true (sym s))
+  part-steps own within y₀ k t o b s g z u v l m (waits-within h w) f (run-turned x) i j = absurd (false≢true (sym s))
 
   -- Scopes.
 
-  module _ (z : Bool) (b f : Act) (u : Acts) (y₀ k : ℕ) where
+  module _ (xs : List ℕ) (z : Bool) (b f : Act) (u : Acts) (y₀ k : ℕ) where
     unfoldable pub Whole : Act
-    Whole = act (scope z) (trio b f u)
+    Whole = act (scope xs z) (trio b f u)
 
     -- as a scope
     unfoldable pub Its : Scope
-    Its = scopeAt k (trio b f u)
+    Its = scopeAt xs k (trio b f u)
 
     -- its numbers
     its-reach : Reach Its
@@ -537,21 +545,21 @@ module _ (p : Plan) (actor : Actor) where
     its-reach = record { start = omega arith; lone = λ i x y. omega (arith, eqb-false i k y); end = omega arith; owns = (omega arith, omega arith) }
 
     -- in which part the step is
-    in-is : (t : ℕ) (r : Outcome) (x y : Bool) → ltb t (k + 1 + size b) ≡ x → ltb t (k + 1 + size b + size f) ≡ y
-        → inScope z k t (trio b f u) r ≡ elim x [ true ↦ elim (goesThrough z k r) [ true ↦ r | false ↦ fromBody Its r ] | false ↦ elim y [ true ↦ fromFault Its r | false ↦ fromUndo r ] ]
+    in-is : (t : ℕ) (r : Outcome) (x y : Bool) → ltb t (k + 1 + size b) ≡ x → ltb t (partAt (undoPart xs) (trio b f u) (k + 1)) ≡ y
+        → inScope xs z k t (trio b f u) r ≡ elim x [ true ↦ elim (goesThrough z k r) [ true ↦ r | false ↦ fromBody Its r ] | false ↦ elim y [ true ↦ fromFault Its r | false ↦ fromUndo r ] ]
     unfolding Its
-    in-is t r x y e d = in-parts z b f u k t r x y e d
+    in-is t r x y e d = in-parts xs z b f u k t r x y e d
 
     -- a step within it
-    scope-step : (t : ℕ) (o : Order) → k < t → stepIn actor Whole y₀ k t o ≡ inScope z k t (trio b f u) (stepAmong actor (trio b f u) true y₀ (k + 1) t o)
+    scope-step : (t : ℕ) (o : Order) → k < t → stepIn actor Whole y₀ k t o ≡ inScope xs z k t (trio b f u) (stepAmong actor (trio b f u) true y₀ (k + 1) t o)
     unfolding Whole
-    scope-step t o h = scope-is actor z (trio b f u) y₀ k t o false (ne-eqb k t (omega arith))
+    scope-step t o h = scope-is actor xs z (trio b f u) y₀ k t o false (ne-eqb k t (omega arith))
 
     -- in its body, whether or not what comes out of it goes through
     through-step : (t : ℕ) (o : Order) (x : Bool) → k < t → t < k + 1 + size b → goesThrough z k (stepIn actor b (k + 1) (k + 1) t o) ≡ x
         → stepIn actor Whole y₀ k t o ≡ elim x [ true ↦ stepIn actor b (k + 1) (k + 1) t o | false ↦ fromBody Its (stepIn actor b (k + 1) (k + 1) t o) ]
     through-step t o x h e d =
-        scope-step t o h ∙ (in-is t _ true (ltb t (k + 1 + size b + size f)) (lt-ltb t (k + 1 + size b) e) refl
+        scope-step t o h ∙ (in-is t _ true (ltb t (partAt (undoPart xs) (trio b f u) (k + 1))) (lt-ltb t (k + 1 + size b) e) refl
         ∙ (ap (λ (r : Outcome). elim (goesThrough z k r) [ true ↦ r | false ↦ fromBody Its r ]) (parts-is actor b (more f u) y₀ (k + 1) t o true (lt-ltb t (k + 1 + size b) e))
         ∙ ap (λ (w : Bool). elim w [ true ↦ stepIn actor b (k + 1) (k + 1) t o | false ↦ fromBody Its (stepIn actor b (k + 1) (k + 1) t o) ]) d))
 
@@ -561,28 +569,24 @@ module _ (p : Plan) (actor : Actor) where
     unfolding goesThrough
     body-step t m o h e d n = through-step t o false h e (rw (d, ne-eqb m idle n, and-false))
 
-    -- in its fault part
-    pub fault-step : (t : ℕ) (o : Order) → k + 1 + size b ≤ t → t < k + 1 + size b + size f → stepIn actor Whole y₀ k t o ≡ fromFault Its (stepIn actor f (k + 1 + size b) (k + 1 + size b) t o)
-    fault-step t o h e =
-        scope-step t o (omega arith) ∙ (in-is t _ false true (le-ltb t (k + 1 + size b) h) (lt-ltb t (k + 1 + size b + size f) e)
-        ∙ ap (fromFault Its) (parts-is actor b (more f u) y₀ (k + 1) t o false (le-ltb t (k + 1 + size b) h)
-        ∙ parts-is actor f u y₀ (k + 1 + size b) t o true (lt-ltb t (k + 1 + size b + size f) e)))
+    -- in one of its fault parts
+    pub fault-step : (i t : ℕ) (o : Order) → i ≤ length xs → i < count (more f u) → partAt i (more f u) (k + 1 + size b) ≤ t → t < partAt i (more f u) (k + 1 + size b) + size (part i (more f u))
+        → stepIn actor Whole y₀ k t o ≡ fromFault Its (stepIn actor (part i (more f u)) (partAt i (more f u) (k + 1 + size b)) (partAt i (more f u) (k + 1 + size b)) t o)
+    unfolding partAt
+    fault-step i t o n v h e =
+        let lo = part-from i (more f u) (k + 1 + size b) in
+        let hi = part-order i (generalPart xs) (more f u) (k + 1 + size b) (omega (arith, general-is xs)) v in
+        scope-step t o (omega arith) ∙ (in-is t _ false true (le-ltb t (k + 1 + size b) (omega arith)) (lt-ltb t (partAt (generalPart xs) (more f u) (k + 1 + size b)) (omega arith))
+        ∙ ap (fromFault Its) (parts-is actor b (more f u) y₀ (k + 1) t o false (le-ltb t (k + 1 + size b) (omega arith)) ∙ parts-nth actor i (more f u) y₀ (k + 1 + size b) t o v h e))
 
-    module _ (t : ℕ) (o : Order) (q : Quiet (o .marks) (k + 1 + size b + size f) (sizes u)) where
+    module _ (t : ℕ) (o : Order) where
       its-kept : {o′ : Order} → Apart Its o o′ → Kept k (spread b f u) (o .marks) (o′ .marks)
-      unfolding Its part partAt
+      unfolding Its part partAt size
       its-kept v = record { many = v .many; below = λ i x. v .below i (omega arith) (ne-eqb i k (omega arith)); above = λ i x. v .above i (omega arith) }
 
-      -- its undo part stays quiet
-      its-undo : {o′ : Order} → Apart Its o o′ → Quiet (o′ .marks) (k + 1 + size b + size f) (sizes u)
-      unfolding Its part partAt
-      its-undo v = record { at = λ i x y. v .above i (omega arith) ∙ q .at i x y }
-
       -- all of it is quiet
-      its-quiet : {o′ : Order} → Apart Its o o′ → getD (o′ .marks) k 0 ≡ idle → Quiet (o′ .marks) (k + 1) (size b) → Quiet (o′ .marks) (k + 1 + size b) (size f)
-          → Quiet (o′ .marks) k (spread b f u)
-      its-quiet v e x y =
-          quiet-cons e (quiet-join x (quiet-join y (its-undo v) refl) refl)
+      its-quiet : {ms : List ℕ} → getD ms k 0 ≡ idle → Quiet ms (k + 1) (size b) → Quiet ms (k + 1 + size b) (size f + sizes u) → Quiet ms k (spread b f u)
+      its-quiet e x y = quiet-cons e (quiet-join x y refl)
 
       -- it runs, or is over
       steps-run : (R : List ℕ → ℕ → Type 0) → ((ms : List ℕ) (m : ℕ) → R ms m → Running Its ms m) → (r : Outcome) → Steps p Its R o r
@@ -591,14 +595,14 @@ module _ (p : Plan) (actor : Actor) where
       steps-run R g r v = record { kept = its-kept (v .apart); rooted = v .apart .rooted refl; comes = go (r .result) (v .comes) }
         where
           runs-so : Running Its (r .order .marks) (getD (r .order .marks) k 0) → Run (r .order .marks) Whole k
-          runs-so (scope-live e x y) = run-body e x (quiet-join y (its-undo (v .apart)) refl)
-          runs-so (scope-done e x y) = run-done e (quiet-join x (quiet-join y (its-undo (v .apart)) refl) refl)
-          runs-so (scope-turned x) = run-turned x (its-undo (v .apart))
+          runs-so (scope-live e x y) = run-body e x y
+          runs-so (scope-done e x y) = run-done e (quiet-join x y refl)
+          runs-so (scope-turned x) = run-turned x
 
           go : (x : Result) → StepsAs p Its R o (r .log) (r .order) x → RunAs p Whole k t o (r .log) (r .order) x
           go running c = (runs-so (g _ _ (c .0)), c .1)
-          go over c = (its-quiet (v .apart) (c .0) (c .1) (c .2), c .3)
-          go (raising x) c = (able-quiet (its-quiet (v .apart) (c .0) (c .1) (c .2)), c .3, λ e. absurd (false≢true e))
+          go over c = (its-quiet (c .0) (c .1) (c .2), c .3)
+          go (raising x) c = (able-quiet (its-quiet (c .0) (c .1) (c .2)), c .3, λ e. absurd (false≢true e))
           go leaving c = c
           go undone c = c
           go (undoRaising x) c = c
@@ -609,62 +613,68 @@ module _ (p : Plan) (actor : Actor) where
       steps-stop r v = record { kept = its-kept (v .apart); rooted = v .apart .rooted refl; comes = go (r .result) (v .comes) }
         where
           go : (x : Result) → StepsAs p Its (Turning Its) o (r .log) (r .order) x → StopAs p Whole k o (r .log) (r .order) x
-          go running c = (stopped-scope (c .0) (its-undo (v .apart)), c .1)
-          go over c = (stopped-quiet (its-quiet (v .apart) (c .0) (c .1) (c .2)), c .3)
-          go (raising x) c = (stopped-quiet (its-quiet (v .apart) (c .0) (c .1) (c .2)), c .3)
+          go running c = (stopped-scope (c .0), c .1)
+          go over c = (stopped-quiet (its-quiet (c .0) (c .1) (c .2)), c .3)
+          go (raising x) c = (stopped-quiet (its-quiet (c .0) (c .1) (c .2)), c .3)
           go leaving c = c
           go undone c = c
           go (undoRaising x) c = c
 
   -- in its undo part
-  pub undo-step : (b f u : Act) (y₀ k t : ℕ) (o : Order) → k + 1 + size b + size f ≤ t → t < k + 1 + size b + size f + size u
-      → stepIn actor (act (scope true) (trio b f (more u none))) y₀ k t o ≡ fromUndo (stepIn actor u (k + 1 + size b + size f) (k + 1 + size b + size f) t o)
+  pub undo-step : (xs : List ℕ) (b f : Act) (u : Acts) (y₀ k t : ℕ) (o : Order) → undoPart xs < count (trio b f u) → partAt (undoPart xs) (trio b f u) (k + 1) ≤ t
+      → t < partAt (undoPart xs) (trio b f u) (k + 1) + size (part (undoPart xs) (trio b f u))
+      → stepIn actor (act (scope xs true) (trio b f u)) y₀ k t o
+      ≡ fromUndo (stepIn actor (part (undoPart xs) (trio b f u)) (partAt (undoPart xs) (trio b f u) (k + 1)) (partAt (undoPart xs) (trio b f u) (k + 1)) t o)
   unfolding Whole
-  undo-step b f u y₀ k t o h e =
-      scope-step true b f (more u none) y₀ k t o (omega arith) ∙ (in-is true b f (more u none) y₀ k t _ false false (le-ltb t (k + 1 + size b) (omega arith)) (le-ltb t (k + 1 + size b + size f) h)
-      ∙ ap fromUndo (parts-is actor b (more f (more u none)) y₀ (k + 1) t o false (le-ltb t (k + 1 + size b) (omega arith))
-      ∙ (parts-is actor f (more u none) y₀ (k + 1 + size b) t o false (le-ltb t (k + 1 + size b + size f) h)
-      ∙ parts-is actor u none y₀ (k + 1 + size b + size f) t o true (lt-ltb t (k + 1 + size b + size f + size u) e))))
+  undo-step xs b f u y₀ k t o n h e =
+      let lo : k + 1 + size b ≤ partAt (undoPart xs) (trio b f u) (k + 1) = undo-from xs b f u k in
+      scope-step xs true b f u y₀ k t o (omega arith) ∙ (in-is xs true b f u y₀ k t _ false false (le-ltb t (k + 1 + size b) (omega arith)) (le-ltb t (partAt (undoPart xs) (trio b f u) (k + 1)) h)
+      ∙ ap fromUndo (parts-nth actor (undoPart xs) (trio b f u) y₀ (k + 1) t o n h e))
+
+  -- the step of a fault part of scope k, the i-th after its body
+  abbrev HealStep : (numbers : List ℕ) → Acts → (c k t : ℕ) → Order → Type 0
+  HealStep xs l c k t o =
+      (i : ℕ) → i ≤ length xs → (x : Bool) → Waits (o .marks) (part i l) (partAt i l c) t x → x ≡ false → Run (o .marks) (part i l) (partAt i l c) → phase (getD (o .marks) k 0) ≡ heals
+      → Acted (partAt i l c) (size (part i l)) o (RunAs p (part i l) (partAt i l c) t o) (stepIn actor (part i l) (partAt i l c) (partAt i l c) t o)
 
   -- A step in a scope that is live, or that has turned, by steps in its body and in its fault part.
-  module _ (z : Bool) (b f : Act) (u : Acts) (y₀ k t : ℕ) (o : Order) (h : Seat p (scopeAt k (trio b f u))) (m : k + (spread b f u) ≤ length (o .marks)) where
+  module _ (xs : List ℕ) (z : Bool) (b f : Act) (u : Acts) (y₀ k t : ℕ) (o : Order) (h : Seat p (scopeAt xs k (trio b f u))) (m : k + (spread b f u) ≤ length (o .marks)) where
     live-steps : {c : Bool} → k < t → WaitsIn (o .marks) (trio b f u) (k + 1) t c → c ≡ false → getD (o .marks) k 0 ≡ active
         → Quiet (o .marks) (k + 1 + size b) (size f + sizes u)
         → ((x : Bool) → Waits (o .marks) b (k + 1) t x → x ≡ false → Acted (k + 1) (size b) o (RunAs p b (k + 1) t o) (stepIn actor b (k + 1) (k + 1) t o))
-        → Acted k (spread b f u) o (RunAs p (act (scope z) (trio b f u)) k t o) (stepIn actor (act (scope z) (trio b f u)) y₀ k t o)
+        → Acted k (spread b f u) o (RunAs p (act (scope xs z) (trio b f u)) k t o) (stepIn actor (act (scope xs z) (trio b f u)) y₀ k t o)
     unfolding Its Whole part partAt size
     live-steps lt (waits-first e w) d x q i =
-        subst (λ (r : Outcome). Acted k (spread b f u) o (RunAs p (act (scope z) (trio b f u)) k t o) r)
-        (sym (body-step z b f u y₀ k t active o lt e (i _ w d .kept .below k (omega arith) ∙ x) (λ n. absurd (omega (arith, n)))))
-        (steps-run z b f u y₀ k t o (quiet-part q (omega arith) (omega arith)) (Running (scopeAt k (trio b f u))) (λ ms m z. z) (fromBody (scopeAt k (trio b f u)) (stepIn actor b (k + 1) (k + 1) t o))
-        (from-live p (scopeAt k (trio b f u)) t o (stepIn actor b (k + 1) (k + 1) t o) h x (quiet-part q (omega arith) (omega arith)) (omega arith) (i _ w d)))
-    live-steps lt (waits-later e (waits-first g w)) d x q i = absurd (quiet-waits w d (quiet-part q (omega arith) (omega arith)))
-    live-steps lt (waits-later e (waits-later g w)) d x q i = absurd (quiet-waits-in w d (quiet-part q (omega arith) (omega arith)))
+        subst (λ (r : Outcome). Acted k (spread b f u) o (RunAs p (act (scope xs z) (trio b f u)) k t o) r)
+        (sym (body-step xs z b f u y₀ k t active o lt e (i _ w d .kept .below k (omega arith) ∙ x) (λ n. absurd (omega (arith, n)))))
+        (steps-run xs z b f u y₀ k t o (Running (scopeAt xs k (trio b f u))) (λ ms m z. z) (fromBody (scopeAt xs k (trio b f u)) (stepIn actor b (k + 1) (k + 1) t o))
+        (from-live p (scopeAt xs k (trio b f u)) t o (stepIn actor b (k + 1) (k + 1) t o) h x q (omega arith) (i _ w d)))
+    live-steps lt (waits-later e w) d x q i = absurd (quiet-waits-in w d q)
 
     turned-steps : {c : Bool} → k < t → WaitsIn (o .marks) (trio b f u) (k + 1) t c → c ≡ false
-        → Turned (o .marks) (getD (o .marks) k 0) b (k + 1) f (k + 1 + size b) → Quiet (o .marks) (k + 1 + size b + size f) (sizes u)
+        → Turned (o .marks) xs (getD (o .marks) k 0) b (k + 1) (more f u) (k + 1 + size b)
         → ((x : Bool) → Waits (o .marks) b (k + 1) t x → x ≡ false → Stopped (o .marks) b (k + 1) → Acted (k + 1) (size b) o (StopAs p b (k + 1) o) (stepIn actor b (k + 1) (k + 1) t o))
         → ((x : Bool) → Waits (o .marks) b (k + 1) t x → x ≡ false → Undoing (o .marks) b (k + 1) → (v : Bool) → phase (getD (o .marks) k 0) ≡ Phase.undoes v → Acted (k + 1) (size b) o (UndoAs p (inner k) b (k + 1) t o) (stepIn actor b (k + 1) (k + 1) t o))
-        → ((x : Bool) → Waits (o .marks) f (k + 1 + size b) t x → x ≡ false → Run (o .marks) f (k + 1 + size b) → phase (getD (o .marks) k 0) ≡ heals → Acted (k + 1 + size b) (size f) o (RunAs p f (k + 1 + size b) t o) (stepIn actor f (k + 1 + size b) (k + 1 + size b) t o))
-        → Steps p (scopeAt k (trio b f u)) (Turning (scopeAt k (trio b f u))) o (stepIn actor (act (scope z) (trio b f u)) y₀ k t o)
+        → HealStep xs (more f u) (k + 1 + size b) k t o
+        → Steps p (scopeAt xs k (trio b f u)) (Turning (scopeAt xs k (trio b f u))) o (stepIn actor (act (scope xs z) (trio b f u)) y₀ k t o)
     unfolding Its Whole part partAt size
-    turned-steps lt (waits-first e w) d (turned-waits {w = v} q st n y) z₁ i j l =
-        subst (λ (r : Outcome). Steps p (scopeAt k (trio b f u)) (Turning (scopeAt k (trio b f u))) o r)
-        (sym (body-step z b f u y₀ k t (getD (o .marks) k 0) o lt e (i _ w d st .kept .below k (omega arith)) (turned-not-rest (turned-waits {f = f} q st n y))))
-        (from-stopped p v (scopeAt k (trio b f u)) o (stepIn actor b (k + 1) (k + 1) t o) h (λ x. refl) q y (omega arith) (i _ w d st))
-    turned-steps lt (waits-first e w) d (turned-undoes {w = a} q st y) z₁ i j l =
-        subst (λ (r : Outcome). Steps p (scopeAt k (trio b f u)) (Turning (scopeAt k (trio b f u))) o r)
-        (sym (body-step z b f u y₀ k t (getD (o .marks) k 0) o lt e (j _ w d st a q .kept .below k (omega arith)) (turned-not-rest (turned-undoes {f = f} q st y))))
-        (from-undoing p a (scopeAt k (trio b f u)) t o (stepIn actor b (k + 1) (k + 1) t o) h (its-reach z b f u y₀ k) (λ x. refl) q y (omega arith)
-        (λ v x r. z₁ .at v (omega arith) (omega arith)) (j _ w d st a q))
-    turned-steps lt (waits-first e w) d (turned-heals q y r) z₁ i j l = absurd (quiet-waits w d y)
-    turned-steps lt (waits-later e (waits-first g w)) d (turned-waits q st _ y) z₁ i j l = absurd (quiet-waits w d y)
-    turned-steps lt (waits-later e (waits-first g w)) d (turned-undoes q st y) z₁ i j l = absurd (quiet-waits w d y)
-    turned-steps lt (waits-later e (waits-first g w)) d (turned-heals q y r) z₁ i j l =
-        subst (λ (r : Outcome). Steps p (scopeAt k (trio b f u)) (Turning (scopeAt k (trio b f u))) o r) (sym (fault-step z b f u y₀ k t o e g))
-        (from-heals p (scopeAt k (trio b f u)) t o (stepIn actor f (k + 1 + size b) (k + 1 + size b) t o) h (its-reach z b f u y₀ k) q y (omega arith)
-        (λ v x s. z₁ .at v (omega arith) (omega arith)) (l _ w d r q))
-    turned-steps lt (waits-later e (waits-later g w)) d x z₁ i j l = absurd (quiet-waits-in w d z₁)
+    turned-steps lt (waits-first e w) d (turned-waits {w = v} q st n y) i j l =
+        subst (λ (r : Outcome). Steps p (scopeAt xs k (trio b f u)) (Turning (scopeAt xs k (trio b f u))) o r)
+        (sym (body-step xs z b f u y₀ k t (getD (o .marks) k 0) o lt e (i _ w d st .kept .below k (omega arith)) (turned-not-rest (turned-waits {xs = xs} {l = more f u} q st n y))))
+        (from-stopped p v (scopeAt xs k (trio b f u)) o (stepIn actor b (k + 1) (k + 1) t o) h (λ x. refl) q y (omega arith) (i _ w d st))
+    turned-steps lt (waits-first e w) d (turned-undoes {w = a} q st y) i j l =
+        subst (λ (r : Outcome). Steps p (scopeAt xs k (trio b f u)) (Turning (scopeAt xs k (trio b f u))) o r)
+        (sym (body-step xs z b f u y₀ k t (getD (o .marks) k 0) o lt e (j _ w d st a q .kept .below k (omega arith)) (turned-not-rest (turned-undoes {xs = xs} {l = more f u} q st y))))
+        (from-undoing p a (scopeAt xs k (trio b f u)) t o (stepIn actor b (k + 1) (k + 1) t o) h (its-reach xs z b f u y₀ k) (λ x. refl) q y (omega arith) (j _ w d st a q))
+    turned-steps lt (waits-first e w) d (turned-heals q y r) i j l = absurd (quiet-waits w d y)
+    turned-steps lt (waits-later e w) d (turned-waits q st _ y) i j l = absurd (quiet-waits-in w d y)
+    turned-steps lt (waits-later e w) d (turned-undoes q st y) i j l = absurd (quiet-waits-in w d y)
+    turned-steps lt (waits-later e w) d (turned-heals q y r) i j l =
+        let i₀ = choiceOn xs (getD (o .marks) k 0) in
+        let n : i₀ ≤ length xs = omega (arith, choice-on xs (getD (o .marks) k 0) _ refl, chosen-most xs (choiceIn (getD (o .marks) k 0))) in
+        let v = nth-waits r w d in
+        subst (λ (r : Outcome). Steps p (scopeAt xs k (trio b f u)) (Turning (scopeAt xs k (trio b f u))) o r) (sym (fault-step xs z b f u y₀ k i₀ t o n (nth-there r) (v .0) (v .1)))
+        (from-heals p (scopeAt xs k (trio b f u)) t o _ h (its-reach xs z b f u y₀ k) q y r (omega arith) (l i₀ n _ (v .2) d (nth-run r) q))
 
   -- Lists in a stopped body, and in one of which an undo part runs.
   abbrev pub StopInAs : Acts → (c : ℕ) → Order → List Event → Order → Result → Type 0
@@ -836,43 +846,50 @@ module _ (p : Plan) (actor : Actor) where
   kept-before : {k n : ℕ} (o o′ : Order) → Kept k n (o .marks) (o′ .marks) → o′ .root ≡ o .root → (s : Name) → Before s k → phase (markOf s o′) ≡ phase (markOf s o)
   kept-before {k} o o′ w e s b = ap phase (mark-kept s k o o′ b (omega arith) e w)
 
-  undo-acts : {n c : Name} {ns : List Name} (b f u : Act) (k t : ℕ) (m : Name) (o : Order) (r : Outcome) → Known p (innerAt true k n ns (trio b f (more u none)))
-      → Spot p (bodyOf n ns c) k → Remedy p (undoOf n ns c) u (k + 1 + size b + size f) → runnerAt (λ z. markOf z o) n ns ≡ m
-      → getD (o .marks) k 0 ≡ idle → Quiet (o .marks) (k + 1) (size b + size f) → k + 1 + size b + size f ≤ t → t < k + 1 + size b + size f + size u
-      → Acted (k + 1 + size b + size f) (size u) o (RunAs p u (k + 1 + size b + size f) t o) r
-      → Acted k (spread b f (more u none)) o (UndoAs p m (act (scope true) (trio b f (more u none))) k t o) (fromUndo r)
-  unfolding fromUndo part partAt size kind innerRuns
-  undo-acts {n} {c} {ns} b f u k t m o r kn v₀ su y e q h i w =
+  undo-acts : {n c : Name} {ns : List Name} (xs : List ℕ) (b f : Act) (u : Acts) (k t : ℕ) (m : Name) (o : Order) (r : Outcome) → Known p (innerAt xs true k n ns (trio b f u))
+      → Spot p (bodyOf n ns c) k → Remedy p (undoOf n ns c) (part (undoPart xs) (trio b f u)) (partAt (undoPart xs) (trio b f u) (k + 1)) → runnerAt (λ z. markOf z o) n ns ≡ m
+      → getD (o .marks) k 0 ≡ idle → count (trio b f u) ≡ suc (undoPart xs) → Nth (o .marks) (undoPart xs) (trio b f u) (k + 1)
+      → partAt (undoPart xs) (trio b f u) (k + 1) ≤ t → t < partAt (undoPart xs) (trio b f u) (k + 1) + size (part (undoPart xs) (trio b f u))
+      → Acted (partAt (undoPart xs) (trio b f u) (k + 1)) (size (part (undoPart xs) (trio b f u))) o (RunAs p (part (undoPart xs) (trio b f u)) (partAt (undoPart xs) (trio b f u) (k + 1)) t o) r
+      → Acted k (spread b f u) o (UndoAs p m (act (scope xs true) (trio b f u)) k t o) (fromUndo r)
+  unfolding fromUndo size kind innerRuns
+  undo-acts {n} {c} {ns} xs b f u k t m o r kn v₀ su y e c₀ q h i w =
       record { kept = kept₁; rooted = w .rooted; comes = go (r .result) (w .comes) }
     where
-      kept₁ : Kept k (spread b f (more u none)) (o .marks) (r .order .marks)
-      kept₁ = kept-wider (w .kept) (omega arith) (omega arith)
+      at : ℕ
+      at = partAt (undoPart xs) (trio b f u) (k + 1)
+
+      many : ℕ
+      many = size (part (undoPart xs) (trio b f u))
+
+      from : k + 1 ≤ at
+      from = part-from (undoPart xs) (trio b f u) (k + 1)
+
+      kept₁ : Kept k (spread b f u) (o .marks) (r .order .marks)
+      kept₁ = kept-wider (w .kept) (omega (arith, from)) (omega (arith, part-to (undoPart xs) (trio b f u) (k + 1) (nth-there q)))
 
       e₁ : getD (r .order .marks) k 0 ≡ idle
-      e₁ = w .kept .below k (omega arith) ∙ e
+      e₁ = w .kept .below k (omega (arith, from)) ∙ e
 
-      q₁ : Quiet (r .order .marks) (k + 1) (size b + size f)
-      q₁ = quiet-agree q (agree-below (w .kept) (omega arith))
-
-      go : (x : Result) → RunAs p u (k + 1 + size b + size f) t o (r .log) (r .order) x
-          → UndoAs p m (act (scope true) (trio b f (more u none))) k t o (r .log) (r .order)
+      go : (x : Result) → RunAs p (part (undoPart xs) (trio b f u)) at t o (r .log) (r .order) x
+          → UndoAs p m (act (scope xs true) (trio b f u)) k t o (r .log) (r .order)
           (elim x [ running ↦ running | over ↦ undone | raising n ↦ undoRaising n | leaving ↦ leaving | undone ↦ undone | undoRaising n ↦ undoRaising n ])
-      go running d = (undoing-scope e₁ q₁ (d .0), d .1)
-      go over d =
-          let q₂ : Quiet (r .order .marks) (k + 1) (size b + size f + size u) = quiet-join q₁ (d .0) (omega arith) in
-          (quiet-cons e₁ (quiet-part q₂ (omega arith) (omega arith)), d .1)
+      go running d = (undoing-scope e₁ c₀ (nth-goes q (w .kept) (d .0)), d .1)
+      go over d = (quiet-cons e₁ (nth-ends q (w .kept) (d .0)), d .1)
       go (raising m) d = (
         d .2 (remedy-bare su),
         record {
-          whose = innerAt true k n ns (trio b f (more u none));
+          whose = innerAt xs true k n ns (trio b f u);
           known = kn;
-          within = rw (le-leb (k + 1 + size b + size f) t h, lt-ltb t (k + 1 + size b + size f + size u) i);
+          within = rw (le-leb at t h, lt-ltb t (at + many) i);
           runner = runner-kept (λ z. markOf z o) (λ z. markOf z (r .order)) n ns k (kept-before o (r .order) kept₁ (w .rooted)) (v₀ .before .0) (v₀ .before .1) .0 ∙ y;
         },
         rw e₁,
-        (λ j v x y. decide (eqb j k) (λ z. rw (eqb-true j k z) e₁) (λ z. decide (ltb j (k + 1 + size b + size f))
-            (λ c. q₁ .at j (omega (arith, eqb-false j k z)) (omega (arith, ltb-true j (k + 1 + size b + size f) c)))
-            (λ c. absurd (false≢true (sym (remedy-names su j (ltb-false j (k + 1 + size b + size f) c) (omega arith)) ∙ v))))),
+        (λ j v x y. decide (eqb j k) (λ z. rw (eqb-true j k z) e₁) (λ z. decide (ltb j at)
+            (λ c. w .kept .below j (ltb-true j at c) ∙ nth-below q j (omega (arith, eqb-false j k z)) (ltb-true j at c))
+            (λ c. decide (ltb j (at + many))
+            (λ a. absurd (false≢true (sym (remedy-names su j (ltb-false j at c) (ltb-true j (at + many) a)) ∙ v)))
+            (λ a. w .kept .above j (ltb-false j (at + many) a) ∙ nth-above q j (ltb-false j (at + many) a) (omega arith))))),
         d .1,
       )
       go leaving d = d
@@ -880,20 +897,20 @@ module _ (p : Plan) (actor : Actor) where
       go (undoRaising x) d = absurd d
 
   -- what a scope with no undo part that is not left running makes of an undo part in its body: it goes through
-  through-acts : (b f : Act) (u : Acts) (y₀ k t : ℕ) (m : Name) (o : Order) → getD (o .marks) k 0 ≡ idle → Quiet (o .marks) (k + 1 + size b) (size f + sizes u)
+  through-acts : (xs : List ℕ) (b f : Act) (u : Acts) (y₀ k t : ℕ) (m : Name) (o : Order) → getD (o .marks) k 0 ≡ idle → Quiet (o .marks) (k + 1 + size b) (size f + sizes u)
       → k < t → t < k + 1 + size b
       → Acted (k + 1) (size b) o (UndoAs p m b (k + 1) t o) (stepIn actor b (k + 1) (k + 1) t o)
-      → Acted k (spread b f u) o (UndoAs p m (act (scope false) (trio b f u)) k t o) (stepIn actor (act (scope false) (trio b f u)) y₀ k t o)
+      → Acted k (spread b f u) o (UndoAs p m (act (scope xs false) (trio b f u)) k t o) (stepIn actor (act (scope xs false) (trio b f u)) y₀ k t o)
   unfolding Whole Its size innerRuns
-  through-acts b f u y₀ k t m o e q h i w =
-      subst (λ (x : Outcome). Acted k (spread b f u) o (UndoAs p m (act (scope false) (trio b f u)) k t o) x) (sym (through-step false b f u y₀ k t o (goesThrough false k r) h i refl))
+  through-acts xs b f u y₀ k t m o e q h i w =
+      subst (λ (x : Outcome). Acted k (spread b f u) o (UndoAs p m (act (scope xs false) (trio b f u)) k t o) x) (sym (through-step xs false b f u y₀ k t o (goesThrough false k r) h i refl))
       (go (r .result) (w .comes))
     where
       r : Outcome
       r = stepIn actor b (k + 1) (k + 1) t o
 
       s : Scope
-      s = scopeAt k (trio b f u)
+      s = scopeAt xs k (trio b f u)
 
       e₁ : getD (r .order .marks) k 0 ≡ idle
       e₁ = w .kept .below k (omega arith) ∙ e
@@ -907,20 +924,20 @@ module _ (p : Plan) (actor : Actor) where
       Goal : Result → Type 0
       Goal x =
           let r₁ : Outcome = record { result = x; order = r .order; log = r .log } in
-          Acted k (spread b f u) o (UndoAs p m (act (scope false) (trio b f u)) k t o) (elim (goesThrough false k r₁) [ true ↦ r₁ | false ↦ fromBody s r₁ ])
+          Acted k (spread b f u) o (UndoAs p m (act (scope xs false) (trio b f u)) k t o) (elim (goesThrough false k r₁) [ true ↦ r₁ | false ↦ fromBody s r₁ ])
 
       as-it-is : (x : Result) → goesThrough false k (record { result = x; order = r .order; log = r .log }) ≡ true
-          → UndoAs p m (act (scope false) (trio b f u)) k t o (r .log) (r .order) x → Goal x
+          → UndoAs p m (act (scope xs false) (trio b f u)) k t o (r .log) (r .order) x → Goal x
       as-it-is x g c =
-          subst (λ (z : Bool). Acted k (spread b f u) o (UndoAs p m (act (scope false) (trio b f u)) k t o)
+          subst (λ (z : Bool). Acted k (spread b f u) o (UndoAs p m (act (scope xs false) (trio b f u)) k t o)
           (elim z [ true ↦ record { result = x; order = r .order; log = r .log } | false ↦ fromBody s (record { result = x; order = r .order; log = r .log }) ])) (sym g)
           (record { kept = kept₁; rooted = w .rooted; comes = c })
 
       go : (x : Result) → UndoAs p m b (k + 1) t o (r .log) (r .order) x → Goal x
-      go running d = runs-on p (r .log) s k o (r .order) (spread b f u) (UndoAs p m (act (scope false) (trio b f u)) k t o) e₁ kept₁ (w .rooted) refl (undoing-through e₁ (d .0) q₁, d .1)
+      go running d = runs-on p (r .log) s k o (r .order) (spread b f u) (UndoAs p m (act (scope xs false) (trio b f u)) k t o) e₁ kept₁ (w .rooted) refl (undoing-through e₁ (d .0) q₁, d .1)
       go over d = absurd d
       go (raising x) d = absurd d
-      go leaving d = leaves-on p (r .log) s k o (r .order) (spread b f u) (UndoAs p m (act (scope false) (trio b f u)) k t o) e₁ kept₁ (w .rooted) d
+      go leaving d = leaves-on p (r .log) s k o (r .order) (spread b f u) (UndoAs p m (act (scope xs false) (trio b f u)) k t o) e₁ kept₁ (w .rooted) d
       go undone d = as-it-is undone (through-told k (r .order) undone (r .log) e₁ refl) (quiet-cons e₁ (quiet-join (d .0) q₁ refl), d .1)
       go (undoRaising n) d =
           as-it-is (undoRaising n) (through-told k (r .order) (undoRaising n) (r .log) e₁ refl) (
@@ -975,7 +992,7 @@ module _ (p : Plan) (actor : Actor) where
       (sym (step-is actor own within y₀ k t o false s (ne-eqb k t (omega arith)) ∙ ap (λ (x : Order). combines own within k t (stepAmong actor within false y₀ (k + 1) t x)) (arms-none own within k t o (stopped-part-not l w z))))
       (stopped-combines own within k t o (stepAmong actor within false y₀ (k + 1) t o) s e (g _ w z l))
   stopped-steps own within y₀ k t o b s (waits-within h w) f (stopped-quiet q) g = absurd (quiet-waits-in w (opens-idle own (getD (o .marks) k 0) (q .at k (omega arith) (omega arith))) (quiet-part q (omega arith) (omega arith)))
-  stopped-steps own within y₀ k t o b s (waits-within h w) f (stopped-scope x q) g = absurd (false≢true (sym s))
+  stopped-steps own within y₀ k t o b s (waits-within h w) f (stopped-scope x) g = absurd (false≢true (sym s))
 
   undoing-steps : {n : Name} (own : Own) (within : Acts) (y₀ k t : ℕ) (o : Order) (b : Bool) → isScope own ≡ false → isName p (inner k) ≡ false
       → Waits (o .marks) (act own within) k t b → b ≡ false
@@ -996,82 +1013,82 @@ module _ (p : Plan) (actor : Actor) where
   undoing-steps own within y₀ k t o b s z (waits-within h w) f (undoing-through x q r) g = absurd (false≢true (sym s))
 
   -- A step in a scope, as it stands.
-  module _ (z : Bool) (b f : Act) (u : Acts) (y₀ k t : ℕ) (o : Order) (h : Seat p (scopeAt k (trio b f u))) (m : k + (spread b f u) ≤ length (o .marks))
+  module _ (xs : List ℕ) (z : Bool) (b f : Act) (u : Acts) (y₀ k t : ℕ) (o : Order) (h : Seat p (scopeAt xs k (trio b f u))) (m : k + (spread b f u) ≤ length (o .marks))
       (i : (x : Bool) → Waits (o .marks) b (k + 1) t x → x ≡ false → Stopped (o .marks) b (k + 1) → Acted (k + 1) (size b) o (StopAs p b (k + 1) o) (stepIn actor b (k + 1) (k + 1) t o))
       (j : (x : Bool) → Waits (o .marks) b (k + 1) t x → x ≡ false → Undoing (o .marks) b (k + 1) → (v : Bool) → phase (getD (o .marks) k 0) ≡ Phase.undoes v → Acted (k + 1) (size b) o (UndoAs p (inner k) b (k + 1) t o) (stepIn actor b (k + 1) (k + 1) t o))
-      (l : (x : Bool) → Waits (o .marks) f (k + 1 + size b) t x → x ≡ false → Run (o .marks) f (k + 1 + size b) → phase (getD (o .marks) k 0) ≡ heals
-      → Acted (k + 1 + size b) (size f) o (RunAs p f (k + 1 + size b) t o) (stepIn actor f (k + 1 + size b) (k + 1 + size b) t o)) where
-    scope-runs : {n a : Name} {ns : List Name} {c : Bool} → y₀ ≡ bodyOfName n → Known p (innerAt z k n ns (trio b f u)) → Spot p (bodyOf n ns a) k → phase (markOf n o) ≡ live
-        → Waits (o .marks) (act (scope z) (trio b f u)) k t c → c ≡ false → Run (o .marks) (act (scope z) (trio b f u)) k
+      (l : HealStep xs (more f u) (k + 1 + size b) k t o) where
+    scope-runs : {n a : Name} {ns : List Name} {c : Bool} → y₀ ≡ bodyOfName n → Known p (innerAt xs z k n ns (trio b f u)) → Spot p (bodyOf n ns a) k → phase (markOf n o) ≡ live
+        → Waits (o .marks) (act (scope xs z) (trio b f u)) k t c → c ≡ false → Run (o .marks) (act (scope xs z) (trio b f u)) k
         → ((x : Bool) → Waits (o .marks) b (k + 1) t x → x ≡ false → Run (o .marks) b (k + 1) → getD (o .marks) k 0 ≡ active → Acted (k + 1) (size b) o (RunAs p b (k + 1) t o) (stepIn actor b (k + 1) (k + 1) t o))
-        → Acted k (spread b f u) o (RunAs p (act (scope z) (trio b f u)) k t o) (stepIn actor (act (scope z) (trio b f u)) y₀ k t o)
+        → Acted k (spread b f u) o (RunAs p (act (scope xs z) (trio b f u)) k t o) (stepIn actor (act (scope xs z) (trio b f u)) y₀ k t o)
     unfolding awaits kind itself size Its Whole
     scope-runs y₁ kn y v (waits-itself e d) c (run-awaits s _ x q) g = absurd (false≢true (sym s))
     scope-runs y₁ kn y v (waits-itself e d) c (run-one s x r) g = absurd (false≢true (sym s))
     scope-runs y₁ kn y v (waits-itself e d) c (run-body x r q) g = absurd (false≢true (rw x at d))
     scope-runs y₁ kn y v (waits-itself e d) c (run-done x q) g =
-        subst (λ (r : Outcome). Acted k (spread b f u) o (RunAs p (act (scope z) (trio b f u)) k t o) r) (sym (scope-is actor z (trio b f u) y₀ k t o true (eq-eqb k t e)))
-        (subst (λ (j : ℕ). Acted k (spread b f u) o (RunAs p (act (scope z) (trio b f u)) k j o) (closing z y₀ k (scopeAt k (trio b f u)) o)) e (closes z b f u y₀ k o y₁ kn y h v x q (omega arith)))
-    scope-runs y₁ kn y v (waits-itself e d) c (run-turned x q) g = absurd (false≢true (sym (turned-not-open x) ∙ rw (d, or-true)))
+        subst (λ (r : Outcome). Acted k (spread b f u) o (RunAs p (act (scope xs z) (trio b f u)) k t o) r) (sym (scope-is actor xs z (trio b f u) y₀ k t o true (eq-eqb k t e)))
+        (subst (λ (j : ℕ). Acted k (spread b f u) o (RunAs p (act (scope xs z) (trio b f u)) k j o) (closing z y₀ k (scopeAt xs k (trio b f u)) o)) e (closes xs z b f u y₀ k o y₁ kn y h v x q (omega arith)))
+    scope-runs y₁ kn y v (waits-itself e d) c (run-turned x) g = absurd (false≢true (sym (turned-not-open x) ∙ rw (d, or-true)))
     scope-runs y₁ kn y v (waits-within e w) c (run-awaits s _ x q) g = absurd (false≢true (sym s))
     scope-runs y₁ kn y v (waits-within e w) c (run-one s x r) g = absurd (false≢true (sym s))
-    scope-runs y₁ kn y v (waits-within e w) c (run-body x r q) g = live-steps z b f u y₀ k t o h m e w refl x q (λ a z d. g a z d r x)
+    scope-runs y₁ kn y v (waits-within e w) c (run-body x r q) g = live-steps xs z b f u y₀ k t o h m e w refl x q (λ a z d. g a z d r x)
     scope-runs y₁ kn y v (waits-within e w) c (run-done x q) g = absurd (quiet-waits-in w refl (quiet-part q (omega arith) (omega arith)))
-    scope-runs y₁ kn y v (waits-within e w) c (run-turned x q) g =
-        steps-run z b f u y₀ k t o q (Turning (scopeAt k (trio b f u))) (λ ms a. scope-turned) (stepIn actor (act (scope z) (trio b f u)) y₀ k t o) (turned-steps z b f u y₀ k t o h m e w refl x q i j l)
+    scope-runs y₁ kn y v (waits-within e w) c (run-turned x) g =
+        steps-run xs z b f u y₀ k t o (Turning (scopeAt xs k (trio b f u))) (λ ms a. scope-turned) (stepIn actor (act (scope xs z) (trio b f u)) y₀ k t o) (turned-steps xs z b f u y₀ k t o h m e w refl x i j l)
 
-    scope-stops : {c : Bool} → Waits (o .marks) (act (scope z) (trio b f u)) k t c → c ≡ false → Stopped (o .marks) (act (scope z) (trio b f u)) k
-        → Acted k (spread b f u) o (StopAs p (act (scope z) (trio b f u)) k o) (stepIn actor (act (scope z) (trio b f u)) y₀ k t o)
+    scope-stops : {c : Bool} → Waits (o .marks) (act (scope xs z) (trio b f u)) k t c → c ≡ false → Stopped (o .marks) (act (scope xs z) (trio b f u)) k
+        → Acted k (spread b f u) o (StopAs p (act (scope xs z) (trio b f u)) k o) (stepIn actor (act (scope xs z) (trio b f u)) y₀ k t o)
     unfolding kind size Its Whole
     scope-stops w c (stopped-part s x q) = absurd (false≢true (sym s))
     scope-stops w c (stopped-quiet q) = absurd (quiet-waits w c q)
-    scope-stops (waits-itself e d) c (stopped-scope x q) = absurd (no-less (stopped-waits (stopped-scope {u = u} x q) (waits-itself e d) c) e)
+    scope-stops (waits-itself e d) c (stopped-scope x) = absurd (no-less (stopped-waits (stopped-scope {v = z} x) (waits-itself e d) c) e)
       where
         no-less : k < t → k ≡ t → ⊥
         no-less y z = omega arith
-    scope-stops (waits-within e w) c (stopped-scope x q) = steps-stop z b f u y₀ k t o q (stepIn actor (act (scope z) (trio b f u)) y₀ k t o) (turned-steps z b f u y₀ k t o h m e w refl x q i j l)
+    scope-stops (waits-within e w) c (stopped-scope x) = steps-stop xs z b f u y₀ k t o (stepIn actor (act (scope xs z) (trio b f u)) y₀ k t o) (turned-steps xs z b f u y₀ k t o h m e w refl x i j l)
 
-  scope-undoes : {n a : Name} {ns : List Name} {c : Bool} (b f u : Act) (y₀ k t : ℕ) (m : Name) (o : Order) → Known p (innerAt true k n ns (trio b f (more u none))) → Spot p (bodyOf n ns a) k
-      → Remedy p (undoOf n ns a) u (k + 1 + size b + size f) → runnerAt (λ z. markOf z o) n ns ≡ m
-      → Waits (o .marks) (act (scope true) (trio b f (more u none))) k t c → c ≡ false → Undoing (o .marks) (act (scope true) (trio b f (more u none))) k
-      → ((x : Bool) → Waits (o .marks) u (k + 1 + size b + size f) t x → x ≡ false → Run (o .marks) u (k + 1 + size b + size f)
-      → Acted (k + 1 + size b + size f) (size u) o (RunAs p u (k + 1 + size b + size f) t o) (stepIn actor u (k + 1 + size b + size f) (k + 1 + size b + size f) t o))
-      → Acted k (spread b f (more u none)) o (UndoAs p m (act (scope true) (trio b f (more u none))) k t o) (stepIn actor (act (scope true) (trio b f (more u none))) y₀ k t o)
+  scope-undoes : {n a : Name} {ns : List Name} {c : Bool} (xs : List ℕ) (b f : Act) (u : Acts) (y₀ k t : ℕ) (m : Name) (o : Order) → Known p (innerAt xs true k n ns (trio b f u)) → Spot p (bodyOf n ns a) k
+      → Remedy p (undoOf n ns a) (part (undoPart xs) (trio b f u)) (partAt (undoPart xs) (trio b f u) (k + 1)) → runnerAt (λ z. markOf z o) n ns ≡ m
+      → Waits (o .marks) (act (scope xs true) (trio b f u)) k t c → c ≡ false → Undoing (o .marks) (act (scope xs true) (trio b f u)) k
+      → ((x : Bool) → Waits (o .marks) (part (undoPart xs) (trio b f u)) (partAt (undoPart xs) (trio b f u) (k + 1)) t x → x ≡ false
+      → Run (o .marks) (part (undoPart xs) (trio b f u)) (partAt (undoPart xs) (trio b f u) (k + 1))
+      → Acted (partAt (undoPart xs) (trio b f u) (k + 1)) (size (part (undoPart xs) (trio b f u))) o (RunAs p (part (undoPart xs) (trio b f u)) (partAt (undoPart xs) (trio b f u) (k + 1)) t o)
+      (stepIn actor (part (undoPart xs) (trio b f u)) (partAt (undoPart xs) (trio b f u) (k + 1)) (partAt (undoPart xs) (trio b f u) (k + 1)) t o))
+      → Acted k (spread b f u) o (UndoAs p m (act (scope xs true) (trio b f u)) k t o) (stepIn actor (act (scope xs true) (trio b f u)) y₀ k t o)
   unfolding kind Its Whole
-  scope-undoes b f u y₀ k t m o kn v su y w c (undoing-part s x q) g = absurd (false≢true (sym s))
-  scope-undoes b f u y₀ k t m o kn v su y (waits-itself e d) c (undoing-scope x q r) g = absurd (no-less (undoing-waits (undoing-scope x q r) (waits-itself e d) c) e)
+  scope-undoes xs b f u y₀ k t m o kn v su y w c (undoing-part s x q) g = absurd (false≢true (sym s))
+  scope-undoes xs b f u y₀ k t m o kn v su y (waits-itself e d) c (undoing-scope x n r) g = absurd (no-less (undoing-waits (undoing-scope x n r) (waits-itself e d) c) e)
     where
       no-less : k < t → k ≡ t → ⊥
       no-less y z = omega arith
-  scope-undoes b f u y₀ k t m o kn v su y (waits-within e (waits-first d w)) c (undoing-scope x q r) g = absurd (quiet-waits w refl (quiet-part q (omega arith) (omega arith)))
-  scope-undoes b f u y₀ k t m o kn v su y (waits-within e (waits-later d (waits-first i w))) c (undoing-scope x q r) g = absurd (quiet-waits w refl (quiet-part q (omega arith) (omega arith)))
-  scope-undoes b f u y₀ k t m o kn v su y (waits-within e (waits-later d (waits-later i (waits-first z w)))) c (undoing-scope x q r) g =
-      subst (λ (v : Outcome). Acted k (spread b f (more u none)) o (UndoAs p m (act (scope true) (trio b f (more u none))) k t o) v) (sym (undo-step b f u y₀ k t o i z))
-      (undo-acts b f u k t m o (stepIn actor u (k + 1 + size b + size f) (k + 1 + size b + size f) t o) kn v su y x q i z (g _ w refl r))
+  scope-undoes xs b f u y₀ k t m o kn v su y (waits-within e w) c (undoing-scope x n r) g =
+      let z = nth-waits r w refl in
+      subst (λ (v : Outcome). Acted k (spread b f u) o (UndoAs p m (act (scope xs true) (trio b f u)) k t o) v) (sym (undo-step xs b f u y₀ k t o (nth-there r) (z .0) (z .1)))
+      (undo-acts xs b f u k t m o _ kn v su y x n r (z .0) (z .1) (g _ (z .2) refl (nth-run r)))
 
   -- and in one with no undo part, that was looked through
-  scope-through : {c : Bool} (b f : Act) (u : Acts) (y₀ k t : ℕ) (m : Name) (o : Order)
-      → Waits (o .marks) (act (scope false) (trio b f u)) k t c → c ≡ false → Undoing (o .marks) (act (scope false) (trio b f u)) k
+  scope-through : {c : Bool} (xs : List ℕ) (b f : Act) (u : Acts) (y₀ k t : ℕ) (m : Name) (o : Order)
+      → Waits (o .marks) (act (scope xs false) (trio b f u)) k t c → c ≡ false → Undoing (o .marks) (act (scope xs false) (trio b f u)) k
       → ((x : Bool) → Waits (o .marks) b (k + 1) t x → x ≡ false → Undoing (o .marks) b (k + 1) → getD (o .marks) k 0 ≡ idle
       → Acted (k + 1) (size b) o (UndoAs p m b (k + 1) t o) (stepIn actor b (k + 1) (k + 1) t o))
-      → Acted k (spread b f u) o (UndoAs p m (act (scope false) (trio b f u)) k t o) (stepIn actor (act (scope false) (trio b f u)) y₀ k t o)
+      → Acted k (spread b f u) o (UndoAs p m (act (scope xs false) (trio b f u)) k t o) (stepIn actor (act (scope xs false) (trio b f u)) y₀ k t o)
   unfolding size
-  scope-through b f u y₀ k t m o w c (undoing-part s x q) g = absurd (false≢true (sym s))
-  scope-through b f u y₀ k t m o (waits-itself e d) c (undoing-through x r q) g = absurd (no-less (undoing-waits (undoing-through {f = f} {u = u} x r q) (waits-itself e d) c) e)
+  scope-through xs b f u y₀ k t m o w c (undoing-part s x q) g = absurd (false≢true (sym s))
+  scope-through xs b f u y₀ k t m o (waits-itself e d) c (undoing-through x r q) g = absurd (no-less (undoing-waits (undoing-through {xs = xs} {f = f} {u = u} x r q) (waits-itself e d) c) e)
     where
       no-less : k < t → k ≡ t → ⊥
       no-less y z = omega arith
-  scope-through b f u y₀ k t m o (waits-within e (waits-first d w)) c (undoing-through x r q) g = through-acts b f u y₀ k t m o x q e d (g _ w refl r x)
-  scope-through b f u y₀ k t m o (waits-within e (waits-later d w)) c (undoing-through x r q) g = absurd (quiet-waits-in w refl q)
+  scope-through xs b f u y₀ k t m o (waits-within e (waits-first d w)) c (undoing-through x r q) g = through-acts xs b f u y₀ k t m o x q e d (g _ w refl r x)
+  scope-through xs b f u y₀ k t m o (waits-within e (waits-later d w)) c (undoing-through x r q) g = absurd (quiet-waits-in w refl q)
 
   -- which is the step of its body
-  pub through-is : (b f : Act) (u : Acts) (y₀ k t : ℕ) (m : Name) (o : Order) → getD (o .marks) k 0 ≡ idle → k < t → t < k + 1 + size b
+  pub through-is : (xs : List ℕ) (b f : Act) (u : Acts) (y₀ k t : ℕ) (m : Name) (o : Order) → getD (o .marks) k 0 ≡ idle → k < t → t < k + 1 + size b
       → Acted (k + 1) (size b) o (UndoAs p m b (k + 1) t o) (stepIn actor b (k + 1) (k + 1) t o)
-      → stepIn actor (act (scope false) (trio b f u)) y₀ k t o ≡ stepIn actor b (k + 1) (k + 1) t o
+      → stepIn actor (act (scope xs false) (trio b f u)) y₀ k t o ≡ stepIn actor b (k + 1) (k + 1) t o
   unfolding Whole Its
-  through-is b f u y₀ k t m o e h d w =
-      through-step false b f u y₀ k t o (goesThrough false k r) h d refl
-      ∙ through-so (scopeAt k (trio b f u)) k (r .order) (r .result) (r .log) refl (w .kept .below k (omega arith) ∙ e)
+  through-is xs b f u y₀ k t m o e h d w =
+      through-step xs false b f u y₀ k t o (goesThrough false k r) h d refl
+      ∙ through-so (scopeAt xs k (trio b f u)) k (r .order) (r .result) (r .log) refl (w .kept .below k (omega arith) ∙ e)
       (λ z. subst (λ (x : Result). UndoAs p m b (k + 1) t o (r .log) (r .order) x) z (w .comes))
       (λ n z. subst (λ (x : Result). UndoAs p m b (k + 1) t o (r .log) (r .order) x) z (w .comes))
     where
@@ -1079,17 +1096,13 @@ module _ (p : Plan) (actor : Actor) where
       r = stepIn actor b (k + 1) (k + 1) t o
 
   -- Every step in a tree that runs, in a stopped body, and in one of which an undo part runs.
-  -- the undo part of a scope that has one
-  rest-remedy : {q : Place} {u : Act} {k : ℕ} → Rest p true q (more u none) k → Remedy p q u k
-  rest-remedy (rest-undo su) = su
-
   -- a scope that undoes runs its undo parts itself
   pub awake-first : (mk : Name → ℕ) (n : Name) (ns : List Name) (v : Bool) → phase (mk n) ≡ Phase.undoes v → runnerAt mk n ns ≡ n
   awake-first mk n [] v e = refl
   awake-first mk n (x ∷ xs) v e = rw e
 
   mutual
-    unfolding size kind bare Here
+    unfolding size kind bare Here part partAt
 
     pub steps : {x : Place} {a : Act} {k : ℕ} → Sits p x a k → (y₀ t : ℕ) (o : Order) (b : Bool) → PartOf x y₀ → Waits (o .marks) a k t b → b ≡ false → Run (o .marks) a k
         → Fit x o → k + size a ≤ length (o .marks) → Acted k (size a) o (RunAs p a k t o) (stepIn actor a y₀ k t o)
@@ -1097,12 +1110,12 @@ module _ (p : Plan) (actor : Actor) where
         part-steps own within y₀ k t o b s g (y .noScope) u v l m w e r
         (λ c w₁ e₁ r₁. steps-one l y₀ t o c y₁ w₁ e₁ r₁ v (omega arith))
         (λ c w₁ e₁ r₁. steps-all l y₀ t o c y₁ w₁ e₁ r₁ v (omega arith))
-    steps (sits-scope {v = z₀} {n} {c = a} {ns} {b} {f} {u} {k} kn d i sb z sf su) y₀ t o c y₁ w e r v m =
-        scope-runs z₀ b f u y₀ k t o (seat-of u kn d i sb z sf) m
+    steps (sits-scope {xs} {v = z₀} {n} {c = a} {ns} {b} {f} {u} {k} kn d i sb z) y₀ t o c y₁ w e r v m =
+        scope-runs xs z₀ b f u y₀ k t o (seat-of kn d i sb z) m
         (λ x w₁ e₁ r₁. steps-stopped sb (k + 1) t o x refl w₁ e₁ r₁ (omega arith))
         (λ x w₁ e₁ r₁ v y. steps-undoing sb (k + 1) t o x refl w₁ e₁ r₁ (inner k) (awake-first (λ n. markOf n o) (inner k) (cond z₀ [] (n ∷ ns)) v y)
         (v, ap (λ (n : Name). phase (markOf n o)) (awake-first (λ n. markOf n o) (inner k) (cond z₀ [] (n ∷ ns)) v y) ∙ y) (omega arith))
-        (λ x w₁ e₁ r₁ y. steps-part sf (k + 1 + size b) t o x tt w₁ e₁ r₁ y (omega arith))
+        (λ i₀ n₀ x w₁ e₁ r₁ y. steps-healers z i₀ t o x n₀ (λ j. tt) w₁ e₁ r₁ y (omega arith))
         y₁ kn d v w e r
         (λ x w₁ e₁ r₁ y. steps sb (k + 1) t o x refl w₁ e₁ r₁ (ap phase y) (omega arith))
 
@@ -1136,12 +1149,12 @@ module _ (p : Plan) (actor : Actor) where
         → k + size a ≤ length (o .marks) → Acted k (size a) o (StopAs p a k o) (stepIn actor a y₀ k t o)
     steps-stopped (sits-part {q = x} {own} {within} {k} s g u y l) y₀ t o b y₁ w e r m =
         stopped-steps own within y₀ k t o b s w e r (λ c w₁ e₁ r₁. steps-stopped-in l y₀ t o c y₁ w₁ e₁ r₁ (omega arith))
-    steps-stopped (sits-scope {v = z₀} {n} {c = a} {ns} {b} {f} {u} {k} kn d i sb z sf su) y₀ t o c y₁ w e r m =
-        scope-stops z₀ b f u y₀ k t o (seat-of u kn d i sb z sf) m
+    steps-stopped (sits-scope {xs} {v = z₀} {n} {c = a} {ns} {b} {f} {u} {k} kn d i sb z) y₀ t o c y₁ w e r m =
+        scope-stops xs z₀ b f u y₀ k t o (seat-of kn d i sb z) m
         (λ x w₁ e₁ r₁. steps-stopped sb (k + 1) t o x refl w₁ e₁ r₁ (omega arith))
         (λ x w₁ e₁ r₁ v y. steps-undoing sb (k + 1) t o x refl w₁ e₁ r₁ (inner k) (awake-first (λ n. markOf n o) (inner k) (cond z₀ [] (n ∷ ns)) v y)
         (v, ap (λ (n : Name). phase (markOf n o)) (awake-first (λ n. markOf n o) (inner k) (cond z₀ [] (n ∷ ns)) v y) ∙ y) (omega arith))
-        (λ x w₁ e₁ r₁ y. steps-part sf (k + 1 + size b) t o x tt w₁ e₁ r₁ y (omega arith))
+        (λ i₀ n₀ x w₁ e₁ r₁ y. steps-healers z i₀ t o x n₀ (λ j. tt) w₁ e₁ r₁ y (omega arith))
         w e r
 
     pub steps-stopped-in : {x : Place} {l : Acts} {c : ℕ} → SitsIn p x l c → (y₀ t : ℕ) (o : Order) (b : Bool) → PartOf x y₀ → WaitsIn (o .marks) l c t b → b ≡ false
@@ -1159,11 +1172,11 @@ module _ (p : Plan) (actor : Actor) where
         → Fit (undoOf (nameOf x) (beyondOf x) (lastOf x)) o → k + size a ≤ length (o .marks) → Acted k (size a) o (UndoAs p m a k t o) (stepIn actor a y₀ k t o)
     steps-undoing (sits-part {q = x} {own} {within} {k} s g u y l) y₀ t o b y₁ w e r m₀ y₂ v m =
         undoing-steps own within y₀ k t o b s (y .noScope) w e r (λ c w₁ e₁ r₁. steps-undoing-in l y₀ t o c y₁ w₁ e₁ r₁ m₀ y₂ v (omega arith))
-    steps-undoing (sits-scope {v = true} kn d i sb z sf su) y₀ t o c y₁ w e (undoing-part s x q) m₀ y₂ v m = absurd (false≢true (sym s))
-    steps-undoing (sits-scope {v = true} {n} {c = a} {ns} {b} {f} {k = k} kn d i sb z sf su) y₀ t o c y₁ w e (undoing-scope {u = u} x q r) m₀ y₂ v m =
-        scope-undoes b f u y₀ k t m₀ o kn d (rest-remedy su) y₂ w e (undoing-scope x q r) (λ x w₁ e₁ r₁. steps-rest su u refl t o x tt w₁ e₁ r₁ v (omega arith))
-    steps-undoing (sits-scope {v = false} {n} {c = a} {ns} {b} {f} {u} {k} kn d i sb z sf su) y₀ t o c y₁ w e r m₀ y₂ v m =
-        scope-through b f u y₀ k t m₀ o w e r
+    steps-undoing (sits-scope {v = true} kn d i sb z) y₀ t o c y₁ w e (undoing-part s x q) m₀ y₂ v m = absurd (false≢true (sym s))
+    steps-undoing (sits-scope {xs} {v = true} {n} {c = a} {ns} {b} {f} {u} {k} kn d i sb z) y₀ t o c y₁ w e (undoing-scope x q r) m₀ y₂ v m =
+        scope-undoes xs b f u y₀ k t m₀ o kn d (undoer z) y₂ w e (undoing-scope x q r) (λ x w₁ e₁ r₁. steps-undoer z refl t o x (λ j. tt) w₁ e₁ r₁ v (omega arith))
+    steps-undoing (sits-scope {xs} {v = false} {n} {c = a} {ns} {b} {f} {u} {k} kn d i sb z) y₀ t o c y₁ w e r m₀ y₂ v m =
+        scope-through xs b f u y₀ k t m₀ o w e r
         (λ x w₁ e₁ r₁ j. steps-undoing sb (k + 1) t o x refl w₁ e₁ r₁ m₀ (rw j y₂) (rw j v) (omega arith))
 
     pub steps-undoing-in : {x : Place} {l : Acts} {c : ℕ} → SitsIn p x l c → (y₀ t : ℕ) (o : Order) (b : Bool) → PartOf x y₀ → WaitsIn (o .marks) l c t b → b ≡ false
@@ -1179,13 +1192,26 @@ module _ (p : Plan) (actor : Actor) where
         subst (λ (z : Outcome). Acted c (size a + sizes l) o (UndoInAs m₀ (more a l) c t o) z) (sym (among-is actor a l y₀ c t o false (le-ltb t (c + size a) h)))
         (later-undoing a l c o (stepAmong actor l false y₀ (c + size a) t o) m₀ t (steps-undoing-in y y₀ t o b y₁ w e r m₀ y₂ v (omega arith)) q)
 
-    steps-rest : {z : Bool} {x : Place} {l : Acts} {k : ℕ} → Rest p z x l k → (u : Act) → l ≡ more u none → (t : ℕ) (o : Order) (b : Bool) → PartOf x k → Waits (o .marks) u k t b → b ≡ false
-        → Run (o .marks) u k → Fit x o → k + size u ≤ length (o .marks) → Acted k (size u) o (RunAs p u k t o) (stepIn actor u k k t o)
-    steps-rest (rest-undo {q = x} {u = a} {k} su) u e t o b y w f r v m =
-        let z : a ≡ u = cc in
-        subst (λ (j : Act). Waits (o .marks) j k t b → Run (o .marks) j k → k + size j ≤ length (o .marks) → Acted k (size j) o (RunAs p j k t o) (stepIn actor j k k t o)) z
-        (λ w₁ r₁ m₁. steps-part su k t o b y w₁ f r₁ v m₁) w r m
-    steps-rest rest-none u e t o b y w f r v m = absurd (let z : _≡_ {A = ℕ} 0 1 = cc in omega arith)
+    steps-healers : {s : Name} {xs : List ℕ} {z : Bool} {q y : Place} {l : Acts} {c : ℕ} → Healers p s xs z q y l c → (i t : ℕ) (o : Order) (b : Bool) → i ≤ length xs → ((j : ℕ) → PartOf q j)
+        → Waits (o .marks) (part i l) (partAt i l c) t b → b ≡ false → Run (o .marks) (part i l) (partAt i l c) → Fit q o → c + sizes l ≤ length (o .marks)
+        → Acted (partAt i l c) (size (part i l)) o (RunAs p (part i l) (partAt i l c) t o) (stepIn actor (part i l) (partAt i l c) (partAt i l c) t o)
+    steps-healers (heals-by {c} y a h) zero t o b n d w e r v m = steps-part a c t o b (d c) w e r v (omega arith)
+    steps-healers (heals-by y a h) (suc i) t o b n d w e r v m = steps-healers h i t o b (omega arith) d w e r v (omega arith)
+    steps-healers (heals-all {c} y a h) zero t o b n d w e r v m = steps-part a c t o b (d c) w e r v (omega arith)
+    steps-healers (heals-all y a h) (suc i) t o b n d w e r v m = absurd (omega arith)
+
+    steps-undoer : {s : Name} {xs : List ℕ} {z : Bool} {q y : Place} {l : Acts} {c : ℕ} → Healers p s xs z q y l c → z ≡ true → (t : ℕ) (o : Order) (b : Bool) → ((j : ℕ) → PartOf y j)
+        → Waits (o .marks) (part (generalPart xs) l) (partAt (generalPart xs) l c) t b → b ≡ false → Run (o .marks) (part (generalPart xs) l) (partAt (generalPart xs) l c) → Fit y o → c + sizes l ≤ length (o .marks)
+        → Acted (partAt (generalPart xs) l c) (size (part (generalPart xs) l)) o (RunAs p (part (generalPart xs) l) (partAt (generalPart xs) l c) t o)
+        (stepIn actor (part (generalPart xs) l) (partAt (generalPart xs) l c) (partAt (generalPart xs) l c) t o)
+    steps-undoer (heals-by y a h) n t o b d w e r v m = steps-undoer h n t o b d w e r v (omega arith)
+    steps-undoer (heals-all y a h) n t o b d w e r v m = steps-rest h n t o b d w e r v (omega arith)
+
+    steps-rest : {z : Bool} {y : Place} {l : Acts} {c : ℕ} → Rest p z y l c → z ≡ true → (t : ℕ) (o : Order) (b : Bool) → ((j : ℕ) → PartOf y j)
+        → Waits (o .marks) (part 0 l) (partAt 0 l c) t b → b ≡ false → Run (o .marks) (part 0 l) (partAt 0 l c) → Fit y o → c + sizes l ≤ length (o .marks)
+        → Acted (partAt 0 l c) (size (part 0 l)) o (RunAs p (part 0 l) (partAt 0 l c) t o) (stepIn actor (part 0 l) (partAt 0 l c) (partAt 0 l c) t o)
+    steps-rest (rest-undo {k} su) n t o b d w e r v m = steps-part su k t o b (d k) w e r v (omega arith)
+    steps-rest rest-none n t o b d w e r v m = absurd (false≢true n)
 
     pub steps-part : {x : Place} {a : Act} {k : ℕ} → Remedy p x a k → (y₀ t : ℕ) (o : Order) (b : Bool) → PartOf x y₀ → Waits (o .marks) a k t b → b ≡ false → Run (o .marks) a k
         → Fit x o → k + size a ≤ length (o .marks) → Acted k (size a) o (RunAs p a k t o) (stepIn actor a y₀ k t o)

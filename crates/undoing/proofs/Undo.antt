@@ -1,5 +1,5 @@
 -- How a scope undoes, handles and ends: what runs in it then, and that all it logs is right. Assumes nothing.
-use Prim.Native.Nat.{ℕ, _+_, _≤_}
+use Prim.Native.Nat.{ℕ, suc, _+_, _≤_, _<_}
 use native.Mathlib.Omega.{arith}
 use mathlib.Core.Path.{_≡_, refl, sym, ap, subst, _∙_}
 use mathlib.Core.Bool.{Bool, true, false, cond, false≢true}
@@ -7,7 +7,7 @@ use mathlib.Core.List.{List, [], _∷_, _++_}
 use lib.ListN.{length, getD}
 use lib.Dec.{eqb, ltb}
 use borrow.Author.Tests.{eqb-true, lt-ltb, le-ltb}
-use Rattle.plan.specs.Tree.{Own, kind, isScope, hasUndo, Act, act, Acts, none, more, Plan, size, sizes, scope}
+use Rattle.plan.specs.Tree.{Own, kind, isScope, hasUndo, numbersOf, generalPart, undoPart, Act, act, Acts, none, more, Plan, size, sizes, count, scope}
 use Rattle.order.specs.declared.Closing.{Closing}
 use Rattle.order.specs.declared.Order.{Order}
 use Rattle.order.specs.declared.End.the-variants.{None}
@@ -21,10 +21,12 @@ use Rattle.order.specs.Scope.{Outcome, runs, begunIn, Scope, isFor, beginUndo, 
 use Rattle.undoing.specs.Demand3.{Inner, undoneOf}
 use Rattle.undoing.specs.Ties.{Place, undoOf, nameOf, beyondOf, lastOf}
 use Rattle.undoing.proofs.Parts.{neither, decide, every-at}
+use Rattle.undoing.proofs.Choices.{general-is}
 use Rattle.undoing.proofs.Accounts.{Phase, phase, Known}
 use Rattle.undoing.proofs.Moves.{Spot, runnerAt, tied-at}
-use Rattle.undoing.proofs.Marks.{trio, spread, Quiet, Kept, Undoing, undoing-part, undoing-scope, undoing-through, UndoingIn, undoing-here, undoing-later, quiet-part, quiet-agree, quiet-join, agree-below, agree-above, kept-wider, kept-then, kept-itself}
-use Rattle.undoing.proofs.Orders.{listOf, momentOf, Does, does-then, does-nothing, Fit, Sits, sits-part, sits-scope, SitsIn, sits-none, sits-more, Rest, rest-undo, rest-none, remedy-spot}
+use Rattle.undoing.proofs.Marks.{trio, spread, Quiet, Kept, nth-later, Undoing, undoing-part, undoing-scope, undoing-through, UndoingIn, undoing-here, undoing-later, quiet-part, quiet-agree, quiet-join, agree-below, agree-above, kept-wider, kept-then, kept-itself}
+use Rattle.undoing.proofs.Orders.{listOf, momentOf, Does, does-then, does-nothing, Fit, Sits, sits-part, sits-scope, SitsIn, sits-none, sits-more, remedy-spot}
+use Rattle.undoing.proofs.Remedies.{part-from, part-to, nth-begun, nth-over, healers-many, undoer}
 use Rattle.undoing.proofs.Beginning.{quiet-cons, Begins, begins-remedy}
 use Rattle.undoing.proofs.Seats.{Seat, mark-kept, reaches, reachesFirst, reachesIn, reaches-is, reaches-scope, reaches-range, reaches-range-in, closings-reach, quiet-inner, removed-list, does-undo}
 
@@ -47,16 +49,16 @@ pub record Undone (p : Plan) (s : Scope) (o : Order) (r : Outcome) : Type 0 wher
 pub undo-is : (own : Own) (within : Acts) (k e : ℕ) (ms : List ℕ) → isScope own ≡ false → beginUndo (act own within) k e ms ≡ beginUndoIn within (k + 1) e ms
 unfolding beginUndo
 undo-is own within k e ms t =
-    subst (λ (z : Bool). elim z [ true ↦ cond (hasUndo own) (cond (eqb k e) (beginPart 2 within (k + 1) ms) (nothingBegun ms)) (beginUndoFirst within (k + 1) e ms) | false ↦ beginUndoIn within (k + 1) e ms ]
+    subst (λ (z : Bool). elim z [ true ↦ cond (hasUndo own) (cond (eqb k e) (beginPart (undoPart (numbersOf own)) within (k + 1) ms) (nothingBegun ms)) (beginUndoFirst within (k + 1) e ms) | false ↦ beginUndoIn within (k + 1) e ms ]
     ≡ beginUndoIn within (k + 1) e ms) (sym t) refl
 
 undo-scope : (own : Own) (within : Acts) (k e : ℕ) (ms : List ℕ) (v : Bool) → isScope own ≡ true → hasUndo own ≡ v
-    → beginUndo (act own within) k e ms ≡ cond v (cond (eqb k e) (beginPart 2 within (k + 1) ms) (nothingBegun ms)) (beginUndoFirst within (k + 1) e ms)
+    → beginUndo (act own within) k e ms ≡ cond v (cond (eqb k e) (beginPart (undoPart (numbersOf own)) within (k + 1) ms) (nothingBegun ms)) (beginUndoFirst within (k + 1) e ms)
 unfolding beginUndo
 undo-scope own within k e ms v t u =
-    subst (λ (y : Bool). beginUndo (act own within) k e ms ≡ cond y (cond (eqb k e) (beginPart 2 within (k + 1) ms) (nothingBegun ms)) (beginUndoFirst within (k + 1) e ms)) u
-    (subst (λ (z : Bool). elim z [ true ↦ cond (hasUndo own) (cond (eqb k e) (beginPart 2 within (k + 1) ms) (nothingBegun ms)) (beginUndoFirst within (k + 1) e ms) | false ↦ beginUndoIn within (k + 1) e ms ]
-    ≡ cond (hasUndo own) (cond (eqb k e) (beginPart 2 within (k + 1) ms) (nothingBegun ms)) (beginUndoFirst within (k + 1) e ms)) (sym t) refl)
+    subst (λ (y : Bool). beginUndo (act own within) k e ms ≡ cond y (cond (eqb k e) (beginPart (undoPart (numbersOf own)) within (k + 1) ms) (nothingBegun ms)) (beginUndoFirst within (k + 1) e ms)) u
+    (subst (λ (z : Bool). elim z [ true ↦ cond (hasUndo own) (cond (eqb k e) (beginPart (undoPart (numbersOf own)) within (k + 1) ms) (nothingBegun ms)) (beginUndoFirst within (k + 1) e ms) | false ↦ beginUndoIn within (k + 1) e ms ]
+    ≡ cond (hasUndo own) (cond (eqb k e) (beginPart (undoPart (numbersOf own)) within (k + 1) ms) (nothingBegun ms)) (beginUndoFirst within (k + 1) e ms)) (sym t) refl)
 
 -- in a list
 pub undo-in-is : (a : Act) (l : Acts) (c e : ℕ) (ms : List ℕ) (b : Bool) → ltb e (c + size a) ≡ b
@@ -99,7 +101,7 @@ begins-so b h e f g =
 module _ (p : Plan) where
   -- the undo part of a scope that is reached in an activity begins, for the scope m that is to run it
   mutual
-    unfolding beginUndo beginPart part partAt begin size reaches kind
+    unfolding beginUndo beginPart part partAt begin size count reaches kind
 
     -- in an activity
     pub begins-undo : {x : Place} {a : Act} {k : ℕ} → Sits p x a k → (e : ℕ) → reaches a k e ≡ true → (m : Name) (o₀ o : Order)
@@ -113,16 +115,23 @@ module _ (p : Plan) where
         (begins-so (begins-undo-in l e (sym (reaches-is own within k e s) ∙ d) m o₀ o f (quiet-part q (omega arith) (omega arith)) (omega arith) r i) (omega arith) (omega arith)
         (λ z w. quiet-cons (w .below k (omega arith) ∙ q .at k (omega arith) (omega arith)) z)
         (λ w z. undoing-part s (w .below k (omega arith) ∙ q .at k (omega arith) (omega arith)) z))
-    begins-undo (sits-scope {v = true} {n} {c} {ns} {b} {f = f′} {k = k} kn v w sb z sf (rest-undo {u} su)) e d m o₀ o f q h r i =
+    begins-undo (sits-scope {xs} {v = true} {n} {c} {ns} {b} {f = f′} {u} {k} kn v w sb z) e d m o₀ o f q h r i =
         let t : eqb k e ≡ true = d in
-        subst (λ (r : Begun). Begins p (λ ms. Undoing ms (act (scope true) (trio b f′ (more u none))) k) k (spread b f′ (more u none)) o₀ o r)
+        let i₀ = generalPart xs in
+        let j = k + 1 + size b in
+        let su = undoer z in
+        let y : i₀ < count (more f′ u) = omega (arith, healers-many z, general-is xs) in
+        let lo = part-from i₀ (more f′ u) j in
+        let hi = part-to i₀ (more f′ u) j y in
+        let q₁ : Quiet (o .marks) j (size f′ + sizes u) = quiet-part q (omega arith) (omega arith) in
+        subst (λ (r : Begun). Begins p (λ ms. Undoing ms (act (scope xs true) (trio b f′ u)) k) k (spread b f′ u) o₀ o r)
         (rw t)
-        (begins-so (begins-remedy p su o₀ o (f _ c refl kn (remedy-spot su) (eqb-true k e t) r) (quiet-part q (omega arith) (omega arith)) (omega arith) i) (omega arith) (omega arith)
+        (begins-so (begins-remedy p su o₀ o (f _ c refl kn (remedy-spot su) (eqb-true k e t) r) (quiet-part q₁ lo hi) (omega arith) i) (omega arith) (omega arith)
         (λ x v. quiet-cons (v .below k (omega arith) ∙ q .at k (omega arith) (omega arith))
-        (quiet-part (quiet-join (quiet-agree (quiet-part {j = k + 1} {m = size b + size f′} q (omega arith) (omega arith)) (agree-below v (omega arith))) x (omega arith)) (omega arith) (omega arith)))
-        (λ v x. undoing-scope (v .below k (omega arith) ∙ q .at k (omega arith) (omega arith))
-        (quiet-agree (quiet-part q (omega arith) (omega arith)) (agree-below v (omega arith))) x))
-    begins-undo (sits-scope {v = false} {n} {c} {ns} {b} {f = f′} {u} {k} kn v w sb z sf su) e d m o₀ o f q h r i =
+        (quiet-join (quiet-agree (quiet-part {j = k + 1} {m = size b} q (omega arith) (omega arith)) (agree-below v (omega arith))) (nth-over i₀ (more f′ u) j y q₁ v x) refl))
+        (λ v x. undoing-scope (v .below k (omega arith) ∙ q .at k (omega arith) (omega arith)) (omega (arith, healers-many z, general-is xs))
+        (nth-later (quiet-agree (quiet-part q (omega arith) (omega arith)) (agree-below v (omega arith))) (nth-begun i₀ (more f′ u) j y q₁ v x))))
+    begins-undo (sits-scope {v = false} {n} {c} {ns} {b} {f = f′} {u} {k} kn v w sb z) e d m o₀ o f q h r i =
         let y : getD (o .marks) k 0 ≡ idle = q .at k (omega arith) (omega arith) in
         begins-so (begins-undo sb e d m o₀ o f (quiet-part q (omega arith) (omega arith)) (omega arith) (rw y r) (rw y i)) (omega arith) (omega arith)
         (λ x v. quiet-cons (v .below k (omega arith) ∙ y)
@@ -222,7 +231,7 @@ module _ (p : Plan) where
       → s .bodyAt + size (s .body) ≤ length (o .marks) → listOf p (s .name) o ≡ l → Undone p s o (undo l s o)
   unfolding undo startUndo
   undoes-list v s [] o h q z m i =
-      record { kept = kept-itself _ _ (o .marks); rooted = refl; does = does-nothing (λ n j. (refl, refl)); comes = (z, i) }
+      record { kept = kept-itself _ _ (o .marks); rooted = refl; does = does-nothing (λ n j. (refl, refl, refl)); comes = (z, i) }
   undoes-list v s (e ∷ l) o h q z m i =
       let o′ = remembering (withoutLast (isFor s) (closings o)) o in
       let b = last-begins v s e l o h q z m i in

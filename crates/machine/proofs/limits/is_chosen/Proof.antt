@@ -9,8 +9,6 @@ ruleset cases = (chosen-not, chosen-so)
 pub is-chosen-spec : {M : Type 1} → statement M
 is-chosen-spec =
     tie.close (tie.spec
-    -- rem-state
-    (λ c. search needs)
     -- returns
     (λ c. search cases)
     -- returns-2
