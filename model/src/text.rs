@@ -428,8 +428,9 @@ struct Level {
     line: usize,
     within: usize,
     inner: usize,
-    /// How many fault parts by number stand in a scope.
+    /// How many fault parts by number stand in a scope, and the row of their count.
     numbered: usize,
+    counted: usize,
 }
 
 impl Level {
@@ -490,6 +491,7 @@ impl Drawing {
                 within: 0,
                 inner: 0,
                 numbered: 0,
+                counted: 0,
             }],
         }
     }
@@ -547,7 +549,6 @@ impl Drawing {
         if let [Word(b"scope"), Word(name)] = rest[..] {
             names.scopes.push(name);
         }
-        let at = self.rows.len();
         let depth = self.levels.len();
         let outer = self.levels.last_mut().expect("the root");
         let aligned = if outer.within > 0 {
@@ -565,18 +566,20 @@ impl Drawing {
         match (outer.kind, outer.within, number) {
             (8..=10, within, _) => row[1] = within as u32,
             (SCOPE, _, Some(number)) => {
-                outer.numbered += 1;
                 row[0] = 14;
-                row.resize(row.len().max(2), 0);
-                row[1] = outer.numbered as u32;
-                // A row has no place for more; so many are refused by their count.
-                if row.len() < 18 {
-                    row.push(number);
+                // The count of these parts, and the number of each, have rows of their own.
+                if outer.numbered == 0 {
+                    outer.counted = self.rows.len();
+                    self.rows.push(vec![0]);
                 }
+                outer.numbered += 1;
+                self.rows[outer.counted][0] = outer.numbered as u32;
+                self.rows.push(vec![number]);
             }
             (SCOPE, 3, None) if outer.numbered == 0 => row[0] = 11,
             _ => {}
         }
+        let at = self.rows.len();
         self.rows.extend(rows);
         self.lines.resize(self.rows.len(), line);
         if self.rows.len() > 4355 {
@@ -590,6 +593,7 @@ impl Drawing {
             within: 0,
             inner: 0,
             numbered: 0,
+            counted: 0,
         });
         Ok(())
     }
