@@ -166,15 +166,14 @@ fn put_faulted(
     used
 }
 
-// The scopes of an order that faulted and are not over, each with its fault.
+// The scopes of an order with these marks that faulted and are not over, each with its fault.
 fn put_all_faulted(
     out: &mut [u8; 4096],
     used: usize,
     names: &[u8; 8976],
     table: &Table,
-    order: Order,
+    marks: &[u8; 256],
 ) -> usize {
-    let marks = order.marks;
     let mut at = used;
     let mut n = 0;
     while n < 256 {
@@ -192,9 +191,10 @@ pub fn put_standing(
     table: &Table,
     order: Order,
 ) -> usize {
+    let marks = order.marks;
     let mut at = put_root(out, used, order.root);
     at = put_cause(out, at, order.root, order.cause);
-    put_all_faulted(out, at, names, table, order)
+    put_all_faulted(out, at, names, table, &marks)
 }
 
 // The slot of an order, how it stands, and by which fault.
