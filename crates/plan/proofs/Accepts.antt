@@ -359,7 +359,7 @@ module _ (rest s : List ℕ) (vars : ℕ) (few : vars ≤ 16) (cs : List ℕ) wh
       let few-numbers = leb-true (length (x ∷ k)) 8 i in
       let parts : count m ≡ length (x ∷ k) + 2 = omega (arith, eqb-true (count (more b m)) (length (x ∷ k) + 3) e) in
       let left : Left rest s at (14 ∷ ((actNumbers b ++ (length (x ∷ k) ∷ actsNumbers (map (λ z. z ∷ []) (x ∷ k)) m)) ++ ns)) =
-          rw (scope-numbers (x ∷ k) b m (omega arith) parts) at t in
+      rw (scope-numbers (x ∷ k) b m (omega arith) parts) at t in
       and-then _ (numbered-own vars few handler (omega arith) (omega arith) cs (not-true handler g) left) (λ p t1.
       and-then _ (each .0 false handler d (n + 1) p (length (x ∷ k) ∷ (actsNumbers (map (λ z. z ∷ []) (x ∷ k)) m ++ ns)) (omega arith) u (rw append-assoc at t1)) (λ q t2.
       and-then _ (field (omega arith) (omega arith) (omega arith) t2) (λ z t3.

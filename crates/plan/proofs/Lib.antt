@@ -18,6 +18,8 @@ pub mod TableLong
 pub mod TupleReads
 pub mod HeadReads
 pub mod TreeReads
+pub mod Beside
+pub mod NumberedReads
 pub mod RootReads
 pub mod HearReturns
 pub mod Hears

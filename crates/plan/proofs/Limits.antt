@@ -265,8 +265,15 @@ module _ (vars : ℕ) (cs s : List ℕ) where
       (λ body p b. finds-then (field-within s 1 9 p)
       (λ k q f. finds-then (finds-both (numbered-stands s read t k [] (n + 1 + size body) q) (numbered-within depth read r k [] (n + 1 + size body) q))
       (λ c next m. finds-found
-      (rw (lt-ltb 0 (suc depth) (omega arith), eq-eqb (1 + count (c .parts)) (length (c .numbers) + 3) (omega (arith, m .0 .many, m .0 .parts)), e,
-      numbers-allowed (c .numbers) (omega (arith, m .0 .many, f .1)) (m .1 .each), sub-one (suc depth), b, m .1 .parts)))))
+      (rw (
+        lt-ltb 0 (suc depth) (omega arith),
+        eq-eqb (1 + count (c .parts)) (length (c .numbers) + 3) (omega (arith, m .0 .many, m .0 .parts)),
+        e,
+        numbers-allowed (c .numbers) (omega (arith, m .0 .many, f .1)) (m .1 .each),
+        sub-one (suc depth),
+        b,
+        m .1 .parts,
+      )))))
 
   arm-act-within : (depth : ℕ) (read : Bool → ℕ → ℕ → Found Act) → Keeps vars cs false depth read → Keeps vars cs true depth (readArm read vars s)
   unfolding readArm actWithin

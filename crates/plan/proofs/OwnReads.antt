@@ -17,8 +17,8 @@ use Rattle.plan.specs.Answers.{fieldOf, tupleOf, NodesRead, messageOwn, 
 use Rattle.plan.specs.Fits.{Ahead, NumberFits, FieldFits}
 use Rattle.plan.specs.Found.{Found, refused, found, andThen, numberIn, fieldIn, among}
 use Rattle.plan.specs.Nodes.{Base, Room, IsMessage, sends, receives, isArm, IsExpression, sets, chooses, repeats, IsList, isSequence, isFlow, isPick, nodeHeadIn}
-use Rattle.plan.specs.Read.{Head, head, expressionIn, tupleIn, exchangeIn, armIn, partnerIn, withExpressionIn, setIn, listIn, raiseIn, codeIn, partsIn, headIn}
-use Rattle.plan.specs.Store.{chosen}
+use Rattle.plan.specs.Read.{Head, head, numberedHead, expressionIn, tupleIn, exchangeIn, armIn, partnerIn, withExpressionIn, setIn, listIn, raiseIn, isScopeCode, codeIn, partsIn, headIn}
+use Rattle.plan.specs.Store.{store, padded, chosen}
 use Rattle.plan.specs.Table.{row, rowOf, putRow, putOwn, putOwnNodes, putNodes, ownNodes, nodesOf}
 use Rattle.plan.specs.Tree.{Exp, Own, empty, raise, leave, scope, kind}
 use Rattle.plan.proofs.Finds.{Finds, finds-refused, finds-itself, finds-found, finds-cond, finds-then}
@@ -40,11 +40,11 @@ module _ {r : Field} (s : List ℕ) (handler : Bool) (depth n at : ℕ) (e : r �
   activity-code-handed o = handed (numberIn s at) _ e o
 
   module _ {value next : ℕ} (o : r ≡ Got value next) where
-    pub code-unknown : 13 < value → Field.Refused 4 at ≡ fieldOf (codeIn s handler depth n at)
+    pub code-unknown : 14 < value → Field.Refused 4 at ≡ fieldOf (codeIn s handler depth n at)
     unfolding codeIn fieldOf
     code-unknown h = rw (field-got (numberIn s at) e o, lt-ltb _ _ h)
 
-    module _ (h : value ≤ 13) {x : Bool} (i : x ≡ (handler && (eqb value 11 || eqb value 12))) where
+    module _ (h : value ≤ 14) {x : Bool} (i : x ≡ (handler && isScopeCode value)) where
       pub code-misplaced : x ≡ true → Field.Refused 8 at ≡ fieldOf (codeIn s handler depth n at)
       unfolding codeIn fieldOf
       code-misplaced t = rw (field-got (numberIn s at) e o, le-ltb _ _ h, sym i ∙ t)
@@ -60,7 +60,7 @@ module _ {r : Field} (s : List ℕ) (handler : Bool) (depth n at : ℕ) (e : r �
 
 -- what holds of a code that is read
 pub record Coded (depth n code : ℕ) : Type 0 where
-  pub known : code ≤ 13
+  pub known : code ≤ 14
   pub deep : depth ≡ 0 → ⊥
   pub numbered : n < 256
 
@@ -71,10 +71,10 @@ pub code-numbered : (s : List ℕ) (handler : Bool) (depth n at : ℕ) → Finds
 unfolding codeIn
 code-numbered s handler depth n at =
     finds-then (finds-itself (numberIn s at))
-    (λ code next h. finds-cond (ltb 13 code) (λ t. finds-refused)
-    (λ t. finds-cond (handler && (eqb code 11 || eqb code 12)) (λ u. finds-refused)
+    (λ code next h. finds-cond (ltb 14 code) (λ t. finds-refused)
+    (λ t. finds-cond (handler && isScopeCode code) (λ u. finds-refused)
     (λ u. finds-cond (eqb depth 0 || leb 256 n) (λ w. finds-refused)
-    (λ w. finds-found (record { known = ltb-false 13 code t; deep = none-over depth n w .0; numbered = none-over depth n w .1 })))))
+    (λ w. finds-found (record { known = ltb-false 14 code t; deep = none-over depth n w .0; numbered = none-over depth n w .1 })))))
 
 -- what an activity says of itself comes to, where what is found is known
 module _ (g : Found Head) (at n m : ℕ) (t u : List ℕ) where
@@ -94,28 +94,59 @@ unfolding putOwn
 own-row g at n m t u own e i z p w = own-found g at n m t u own e i (rw z (sym (add-zero m))) (rw p w)
 
 -- what was found, where the answer is known
+no-of : {P : Type 0} {number place : ℕ} {r : code.Own} (next k within nodes : ℕ) (b : Bool)
+    → r ≡ cond b (code.Own.Numbered next) (code.Own.Read k within next nodes) → r ≡ code.Own.Refused number place → P
+no-of next k within nodes true i o = let z : _≡_ {A = ℕ} 0 1 = cc in absurd (omega arith)
+no-of next k within nodes false i o = let z : _≡_ {A = ℕ} 0 1 = cc in absurd (omega arith)
+
 pub own-no : (g : Found Head) (at n m : ℕ) {r : code.Own} {t u : List ℕ} {number place : ℕ} → OwnRead g at n m r t u → r ≡ code.Own.Refused number place
     → g ≡ refused number place
 unfolding ownAnswer
 own-no (refused n p) at k m a o = let i = a .is in cc
-own-no (found x n) at k m a o = let i = a .is in let z : _≡_ {A = ℕ} 0 1 = cc in absurd (omega arith)
+own-no (found x n) at k m a o = no-of _ _ _ _ (x .numbered) (a .is) o
 
 pub record Said (g : Found Head) (at n m k within next nodes : ℕ) (t u : List ℕ) : Type 0 where
   pub h : Head
   pub is : g ≡ found h next
+  pub plain : h .numbered ≡ false
   pub same : k ≡ kind (h .own)
   pub many : within ≡ h .within
   pub count : nodes ≡ m + ownNodes (h .own)
   pub put : u ≡ putOwn (h .own) at n m t
 
+said-of : (g : Found Head) (at n m : ℕ) (x : Head) {r : code.Own} {t u : List ℕ} {k within next after nodes : ℕ} → g ≡ found x after → (b : Bool) → x .numbered ≡ b
+    → r ≡ cond b (code.Own.Numbered after) (code.Own.Read (kind (x .own)) (x .within) after (m + ownNodes (x .own))) → u ≡ cond b t (putOwn (x .own) at n m t)
+    → r ≡ code.Own.Read k within next nodes → Said g at n m k within next nodes t u
+said-of g at n m x e true z i p o = let z : _≡_ {A = ℕ} 0 1 = cc in absurd (omega arith)
+said-of g at n m x {next = next} {after = after} e false z i p o =
+    let j : next ≡ after = cc in
+    record { h = x; is = rw j e; plain = z; same = cc; many = cc; count = cc; put = p }
+
 pub own-got : (g : Found Head) (at n m : ℕ) {r : code.Own} {t u : List ℕ} {k within next nodes : ℕ} → OwnRead g at n m r t u
     → r ≡ code.Own.Read k within next nodes → Said g at n m k within next nodes t u
 unfolding ownAnswer OwnPut
 own-got (refused n p) at l m a o = let i = a .is in let z : _≡_ {A = ℕ} 0 1 = cc in absurd (omega arith)
-own-got (found x n) at l m {next = next} a o =
-    let i = a .is in
-    let j : next ≡ n = cc in
-    record { h = x; is = rw j; same = cc; many = cc; count = cc; put = a .put }
+own-got (found x n) at l m a o = said-of (found x n) at l m x refl (x .numbered) refl (a .is) (a .put) o
+
+-- the head of a scope with fault parts by number: nothing is written yet
+pub record Numbers (g : Found Head) (body : ℕ) (t u : List ℕ) : Type 0 where
+  pub h : Head
+  pub is : g ≡ found h body
+  pub told : h .numbered ≡ true
+  pub same : u ≡ t
+
+numbers-of : (g : Found Head) (at n m : ℕ) (x : Head) {r : code.Own} {t u : List ℕ} {next after : ℕ} → g ≡ found x after → (b : Bool) → x .numbered ≡ b
+    → r ≡ cond b (code.Own.Numbered after) (code.Own.Read (kind (x .own)) (x .within) after (m + ownNodes (x .own))) → u ≡ cond b t (putOwn (x .own) at n m t)
+    → r ≡ code.Own.Numbered next → Numbers g next t u
+numbers-of g at n m x {next = next} {after = after} e true z i p o =
+    let j : next ≡ after = cc in
+    record { h = x; is = rw j e; told = z; same = p }
+numbers-of g at n m x e false z i p o = let z : _≡_ {A = ℕ} 0 1 = cc in absurd (omega arith)
+
+pub own-numbers : (g : Found Head) (at n m : ℕ) {r : code.Own} {t u : List ℕ} {next : ℕ} → OwnRead g at n m r t u → r ≡ code.Own.Numbered next → Numbers g next t u
+unfolding ownAnswer OwnPut
+own-numbers (refused n p) at l m a o = let i = a .is in let z : _≡_ {A = ℕ} 0 1 = cc in absurd (omega arith)
+own-numbers (found x n) at l m a o = numbers-of (found x n) at l m x refl (x .numbered) refl (a .is) (a .put) o
 
 -- an answer handed on from the reading of one number
 module _ {r : Field} (g : Found ℕ) (f : ℕ → ℕ → Found Head) (at n m : ℕ) (t u : List ℕ) (e : r ≡ fieldOf g) where
@@ -328,20 +359,16 @@ module _ (vars : ℕ) (cs s : List ℕ) (k at place n m : ℕ) (t u : List ℕ) 
   parts-leave h i w = rw (h, i) (own-row _ place n m t u leave refl refl refl refl w)
 
   pub parts-scope : k ≡ 11 → r ≡ code.Own.Read 11 3 at m → u ≡ putRow n (row 11 0 0 [] 0 0 place) t → OwnRead (partsIn vars cs s k at) place n m r t u
-  unfolding partsIn kind ownNodes putOwnNodes rowOf
-  parts-scope h i w = rw (h, i) (own-row _ place n m t u (scope true) refl refl refl refl w)
+  unfolding partsIn kind ownNodes putOwnNodes rowOf store padded
+  parts-scope h i w = rw (h, i) (own-row _ place n m t u (scope [] true) refl refl refl refl w)
 
   pub parts-open : k ≡ 12 → r ≡ code.Own.Read 12 2 at m → u ≡ putRow n (row 12 0 0 [] 0 0 place) t → OwnRead (partsIn vars cs s k at) place n m r t u
-  unfolding partsIn kind ownNodes putOwnNodes rowOf
-  parts-open h i w = rw (h, i) (own-row _ place n m t u (scope false) refl refl refl refl w)
+  unfolding partsIn kind ownNodes putOwnNodes rowOf store padded
+  parts-open h i w = rw (h, i) (own-row _ place n m t u (scope [] false) refl refl refl refl w)
 
-  pub parts-number : (k ≡ 0 → ⊥) → 3 ≤ k → (k ≡ 3 → ⊥) → (k ≡ 4 → ⊥) → (k ≡ 5 → ⊥) → (k ≡ 6 → ⊥) → (k ≡ 7 → ⊥) → (k ≡ 8 → ⊥) → (k ≡ 9 → ⊥) → (k ≡ 10 → ⊥)
-      → (k ≡ 11 → ⊥) → (k ≡ 12 → ⊥) → OwnRead (raiseIn s at) place n m r t u → OwnRead (partsIn vars cs s k at) place n m r t u
+  pub parts-number : k ≡ 13 → OwnRead (raiseIn s at) place n m r t u → OwnRead (partsIn vars cs s k at) place n m r t u
   unfolding partsIn
-  parts-number n0 l n3 n4 n5 n6 n7 n8 n9 n10 n11 n12 a =
-      let n1 : k ≡ 1 → ⊥ = λ e. omega (arith, l, e) in
-      let n2 : k ≡ 2 → ⊥ = λ e. omega (arith, l, e) in
-      simp (ne-eqb _ _ n0, ne-eqb _ _ n1, ne-eqb _ _ n2, ne-eqb _ _ n3, ne-eqb _ _ n4, ne-eqb _ _ n5, ne-eqb _ _ n6, ne-eqb _ _ n7, ne-eqb _ _ n8, ne-eqb _ _ n9, ne-eqb _ _ n10, ne-eqb _ _ n11, ne-eqb _ _ n12) a
+  parts-number h a = rw h a
 
   pub parts-message : (k ≡ 0 → ⊥) → k < 3 → OwnRead (partnerIn vars (eqb k 2) s (messageOwn k) at) place n m r t u
       → OwnRead (partsIn vars cs s k at) place n m r t u
@@ -378,3 +405,14 @@ module _ (vars : ℕ) (cs s : List ℕ) (k at place n m : ℕ) (t u : List ℕ) 
   pub parts-pick : k ≡ 10 → OwnRead (listIn s (listOwn 10) 9 at) place n m r t u → OwnRead (partsIn vars cs s k at) place n m r t u
   unfolding partsIn listOwn
   parts-pick h a = rw h a
+
+-- a code that is none of these is that of a scope with fault parts by number
+module _ (vars : ℕ) (cs s : List ℕ) (k at place n m : ℕ) (t : List ℕ) where
+  pub parts-numbered : (k ≡ 0 → ⊥) → 3 ≤ k → (k ≡ 3 → ⊥) → (k ≡ 4 → ⊥) → (k ≡ 5 → ⊥) → (k ≡ 6 → ⊥) → (k ≡ 7 → ⊥) → (k ≡ 8 → ⊥) → (k ≡ 9 → ⊥) → (k ≡ 10 → ⊥)
+      → (k ≡ 11 → ⊥) → (k ≡ 12 → ⊥) → (k ≡ 13 → ⊥) → OwnRead (partsIn vars cs s k at) place n m (code.Own.Numbered at) t t
+  unfolding partsIn ownAnswer OwnPut
+  parts-numbered n0 l n3 n4 n5 n6 n7 n8 n9 n10 n11 n12 n13 =
+      let n1 : k ≡ 1 → ⊥ = λ e. omega (arith, l, e) in
+      let n2 : k ≡ 2 → ⊥ = λ e. omega (arith, l, e) in
+      simp (ne-eqb _ _ n0, ne-eqb _ _ n1, ne-eqb _ _ n2, ne-eqb _ _ n3, ne-eqb _ _ n4, ne-eqb _ _ n5, ne-eqb _ _ n6, ne-eqb _ _ n7, ne-eqb _ _ n8, ne-eqb _ _ n9, ne-eqb _ _ n10, ne-eqb _ _ n11, ne-eqb _ _ n12, ne-eqb _ _ n13)
+      (record { is = refl; put = refl })

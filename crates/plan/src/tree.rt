@@ -12,7 +12,7 @@ use super::table::Table;
 use super::table::close_row;
 use super::table::write_numbers;
 ghost use Prim.Native.Nat.{_+_, _≤_, _<_};
-ghost use mathlib.Core.Bool.{_&&_, _||_};
+ghost use mathlib.Core.Bool.{false, true, _&&_, _||_};
 ghost use mathlib.Core.Path.{_≡_};
 ghost use Rattle.plan.specs.Answers.{ActRead, ActsRead, NumberedRead};
 ghost use Rattle.plan.specs.Nodes.{Base, ScopeRoom, NumbersRoom, nodeIn};
@@ -79,18 +79,10 @@ fn activity_at(
     let own = own_at(s, at, arm, handler, depth, vars, correlation, n, m, table);
     match own {
         Own::Refused { number, place } => Out::Refused { number, place },
-        Own::Numbered { body } => numbered_scope_at(
-            s,
-            body,
-            at,
-            handler,
-            levels_below(arm, depth),
-            vars,
-            correlation,
-            n,
-            m,
-            table,
-        ),
+        Own::Numbered { body } => {
+            let below = levels_below(arm, depth);
+            numbered_scope_at(s, body, at, handler, below, vars, correlation, n, m, table)
+        }
         Own::Read {
             kind,
             within,
@@ -230,10 +222,21 @@ fn numbered_scope_at(
     m: usize,
     table: &mut Table,
 ) -> Out
-    requires { ⌜ ScopeRoom (now s) vars n m place at ⌝ }
+    requires { ⌜ ScopeRoom (now s) vars m place at × (n < 256) ⌝ }
     ensures { λ r. ⌜ ActRead (numberedScopeIn (nodeIn false depth vars (chosen 0 (now (correlation .entry))) (now (s .entry))) (now (s .entry)) handler n at) place n m r (now (table .entry)) (now (table .exit)) ⌝ }
 {
-    let body = activity_at(s, at, false, handler, depth, vars, correlation, n + 1, m, table);
+    let body = activity_at(
+        s,
+        at,
+        false,
+        handler,
+        depth,
+        vars,
+        correlation,
+        n + 1,
+        m,
+        table,
+    );
     match body {
         Out::Refused {
             number: _,
@@ -249,7 +252,10 @@ fn numbered_scope_at(
             let f = field_at(s, next, 1, 9);
             match f {
                 Field::Refused { number, place } => Out::Refused { number, place },
-                Field::Got { value: many, next: parts } => {
+                Field::Got {
+                    value: many,
+                    next: parts,
+                } => {
                     let rest = numbered_at(
                         s,
                         parts,
@@ -315,7 +321,20 @@ fn numbered_at(
 {
     if left == 0 {
         write_numbers(table, row, numbers, k, place);
-        return activities_at(s, at, false, true, true, 2, depth, vars, correlation, n, m, table);
+        return activities_at(
+            s,
+            at,
+            false,
+            true,
+            true,
+            2,
+            depth,
+            vars,
+            correlation,
+            n,
+            m,
+            table,
+        );
     }
     let f = fault_number_at(s, at, numbers, k);
     match f {
