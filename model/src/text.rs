@@ -278,8 +278,9 @@ struct Level {
     line: usize,
     within: usize,
     inner: usize,
-    /// How many fault parts by number stand in a scope.
+    /// How many fault parts by number stand in a scope, and the row of their count.
     numbered: usize,
+    counted: usize,
 }
 
 impl Level {
@@ -340,6 +341,7 @@ impl Drawing {
                 within: 0,
                 inner: 0,
                 numbered: 0,
+                counted: 0,
             }],
         }
     }
@@ -412,18 +414,19 @@ impl Drawing {
         match (outer.kind, outer.within, number) {
             (8..=10, within, _) => row[1] = within as u32,
             (SCOPE, _, Some(number)) => {
-                outer.numbered += 1;
                 row[0] = 14;
-                row.resize(row.len().max(2), 0);
-                row[1] = outer.numbered as u32;
-                // A row has no place for more; so many are refused by their count.
-                if row.len() < 18 {
-                    row.push(number);
+                outer.numbered += 1;
+                if outer.numbered == 1 {
+                    outer.counted = at;
+                    self.rows.push(vec![0]);
                 }
+                self.rows[outer.counted][0] = outer.numbered as u32;
+                self.rows.push(vec![number]);
             }
             (SCOPE, 3, None) if outer.numbered == 0 => row[0] = 11,
             _ => {}
         }
+        let at = self.rows.len();
         self.rows.extend(rows);
         self.lines.resize(self.rows.len(), line);
         if self.rows.len() > 4355 {
@@ -437,6 +440,7 @@ impl Drawing {
             within: 0,
             inner: 0,
             numbered: 0,
+            counted: 0,
         });
         Ok(())
     }

@@ -107,10 +107,10 @@ among-append w [] b = refl
 among-append w (x ∷ a) b = rw (among-append w a b) (sym (or-assoc (eqb w x) (among w a) (among w b)))
 
 -- where `once` holds, no variable of l is among those that are read
-Apart : (once : Bool) (read l : List ℕ) → Type 0
+unfoldable pub Apart : (once : Bool) (read l : List ℕ) → Type 0
 Apart once read l = (w : ℕ) → among w l ≡ true → (once && among w read) ≡ false
 
-apart-first : (once : Bool) (read l : List ℕ) (v : ℕ) → Apart once read (v ∷ l) → (once && among v read) ≡ false
+pub apart-first : (once : Bool) (read l : List ℕ) (v : ℕ) → Apart once read (v ∷ l) → (once && among v read) ≡ false
 unfolding Apart among
 apart-first once read l v a = a v (rw (eq-eqb v v refl))
 
@@ -122,7 +122,7 @@ apart-next true read l v a h w m =
     rw (among-append w read (v ∷ []), n, a w (rw n m))
 
 -- the same where those that are read are the latest first
-apart-more : (read l : List ℕ) (v : ℕ) → Apart true read (v ∷ l) → among v l ≡ false → Apart true (v ∷ read) l
+pub apart-more : (read l : List ℕ) (v : ℕ) → Apart true read (v ∷ l) → among v l ≡ false → Apart true (v ∷ read) l
 unfolding Apart among
 apart-more read l v a h w m =
     let n : eqb w v ≡ false = ne-eqb w v (λ e. false≢true (sym h ∙ rw e at m)) in

@@ -189,10 +189,10 @@ module _ (vars : ℕ) (cs s : List ℕ) (handler : Bool) where
 -- The numbers of fault parts.
 
 -- none of ns is among those known
-abbrev Others : (known ns : List ℕ) → Type 0
+abbrev pub Others : (known ns : List ℕ) → Type 0
 Others known ns = (w : ℕ) → among w ns ≡ true → among w known ≡ false
 
-others-itself : (x : ℕ) (known ns : List ℕ) → Others (x ∷ known) ns → among x ns ≡ false
+pub others-itself : (x : ℕ) (known ns : List ℕ) → Others (x ∷ known) ns → among x ns ≡ false
 unfolding among
 others-itself x known ns f = go (among x ns) (λ e. rw (eq-eqb x x refl) at (f x e))
   where
@@ -200,7 +200,7 @@ others-itself x known ns f = go (among x ns) (λ e. rw (eq-eqb x x refl) at (f x
     go true g = g refl
     go false g = refl
 
-others-more : (x : ℕ) (known ns : List ℕ) → among x known ≡ false → Others (x ∷ known) ns → Others known (x ∷ ns)
+pub others-more : (x : ℕ) (known ns : List ℕ) → among x known ≡ false → Others (x ∷ known) ns → Others known (x ∷ ns)
 unfolding among
 others-more x known ns h f w e = go (eqb w x) refl
   where
@@ -208,7 +208,7 @@ others-more x known ns h f w e = go (eqb w x) refl
     go true q = rw (eqb-true w x q) h
     go false q = neither (eqb w x) (among w known) (f w (rw q at e)) .1
 
-numbers-allowed : (ns : List ℕ) → length ns ≤ 8 → numbersEach ns ≡ true → numbersWithin ns true ≡ true
+pub numbers-allowed : (ns : List ℕ) → length ns ≤ 8 → numbersEach ns ≡ true → numbersWithin ns true ≡ true
 unfolding numbersWithin
 numbers-allowed [] h e = refl
 numbers-allowed (x ∷ ns) h e = rw (le-leb (length (x ∷ ns)) 8 h, e)

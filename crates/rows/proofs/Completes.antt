@@ -11,17 +11,19 @@ use lib.Dec.{eqb, ltb, leb}
 use lib.ListN.{length, getD, take, drop, replicate, length-append, length-replicate, length-drop}
 use lib.Seq.{drop-cons, drop-drop, drop-at, take-append-seam, drop-append-seam, getD-drop}
 use Rattle.plan.specs.Found.{Found, refused, found, andThen, among}
-use Rattle.plan.specs.Read.{operationOf, Head, head, manyIn, laterOf, startForm}
-use Rattle.plan.specs.Spell.{operationCode, exchangeNumbers, spelling}
-use Rattle.plan.specs.Tree.{Operation, sum, difference, equal, less, Exp, constant, variable, binary, Own, empty, send, receive, set, raise, leave, choose, repeat, sequence, flow, pick, scope, arm, isScope, isPick, Act, act, Acts, none, more, Plan, size, sizes, count}
+use Rattle.plan.specs.Read.{operationOf, Head, head, numberedHead, namable, isScopeCode, manyIn, Numbered, alsoNumbered, laterOf, startForm}
+use Rattle.plan.specs.Spell.{operationCode, exchangeNumbers, gapsOf, gap, later, spelling}
+use Rattle.plan.specs.Tree.{Operation, sum, difference, equal, less, Exp, constant, variable, binary, Own, empty, send, receive, set, raise, leave, choose, repeat, sequence, flow, pick, scope, arm, isScope, isPick, numbersOf, Act, act, Acts, none, more, Plan, size, sizes, count}
 use Rattle.plan.specs.Agree.{askedFrom, agree, judged}
-use Rattle.plan.specs.Within.{expressionWithin, variablesWithin, exchangeWithin, from1, ownWithin, actWithin, actsWithin, ascending, planWithin}
-use Rattle.plan.proofs.Accepts.{both}
-use Rattle.plan.proofs.ByKind.{raise-limits}
+use Rattle.plan.specs.Within.{expressionWithin, variablesWithin, exchangeWithin, from1, numbersEach, numbersWithin, ownWithin, actWithin, actsWithin, ascending, planWithin}
+use Rattle.plan.proofs.Accepts.{both, Apart, apart-first, apart-more}
+use Rattle.plan.proofs.ByKind.{raise-limits, ByNumber, plain, numbered, by-number}
+use Rattle.writer.specs.Rows as rows
 use Rattle.writer.specs.Rows.{line, lines, expressionRows, ownRows, actRows, actsRows, planRows, rowsOf}
 use Rattle.plan.proofs.Agreeing.{judged-agrees}
-use Rattle.writer.specs.Reading.{cell, zeros, shaped, tuple, rowIn, expressionFits, expressionHead, expressionAt, exchangeFits, armAt, codeAt, partsFit, withExpression, partsAt, headAt, armWith, readsAt, actAt, rootAt, headFits, planAt, inRows, agreedAt, readRows}
+use Rattle.writer.specs.Reading.{cell, zeros, shaped, tuple, rowIn, expressionFits, expressionHead, expressionAt, exchangeFits, armAt, codeAt, partsFit, withExpression, partsAt, headAt, countAt, faultNumberAt, numberedAt, numberedScopeAt, wholeAt, armWith, readsAt, actAt, rootAt, headFits, planAt, inRows, agreedAt, readRows}
 use Rattle.writer.proofs.Lines.{Row, Stands, nil, cons, stands-append, cells-cons, line-long}
+use Rattle.writer.proofs.RowStands.{scope-rows}
 use Rattle.rows.proofs.SamePlaces.{rows-agree}
 
 -- Rows written one after another stand in the table.
@@ -203,55 +205,61 @@ message-read vars once {t} {r} {k} {p} {o} {vs} h w =
     rw (y .all, y .two, x .partner, y .three, x .operation, y .four, x .some, x .most, x .each, n) (w .shape)
 
 module _ (vars : ℕ) (cs t : List ℕ) (handler : Bool) (d n : ℕ) (room : n < 256) where
-  code-read : {r k : ℕ} {ns : List ℕ} → Row t r (k ∷ ns) → k ≤ 13 → (handler && (eqb k 11 || eqb k 12)) ≡ false → codeAt t handler (suc d) n r ≡ found k (r + 1)
+  code-read : {r k : ℕ} {ns : List ℕ} → Row t r (k ∷ ns) → k ≤ 14 → (handler && isScopeCode k) ≡ false → codeAt t handler (suc d) n r ≡ found k (r + 1)
   unfolding codeAt
-  code-read {k = k} w h f = rw (row-read w, le-ltb 13 k h, f, ne-eqb (suc d) 0 (λ z. omega arith), lt-leb 256 n room)
+  code-read {k = k} w h f = rw (row-read w, le-ltb 14 k h, f, ne-eqb (suc d) 0 (λ z. omega arith), lt-leb 256 n room)
 
   known-read : {r k : ℕ} {ns : List ℕ} → Row t r (k ∷ ns) → k ≤ 10 → partsFit vars cs t r k ≡ true
       → headAt vars cs t handler (suc d) n r ≡ partsAt vars t r k (r + 1)
   unfolding headAt
-  known-read {k = k} w h f = rw (code-read w (omega arith) (rw (ne-eqb k 11 (λ z. omega arith), ne-eqb k 12 (λ z. omega arith)) (and-false handler)), f)
+  known-read {k = k} w h f = rw (code-read w (omega arith) (rw (ne-eqb k 11 (λ z. omega arith), ne-eqb k 12 (λ z. omega arith), ne-eqb k 14 (λ z. omega arith)) (and-false handler)), f)
 
-  own-read : (own : Own) (within : ℕ) {r m : ℕ} → ownWithin vars cs handler false own within ≡ true → Stands t r (ownRows own within) m
+  own-read : (own : Own) (within : ℕ) {r m : ℕ} → numbersOf own ≡ [] → ownWithin vars cs handler false own within ≡ true → Stands t r (ownRows own within) m
       → headAt vars cs t handler (suc d) n r ≡ found (head own within) m
   unfolding ownWithin ownRows exchangeNumbers partsFit partsAt withExpression headAt
-  own-read empty within h (cons w nil) = known-read w (omega arith) (w .shape) ∙ rw (eqb-true within 0 h)
-  own-read (send p o vs) within h (cons w nil) =
+  own-read empty within i h (cons w nil) = known-read w (omega arith) (w .shape) ∙ rw (eqb-true within 0 h)
+  own-read (send p o vs) within i h (cons w nil) =
       both (eqb within 0) _ h (λ z x. let y : Tupled4 t _ p o vs = tuple4-read {vs = vs} w in
       known-read w (omega arith) (message-read vars false {vs = vs} x w) ∙ rw (y .all, y .two, y .three, eqb-true within 0 z))
-  own-read (receive p o vs) within h (cons w nil) =
+  own-read (receive p o vs) within i h (cons w nil) =
       both (eqb within 0) _ h (λ z x. let y : Tupled4 t _ p o vs = tuple4-read {vs = vs} w in
       known-read w (omega arith) (message-read vars true {vs = vs} x w) ∙ rw (y .all, y .two, y .three, eqb-true within 0 z))
-  own-read (set v e) within h (cons w x) =
+  own-read (set v e) within i h (cons w x) =
       both (eqb within 0) _ h (λ z h1. both (ltb v vars) _ h1 (λ a h2. both (not (among v cs)) _ h2 (λ b q.
       known-read w (omega arith) (rw (second-read w, a, b) (w .shape)) ∙ rw (expression-read vars t e 8 q x, second-read w, eqb-true within 0 z))))
-  own-read (raise zero) within h (cons w nil) = both (eqb within 0) _ h (λ z x. known-read w (omega arith) (w .shape) ∙ rw (eqb-true within 0 z))
-  own-read (raise (suc number)) within h (cons w nil) =
+  own-read (raise zero) within i h (cons w nil) = both (eqb within 0) _ h (λ z x. known-read w (omega arith) (w .shape) ∙ rw (eqb-true within 0 z))
+  own-read (raise (suc number)) within i h (cons w nil) =
       both (eqb within 0) _ h (λ z x. let y = raise-limits number x in
       rw (code-read w (omega arith) (and-false handler), second-read w, le-leb 16 (suc number) (y .0), le-leb (suc number) 255 (omega (arith, y .1)), w .shape, eqb-true within 0 z))
-  own-read leave within h (cons w nil) = known-read w (omega arith) (w .shape) ∙ rw (eqb-true within 0 h)
-  own-read (choose e) within h (cons w x) =
+  own-read leave within i h (cons w nil) = known-read w (omega arith) (w .shape) ∙ rw (eqb-true within 0 h)
+  own-read (choose e) within i h (cons w x) =
       both (eqb within 2) _ h (λ z q. known-read w (omega arith) (w .shape) ∙ rw (expression-read vars t e 8 q x, eqb-true within 2 z))
-  own-read (repeat e) within h (cons w x) =
+  own-read (repeat e) within i h (cons w x) =
       both (eqb within 1) _ h (λ z q. known-read w (omega arith) (w .shape) ∙ rw (expression-read vars t e 8 q x, eqb-true within 1 z))
-  own-read sequence within h (cons w nil) = known-read w (omega arith) (rw (second-read w, h) (w .shape)) ∙ rw (second-read w)
-  own-read flow within h (cons w nil) = known-read w (omega arith) (rw (second-read w, h) (w .shape)) ∙ rw (second-read w)
-  own-read pick within h (cons w nil) = known-read w (omega arith) (rw (second-read w, h) (w .shape)) ∙ rw (second-read w)
-  own-read (scope true) within h (cons w nil) =
-      both (eqb within 3) _ h (λ z x. rw (code-read w (omega arith) (rw (not-true handler x)), w .shape, eqb-true within 3 z))
-  own-read (scope false) within h (cons w nil) =
-      both (eqb within 2) _ h (λ z x. rw (code-read w (omega arith) (rw (not-true handler x)), w .shape, eqb-true within 2 z))
-  own-read (arm p o vs) within h x = absurd (false≢true h)
+  own-read sequence within i h (cons w nil) = known-read w (omega arith) (rw (second-read w, h) (w .shape)) ∙ rw (second-read w)
+  own-read flow within i h (cons w nil) = known-read w (omega arith) (rw (second-read w, h) (w .shape)) ∙ rw (second-read w)
+  own-read pick within i h (cons w nil) = known-read w (omega arith) (rw (second-read w, h) (w .shape)) ∙ rw (second-read w)
+  own-read (scope [] true) within i h (cons w nil) =
+      both (eqb within 3) _ h (λ z x. both (not handler) _ x (λ y v. rw (code-read w (omega arith) (rw (not-true handler y)), w .shape, eqb-true within 3 z)))
+  own-read (scope [] false) within i h (cons w nil) =
+      both (eqb within 2) _ h (λ z x. both (not handler) _ x (λ y v. rw (code-read w (omega arith) (rw (not-true handler y)), w .shape, eqb-true within 2 z)))
+  own-read (scope (number ∷ numbers) undo) within i h x = let z : _≡_ {A = ℕ} 0 1 = cc in absurd (omega arith)
+  own-read (arm p o vs) within i h x = absurd (false≢true h)
+
+  -- a scope with fault parts by number, before its body
+  scope-read : {r : ℕ} → Row t r (14 ∷ []) → handler ≡ false → headAt vars cs t handler (suc d) n r ≡ found numberedHead (r + 1)
+  unfolding headAt partsFit partsAt
+  scope-read w e = rw (code-read w (omega arith) (rw e), w .shape)
 
   arm-own-read : (own : Own) (within : ℕ) {r m : ℕ} → ownWithin vars cs handler true own within ≡ true → Stands t r (ownRows own within) m
-      → ((isScope own ≡ false) × (isPick own ≡ false)) × (armAt vars t n r ≡ found (head own within) m)
+      → ((isScope own ≡ false) × ((isPick own ≡ false) × (numbersOf own ≡ []))) × (armAt vars t n r ≡ found (head own within) m)
   unfolding ownWithin ownRows exchangeNumbers armAt exchangeFits
   arm-own-read (arm p o vs) within {r} h (cons w nil) =
       both (eqb within 1) _ h (λ z q.
       let x = exchange-of vars true p o vs q in
       let y : Tupled3 t r o vs = tuple3-read {vs = vs} w in
       let k : 3 + length vs ≡ suc (suc (suc (length vs))) = omega arith in
-      ((refl, refl), rw (row-read w, x .partner, lt-leb 256 n room, y .all, y .two, x .operation, y .three, x .some, x .most, x .each, k, w .shape, eqb-true within 1 z)))
+      ((refl, (refl, refl)), rw (row-read w, x .partner, lt-leb 256 n room, y .all, y .two, x .operation, y .three, x .some, x .most, x .each, k, w .shape, eqb-true within 1 z)))
   arm-own-read empty within h x = absurd (false≢true h)
   arm-own-read (send p o vs) within h x = absurd (false≢true h)
   arm-own-read (receive p o vs) within h x = absurd (false≢true h)
@@ -263,7 +271,28 @@ module _ (vars : ℕ) (cs t : List ℕ) (handler : Bool) (d n : ℕ) (room : n <
   arm-own-read sequence within h x = absurd (false≢true h)
   arm-own-read flow within h x = absurd (false≢true h)
   arm-own-read pick within h x = absurd (false≢true h)
-  arm-own-read (scope undo) within h x = absurd (false≢true h)
+  arm-own-read (scope ns undo) within h x = absurd (false≢true h)
+
+-- the rows of a scope with fault parts by number, one after the other
+record Scoped (t : List ℕ) (r : ℕ) (numbers : List ℕ) (a : Act) (l : Acts) (n : ℕ) : Type 0 where
+  m : ℕ
+  code : Row t r (14 ∷ [])
+  body : Stands t (r + 1) (actRows a) m
+  many : Row t m (length numbers ∷ [])
+  parts : Stands t (m + 1) (actsRows (rows.alone numbers) l) n
+
+scope-split : {t : List ℕ} {r n : ℕ} (numbers : List ℕ) (a : Act) (l : Acts)
+    → Stands t r ((14 ∷ []) ∷ (actRows a ++ ((length numbers ∷ []) ∷ actsRows (rows.alone numbers) l))) n → Scoped t r numbers a l n
+scope-split {t} {r} {n} numbers a l (cons w x) = go (stands-split t (actRows a) ((length numbers ∷ []) ∷ actsRows (rows.alone numbers) l) x)
+  where
+    tail : {m : ℕ} → Stands t m ((length numbers ∷ []) ∷ actsRows (rows.alone numbers) l) n → Row t m (length numbers ∷ []) × Stands t (m + 1) (actsRows (rows.alone numbers) l) n
+    tail (cons v y) = (v, y)
+
+    go : Split t (r + 1) (actRows a) ((length numbers ∷ []) ∷ actsRows (rows.alone numbers) l) n → Scoped t r numbers a l n
+    go s = let y = tail (s .second) in record { m = s .m; code = w; body = s .first; many = y .0; parts = y .1 }
+
+gaps-none : (t : List ℕ) {r m : ℕ} (gs : List (List ℕ)) (l : Acts) → gs ≡ [] → Stands t r (actsRows gs l) m → Stands t r (actsRows [] l) m
+gaps-none t gs l e x = rw e at x
 
 -- Activities and arms with those within them.
 
@@ -272,44 +301,93 @@ module _ (vars : ℕ) (cs t : List ℕ) where
   ReadsAct a = (arms handler : Bool) (depth n r m : ℕ) → n + size a ≤ 256 → actWithin vars cs handler arms a depth ≡ true → Stands t r (actRows a) m
       → readsAt arms (actAt depth vars cs t) vars t handler n r ≡ found a m
 
-  ReadsAll : Acts → Type 0
-  ReadsAll l = (arms handler later : Bool) (depth n r m : ℕ) → n + sizes l ≤ 256 → actsWithin vars cs handler later arms l depth ≡ true → Stands t r (actsRows l) m
-      → manyIn (readsAt arms (actAt depth vars cs t) vars t) handler later (count l) n r ≡ found l m
+  ReadsEach : Acts → Type 0
+  ReadsEach none = Unit
+  ReadsEach (more a l) = ReadsAct a × ReadsEach l
 
-  act-read : (own : Own) (l : Acts) → ReadsAll l → ReadsAct (act own l)
-  unfolding ReadsAct ReadsAll actWithin actRows size actAt armWith
-  act-read own l all true handler depth n r m room h x =
-      both (ownWithin vars cs handler true own (count l)) _ h (λ a b.
-      let s = stands-split t (ownRows own (count l)) (actsRows l) x in
-      let (k, o) = arm-own-read vars cs t handler 0 n (omega arith) own (count l) a (s .first) in
-      rw (o, all false handler handler depth (n + 1) (s .m) m (omega arith) (rw (k .0, k .1) at b) (s .second)))
-  act-read own l all false handler zero n r m room h x = absurd (false≢true h)
-  act-read own l all false handler (suc d) n r m room h x =
-      both (ltb 0 (suc d)) _ h (λ _ h1. both (ownWithin vars cs handler false own (count l)) _ h1 (λ a b.
-      let s = stands-split t (ownRows own (count l)) (actsRows l) x in
-      rw (
-        own-read vars cs t handler d n (omega arith) own (count l) a (s .first),
-        all (isPick own) handler (laterOf own handler) d (n + 1) (s .m) m (omega arith) (rw (sub-one (suc d)) at b) (s .second),
-      )))
-
-  more-read : (a : Act) (l : Acts) → ReadsAct a → ReadsAll l → ReadsAll (more a l)
-  unfolding ReadsAct ReadsAll actsWithin actsRows sizes count manyIn
-  more-read a l one all arms handler later depth n r m room h x =
+  many-read : (l : Acts) → ReadsEach l → (arms handler later : Bool) (depth n r m : ℕ) → n + sizes l ≤ 256 → actsWithin vars cs handler later arms l depth ≡ true
+      → Stands t r (actsRows [] l) m → manyIn (readsAt arms (actAt depth vars cs t) vars t) handler later (count l) n r ≡ found l m
+  unfolding ReadsAct ReadsEach actsWithin actsRows sizes count manyIn
+  many-read none each arms handler later depth n r m room h nil = refl
+  many-read (more a l) each arms handler after depth n r m room h x =
       both (actWithin vars cs handler arms a depth) _ h (λ p q.
-      let s = stands-split t (actRows a) (actsRows l) x in
-      rw (one-add (count l), one arms handler depth n r (s .m) (omega arith) p (s .first), all arms later later depth (n + size a) (s .m) m (omega arith) q (s .second)))
+      let s = stands-split t (actRows a) (actsRows [] l) x in
+      rw (one-add (count l), each .0 arms handler depth n r (s .m) (omega arith) p (s .first), many-read l (each .1) arms after after depth (n + size a) (s .m) m (omega arith) q (s .second)))
 
-  none-read : ReadsAll none
-  unfolding ReadsAll actsRows count manyIn
-  none-read arms handler later depth n r m room h nil = refl
+  -- fault parts by number, each behind its number, and what follows them
+  count-read : {r k : ℕ} → Row t r (k ∷ []) → from1 8 k ≡ true → countAt t r ≡ found k (r + 1)
+  unfolding countAt
+  count-read w h = rw (row-read w, h, w .shape)
+
+  number-read : {r x : ℕ} (known : List ℕ) → Row t r (x ∷ []) → namable x ≡ true → among x known ≡ false → faultNumberAt t known r ≡ found x (r + 1)
+  unfolding faultNumberAt
+  number-read known w h k = rw (row-read w, h, k, w .shape)
+
+  parts-read : (numbers : List ℕ) (l : Acts) → ReadsEach l → (known : List ℕ) (depth n r m : ℕ) → count l ≡ length numbers + 2 → n + sizes l ≤ 256
+      → actsWithin vars cs true true false l depth ≡ true → numbersEach numbers ≡ true → Apart true known numbers → Stands t r (actsRows (rows.alone numbers) l) m
+      → numberedAt (actAt depth vars cs t) t (length numbers) known n r ≡ found (record { numbers = numbers; parts = l }) m
+  unfolding ReadsAct ReadsEach actsWithin actsRows sizes count numbersEach numberedAt
+  parts-read [] l each known depth n r m many room h f a x = rw (rw many at (many-read l each false true true depth n r m room h x))
+  parts-read (y ∷ ns) none each known depth n r m many room h f a x = absurd (omega arith)
+  parts-read (y ∷ ns) (more b l) each known depth n r m many room h f a (cons w x) =
+      both (actWithin vars cs true false b depth) _ h (λ u v. both (namable y) _ f (λ g f1. both (not (among y ns)) _ f1 (λ i j.
+      let s = stands-split t (actRows b) (actsRows (rows.alone ns) l) x in
+      rw (number-read known w g (apart-first true known ns y a), each .0 false true depth n (r + 1) (s .m) (omega arith) u (s .first),
+      parts-read ns l (each .1) (y ∷ known) depth (n + size b) (s .m) m (omega arith) (omega arith) v j (apart-more known ns y a (not-true _ i)) (s .second)))))
+
+  numbered-read : (number : ℕ) (numbers : List ℕ) (undo : Bool) (l : Acts) → ReadsEach l → (handler : Bool) (d n r m : ℕ) → n + (1 + sizes l) ≤ 256
+      → ownWithin vars cs handler false (scope (number ∷ numbers) undo) (count l) ≡ true → actsWithin vars cs handler true false l d ≡ true
+      → Stands t r (actRows (act (scope (number ∷ numbers) undo) l)) m → actAt (suc d) vars cs t handler n r ≡ found (act (scope (number ∷ numbers) undo) l) m
+  unfolding ReadsAct ReadsEach Apart among ownWithin numbersWithin actsWithin sizes count actAt numberedScopeAt
+  numbered-read y ns undo none each handler d n r m room h k x =
+      both (eqb 0 (length (y ∷ ns) + cond undo 3 2)) _ h (λ e w. let f = eqb-true 0 (length (y ∷ ns) + cond undo 3 2) e in absurd (omega arith))
+  numbered-read y ns false (more b l) each handler d n r m room h k x =
+      both (eqb (count (more b l)) (length (y ∷ ns) + 2)) _ h (λ e h1. both (not handler) _ h1 (λ g h2. absurd (false≢true h2)))
+  numbered-read y ns true (more b l) each handler d n r m room h k x =
+      both (eqb (count (more b l)) (length (y ∷ ns) + 3)) _ h (λ e h1. both (not handler) _ h1 (λ g h2. both (leb (length (y ∷ ns)) 8) _ h2 (λ i j.
+      both (actWithin vars cs handler false b d) _ k (λ u v.
+      let parts : count l ≡ length (y ∷ ns) + 2 = omega (arith, eqb-true (count (more b l)) (length (y ∷ ns) + 3) e) in
+      let s = scope-split (y ∷ ns) b l (rw (scope-rows (y ∷ ns) b l (omega arith) parts) at x) in
+      rw (scope-read vars cs t handler d n (omega arith) (s .code) (not-true handler g), each .0 false handler d (n + 1) (r + 1) (s .m) (omega arith) u (s .body),
+      count-read (s .many) (rw (le-leb 1 (length (y ∷ ns)) (omega arith), i)), parts-read (y ∷ ns) l (each .1) [] d (n + 1 + size b) (s .m + 1) m parts (omega arith) v j (λ w o. refl) (s .parts))))))
+
+  plain-read : (own : Own) (l : Acts) → numbersOf own ≡ [] → ReadsEach l → (handler : Bool) (d n r m : ℕ) → n + (1 + sizes l) ≤ 256
+      → ownWithin vars cs handler false own (count l) ≡ true → actsWithin vars cs handler (laterOf own handler) (isPick own) l d ≡ true
+      → Stands t r (actRows (act own l)) m → actAt (suc d) vars cs t handler n r ≡ found (act own l) m
+  unfolding actRows gapsOf actAt
+  plain-read own l e each handler d n r m room a b x =
+      let y : Stands t r (ownRows own (count l) ++ actsRows [] l) m = rw e at x in
+      let s = stands-split t (ownRows own (count l)) (actsRows [] l) y in
+      rw (own-read vars cs t handler d n (omega arith) own (count l) e a (s .first),
+      many-read l each (isPick own) handler (laterOf own handler) d (n + 1) (s .m) m (omega arith) b (s .second))
+
+  any-read : (own : Own) → ByNumber own → (l : Acts) → ReadsEach l → (handler : Bool) (d n r m : ℕ) → n + (1 + sizes l) ≤ 256
+      → ownWithin vars cs handler false own (count l) ≡ true → actsWithin vars cs handler (laterOf own handler) (isPick own) l d ≡ true
+      → Stands t r (actRows (act own l)) m → actAt (suc d) vars cs t handler n r ≡ found (act own l) m
+  any-read own (plain e) l = plain-read own l e
+  any-read own (numbered y ns undo) l = numbered-read y ns undo l
+
+  act-read : (own : Own) (l : Acts) → ReadsEach l → ReadsAct (act own l)
+  unfolding ReadsAct actWithin actRows gapsOf size armWith
+  act-read own l each true handler depth n r m room h x =
+      both (ownWithin vars cs handler true own (count l)) _ h (λ a b.
+      let s = stands-split t (ownRows own (count l)) (actsRows (gapsOf (numbersOf own)) l) x in
+      let (k, o) = arm-own-read vars cs t handler 0 n (omega arith) own (count l) a (s .first) in
+      rw (o, many-read l each false handler handler depth (n + 1) (s .m) m (omega arith) (rw (k .0, k .1 .0) at b) (gaps-none t (gapsOf (numbersOf own)) l (ap gapsOf (k .1 .1)) (s .second))))
+  act-read own l each false handler zero n r m room h x = absurd (false≢true h)
+  act-read own l each false handler (suc d) n r m room h x =
+      both (ltb 0 (suc d)) _ h (λ _ h1. both (ownWithin vars cs handler false own (count l)) _ h1 (λ a b.
+      any-read own (by-number own) l each handler d n r m room a (rw (sub-one (suc d)) at b) x))
 
   mutual
-    reads-act : (a : Act) → ReadsAct a
-    reads-act (act own l) = act-read own l (reads-all l)
+    unfolding ReadsEach
 
-    reads-all : (l : Acts) → ReadsAll l
-    reads-all none = none-read
-    reads-all (more a l) = more-read a l (reads-act a) (reads-all l)
+    reads-act : (a : Act) → ReadsAct a
+    reads-act (act own l) = act-read own l (reads-each l)
+
+    reads-each : (l : Acts) → ReadsEach l
+    reads-each none = tt
+    reads-each (more a l) = (reads-act a, reads-each l)
 
 -- Plans.
 
@@ -422,10 +500,14 @@ short-own vars cs handler arms (repeat e) within h = (omega arith, short-express
 short-own vars cs handler arms sequence within h = (omega arith, tt)
 short-own vars cs handler arms flow within h = (omega arith, tt)
 short-own vars cs handler arms pick within h = (omega arith, tt)
-short-own vars cs handler arms (scope true) within h = (omega arith, tt)
-short-own vars cs handler arms (scope false) within h = (omega arith, tt)
+short-own vars cs handler arms (scope ns undo) within h = (omega arith, tt)
 short-own vars cs handler arms (arm p o vs) within h =
     both arms _ h (λ a h1. both (eqb within 1) _ h1 (λ b x. (omega (arith, short-exchange vars true p o vs x), tt)))
+
+short-alone : (ns : List ℕ) → Short (rows.alone ns)
+unfolding Short
+short-alone [] = tt
+short-alone (x ∷ ns) = (omega arith, short-alone ns)
 
 mutual
   unfolding actRows actsRows actWithin actsWithin Short
@@ -433,13 +515,15 @@ mutual
   short-act : (vars : ℕ) (cs : List ℕ) (handler arms : Bool) (a : Act) (depth : ℕ) → actWithin vars cs handler arms a depth ≡ true → Short (actRows a)
   short-act vars cs handler arms (act own l) depth h =
       both (arms || ltb 0 depth) _ h (λ a h1. both (ownWithin vars cs handler arms own (count l)) _ h1 (λ b c.
-      short-append (ownRows own (count l)) (actsRows l) (short-own vars cs handler arms own (count l) b) (short-acts vars cs handler _ _ l _ c)))
+      short-append (ownRows own (count l)) (actsRows (gapsOf (numbersOf own)) l) (short-own vars cs handler arms own (count l) b)
+      (short-acts vars cs handler _ _ (gapsOf (numbersOf own)) l _ c)))
 
-  short-acts : (vars : ℕ) (cs : List ℕ) (handler later arms : Bool) (l : Acts) (depth : ℕ) → actsWithin vars cs handler later arms l depth ≡ true → Short (actsRows l)
-  short-acts vars cs handler later arms none depth h = tt
-  short-acts vars cs handler later arms (more a l) depth h =
+  short-acts : (vars : ℕ) (cs : List ℕ) (handler after arms : Bool) (gs : List (List ℕ)) (l : Acts) (depth : ℕ) → actsWithin vars cs handler after arms l depth ≡ true → Short (actsRows gs l)
+  short-acts vars cs handler after arms gs none depth h = tt
+  short-acts vars cs handler after arms gs (more a l) depth h =
       both (actWithin vars cs handler arms a depth) _ h (λ b c.
-      short-append (actRows a) (actsRows l) (short-act vars cs handler arms a depth b) (short-acts vars cs later later arms l depth c))
+      short-append (rows.alone (gap gs)) (actRows a ++ actsRows (later gs) l) (short-alone (gap gs))
+      (short-append (actRows a) (actsRows (later gs) l) (short-act vars cs handler arms a depth b) (short-acts vars cs after after arms (later gs) l depth c)))
 
 pub short-plan : (p : Plan) → Limits p → Short (planRows p)
 unfolding planRows Short

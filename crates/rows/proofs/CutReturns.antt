@@ -4,15 +4,19 @@ use native.Mathlib.Omega.{arith}
 use native.Mathlib.Nat.{add-zero}
 use native.Mathlib.Numerals.{add-one}
 use mathlib.Core.Path.{_≡_, refl, sym, ap, _∙_}
+use mathlib.Core.Bool.{cond}
 use mathlib.Core.List.{List, [], _∷_, _++_}
+use lib.Dec.{eqb, ltb}
 use Prim.Native.Nat.{ℕ, zero, suc, _+_, _*_, _-_, _≤_, _<_}
 use lib.ListN.{length, getD, set, replicate, length-set, length-append, length-replicate}
 use lib.Seq.{sets, length-sets}
+use mir.Syntax.{w64}
+use mir.Val.{Fits}
 use Rattle.numbers.specs.Number.{numberAt}
 use Rattle.numbers.specs.declared.Number.{Number}
 use Rattle.numbers.specs.declared.Number.the-variants.{Value, Short, Bad}
 use Rattle.writer.specs.Rows.{used, line, lines}
-use Rattle.rows.specs.Cut.{valueOf, nextOf, valueIn, nextIn, numbersIn, placeAfter, kindIn, countIn, widthOf, opens, rowWidth, dueAfter, kAfter, cutRows, headWidth, cutPlan}
+use Rattle.rows.specs.Cut.{valueOf, nextOf, valueIn, nextIn, numbersIn, placeAfter, kindIn, countIn, placeIn, kindAt, betweenIn, widthOf, opens, rowWidth, dueAfter, kAfter, cutRows, headWidth, cutPlan}
 use Rattle.writer.proofs.ByteReturns.{sets-append}
 use Rattle.writer.proofs.Lines.{line-long}
 
@@ -145,6 +149,53 @@ pub count-beyond : (t : List ℕ) (k : ℕ) → 256 ≤ k → 0 ≡ countIn t k
 unfolding countIn
 count-beyond t k h = rw (le-ltb k 256 h)
 
+-- `place_of`, `kind_at`
+pub place-there : (t : List ℕ) (k : ℕ) {x : ℕ} → k < 256 → x ≡ getD t (k * 13 + 10) 0 → x ≡ placeIn t k
+unfolding placeIn
+place-there t k h e = e ∙ rw (lt-ltb k 256 h)
+
+pub place-beyond : (t : List ℕ) (k : ℕ) → 256 ≤ k → 0 ≡ placeIn t k
+unfolding placeIn
+place-beyond t k h = rw (le-ltb k 256 h)
+
+module _ (t : List ℕ) (k at : ℕ) {place : ℕ} (e : place ≡ placeIn t k) where
+  pub kind-number : at < place → 0 ≡ kindAt t k at
+  kind-number h = rw (lt-ltb at (placeIn t k) (omega (arith, e)))
+
+  pub kind-own : place ≤ at → {x : ℕ} → x ≡ kindIn t k → x ≡ kindAt t k at
+  kind-own h f = f ∙ rw (le-ltb at (placeIn t k) (omega (arith, e)))
+
+-- `between_of`, `between`
+module _ (t : List ℕ) (k : ℕ) {x : ℕ} (e : x ≡ kindIn t k) where
+  pub between-some : x ≡ 14 → {n : ℕ} → n ≡ countIn t k → n + 1 ≡ cond (eqb (kindIn t k) 14) (countIn t k + 1) 0
+  between-some h f = rw (← e, h, f)
+
+  pub between-none : (x ≡ 14 → ⊥) → 0 ≡ cond (eqb (kindIn t k) 14) (countIn t k + 1) 0
+  between-none h = rw (← e, ne-eqb x 14 h)
+
+pub record Summing (t : List ℕ) (left sum k : ℕ) : Type 0 where
+  pub within : k ≤ left
+  pub same : betweenIn left t 0 ≡ sum + betweenIn (left - k) t k
+  pub few : sum ≤ k * 4294967296
+
+pub summing-starts : (t : List ℕ) (left : ℕ) → Summing t left 0 0
+summing-starts t left = let z : left - 0 ≡ left = omega arith in record { within = omega arith; same = rw z (omega arith); few = omega arith }
+
+module _ {t : List ℕ} {left sum k : ℕ} (w : Summing t left sum k) where
+  pub summing-done : left ≤ k → sum ≡ betweenIn left t 0
+  unfolding betweenIn
+  summing-done h = let z : left - k ≡ 0 = omega arith in let e : betweenIn left t 0 ≡ sum + 0 = w .same ∙ rw z in omega arith
+
+  pub summing-again : k < left → {x : ℕ} → x ≡ cond (eqb (kindIn t k) 14) (countIn t k + 1) 0 → x ≤ 4294967296 → Summing t left (sum + x) (k + 1)
+  unfolding betweenIn
+  summing-again h {x} e l =
+      let z : left - k ≡ suc (left - (k + 1)) = omega arith in
+      let f : betweenIn left t 0 ≡ sum + (x + betweenIn (left - (k + 1)) t (k + 1)) = w .same ∙ rw (z, e) in
+      record { within = omega arith; same = omega arith; few = omega (arith, w .few) }
+
+  pub summing-fits : left ≤ 256 → k < left → {x : ℕ} → x ≤ 4294967296 → Fits w64 (sum + x)
+  summing-fits h g l = omega (arith, w .few)
+
 -- `width_of`
 module _ {kind : ℕ} (count : ℕ) where
   pub width-send : {n : ℕ} → kind ≡ 1 → n ≡ used (4 + count) → n ≡ widthOf kind count
@@ -204,11 +255,11 @@ module _ {kind : ℕ} where
 
 -- `width_at`, `due_after`, `k_after`
 module _ (s t : List ℕ) (k due at : ℕ) where
-  pub width-own : due ≡ 0 → {kind count n : ℕ} → kind ≡ kindIn t k → count ≡ countIn t k → n ≡ widthOf kind count → n ≡ rowWidth s t k due at
+  pub width-own : due ≡ 0 → {kind count n : ℕ} → kind ≡ kindAt t k at → count ≡ countIn t k → n ≡ widthOf kind count → n ≡ rowWidth s t k due at
   unfolding rowWidth
   width-own z e f g = g ∙ rw (z, e, f)
 
-  pub due-own : due ≡ 0 → {kind n : ℕ} → kind ≡ kindIn t k → n ≡ opens kind → n ≡ dueAfter s t k due at
+  pub due-own : due ≡ 0 → {kind n : ℕ} → kind ≡ kindAt t k at → n ≡ opens kind → n ≡ dueAfter s t k due at
   unfolding dueAfter
   due-own z e g = g ∙ rw (z, e)
 
@@ -229,13 +280,18 @@ module _ (s t : List ℕ) (k due at : ℕ) where
     unfolding dueAfter
     due-operation h = rw (ne-eqb _ _ z, ← e, le-ltb v 2 h)
 
-pub k-own : (k : ℕ) {due : ℕ} → due ≡ 0 → k + 1 ≡ kAfter k due
-unfolding kAfter
-k-own k z = rw z
+module _ (t : List ℕ) (k at : ℕ) {due : ℕ} where
+  pub k-own : due ≡ 0 → {place : ℕ} → place ≡ placeIn t k → place ≤ at → k + 1 ≡ kAfter t k due at
+  unfolding kAfter
+  k-own z e h = rw (z, le-ltb at (placeIn t k) (omega (arith, e)))
 
-pub k-same : {k due : ℕ} → (due ≡ 0 → ⊥) → k ≡ kAfter k due
-unfolding kAfter
-k-same z = rw (ne-eqb _ _ z)
+  pub k-number : due ≡ 0 → {place : ℕ} → place ≡ placeIn t k → at < place → k ≡ kAfter t k due at
+  unfolding kAfter
+  k-number z e h = rw (z, lt-ltb at (placeIn t k) (omega (arith, e)))
+
+  pub k-same : (due ≡ 0 → ⊥) → k ≡ kAfter t k due at
+  unfolding kAfter
+  k-same z = rw (ne-eqb _ _ z)
 
 -- `head_width`
 pub head-wide : (s : List ℕ) {a b c n : ℕ} → a ≡ nextIn s 0 → b ≡ nextIn s a → c ≡ valueIn s b → n ≡ used (3 + c) → n ≡ headWidth s
@@ -263,14 +319,14 @@ module _ {s t : List ℕ} {left from : ℕ} {out₀ out : List ℕ} {k due at i 
   pub cutting-room : (left + 1) * 20 ≤ length out₀ → i < left → (i + 1) * 20 + 20 ≤ length out
   cutting-room h g = omega (arith, w .long)
 
-  pub cutting-k : left ≤ 8192 → i < left → k ≤ 4294967295
+  pub cutting-k : left ≤ 16384 → i < left → k ≤ 4294967295
   cutting-k h g = omega (arith, w .few)
 
-  pub cutting-due : left ≤ 8192 → i < left → due ≤ 4294967295
+  pub cutting-due : left ≤ 16384 → i < left → due ≤ 4294967295
   cutting-due h g = omega (arith, w .some)
 
   pub cutting-again : i < left → {width k₁ due₁ at₁ : ℕ} {out₁ : List ℕ} → width ≡ rowWidth s t k due at → width ≤ 19 → due₁ ≡ dueAfter s t k due at → due₁ ≤ due + 1
-      → k₁ ≡ kAfter k due → k₁ ≤ k + 1 → at₁ ≡ placeAfter width s at → out₁ ≡ sets out ((i + 1) * 20) (line (numbersIn width s at))
+      → k₁ ≡ kAfter t k due at → k₁ ≤ k + 1 → at₁ ≡ placeAfter width s at → out₁ ≡ sets out ((i + 1) * 20) (line (numbersIn width s at))
       → Cutting s t left from out₀ out₁ k₁ due₁ at₁ (i + 1)
   unfolding cutRows lines
   cutting-again h {width} {k₁} {due₁} {at₁} {out₁} e l f m g n a o =

@@ -17,16 +17,16 @@ use Rattle.plan.specs.Agree.{Asked, agreesWith, agreeAfter, agree, asked, asked
 use Rattle.plan.specs.Found.{Found, refused, found, andThen, numberIn, fieldIn, among}
 use Rattle.plan.specs.Spell.{spell}
 use Rattle.plan.specs.Tree.{Exp, Own, send, receive, set, choose, repeat, sequence, flow, pick, arm, isPick, Act, Plan, size}
-use Rattle.plan.specs.Read.{expressionCodeIn, leafIn, expressionIn, variablesIn, tupleIn, Head, head, exchangeIn, armIn, partnerIn, withExpressionIn, setIn, listIn, raiseIn, codeIn, partsIn, headIn, manyIn, wholeIn, readArm, readsIn, laterOf, readAct, startForm, correlationIn, versionIn, closing, rootIn, readAny, readPlan}
+use Rattle.plan.specs.Read.{expressionCodeIn, leafIn, expressionIn, variablesIn, tupleIn, Head, head, exchangeIn, armIn, partnerIn, withExpressionIn, setIn, listIn, raiseIn, namable, faultNumberIn, isScopeCode, codeIn, partsIn, headIn, manyIn, numberedHead, numberedIn, numberedScopeIn, wholeIn, readArm, readsIn, laterOf, readAct, startForm, correlationIn, versionIn, closing, rootIn, readAny, readPlan}
 use Rattle.plan.specs.Within.{variablesWithin, from1, ascending}
 use Rattle.plan.proofs.Accepts.{both, among-append}
 use Rattle.plan.proofs.Agreeing.{judged-agrees}
 use Rattle.writer.specs.Rows.{used, rowNumbers, numbersFrom, numbersOf}
-use Rattle.writer.specs.Reading.{cell, shaped, rowIn, expressionFits, expressionHead, expressionAt, tuple, exchangeFits, armAt, codeAt, partsFit, withExpression, partsAt, headAt, armWith, readsAt, actAt, closingAt, rootAt, headFits, planAt, inRows, agreedAt, readRows}
+use Rattle.writer.specs.Reading.{cell, shaped, rowIn, expressionFits, expressionHead, expressionAt, tuple, exchangeFits, armAt, codeAt, partsFit, withExpression, partsAt, headAt, countAt, faultNumberAt, numberedAt, numberedScopeAt, wholeAt, armWith, readsAt, actAt, closingAt, rootAt, headFits, planAt, inRows, agreedAt, readRows}
 use Rattle.writer.proofs.Lines.{cells-cons}
 use Rattle.writer.proofs.WriteReturns.{rows-spell}
 use Rattle.rows.proofs.SamePlaces.{rows-agree}
-use Rattle.rows.specs.Counted.{Part, aHead, anActivity, anArm, anExpression, activityAsks, asks, times, activityHas, has, countedFrom, counted}
+use Rattle.rows.specs.Counted.{Part, aHead, anActivity, anArm, anExpression, aCount, aNumber, activityAsks, asks, times, activityHas, numberedHas, has, countedFrom, counted}
 use Rattle.rows.proofs.TableLimits.{Words}
 
 -- a number at a place from which it and others are spelled; and where nothing is spelled
@@ -157,6 +157,8 @@ module _ (t s : List ℕ) (words : Words t) where
       (cond-some (eqb (cell t r 1) 3 || (eqb (cell t r 1) 8 || (eqb (cell t r 1) 9 || (eqb (cell t r 1) 10 || eqb (cell t r 1) 13)))) 2 1 (omega arith) (omega arith))
   asks-some anArm r = omega arith
   asks-some anExpression r = cond-some (leb (cell t r 1) 1) 2 1 (omega arith) (omega arith)
+  asks-some aCount r = omega arith
+  asks-some aNumber r = omega arith
 
   -- the first number of a row that is to stand for p; or the rows and the bytes run out
   data Starts (p : Part) (ps : List Part) (r q : ℕ) : Type 0 where
@@ -344,27 +346,30 @@ module _ (t s : List ℕ) (words : Words t) where
 
   -- What is found of an activity or arm before those within it; behind it come those within, each of which is to stand for what f says.
   data Heads (f : Own → Part) (ps : List Part) : Found Head → Found Head → Type 0 where
-    head-met : {h : Head} {r q : ℕ} → Here (replicate (h .within) (f (h .own)) ++ ps) r q → Heads f ps (found h r) (found h q)
+    head-met : {h : Head} {r q : ℕ} → h .numbered ≡ false → Here (replicate (h .within) (f (h .own)) ++ ps) r q → Heads f ps (found h r) (found h q)
+    numbered-met : {r q : ℕ} → Here (anActivity ∷ aCount ∷ ps) r q → Heads f ps (found numberedHead r) (found numberedHead q)
     head-same : {n r q : ℕ} → Heads f ps (refused n r) (refused n q)
 
   heads-then : {f : Own → Part} {ps : List Part} {x y : Found Head} {A : Type 0} {u v : Head → ℕ → Found A} → Heads f ps x y
-      → ((h : Head) (r q : ℕ) → Here (replicate (h .within) (f (h .own)) ++ ps) r q → Meets ps (u h r) (v h q)) → Meets ps (andThen x u) (andThen y v)
-  heads-then (head-met h) k = k _ _ _ h
-  heads-then head-same k = same
+      → ((h : Head) (r q : ℕ) → h .numbered ≡ false → Here (replicate (h .within) (f (h .own)) ++ ps) r q → Meets ps (u h r) (v h q))
+      → ((r q : ℕ) → Here (anActivity ∷ aCount ∷ ps) r q → Meets ps (u numberedHead r) (v numberedHead q)) → Meets ps (andThen x u) (andThen y v)
+  heads-then (head-met e h) k m = k _ _ _ e h
+  heads-then (numbered-met h) k m = m _ _ h
+  heads-then head-same k m = same
 
   here-as : {ps qs : List Part} {r q : ℕ} → ps ≡ qs → Here ps r q → Here qs r q
   here-as {r = r} {q = q} e h = subst (λ (z : List Part). Here z r q) e h
 
-  meets-heads : {f : Own → Part} {ps qs : List Part} {A : Type 0} {x y : Found A} → Meets qs x y → (g : A → Head)
+  meets-heads : {f : Own → Part} {ps qs : List Part} {A : Type 0} {x y : Found A} → Meets qs x y → (g : A → Head) → ((a : A) → g a .numbered ≡ false)
       → ((a : A) → qs ≡ replicate (g a .within) (f (g a .own)) ++ ps) → Heads f ps (andThen x (λ a n. found (g a) n)) (andThen y (λ a n. found (g a) n))
-  meets-heads (met {a = a} h) g e = head-met (here-as (e a) h)
-  meets-heads same g e = head-same
+  meets-heads (met {a = a} h) g d e = head-met (d a) (here-as (e a) h)
+  meets-heads same g d e = head-same
 
-  tuple-heads : {f : Own → Part} {ps qs : List Part} {r : ℕ} {good : Bool} {vs : List ℕ} {x : Found (List ℕ)} → Tuple qs r good vs x → (g : List ℕ → Head)
+  tuple-heads : {f : Own → Part} {ps qs : List Part} {r : ℕ} {good : Bool} {vs : List ℕ} {x : Found (List ℕ)} → Tuple qs r good vs x → (g : List ℕ → Head) → ((us : List ℕ) → g us .numbered ≡ false)
       → ((us : List ℕ) → qs ≡ replicate (g us .within) (f (g us .own)) ++ ps)
       → Heads f ps (cond good (found (g vs) (r + 1)) (refused 5 r)) (andThen x (λ us q. found (g us) q))
-  tuple-heads {vs = vs} (all e h) g d = rw e (head-met (here-as (d vs) h))
-  tuple-heads (wrong e) g d = rw e head-same
+  tuple-heads {vs = vs} (all e h) g i d = rw e (head-met (i vs) (here-as (d vs) h))
+  tuple-heads (wrong e) g i d = rw e head-same
 
   -- the numbers of a send, a receive or an arm from the operation on
   exchange-heads : (f : Own → Part) (ps : List Part) (vars : ℕ) (once : Bool) (own : ℕ → List ℕ → Own) (within c : ℕ) {qs : List Part} {r q k : ℕ} → Inside qs r c (suc (suc k)) q
@@ -403,7 +408,7 @@ module _ (t s : List ℕ) (words : Words t) where
           rw (y .is)
           (decide (leb 1 n)
           (λ i. decide (leb n 4)
-          (λ j. rw (i, j, le-ltb n 1 (leb-true 1 n i), lt-leb 5 n (omega (arith, leb-true n 4 j)), sh, and-true (variablesWithin vars once vs)) (tuple-heads (read j) (λ us. head (own v us) within) (d v)))
+          (λ j. rw (i, j, le-ltb n 1 (leb-true 1 n i), lt-leb 5 n (omega (arith, leb-true n 4 j)), sh, and-true (variablesWithin vars once vs)) (tuple-heads (read j) (λ us. head (own v us) within) (λ us. refl) (d v)))
           (λ j. rw (i, j, le-ltb n 1 (leb-true 1 n i), le-leb 5 n (omega (arith, leb-false n 4 j))) head-same))
           (λ i. rw (i, lt-ltb n 1 (omega (arith, leb-false 1 n i))) head-same))
 
@@ -447,29 +452,33 @@ module _ (t s : List ℕ) (words : Words t) where
     -- no other number
     coded-empty : Coded 0
     unfolding activityAsks activityHas partsFit partsAt partsIn
-    coded-empty k sh e w = rw sh (head-met (leaves (inside-as refl (omega (arith, e)) w)))
+    coded-empty k sh e w = rw sh (head-met refl (leaves (inside-as refl (omega (arith, e)) w)))
 
     coded-raise : Coded 4
     unfolding activityAsks activityHas partsFit partsAt partsIn
-    coded-raise k sh e w = rw sh (head-met (leaves (inside-as refl (omega (arith, e)) w)))
+    coded-raise k sh e w = rw sh (head-met refl (leaves (inside-as refl (omega (arith, e)) w)))
 
     coded-leave : Coded 5
     unfolding activityAsks activityHas partsFit partsAt partsIn
-    coded-leave k sh e w = rw sh (head-met (leaves (inside-as refl (omega (arith, e)) w)))
+    coded-leave k sh e w = rw sh (head-met refl (leaves (inside-as refl (omega (arith, e)) w)))
 
     coded-scope : Coded 11
     unfolding activityAsks activityHas partsFit partsAt partsIn
-    coded-scope k sh e w = rw sh (head-met (leaves (inside-as refl (omega (arith, e)) w)))
+    coded-scope k sh e w = rw sh (head-met refl (leaves (inside-as refl (omega (arith, e)) w)))
 
     coded-open : Coded 12
     unfolding activityAsks activityHas partsFit partsAt partsIn
-    coded-open k sh e w = rw sh (head-met (leaves (inside-as refl (omega (arith, e)) w)))
+    coded-open k sh e w = rw sh (head-met refl (leaves (inside-as refl (omega (arith, e)) w)))
+
+    coded-numbered : Coded 14
+    unfolding activityAsks activityHas partsFit partsAt partsIn
+    coded-numbered k sh e w = rw sh (numbered-met (leaves (inside-as refl (omega (arith, e)) w)))
 
     -- an expression
     with-heads : (own : Exp → Own) (within : ℕ) (qs : List Part) → ((e : Exp) → qs ≡ replicate within (within-of (own e)) ++ ps) → (a b : ℕ) → Here (anExpression ∷ qs) a b
         → Heads within-of ps (withExpression vars t own within a) (withExpressionIn vars s own within b)
     unfolding withExpression withExpressionIn
-    with-heads own within qs d a b h = meets-heads (expression-meets 8 vars qs a b h) (λ e. head (own e) within) d
+    with-heads own within qs d a b h = meets-heads (expression-meets 8 vars qs a b h) (λ e. head (own e) within) (λ e. refl) d
 
     coded-choose : Coded 6
     unfolding activityAsks activityHas partsFit partsAt partsIn
@@ -525,7 +534,7 @@ module _ (t s : List ℕ) (words : Words t) where
         rw (x .is, sh)
         (decide (leb 16 v)
         (λ i. decide (leb v 255)
-        (λ j. rw (i, j, le-ltb v 16 (leb-true 16 v i), lt-leb 256 v (omega (arith, leb-true v 255 j))) (head-met (leaves (x .inside))))
+        (λ j. rw (i, j, le-ltb v 16 (leb-true 16 v i), lt-leb 256 v (omega (arith, leb-true v 255 j))) (head-met refl (leaves (x .inside))))
         (λ j. rw (i, j, le-ltb v 16 (leb-true 16 v i), le-leb 256 v (omega (arith, leb-false v 255 j))) head-same))
         (λ i. rw (i, lt-ltb v 16 (omega (arith, leb-false 16 v i))) head-same))
 
@@ -539,7 +548,7 @@ module _ (t s : List ℕ) (words : Words t) where
         rw (x .is, sh)
         (decide (leb 1 n)
         (λ i. decide (leb n most)
-        (λ j. rw (i, j, le-ltb n 1 (leb-true 1 n i), lt-leb (suc most) n (omega (arith, leb-true n most j))) (head-met (here-as (d j) (leaves (x .inside)))))
+        (λ j. rw (i, j, le-ltb n 1 (leb-true 1 n i), lt-leb (suc most) n (omega (arith, leb-true n most j))) (head-met refl (here-as (d j) (leaves (x .inside)))))
         (λ j. rw (i, j, le-ltb n 1 (leb-true 1 n i), le-leb (suc most) n (omega (arith, leb-false n most j))) head-same))
         (λ i. rw (i, lt-ltb n 1 (omega (arith, leb-false 1 n i))) head-same))
 
@@ -565,7 +574,7 @@ module _ (t s : List ℕ) (words : Words t) where
     unfolding activityAsks activityHas partsFit partsAt partsIn
     coded-pick k sh e w = list-heads pick 8 k sh e w
 
-    coded : (c : ℕ) → c ≤ 13 → Coded c
+    coded : (c : ℕ) → c ≤ 14 → Coded c
     coded zero h = coded-empty
     coded (suc zero) h = coded-send
     coded (suc (suc zero)) h = coded-receive
@@ -580,7 +589,8 @@ module _ (t s : List ℕ) (words : Words t) where
     coded (suc (suc (suc (suc (suc (suc (suc (suc (suc (suc (suc zero))))))))))) h = coded-scope
     coded (suc (suc (suc (suc (suc (suc (suc (suc (suc (suc (suc (suc zero)))))))))))) h = coded-open
     coded (suc (suc (suc (suc (suc (suc (suc (suc (suc (suc (suc (suc (suc zero))))))))))))) h = coded-number
-    coded (suc (suc (suc (suc (suc (suc (suc (suc (suc (suc (suc (suc (suc (suc n)))))))))))))) h = absurd (omega arith)
+    coded (suc (suc (suc (suc (suc (suc (suc (suc (suc (suc (suc (suc (suc (suc zero)))))))))))))) h = coded-numbered
+    coded (suc (suc (suc (suc (suc (suc (suc (suc (suc (suc (suc (suc (suc (suc (suc n))))))))))))))) h = absurd (omega arith)
 
   -- an activity before those within it
   activity-heads : (vars : ℕ) (cs : List ℕ) (handler : Bool) (depth n : ℕ) (ps : List Part) (r q : ℕ) → Here (anActivity ∷ ps) r q
@@ -592,10 +602,10 @@ module _ (t s : List ℕ) (words : Words t) where
       go (ends a b) = rw (a, b) head-same
       go (begins w a k e x) =
           rw (a, x .is)
-          (decide (ltb 13 (cell t r 1)) (λ i. rw i head-same)
-          (λ i. rw i (decide (handler && (eqb (cell t r 1) 11 || eqb (cell t r 1) 12)) (λ j. rw j head-same)
+          (decide (ltb 14 (cell t r 1)) (λ i. rw i head-same)
+          (λ i. rw i (decide (handler && isScopeCode (cell t r 1)) (λ j. rw j head-same)
           (λ j. rw j (decide (eqb depth 0 || leb 256 n) (λ b. rw b head-same)
-          (λ b. rw b (coded vars cs ps r (x .next) (cell t r 1) (ltb-false 13 (cell t r 1) i) k (w .shape) e (x .inside))))))))
+          (λ b. rw b (coded vars cs ps r (x .next) (cell t r 1) (ltb-false 14 (cell t r 1) i) k (w .shape) e (x .inside))))))))
 
   -- Those within: two readers of one that go side by side.
   abbrev Ones : Part → (one two : Bool → ℕ → ℕ → Found Act) → Type 0
@@ -609,14 +619,73 @@ module _ (t s : List ℕ) (words : Words t) where
       meets-then (k handler n (replicate left p ++ ps) r q h) (λ a u v i.
       meets-then (many-meets p one two k later later left (n + size a) ps u v i) (λ l y z d. met d))
 
-  whole-meets : (p : Part) (one two : Bool → ℕ → ℕ → Found Act) → Ones p one two → (handler later : Bool) (n : ℕ) (h : Head) (ps : List Part) (r q : ℕ) → Here (replicate (h .within) p ++ ps) r q
-      → Meets ps (wholeIn one handler later n h r) (wholeIn two handler later n h q)
-  whole-meets p one two k handler later n h ps r q i = meets-then (many-meets p one two k handler later (h .within) (n + 1) ps r q i) (λ l u v d. met d)
+  -- the count of fault parts by number, and what follows it
+  data Counts (ps : List Part) : Found ℕ → Found ℕ → Type 0 where
+    count-met : {k r q : ℕ} → Here (numberedHas k ++ ps) r q → Counts ps (found k r) (found k q)
+    count-same : {n r q : ℕ} → Counts ps (refused n r) (refused n q)
+
+  counts-then : {ps : List Part} {x y : Found ℕ} {A : Type 0} {u v : ℕ → ℕ → Found A} → Counts ps x y
+      → ((k r q : ℕ) → Here (numberedHas k ++ ps) r q → Meets ps (u k r) (v k q)) → Meets ps (andThen x u) (andThen y v)
+  counts-then (count-met h) k = k _ _ _ h
+  counts-then count-same k = same
+
+  counts-meet : (ps : List Part) (r q : ℕ) → Here (aCount ∷ ps) r q → Counts ps (countAt t r) (fieldIn s 1 9 q)
+  unfolding countAt fieldIn asks has
+  counts-meet ps r q h = go (starts h)
+    where
+      n : ℕ
+      n = cell t r 1
+
+      go : Starts aCount ps r q → Counts ps (countAt t r) (fieldIn s 1 9 q)
+      go (ends a b) = rw (a, b) count-same
+      go (begins w a k e x) =
+          rw (a, x .is, w .shape)
+          (decide (leb 1 n)
+          (λ i. decide (leb n 8)
+          (λ j.
+          let y : Inside (numberedHas n ++ ps) r 2 0 (x .next) = inside-as (rw j) (omega (arith, e)) (x .inside) in
+          rw (i, j, le-ltb n 1 (leb-true 1 n i), lt-leb 9 n (omega (arith, leb-true n 8 j))) (count-met (leaves y)))
+          (λ j. rw (i, j, le-ltb n 1 (leb-true 1 n i), le-leb 9 n (omega (arith, leb-false n 8 j))) count-same))
+          (λ i. rw (i, lt-ltb n 1 (omega (arith, leb-false 1 n i))) count-same))
+
+  -- the number of a fault part
+  number-meets : (known : List ℕ) (ps : List Part) (r q : ℕ) → Here (aNumber ∷ ps) r q → Meets ps (faultNumberAt t known r) (faultNumberIn s known q)
+  unfolding faultNumberAt faultNumberIn asks has
+  number-meets known ps r q h = go (starts h)
+    where
+      go : Starts aNumber ps r q → Meets ps (faultNumberAt t known r) (faultNumberIn s known q)
+      go (ends a b) = rw (a, b) same
+      go (begins w a k e x) =
+          let y : Inside ps r 2 0 (x .next) = inside-as refl (omega (arith, e)) (x .inside) in
+          rw (a, x .is, w .shape)
+          (decide (namable (cell t r 1) && not (among (cell t r 1) known)) (λ i. rw i (met (leaves y))) (λ i. rw i same))
+
+  -- fault parts by number, and what follows them
+  numbered-meets : (one two : Bool → ℕ → ℕ → Found Act) → Ones anActivity one two → (left : ℕ) (known : List ℕ) (n : ℕ) (ps : List Part) (r q : ℕ) → Here (numberedHas left ++ ps) r q
+      → Meets ps (numberedAt one t left known n r) (numberedIn two s left known n q)
+  unfolding numberedAt numberedIn numberedHas
+  numbered-meets one two k zero known n ps r q h = meets-then (many-meets anActivity one two k true true 2 n ps r q h) (λ l u v d. met d)
+  numbered-meets one two k (suc left) known n ps r q h =
+      meets-then (number-meets known (anActivity ∷ (numberedHas left ++ ps)) r q h) (λ x u v i.
+      meets-then (k true n (numberedHas left ++ ps) u v i) (λ a y z d.
+      meets-then (numbered-meets one two k left (x ∷ known) (n + size a) ps y z d) (λ c e f g. met g)))
+
+  scope-meets : (one two : Bool → ℕ → ℕ → Found Act) → Ones anActivity one two → (handler : Bool) (n : ℕ) (ps : List Part) (r q : ℕ) → Here (anActivity ∷ aCount ∷ ps) r q
+      → Meets ps (numberedScopeAt one t handler n r) (numberedScopeIn two s handler n q)
+  unfolding numberedScopeAt numberedScopeIn
+  scope-meets one two k handler n ps r q h =
+      meets-then (k handler (n + 1) (aCount ∷ ps) r q h) (λ b u v i.
+      counts-then (counts-meet ps u v i) (λ m y z d.
+      meets-then (numbered-meets one two k m [] (n + 1 + size b) ps y z d) (λ c e f g. met g)))
+
+  whole-meets : (p : Part) (one two : Bool → ℕ → ℕ → Found Act) → Ones p one two → (handler later : Bool) (n : ℕ) (h : Head) (ps : List Part) (r q : ℕ) → h .numbered ≡ false
+      → Here (replicate (h .within) p ++ ps) r q → Meets ps (wholeAt one t handler later n h r) (wholeIn two s handler later n h q)
+  whole-meets p one two k handler later n h ps r q e i = rw e (meets-then (many-meets p one two k handler later (h .within) (n + 1) ps r q i) (λ l u v d. met d))
 
   arms-meet : (one two : Bool → ℕ → ℕ → Found Act) (vars : ℕ) → Ones anActivity one two → Ones anArm (armWith one vars t) (readArm two vars s)
   unfolding armWith readArm
   arms-meet one two vars k handler n ps r q h =
-      heads-then (arm-heads vars n ps r q h) (λ d u v i. whole-meets anActivity one two k handler handler n d ps u v i)
+      heads-then (arm-heads vars n ps r q h) (λ d u v e i. whole-meets anActivity one two k handler handler n d ps u v e i) (λ u v i. scope-meets one two k handler n ps u v i)
 
   reads-meet : (one two : Bool → ℕ → ℕ → Found Act) (vars : ℕ) → Ones anActivity one two → (b : Bool) → Ones (cond b anArm anActivity) (cond b (armWith one vars t) one) (cond b (readArm two vars s) two)
   reads-meet one two vars k true = arms-meet one two vars k
@@ -624,11 +693,12 @@ module _ (t s : List ℕ) (words : Words t) where
 
   activity-meets : (depth vars : ℕ) (cs : List ℕ) → Ones anActivity (actAt depth vars cs t) (readAct depth vars cs s)
   unfolding actAt readAct
-  activity-meets zero vars cs handler n ps r q h = heads-then (activity-heads vars cs handler 0 n ps r q h) (λ d u v i. same)
+  activity-meets zero vars cs handler n ps r q h = heads-then (activity-heads vars cs handler 0 n ps r q h) (λ d u v e i. same) (λ u v i. same)
   activity-meets (suc depth) vars cs handler n ps r q h =
-      heads-then (activity-heads vars cs handler (suc depth) n ps r q h) (λ d u v i.
+      heads-then (activity-heads vars cs handler (suc depth) n ps r q h) (λ d u v e i.
       whole-meets (within-of (d .own)) (readsAt (isPick (d .own)) (actAt depth vars cs t) vars t) (readsIn (d .own) (readAct depth vars cs s) vars s)
-      (reads-meet (actAt depth vars cs t) (readAct depth vars cs s) vars (activity-meets depth vars cs) (isPick (d .own))) handler (laterOf (d .own) handler) n d ps u v i)
+      (reads-meet (actAt depth vars cs t) (readAct depth vars cs s) vars (activity-meets depth vars cs) (isPick (d .own))) handler (laterOf (d .own) handler) n d ps u v e i)
+      (λ u v i. scope-meets (actAt depth vars cs t) (readAct depth vars cs s) (activity-meets depth vars cs) handler n ps u v i)
 
   -- The head: its correlation variables, each below `vars` and above the one before.
   correlation-meet : (vars : ℕ) (left least : ℕ) (read : List ℕ) {ps : List Part} {r c q : ℕ} → Inside ps r c left q

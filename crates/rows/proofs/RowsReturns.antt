@@ -21,14 +21,14 @@ use Rattle.plan.proofs.Bounds.{act-nodes-spelled}
 use Rattle.plan.proofs.Limits.{accepted-is-within}
 use Rattle.plan.proofs.Spelled.{accepted-is-spelled}
 use Rattle.plan.proofs.Stands.{spell-append}
-use Rattle.plan.proofs.TableSpells.{accepted-spells}
+use Rattle.plan.proofs.TableSpells.{accepted-spells, plan-length}
 use Rattle.writer.specs.declared.Answer.{Answer}
 use Rattle.writer.specs.declared.Answer.the-variants.{Wrote}
-use Rattle.rows.specs.Cut.{cutPlan}
+use Rattle.rows.specs.Cut.{betweenIn, cutPlan}
 use Rattle.writer.specs.Rows.{lines, planRows, rowsOf}
 use Rattle.writer.specs.Written.{rowsAnswer, rowsFor}
 use Rattle.rows.proofs.Completes.{Limits, limits}
-use Rattle.rows.proofs.Cuts.{rows-many, table-long, plan-cut}
+use Rattle.rows.proofs.Cuts.{betweenOf, rows-many, plan-between, between-few, table-long, plan-cut}
 
 module _ {r : plan.Answer} {number place : ℕ} where
   no-answer : (g : Found Plan) (room : ℕ) → r ≡ answerOf g → r ≡ plan.Answer.Refused number place → Answer.Refused number place ≡ rowsAnswer g room
@@ -66,26 +66,13 @@ table-is : (g : Found Plan) {p : Plan} {next : ℕ} {t : List ℕ} → g ≡ fou
 unfolding tableInto
 table-is g e w = w ∙ rw e
 
+-- the bytes of the root's parts are no more than those of the plan
+parts-few : (p : Plan) → length (spell (actNumbers (p .body))) + length (spell (actNumbers (p .fault))) ≤ length (spelling p)
+parts-few p = omega (arith, plan-length p)
+
 -- no more nodes than bytes
 nodes-few : (p : Plan) → nodes (p .body) + nodes (p .fault) ≤ length (spelling p)
-unfolding spelling planNumbers spell
-nodes-few p =
-    let a = actNumbers (p .body) in
-    let b = actNumbers (p .fault) in
-    let cs = p .correlation in
-    let n = length cs in
-    omega (
-      arith,
-      length-append (shortest 1) (shortest (p .variables) ++ (shortest n ++ spell (cs ++ (a ++ b)))),
-      length-append (shortest (p .variables)) (shortest n ++ spell (cs ++ (a ++ b))),
-      length-append (shortest n) (spell (cs ++ (a ++ b))),
-      ap length (spell-append cs (a ++ b)),
-      length-append (spell cs) (spell (a ++ b)),
-      ap length (spell-append a b),
-      length-append (spell a) (spell b),
-      act-nodes-spelled (p .body),
-      act-nodes-spelled (p .fault),
-    )
+nodes-few p = omega (arith, parts-few p, act-nodes-spelled (p .body), act-nodes-spelled (p .fault))
 
 module _ (s : List ℕ) {r : plan.Answer} {vars acts m : ℕ} (e : r ≡ answerOf (readPlan s)) (o : r ≡ Accepted vars acts m) where
   x : Got (readPlan s) acts m
@@ -94,45 +81,60 @@ module _ (s : List ℕ) {r : plan.Answer} {vars acts m : ℕ} (e : r ≡ answerO
   l : Limits (x .p)
   l = limits (x .p) (accepted-is-within s (x .is))
 
-  pub rows-few : acts + m ≤ 8192
-  rows-few = omega (arith, x .many, x .rest, l .room, l .short, nodes-few (x .p))
+  pub rows-acts : acts ≤ 256
+  rows-acts = omega (arith, x .many, l .room)
 
-  pub rows-fit : Fits w64 (acts + m)
-  rows-fit = omega (arith, rows-few)
+  pub rows-first : Fits w64 (acts + m)
+  rows-first = omega (arith, x .many, x .rest, l .room, l .short, nodes-few (x .p))
 
-  counted : length (planRows (x .p)) ≡ acts + m + 1
-  counted = omega (arith, rows-many (x .p) l, x .many, x .rest)
+  -- b is the count of the numbers between parts, by the table
+  module _ {t : List ℕ} (w : t ≡ tableFor (readPlan s)) {b : ℕ} (f : b ≡ betweenIn acts t 0) where
+    between-is : b ≡ betweenOf (x .p .body) + betweenOf (x .p .fault)
+    between-is =
+        let i = table-is (readPlan s) (x .is) w in
+        f ∙ (ap (λ (n : ℕ). betweenIn n t 0) (x .many) ∙ ap (λ (u : List ℕ). betweenIn (size (x .p .body) + size (x .p .fault)) u 0) i) ∙ plan-between (x .p) l (tableOf (x .p)) (accepted-spells s (x .is))
 
-  long : length (rowsOf (x .p)) ≡ (acts + m + 1) * 20
-  long = omega (arith, table-long (x .p) l, counted)
+    pub rows-few : acts + m + b ≤ 16384
+    rows-few =
+        let c = between-few (x .p) l in
+        omega (arith, x .many, x .rest, l .room, l .short, nodes-few (x .p), between-is, c .0, c .1, parts-few (x .p))
 
-  module _ (out : List ℕ) (h : length out / 20 ≤ acts + m) where
-    short : length out < length (rowsOf (x .p))
-    short = omega (arith, long)
+    pub rows-fit : Fits w64 (acts + m + b)
+    rows-fit = omega (arith, rows-few)
 
-    pub rows-short : Answer.Refused 18 0 ≡ rowsAnswer (readPlan s) (length out)
-    unfolding rowsAnswer
-    rows-short = rw (x .is, lt-ltb (length out) (length (rowsOf (x .p))) short)
+    counted : length (planRows (x .p)) ≡ acts + m + b + 1
+    counted = omega (arith, rows-many (x .p) l, x .many, x .rest, between-is)
 
-    pub rows-short-table : out ≡ rowsFor (readPlan s) out
-    unfolding rowsFor
-    rows-short-table = rw (x .is, lt-ltb (length out) (length (rowsOf (x .p))) short)
+    long : length (rowsOf (x .p)) ≡ (acts + m + b + 1) * 20
+    long = omega (arith, table-long (x .p) l, counted)
 
-  module _ (out : List ℕ) (h : acts + m < length out / 20) where
-    pub rows-room : (acts + m + 1) * 20 ≤ length out
-    rows-room = omega arith
+    module _ (out : List ℕ) (h : length out / 20 ≤ acts + m + b) where
+      short : length out < length (rowsOf (x .p))
+      short = omega (arith, long)
 
-    room : length (rowsOf (x .p)) ≤ length out
-    room = omega (arith, long, rows-room)
+      pub rows-short : Answer.Refused 18 0 ≡ rowsAnswer (readPlan s) (length out)
+      unfolding rowsAnswer
+      rows-short = rw (x .is, lt-ltb (length out) (length (rowsOf (x .p))) short)
 
-    pub rows-yes : Wrote ((acts + m + 1) * 20) ≡ rowsAnswer (readPlan s) (length out)
-    unfolding rowsAnswer
-    rows-yes =
-        let g : Wrote (length (rowsOf (x .p))) ≡ rowsAnswer (readPlan s) (length out) = rw (x .is, le-ltb (length out) (length (rowsOf (x .p))) room) in
-        ap Wrote (sym long) ∙ g
+      pub rows-short-table : out ≡ rowsFor (readPlan s) out
+      unfolding rowsFor
+      rows-short-table = rw (x .is, lt-ltb (length out) (length (rowsOf (x .p))) short)
 
-    pub rows-yes-table : Bytes s → {t out₁ : List ℕ} → t ≡ tableFor (readPlan s) → out₁ ≡ sets out 0 (lines (cutPlan (acts + m) s t)) → out₁ ≡ rowsFor (readPlan s) out
-    unfolding rowsFor rowsOf
-    rows-yes-table y {t} w f =
-        let c = plan-cut (x .p) l s (tableOf (x .p)) (accepted-is-spelled s y (x .is)) (accepted-spells s (x .is)) (acts + m) counted in
-        f ∙ rw (table-is (readPlan s) (x .is) w, c, x .is, le-ltb (length out) (length (rowsOf (x .p))) room)
+    module _ (out : List ℕ) (h : acts + m + b < length out / 20) where
+      pub rows-room : (acts + m + b + 1) * 20 ≤ length out
+      rows-room = omega arith
+
+      room : length (rowsOf (x .p)) ≤ length out
+      room = omega (arith, long, rows-room)
+
+      pub rows-yes : Wrote ((acts + m + b + 1) * 20) ≡ rowsAnswer (readPlan s) (length out)
+      unfolding rowsAnswer
+      rows-yes =
+          let g : Wrote (length (rowsOf (x .p))) ≡ rowsAnswer (readPlan s) (length out) = rw (x .is, le-ltb (length out) (length (rowsOf (x .p))) room) in
+          ap Wrote (sym long) ∙ g
+
+      pub rows-yes-table : Bytes s → {out₁ : List ℕ} → out₁ ≡ sets out 0 (lines (cutPlan (acts + m + b) s t)) → out₁ ≡ rowsFor (readPlan s) out
+      unfolding rowsFor rowsOf
+      rows-yes-table y g =
+          let c = plan-cut (x .p) l s (tableOf (x .p)) (accepted-is-spelled s y (x .is)) (accepted-spells s (x .is)) (acts + m + b) counted in
+          g ∙ rw (table-is (readPlan s) (x .is) w, c, x .is, le-ltb (length out) (length (rowsOf (x .p))) room)

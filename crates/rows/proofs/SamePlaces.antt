@@ -4,9 +4,10 @@ use mathlib.Core.Bool.{Bool, true, false, cond, not, _&&_, _||_}
 use mathlib.Core.List.{List, [], _∷_, _++_}
 use Prim.Native.Nat.{ℕ, _+_}
 use lib.Dec.{eqb}
-use Rattle.plan.specs.Agree.{Asked, Places, inBytes, askedOwn, spanOf, askedIn, askedAll, askedFrom, asked, agrees, agreesWith, agreeAfter, agree}
+use Rattle.plan.specs.Agree.{Asked, Places, inBytes, askedOwn, beyond, spanOf, askedIn, askedAll, askedFrom, asked, agrees, agreesWith, agreeAfter, agree}
+use Rattle.plan.specs.Spell.{gapsOf, later}
 use Rattle.plan.specs.Table.{bodyPlace}
-use Rattle.plan.specs.Tree.{Own, empty, send, receive, set, raise, leave, choose, repeat, sequence, flow, pick, scope, arm, Act, act, Acts, none, more, Plan, count}
+use Rattle.plan.specs.Tree.{Own, empty, send, receive, set, raise, leave, choose, repeat, sequence, flow, pick, scope, arm, numbersOf, Act, act, Acts, none, more, Plan, count}
 use Rattle.writer.specs.Reading.{inRows}
 
 -- two ask for the same, whatever their places
@@ -50,20 +51,20 @@ module _ (c d : Places) where
   own-alike sequence at bt = nil
   own-alike flow at bt = nil
   own-alike pick at bt = nil
-  own-alike (scope undo) at bt = nil
+  own-alike (scope ns undo) at bt = nil
   own-alike (arm p o vs) at bt = cons (record { partner = refl; operation = refl; many = refl }) nil
 
   mutual
     unfolding askedIn
 
     act-alike : (a : Act) (at bt : ℕ) → Alike (askedIn c a at) (askedIn d a bt)
-    act-alike (act own l) at bt = alike-append (own-alike own at bt) (acts-alike l _ _)
+    act-alike (act own l) at bt = alike-append (own-alike own at bt) (acts-alike (gapsOf (numbersOf own)) l _ _)
 
-    acts-alike : (l : Acts) (at bt : ℕ) → Alike (askedAll c l at) (askedAll d l bt)
-    acts-alike none at bt = nil
-    acts-alike (more a l) at bt = alike-append (act-alike a at bt) (acts-alike l _ _)
+    acts-alike : (gs : List (List ℕ)) (l : Acts) (at bt : ℕ) → Alike (askedAll c gs l at) (askedAll d gs l bt)
+    acts-alike gs none at bt = nil
+    acts-alike gs (more a l) at bt = alike-append (act-alike a (beyond c gs at) (beyond d gs bt)) (acts-alike (later gs) l _ _)
 
 -- The receives of a plan agree in its table's rows exactly where they agree in its bytes.
 pub rows-agree : (p : Plan) → agreeAfter [] (askedFrom inRows p 1) ≡ agree p
 unfolding asked
-rows-agree p = like-agree nil (acts-alike inRows inBytes (more (p .body) (more (p .fault) none)) 1 (bodyPlace p))
+rows-agree p = like-agree nil (acts-alike inRows inBytes [] (more (p .body) (more (p .fault) none)) 1 (bodyPlace p))

@@ -1,29 +1,32 @@
 -- What a table is read as is within the limits of document 01, so that what is written of it is accepted. Assumes nothing.
-use borrow.Author.Tests.{ltb-true, ltb-false, leb-true, leb-false, eqb-true, eqb-false, lt-ltb, le-leb, not-true}
+use borrow.Author.Tests.{ltb-true, ltb-false, leb-true, leb-false, eqb-true, eqb-false, lt-ltb, le-leb, eq-eqb, not-true}
 use native.Mathlib.Omega.{arith}
 use native.Mathlib.Numerals.{sub-one}
 use mathlib.Core.Path.{_≡_, refl, sym, ap, _∙_}
-use mathlib.Core.Bool.{Bool, true, false, cond, not, _&&_, _||_, and-true}
+use mathlib.Core.Bool.{Bool, true, false, cond, not, _&&_, _||_, false≢true, and-true}
 use mathlib.Core.List.{List, [], _∷_, _++_}
 use Prim.Native.Nat.{ℕ, zero, suc, _+_, _*_, _-_, _/_, _≤_, _<_}
 use lib.Dec.{eqb, ltb, leb}
 use lib.ListN.{length, getD, take, drop}
 use Rattle.plan.specs.Agree.{askedFrom, agree, judged}
 use Rattle.plan.specs.Found.{Found, refused, found, andThen, among}
-use Rattle.plan.specs.Read.{operationOf, Head, head, manyIn, wholeIn, laterOf, startForm, readPlan}
+use Rattle.plan.specs.Read.{operationOf, Head, head, namable, isScopeCode, manyIn, Numbered, laterOf, startForm, readPlan}
 use Rattle.plan.specs.Spell.{spelling}
-use Rattle.plan.specs.Tree.{Exp, constant, variable, binary, Own, empty, send, receive, set, raise, leave, choose, repeat, sequence, flow, pick, scope, arm, isScope, isPick, Act, act, Acts, none, more, Plan, size, count}
-use Rattle.plan.specs.Within.{expressionWithin, variablesWithin, exchangeWithin, from1, raiseWithin, ownWithin, levelsBelow, actWithin, actsWithin, ascending, planWithin}
+use Rattle.plan.specs.Tree.{Exp, constant, variable, binary, Own, empty, send, receive, set, raise, leave, choose, repeat, sequence, flow, pick, scope, arm, isScope, isPick, Act, act, Acts, none, more, Plan, size, sizes, count}
+use Rattle.plan.specs.Within.{expressionWithin, variablesWithin, exchangeWithin, from1, raiseWithin, numbersEach, numbersWithin, ownWithin, levelsBelow, actWithin, actsWithin, ascending, planWithin}
 use Rattle.plan.proofs.Accepts.{both}
 use Rattle.plan.proofs.ByKind.{raise-allowed}
 use Rattle.plan.proofs.Agreeing.{judged-found, spelled-is-accepted}
-use Rattle.plan.proofs.Bounds.{Numbered, whole-numbered}
+use Rattle.plan.proofs.Bounds.{many-numbered}
+use Rattle.plan.proofs.Bounds as bounds
+use Rattle.plan.proofs.Limits.{Others, others-itself, others-more, numbers-allowed}
 use Rattle.plan.proofs.Finds.{Finds, finds-refused, finds-itself, finds-found, finds-cond, finds-code, finds-then, finds-so, finds-both, cond-case}
-use Rattle.plan.proofs.Stands.{many-count}
-use Rattle.writer.specs.Reading.{cell, shaped, tuple, rowIn, expressionFits, expressionHead, expressionAt, exchangeFits, armAt, codeAt, partsFit, withExpression, partsAt, headAt, armWith, readsAt, actAt, rootAt, headFits, planAt, inRows, agreedAt, readRows}
+use Rattle.plan.proofs.Stands.{Plain, HeadIs, plain, numbered, many-count}
+use Rattle.writer.specs.Reading.{cell, shaped, tuple, rowIn, expressionFits, expressionHead, expressionAt, exchangeFits, armAt, codeAt, partsFit, withExpression, partsAt, headAt, countAt, faultNumberAt, numberedAt, numberedScopeAt, wholeAt, armWith, readsAt, actAt, rootAt, headFits, planAt, inRows, agreedAt, readRows}
 use Rattle.writer.proofs.Lines.{tuple-long}
 use Rattle.writer.proofs.WriteReturns.{agreed-is-read}
-use Rattle.writer.proofs.OwnReturns.{There, row-finds, Coded, code-finds}
+use Rattle.writer.proofs.OwnReturns.{There, row-finds, Coded, code-finds, head-is, arm-plain}
+use Rattle.writer.proofs.RowStands.{count-stands, number-stands, NumberedRows, node-numbered}
 use Rattle.writer.proofs.ExpressionReturns.{Noded, node-finds}
 use Rattle.rows.proofs.SamePlaces.{rows-agree}
 
@@ -77,7 +80,7 @@ module _ (t : List ℕ) (words : Words t) where
 
   module _ (vars : ℕ) (cs : List ℕ) (handler : Bool) where
     abbrev Kept : Head → ℕ → Type 0
-    Kept h q = ownWithin vars cs handler false (h .own) (h .within) ≡ true
+    Kept h q = cond (h .numbered) (not handler) (ownWithin vars cs handler false (h .own) (h .within)) ≡ true
 
     with-within : (own : Exp → Own) (within next : ℕ) → ((e : Exp) → expressionWithin vars e 8 ≡ true → ownWithin vars cs handler false (own e) within ≡ true)
         → Finds Kept (withExpression vars t own within next)
@@ -95,8 +98,8 @@ module _ (t : List ℕ) (words : Words t) where
     raise-within x s h =
         both (leb 16 x) _ h (λ a h1. both (leb x 255) _ h1 (λ b c. raise-allowed x (leb-true 16 x a) (omega (arith, leb-true x 255 b))))
 
-    parts-within : (r k next : ℕ) → There t r k next → k ≤ 13 → (handler && (eqb k 11 || eqb k 12)) ≡ false → partsFit vars cs t r k ≡ true → Finds Kept (partsAt vars t r k next)
-    unfolding partsAt partsFit ownWithin raiseWithin
+    parts-within : (r k next : ℕ) → There t r k next → k ≤ 14 → (handler && isScopeCode k) ≡ false → partsFit vars cs t r k ≡ true → Finds Kept (partsAt vars t r k next)
+    unfolding partsAt partsFit ownWithin raiseWithin numbersWithin
     parts-within r k next w l g h =
         finds-code k 0 (omega arith) (λ e. finds-found refl) (λ z.
         finds-code k 1 (omega arith) (λ e. finds-found (message-within r k next w false (rw e at h))) (λ z.
@@ -114,7 +117,8 @@ module _ (t : List ℕ) (words : Words t) where
         finds-code k 10 (omega arith) (λ e. finds-found (list-within 8 (cell t r 2) _ (rw e at h))) (λ z.
         finds-code k 11 (omega arith) (λ e. finds-found (rw (sym (and-true handler) ∙ rw e at g))) (λ z.
         finds-code k 12 (omega arith) (λ e. finds-found (rw (sym (and-true handler) ∙ rw e at g))) (λ z.
-        let e : k ≡ 13 = omega arith in finds-found (raise-within (cell t r 2) _ (rw e at h)))))))))))))))
+        finds-code k 13 (omega arith) (λ e. finds-found (raise-within (cell t r 2) _ (rw e at h))) (λ z.
+        let e : k ≡ 14 = omega arith in finds-found (rw (sym (and-true handler) ∙ rw e at g))))))))))))))))
 
     head-within : (depth n r : ℕ) → Finds (λ h q. Kept h q × (n < 256)) (headAt vars cs t handler depth n r)
     unfolding headAt
@@ -143,43 +147,106 @@ module _ (t : List ℕ) (words : Words t) where
         finds-then (k handler n r)
         (λ a p h. finds-then (many-within arms depth read k later later left (n + size a) p) (λ l q m. finds-found (rw (h, m))))
 
+    -- fault parts by number, and what follows them
+    record PartsWithin (depth : ℕ) (known : List ℕ) (c : Numbered) : Type 0 where
+      each : numbersEach (c .numbers) ≡ true
+      others : Others known (c .numbers)
+      parts : actsWithin vars cs true true false (c .parts) depth ≡ true
+
+    numbered-within : (depth : ℕ) (read : Bool → ℕ → ℕ → Found Act) → Keeps false depth read → (left : ℕ) (known : List ℕ) (n r : ℕ)
+        → Finds (λ c next. PartsWithin depth known c) (numberedAt read t left known n r)
+    unfolding numberedAt actsWithin numbersEach among
+    numbered-within depth read k zero known n r =
+        finds-then (many-within false depth read k true true 2 n r)
+        (λ l next h. finds-found (record { each = refl; others = λ w e. absurd (false≢true e); parts = h }))
+    numbered-within depth read k (suc left) known n r =
+        finds-then (number-stands t known r)
+        (λ x p h. finds-then (k true n p)
+        (λ a q y. finds-then (numbered-within depth read k left (x ∷ known) (n + size a) q)
+        (λ c next m. finds-found (record {
+          each = rw (h .may, others-itself x known (c .numbers) (m .others), m .each);
+          others = others-more x known (c .numbers) (not-true (among x known) (h .once)) (m .others);
+          parts = rw (y, m .parts);
+        }))))
+
+    scope-within : (depth : ℕ) → Keeps false depth (actAt depth vars cs t) → (handler : Bool) → not handler ≡ true → (n r : ℕ)
+        → Finds (λ a next. actWithin vars cs handler false a (suc depth) ≡ true) (numberedScopeAt (actAt depth vars cs t) t handler n r)
+    unfolding numberedScopeAt actWithin ownWithin count
+    scope-within depth k handler e n r =
+        finds-then (k handler (n + 1) r)
+        (λ body p b. finds-then (count-stands t p)
+        (λ m q f. finds-then (finds-both (node-numbered depth vars cs t m [] (n + 1 + size body) q) (numbered-within depth (actAt depth vars cs t) k m [] (n + 1 + size body) q))
+        (λ c next w. finds-found
+        (rw (lt-ltb 0 (suc depth) (omega arith), eq-eqb (1 + count (c .parts)) (length (c .numbers) + 3) (omega (arith, w .0 .many, w .0 .parts)), e,
+        numbers-allowed (c .numbers) (omega (arith, w .0 .many, f .few)) (w .1 .each), sub-one (suc depth), b, w .1 .parts)))))
+
     arm-act-within : (depth : ℕ) (read : Bool → ℕ → ℕ → Found Act) → Keeps false depth read → Keeps true depth (armWith read vars t)
     unfolding armWith actWithin
     arm-act-within depth read k handler n r =
-        finds-then (arm-within vars cs handler n r)
-        (λ h p w. finds-then
+        finds-then (finds-both (arm-plain vars t n r) (arm-within vars cs handler n r))
+        (λ h p w. rw (w .0 .told) (finds-then
         (finds-both (many-count read handler handler (h .within) (n + 1) p) (many-within false depth read k handler handler (h .within) (n + 1) p))
-        (λ l q m. finds-found (rw (m .0, w .1 .0, w .0 .0, w .0 .1, m .1))))
+        (λ l q m. finds-found (rw (m .0, w .1 .1 .0, w .1 .0 .0, w .1 .0 .1, m .1)))))
 
     reads-within : (depth : ℕ) (read : Bool → ℕ → ℕ → Found Act) → Keeps false depth read → (arms : Bool) → Keeps arms depth (readsAt arms read vars t)
     reads-within depth read k true = arm-act-within depth read k
     reads-within depth read k false = k
 
-    act-within : (depth : ℕ) → Keeps false depth (actAt depth vars cs t)
-    unfolding actAt actWithin
-    act-within zero handler n r = finds-then (finds-itself (headAt vars cs t handler 0 n r)) (λ h p w. finds-refused)
-    act-within (suc depth) handler n r =
-        finds-then (head-within vars cs handler (suc depth) n r)
-        (λ h p w.
+    -- an activity, whatever its head is
+    whole-within : (depth : ℕ) → Keeps false depth (actAt depth vars cs t) → (handler : Bool) (n : ℕ) (h : Head) (r : ℕ) → HeadIs h → Kept vars cs handler h r
+        → Finds (λ a next. actWithin vars cs handler false a (suc depth) ≡ true)
+        (wholeAt (readsAt (isPick (h .own)) (actAt depth vars cs t) vars t) t handler (laterOf (h .own) handler) n h r)
+    unfolding actWithin
+    whole-within depth k handler n h r (plain i) w =
         let arms = isPick (h .own) in
         let later = laterOf (h .own) handler in
         let read = readsAt arms (actAt depth vars cs t) vars t in
-        finds-then
-        (finds-both (many-count read handler later (h .within) (n + 1) p)
-        (many-within arms depth read (reads-within depth (actAt depth vars cs t) (act-within depth) arms) handler later (h .within) (n + 1) p))
-        (λ l q m. finds-found (rw (lt-ltb 0 (suc depth) (omega arith), m .0, w .0, sub-one (suc depth), m .1))))
+        let own : ownWithin vars cs handler false (h .own) (h .within) ≡ true = rw (i .told) at w in
+        rw (i .told)
+        (finds-then
+        (finds-both (many-count read handler later (h .within) (n + 1) r)
+        (many-within arms depth read (reads-within depth (actAt depth vars cs t) k arms) handler later (h .within) (n + 1) r))
+        (λ l q m. finds-found (rw (lt-ltb 0 (suc depth) (omega arith), m .0, own, sub-one (suc depth), m .1))))
+    whole-within depth k handler n h r numbered w = scope-within depth k handler w n r
 
-    arm-numbered : (read : Bool → ℕ → ℕ → Found Act) → Numbered read → Numbered (armWith read vars t)
+    act-within : (depth : ℕ) → Keeps false depth (actAt depth vars cs t)
+    unfolding actAt
+    act-within zero handler n r = finds-then (finds-itself (headAt vars cs t handler 0 n r)) (λ h p w. finds-refused)
+    act-within (suc depth) handler n r =
+        finds-then (finds-both (head-is vars cs t handler (suc depth) n r) (head-within vars cs handler (suc depth) n r))
+        (λ h p w. whole-within depth (act-within depth) handler n h p (w .0) (w .1 .0))
+
+    -- the numbers of activities and arms
+    parts-numbered : (read : Bool → ℕ → ℕ → Found Act) → bounds.Numbered read → (left : ℕ) (known : List ℕ) (n r : ℕ) → n ≤ 256
+        → Finds (λ c next. n + sizes (c .parts) ≤ 256) (numberedAt read t left known n r)
+    unfolding numberedAt sizes
+    parts-numbered read k zero known n r m = finds-then (many-numbered read k true true 2 n r m) (λ l next h. finds-found h)
+    parts-numbered read k (suc left) known n r m =
+        finds-then (finds-itself (faultNumberAt t known r))
+        (λ x p e. finds-then (k true n p)
+        (λ a q h. finds-then (parts-numbered read k left (x ∷ known) (n + size a) q h) (λ c next y. finds-found (omega arith))))
+
+    whole-numbered : (read : Bool → ℕ → ℕ → Found Act) → bounds.Numbered read → (handler later : Bool) (n : ℕ) (h : Head) (r : ℕ) → n < 256
+        → Finds (λ a next. n + size a ≤ 256) (wholeAt read t handler later n h r)
+    unfolding numberedScopeAt size
+    whole-numbered read k handler later n h r m =
+        finds-cond (h .numbered)
+        (λ e. finds-then (k handler (n + 1) r)
+        (λ body p b. finds-then (finds-itself (countAt t p))
+        (λ j q f. finds-then (parts-numbered read k j [] (n + 1 + size body) q b) (λ c next y. finds-found (omega arith)))))
+        (λ e. finds-then (many-numbered read k handler later (h .within) (n + 1) r (omega arith)) (λ acts next y. finds-found (omega arith)))
+
+    arm-numbered : (read : Bool → ℕ → ℕ → Found Act) → bounds.Numbered read → bounds.Numbered (armWith read vars t)
     unfolding armWith
     arm-numbered read k handler n r = finds-then (arm-within vars cs handler n r) (λ h next w. whole-numbered read k handler handler n h next (w .1 .1))
 
-    act-numbered : (depth : ℕ) → Numbered (actAt depth vars cs t)
+    act-numbered : (depth : ℕ) → bounds.Numbered (actAt depth vars cs t)
     unfolding actAt
     act-numbered zero handler n r = finds-then (finds-itself (headAt vars cs t handler 0 n r)) (λ h p w. finds-refused)
     act-numbered (suc depth) handler n r =
         finds-then (head-within vars cs handler (suc depth) n r)
         (λ h p w. whole-numbered (readsAt (isPick (h .own)) (actAt depth vars cs t) vars t)
-        (cond-case Numbered (isPick (h .own)) (λ e. arm-numbered (actAt depth vars cs t) (act-numbered depth)) (λ e. act-numbered depth))
+        (cond-case bounds.Numbered (isPick (h .own)) (λ e. arm-numbered (actAt depth vars cs t) (act-numbered depth)) (λ e. act-numbered depth))
         handler (laterOf (h .own) handler) n h p (w .1))
 
     root-within : (r : ℕ) → from1 16 vars ≡ true → ascending vars 0 cs ≡ true → Finds (λ p next. length (spelling p) ≤ 4096 → planWithin p ≡ true) (rootAt vars cs t r)

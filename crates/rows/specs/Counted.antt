@@ -12,6 +12,8 @@ pub data Part : Type 0 where
   anActivity : Part
   anArm : Part
   anExpression : Part
+  aCount : Part
+  aNumber : Part
 
 -- how many numbers an activity has: of a send and a receive, `count` is the count of their variables
 unfoldable pub activityAsks : (code count : ℕ) → ℕ
@@ -24,6 +26,8 @@ asks aHead t r = 3 + cell t r 3
 asks anActivity t r = activityAsks (cell t r 1) (cell t r 4)
 asks anArm t r = 3 + cell t r 3
 asks anExpression t r = cond (leb (cell t r 1) 1) 2 1
+asks aCount t r = 1
+asks aNumber t r = 1
 
 -- n of them; none where so many are not allowed
 unfoldable pub times : (most n : ℕ) → Part → List Part
@@ -38,7 +42,13 @@ activityHas code n =
     (cond (eqb code 8 || eqb code 9) (times 32 n anActivity)
     (cond (eqb code 10) (times 8 n anArm)
     (cond (eqb code 11) (anActivity ∷ anActivity ∷ anActivity ∷ [])
-    (cond (eqb code 12) (anActivity ∷ anActivity ∷ []) []))))))
+    (cond (eqb code 12) (anActivity ∷ anActivity ∷ [])
+    (cond (eqb code 14) (anActivity ∷ aCount ∷ []) [])))))))
+
+-- what the rows after a count of fault parts by number stand for: each has its number before it, and two parts follow them
+unfoldable pub numberedHas : (count : ℕ) → List Part
+numberedHas zero = anActivity ∷ anActivity ∷ []
+numberedHas (suc n) = aNumber ∷ anActivity ∷ numberedHas n
 
 -- what the rows after row r stand for
 unfoldable pub has : Part → List ℕ → (r : ℕ) → List Part
@@ -46,6 +56,8 @@ has aHead t r = anActivity ∷ anActivity ∷ []
 has anActivity t r = activityHas (cell t r 1) (cell t r 2)
 has anArm t r = anActivity ∷ []
 has anExpression t r = cond (leb (cell t r 1) 1) [] (anExpression ∷ anExpression ∷ [])
+has aCount t r = cond (leb (cell t r 1) 8) (numberedHas (cell t r 1)) []
+has aNumber t r = []
 
 -- `left` rows from row r on, which are to stand for these: each has the count that it asks for, and 0 in the places behind; of rows left over the
 -- first has a number

@@ -44,6 +44,21 @@ kindIn t k = cond (ltb k 256) (getD t (k * 13) 0) 0
 unfoldable pub countIn : List ℕ → (k : ℕ) → ℕ
 countIn t k = cond (ltb k 256) (getD t (k * 13 + 3) 0) 0
 
+-- the place of its first byte
+unfoldable pub placeIn : List ℕ → (k : ℕ) → ℕ
+placeIn t k = cond (ltb k 256) (getD t (k * 13 + 10) 0) 0
+
+-- What stands at `at`, where activity or arm k is the next: this one, or a number before it, between the parts of a scope, whose row is like that of an
+-- empty activity: one number, and no expression after it.
+abbrev pub kindAt : List ℕ → (k at : ℕ) → ℕ
+kindAt t k at = cond (ltb at (placeIn t k)) 0 (kindIn t k)
+
+-- how many numbers stand between the parts of the scopes among `left` activities and arms from k on: of each with fault parts by number their count, and
+-- the number of each
+unfoldable pub betweenIn : (left : ℕ) → List ℕ → (k : ℕ) → ℕ
+betweenIn zero t k = 0
+betweenIn (suc left) t k = cond (eqb (kindIn t k) 14) (countIn t k + 1) 0 + betweenIn left t (k + 1)
+
 -- how many numbers the row of an activity or arm has: a send or a receive four before its variables, an arm, which has no code, three; a set, a
 -- sequence, a flow, a pick and a raise with a number two; all others their code alone
 unfoldable pub widthOf : (kind count : ℕ) → ℕ
@@ -65,20 +80,20 @@ opens kind = cond (eqb kind 3) 1 (cond (eqb kind 6) 1 (cond (eqb kind 7) 1 0))
 -- The next row, where `due` expressions are to come before activity k: a constant or a variable has two numbers, and all other expressions have one,
 -- and two more that come after it.
 unfoldable pub rowWidth : (s t : List ℕ) → (k due at : ℕ) → ℕ
-rowWidth s t k due at = cond (eqb due 0) (widthOf (kindIn t k) (countIn t k)) (cond (ltb (valueIn s at) 2) 2 1)
+rowWidth s t k due at = cond (eqb due 0) (widthOf (kindAt t k at) (countIn t k)) (cond (ltb (valueIn s at) 2) 2 1)
 
 unfoldable pub dueAfter : (s t : List ℕ) → (k due at : ℕ) → ℕ
-dueAfter s t k due at = cond (eqb due 0) (opens (kindIn t k)) (cond (ltb (valueIn s at) 2) (due - 1) (due + 1))
+dueAfter s t k due at = cond (eqb due 0) (opens (kindAt t k at)) (cond (ltb (valueIn s at) 2) (due - 1) (due + 1))
 
-unfoldable pub kAfter : (k due : ℕ) → ℕ
-kAfter k due = cond (eqb due 0) (k + 1) k
+unfoldable pub kAfter : List ℕ → (k due at : ℕ) → ℕ
+kAfter t k due at = cond (eqb due 0) (cond (ltb at (placeIn t k)) k (k + 1)) k
 
 -- `left` rows from `at` on
 unfoldable pub cutRows : (left : ℕ) → (s t : List ℕ) → (k due at : ℕ) → List (List ℕ)
 cutRows zero s t k due at = []
 cutRows (suc left) s t k due at =
     numbersIn (rowWidth s t k due at) s at
-    ∷ cutRows left s t (kAfter k due) (dueAfter s t k due at) (placeAfter (rowWidth s t k due at) s at)
+    ∷ cutRows left s t (kAfter t k due at) (dueAfter s t k due at) (placeAfter (rowWidth s t k due at) s at)
 
 -- the head: version, count of variables and count of correlation variables, and these
 unfoldable pub headWidth : List ℕ → ℕ

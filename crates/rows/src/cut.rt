@@ -2,16 +2,19 @@
 use numbers::Number;
 use plan::code;
 use plan::table::COUNT;
+use plan::table::PLACE;
 use plan::table::Table;
 use plan::table::WIDTH;
 use writer::cells::at_most_19;
 use writer::cells::wide;
 ghost use Prim.Native.Nat.{_+_, _*_, _≤_, _<_};
+ghost use lib.Dec.{eqb};
 ghost use lib.ListN.{length, replicate};
+ghost use mathlib.Core.Bool.{cond};
 ghost use lib.Seq.{sets};
 ghost use mathlib.Core.Path.{_≡_};
 ghost use Rattle.writer.specs.Rows.{line, lines};
-ghost use Rattle.rows.specs.Cut.{valueIn, nextIn, numbersIn, placeAfter, kindIn, countIn, widthOf, opens, rowWidth, dueAfter, kAfter, cutRows, headWidth, cutPlan};
+ghost use Rattle.rows.specs.Cut.{valueIn, nextIn, numbersIn, placeAfter, kindIn, countIn, placeIn, kindAt, betweenIn, widthOf, opens, rowWidth, dueAfter, kAfter, cutRows, headWidth, cutPlan};
 
 // A number and the place after it.
 pub struct Taken {
@@ -92,6 +95,54 @@ fn count_of(table: &Table, k: usize) -> usize
     }
 }
 
+// The place of the first byte of activity or arm k.
+fn place_of(table: &Table, k: usize) -> usize
+    ensures { λ r. ⌜ r ≡ placeIn (now (table .entry)) k ⌝ }
+{
+    if k < 256 {
+        wide(table[k * WIDTH + PLACE])
+    } else {
+        0
+    }
+}
+
+// The kind of what stands at `at`: activity or arm k, or a number before it, which is like an empty one.
+fn kind_at(table: &Table, k: usize, at: usize) -> usize
+    ensures { λ r. ⌜ r ≡ kindAt (now (table .entry)) k at ⌝ }
+{
+    if at < place_of(table, k) {
+        0
+    } else {
+        kind_of(table, k)
+    }
+}
+
+// How many numbers stand between the parts of activity k.
+fn between_of(table: &Table, k: usize) -> usize
+    ensures is { λ r. ⌜ r ≡ cond (eqb (kindIn (now (table .entry)) k) 14) (countIn (now (table .entry)) k + 1) 0 ⌝ }
+    ensures few { λ r. ⌜ r ≤ 4294967296 ⌝ }
+{
+    if kind_of(table, k) == code::NUMBERED_SCOPE {
+        count_of(table, k) + 1
+    } else {
+        0
+    }
+}
+
+// How many numbers stand between the parts of the first `left` activities and arms.
+pub(crate) fn between(table: &Table, left: usize) -> usize
+    requires { ⌜ left ≤ 256 ⌝ }
+    ensures { λ r. ⌜ r ≡ betweenIn left (now (table .entry)) 0 ⌝ }
+{
+    let mut sum: usize = 0;
+    let mut k: usize = 0;
+    while k < left {
+        sum += between_of(table, k);
+        k += 1;
+    }
+    sum
+}
+
 // How many numbers the row of an activity or arm of this kind has, which names `count` variables.
 fn width_of(kind: usize, count: usize) -> usize
     requires { ⌜ count ≤ 4294967295 ⌝ }
@@ -130,7 +181,7 @@ fn width_at(s: &[u8], table: &Table, k: usize, due: usize, at: usize) -> usize
     ensures few { λ r. ⌜ r ≤ 19 ⌝ }
 {
     if due == 0 {
-        return width_of(kind_of(table, k), count_of(table, k));
+        return width_of(kind_at(table, k, at), count_of(table, k));
     }
     let n = taken_at(s, at);
     if n.value < 2 { 2 } else { 1 }
@@ -143,18 +194,23 @@ fn due_after(s: &[u8], table: &Table, k: usize, due: usize, at: usize) -> usize
     ensures few { λ r. ⌜ r ≤ due + 1 ⌝ }
 {
     if due == 0 {
-        return opens_of(kind_of(table, k));
+        return opens_of(kind_at(table, k, at));
     }
     let n = taken_at(s, at);
     if n.value < 2 { due - 1 } else { due + 1 }
 }
 
-fn k_after(k: usize, due: usize) -> usize
+// The activity or arm that is the next then.
+fn k_after(table: &Table, k: usize, due: usize, at: usize) -> usize
     requires { ⌜ k ≤ 4294967295 ⌝ }
-    ensures is { λ r. ⌜ r ≡ kAfter k due ⌝ }
+    ensures is { λ r. ⌜ r ≡ kAfter (now (table .entry)) k due at ⌝ }
     ensures few { λ r. ⌜ r ≤ k + 1 ⌝ }
 {
-    if due == 0 { k + 1 } else { k }
+    if due == 0 {
+        if at < place_of(table, k) { k } else { k + 1 }
+    } else {
+        k
+    }
 }
 
 // How many numbers the head's row has.
@@ -170,7 +226,7 @@ fn head_width(s: &[u8]) -> usize
 
 // `left` rows from `from` on are put into the buffer from row 1 on.
 fn put_parts(s: &[u8], table: &Table, left: usize, from: usize, out: &mut [u32])
-    requires { ⌜ ((left + 1) * 20 ≤ length (now out)) × (left ≤ 8192) ⌝ }
+    requires { ⌜ ((left + 1) * 20 ≤ length (now out)) × (left ≤ 16384) ⌝ }
     ensures { λ _. ⌜ now (out .exit) ≡ sets (now (out .entry)) 20 (lines (cutRows left (now (s .entry)) (now (table .entry)) 0 0 from)) ⌝ }
 {
     let mut k: usize = 0;
@@ -180,7 +236,7 @@ fn put_parts(s: &[u8], table: &Table, left: usize, from: usize, out: &mut [u32])
     while i < left {
         let width = width_at(s, table, k, due, at);
         let after = due_after(s, table, k, due, at);
-        k = k_after(k, due);
+        k = k_after(table, k, due, at);
         due = after;
         i += 1;
         at = put_row(s, at, width, out, i * 20);
@@ -189,7 +245,7 @@ fn put_parts(s: &[u8], table: &Table, left: usize, from: usize, out: &mut [u32])
 
 // The head's row and `left` more are put into the buffer from its start on.
 pub(crate) fn put_rows(s: &[u8], table: &Table, left: usize, out: &mut [u32])
-    requires { ⌜ ((left + 1) * 20 ≤ length (now out)) × (left ≤ 8192) ⌝ }
+    requires { ⌜ ((left + 1) * 20 ≤ length (now out)) × (left ≤ 16384) ⌝ }
     ensures { λ _. ⌜ now (out .exit) ≡ sets (now (out .entry)) 0 (lines (cutPlan left (now (s .entry)) (now (table .entry)))) ⌝ }
 {
     let width = head_width(s);

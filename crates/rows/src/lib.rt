@@ -23,7 +23,7 @@ pub fn rows(s: &[u8], out: &mut [u32]) -> Answer
             activities,
             nodes,
         } => {
-            let left = activities + nodes;
+            let left = activities + nodes + cut::between(&table, activities);
             if out.len() / 20 <= left {
                 return Answer::Refused {
                     number: 18,

@@ -1,40 +1,43 @@
 -- What is heard by the functions that check rows. Assumes nothing.
 use borrow.Author.Tests.{eq-eqb, ne-eqb}
 use native.Mathlib.Omega.{arith}
+use native.Mathlib.Nat.{add-zero}
 use mathlib.Core.Path.{_≡_, refl, sym, ap, _∙_}
 use mathlib.Core.Bool.{Bool, true, false, cond, _&&_, _||_}
-use mathlib.Core.List.{List, [], _∷_, _++_}
+use mathlib.Core.List.{List, [], _∷_, _++_, map}
 use Prim.Native.Nat.{ℕ, zero, suc, _+_, _-_, _*_, _/_, _≤_, _<_}
 use lib.Dec.{eqb, ltb, leb}
 use lib.ListN.{length, getD, take, drop}
 use Rattle.plan.specs.Agree.{Asked, asking, askedOwn, spanOf, askedIn, askedAll, askedFrom, judged}
 use Rattle.plan.specs.Found.{Found, refused, found, andThen}
 use Rattle.plan.specs.Heard.{Noted, noted, blankHeard, heard, heardAll, differing}
-use Rattle.plan.specs.Read.{Head, manyIn, startForm}
-use Rattle.plan.specs.Tree.{Own, kind, Act, act, Acts, none, more, Plan, size, count}
+use Rattle.plan.specs.Numbering.{backwards}
+use Rattle.plan.specs.Read.{Head, isScopeCode, manyIn, Numbered, alsoNumbered, startForm}
+use Rattle.plan.specs.Spell.{gapsOf}
+use Rattle.plan.specs.Tree.{Own, scope, kind, numbersOf, Act, act, Acts, none, more, Plan, size, count}
 use Rattle.plan.specs.Within.{levelsBelow}
 use Rattle.plan.proofs.Finds.{Finds, finds-refused, finds-itself, finds-found, finds-cond, finds-then, finds-so, finds-both}
 use Rattle.plan.proofs.HearReturns.{heard-append}
 use Rattle.plan.proofs.Hears.{Told, judged-by}
 use Rattle.plan.proofs.OneNumber.{then-found, then-refused}
 use Rattle.plan.proofs.RowsAsked.{AsksAll, fit-all}
-use Rattle.plan.proofs.Stands.{many-count}
+use Rattle.plan.proofs.Stands.{HeadIs, plain, numbered, many-count}
 use Rattle.writer.specs.declared.Field.{Field}
 use Rattle.writer.specs.declared.Field.the-variants.{Got}
 use Rattle.writer.specs.declared.Out.{Out}
 use Rattle.writer.specs.declared.Own as code
 use Rattle.writer.specs.declared.Step.{Step}
 use Rattle.writer.specs.declared.Step.the-variants.{Next}
-use Rattle.writer.specs.Reading.{cell, rowIn, exchangeFits, armAt, partsFit, partsAt, headAt, nodeHeadAt, actAt, nodeAt, closingAt, rootAt, headFits, planAt, inRows, rowAsks, agreedAt}
-use Rattle.writer.specs.Rows.{ownRows, actRows}
-use Rattle.writer.specs.Written.{fieldFor, stepFor, ownFor, outFor, outAllFor, HeardAct, HeardActs, HeardPlan, ActHears, ActsHear, PlanHears}
+use Rattle.writer.specs.Reading.{cell, rowIn, exchangeFits, armAt, partsFit, partsAt, headAt, nodeHeadAt, countAt, faultNumberAt, numberedAt, numberedScopeAt, actAt, nodeAt, closingAt, rootAt, headFits, planAt, inRows, rowAsks, agreedAt}
+use Rattle.writer.specs.Rows.{ownRows, alone, actRows, actsRows}
+use Rattle.writer.specs.Written.{fieldFor, stepFor, ownFor, outFor, outAllFor, outNumberedFor, HeardAct, HeardActs, HeardNumbered, HeardPlan, ActHears, ActsHear, NumberedHears, PlanHears}
 use Rattle.writer.proofs.Lines.{Stands, stands-ends}
-use Rattle.writer.proofs.OwnReturns.{field-got, row-finds, code-finds, Stepped, step-got, step-no}
+use Rattle.writer.proofs.OwnReturns.{field-got, row-finds, code-finds, head-is, arm-plain, Stepped, step-got, step-no}
 use Rattle.writer.proofs.RootReturns.{root-no-parts, root-after, root-no-start, plan-no, plan-version, plan-head}
 use Rattle.writer.proofs.RootReturns as root
-use Rattle.writer.proofs.RowStands.{node-stands, node-head-stands}
+use Rattle.writer.proofs.RowStands.{headRows, count-stands, number-stands, node-numbered, node-stands, node-head-stands}
 use Rattle.writer.proofs.RowsAsk.{own-asked, span-rows, plan-asks}
-use Rattle.writer.proofs.TreeReturns.{act-no-own, act-no-within, acts-no-first, acts-no-rest, acts-got, said, inside, first-read, opened}
+use Rattle.writer.proofs.TreeReturns.{act-no-own, act-no-within, acts-no-first, acts-no-rest, acts-got, said, inside, first-read, opened, scope-inside, scope-no-body, scope-no-count, scope-no-parts, body-read, count-opened, parts-got, parts-no-last, last-read, last-is, parts-no-number, parts-no-part, part-read, parts-opened}
 
 -- `hear_row`
 module _ (t : List ℕ) (r : ℕ) {k : ℕ} (s : Noted) where
@@ -73,7 +76,7 @@ act-heard : (g : Found Act) (r : ℕ) (s u : Noted) {a : Act} {next : ℕ} → g
 unfolding HeardAct
 act-heard g r s u e h = let w = rw e at h in w .heard
 
-acts-heard : (g : Found Acts) (r : ℕ) (s u : Noted) {l : Acts} {next : ℕ} → g ≡ found l next → ActsHear g r s u → u ≡ heardAll (askedAll inRows l r) s
+acts-heard : (g : Found Acts) (r : ℕ) (s u : Noted) {l : Acts} {next : ℕ} → g ≡ found l next → ActsHear g r s u → u ≡ heardAll (askedAll inRows [] l r) s
 unfolding HeardActs
 acts-heard g r s u e h = let w = rw e at h in w .heard
 
@@ -81,26 +84,69 @@ act-hears : (g : Found Act) (r : ℕ) (s u : Noted) {a : Act} {next : ℕ} → g
 unfolding HeardAct
 act-hears g r s u e h = rw e (record { heard = h })
 
-acts-hear : (g : Found Acts) (r : ℕ) (s u : Noted) {l : Acts} {next : ℕ} → g ≡ found l next → u ≡ heardAll (askedAll inRows l r) s → ActsHear g r s u
+acts-hear : (g : Found Acts) (r : ℕ) (s u : Noted) {l : Acts} {next : ℕ} → g ≡ found l next → u ≡ heardAll (askedAll inRows [] l r) s → ActsHear g r s u
 unfolding HeardActs
 acts-hear g r s u e h = rw e (record { heard = h })
 
 -- an activity or arm: what it asks for by itself, and then what those within it ask for
-whole-heard : (t : List ℕ) (own : Own) (l : Acts) (r k within next : ℕ) (s v u : Noted) → Stands t r (ownRows own within) next → k ≡ kind own → count l ≡ within
-    → v ≡ heardAll (rowAsks t r k) s → u ≡ heardAll (askedAll inRows l next) v → u ≡ heardAll (askedIn inRows (act own l) r) s
-unfolding askedIn inRows
-whole-heard t own l r k within next s v u x i c h f =
+whole-heard : (t : List ℕ) (own : Own) (l : Acts) (r k within next : ℕ) (s v u : Noted) → numbersOf own ≡ [] → Stands t r (ownRows own within) next → k ≡ kind own → count l ≡ within
+    → v ≡ heardAll (rowAsks t r k) s → u ≡ heardAll (askedAll inRows [] l next) v → u ≡ heardAll (askedIn inRows (act own l) r) s
+unfolding askedIn inRows gapsOf
+whole-heard t own l r k within next s v u n x i c h f =
     let e : next ≡ r + length (ownRows own (count l)) = stands-ends x .0 ∙ rw c in
     let w : v ≡ heardAll (askedOwn inRows own r) s = h ∙ rw (i, own-asked t r own within x) in
-    f ∙ (rw (w, e) (sym (heard-append (askedOwn inRows own r) (askedAll inRows l (r + length (ownRows own (count l)))) s)))
+    rw n (f ∙ (rw (w, e) (sym (heard-append (askedOwn inRows own r) (askedAll inRows [] l (r + length (ownRows own (count l)))) s))))
 
 -- a list: the first of them, and then the others
 more-heard : (t : List ℕ) (a : Act) (l : Acts) (r next : ℕ) (s v u : Noted) → Stands t r (actRows a) next → v ≡ heardAll (askedIn inRows a r) s
-    → u ≡ heardAll (askedAll inRows l next) v → u ≡ heardAll (askedAll inRows (more a l) r) s
+    → u ≡ heardAll (askedAll inRows [] l next) v → u ≡ heardAll (askedAll inRows [] (more a l) r) s
 unfolding askedAll
 more-heard t a l r next s v u x h f =
     let e : next ≡ r + spanOf inRows a = stands-ends x .0 ∙ rw (span-rows a) in
-    f ∙ (rw (h, e) (sym (heard-append (askedIn inRows a r) (askedAll inRows l (r + spanOf inRows a)) s)))
+    f ∙ (rw (h, e) (sym (heard-append (askedIn inRows a r) (askedAll inRows [] l (r + spanOf inRows a)) s)))
+
+-- a fault part behind the row of its number, and then the others
+part-heard : (t : List ℕ) (x : ℕ) (a : Act) (c : Numbered) (r p next : ℕ) (s v u : Noted) → p ≡ r + 1 → Stands t p (actRows a) next → v ≡ heardAll (askedIn inRows a p) s
+    → u ≡ heardAll (askedAll inRows (alone (c .numbers)) (c .parts) next) v → u ≡ heardAll (askedAll inRows (alone (x ∷ c .numbers)) (more a (c .parts)) r) s
+unfolding askedAll inRows
+part-heard t x a c r p next s v u i y h f =
+    let e : next ≡ p + spanOf inRows a = stands-ends y .0 ∙ rw (span-rows a) in
+    f ∙ rw (h, e, i) (sym (heard-append (askedIn inRows a (r + 1)) (askedAll inRows (alone (c .numbers)) (c .parts) (r + 1 + spanOf inRows a)) s))
+
+-- a scope with fault parts by number asks for nothing by itself, and has a row for their count
+scope-asked : (numbers : List ℕ) (body : Act) (parts : Acts) (r : ℕ) → 0 < length numbers → count parts ≡ length numbers + 2
+    → askedIn inRows (act (scope numbers true) (more body parts)) r ≡ askedIn inRows body (r + 1) ++ askedAll inRows (alone numbers) parts (r + 1 + spanOf inRows body + 1)
+unfolding askedIn askedOwn inRows ownRows gapsOf count
+scope-asked [] body parts r h e = absurd (omega arith)
+scope-asked (x ∷ l) body none r h e = absurd (omega arith)
+scope-asked (x ∷ l) body (more a parts) r h e =
+    let i : r + 1 + 0 ≡ r + 1 = omega arith in
+    let j : r + 1 + spanOf inRows body + 2 ≡ r + 1 + spanOf inRows body + 1 + 1 = omega arith in
+    rw (i, j)
+
+scope-heard : (t : List ℕ) (body : Act) (c : Numbered) (r k next from : ℕ) (s v u : Noted) → 1 ≤ k → length (c .numbers) ≡ k → count (c .parts) ≡ k + 2
+    → Stands t (r + 1) (actRows body) next → from ≡ next + 1 → v ≡ heardAll (askedIn inRows body (r + 1)) s
+    → u ≡ heardAll (askedAll inRows (alone (c .numbers)) (c .parts) from) v → u ≡ heardAll (askedIn inRows (act (scope (c .numbers) true) (more body (c .parts))) r) s
+scope-heard t body c r k next from s v u some many parts y i h f =
+    let e : next ≡ r + 1 + spanOf inRows body = stands-ends y .0 ∙ rw (span-rows body) in
+    f ∙ rw (scope-asked (c .numbers) body (c .parts) r (omega arith) (omega arith), h, i, e)
+    (sym (heard-append (askedIn inRows body (r + 1)) (askedAll inRows (alone (c .numbers)) (c .parts) (r + 1 + spanOf inRows body + 1)) s))
+
+-- of fault parts by number
+parts-silent : (n : ℕ) (g : Found Numbered) (r : ℕ) (s u : Noted) {number place : ℕ} → Out.Refused number place ≡ outNumberedFor n g → NumberedHears g r s u
+unfolding outNumberedFor HeardNumbered
+parts-silent n (refused x p) r s u e = record { heard = tt }
+parts-silent n (found a q) r s u e = let z : _≡_ {A = ℕ} 0 1 = cc in absurd (omega arith)
+
+parts-heard : (g : Found Numbered) (r : ℕ) (s u : Noted) {c : Numbered} {next : ℕ} → g ≡ found c next → NumberedHears g r s u
+    → u ≡ heardAll (askedAll inRows (alone (c .numbers)) (c .parts) r) s
+unfolding HeardNumbered
+parts-heard g r s u e h = let w = rw e at h in w .heard
+
+parts-hear : (g : Found Numbered) (r : ℕ) (s u : Noted) {c : Numbered} {next : ℕ} → g ≡ found c next
+    → u ≡ heardAll (askedAll inRows (alone (c .numbers)) (c .parts) r) s → NumberedHears g r s u
+unfolding HeardNumbered
+parts-hear g r s u e h = rw e (record { heard = h })
 
 -- a row that is read is there
 node-there : (arm : Bool) (vars : ℕ) (cs t : List ℕ) (handler : Bool) (depth n r : ℕ) → Finds (λ h next. r < length t / 20) (nodeHeadAt arm vars cs t handler depth n r)
@@ -115,6 +161,15 @@ node-there false vars cs t handler depth n r =
     finds-then (code-finds t handler depth n r) (λ k next c.
     finds-cond (partsFit vars cs t r k) (λ e. finds-so (finds-itself (partsAt vars t r k next)) (λ h q x. c .row .there)) (λ e. finds-refused))
 
+-- what is no scope with fault parts by number has none
+plain-none : {h : Head} → HeadIs h → h .numbered ≡ false → numbersOf (h .own) ≡ []
+plain-none (plain k) e = k .none
+plain-none numbered e = refl
+
+node-plain : (arm : Bool) (vars : ℕ) (cs t : List ℕ) (handler : Bool) (depth n r : ℕ) → Finds (λ h next. h .numbered ≡ false → numbersOf (h .own) ≡ []) (nodeHeadAt arm vars cs t handler depth n r)
+node-plain true vars cs t handler depth n r = finds-so (arm-plain vars t n r) (λ h q w e. w .none)
+node-plain false vars cs t handler depth n r = finds-so (head-is vars cs t handler depth n r) (λ h q w e. plain-none w e)
+
 -- `activity_at`
 module _ (arm : Bool) (depth vars : ℕ) (cs t : List ℕ) (handler : Bool) (n r : ℕ) {own : code.Own}
     (a : own ≡ ownFor (nodeHeadAt arm vars cs t handler depth n r)) where
@@ -125,7 +180,7 @@ module _ (arm : Bool) (depth vars : ℕ) (cs t : List ℕ) (handler : Bool) (n r
     pub own-there : r < length t / 20
     own-there = node-there arm vars cs t handler depth n r .holds (said arm depth vars cs t handler n r a o .is)
 
-    module _ {later : Bool} {below : ℕ} (x : later ≡ ((eqb k 11 || eqb k 12) || handler)) (y : below ≡ levelsBelow arm depth) {all : Out}
+    module _ {later : Bool} {below : ℕ} (x : later ≡ (isScopeCode k || handler)) (y : below ≡ levelsBelow arm depth) {all : Out}
         (b : all ≡ outAllFor (n + 1) (manyIn (nodeAt (eqb k 10) below vars cs t) handler later within (n + 1) next)) (s u : Noted) where
       pub one-no-within : {number place : ℕ} → all ≡ Out.Refused number place → ActHears (nodeAt arm depth vars cs t handler n r) r s u
       one-no-within p = act-silent n _ r s u (act-no-within arm depth vars cs t handler n r a o x y b p)
@@ -138,8 +193,88 @@ module _ (arm : Bool) (depth vars : ℕ) (cs t : List ℕ) (handler : Bool) (n r
           let z = acts-got (n + 1) (manyIn (nodeAt (eqb k 10) below vars cs t) handler later within (n + 1) next) b p in
           let c = many-count (nodeAt (eqb k 10) below vars cs t) handler later within (n + 1) next .holds (z .is) in
           act-hears _ r s u (inside arm depth vars cs t handler n r a o x y b ∙ then-found _ _ (z .is))
-          (whole-heard t (w .h .own) (z .l) r k (w .h .within) next s v u (node-head-stands arm vars cs t handler depth n r .holds (w .is)) (w .same) (c ∙ w .many) h
+          (whole-heard t (w .h .own) (z .l) r k (w .h .within) next s v u (node-plain arm vars cs t handler depth n r .holds (w .is) (w .told))
+          (rw (w .told) at (node-head-stands arm vars cs t handler depth n r .holds (w .is))) (w .same) (c ∙ w .many) h
           (acts-heard _ next v u (z .is) f))
+
+-- `activity_at`, of a scope with fault parts by number
+numbered-there : (g : Found Head) {own : code.Own} {P : Type 0} → Finds (λ h next. P) g → own ≡ ownFor g → own ≡ code.Own.Numbered → P
+unfolding ownFor
+numbered-there (refused x p) w a o = let z : _≡_ {A = ℕ} 0 1 = cc in absurd (omega arith)
+numbered-there (found h q) w a o = w .holds refl
+
+module _ (arm : Bool) (depth vars : ℕ) (cs t : List ℕ) (handler : Bool) (n r : ℕ) {own : code.Own}
+    (a : own ≡ ownFor (nodeHeadAt arm vars cs t handler depth n r)) (o : own ≡ code.Own.Numbered) where
+  pub scope-there : r < length t / 20
+  scope-there = numbered-there (nodeHeadAt arm vars cs t handler depth n r) (node-there arm vars cs t handler depth n r) a o
+
+  pub one-scope : {below : ℕ} → below ≡ levelsBelow arm depth → {s u : Noted} → ActHears (numberedScopeAt (nodeAt false below vars cs t) t handler n (r + 1)) r s u
+      → ActHears (nodeAt arm depth vars cs t handler n r) r s u
+  one-scope e h = rw (scope-inside arm depth vars cs t handler n r a o e) h
+
+-- `numbered_scope_at`
+module _ (depth vars : ℕ) (cs t : List ℕ) (handler : Bool) (n r : ℕ) {body : Out} (a : body ≡ outFor (n + 1) (nodeAt false depth vars cs t handler (n + 1) (r + 1))) (s u : Noted) where
+  pub whole-no-body : {number place : ℕ} → body ≡ Out.Refused number place → ActHears (numberedScopeAt (nodeAt false depth vars cs t) t handler n (r + 1)) r s u
+  whole-no-body o = act-silent n _ r s u (scope-no-body depth vars cs t handler n r a o)
+
+  module _ {next end : ℕ} {first every : Bool} (o : body ≡ Out.Read next end first every) {f : Field} (b : f ≡ fieldFor (countAt t next)) where
+    pub whole-no-count : {number place : ℕ} → f ≡ Field.Refused number place → ActHears (numberedScopeAt (nodeAt false depth vars cs t) t handler n (r + 1)) r s u
+    whole-no-count p = act-silent n _ r s u (scope-no-count depth vars cs t handler n r a o b p)
+
+    module _ {k from : ℕ} (q : f ≡ Got k from) (zs : List ℕ) {rest : Out} (d : rest ≡ outNumberedFor end (numberedAt (nodeAt false depth vars cs t) t k (backwards 0 zs) end from)) where
+      pub whole-no-parts : {number place : ℕ} → rest ≡ Out.Refused number place → ActHears (numberedScopeAt (nodeAt false depth vars cs t) t handler n (r + 1)) r s u
+      whole-no-parts p = act-silent n _ r s u (scope-no-parts depth vars cs t handler n r a o b q zs d p)
+
+      pub whole-scope : {stop last : ℕ} {first₂ every₂ : Bool} → rest ≡ Out.Read stop last first₂ every₂ → {v : Noted}
+          → ActHears (nodeAt false depth vars cs t handler (n + 1) (r + 1)) (r + 1) s v
+          → NumberedHears (numberedAt (nodeAt false depth vars cs t) t k (backwards 0 zs) end from) from v u
+          → ActHears (numberedScopeAt (nodeAt false depth vars cs t) t handler n (r + 1)) r s u
+      whole-scope p {v} h g =
+          let x = body-read depth vars cs t handler n r a o in
+          let y = parts-got end (numberedAt (nodeAt false depth vars cs t) t k (backwards 0 zs) end from) d p in
+          let w = node-numbered depth vars cs t k (backwards 0 zs) end from .holds (y .is) in
+          let m = count-stands t next .holds (field-got (countAt t next) b q) in
+          act-hears _ r s u (count-opened depth vars cs t handler n r a o b q zs d ∙ then-found _ _ (y .is))
+          (scope-heard t (x .a) (y .c) r k next from s v u (m .some) (w .many) (w .parts) (node-stands false depth vars cs t handler (n + 1) (r + 1) .holds (x .is)) (stands-ends (m .row) .0)
+          (act-heard _ (r + 1) s v (x .is) h) (parts-heard _ from v u (y .is) g))
+
+-- `numbered_at`
+module _ (depth vars : ℕ) (cs t : List ℕ) (left : ℕ) (known : List ℕ) (n r : ℕ) (s u : Noted) where
+  module _ (e : left ≡ 0) {last : Out} (a : last ≡ outAllFor n (manyIn (nodeAt false depth vars cs t) true true 2 n r)) where
+    pub some-no-last : {number place : ℕ} → last ≡ Out.Refused number place → NumberedHears (numberedAt (nodeAt false depth vars cs t) t left known n r) r s u
+    some-no-last o = parts-silent n _ r s u (parts-no-last depth vars cs t left known n r e a o)
+
+    pub some-last : {next end : ℕ} {first every : Bool} → last ≡ Out.Read next end first every → ActsHear (manyIn (nodeAt false depth vars cs t) true true 2 n r) r s u
+        → NumberedHears (numberedAt (nodeAt false depth vars cs t) t left known n r) r s u
+    some-last o h =
+        parts-hear _ r s u (last-is depth vars cs t left known n r e a o) (acts-heard _ r s u (last-read depth vars cs t left known n r e a o .is) h)
+
+  module _ (z : left ≡ 0 → ⊥) {f : Field} (a : f ≡ fieldFor (faultNumberAt t known r)) where
+    pub some-no-number : {number place : ℕ} → f ≡ Field.Refused number place → NumberedHears (numberedAt (nodeAt false depth vars cs t) t left known n r) r s u
+    some-no-number o = parts-silent n _ r s u (parts-no-number depth vars cs t left known n r z a o)
+
+    module _ {x p : ℕ} (o : f ≡ Got x p) {part : Out} (b : part ≡ outFor n (nodeAt false depth vars cs t true n p)) where
+      pub some-no-part : {number place : ℕ} → part ≡ Out.Refused number place → NumberedHears (numberedAt (nodeAt false depth vars cs t) t left known n r) r s u
+      some-no-part q = parts-silent n _ r s u (parts-no-part depth vars cs t left known n r z a o b q)
+
+      module _ {after end : ℕ} {first every : Bool} (q : part ≡ Out.Read after end first every) (k : ℕ) (zs : List ℕ) (i : backwards (k + 1) zs ≡ x ∷ known) where
+        more-parts : (g : Found Numbered) {v : Noted} → numberedAt (nodeAt false depth vars cs t) t left known n r ≡ andThen g (λ c next. found (alsoNumbered x (part-read depth vars cs t left known n r z a o b q .a) c) next)
+            → v ≡ heardAll (askedIn inRows (part-read depth vars cs t left known n r z a o b q .a) p) s → NumberedHears g after v u
+            → NumberedHears (numberedAt (nodeAt false depth vars cs t) t left known n r) r s u
+        unfolding HeardNumbered
+        more-parts (refused number place) e h w = rw e (record { heard = tt })
+        more-parts (found c next) {v} e h w =
+            let y = part-read depth vars cs t left known n r z a o b q in
+            let m = number-stands t known r .holds (field-got (faultNumberAt t known r) a o) in
+            parts-hear _ r s u {c = alsoNumbered x (y .a) c} e
+            (part-heard t x (y .a) c r p after s v u (stands-ends (m .row) .0) (node-stands false depth vars cs t true n p .holds (y .is)) h (w .heard))
+
+        pub some-more : {v : Noted} → ActHears (nodeAt false depth vars cs t true n p) p s v
+            → NumberedHears (numberedAt (nodeAt false depth vars cs t) t (left - 1) (backwards (k + 1) zs) end after) after v u
+            → NumberedHears (numberedAt (nodeAt false depth vars cs t) t left known n r) r s u
+        some-more h w =
+            let y = part-read depth vars cs t left known n r z a o b q in
+            more-parts _ (parts-opened depth vars cs t left known n r z a o b q) (act-heard _ p s _ (y .is) h) (rw (i, y .end-is) at w)
 
 -- `activities_at`
 module _ (arms : Bool) (depth vars : ℕ) (cs t : List ℕ) (handler later : Bool) (left n r : ℕ) where
@@ -184,7 +319,7 @@ module _ (vars : ℕ) (cs t : List ℕ) (r : ℕ) {parts : Out} (a : parts ≡ o
         let z = root.all-read vars cs t r a o in
         let e : rootAt vars cs t r ≡ found (record { variables = vars; correlation = cs; body = w .a; fault = w .b }) next =
         root.closed vars cs t r a o ∙ rw (sym x ∙ y, sym (root.started vars cs t r a o) ∙ f) in
-        let l : u ≡ heardAll (askedAll inRows (more (w .a) (more (w .b) none)) r) s = acts-heard _ r s u (z .is) h ∙ rw (w .all) in
+        let l : u ≡ heardAll (askedAll inRows [] (more (w .a) (more (w .b) none)) r) s = acts-heard _ r s u (z .is) h ∙ rw (w .all) in
         rw e (record { heard = l })
 
 from-row : (g : Found Plan) {r q : ℕ} {s u : Noted} → PlanHears g r s u → r ≡ q → PlanHears g q s u
@@ -234,7 +369,7 @@ module _ (t : List ℕ) {c : Step} (e : c ≡ stepFor (planAt t)) where
     told : Told (first) (judged [] (askedFrom inRows (got .a) 1) (found (got .a) row)) (found (got .a) row)
     told =
         told-by place-is (judged-by (askedFrom inRows (got .a) 1) (found (got .a) row)
-        (fit-all inRows (more (got .a .body) (more (got .a .fault) none)) 1 (omega arith) (plan-asks t .holds (got .is))))
+        (fit-all inRows [] (more (got .a .body) (more (got .a .fault) none)) 1 (omega arith) (plan-asks t .holds (got .is))))
 
     pub agreed-yes : first ≡ 0 → Next row ≡ stepFor (agreedAt t)
     unfolding agreedAt stepFor

@@ -4,22 +4,22 @@ use native.Mathlib.Omega.{arith}
 use native.Mathlib.Nat.{add-zero}
 use mathlib.Core.Path.{_≡_, refl, sym, ap, _∙_}
 use mathlib.Core.Bool.{Bool, true, false, cond, _&&_, _||_}
-use mathlib.Core.List.{List, [], _∷_, _++_}
+use mathlib.Core.List.{List, [], _∷_, _++_, map}
 use Prim.Native.Nat.{ℕ, zero, suc, _+_, _*_, _/_, _≤_, _<_}
 use lib.Dec.{eqb, ltb, leb}
 use lib.ListN.{length, getD, take, drop, length-append}
 use lib.Seq.{getD-take, getD-drop}
 use Rattle.plan.specs.Agree.{Asked, asking, askedOwn, spanOf, spanAll}
 use Rattle.plan.specs.Found.{Found, refused, found, andThen}
-use Rattle.plan.specs.Read.{Head, head, manyIn, wholeIn, laterOf, startForm}
-use Rattle.plan.specs.Spell.{exchangeNumbers}
-use Rattle.plan.specs.Tree.{Exp, Own, empty, send, receive, set, raise, leave, choose, repeat, sequence, flow, pick, scope, arm, kind, isPick, Act, act, Acts, none, more, Plan, size, count}
+use Rattle.plan.specs.Read.{Head, head, manyIn, laterOf, startForm}
+use Rattle.plan.specs.Spell.{exchangeNumbers, gapsOf, gap, later}
+use Rattle.plan.specs.Tree.{Exp, Own, empty, send, receive, set, raise, leave, choose, repeat, sequence, flow, pick, scope, arm, kind, isPick, numbersOf, Act, act, Acts, none, more, Plan, size, count}
 use Rattle.plan.specs.Within.{variablesWithin, from1}
 use Rattle.plan.proofs.Accepts.{both}
 use Rattle.plan.proofs.Finds.{Finds, finds-refused, finds-itself, finds-found, finds-cond, finds-code, finds-then, finds-so, finds-both}
 use Rattle.plan.proofs.RowsAsked.{Exchanged, AsksOwn, Asks, AsksAll}
-use Rattle.writer.specs.Rows.{expressionRows, ownRows, actRows, actsRows}
-use Rattle.writer.specs.Reading.{cell, tuple, expressionAt, exchangeFits, armAt, codeAt, partsFit, withExpression, partsAt, headAt, armWith, readsAt, actAt, rootAt, headFits, planAt, inRows, rowAsks}
+use Rattle.writer.specs.Rows.{expressionRows, ownRows, alone, actRows, actsRows}
+use Rattle.writer.specs.Reading.{cell, tuple, expressionAt, exchangeFits, armAt, codeAt, partsFit, withExpression, partsAt, headAt, countAt, faultNumberAt, numberedAt, numberedScopeAt, wholeAt, armWith, readsAt, actAt, rootAt, headFits, planAt, inRows, rowAsks}
 use Rattle.writer.proofs.Lines.{Row, Stands, nil, cons, tuple-long}
 use Rattle.writer.proofs.OwnReturns.{There, row-finds, Coded, code-finds}
 
@@ -58,7 +58,8 @@ parts-ask vars cs t r k next there h =
     finds-cond (eqb k 10) (λ e. finds-found tt) (λ e.
     finds-cond (eqb k 11) (λ e. finds-found tt) (λ e.
     finds-cond (eqb k 12) (λ e. finds-found tt) (λ e.
-    finds-found tt)))))))))))))
+    finds-cond (eqb k 13) (λ e. finds-found tt) (λ e.
+    finds-found tt))))))))))))))
 
 head-asks : (vars : ℕ) (cs t : List ℕ) (handler : Bool) (depth n r : ℕ) → Finds (λ h next. AsksOwn (h .own)) (headAt vars cs t handler depth n r)
 unfolding headAt
@@ -84,22 +85,40 @@ many-ask one reads handler later zero n r = finds-found tt
 many-ask one reads handler later (suc k) n r =
     finds-then (reads handler n r) (λ a p x. finds-then (many-ask one reads later later k (n + size a) p) (λ l q y. finds-found (x, y)))
 
-whole-asks : (one : Bool → ℕ → ℕ → Found Act) → AskReads one → (handler later : Bool) (n : ℕ) (h : Head) (next : ℕ) → AsksOwn (h .own)
-    → Finds (λ a q. Asks a) (wholeIn one handler later n h next)
+numbered-ask : (t : List ℕ) (one : Bool → ℕ → ℕ → Found Act) → AskReads one → (left : ℕ) (known : List ℕ) (n r : ℕ)
+    → Finds (λ c next. AsksAll (c .parts)) (numberedAt one t left known n r)
+unfolding numberedAt AsksAll AskReads
+numbered-ask t one reads zero known n r = finds-then (many-ask one reads true true 2 n r) (λ l next x. finds-found x)
+numbered-ask t one reads (suc left) known n r =
+    finds-then (finds-itself (faultNumberAt t known r)) (λ x p e.
+    finds-then (reads true n p) (λ a q y.
+    finds-then (numbered-ask t one reads left (x ∷ known) (n + size a) q) (λ c next z. finds-found (y, z))))
+
+scope-asks : (t : List ℕ) (one : Bool → ℕ → ℕ → Found Act) → AskReads one → (handler : Bool) (n r : ℕ) → Finds (λ a next. Asks a) (numberedScopeAt one t handler n r)
+unfolding numberedScopeAt Asks AsksOwn AskReads
+scope-asks t one reads handler n r =
+    finds-then (reads handler (n + 1) r) (λ body p x.
+    finds-then (finds-itself (countAt t p)) (λ k q e.
+    finds-then (numbered-ask t one reads k [] (n + 1 + size body) q) (λ c next y. finds-found (tt, (x, y)))))
+
+whole-asks : (t : List ℕ) (one : Bool → ℕ → ℕ → Found Act) → AskReads one → (handler later : Bool) (n : ℕ) (h : Head) (next : ℕ) → AsksOwn (h .own)
+    → Finds (λ a q. Asks a) (wholeAt one t handler later n h next)
 unfolding Asks
-whole-asks one reads handler later n h next w = finds-then (many-ask one reads handler later (h .within) (n + 1) next) (λ l q x. finds-found (w, x))
+whole-asks t one reads handler later n h next w =
+    finds-cond (h .numbered) (λ e. scope-asks t one reads handler n next)
+    (λ e. finds-then (many-ask one reads handler later (h .within) (n + 1) next) (λ l q x. finds-found (w, x)))
 
 reads-ask : (t : List ℕ) (one : Bool → ℕ → ℕ → Found Act) → AskReads one → (arms : Bool) (vars : ℕ) → AskReads (readsAt arms one vars t)
 unfolding armWith AskReads
 reads-ask t one reads false vars = reads
-reads-ask t one reads true vars = λ handler n r. finds-then (arm-asks vars t n r) (λ h next w. whole-asks one reads handler handler n h next w)
+reads-ask t one reads true vars = λ handler n r. finds-then (arm-asks vars t n r) (λ h next w. whole-asks t one reads handler handler n h next w)
 
 act-asks : (depth vars : ℕ) (cs t : List ℕ) → AskReads (actAt depth vars cs t)
 unfolding actAt AskReads
 act-asks zero vars cs t = λ handler n r. finds-then (finds-itself (headAt vars cs t handler 0 n r)) (λ h next e. finds-refused)
 act-asks (suc d) vars cs t =
     λ handler n r. finds-then (head-asks vars cs t handler (suc d) n r) (λ h next w.
-    whole-asks (readsAt (isPick (h .own)) (actAt d vars cs t) vars t) (reads-ask t (actAt d vars cs t) (act-asks d vars cs t) (isPick (h .own)) vars)
+    whole-asks t (readsAt (isPick (h .own)) (actAt d vars cs t) vars t) (reads-ask t (actAt d vars cs t) (act-asks d vars cs t) (isPick (h .own)) vars)
     handler (laterOf (h .own) handler) n h next w)
 
 root-asks : (vars : ℕ) (cs t : List ℕ) (r : ℕ) → Finds (λ p next. AsksAll (more (p .body) (more (p .fault) none))) (rootAt vars cs t r)
@@ -150,17 +169,26 @@ own-asked t r (repeat e) within x = refl
 own-asked t r sequence within x = refl
 own-asked t r flow within x = refl
 own-asked t r pick within x = refl
-own-asked t r (scope true) within x = refl
-own-asked t r (scope false) within x = refl
+own-asked t r (scope [] true) within x = refl
+own-asked t r (scope [] false) within x = refl
+own-asked t r (scope (n ∷ ns) undo) within x = refl
 own-asked t r (arm p o vs) within x = arm-row p o vs (first-row x)
 
 -- how many rows an activity takes
+pub alone-long : (ns : List ℕ) → length (alone ns) ≡ length ns
+alone-long [] = refl
+alone-long (x ∷ ns) = rw (alone-long ns)
+
 mutual
   unfolding spanOf inRows actRows
 
   pub span-rows : (a : Act) → spanOf inRows a ≡ length (actRows a)
-  span-rows (act own l) = rw (span-all l) (sym (length-append (ownRows own (count l)) (actsRows l)))
+  span-rows (act own l) =
+      rw (span-all (gapsOf (numbersOf own)) l) (sym (length-append (ownRows own (count l)) (actsRows (gapsOf (numbersOf own)) l)))
 
-  span-all : (l : Acts) → spanAll inRows l ≡ length (actsRows l)
-  span-all none = refl
-  span-all (more a l) = rw (span-rows a, span-all l) (sym (length-append (actRows a) (actsRows l)))
+  span-all : (gs : List (List ℕ)) (l : Acts) → spanAll inRows gs l ≡ length (actsRows gs l)
+  span-all gs none = refl
+  span-all [] (more a l) = rw (span-rows a, span-all [] l) (sym (length-append (actRows a) (actsRows [] l)))
+  span-all (g ∷ gs) (more a l) =
+      rw (span-rows a, span-all gs l)
+      (omega (arith, length-append (alone g) (actRows a ++ actsRows gs l), length-append (actRows a) (actsRows gs l), alone-long g))

@@ -1,12 +1,12 @@
 -- `rows::rows` meets its contract. Assumes nothing.
 use borrow.Author.Needs.{needs}
-use Rattle.rows.proofs.RowsReturns.{rows-no, rows-no-table, rows-few, rows-fit, rows-short, rows-short-table, rows-room, rows-yes, rows-yes-table}
+use Rattle.rows.proofs.RowsReturns.{rows-no, rows-no-table, rows-acts, rows-first, rows-few, rows-fit, rows-short, rows-short-table, rows-room, rows-yes, rows-yes-table}
 use native.Mathlib.Omega.{arith}
 use Rattle.numbers.specs.Shortest.{Bytes}
 use Rattle.rows.proofs.rows.Statement.{statement}
 use Rattle.rows.proofs.rows.Tie as tie
 
-ruleset cases = (rows-no, rows-no-table, rows-few, rows-fit, rows-short, rows-short-table, rows-room, rows-yes, rows-yes-table)
+ruleset cases = (rows-no, rows-no-table, rows-acts, rows-first, rows-few, rows-fit, rows-short, rows-short-table, rows-room, rows-yes, rows-yes-table)
 
 pub rows-spec : {M : Type 1} → statement M
 rows-spec =

@@ -9,7 +9,7 @@ ruleset cases = (due-own, due-leaf, due-operation)
 pub due-after-spec : {M : Type 1} → statement M
 due-after-spec =
     tie.close (tie.spec
-    -- kind-of-requires
+    -- kind-at-requires
     (λ c κs. search needs)
     -- opens-of-requires
     (λ c κs. search needs)

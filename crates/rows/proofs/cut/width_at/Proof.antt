@@ -9,7 +9,7 @@ ruleset cases = (width-own, width-leaf, width-operation)
 pub width-at-spec : {M : Type 1} → statement M
 width-at-spec =
     tie.close (tie.spec
-    -- kind-of-requires
+    -- kind-at-requires
     (λ c κs. search needs)
     -- count-of-requires
     (λ c κs. search needs)
