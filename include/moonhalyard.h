@@ -260,10 +260,13 @@ uint64_t moonhalyard_text(const uint8_t *text, size_t n, uint8_t *plan, size_t r
    Refused, nothing in `text` changes, and bytes behind the text never change. */
 uint64_t moonhalyard_draw(const uint8_t *plan, size_t n, uint8_t *text, size_t room);
 
-/* A plan as a table: a row of 20 numbers for the head and for each activity, arm and expression, in the order of the plan's bytes. The first number
-   of a row is how many numbers it has; these follow as the plan has them, and 0 in the places behind them:
+/* A plan as a table: a row of 20 numbers for the head, for each activity, arm and expression, and for each number between the parts of a scope, in the order
+   of the plan's bytes. The first number of a row is how many numbers it has; these follow as the plan has them, and 0 in the places behind them:
      the head              1 (the version), how many variables, how many of them are for correlation, and the numbers of these
      0 empty, 4 raise, 5 leave, 11 scope                  its code (after a scope its body, its fault part and its undo part)
+     12 scope, 13 raise    its code (after the scope its body and its fault part); its code and a number
+     14 scope              its code; its body is next, then the count of its fault parts by number, alone in its row, then for each of them its number,
+                           alone in its row, and the part; then its general fault part and its undo part
      1 send, 2 receive     its code, partner, operation, how many variables, and their numbers
      3 set                 its code and a variable; the rows of its expression are next
      6 choose, 7 repeat    its code; the rows of its expression are next, then its activities
