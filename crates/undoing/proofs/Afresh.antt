@@ -8,15 +8,15 @@ use lib.ListN.{length, getD, set, length-set}
 use lib.Seq.{getD-set-same, getD-set-other}
 use lib.Dec.{eqb, ltb, leb}
 use borrow.Author.Tests.{eqb-true, eqb-false, ltb-true, ltb-false}
-use Rattle.plan.specs.Tree.{Own, kind, isScope, hasUndo, Act, act, Acts, none, more, Plan, size, sizes, count, scope}
+use Rattle.plan.specs.Tree.{Own, kind, isScope, hasUndo, Act, act, Acts, none, more, Plan, size, sizes, count, scope, numbersOf, generalPart, undoPart}
 use Rattle.order.specs.declared.Order.{Order}
 use Rattle.order.specs.Lists.{some}
-use Rattle.order.specs.State.{Name, root, inner, idle, undoing, handling, halted, withdrawing, faulty, active, done, markAt, marked, markOf, marking}
+use Rattle.order.specs.State.{Name, root, inner, idle, undoing, handling, halted, withdrawing, faulty, active, done, markAt, marked, markOf, marking, stateOf, choiceOf, going}
 use Rattle.order.specs.Event.{Event, stopped}
 use Rattle.order.specs.Begin.{Begun, nothingBegun, begin, beginInTurn, beginAfter, part, partAt, beginPart}
 use Rattle.order.specs.declared.Way.{Way as Result}
 use Rattle.order.specs.declared.Way.the-variants.{Running as running, Over as over, Raising as raising, Leaving as leaving, Undone as undone, UndoRaising as undoRaising}
-use Rattle.order.specs.Scope.{Outcome, runs, begunIn, whereOver, Scope, scopeAt, isOpen, innerRuns, beginUndo, beginUndoFirst, beginUndoIn, startUndo, undo, ends, handle, undoes, turns, rememberedFor, untouched, withdraws, stop, stopAll, stopFirst, faults, breaks, looksAgain, bodyOver, bodyRaised, undoOver, undoRaised, fromBody, partOver, partRaised, fromFault}
+use Rattle.order.specs.Scope.{Outcome, runs, begunIn, whereOver, Scope, scopeAt, chosenPart, chosenAt, isOpen, innerRuns, beginUndo, beginUndoFirst, beginUndoIn, startUndo, undo, ends, handle, undoes, turns, rememberedFor, untouched, withdraws, stop, stopAll, stopFirst, faults, breaks, looksAgain, bodyOver, bodyRaised, undoOver, undoRaised, fromBody, partOver, partRaised, fromFault}
 use Rattle.order.specs.Scope as definitions
 use Rattle.undoing.specs.Ties.{Place, bodyOf, nameOf, placeOf, isTurned}
 use Rattle.undoing.specs.Orderly.{isBeganOf}
@@ -26,7 +26,12 @@ use Rattle.undoing.proofs.Parts.{decide}
 use Rattle.undoing.proofs.Accounts.{waits, phase, Known}
 use Rattle.undoing.proofs.Places.{first-of, second-of}
 use Rattle.undoing.proofs.Marks.{trio, Agree, Quiet, Run, run-awaits, run-one, run-all, run-body, run-done, run-turned, One, one-here, one-later, All, all-none, all-run, all-quiet, Turned, turned-waits, turned-undoes, turned-heals, Stopped, stopped-part, stopped-quiet, stopped-scope, StoppedIn, stopped-none, stopped-more, Stoppable, StoppableIn, able-more, quiet-part, agree-above, stoppable-agree, stoppable-in-agree, parts-stoppable, Found, found-quiet, found-open, found-turned, scope-found, turned-not-open, kept-set}
-use Rattle.undoing.proofs.Orders.{before-of, innerAt, Sits, sits-part, sits-scope, SitsIn, sits-none, sits-more, Remedy, remedy, rest-undo}
+use Rattle.undoing.proofs.Orders.{before-of, innerAt, Sits, sits-part, sits-scope, SitsIn, sits-none, sits-more, Remedy, remedy}
+use Rattle.undoing.proofs.Choices.{chosen-each, general-there}
+use Rattle.undoing.proofs.Choices as choices
+use Rattle.undoing.proofs.Remedies.{part-from, part-to, undoer}
+use Rattle.undoing.proofs.Healing.{undo-there, undo-all, undo-turned}
+use Rattle.undoing.proofs.Lasting.{part-knows, KnowsEach, each-knows}
 use Rattle.undoing.proofs.Seats.{mark-kept}
 use Rattle.undoing.proofs.Stopping.{Stops, stop-is, stops, stops-all}
 use Rattle.undoing.proofs.Truly.{began-in, Arms, Knows, knows, KnowsIn, knows-none, knows-more}
@@ -86,8 +91,9 @@ module _ (p : Plan) (f : ℕ → ℕ) (A : ℕ → Type 0) (ms : List ℕ) where
   mutual
     pub data Calm : Act → ℕ → Type 0 where
       calm-part : {own : Own} {within : Acts} {k : ℕ} → isScope own ≡ false → CalmIn within (k + 1) → Calm (act own within) k
-      calm-undo : {b g u : Act} {k : ℕ} → News (k + 1 + size b + size g) (size u) → (isOpen (getD ms k 0) ≡ true → Calm b (k + 1)) → Calm (act (scope true) (trio b g (more u none))) k
-      calm-through : {b g : Act} {u : Acts} {k : ℕ} → Calm b (k + 1) → Calm (act (scope false) (trio b g u)) k
+      calm-undo : {xs : List ℕ} {b : Act} {l : Acts} {k : ℕ} → News (partAt (generalPart xs) l (k + 1 + size b)) (size (part (generalPart xs) l)) → (isOpen (getD ms k 0) ≡ true → Calm b (k + 1))
+          → Calm (act (scope xs true) (more b l)) k
+      calm-through : {xs : List ℕ} {b : Act} {l : Acts} {k : ℕ} → Calm b (k + 1) → Calm (act (scope xs false) (more b l)) k
 
     pub data CalmIn : Acts → ℕ → Type 0 where
       calm-none : {c : ℕ} → CalmIn none c
@@ -99,9 +105,9 @@ module _ (p : Plan) (f : ℕ → ℕ) (A : ℕ → Type 0) (ms : List ℕ) where
 
     pub quiet-calm : {x : Place} {a : Act} {k : ℕ} → Sits p x a k → Quiet ms k (size a) → Calm a k
     quiet-calm (sits-part s g u y l) q = calm-part s (quiet-calm-in l (quiet-part q (omega arith) (omega arith)))
-    quiet-calm (sits-scope {v = true} {b = b} {f = g} {k = k} kn d i sb y sf (rest-undo {u = u} su)) q =
-        calm-undo {b = b} {g = g} {u = u} {k = k} (quiet-news (quiet-part q (omega arith) (omega arith))) (λ e. quiet-calm sb (quiet-part q (omega arith) (omega arith)))
-    quiet-calm (sits-scope {v = false} kn d i sb y sf su) q = calm-through (quiet-calm sb (quiet-part q (omega arith) (omega arith)))
+    quiet-calm (sits-scope {v = true} kn d i sb y) q =
+        calm-undo (quiet-news (undo-all y refl (quiet-part q (omega arith) (omega arith)))) (λ e. quiet-calm sb (quiet-part q (omega arith) (omega arith)))
+    quiet-calm (sits-scope {v = false} kn d i sb y) q = calm-through (quiet-calm sb (quiet-part q (omega arith) (omega arith)))
 
     pub quiet-calm-in : {x : Place} {l : Acts} {c : ℕ} → SitsIn p x l c → Quiet ms c (sizes l) → CalmIn l c
     quiet-calm-in sits-none q = calm-none
@@ -116,7 +122,7 @@ module _ (p : Plan) (f : ℕ → ℕ) (A : ℕ → Type 0) (ms : List ℕ) where
 
     in-undo : {x : Place} {a : Act} {k : ℕ} → Sits p x a k → isUndo x ≡ true → (j : ℕ) → k ≤ j → j < k + size a → isUndo (placeOf p j) ≡ true
     in-undo (sits-part {k = k} s g u y l) i j h e = node-undo k j (ap isUndo (u .place) ∙ i) (λ n. in-undo-in l i j n (omega arith)) h
-    in-undo (sits-scope kn d z sb y sf su) i j h e = absurd (false≢true i)
+    in-undo (sits-scope kn d z sb y) i j h e = absurd (false≢true i)
 
     in-undo-in : {x : Place} {l : Acts} {c : ℕ} → SitsIn p x l c → isUndo x ≡ true → (j : ℕ) → c ≤ j → j < c + sizes l → isUndo (placeOf p j) ≡ true
     in-undo-in sits-none i j h e = absurd (omega arith)
@@ -139,24 +145,26 @@ module _ (p : Plan) (f : ℕ → ℕ) (A : ℕ → Type 0) (ms : List ℕ) where
 
     excuse-calm : {x : Place} {a : Act} {k : ℕ} → Sits p x a k → Excuse k (size a) → Calm a k
     excuse-calm (sits-part s g u y l) q = calm-part s (excuse-calm-in l (excuse-part q (omega arith) (omega arith)))
-    excuse-calm (sits-scope {v = true} {b = b} {f = g} {k = k} kn d i sb y sf (rest-undo {u = u} su)) q =
-        calm-undo {b = b} {g = g} {u = u} {k = k} (record { at = λ j x z. new-again (q .at j (omega arith) (omega arith) (remedy-undo su refl j x z)) })
+    excuse-calm (sits-scope {xs} {v = true} {b = b} {f} {u} {k} kn d i sb y) q =
+        let lo = part-from (generalPart xs) (more f u) (k + 1 + size b) in
+        let hi = part-to (generalPart xs) (more f u) (k + 1 + size b) (undo-there y refl) in
+        calm-undo {l = more f u} (record { at = λ j x z. new-again (q .at j (omega arith) (omega arith) (remedy-undo (undoer y) refl j x z)) })
         (λ e. excuse-calm sb (excuse-part q (omega arith) (omega arith)))
-    excuse-calm (sits-scope {v = false} kn d i sb y sf su) q = calm-through (excuse-calm sb (excuse-part q (omega arith) (omega arith)))
+    excuse-calm (sits-scope {v = false} kn d i sb y) q = calm-through (excuse-calm sb (excuse-part q (omega arith) (omega arith)))
 
     excuse-calm-in : {x : Place} {l : Acts} {c : ℕ} → SitsIn p x l c → Excuse c (sizes l) → CalmIn l c
     excuse-calm-in sits-none q = calm-none
     excuse-calm-in (sits-more s y) q = calm-more (excuse-calm s (excuse-part q (omega arith) (omega arith))) (excuse-calm-in y (excuse-part q (omega arith) (omega arith)))
 
   -- it has turned
-  turned-is : {m kb kf : ℕ} {b g : Act} → Turned ms m b kb g kf → isTurned m ≡ true
+  turned-is : {xs : List ℕ} {m kb kf : ℕ} {b : Act} {l : Acts} → Turned ms xs m b kb l kf → isTurned m ≡ true
   turned-is (turned-waits {w} {m} e s i q) = rw (waits-is m w e)
   turned-is (turned-undoes {w} {m} e s q) = rw (undoes-is m w e, or-true)
   turned-is (turned-heals {m} e s q) = rw (heals-is m e, or-true, or-true)
 
   -- What stands in an undo part in the body of a scope that has none, and has turned, may begin: a scope further out may have it from an earlier time.
   pub record Excused : Type 0 where
-    pub at : (k : ℕ) (n : Name) (ns : List Name) (b g : Act) (u : Acts) → Known p (innerAt false k n ns (trio b g u)) → isTurned (getD ms k 0) ≡ true → Excuse (k + 1) (size b)
+    pub at : (xs : List ℕ) (k : ℕ) (n : Name) (ns : List Name) (b g : Act) (u : Acts) → Known p (innerAt xs false k n ns (trio b g u)) → isTurned (getD ms k 0) ≡ true → Excuse (k + 1) (size b)
 
   module _ (ex : Excused) where
     -- where it runs
@@ -169,18 +177,18 @@ module _ (p : Plan) (f : ℕ → ℕ) (A : ℕ → Type 0) (ms : List ℕ) where
       run-calm (sits-part s g u y l) (run-all e r z) = calm-part s (all-calm l r)
       run-calm (sits-part s g u y l) (run-body e r q) = absurd (false≢true (sym s))
       run-calm (sits-part s g u y l) (run-done e q) = absurd (false≢true (sym s))
-      run-calm (sits-part s g u y l) (run-turned e q) = absurd (false≢true (sym s))
-      run-calm (sits-scope kn d i sb y sf su) (run-awaits s x e q) = absurd (false≢true (sym s))
-      run-calm (sits-scope kn d i sb y sf su) (run-one s e r) = absurd (false≢true (sym s))
-      run-calm (sits-scope {v = true} {b = b} {f = g} {k = k} kn d i sb y sf (rest-undo {u = u} su)) (run-body e r q) =
-          calm-undo {b = b} {g = g} {u = u} {k = k} (quiet-news (quiet-part q (omega arith) (omega arith))) (λ v. run-calm sb r)
-      run-calm (sits-scope {v = true} {b = b} {f = g} {k = k} kn d i sb y sf (rest-undo {u = u} su)) (run-done e q) =
-          calm-undo {b = b} {g = g} {u = u} {k = k} (quiet-news (quiet-part q (omega arith) (omega arith))) (λ v. quiet-calm sb (quiet-part q (omega arith) (omega arith)))
-      run-calm (sits-scope {v = true} {b = b} {f = g} {k = k} kn d i sb y sf (rest-undo {u = u} su)) (run-turned e q) =
-          calm-undo {b = b} {g = g} {u = u} {k = k} (quiet-news (quiet-part q (omega arith) (omega arith))) (λ v. absurd (false≢true (sym (turned-not-open e) ∙ v)))
-      run-calm (sits-scope {v = false} kn d i sb y sf su) (run-body e r q) = calm-through (run-calm sb r)
-      run-calm (sits-scope {v = false} kn d i sb y sf su) (run-done e q) = calm-through (quiet-calm sb (quiet-part q (omega arith) (omega arith)))
-      run-calm (sits-scope {v = false} {n} {c} {ns} {b} {f = g} {u} {k} kn d i sb y sf su) (run-turned e q) = calm-through (excuse-calm sb (ex .at k n ns b g u kn (turned-is e)))
+      run-calm (sits-part s g u y l) (run-turned e) = absurd (false≢true (sym s))
+      run-calm (sits-scope kn d i sb y) (run-awaits s x e q) = absurd (false≢true (sym s))
+      run-calm (sits-scope kn d i sb y) (run-one s e r) = absurd (false≢true (sym s))
+      run-calm (sits-scope {v = true} kn d i sb y) (run-body e r q) =
+          calm-undo (quiet-news (undo-all y refl q)) (λ v. run-calm sb r)
+      run-calm (sits-scope {v = true} kn d i sb y) (run-done e q) =
+          calm-undo (quiet-news (undo-all y refl (quiet-part q (omega arith) (omega arith)))) (λ v. quiet-calm sb (quiet-part q (omega arith) (omega arith)))
+      run-calm (sits-scope {v = true} kn d i sb y) (run-turned e) =
+          calm-undo (quiet-news (undo-turned y refl e)) (λ v. absurd (false≢true (sym (turned-not-open e) ∙ v)))
+      run-calm (sits-scope {v = false} kn d i sb y) (run-body e r q) = calm-through (run-calm sb r)
+      run-calm (sits-scope {v = false} kn d i sb y) (run-done e q) = calm-through (quiet-calm sb (quiet-part q (omega arith) (omega arith)))
+      run-calm (sits-scope {xs} {v = false} {n} {c} {ns} {b} {f = g} {u} {k} kn d i sb y) (run-turned e) = calm-through (excuse-calm sb (ex .at xs k n ns b g u kn (turned-is e)))
 
       one-calm : {x : Place} {l : Acts} {c : ℕ} → SitsIn p x l c → One ms l c → CalmIn l c
       one-calm (sits-more s y) (one-here r q) = calm-more (run-calm s r) (quiet-calm-in y q)
@@ -197,17 +205,24 @@ module _ (p : Plan) (f : ℕ → ℕ) (A : ℕ → Type 0) (ms : List ℕ) where
 
       pub stopped-calm : {x : Place} {a : Act} {k : ℕ} → Sits p x a k → Stopped ms a k → Calm a k
       stopped-calm (sits-part s g u y l) (stopped-part s₁ e r) = calm-part s (stopped-calm-in l r)
-      stopped-calm (sits-part s g u y l) (stopped-scope e q) = absurd (false≢true (sym s))
+      stopped-calm (sits-part s g u y l) (stopped-scope e) = absurd (false≢true (sym s))
       stopped-calm (sits-part s g u y l) (stopped-quiet q) = quiet-calm (sits-part s g u y l) q
-      stopped-calm (sits-scope kn d i sb y sf su) (stopped-quiet q) = quiet-calm (sits-scope kn d i sb y sf su) q
-      stopped-calm (sits-scope kn d i sb y sf su) (stopped-part s e r) = absurd (false≢true (sym s))
-      stopped-calm (sits-scope {v = true} {b = b} {f = g} {k = k} kn d i sb y sf (rest-undo {u = u} su)) (stopped-scope e q) =
-          calm-undo {b = b} {g = g} {u = u} {k = k} (quiet-news (quiet-part q (omega arith) (omega arith))) (λ v. absurd (false≢true (sym (turned-not-open e) ∙ v)))
-      stopped-calm (sits-scope {v = false} {n} {c} {ns} {b} {f = g} {u} {k} kn d i sb y sf su) (stopped-scope e q) = calm-through (excuse-calm sb (ex .at k n ns b g u kn (turned-is e)))
+      stopped-calm (sits-scope kn d i sb y) (stopped-quiet q) = quiet-calm (sits-scope kn d i sb y) q
+      stopped-calm (sits-scope kn d i sb y) (stopped-part s e r) = absurd (false≢true (sym s))
+      stopped-calm (sits-scope {v = true} kn d i sb y) (stopped-scope e) =
+          calm-undo (quiet-news (undo-turned y refl e)) (λ v. absurd (false≢true (sym (turned-not-open e) ∙ v)))
+      stopped-calm (sits-scope {xs} {v = false} {n} {c} {ns} {b} {f = g} {u} {k} kn d i sb y) (stopped-scope e) = calm-through (excuse-calm sb (ex .at xs k n ns b g u kn (turned-is e)))
 
       stopped-calm-in : {x : Place} {l : Acts} {c : ℕ} → SitsIn p x l c → StoppedIn ms l c → CalmIn l c
       stopped-calm-in sits-none stopped-none = calm-none
       stopped-calm-in (sits-more s y) (stopped-more r q) = calm-more (stopped-calm s r) (stopped-calm-in y q)
+
+  -- none of a list without arms is an arm
+  pub part-named : (l : Acts) → Arms false l → (i : ℕ) → i < count l → Named f (part i l)
+  unfolding part count
+  part-named none r i h = absurd (omega arith)
+  part-named (more (act own within) l) r zero h = r .0
+  part-named (more (act own within) l) r (suc i) h = part-named l (r .1) i (omega arith)
 
   -- the undo part of a scope in it
   cond-fresh : (v : Bool) (x y : Begun) → Fresh (x .log) → Fresh (y .log) → Fresh (cond v x y .log)
@@ -219,18 +234,17 @@ module _ (p : Plan) (f : ℕ → ℕ) (A : ℕ → Type 0) (ms : List ℕ) where
   none-begun ns = fresh-none [] (λ j. refl)
 
   mutual
-    unfolding beginUndo beginPart part partAt kind
+    unfolding beginUndo beginPart part partAt kind count
 
     undo-fresh : {a : Act} {k : ℕ} → Calm a k → Knows f a k → (e : ℕ) (ns : List ℕ) → Fresh (beginUndo a k e ns .log)
     undo-fresh (calm-part {own} {within} {k} s c) (knows x n r y) e ns =
         subst (λ (b : Begun). Fresh (b .log))
-        (sym (second-of (isScope own) (cond (hasUndo own) (cond (eqb k e) (beginPart 2 within (k + 1) ns) (nothingBegun ns)) (beginUndoFirst within (k + 1) e ns)) (beginUndoIn within (k + 1) e ns) (beginUndo (act own within) k e ns) refl s))
+        (sym (second-of (isScope own) (cond (hasUndo own) (cond (eqb k e) (beginPart (undoPart (numbersOf own)) within (k + 1) ns) (nothingBegun ns)) (beginUndoFirst within (k + 1) e ns)) (beginUndoIn within (k + 1) e ns) (beginUndo (act own within) k e ns) refl s))
         (undo-in-fresh c y e ns)
-    undo-fresh (calm-undo {b} {g} {u} {k} w c) (knows x n r (knows-more kb (knows-more kf (knows-more ku knows-none)))) e ns =
-        cond-fresh (eqb k e) (beginPart 2 (trio b g (more u none)) (k + 1) ns) (nothingBegun ns) (begin-fresh ku (third b g u r) w ns) (none-begun ns)
-      where
-        third : (b g u : Act) → Arms false (trio b g (more u none)) → Named f u
-        third (act ob wb) (act og wg) (act ou wu) r = r .1 .1 .0
+    undo-fresh (calm-undo {xs} {b} {l} {k} w c) (knows x n r (knows-more kb kl)) e ns =
+        let h = choices.undo-there (scope xs true) (count (more b l)) refl n in
+        cond-fresh (eqb k e) (beginPart (undoPart xs) (more b l) (k + 1) ns) (nothingBegun ns)
+        (begin-fresh (part-knows f kl (generalPart xs) (omega arith)) (part-named (more b l) r (undoPart xs) h) w ns) (none-begun ns)
     undo-fresh (calm-through c) (knows x n r (knows-more kb y)) e ns = undo-fresh c kb e ns
 
     undo-in-fresh : {l : Acts} {c : ℕ} → CalmIn l c → KnowsIn f l c → (e : ℕ) (ns : List ℕ) → Fresh (beginUndoIn l c e ns .log)
@@ -259,10 +273,20 @@ module _ (p : Plan) (f : ℕ → ℕ) (A : ℕ → Type 0) (ms : List ℕ) where
   unfolding some
   fresh-runs o = fresh-none [] (λ j. refl)
 
-  -- A scope whose body is calm and whose fault part may begin.
-  module _ (s : Scope) (kb : Knows f (s .body) (s .bodyAt)) (kf : Knows f (s .fault) (s .faultAt)) (i : Named f (s .fault)) (c : Calm (s .body) (s .bodyAt)) where
+  -- each fault part that a scope may choose is no arm, and may begin
+  abbrev pub NamedEach : Scope → Type 0
+  NamedEach s = (choice : ℕ) → Named f (chosenPart choice s)
+
+  abbrev pub NewsEach : Scope → Type 0
+  NewsEach s = (choice : ℕ) → News (chosenAt choice s) (size (chosenPart choice s))
+
+  pub each-named : (xs : List ℕ) (k : ℕ) (within : Acts) → Arms false within → generalPart xs < count within → NamedEach (scopeAt xs k within)
+  each-named xs k within r n = chosen-each (λ a j. Named f a) xs k within (λ i x z. part-named within r i (omega arith))
+
+  -- A scope whose body is calm and whose fault parts may begin.
+  module _ (s : Scope) (kb : Knows f (s .body) (s .bodyAt)) (kf : KnowsEach f s) (i : NamedEach s) (c : Calm (s .body) (s .bodyAt)) where
     abbrev May : (w : Bool) → Type 0
-    May w = w ≡ true → News (s .faultAt) (size (s .fault))
+    May w = w ≡ true → NewsEach s
 
     ends-fresh : (o : Order) → Fresh (ends s o .log)
     unfolding some isBeganOf
@@ -273,37 +297,38 @@ module _ (p : Plan) (f : ℕ → ℕ) (A : ℕ → Type 0) (ms : List ℕ) where
     list-fresh [] o = fresh-none [] (λ j. refl)
     list-fresh (x ∷ l) o = fresh-where (undo l s) (startUndo x s o) (undo-fresh c kb x (o .marks)) (λ q. list-fresh l q)
 
-    handle-fresh : (o : Order) → News (s .faultAt) (size (s .fault)) → Fresh (handle s o .log)
+    handle-fresh : (o : Order) → NewsEach s → Fresh (handle s o .log)
     unfolding handle
     handle-fresh o w =
-        let o₁ = marking (s .name) handling o in
-        fresh-where (ends s) (begunIn o₁ (begin (s .fault) (s .faultAt) (o₁ .marks))) (begin-fresh kf i w (o₁ .marks)) (λ q. ends-fresh q)
+        let o₁ = going (s .name) handling o in
+        let c = choiceOf (s .name) o in
+        fresh-where (ends s) (begunIn o₁ (begin (chosenPart c s) (chosenAt c s) (o₁ .marks))) (begin-fresh (kf c) (i c) (w c) (o₁ .marks)) (λ q. ends-fresh q)
 
     undoes-fresh : (w : Bool) → May w → (o : Order) → Fresh (undoes w s o .log)
     unfolding undoes
-    undoes-fresh true w o = let o₁ = marking (s .name) undoing o in fresh-where (handle s) (undo (rememberedFor s o₁) s o₁) (list-fresh (rememberedFor s o₁) o₁) (λ q. handle-fresh q (w refl))
+    undoes-fresh true w o = let o₁ = going (s .name) undoing o in fresh-where (handle s) (undo (rememberedFor s o₁) s o₁) (list-fresh (rememberedFor s o₁) o₁) (λ q. handle-fresh q (w refl))
     undoes-fresh false w o = let o₁ = marking (s .name) withdrawing o in fresh-where (ends s) (undo (rememberedFor s o₁) s o₁) (list-fresh (rememberedFor s o₁) o₁) (λ q. ends-fresh q)
 
-    pub undone-fresh : News (s .faultAt) (size (s .fault)) → (o : Order) → Fresh (undoOver s o .log)
+    pub undone-fresh : NewsEach s → (o : Order) → Fresh (undoOver s o .log)
     unfolding undoOver
     undone-fresh h o =
-        fresh-either (eqb (markOf (s .name) o) undoing) (undoes true s o) (elim (eqb (markOf (s .name) o) withdrawing) [ true ↦ undoes false s o | false ↦ runs o ]) (undoOver s o) refl (λ v. undoes-fresh true (λ e. h) o)
+        fresh-either (eqb (stateOf (s .name) o) undoing) (undoes true s o) (elim (eqb (markOf (s .name) o) withdrawing) [ true ↦ undoes false s o | false ↦ runs o ]) (undoOver s o) refl (λ v. undoes-fresh true (λ e. h) o)
         (λ v. fresh-either (eqb (markOf (s .name) o) withdrawing) (undoes false s o) (runs o) _ refl (λ v. undoes-fresh false (λ e. h) o) (λ v. fresh-runs o))
 
   -- One that turns when none of its inner scopes is left running, and whose body is calm then.
-  module _ (s : Scope) (kb : Knows f (s .body) (s .bodyAt)) (kf : Knows f (s .fault) (s .faultAt)) (i : Named f (s .fault)) where
+  module _ (s : Scope) (kb : Knows f (s .body) (s .bodyAt)) (kf : KnowsEach f s) (i : NamedEach s) where
     abbrev Then : Order → Type 0
     Then o = innerRuns (s .body) (s .bodyAt) (o .marks) ≡ false → Calm (s .body) (s .bodyAt)
 
-    pub turns-fresh : (w : Bool) → (w ≡ true → News (s .faultAt) (size (s .fault))) → (o : Order) → Then o → Fresh (turns w s o .log)
+    pub turns-fresh : (w : Bool) → (w ≡ true → NewsEach s) → (o : Order) → Then o → Fresh (turns w s o .log)
     unfolding turns
     turns-fresh w h o c = fresh-either (innerRuns (s .body) (s .bodyAt) (o .marks)) (runs o) (undoes w s o) (turns w s o) refl (λ v. fresh-runs o) (λ v. undoes-fresh s kb kf i (c v) w h o)
 
-    module _ (h : News (s .faultAt) (size (s .fault))) where
+    module _ (h : NewsEach s) where
       pub looks-fresh : (o : Order) → Then o → Fresh (looksAgain s o .log)
       unfolding looksAgain
       looks-fresh o c =
-          fresh-either (eqb (markOf (s .name) o) faulty) (turns true s o) (elim (eqb (markOf (s .name) o) halted) [ true ↦ turns false s o | false ↦ runs o ]) (looksAgain s o) refl (λ v. turns-fresh true (λ e. h) o c)
+          fresh-either (eqb (stateOf (s .name) o) faulty) (turns true s o) (elim (eqb (markOf (s .name) o) halted) [ true ↦ turns false s o | false ↦ runs o ]) (looksAgain s o) refl (λ v. turns-fresh true (λ e. h) o c)
           (λ v. fresh-either (eqb (markOf (s .name) o) halted) (turns false s o) (runs o) _ refl (λ v. turns-fresh false (λ e. h) o c) (λ v. fresh-runs o))
 
       pub over-fresh : (o : Order) → Then o → Fresh (bodyOver s o .log)
@@ -316,7 +341,7 @@ module _ (p : Plan) (f : ℕ → ℕ) (A : ℕ → Type 0) (ms : List ℕ) where
 
   pub undo-raised-fresh : (s : Scope) (number : ℕ) (o : Order) → Fresh (undoRaised number s o .log)
   unfolding undoRaised
-  undo-raised-fresh s number o = fresh-either (eqb (markOf (s .name) o) undoing || eqb (markOf (s .name) o) withdrawing) (breaks number s o) (runs o) (undoRaised number s o) refl (λ v. breaks-fresh s number o) (λ v. fresh-runs o)
+  undo-raised-fresh s number o = fresh-either (eqb (stateOf (s .name) o) undoing || eqb (markOf (s .name) o) withdrawing) (breaks number s o) (runs o) (undoRaised number s o) refl (λ v. breaks-fresh s number o) (λ v. fresh-runs o)
 
   -- what a scope makes of a step in its fault part
   pub fault-fresh : (s : Scope) (r : Outcome) → Fresh (r .log) → Fresh (fromFault s r .log)
@@ -325,8 +350,8 @@ module _ (p : Plan) (f : ℕ → ℕ) (A : ℕ → Type 0) (ms : List ℕ) where
     where
       go : (x : Result) → Fresh (fromFault s (record { result = x; order = r .order; log = r .log }) .log)
       go running = w
-      go over = fresh-append (r .log) (partOver s (r .order) .log) w (fresh-either (eqb (markOf (s .name) (r .order)) handling) (ends s (r .order)) (runs (r .order)) _ refl (λ v. fresh-none (ends s (r .order) .log) (λ j. refl)) (λ v. fresh-runs (r .order)))
-      go (raising x) = fresh-append (r .log) (partRaised x s (r .order) .log) w (fresh-either (eqb (markOf (s .name) (r .order)) handling) (breaks x s (r .order)) (runs (r .order)) _ refl (λ v. breaks-fresh s x (r .order)) (λ v. fresh-runs (r .order)))
+      go over = fresh-append (r .log) (partOver s (r .order) .log) w (fresh-either (eqb (stateOf (s .name) (r .order)) handling) (ends s (r .order)) (runs (r .order)) _ refl (λ v. fresh-none (ends s (r .order) .log) (λ j. refl)) (λ v. fresh-runs (r .order)))
+      go (raising x) = fresh-append (r .log) (partRaised x s (r .order) .log) w (fresh-either (eqb (stateOf (s .name) (r .order)) handling) (breaks x s (r .order)) (runs (r .order)) _ refl (λ v. breaks-fresh s x (r .order)) (λ v. fresh-runs (r .order)))
       go leaving = w
       go undone = w
       go (undoRaising x) = w
@@ -344,27 +369,24 @@ module _ (p : Plan) (f : ℕ → ℕ) (A : ℕ → Type 0) (ms : List ℕ) where
   agree-set : {k n : ℕ} (j v : ℕ) (ns : List ℕ) → j < k → Agree k n ns (set ns j v)
   agree-set j v ns h = record { at = λ i x y. getD-set-other ns j i v 0 (omega arith) }
 
-  withdraws-fresh : (b g : Act) (u : Acts) (k : ℕ) (r : definitions.Stopped) → Knows f b (k + 1) → Knows f g (k + 1 + size b) → Named f g → Calm b (k + 1) → Fresh (r .log)
-      → Fresh (withdraws k (scopeAt k (trio b g u)) r .log)
+  withdraws-fresh : (xs : List ℕ) (b g : Act) (u : Acts) (k : ℕ) (r : definitions.Stopped) → Knows f b (k + 1) → KnowsEach f (scopeAt xs k (trio b g u)) → NamedEach (scopeAt xs k (trio b g u)) → Calm b (k + 1) → Fresh (r .log)
+      → Fresh (withdraws k (scopeAt xs k (trio b g u)) r .log)
   unfolding withdraws part partAt isBeganOf
-  withdraws-fresh b g u k r kb kf i c w =
+  withdraws-fresh xs b g u k r kb kf i c w =
       fresh-event (stopped k) _ (λ j. refl)
-      (fresh-append (r .log) (turns false (scopeAt k (trio b g u)) (r .order) .log) w (turns-fresh (scopeAt k (trio b g u)) kb kf i false (λ e. absurd (false≢true e)) (r .order) (λ v. c)))
-
-  second : (b g : Act) (u : Acts) → Arms false (trio b g u) → Named f g
-  second (act ob wb) (act og wg) u r = r .1 .0
+      (fresh-append (r .log) (turns false (scopeAt xs k (trio b g u)) (r .order) .log) w (turns-fresh (scopeAt xs k (trio b g u)) kb kf i false (λ e. absurd (false≢true e)) (r .order) (λ v. c)))
 
   -- a scope is stopped, as it is found
-  scope-fresh : (x : Bool) (b g : Act) (u : Acts) (k : ℕ) (o : Order) → Knows f b (k + 1) → Knows f g (k + 1 + size b) → Named f g → (isOpen (getD ms k 0) ≡ true → Calm b (k + 1))
-      → Opened k (size (act (scope x) (trio b g u))) (o .marks) → Found (o .marks) b g u k → (Calm b (k + 1) → Stoppable (o .marks) b (k + 1) → Fresh (stop b (k + 1) (marked k halted o) .log))
-      → Fresh (stop (act (scope x) (trio b g u)) k o .log)
+  scope-fresh : (xs : List ℕ) (x : Bool) (b g : Act) (u : Acts) (k : ℕ) (o : Order) → Knows f b (k + 1) → KnowsEach f (scopeAt xs k (trio b g u)) → NamedEach (scopeAt xs k (trio b g u)) → (isOpen (getD ms k 0) ≡ true → Calm b (k + 1))
+      → Opened k (size (act (scope xs x) (trio b g u))) (o .marks) → Found (o .marks) xs b g u k → (Calm b (k + 1) → Stoppable (o .marks) b (k + 1) → Fresh (stop b (k + 1) (marked k halted o) .log))
+      → Fresh (stop (act (scope xs x) (trio b g u)) k o .log)
   unfolding stop size kind some
-  scope-fresh x b g u k o kb kf i c h (found-quiet z) go =
-      subst (λ (y : definitions.Stopped). Fresh (y .log)) (sym (stop-is (scope x) (trio b g u) k o true false refl (rw (z .at k (omega arith) (omega arith))))) (fresh-none [] (λ j. refl))
-  scope-fresh x b g u k o kb kf i c h (found-open y a z) go =
-      subst (λ (y : definitions.Stopped). Fresh (y .log)) (sym (stop-is (scope x) (trio b g u) k o true true refl y))
-      (let c₂ = c (h .at k (omega arith) (omega arith) y) in withdraws-fresh b g u k (stop b (k + 1) (marked k halted o)) kb kf i c₂ (go c₂ a))
-  scope-fresh x b g u k o kb kf i c h (found-turned y a z) go = subst (λ (y : definitions.Stopped). Fresh (y .log)) (sym (stop-is (scope x) (trio b g u) k o true false refl y)) (fresh-none [] (λ j. refl))
+  scope-fresh xs x b g u k o kb kf i c h (found-quiet z) go =
+      subst (λ (y : definitions.Stopped). Fresh (y .log)) (sym (stop-is (scope xs x) (trio b g u) k o true false refl (rw (z .at k (omega arith) (omega arith))))) (fresh-none [] (λ j. refl))
+  scope-fresh xs x b g u k o kb kf i c h (found-open y a z) go =
+      subst (λ (y : definitions.Stopped). Fresh (y .log)) (sym (stop-is (scope xs x) (trio b g u) k o true true refl y))
+      (let c₂ = c (h .at k (omega arith) (omega arith) y) in withdraws-fresh xs b g u k (stop b (k + 1) (marked k halted o)) kb kf i c₂ (go c₂ a))
+  scope-fresh xs x b g u k o kb kf i c h (found-turned y a) go = subst (λ (y : definitions.Stopped). Fresh (y .log)) (sym (stop-is (scope xs x) (trio b g u) k o true false refl y)) (fresh-none [] (λ j. refl))
 
   mutual
     unfolding stop size kind some
@@ -380,13 +402,13 @@ module _ (p : Plan) (f : ℕ → ℕ) (A : ℕ → Type 0) (ms : List ℕ) where
         (omega (arith, length-set (o .marks) k idle)) (opened-agree (opened-part h (omega arith) (omega arith)) (agree-set k idle (o .marks) (omega arith))))
     stop-fresh (sits-part s g v y l) (knows e n r z) (calm-undo q c) o w t m h = absurd (false≢true (sym s))
     stop-fresh (sits-part s g v y l) (knows e n r z) (calm-through c) o w t m h = absurd (false≢true (sym s))
-    stop-fresh (sits-scope kn v i sb e sf su) (knows d n r z) (calm-part s c) o w t m h = absurd (false≢true (sym s))
-    stop-fresh (sits-scope {v = true} {b = b} {f = g} {u = u} {k = k} kn v i sb e sf su) (knows d n₁ r (knows-more kb (knows-more kf ku))) (calm-undo q c₁) o w t m h =
-        scope-fresh true b g u k o kb kf (second b g u r) c₁ h (scope-found t)
+    stop-fresh (sits-scope kn v i sb e) (knows d n r z) (calm-part s c) o w t m h = absurd (false≢true (sym s))
+    stop-fresh (sits-scope {xs} {v = true} {b = b} {f = g} {u = u} {k = k} kn v i sb e) (knows d n₁ r (knows-more kb kl)) (calm-undo q c₁) o w t m h =
+        scope-fresh xs true b g u k o kb (each-knows f xs k (general-there (scope xs true) (count (trio b g u)) n₁) (knows-more kb kl)) (each-named xs k (trio b g u) r (general-there (scope xs true) (count (trio b g u)) n₁)) c₁ h (scope-found t)
         (λ c₂ a. stop-fresh sb kb c₂ (marked k halted o) (ap phase (getD-set-same (o .marks) k halted 0 (omega arith))) (stoppable-agree a (agree-set k halted (o .marks) (omega arith)))
         (omega (arith, length-set (o .marks) k halted)) (opened-agree (opened-part h (omega arith) (omega arith)) (agree-set k halted (o .marks) (omega arith))))
-    stop-fresh (sits-scope {v = false} {b = b} {f = g} {u = u} {k = k} kn v i sb e sf su) (knows d n₁ r (knows-more kb (knows-more kf ku))) (calm-through c₁) o w t m h =
-        scope-fresh false b g u k o kb kf (second b g u r) (λ z. c₁) h (scope-found t)
+    stop-fresh (sits-scope {xs} {v = false} {b = b} {f = g} {u = u} {k = k} kn v i sb e) (knows d n₁ r (knows-more kb kl)) (calm-through c₁) o w t m h =
+        scope-fresh xs false b g u k o kb (each-knows f xs k (general-there (scope xs false) (count (trio b g u)) n₁) (knows-more kb kl)) (each-named xs k (trio b g u) r (general-there (scope xs false) (count (trio b g u)) n₁)) (λ z. c₁) h (scope-found t)
         (λ c₂ a. stop-fresh sb kb c₂ (marked k halted o) (ap phase (getD-set-same (o .marks) k halted 0 (omega arith))) (stoppable-agree a (agree-set k halted (o .marks) (omega arith)))
         (omega (arith, length-set (o .marks) k halted)) (opened-agree (opened-part h (omega arith) (omega arith)) (agree-set k halted (o .marks) (omega arith))))
 

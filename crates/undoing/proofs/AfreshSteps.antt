@@ -136,7 +136,7 @@ combines-undone (repeat x) within k t r s e = on-undone k inside (again k) r (mi
 combines-undone sequence within k t r s e = on-undone k active _ r (λ q. mild-follows within k t q) e
 combines-undone flow within k t r s e = on-undone k active (joins k within) r (λ q. mild-joins k within q) e
 combines-undone pick within k t r s e = on-undone k inside (finishes k) r (mild-finishes k) e
-combines-undone (scope z₀) within k t r s e = absurd (false≢true (sym s))
+combines-undone (scope xs z₀) within k t r s e = absurd (false≢true (sym s))
 combines-undone (arm a b vs) within k t r s e = e
 
 combines-over : (own : Own) (within : Acts) (k t : ℕ) (r : Outcome) → isScope own ≡ false → isOver (combines own within k t r .result) ≡ true → isOver (r .result) ≡ true
@@ -152,7 +152,7 @@ combines-over (repeat x) within k t r s e = on-over k inside (again k) r e
 combines-over sequence within k t r s e = on-over k active _ r e
 combines-over flow within k t r s e = on-over k active (joins k within) r e
 combines-over pick within k t r s e = on-over k inside (finishes k) r e
-combines-over (scope z₀) within k t r s e = absurd (false≢true (sym s))
+combines-over (scope xs z₀) within k t r s e = absurd (false≢true (sym s))
 combines-over (arm a b vs) within k t r s e = e
 
 -- a flow that goes on changes no mark but its own
@@ -323,7 +323,7 @@ module _ (p : Plan) (actor : Actor) (f : ℕ → ℕ) (t : ℕ) (o : Order) (A :
       (λ d. fresh-where p f A (o .marks) (finishes k) (begunIn (r .order) (beginAfter within (k + 1) t (r .order .marks))) (h refl d (r .order .marks)) (λ q. none-fresh))
   combines-fresh flow within k r s w h = on-fresh k active (joins k within) r w (λ d. joins-fresh k within (r .order))
   combines-fresh pick within k r s w h = on-fresh k inside (finishes k) r w (λ d. none-fresh)
-  combines-fresh (scope z₀) within k r s w h = absurd (false≢true (sym s))
+  combines-fresh (scope xs z₀) within k r s w h = absurd (false≢true (sym s))
   combines-fresh (arm a b vs) within k r s w h = w
 
   -- A scope, whose body has a step.
@@ -456,7 +456,7 @@ module _ (p : Plan) (actor : Actor) (f : ℕ → ℕ) (t : ℕ) (o : Order) (rai
   ran-part flow within y₀ k b s u i st (waits-itself e₁ d₁) e (run-all x r a) h d z one all = absurd (false≢true (subst (λ (q : Outcome). isOver (q .result) ≡ true) (its-own actor flow within y₀ k t o e₁ ∙ plain-performs actor flow within y₀ k o refl) d))
   ran-part own within y₀ k b s u i st (waits-itself e₁ d₁) e (run-body x r q) h d z one all = absurd (false≢true (sym s))
   ran-part own within y₀ k b s u i st (waits-itself e₁ d₁) e (run-done x q) h d z one all = absurd (false≢true (sym s))
-  ran-part own within y₀ k b s u i st (waits-itself e₁ d₁) e (run-turned x q) h d z one all = absurd (false≢true (sym s))
+  ran-part own within y₀ k b s u i st (waits-itself e₁ d₁) e (run-turned x) h d z one all = absurd (false≢true (sym s))
   ran-part own within y₀ k b s u i st (waits-within g w) e (run-awaits s₁ y x q) h d z one all = news-node (new-again (its-again u i st (omega arith) h)) (quiet-news p f (Again p t (o .marks) raised) (o .marks) q)
   ran-part own within y₀ k b s u i st (waits-within g w) e (run-one s₁ x r) h d z one all =
       news-node (new-again (its-again u i st (omega arith) h))
@@ -470,7 +470,7 @@ module _ (p : Plan) (actor : Actor) (f : ℕ → ℕ) (t : ℕ) (o : Order) (rai
       (record { at = λ j v w. sym (joins-marks k within (stepAmong actor within false y₀ (k + 1) t o) j (omega arith)) ∙ subst (λ (q : Outcome). Quiet (q .order .marks) k (1 + sizes within)) y z .at j (omega arith) (omega arith) }))
   ran-part own within y₀ k b s u i st (waits-within g w) e (run-body x r q) h d z one all = absurd (false≢true (sym s))
   ran-part own within y₀ k b s u i st (waits-within g w) e (run-done x q) h d z one all = absurd (false≢true (sym s))
-  ran-part own within y₀ k b s u i st (waits-within g w) e (run-turned x q) h d z one all = absurd (false≢true (sym s))
+  ran-part own within y₀ k b s u i st (waits-within g w) e (run-turned x) h d z one all = absurd (false≢true (sym s))
 
   over-quiet : (a : Act) (y₀ k : ℕ) → isOver (stepIn actor a y₀ k t o .result) ≡ true → Acted k (size a) o (RunAs p a k t o) (stepIn actor a y₀ k t o) → Quiet (stepIn actor a y₀ k t o .order .marks) k (size a)
   over-quiet a y₀ k d w = subst (λ (y : Result). RunAs p a k t o (stepIn actor a y₀ k t o .log) (stepIn actor a y₀ k t o .order) y) (over-is (stepIn actor a y₀ k t o .result) d) (w .comes) .0
@@ -600,8 +600,8 @@ module _ (p : Plan) (actor : Actor) (f : ℕ → ℕ) (t : ℕ) (o : Order) (rai
       go (undoRaising x) n u = absurd (false≢true (sym n))
 
   -- where an inner scope is not left running its mark is idle
-  at-rest : (v : Bool) (within : Acts) (k : ℕ) (ns : List ℕ) → innerRuns (act (scope v) within) k ns ≡ false → getD ns k 0 ≡ idle
-  at-rest v within k ns e = eqb-true (getD ns k 0) idle (not-so (eqb (getD ns k 0) idle) (sym (inner-is (scope v) within k ns true refl) ∙ e))
+  at-rest : (v : Bool) (within : Acts) (k : ℕ) (ns : List ℕ) → innerRuns (act (scope xs v) within) k ns ≡ false → getD ns k 0 ≡ idle
+  at-rest v within k ns e = eqb-true (getD ns k 0) idle (not-so (eqb (getD ns k 0) idle) (sym (inner-is (scope xs v) within k ns true refl) ∙ e))
     where
       not-so : (x : Bool) → not x ≡ false → x ≡ true
       not-so true e = refl
@@ -611,7 +611,7 @@ module _ (p : Plan) (actor : Actor) (f : ℕ → ℕ) (t : ℕ) (o : Order) (rai
   scope-ended : {n : Name} {ns : List Name} (b g : Act) (u : Acts) (y₀ k : ℕ) → Seat p (scopeAt k (trio b g u)) → Sits p (bodyOf (inner k) ns n) b (k + 1) → Stood p b (k + 1) → (kb : Knows f b (k + 1)) (kf : Knows f g (k + 1 + size b))
       → k + (1 + (size b + (size g + sizes u))) ≤ length (o .marks) → k < t → WaitsIn (o .marks) (trio b g u) (k + 1) t false
       → Turned (o .marks) (getD (o .marks) k 0) b (k + 1) g (k + 1 + size b) → Quiet (o .marks) (k + 1 + size b + size g) (sizes u)
-      → some isRash (stepIn actor (act (scope false) (trio b g u)) y₀ k t o .log) ≡ false → innerRuns (act (scope false) (trio b g u)) k (stepIn actor (act (scope false) (trio b g u)) y₀ k t o .order .marks) ≡ false
+      → some isRash (stepIn actor (act (scope xs false) (trio b g u)) y₀ k t o .log) ≡ false → innerRuns (act (scope xs false) (trio b g u)) k (stepIn actor (act (scope xs false) (trio b g u)) y₀ k t o .order .marks) ≡ false
       → ((x : Bool) → Waits (o .marks) b (k + 1) t x → x ≡ false → Stopped (o .marks) b (k + 1) → some isRash (stepIn actor b (k + 1) (k + 1) t o .log) ≡ false
       → innerRuns b (k + 1) (stepIn actor b (k + 1) (k + 1) t o .order .marks) ≡ false → Calm p f (Again p t (o .marks) raised) (o .marks) b (k + 1))
       → Calm p f (Again p t (o .marks) raised) (o .marks) b (k + 1)
@@ -626,7 +626,7 @@ module _ (p : Plan) (actor : Actor) (f : ℕ → ℕ) (t : ℕ) (o : Order) (rai
       decide (innerRuns b (k + 1) (r .order .marks))
       (λ l. absurd (turned-not-rest (turned-waits {f = g} q z n y)
       (sym d ∙ (sym (ap (λ (y : Order). getD (y .marks) k 0) (stays-so s r (looks-none f s kb kf (r .order) l) (other-mark (getD (r .order .marks) k 0) active (waits a) (ap phase d ∙ q) (λ d. let z : _≡_ {A = ℕ} 0 1 = cc in omega arith))
-      (not-bad o r (step-drops f t actor kb (k + 1) o) c₁) (not-undone (r .result) (v .comes)))) ∙ at-rest false (trio b g u) k (fromBody s r .order .marks) (subst (λ (y : Outcome). innerRuns (act (scope false) (trio b g u)) k (y .order .marks) ≡ false) j i)))))
+      (not-bad o r (step-drops f t actor kb (k + 1) o) c₁) (not-undone (r .result) (v .comes)))) ∙ at-rest false (trio b g u) k (fromBody s r .order .marks) (subst (λ (y : Outcome). innerRuns (act (scope xs false) (trio b g u)) k (y .order .marks) ≡ false) j i)))))
       (λ l. ih false w refl z c₁ l)
     where
       not-undone : (y : Result) → StopAs p b (k + 1) o (stepIn actor b (k + 1) (k + 1) t o .log) (stepIn actor b (k + 1) (k + 1) t o .order) y → isUndone y ≡ false
@@ -651,7 +651,7 @@ module _ (p : Plan) (actor : Actor) (f : ℕ → ℕ) (t : ℕ) (o : Order) (rai
       (looks-still f s kb kf (r .order) (other-mark (getD (r .order .marks) k 0) faulty (Phase.undoes a) (ap phase d ∙ q) (λ d. let z : _≡_ {A = ℕ} 0 1 = cc in omega arith))
       (other-mark (getD (r .order .marks) k 0) halted (Phase.undoes a) (ap phase d ∙ q) (λ d. let z : _≡_ {A = ℕ} 0 1 = cc in omega arith)))
       (other-mark (getD (r .order .marks) k 0) active (Phase.undoes a) (ap phase d ∙ q) (λ d. let z : _≡_ {A = ℕ} 0 1 = cc in omega arith))
-      (not-bad o r (step-drops f t actor kb (k + 1) o) c₁) l)) ∙ at-rest false (trio b g u) k (fromBody s r .order .marks) (subst (λ (y : Outcome). innerRuns (act (scope false) (trio b g u)) k (y .order .marks) ≡ false) j i)))))
+      (not-bad o r (step-drops f t actor kb (k + 1) o) c₁) l)) ∙ at-rest false (trio b g u) k (fromBody s r .order .marks) (subst (λ (y : Outcome). innerRuns (act (scope xs false) (trio b g u)) k (y .order .marks) ≡ false) j i)))))
   scope-ended b g u y₀ k h sb st kb kf m lt (waits-first e w) (turned-heals q z y) x c i ih = absurd (quiet-waits w refl z)
   scope-ended b g u y₀ k h sb st kb kf m lt (waits-later d w) (turned-waits q z n y) x c i ih = absurd (quiet-waits-in w refl (quiet-join y x refl))
   scope-ended b g u y₀ k h sb st kb kf m lt (waits-later d w) (turned-undoes q z y) x c i ih = absurd (quiet-waits-in w refl (quiet-join y x refl))
@@ -679,7 +679,7 @@ module _ (p : Plan) (actor : Actor) (f : ℕ → ℕ) (t : ℕ) (o : Order) (rai
       idly-order (idly-runs d e) = ap (λ (z : Outcome). z .order) e
   part-ended own within y₀ k s l y₁ (waits-within h w) q (stopped-quiet j) m c i g =
       absurd (quiet-waits-in w (opens-idle own (getD (o .marks) k 0) (j .at k (omega arith) (omega arith))) (quiet-part j (omega arith) (omega arith)))
-  part-ended own within y₀ k s l y₁ (waits-within h w) q (stopped-scope e j) m c i g = absurd (false≢true (sym s))
+  part-ended own within y₀ k s l y₁ (waits-within h w) q (stopped-scope e) m c i g = absurd (false≢true (sym s))
 
   -- A stopped body in which the step is, and in which no scope is left running after it.
   mutual
@@ -691,11 +691,11 @@ module _ (p : Plan) (actor : Actor) (f : ℕ → ℕ) (t : ℕ) (o : Order) (rai
         part-ended own within y₀ k s l y₁ w q d m c i (λ c₁ w₁ e₁ r₁ c₂ i₂. ended-calm-in l z (stood-within st) y₀ y₁ c₁ w₁ e₁ r₁ (omega arith) c₂ i₂)
     ended-calm (sits-scope kn d j sb y sf su) (knows e n r z) st y₀ y₁ b w q (stopped-part s i₁ r₁) m c i = absurd (false≢true (sym s))
     ended-calm (sits-scope kn d j sb y sf su) (knows e n r z) st y₀ y₁ b w q (stopped-quiet r₁) m c i = absurd (quiet-waits w q r₁)
-    ended-calm (sits-scope {v = true} {b = b} {f = g} {k = k} kn d j sb y sf (rest-undo {u = u} su)) (knows e n r z) st y₀ y₁ a w q (stopped-scope x v) m c i =
+    ended-calm (sits-scope {v = true} {b = b} {f = g} {k = k} kn d j sb y sf (rest-undo {u = u} su)) (knows e n r z) st y₀ y₁ a w q (stopped-scope x) m c i =
         calm-undo {b = b} {g = g} {u = u} {k = k} (quiet-news p f (Again p t (o .marks) raised) (o .marks) (quiet-part v (omega arith) (omega arith))) (λ v. absurd (false≢true (sym (turned-not-open x) ∙ v)))
-    ended-calm (sits-scope {v = false} {b = b} {f = g} {u = u} kn d j sb y sf su) (knows e n r (knows-more kb (knows-more kf ku))) st y₀ y₁ a (waits-itself e₁ d₁) q (stopped-scope x v) m c i =
+    ended-calm (sits-scope {v = false} {b = b} {f = g} {u = u} kn d j sb y sf su) (knows e n r (knows-more kb (knows-more kf ku))) st y₀ y₁ a (waits-itself e₁ d₁) q (stopped-scope x) m c i =
         absurd (no-less (stopped-waits (stopped-scope {b = b} {f = g} {u = u} x v) (waits-itself e₁ d₁) q) e₁)
-    ended-calm (sits-scope {v = false} {b = b} {f = g} {u = u} {k = k} kn d j sb y sf su) (knows e n r (knows-more kb (knows-more kf ku))) st y₀ y₁ a (waits-within h w) q (stopped-scope x v) m c i =
+    ended-calm (sits-scope {v = false} {b = b} {f = g} {u = u} {k = k} kn d j sb y sf su) (knows e n r (knows-more kb (knows-more kf ku))) st y₀ y₁ a (waits-within h w) q (stopped-scope x) m c i =
         calm-through (scope-ended b g u y₀ k (seat-of u kn d j sb y sf) sb (stood-first (stood-within st)) kb kf m h w x v c i
         (λ x w₁ e₁ r₁ c₁ i₁. ended-calm sb kb (stood-first (stood-within st)) (k + 1) refl x w₁ e₁ r₁ (omega arith) c₁ i₁))
 
@@ -725,7 +725,7 @@ module _ (p : Plan) (actor : Actor) (f : ℕ → ℕ) (t : ℕ) (o : Order) wher
   Its-fresh l = Fresh p f (By l) (o .marks) l
 
   -- the close of a scope is its own
-  plain-scope : (v : Bool) → (eqb (kind (scope v)) 2 || eqb (kind (scope v)) 255) ≡ false
+  plain-scope : (v : Bool) → (eqb (kind (scope xs v)) 2 || eqb (kind (scope xs v)) 255) ≡ false
   unfolding kind
   plain-scope true = refl
   plain-scope false = refl
@@ -744,7 +744,7 @@ module _ (p : Plan) (actor : Actor) (f : ℕ → ℕ) (t : ℕ) (o : Order) wher
   part-fresh flow within y₀ k b s x (waits-itself e₁ d₁) e (run-all y r a) one all = subst (λ (q : Outcome). Its-fresh (q .log)) (sym (its-own actor flow within y₀ k t o e₁ ∙ plain-performs actor flow within y₀ k o refl)) (none-fresh p actor f t o (By []))
   part-fresh own within y₀ k b s x (waits-itself e₁ d₁) e (run-body y r q) one all = absurd (false≢true (sym s))
   part-fresh own within y₀ k b s x (waits-itself e₁ d₁) e (run-done y q) one all = absurd (false≢true (sym s))
-  part-fresh own within y₀ k b s x (waits-itself e₁ d₁) e (run-turned y q) one all = absurd (false≢true (sym s))
+  part-fresh own within y₀ k b s x (waits-itself e₁ d₁) e (run-turned y) one all = absurd (false≢true (sym s))
   part-fresh own within y₀ k b s x (waits-within h w) e (run-awaits s₁ y z q) one all = quiet-fresh p actor f t o (By (stepIn actor (act own within) y₀ k t o .log)) x y₀ (omega arith) q
   part-fresh own within y₀ k b s (knows x n r z) (waits-within h w) e (run-one s₁ y l) one all =
       let c = opens-held p actor own (getD (o .marks) k 0) y in
@@ -757,7 +757,7 @@ module _ (p : Plan) (actor : Actor) (f : ℕ → ℕ) (t : ℕ) (o : Order) wher
       (fresh-more (combines-has isRash flow within k t (stepAmong actor within false y₀ (k + 1) t o)) (all (opens flow (getD (o .marks) k 0)) w refl l)) (λ i. absurd (false≢true i)))
   part-fresh own within y₀ k b s x (waits-within h w) e (run-body y r q) one all = absurd (false≢true (sym s))
   part-fresh own within y₀ k b s x (waits-within h w) e (run-done y q) one all = absurd (false≢true (sym s))
-  part-fresh own within y₀ k b s x (waits-within h w) e (run-turned y q) one all = absurd (false≢true (sym s))
+  part-fresh own within y₀ k b s x (waits-within h w) e (run-turned y) one all = absurd (false≢true (sym s))
 
   first-fresh : (a : Act) (l : Acts) (y₀ c : ℕ) → t < c + size a → Its-fresh (stepIn actor a y₀ c t o .log) → Its-fresh (stepAmong actor (more a l) false y₀ c t o .log)
   first-fresh a l y₀ c h w = subst (λ (q : Outcome). Its-fresh (q .log)) (sym (its-first actor a l y₀ c t o h)) w
@@ -774,9 +774,9 @@ module _ (p : Plan) (actor : Actor) (f : ℕ → ℕ) (t : ℕ) (o : Order) wher
       (fresh-more (combines-has isRash own within k t (stepAmong actor within false y₀ (k + 1) t o)) w)
       (λ e d. absurd (false≢true (subst (λ (z : ℕ). eqb z active ≡ true) (v .kept .below k (omega arith) ∙ i) d))))
 
-  closing-fresh : (z₀ : Bool) (within : Acts) (y₀ k : ℕ) → k ≡ t → Its-fresh (stepIn actor (act (scope z₀) within) y₀ k t o .log)
+  closing-fresh : (z₀ : Bool) (within : Acts) (y₀ k : ℕ) → k ≡ t → Its-fresh (stepIn actor (act (scope xs z₀) within) y₀ k t o .log)
   unfolding itself closing some isBeganOf kind
-  closing-fresh z₀ within y₀ k e = subst (λ (q : Outcome). Its-fresh (q .log)) (sym (its-own actor (scope z₀) within y₀ k t o e ∙ plain-performs actor (scope z₀) within y₀ k o (plain-scope z₀))) (fresh-none p f (By (itself (scope z₀) within y₀ k o .log)) (o .marks) (itself (scope z₀) within y₀ k o .log) (λ j. refl))
+  closing-fresh z₀ within y₀ k e = subst (λ (q : Outcome). Its-fresh (q .log)) (sym (its-own actor (scope xs z₀) within y₀ k t o e ∙ plain-performs actor (scope xs z₀) within y₀ k o (plain-scope z₀))) (fresh-none p f (By (itself (scope xs z₀) within y₀ k o .log)) (o .marks) (itself (scope xs z₀) within y₀ k o .log) (λ j. refl))
 
   -- A scope that has turned.
   turned-fresh : {n : Name} {ns : List Name} (z₀ : Bool) (b g : Act) (u : Acts) (y₀ k : ℕ) → Seat p (scopeAt k (trio b g u)) → Sits p (bodyOf (inner k) ns n) b (k + 1) → Stood p b (k + 1) → (kb : Knows f b (k + 1)) (kf : Knows f g (k + 1 + size b)) → Named f g
@@ -785,7 +785,7 @@ module _ (p : Plan) (actor : Actor) (f : ℕ → ℕ) (t : ℕ) (o : Order) wher
       → ((x : Bool) → Waits (o .marks) b (k + 1) t x → x ≡ false → Stopped (o .marks) b (k + 1) → Its-fresh (stepIn actor b (k + 1) (k + 1) t o .log))
       → ((x : Bool) → Waits (o .marks) b (k + 1) t x → x ≡ false → Undoing (o .marks) b (k + 1) → (v : Bool) → phase (getD (o .marks) k 0) ≡ Phase.undoes v → Its-fresh (stepIn actor b (k + 1) (k + 1) t o .log))
       → ((x : Bool) → Waits (o .marks) g (k + 1 + size b) t x → x ≡ false → Run (o .marks) g (k + 1 + size b) → phase (getD (o .marks) k 0) ≡ heals → Its-fresh (stepIn actor g (k + 1 + size b) (k + 1 + size b) t o .log))
-      → Its-fresh (stepIn actor (act (scope z₀) (trio b g u)) y₀ k t o .log)
+      → Its-fresh (stepIn actor (act (scope xs z₀) (trio b g u)) y₀ k t o .log)
   unfolding size part partAt Its Whole
   turned-fresh z₀ b g u y₀ k h sb st kb kf i m lt (waits-first e w) (turned-waits {w = a} q z n y) x j l v =
       let c = steps-stopped p actor sb (k + 1) t o false refl w refl z (omega arith) in
@@ -810,7 +810,7 @@ module _ (p : Plan) (actor : Actor) (f : ℕ → ℕ) (t : ℕ) (o : Order) wher
   body-fresh : {n : Name} {ns : List Name} (z₀ : Bool) (b g : Act) (u : Acts) (y₀ k : ℕ) → Seat p (scopeAt k (trio b g u)) → Sits p (bodyOf (inner k) ns n) b (k + 1) → (kb : Knows f b (k + 1)) (kf : Knows f g (k + 1 + size b)) → Named f g
       → k + (1 + (size b + (size g + sizes u))) ≤ length (o .marks)
       → k < t → WaitsIn (o .marks) (trio b g u) (k + 1) t false → getD (o .marks) k 0 ≡ active → Run (o .marks) b (k + 1) → Quiet (o .marks) (k + 1 + size b) (size g + sizes u)
-      → (Waits (o .marks) b (k + 1) t false → Its-fresh (stepIn actor b (k + 1) (k + 1) t o .log)) → Its-fresh (stepIn actor (act (scope z₀) (trio b g u)) y₀ k t o .log)
+      → (Waits (o .marks) b (k + 1) t false → Its-fresh (stepIn actor b (k + 1) (k + 1) t o .log)) → Its-fresh (stepIn actor (act (scope xs z₀) (trio b g u)) y₀ k t o .log)
   unfolding size part partAt Its Whole
   body-fresh z₀ b g u y₀ k h sb kb kf i m lt (waits-first e w) x r q j =
       let a = steps p actor sb (k + 1) t o false refl w refl r (ap phase x) (omega arith) in
@@ -828,24 +828,24 @@ module _ (p : Plan) (actor : Actor) (f : ℕ → ℕ) (t : ℕ) (o : Order) wher
       (hs : (x : Bool) → Waits (o .marks) b (k + 1) t x → x ≡ false → Stopped (o .marks) b (k + 1) → Its-fresh (stepIn actor b (k + 1) (k + 1) t o .log))
       (hu : (x : Bool) → Waits (o .marks) b (k + 1) t x → x ≡ false → Undoing (o .marks) b (k + 1) → (v : Bool) → phase (getD (o .marks) k 0) ≡ Phase.undoes v → Its-fresh (stepIn actor b (k + 1) (k + 1) t o .log))
       (hf : (x : Bool) → Waits (o .marks) g (k + 1 + size b) t x → x ≡ false → Run (o .marks) g (k + 1 + size b) → phase (getD (o .marks) k 0) ≡ heals → Its-fresh (stepIn actor g (k + 1 + size b) (k + 1 + size b) t o .log)) where
-    scope-run : {c : Bool} → Waits (o .marks) (act (scope z₀) (trio b g u)) k t c → Run (o .marks) (act (scope z₀) (trio b g u)) k
+    scope-run : {c : Bool} → Waits (o .marks) (act (scope xs z₀) (trio b g u)) k t c → Run (o .marks) (act (scope xs z₀) (trio b g u)) k
         → (Waits (o .marks) b (k + 1) t false → Run (o .marks) b (k + 1) → getD (o .marks) k 0 ≡ active → Its-fresh (stepIn actor b (k + 1) (k + 1) t o .log))
-        → Its-fresh (stepIn actor (act (scope z₀) (trio b g u)) y₀ k t o .log)
+        → Its-fresh (stepIn actor (act (scope xs z₀) (trio b g u)) y₀ k t o .log)
     unfolding size
     scope-run (waits-itself e d) run j = closing-fresh z₀ (trio b g u) y₀ k e
     scope-run (waits-within e w) (run-awaits s _ x z) j = absurd (false≢true (sym s))
     scope-run (waits-within e w) (run-one s x z) j = absurd (false≢true (sym s))
     scope-run (waits-within e w) (run-body x z q) j = body-fresh z₀ b g u y₀ k h sb kb kf i m e w x z q (λ w₁. j w₁ z x)
     scope-run (waits-within e w) (run-done x z) j = absurd (quiet-waits-in w refl (quiet-part z (omega arith) (omega arith)))
-    scope-run (waits-within e w) (run-turned x z) j = turned-fresh z₀ b g u y₀ k h sb st kb kf i m e w x z hs hu hf
+    scope-run (waits-within e w) (run-turned x) j = turned-fresh z₀ b g u y₀ k h sb st kb kf i m e w x z hs hu hf
 
-    scope-stopped : {c : Bool} → Waits (o .marks) (act (scope z₀) (trio b g u)) k t c → c ≡ false → Stopped (o .marks) (act (scope z₀) (trio b g u)) k
-        → Its-fresh (stepIn actor (act (scope z₀) (trio b g u)) y₀ k t o .log)
+    scope-stopped : {c : Bool} → Waits (o .marks) (act (scope xs z₀) (trio b g u)) k t c → c ≡ false → Stopped (o .marks) (act (scope xs z₀) (trio b g u)) k
+        → Its-fresh (stepIn actor (act (scope xs z₀) (trio b g u)) y₀ k t o .log)
     unfolding size
     scope-stopped w q (stopped-part s _ j) = absurd (false≢true (sym s))
     scope-stopped w q (stopped-quiet j) = absurd (quiet-waits w q j)
-    scope-stopped (waits-itself e d) q (stopped-scope x z) = closing-fresh z₀ (trio b g u) y₀ k e
-    scope-stopped (waits-within e w) q (stopped-scope x z) = turned-fresh z₀ b g u y₀ k h sb st kb kf i m e w x z hs hu hf
+    scope-stopped (waits-itself e d) q (stopped-scope x) = closing-fresh z₀ (trio b g u) y₀ k e
+    scope-stopped (waits-within e w) q (stopped-scope x) = turned-fresh z₀ b g u y₀ k h sb st kb kf i m e w x z hs hu hf
 
   -- an activity of a body that is stopped, or of which an undo part runs
   part-stopped : {x : Place} {b : Bool} (own : Own) (within : Acts) (y₀ k : ℕ) → isScope own ≡ false → SitsIn p x within (k + 1) → PartOf x y₀ → Waits (o .marks) (act own within) k t b → b ≡ false → Stopped (o .marks) (act own within) k
@@ -858,7 +858,7 @@ module _ (p : Plan) (actor : Actor) (f : ℕ → ℕ) (t : ℕ) (o : Order) wher
       idle-fresh own within y₀ k s i (stopped-part-not p actor j w c) h (steps-stopped-in p actor l y₀ t o _ y₁ w c j (omega arith)) (g _ w c j)
   part-stopped own within y₀ k s l y₁ (waits-within h w) q (stopped-quiet i) m g =
       absurd (quiet-waits-in w (opens-idle own (getD (o .marks) k 0) (i .at k (omega arith) (omega arith))) (quiet-part i (omega arith) (omega arith)))
-  part-stopped own within y₀ k s l y₁ (waits-within h w) q (stopped-scope i j) m g = absurd (false≢true (sym s))
+  part-stopped own within y₀ k s l y₁ (waits-within h w) q (stopped-scope i) m g = absurd (false≢true (sym s))
 
   part-undoing : {x : Place} {b : Bool} (own : Own) (within : Acts) (y₀ k : ℕ) → isScope own ≡ false → SitsIn p x within (k + 1) → PartOf x y₀ → Waits (o .marks) (act own within) k t b → b ≡ false → Undoing (o .marks) (act own within) k
       → (m₀ : Name) → runnerAt (λ n. markOf n o) (nameOf x) (beyondOf x) ≡ m₀ → Fit (undoOf (nameOf x) (beyondOf x) (lastOf x)) o → k + (1 + sizes within) ≤ length (o .marks)
@@ -871,19 +871,19 @@ module _ (p : Plan) (actor : Actor) (f : ℕ → ℕ) (t : ℕ) (o : Order) wher
   part-undoing own within y₀ k s l y₁ (waits-within h w) q (undoing-through i j z) m₀ y₂ v m g = absurd (false≢true (sym s))
 
   -- a scope whose undo part runs, and one that was looked through
-  scope-undoes : {c : Bool} (b g u : Act) (y₀ k : ℕ) → Waits (o .marks) (act (scope true) (trio b g (more u none))) k t c → Quiet (o .marks) (k + 1) (size b + size g)
+  scope-undoes : {c : Bool} (b g u : Act) (y₀ k : ℕ) → Waits (o .marks) (act (scope xs true) (trio b g (more u none))) k t c → Quiet (o .marks) (k + 1) (size b + size g)
       → (Waits (o .marks) u (k + 1 + size b + size g) t false → Its-fresh (stepIn actor u (k + 1 + size b + size g) (k + 1 + size b + size g) t o .log))
-      → Its-fresh (stepIn actor (act (scope true) (trio b g (more u none))) y₀ k t o .log)
+      → Its-fresh (stepIn actor (act (scope xs true) (trio b g (more u none))) y₀ k t o .log)
   unfolding size Its Whole fromUndo
   scope-undoes b g u y₀ k (waits-itself e d) z i = closing-fresh true (trio b g (more u none)) y₀ k e
   scope-undoes b g u y₀ k (waits-within e (waits-first d w)) z i = absurd (quiet-waits w refl (quiet-part z (omega arith) (omega arith)))
   scope-undoes b g u y₀ k (waits-within e (waits-later d (waits-first c w))) z i = absurd (quiet-waits w refl (quiet-part z (omega arith) (omega arith)))
   scope-undoes b g u y₀ k (waits-within e (waits-later d (waits-later c (waits-first a w)))) z i = subst (λ (q : Outcome). Its-fresh (q .log)) (sym (undo-step p actor b g u y₀ k t o c a)) (i w)
 
-  scope-through : {c : Bool} {m₀ : Name} (b g : Act) (u : Acts) (y₀ k : ℕ) → Waits (o .marks) (act (scope false) (trio b g u)) k t c → getD (o .marks) k 0 ≡ idle → Quiet (o .marks) (k + 1 + size b) (size g + sizes u)
+  scope-through : {c : Bool} {m₀ : Name} (b g : Act) (u : Acts) (y₀ k : ℕ) → Waits (o .marks) (act (scope xs false) (trio b g u)) k t c → getD (o .marks) k 0 ≡ idle → Quiet (o .marks) (k + 1 + size b) (size g + sizes u)
       → (Waits (o .marks) b (k + 1) t false → Acted (k + 1) (size b) o (UndoAs p m₀ b (k + 1) t o) (stepIn actor b (k + 1) (k + 1) t o))
       → (Waits (o .marks) b (k + 1) t false → Its-fresh (stepIn actor b (k + 1) (k + 1) t o .log))
-      → Its-fresh (stepIn actor (act (scope false) (trio b g u)) y₀ k t o .log)
+      → Its-fresh (stepIn actor (act (scope xs false) (trio b g u)) y₀ k t o .log)
   unfolding size
   scope-through b g u y₀ k (waits-itself e d) x j a i = closing-fresh false (trio b g u) y₀ k e
   scope-through {m₀ = m₀} b g u y₀ k (waits-within e (waits-first d w)) x j a i = subst (λ (q : Outcome). Its-fresh (q .log)) (sym (through-is p actor b g u y₀ k t m₀ o x e d (a w))) (i w)

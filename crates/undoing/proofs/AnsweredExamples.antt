@@ -158,8 +158,24 @@ twiceOpenBack =
           ∷ [];
     }
 
+-- A receive 1; a scope 2 with a fault part for 17 (a send 4), an empty general one and an undo part 6, a send; a raise 7 with the number 17; the root's fault part
+-- 8. The root faults with 17, and takes the scope back.
+unfoldable byNumber : Example
+byNumber =
+    record {
+      bytes = 1 ∷ 1 ∷ 0 ∷ 8 ∷ 3 ∷ 2 ∷ 0 ∷ 0 ∷ 1 ∷ 0 ∷ 14 ∷ 0 ∷ 1 ∷ 17 ∷ 1 ∷ 2 ∷ 1 ∷ 1 ∷ 0 ∷ 0 ∷ 1 ∷ 2 ∷ 2 ∷ 1 ∷ 0 ∷ 13 ∷ 17 ∷ 0 ∷ [];
+      calls = first ∷ next ∷ next ∷ next ∷ next ∷ [];
+      rightly = goes 1 ∷ goes 2 ∷ goes 7 ∷ answers 6 Handled ∷ [];
+      wrongly =
+          -- its fault part for that number runs in place of its undo part; the undo part twice; and before it closed
+          (goes 1 ∷ goes 2 ∷ goes 7 ∷ answers 4 Handled ∷ [])
+          ∷ (goes 1 ∷ goes 2 ∷ goes 7 ∷ goes 6 ∷ answers 6 Handled ∷ [])
+          ∷ (goes 1 ∷ goes 6 ∷ goes 2 ∷ answers 7 Handled ∷ [])
+          ∷ [];
+    }
+
 unfoldable examples : List Example
-examples = twoScopes ∷ threeClosings ∷ inSequence ∷ inFlow ∷ failing ∷ handledScope ∷ twiceOpen ∷ twiceOpenBack ∷ []
+examples = twoScopes ∷ threeClosings ∷ inSequence ∷ inFlow ∷ failing ∷ handledScope ∷ twiceOpen ∷ twiceOpenBack ∷ byNumber ∷ []
 
 -- the activity and the end of each
 unfoldable pub brief : List Step → List (List ℕ)
@@ -167,18 +183,18 @@ brief l = map (λ x. x .activity ∷ endNumber (x .end) ∷ []) l
 
 -- the right answers are those of the definitions
 given : map (λ x. brief (answered (x .calls) 0 (loaded (x .bytes)) noTally)) examples ≡ map (λ x. brief (x .rightly)) examples
-unfolding examples twoScopes threeClosings inSequence inFlow failing handledScope twiceOpen twiceOpenBack brief answered computing judging
+unfolding examples twoScopes threeClosings inSequence inFlow failing handledScope twiceOpen twiceOpenBack byNumber brief answered computing judging
 given = refl
 
 judged : List ℕ → List Step → Bool
 judged bytes l = by false (λ p. inOrder p nothingDue l) (readPlan bytes)
 
 accepted : map (λ x. judged (x .bytes) (x .rightly)) examples ≡ map (λ x. true) examples
-unfolding examples twoScopes threeClosings inSequence inFlow failing handledScope twiceOpen twiceOpenBack judged isSure hasAll surely backIn backOf noted mayNote settles inOrder computing judging
+unfolding examples twoScopes threeClosings inSequence inFlow failing handledScope twiceOpen twiceOpenBack byNumber judged isSure hasAll surely backIn backOf noted mayNote settles inOrder computing judging
 accepted = refl
 
 refused : map (λ x. map (judged (x .bytes)) (x .wrongly)) examples ≡ map (λ x. map (λ l. false) (x .wrongly)) examples
-unfolding examples twoScopes threeClosings inSequence inFlow failing handledScope twiceOpen twiceOpenBack judged isSure hasAll surely backIn backOf noted mayNote settles inOrder computing judging
+unfolding examples twoScopes threeClosings inSequence inFlow failing handledScope twiceOpen twiceOpenBack byNumber judged isSure hasAll surely backIn backOf noted mayNote settles inOrder computing judging
 refused = refl
 
 -- the same in numbers: an engine that takes back as often as it should, in another order, is not refused by these alone
@@ -186,7 +202,7 @@ counted : List ℕ → List Step → Bool
 counted bytes l = by false (λ p. eachAsOften p [] l) (readPlan bytes)
 
 often : map (λ x. counted (x .bytes) (x .rightly)) examples ≡ map (λ x. true) examples
-unfolding examples twoScopes threeClosings inSequence inFlow failing handledScope twiceOpen twiceOpenBack counted isSure hasAll surely backIn backOf asOften eachAsOften computing judging
+unfolding examples twoScopes threeClosings inSequence inFlow failing handledScope twiceOpen twiceOpenBack byNumber counted isSure hasAll surely backIn backOf asOften eachAsOften computing judging
 often = refl
 
 notOften : map (counted (threeClosings .bytes)) (threeClosings .wrongly) ≡ false ∷ false ∷ []

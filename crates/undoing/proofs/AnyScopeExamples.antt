@@ -80,23 +80,39 @@ handing =
           ∷ [];
     }
 
+-- A receive 1; a scope 2, in which a scope 4 closes (a fault part for 17, 6, an empty general one and the undo part 8) and a raise 9 with the number 17 is; its own
+-- fault parts are for 16 (a send 10) and 17 (a send 11), and its other parts empty.
+unfoldable numbered : Example
+numbered =
+    record {
+      bytes = 1 ∷ 1 ∷ 0 ∷ 8 ∷ 2 ∷ 2 ∷ 0 ∷ 0 ∷ 1 ∷ 0 ∷ 14 ∷ 8 ∷ 2 ∷ 14 ∷ 0 ∷ 1 ∷ 17 ∷ 1 ∷ 2 ∷ 4 ∷ 1 ∷ 0 ∷ 0 ∷ 1 ∷ 2 ∷ 5 ∷ 1 ∷ 0 ∷ 13 ∷ 17 ∷ 2 ∷ 16 ∷ 1 ∷ 2 ∷ 1 ∷ 1 ∷ 0 ∷ 17 ∷ 1 ∷ 2 ∷ 2 ∷ 1 ∷ 0 ∷ 0 ∷ 0 ∷ 0 ∷ [];
+      calls = first ∷ next ∷ next ∷ next ∷ next ∷ next ∷ [];
+      rightly = goes 1 ∷ goes 4 ∷ goes 9 ∷ goes 8 ∷ answers 11 Well ∷ [];
+      wrongly =
+          -- twice; before it closed; though it never closed
+          (goes 1 ∷ goes 4 ∷ goes 9 ∷ goes 8 ∷ goes 8 ∷ answers 11 Well ∷ [])
+          ∷ (goes 1 ∷ goes 8 ∷ goes 4 ∷ goes 9 ∷ answers 11 Well ∷ [])
+          ∷ (goes 1 ∷ goes 9 ∷ goes 8 ∷ answers 11 Well ∷ [])
+          ∷ [];
+    }
+
 unfoldable examples : List Example
-examples = faulting ∷ inRounds ∷ stopping ∷ handing ∷ []
+examples = faulting ∷ inRounds ∷ stopping ∷ handing ∷ numbered ∷ []
 
 -- the right answers are those of the definitions
 given : map (λ x. brief (answered (x .calls) 0 (loaded (x .bytes)) noTally)) examples ≡ map (λ x. brief (x .rightly)) examples
-unfolding examples faulting inRounds stopping handing brief answered computing judging
+unfolding examples faulting inRounds stopping handing numbered brief answered computing judging
 given = refl
 
 judged : List ℕ → List Step → Bool
 judged bytes l = by false (λ p. neverOftener p [] l) (readPlan bytes)
 
 accepted : map (λ x. judged (x .bytes) (x .rightly)) examples ≡ map (λ x. true) examples
-unfolding examples faulting inRounds stopping handing judged isSure hasAll surely backIn backOf noOftener neverOftener computing judging
+unfolding examples faulting inRounds stopping handing numbered judged isSure hasAll surely backIn backOf noOftener neverOftener computing judging
 accepted = refl
 
 refused : map (λ x. map (judged (x .bytes)) (x .wrongly)) examples ≡ map (λ x. map (λ l. false) (x .wrongly)) examples
-unfolding examples faulting inRounds stopping handing judged isSure hasAll surely backIn backOf noOftener neverOftener computing judging
+unfolding examples faulting inRounds stopping handing numbered judged isSure hasAll surely backIn backOf noOftener neverOftener computing judging
 refused = refl
 
 -- by what is said of the root alone they pass
@@ -104,5 +120,5 @@ passes : List ℕ → List Step → Bool
 passes bytes l = by false (λ p. inOrder p nothingDue l && eachAsOften p [] l) (readPlan bytes)
 
 passed : map (λ x. map (passes (x .bytes)) (x .wrongly)) examples ≡ map (λ x. map (λ l. true) (x .wrongly)) examples
-unfolding examples faulting inRounds stopping handing passes isSure hasAll surely backIn backOf noted mayNote settles inOrder asOften eachAsOften computing judging
+unfolding examples faulting inRounds stopping handing numbered passes isSure hasAll surely backIn backOf noted mayNote settles inOrder asOften eachAsOften computing judging
 passed = refl

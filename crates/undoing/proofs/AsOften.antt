@@ -7,7 +7,7 @@ use mathlib.Core.List.{List, [], _∷_, _++_}
 use lib.ListN.{length, length-append}
 use lib.Dec.{eqb, ltb}
 use borrow.Author.Tests.{eqb-true, eqb-false, eq-eqb, ltb-true, ltb-false}
-use Rattle.plan.specs.Tree.{Own, empty, send, receive, set as setting, raise, leave, choose, repeat, sequence, flow, pick, scope, arm, Act, act, Acts, none, more, Plan, size, sizes}
+use Rattle.plan.specs.Tree.{Own, empty, send, receive, set as setting, raise, leave, choose, repeat, sequence, flow, pick, scope, arm, Act, act, Acts, none, more, Plan, generalPart, size, sizes}
 use Rattle.plan.proofs.Limits.{accepted-is-within}
 use Rattle.order.specs.declared.End.{End}
 use Rattle.order.specs.declared.End.the-variants.{None, Well, Handled, Failed, Left}
@@ -15,11 +15,12 @@ use Rattle.machine.specs.declared.Step.{Step}
 use Rattle.order.specs.Lists.{every, some, only, each, empties}
 use Rattle.order.specs.State.{root}
 use Rattle.machine.specs.Calls.{loaded}
+use Rattle.order.specs.Begin.{part, partAt}
 use Rattle.undoing.specs.Demand3.{Inner, insideOf}
 use Rattle.undoing.specs.Ties.{Place, undoOf, bodyOf}
 use Rattle.undoing.specs.Answered.{surely, surelyAmong, backIn, backAmong, backOf, isClose, isBack, Book, nothingDue, putting, without, isDue, paid, noted, mayNote, settles, turned, inOrder, answered, oftenIn, asOften, goingOn, eachAsOften, TakenBackOnce, TakenBackAsOften}
 use Rattle.undoing.proofs.Parts.{both, decide, only-append, some-none}
-use Rattle.undoing.proofs.Orders.{Sits, sits-part, sits-scope, SitsIn, sits-none, sits-more, rest-undo, rest-none}
+use Rattle.undoing.proofs.Orders.{Sits, sits-part, sits-scope, SitsIn, sits-none, sits-more}
 use Rattle.undoing.proofs.Marks.{trio}
 use Rattle.undoing.proofs.Owing.{directly, directlyIn, directly-is}
 use Rattle.undoing.proofs.Planning.{Promised, promised}
@@ -70,7 +71,7 @@ kind-once t (repeat u) x y e f = omega arith
 kind-once t sequence x y e f = f
 kind-once t flow x y e f = f
 kind-once t pick x y e f = omega arith
-kind-once t (scope u) x y e f = omega arith
+kind-once t (scope xs u) x y e f = omega arith
 kind-once t (arm p o vs) x y e f = omega arith
 
 one-once : (t k : ℕ) → oftenIn t (k ∷ []) ≤ 1
@@ -97,10 +98,10 @@ mutual
 
   back-once : {p : Plan} {x : Place} (a : Act) (k e t : ℕ) → Sits p x a k → directly a k e ≡ true → oftenIn t (backIn a k e) ≤ 1
   back-once (act own within) k e t (sits-part s g v y l) d = subst (λ (z : List ℕ). oftenIn t z ≤ 1) (sym (back-part own within k e s)) (back-once-in within (k + 1) e t l (sym (directly-is own within k e false s) ∙ d))
-  back-once (act (scope true) (more b (more f (more u none)))) k e t (sits-scope kn v i sb z sf (rest-undo su)) d =
-      subst (λ (z : List ℕ). oftenIn t z ≤ 1) (sym (back-scope b f u k e (direct-scope true (trio b f (more u none)) k e d))) (surely-once u (k + 1 + size b + size f) t)
-  back-once (act (scope false) (more b (more f none))) k e t (sits-scope kn v i sb z sf rest-none) d =
-      subst (λ (z : List ℕ). oftenIn t z ≤ 1) (sym (back-without b f k e (direct-scope false (trio b f none) k e d))) (omega arith)
+  back-once (act (scope xs true) (more b (more f u))) k e t (sits-scope kn v i sb z) d =
+      subst (λ (z : List ℕ). oftenIn t z ≤ 1) (sym (back-scope xs true b (more f u) k e (direct-scope xs true (trio b f u) k e d))) (surely-once (part (generalPart xs) (more f u)) (partAt (generalPart xs) (more f u) (k + 1 + size b)) t)
+  back-once (act (scope xs false) (more b (more f u))) k e t (sits-scope kn v i sb z) d =
+      subst (λ (z : List ℕ). oftenIn t z ≤ 1) (sym (back-without z b k e (direct-scope xs false (trio b f u) k e d))) (omega arith)
 
   back-once-in : {p : Plan} {x : Place} (l : Acts) (c e t : ℕ) → SitsIn p x l c → directlyIn l c e ≡ true → oftenIn t (backAmong l c e) ≤ 1
   back-once-in none c e t sits-none d = absurd (none-directly c e d)
@@ -115,8 +116,8 @@ mutual
   back-alone (act own within) k e f t (sits-part s g v y l) d b n h =
       ap (some (eqb t)) (back-part own within k f s)
       ∙ back-alone-in within (k + 1) e f t l (sym (directly-is own within k e false s) ∙ d) (sym (directly-is own within k f false s) ∙ b) n (ap (some (eqb t)) (sym (back-part own within k e s)) ∙ h)
-  back-alone (act (scope z₀) (more b (more g u))) k e f t (sits-scope kn v i sb z sf su) d c n h =
-      absurd (eqb-false e f n (sym (eqb-true k e (direct-scope z₀ (trio b g u) k e d)) ∙ eqb-true k f (direct-scope z₀ (trio b g u) k f c)))
+  back-alone (act (scope xs z₀) (more b (more g u))) k e f t (sits-scope kn v i sb z) d c n h =
+      absurd (eqb-false e f n (sym (eqb-true k e (direct-scope xs z₀ (trio b g u) k e d)) ∙ eqb-true k f (direct-scope xs z₀ (trio b g u) k f c)))
 
   back-alone-in : {p : Plan} {x : Place} (l : Acts) (c e f t : ℕ) → SitsIn p x l c → directlyIn l c e ≡ true → directlyIn l c f ≡ true → eqb e f ≡ false → some (eqb t) (backAmong l c e) ≡ true → some (eqb t) (backAmong l c f) ≡ false
   back-alone-in none c e f t sits-none d b n h = absurd (none-directly c e d)

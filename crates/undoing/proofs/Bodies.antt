@@ -15,7 +15,6 @@ use Rattle.undoing.specs.Ties.{Place, bodyOf, placeOf}
 use Rattle.undoing.specs.Orderly.{isBeganOf}
 use Rattle.undoing.specs.Begun.{hasBegan}
 use Rattle.undoing.specs.Entirely.{isUndo}
-use Rattle.undoing.proofs.Marks.{trio}
 use Rattle.undoing.proofs.Orders.{Sits, sits-part, sits-scope, SitsIn, sits-none, sits-more}
 use Rattle.undoing.proofs.Truly.{or-case, began-in}
 
@@ -71,7 +70,7 @@ module _ (P : ℕ → Type 0) where
   own-each sequence within k ms x a b c = each-more k _ x (through-each k (beginInTurn within (k + 1) (set ms k active)) a)
   own-each flow within k ms x a b c = each-more k _ x (through-each k (beginAll within (k + 1) (set ms k active)) b)
   own-each pick within k ms x a b c = each-more k [] x each-none
-  own-each (scope v) within k ms x a b c = each-more k _ x (around-each k (beginFirst within (k + 1) (set ms k active)) c)
+  own-each (scope xs v) within k ms x a b c = each-more k _ x (around-each k (beginFirst within (k + 1) (set ms k active)) c)
   own-each (arm p o vs) within k ms x a b c = each-none
 
 module _ (p : Plan) where
@@ -85,7 +84,7 @@ module _ (p : Plan) where
     pub begin-bodies : {q : Place} {a : Act} {k : ℕ} → Sits p q a k → isUndo q ≡ false → (ms : List ℕ) → Each Plainly (begin a k ms .log)
     begin-bodies (sits-part {q} {own} {within} {k} s g u y l) e ms =
         own-each Plainly own within k ms (ap isUndo (u .place) ∙ e) (turn-bodies l e (set ms k active)) (all-bodies l e (set ms k active)) (first-bodies l e (set ms k active))
-    begin-bodies (sits-scope {b = b} {k = k} kn v i sb y sf su) e ms =
+    begin-bodies (sits-scope {b = b} {k = k} kn v i sb y) e ms =
         each-more Plainly k _ (ap isUndo (v .place)) (around-each Plainly k (begin b (k + 1) (set ms k active)) (begin-bodies sb refl (set ms k active)))
 
     turn-bodies : {q : Place} {l : Acts} {c : ℕ} → SitsIn p q l c → isUndo q ≡ false → (ms : List ℕ) → Each Plainly (beginInTurn l c ms .log)

@@ -23,7 +23,9 @@ use Rattle.undoing.proofs.Parts.{both, decide, only-append, only-swap, 
 use Rattle.undoing.proofs.Accounts.{Account, next, account-next, Known, left-unfinished}
 use Rattle.undoing.proofs.Marks.{trio}
 use Rattle.undoing.proofs.Moves.{undone-inside, closed-inside, not-begun, runner-name}
-use Rattle.undoing.proofs.Orders.{bare, bareIn, innerAt, onto, Sits, sits-part, sits-scope, SitsIn, sits-none, sits-more, Rest, rest-undo, rest-none, remedy-bare}
+use Rattle.undoing.proofs.Orders.{bare, bareIn, innerAt, onto, Sits, sits-part, sits-scope, SitsIn, sits-none, sits-more, remedy-bare}
+use Rattle.undoing.proofs.Healing.{healers-bare}
+use Rattle.undoing.proofs.Roots.{root-fault}
 use Rattle.undoing.proofs.Planning.{Promised, promised, scopes-is}
 use Rattle.undoing.proofs.Offered.{Each, each-none, each-more, each-append}
 use Rattle.undoing.proofs.Demanded as demanded
@@ -534,11 +536,6 @@ mutual
   bare-scopes-in none c n ns h = refl
   bare-scopes-in (more a l) c n ns h = both (bare a) (bareIn l) h (λ x y. rw (bare-scopes a c n ns x, bare-scopes-in l (c + size a) n ns y))
 
-rest-scopes : {p : Plan} {v : Bool} {q : Place} {u : Acts} {c : ℕ} → Rest p v q u c → (n : Name) (ns : List Name) → scopesAmong u c n ns ≡ []
-unfolding scopesIn
-rest-scopes (rest-undo {u = u} {k = k} s) n ns = rw (bare-scopes u k n ns (remedy-bare s))
-rest-scopes rest-none n ns = refl
-
 -- a scope of the plan, and where it stands
 record Placed (p : Plan) (y : Inner) : Type 0 where
   known : Known p y
@@ -551,9 +548,9 @@ mutual
 
   knowns : {p : Plan} {q : Place} {a : Act} {k : ℕ} → Sits p q a k → Each (Placed p) (scopesIn a k (nameOf q) (beyondOf q))
   knowns {p} (sits-part {q = q} {own} {within} {k} s g v y l) = subst (λ z. Each (Placed p) z) (sym (scopes-is own within k (nameOf q) (beyondOf q) false s)) (knowns-in l)
-  knowns {p} (sits-scope {v = v₀} {n = n} {c = c} {ns = ns} {b = b} {f = f} {u = u} {k = k} kn v i sb z sf su) =
-      subst (λ w. Each (Placed p) (innerAt v₀ k n ns (trio b f u) ∷ (scopesIn b (k + 1) (inner k) (cond v₀ [] (n ∷ ns)) ++ w)))
-      (sym (rw (bare-scopes f (k + 1 + size b) (inner k) (cond v₀ [] (n ∷ ns)) (remedy-bare sf), rest-scopes su (inner k) (cond v₀ [] (n ∷ ns)))))
+  knowns {p} (sits-scope {xs = xs} {v = v₀} {n = n} {c = c} {ns = ns} {b = b} {f = f} {u = u} {k = k} kn v i sb z) =
+      subst (λ w. Each (Placed p) (innerAt xs v₀ k n ns (trio b f u) ∷ (scopesIn b (k + 1) (inner k) (cond v₀ [] (n ∷ ns)) ++ w)))
+      (sym (bare-scopes-in (more f u) (k + 1 + size b) (inner k) (cond v₀ [] (n ∷ ns)) (healers-bare z)))
       (each-more (record { known = kn; outer = c; place = v .place }) (each-append (knowns sb) each-none))
 
   knowns-in : {p : Plan} {q : Place} {l : Acts} {c : ℕ} → SitsIn p q l c → Each (Placed p) (scopesAmong l c (nameOf q) (beyondOf q))
@@ -562,7 +559,7 @@ mutual
 
 all-placed : (p : Plan) → Promised p → Each (Placed p) (scopesOf p)
 unfolding scopesOf
-all-placed p h = each-append (subst (λ (ns : List Name). Each (Placed p) (scopesIn (p .body) 0 root ns)) (h .alone) (knowns (h .seat .body))) (subst (λ z. Each (Placed p) z) (sym (bare-scopes (p .fault) (size (p .body)) root [] (remedy-bare (h .seat .fault)))) each-none)
+all-placed p h = each-append (subst (λ (ns : List Name). Each (Placed p) (scopesIn (p .body) 0 root ns)) (h .alone) (knowns (h .seat .body))) (subst (λ z. Each (Placed p) z) (sym (bare-scopes (p .fault) (size (p .body)) root [] (remedy-bare (root-fault (h .seat))))) each-none)
 
 placed-known : {p : Plan} {l : List Inner} → Each (Placed p) l → Each (Known p) l
 placed-known each-none = each-none

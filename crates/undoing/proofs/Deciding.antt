@@ -66,7 +66,7 @@ picks-marked (repeat e) within k i n o = ap (λ (w : Value). pickedBy (λ m. con
 picks-marked sequence within k i n o = refl
 picks-marked flow within k i n o = refl
 picks-marked pick within k i n o = refl
-picks-marked (scope v) within k i n o = refl
+picks-marked (scope xs v) within k i n o = refl
 picks-marked (arm p op vs) within k i n o = refl
 
 mutual
@@ -106,7 +106,7 @@ own-taking (repeat e) within k m o = refl
 own-taking sequence within k m o = refl
 own-taking flow within k m o = refl
 own-taking pick within k m o = refl
-own-taking (scope v) within k m o = refl
+own-taking (scope xs v) within k m o = refl
 own-taking (arm p op vs) within k m o = refl
 
 mutual
@@ -183,7 +183,7 @@ itself-picks (repeat e) within q₀ k o n h = go (evaluate e o)
 itself-picks sequence within q₀ k o n h = refl
 itself-picks flow within q₀ k o n h = refl
 itself-picks pick within q₀ k o n h = refl
-itself-picks (scope v) within q₀ k o n h = refl
+itself-picks (scope xs v) within q₀ k o n h = refl
 itself-picks (arm p op vs) within q₀ k o n h = refl
 
 -- a raise stands in place of what picks nothing
@@ -201,7 +201,7 @@ placed-picks (repeat x) within k o e = absurd (let z : _≡_ {A = ℕ} 0 1 = ap 
 placed-picks sequence within k o e = refl
 placed-picks flow within k o e = refl
 placed-picks pick within k o e = refl
-placed-picks (scope v) within k o e = refl
+placed-picks (scope xs v) within k o e = refl
 placed-picks (arm p op vs) within k o e = refl
 
 performs-picks : (actor : Actor) (own : Own) (within : Acts) (q₀ k : ℕ) (o : Order) → needs own ≤ count within → Arms (isPick own) within → Has (picks own within k o) (performs actor own within q₀ k o .log)

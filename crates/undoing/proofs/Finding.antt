@@ -6,14 +6,17 @@ use mathlib.Core.Bool.{Bool, true, false, not, _&&_, false≢true}
 use mathlib.Core.List.{List}
 use lib.Dec.{eqb, ltb}
 use borrow.Author.Tests.{eqb-true, not-true}
-use Rattle.plan.specs.Tree.{Own, empty, scope, kind, isScope, hasUndo, Act, act, Acts, none, more, Plan, size, sizes}
+use Rattle.plan.specs.Tree.{Own, empty, scope, kind, isScope, hasUndo, Act, act, Acts, none, more, Plan, size, sizes, numbersOf, generalPart, undoPart}
+use Rattle.order.specs.State.{Name}
 use Rattle.order.specs.Begin.{part, partAt}
 use Rattle.undoing.specs.Ties.{Place}
 use Rattle.undoing.specs.Answered.{surely, backIn, backAmong}
 use Rattle.undoing.proofs.Parts.{both, decide}
-use Rattle.undoing.proofs.Marks.{trio, Quiet, Run, run-awaits, run-one, run-all, run-body, run-done, run-turned, All, all-none, all-run, all-quiet, Turned, turned-waits, turned-undoes, turned-heals, Stopped, stopped-part, stopped-quiet, stopped-scope, StoppedIn, stopped-none, stopped-more, Undoing, undoing-part, undoing-scope, undoing-through, UndoingIn, undoing-here, undoing-later, quiet-part}
-use Rattle.undoing.proofs.Orders.{bare, bareIn, Sits, sits-part, sits-scope, SitsIn, sits-none, sits-more, Remedy, remedy-bare, Rest, rest-undo, rest-none}
+use Rattle.undoing.proofs.Marks.{trio, nth-later, Quiet, Run, run-awaits, run-one, run-all, run-body, run-done, run-turned, All, all-none, all-run, all-quiet, Turned, turned-waits, turned-undoes, turned-heals, Stopped, stopped-part, stopped-quiet, stopped-scope, StoppedIn, stopped-none, stopped-more, Undoing, undoing-part, undoing-scope, undoing-through, UndoingIn, undoing-here, undoing-later, quiet-part}
+use Rattle.undoing.proofs.Orders.{bare, bareIn, Sits, sits-part, sits-scope, SitsIn, sits-none, sits-more, Remedy, remedy-bare, Healers}
 use Rattle.undoing.proofs.Waiting.{Waits, waits-itself, waits-within, WaitsIn, waits-first, waits-later, quiet-waits}
+use Rattle.undoing.proofs.Remedies.{part-from, part-to, nth-run}
+use Rattle.undoing.proofs.Healing.{waits-at, healers-bare, undo-there, undo-all, undo-turned}
 use Rattle.undoing.proofs.Lessening.{one-each}
 use Rattle.undoing.proofs.Owing.{not-scope}
 
@@ -28,7 +31,7 @@ unfoldable mutual
 
 unfoldable mutual
   pub backPart : Act → (k e : ℕ) → Act
-  backPart (act own within) k e = elim (isScope own && eqb k e) [ true ↦ part 2 within | false ↦ backPartIn within (k + 1) e ]
+  backPart (act own within) k e = elim (isScope own && eqb k e) [ true ↦ part (undoPart (numbersOf own)) within | false ↦ backPartIn within (k + 1) e ]
 
   pub backPartIn : Acts → (c e : ℕ) → Act
   backPartIn none c e = act empty none
@@ -36,7 +39,7 @@ unfoldable mutual
 
 unfoldable mutual
   pub backAt : Act → (k e : ℕ) → ℕ
-  backAt (act own within) k e = elim (isScope own && eqb k e) [ true ↦ partAt 2 within (k + 1) | false ↦ backAtIn within (k + 1) e ]
+  backAt (act own within) k e = elim (isScope own && eqb k e) [ true ↦ partAt (undoPart (numbersOf own)) within (k + 1) | false ↦ backAtIn within (k + 1) e ]
 
   pub backAtIn : Acts → (c e : ℕ) → ℕ
   backAtIn none c e = c
@@ -65,7 +68,13 @@ oneOf b x y =
     }
 
 abbrev itsBack : Own → (within : Acts) → (k : ℕ) → Back
-itsBack own within k = record { has = hasUndo own; tree = part 2 within; at = partAt 2 within (k + 1); sure = surely (part 2 within) (partAt 2 within (k + 1)) }
+itsBack own within k =
+    record {
+      has = hasUndo own;
+      tree = part (undoPart (numbersOf own)) within;
+      at = partAt (undoPart (numbersOf own)) within (k + 1);
+      sure = surely (part (undoPart (numbersOf own)) within) (partAt (undoPart (numbersOf own)) within (k + 1));
+    }
 
 backs-is : (own : Own) (within : Acts) (k e : ℕ) (b : Bool) → (isScope own && eqb k e) ≡ b → backs (act own within) k e ≡ oneOf b (itsBack own within k) (backsIn within (k + 1) e)
 unfolding hasBack backPart backAt backIn
@@ -86,14 +95,19 @@ backs-part own within k e s = backs-is own within k e false (rw s)
 pub backs-other : (own : Own) (within : Acts) (k e : ℕ) → eqb k e ≡ false → backs (act own within) k e ≡ backsIn within (k + 1) e
 backs-other own within k e t = backs-is own within k e false (decide (isScope own) (λ s. rw (s, t)) (λ s. rw s))
 
-pub backs-own : (b f u : Act) (k e : ℕ) → eqb k e ≡ true
-    → backs (act (scope true) (trio b f (more u none))) k e ≡ record { has = true; tree = u; at = k + 1 + size b + size f; sure = surely u (k + 1 + size b + size f) }
-unfolding part partAt kind
-backs-own b f u k e t = backs-is (scope true) (trio b f (more u none)) k e true t
+-- that of a scope, by its parts after its body
+abbrev pub ownBack : (numbers : List ℕ) → (undo : Bool) → (body : Act) → Acts → (k : ℕ) → Back
+ownBack xs v b l k =
+    record {
+      has = v;
+      tree = part (generalPart xs) l;
+      at = partAt (generalPart xs) l (k + 1 + size b);
+      sure = surely (part (generalPart xs) l) (partAt (generalPart xs) l (k + 1 + size b));
+    }
 
-pub backs-without : (b f : Act) (k e : ℕ) → eqb k e ≡ true → hasBack (act (scope false) (trio b f none)) k e ≡ false
-unfolding kind
-backs-without b f k e t = ap (λ (z : Back). z .has) (backs-is (scope false) (trio b f none) k e true t)
+pub backs-own : (xs : List ℕ) (v : Bool) (b : Act) (l : Acts) (k e : ℕ) → eqb k e ≡ true → backs (act (scope xs v) (more b l)) k e ≡ ownBack xs v b l k
+unfolding part partAt
+backs-own xs v b l k e t = backs-is (scope xs v) (more b l) k e true t
 
 -- none where there is no scope
 mutual
@@ -110,42 +124,19 @@ mutual
       (λ t. ap (λ (z : Back). z .has) (backs-in-is a l c e true t) ∙ bare-backs a c e x)
       (λ t. ap (λ (z : Back). z .has) (backs-in-is a l c e false t) ∙ bare-backs-in l (c + size a) e y))
 
-rest-backs : {p : Plan} {v : Bool} {q : Place} {u : Acts} {c : ℕ} → Rest p v q u c → (e : ℕ) → hasBackIn u c e ≡ true → ⊥
-rest-backs (rest-undo {u = u} {k = c} s) e h =
-    decide (ltb e (c + size u))
-    (λ t. false≢true (sym (bare-backs u c e (remedy-bare s)) ∙ (ap (λ (z : Back). z .has) (sym (backs-in-is u none c e true t)) ∙ h)))
-    (λ t. backs-none (c + size u) e (ap (λ (z : Back). z .has) (sym (backs-in-is u none c e false t)) ∙ h))
-rest-backs (rest-none {k = c}) e h = backs-none c e h
-
 -- Where the undo part of scope e is: of a scope, its own, or one in its body.
-pub data Whose (b f : Act) (u : Acts) (v : Bool) (k e : ℕ) : Type 0 where
-  own-back : (w : Act) → k ≡ e → v ≡ true → u ≡ more w none → backs (act (scope v) (trio b f u)) k e ≡ record { has = true; tree = w; at = k + 1 + size b + size f; sure = surely w (k + 1 + size b + size f) }
-      → Whose b f u v k e
-  body-back : hasBack b (k + 1) e ≡ true → backs (act (scope v) (trio b f u)) k e ≡ backs b (k + 1) e → Whose b f u v k e
+pub data Whose (xs : List ℕ) (b : Act) (l : Acts) (v : Bool) (k e : ℕ) : Type 0 where
+  own-back : k ≡ e → v ≡ true → backs (act (scope xs v) (more b l)) k e ≡ ownBack xs v b l k → Whose xs b l v k e
+  body-back : hasBack b (k + 1) e ≡ true → backs (act (scope xs v) (more b l)) k e ≡ backs b (k + 1) e → Whose xs b l v k e
 
-whose-other : {p : Plan} {q q₁ : Place} {b f : Act} {u : Acts} {v : Bool} {k : ℕ} → Remedy p q f (k + 1 + size b) → Rest p v q₁ u (k + 1 + size b + size f) → (e : ℕ)
-    → hasBack (act (scope v) (trio b f u)) k e ≡ true → eqb k e ≡ false → Whose b f u v k e
-whose-other {b = b} {f = f} {u = u} {v = v} {k = k} sf su e h t =
-    let x = backs-other (scope v) (trio b f u) k e t in
+pub whose : (xs : List ℕ) (b : Act) (l : Acts) (v : Bool) (k : ℕ) → bareIn l ≡ true → (e : ℕ) → hasBack (act (scope xs v) (more b l)) k e ≡ true → Whose xs b l v k e
+whose xs b l v k n e h =
+    decide (eqb k e)
+    (λ t. let x = backs-own xs v b l k e t in own-back (eqb-true k e t) (ap (λ (z : Back). z .has) (sym x) ∙ h) x)
+    (λ t. let x = backs-other (scope xs v) (more b l) k e t in
     decide (ltb e (k + 1 + size b))
-    (λ i. let y = x ∙ backs-in-is b (more f u) (k + 1) e true i in body-back (ap (λ (z : Back). z .has) (sym y) ∙ h) y)
-    (λ i. let y = x ∙ backs-in-is b (more f u) (k + 1) e false i in
-    decide (ltb e (k + 1 + size b + size f))
-    (λ j. absurd (false≢true (sym (bare-backs f (k + 1 + size b) e (remedy-bare sf)) ∙ (ap (λ (z : Back). z .has) (sym (y ∙ backs-in-is f u (k + 1 + size b) e true j)) ∙ h))))
-    (λ j. absurd (rest-backs su e (ap (λ (z : Back). z .has) (sym (y ∙ backs-in-is f u (k + 1 + size b) e false j)) ∙ h))))
-
-pub whose-true : {p : Plan} {q q₁ : Place} {b f u : Act} {k : ℕ} → Remedy p q f (k + 1 + size b) → Remedy p q₁ u (k + 1 + size b + size f) → (e : ℕ)
-    → hasBack (act (scope true) (trio b f (more u none))) k e ≡ true → Whose b f (more u none) true k e
-whose-true {b = b} {f = f} {u = u} {k = k} sf su e h = decide (eqb k e) (λ t. own-back u (eqb-true k e t) refl refl (backs-own b f u k e t)) (λ t. whose-other sf (rest-undo su) e h t)
-
-pub whose-false : {p : Plan} {q : Place} (b f : Act) (k : ℕ) → Remedy p q f (k + 1 + size b) → (e : ℕ) → hasBack (act (scope false) (trio b f none)) k e ≡ true
-    → (hasBack b (k + 1) e ≡ true) × (backs (act (scope false) (trio b f none)) k e ≡ backs b (k + 1) e)
-whose-false {p} {q} b f k sf e h =
-    decide (eqb k e) (λ t. absurd (false≢true (sym (backs-without b f k e t) ∙ h))) (λ t. go (whose-other {q₁ = q} sf rest-none e h t))
-  where
-    go : Whose b f none false k e → (hasBack b (k + 1) e ≡ true) × (backs (act (scope false) (trio b f none)) k e ≡ backs b (k + 1) e)
-    go (own-back u n d d₁ x) = absurd (false≢true d)
-    go (body-back hb x) = (hb, x)
+    (λ i. let y = x ∙ backs-in-is b l (k + 1) e true i in body-back (ap (λ (z : Back). z .has) (sym y) ∙ h) y)
+    (λ i. let y = x ∙ backs-in-is b l (k + 1) e false i in absurd (false≢true (sym (bare-backs-in l (k + 1 + size b) e n) ∙ (ap (λ (z : Back). z .has) (sym y) ∙ h)))))
 
 -- its numbers are those of the activity, after the first
 abbrev pub Spans : (k n : ℕ) → Back → Type 0
@@ -159,22 +150,18 @@ mutual
       let x = backs-part own within k e s in
       let r = back-spans-in l e (ap (λ (z : Back). z .has) (sym x) ∙ h) in
       subst (λ (z : Back). Spans (k + 1) (1 + sizes within) z × (z .at + size (z .tree) ≤ k + (1 + sizes within))) (sym x) ((omega arith, omega arith), omega arith)
-  back-spans (sits-scope {v = true} {b = b} {f} {k = k} kn v i sb z sf (rest-undo {u = u} su)) e h = go (whose-true sf su e h) (λ hb. back-spans sb e hb)
+  back-spans (sits-scope {xs = xs} {v = v₀} {b = b} {f} {u} {k} kn v i sb z) e h = go (whose xs b (more f u) v₀ k (healers-bare z) e h) (λ hb. back-spans sb e hb)
     where
-      go : Whose b f (more u none) true k e → (hasBack b (k + 1) e ≡ true → Spans (k + 1 + 1) (size b) (backs b (k + 1) e) × (backAt b (k + 1) e + size (backPart b (k + 1) e) ≤ k + 1 + size b))
-          → Spans (k + 1) (1 + (size b + (size f + (size u + 0)))) (backs (act (scope true) (trio b f (more u none))) k e)
-          × (backAt (act (scope true) (trio b f (more u none))) k e + size (backPart (act (scope true) (trio b f (more u none))) k e) ≤ k + (1 + (size b + (size f + (size u + 0)))))
-      go (own-back w o d y x) r =
-          let n : u ≡ w = cc in
-          let m : size w ≡ size u = ap size (sym n) in
-          subst (λ (z : Back). Spans (k + 1) (1 + (size b + (size f + (size u + 0)))) z × (z .at + size (z .tree) ≤ k + (1 + (size b + (size f + (size u + 0)))))) (sym x) ((omega arith, omega arith), omega arith)
+      go : Whose xs b (more f u) v₀ k e → (hasBack b (k + 1) e ≡ true → Spans (k + 1 + 1) (size b) (backs b (k + 1) e) × (backAt b (k + 1) e + size (backPart b (k + 1) e) ≤ k + 1 + size b))
+          → Spans (k + 1) (1 + (size b + (size f + sizes u))) (backs (act (scope xs v₀) (trio b f u)) k e)
+          × (backAt (act (scope xs v₀) (trio b f u)) k e + size (backPart (act (scope xs v₀) (trio b f u)) k e) ≤ k + (1 + (size b + (size f + sizes u))))
+      go (own-back o d x) r =
+          let lo = part-from (generalPart xs) (more f u) (k + 1 + size b) in
+          let hi = part-to (generalPart xs) (more f u) (k + 1 + size b) (undo-there z d) in
+          subst (λ (z : Back). Spans (k + 1) (1 + (size b + (size f + sizes u))) z × (z .at + size (z .tree) ≤ k + (1 + (size b + (size f + sizes u))))) (sym x) ((omega arith, omega arith), omega arith)
       go (body-back hb x) r =
           let i = r hb in
-          subst (λ (z : Back). Spans (k + 1) (1 + (size b + (size f + (size u + 0)))) z × (z .at + size (z .tree) ≤ k + (1 + (size b + (size f + (size u + 0)))))) (sym x) ((omega arith, omega arith), omega arith)
-  back-spans (sits-scope {v = false} {b = b} {f} {k = k} kn v i sb z sf rest-none) e h =
-      let w = whose-false b f k sf e h in
-      let r = back-spans sb e (w .0) in
-      subst (λ (z : Back). Spans (k + 1) (1 + (size b + (size f + 0))) z × (z .at + size (z .tree) ≤ k + (1 + (size b + (size f + 0))))) (sym (w .1)) ((omega arith, omega arith), omega arith)
+          subst (λ (z : Back). Spans (k + 1) (1 + (size b + (size f + sizes u))) z × (z .at + size (z .tree) ≤ k + (1 + (size b + (size f + sizes u))))) (sym x) ((omega arith, omega arith), omega arith)
 
   pub back-spans-in : {p : Plan} {q : Place} {l : Acts} {c : ℕ} → SitsIn p q l c → (e : ℕ) → hasBackIn l c e ≡ true → Spans c (sizes l) (backsIn l c e) × (c ≤ c)
   back-spans-in (sits-none {c = c}) e h = absurd (backs-none c e h)
@@ -222,50 +209,53 @@ within-shapes s (shape-run (run-one _ _ r)) = all-shapes (one-each r)
 within-shapes s (shape-run (run-all _ r _)) = all-shapes r
 within-shapes s (shape-run (run-body _ _ _)) = absurd (not-scope s)
 within-shapes s (shape-run (run-done _ _)) = absurd (not-scope s)
-within-shapes s (shape-run (run-turned _ _)) = absurd (not-scope s)
+within-shapes s (shape-run (run-turned _)) = absurd (not-scope s)
 within-shapes s (shape-stopped (stopped-part _ _ r)) = stopped-shapes r
 within-shapes {within = within} {k} s (shape-stopped (stopped-quiet q)) = quiet-shapes within (k + 1) (quiet-part q (omega arith) (omega arith))
-within-shapes s (shape-stopped (stopped-scope _ _)) = absurd (not-scope s)
+within-shapes s (shape-stopped (stopped-scope _)) = absurd (not-scope s)
 within-shapes s (shape-undoing (undoing-part _ _ r)) = undoing-shapes r
 within-shapes s (shape-undoing (undoing-scope _ _ _)) = absurd (not-scope s)
 within-shapes s (shape-undoing (undoing-through _ _ _)) = absurd (not-scope s)
 within-shapes {within = within} {k} s (shape-quiet q) = quiet-shapes within (k + 1) (quiet-part q (omega arith) (omega arith))
 
 -- the body of a scope
-pub turned-shape : {ms : List ℕ} {m kb kf : ℕ} {b f : Act} → Turned ms m b kb f kf → Shape ms b kb
+pub turned-shape : {ms xs : List ℕ} {m kb kf : ℕ} {b : Act} {l : Acts} → Turned ms xs m b kb l kf → Shape ms b kb
 turned-shape (turned-waits _ r _ _) = shape-stopped r
 turned-shape (turned-undoes _ r _) = shape-undoing r
 turned-shape (turned-heals _ q _) = shape-quiet q
 
-body-shape : {ms : List ℕ} {v : Bool} {b f : Act} {u : Acts} {k : ℕ} → Shape ms (act (scope v) (trio b f u)) k → Shape ms b (k + 1)
+body-shape : {ms xs : List ℕ} {v : Bool} {b f : Act} {u : Acts} {k : ℕ} → Shape ms (act (scope xs v) (trio b f u)) k → Shape ms b (k + 1)
 unfolding size
 body-shape (shape-run (run-awaits s _ _ _)) = absurd (not-scope s)
 body-shape (shape-run (run-one s _ _)) = absurd (not-scope s)
 body-shape (shape-run (run-body _ r _)) = shape-run r
 body-shape (shape-run (run-done _ q)) = shape-quiet (quiet-part q (omega arith) (omega arith))
-body-shape (shape-run (run-turned t _)) = turned-shape t
+body-shape (shape-run (run-turned t)) = turned-shape t
 body-shape (shape-stopped (stopped-part s _ _)) = absurd (not-scope s)
 body-shape (shape-stopped (stopped-quiet q)) = shape-quiet (quiet-part q (omega arith) (omega arith))
-body-shape (shape-stopped (stopped-scope t _)) = turned-shape t
+body-shape (shape-stopped (stopped-scope t)) = turned-shape t
 body-shape (shape-undoing (undoing-part s _ _)) = absurd (not-scope s)
-body-shape (shape-undoing (undoing-scope _ q _)) = shape-quiet (quiet-part q (omega arith) (omega arith))
+body-shape (shape-undoing (undoing-scope _ _ (nth-later q _))) = shape-quiet q
 body-shape (shape-undoing (undoing-through _ r _)) = shape-undoing r
 body-shape (shape-quiet q) = shape-quiet (quiet-part q (omega arith) (omega arith))
 
 -- its undo part, where something in it awaits
-undo-runs : {ms : List ℕ} {b f u : Act} {k t : ℕ} → Shape ms (act (scope true) (trio b f (more u none))) k → Waits ms u (k + 1 + size b + size f) t false → Run ms u (k + 1 + size b + size f)
-unfolding size
-undo-runs (shape-run (run-awaits s _ _ _)) w = absurd (not-scope s)
-undo-runs (shape-run (run-one s _ _)) w = absurd (not-scope s)
-undo-runs (shape-run (run-body _ _ q)) w = absurd (quiet-waits w refl (quiet-part q (omega arith) (omega arith)))
-undo-runs (shape-run (run-done _ q)) w = absurd (quiet-waits w refl (quiet-part q (omega arith) (omega arith)))
-undo-runs (shape-run (run-turned _ q)) w = absurd (quiet-waits w refl (quiet-part q (omega arith) (omega arith)))
-undo-runs (shape-stopped (stopped-part s _ _)) w = absurd (not-scope s)
-undo-runs (shape-stopped (stopped-quiet q)) w = absurd (quiet-waits w refl (quiet-part q (omega arith) (omega arith)))
-undo-runs (shape-stopped (stopped-scope _ q)) w = absurd (quiet-waits w refl (quiet-part q (omega arith) (omega arith)))
-undo-runs (shape-undoing (undoing-part s _ _)) w = absurd (not-scope s)
-undo-runs (shape-undoing (undoing-scope _ _ r)) w = r
-undo-runs (shape-quiet q) w = absurd (quiet-waits w refl (quiet-part q (omega arith) (omega arith)))
+undo-runs : {p : Plan} {s : Name} {ms xs : List ℕ} {v : Bool} {q₀ q₁ : Place} {b f : Act} {u : Acts} {k t : ℕ} → Shape ms (act (scope xs v) (trio b f u)) k
+    → Healers p s xs v q₀ q₁ (more f u) (k + 1 + size b) → v ≡ true → Waits ms (part (generalPart xs) (more f u)) (partAt (generalPart xs) (more f u) (k + 1 + size b)) t false
+    → Run ms (part (generalPart xs) (more f u)) (partAt (generalPart xs) (more f u) (k + 1 + size b))
+unfolding size part partAt
+undo-runs (shape-run (run-awaits s _ _ _)) z e w = absurd (not-scope s)
+undo-runs (shape-run (run-one s _ _)) z e w = absurd (not-scope s)
+undo-runs (shape-run (run-body _ _ q)) z e w = absurd (quiet-waits w refl (undo-all z e q))
+undo-runs (shape-run (run-done _ q)) z e w = absurd (quiet-waits w refl (undo-all z e (quiet-part q (omega arith) (omega arith))))
+undo-runs (shape-run (run-turned t)) z e w = absurd (quiet-waits w refl (undo-turned z e t))
+undo-runs (shape-stopped (stopped-part s _ _)) z e w = absurd (not-scope s)
+undo-runs (shape-stopped (stopped-quiet q)) z e w = absurd (quiet-waits w refl (undo-all z e (quiet-part q (omega arith) (omega arith))))
+undo-runs (shape-stopped (stopped-scope t)) z e w = absurd (quiet-waits w refl (undo-turned z e t))
+undo-runs (shape-undoing (undoing-part s _ _)) z e w = absurd (not-scope s)
+undo-runs (shape-undoing (undoing-scope _ _ r)) z e w = nth-run r
+undo-runs (shape-undoing (undoing-through _ _ _)) z e w = absurd (false≢true e)
+undo-runs (shape-quiet q) z e w = absurd (quiet-waits w refl (undo-all z e (quiet-part q (omega arith) (omega arith))))
 
 -- The undo part runs, and the step in it is awaited.
 abbrev pub Inside : (t : ℕ) → Back → Type 0
@@ -283,25 +273,20 @@ mutual
   find (sits-part {own = own} {within} {k} s g v y l) {ms} {t} sh (waits-within z w) e h i =
       let x = backs-part own within k e s in
       subst (Runs ms t) (sym x) (find-in l (within-shapes s sh) w e (ap (λ (z : Back). z .has) (sym x) ∙ h) (subst (Inside t) x i))
-  find (sits-scope {v = v₀} {b = b} {f} {u} {k} kn v j sb z sf su) sh (waits-itself y w) e h i = let r = back-spans (sits-scope kn v j sb z sf su) e h in absurd (omega arith)
-  find (sits-scope {v = true} {b = b} {f} {k = k} kn v j sb z sf (rest-undo {u = u} su)) {ms} {t} sh (waits-within y w) e h i =
-      go (whose-true sf su e h) w (λ n hb i₁. find sb (body-shape sh) n e hb i₁) (λ hb. back-spans sb e hb)
+  find (sits-scope {xs = xs} {v = v₀} {b = b} {f} {u} {k} kn v j sb z) sh (waits-itself y w) e h i = let r = back-spans (sits-scope kn v j sb z) e h in absurd (omega arith)
+  find (sits-scope {xs = xs} {v = v₀} {b = b} {f} {u} {k} kn v j sb z) {ms} {t} sh (waits-within y w) e h i =
+      go (whose xs b (more f u) v₀ k (healers-bare z) e h) w (λ n hb i₁. find sb (body-shape sh) n e hb i₁) (λ hb. back-spans sb e hb)
     where
-      go : Whose b f (more u none) true k e → WaitsIn ms (trio b f (more u none)) (k + 1) t false
+      go : Whose xs b (more f u) v₀ k e → WaitsIn ms (trio b f u) (k + 1) t false
           → (Waits ms b (k + 1) t false → hasBack b (k + 1) e ≡ true → Inside t (backs b (k + 1) e) → Runs ms t (backs b (k + 1) e))
           → (hasBack b (k + 1) e ≡ true → Spans (k + 1 + 1) (size b) (backs b (k + 1) e) × (backAt b (k + 1) e + size (backPart b (k + 1) e) ≤ k + 1 + size b))
-          → Runs ms t (backs (act (scope true) (trio b f (more u none))) k e)
-      go (own-back u₁ o₁ d d₁ x) (waits-first m n) r r₁ = let i₁ = subst (Inside t) x i in absurd (omega arith)
-      go (own-back u₁ o₁ d d₁ x) (waits-later m (waits-first n o)) r r₁ = let i₁ = subst (Inside t) x i in absurd (omega arith)
-      go (own-back u₁ o₁ d d₁ x) (waits-later m (waits-later n (waits-first o c))) r r₁ =
-          let y₁ : u ≡ u₁ = cc in
-          subst (Runs ms t) (sym x) (subst (λ (c : Act). Runs ms t (record { has = true; tree = c; at = k + 1 + size b + size f; sure = surely c (k + 1 + size b + size f) })) y₁ (record { runs = undo-runs sh c; waits = c }))
+          → Runs ms t (backs (act (scope xs v₀) (trio b f u)) k e)
+      go (own-back o₁ d x) (waits-first m n) r r₁ = let i₁ = subst (Inside t) x i in let lo = part-from (generalPart xs) (more f u) (k + 1 + size b) in absurd (omega arith)
+      go (own-back o₁ d x) (waits-later m n) r r₁ =
+          let i₁ = subst (Inside t) x i in
+          let c = waits-at n (generalPart xs) (undo-there z d) (i₁ .0) (i₁ .1) in subst (Runs ms t) (sym x) (record { runs = undo-runs sh z d c; waits = c })
       go (body-back hb x) (waits-first m n) r r₁ = subst (Runs ms t) (sym x) (r n hb (subst (Inside t) x i))
       go (body-back hb x) (waits-later m n) r r₁ = let i₁ = subst (Inside t) x i in let r₂ = r₁ hb in absurd (omega arith)
-  find (sits-scope {v = false} {b = b} {f} {k = k} kn v j sb z sf rest-none) {ms} {t} sh (waits-within y (waits-first m n)) e h i =
-      let x = whose-false b f k sf e h in subst (Runs ms t) (sym (x .1)) (find sb (body-shape sh) n e (x .0) (subst (Inside t) (x .1) i))
-  find (sits-scope {v = false} {b = b} {f} {k = k} kn v j sb z sf rest-none) {ms} {t} sh (waits-within y (waits-later m n)) e h i =
-      let x = whose-false b f k sf e h in let i₁ = subst (Inside t) (x .1) i in let r = back-spans sb e (x .0) in absurd (omega arith)
 
   find-in : {p : Plan} {q : Place} {l : Acts} {c : ℕ} → SitsIn p q l c → {ms : List ℕ} {t : ℕ} {b : Bool} → Shapes ms l c → WaitsIn ms l c t b → (e : ℕ) → hasBackIn l c e ≡ true → Inside t (backsIn l c e) → Runs ms t (backsIn l c e)
   find-in (sits-none {c = c}) sh w e h i = absurd (backs-none c e h)

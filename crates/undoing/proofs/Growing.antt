@@ -98,9 +98,9 @@ module _ (f : ℕ → ℕ) where
       on-grows k active (λ o. whereOver (finishes k) (begunIn o (beginAfter within (k + 1) t (o .marks)))) r j (follows-goes f k t (r .order) y m .grows j l (λ i. d (omega arith)) u) u
   combines-grows flow within k t r e n y m q j l d u = on-grows k active (joins k within) r j (joins-goes f k 0 within (r .order) .grows j l (λ i. d (omega arith)) u) u
   combines-grows pick within k t r e n y m q j l d u = on-grows k inside (finishes k) r j (finishes-goes f k 0 (r .order) .grows j l (λ i. d (omega arith)) u) u
-  combines-grows (scope v) within k t r e n y m q j l d u =
+  combines-grows (scope xs v) within k t r e n y m q j l d u =
       let s = scopeAt k within in
-      let h = scope-within f (ap isScopeKind e ∙ scope-kind (scope v)) (scope-needs f (scope v) (count within) refl n) y in
+      let h = scope-within f (ap isScopeKind e ∙ scope-kind (scope xs v)) (scope-needs f (scope xs v) (count within) refl n) y in
       grows-either j (ltb t (partAt 1 within (k + 1))) (elim (goesThrough v k r) [ true ↦ r | false ↦ fromBody s r ]) (elim (ltb t (partAt 2 within (k + 1))) [ true ↦ fromFault s r | false ↦ fromUndo r ]) _ refl
       (grows-either j (goesThrough v k r) r (fromBody s r) _ refl u (body-grows s (k + 1) (k + 1 + sizes within) h r m q j l (λ i. d (omega arith)) u))
       (grows-either j (ltb t (partAt 2 within (k + 1))) (fromFault s r) (fromUndo r) _ refl (fault-grows s (k + 1) (k + 1 + sizes within) h r m q j l (λ i. d (omega arith)) u) u)
@@ -167,7 +167,7 @@ module _ (f : ℕ → ℕ) where
   itself-grows sequence within q k o e n y m j l d c u = u
   itself-grows flow within q k o e n y m j l d c u = u
   itself-grows pick within q k o e n y m j l d c u = u
-  itself-grows (scope v) within q k o e n y m j l d c u = up-other (o .marks) k idle j d u
+  itself-grows (scope xs v) within q k o e n y m j l d c u = up-other (o .marks) k idle j d u
   itself-grows (arm a b vs) within q k o e n y m j l d c u =
       goes-begun f {b = k + 1} {e = k + 1 + sizes within} o (beginPart 0 within (k + 1) (o .marks)) (part-began f y 0 (omega arith) (o .marks) m) (omega arith) (omega arith) .grows j l (λ z. d (omega arith)) u
 
@@ -219,8 +219,8 @@ module _ (f : ℕ → ℕ) where
   again-up sequence within k t r e m u = absurd (omega arith)
   again-up flow within k t r e m u = absurd (omega arith)
   again-up pick within k t r e m u = absurd (omega arith)
-  again-up (scope true) within k t r e m u = absurd (omega arith)
-  again-up (scope false) within k t r e m u = absurd (omega arith)
+  again-up (scope xs true) within k t r e m u = absurd (omega arith)
+  again-up (scope xs false) within k t r e m u = absurd (omega arith)
   again-up (arm a b vs) within k t r e m u = absurd (omega arith)
 
   -- A step: j has it not in it, or is a repeat that has it, and not as its own; and j does not stand in what has it.

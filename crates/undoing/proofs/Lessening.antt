@@ -96,7 +96,7 @@ sure-left (repeat x) within k ms s = absurd (false≢true s)
 sure-left sequence within k ms s = absurd (false≢true s)
 sure-left flow within k ms s = absurd (false≢true s)
 sure-left pick within k ms s = absurd (false≢true s)
-sure-left (scope u) within k ms s = absurd (false≢true s)
+sure-left (scope xs u) within k ms s = absurd (false≢true s)
 sure-left (arm x y vs) within k ms s = absurd (false≢true s)
 
 -- what it is not while it awaits its step, and while something runs in it
@@ -120,7 +120,7 @@ surely-so (repeat x) s = absurd (false≢true s)
 surely-so sequence s = absurd (false≢true s)
 surely-so flow s = absurd (false≢true s)
 surely-so pick s = absurd (false≢true s)
-surely-so (scope u) s = absurd (false≢true s)
+surely-so (scope xs u) s = absurd (false≢true s)
 surely-so (arm x y vs) s = absurd (false≢true s)
 
 -- it makes of a step within it what leaves its mark, or it is over
@@ -168,7 +168,7 @@ sure-keeps (repeat x) within k t r s = absurd (false≢true s)
 sure-keeps sequence within k t r s = absurd (false≢true s)
 sure-keeps flow within k t r s = absurd (false≢true s)
 sure-keeps pick within k t r s = absurd (false≢true s)
-sure-keeps (scope u) within k t r s = absurd (false≢true s)
+sure-keeps (scope xs u) within k t r s = absurd (false≢true s)
 sure-keeps (arm x y vs) within k t r s = absurd (false≢true s)
 
 -- so that nothing is left of it, where its mark was no active one
@@ -244,7 +244,7 @@ module _ (p : Plan) where
   sure-done sequence within y₀ k o s g d f l q m = absurd (false≢true s)
   sure-done flow within y₀ k o s g d f l q m = absurd (false≢true s)
   sure-done pick within y₀ k o s g d f l q m = absurd (false≢true s)
-  sure-done (scope u) within y₀ k o s g d f l q m = absurd (false≢true s)
+  sure-done (scope xs u) within y₀ k o s g d f l q m = absurd (false≢true s)
   sure-done (arm x y vs) within y₀ k o s g d f l q m = absurd (false≢true s)
 
   done-less : (left : List ℕ → List ℕ) (k : ℕ) (ms ns : List ℕ) (x : Result) → ((ms : List ℕ) → left ms ≡ cond (eqb (getD ms k 0) active) (k ∷ []) [])
@@ -323,9 +323,9 @@ no-flow : isSure flow ≡ true → ⊥
 unfolding isSure
 no-flow y = false≢true y
 
-no-scope : (u : Bool) → isSure (scope u) ≡ true → ⊥
+no-scope : (xs : List ℕ) (u : Bool) → isSure (scope xs u) ≡ true → ⊥
 unfolding isSure
-no-scope u y = false≢true y
+no-scope xs u y = false≢true y
 
 -- how one that is sure to have its step runs: it awaits it, or one within it runs
 data SureRun (ms : List ℕ) (own : Own) (within : Acts) (k : ℕ) : Type 0 where
@@ -336,9 +336,9 @@ sure-runs : {ms : List ℕ} (own : Own) (within : Acts) (k : ℕ) → isSure own
 sure-runs own within k y (run-awaits _ _ c q) = sure-awaits c q
 sure-runs own within k y (run-one _ c q) = sure-one c q
 sure-runs flow within k y (run-all _ _ _) = absurd (no-flow y)
-sure-runs (scope u) within k y (run-body _ _ _) = absurd (no-scope u y)
-sure-runs (scope u) within k y (run-done _ _) = absurd (no-scope u y)
-sure-runs (scope u) within k y (run-turned _ _) = absurd (no-scope u y)
+sure-runs (scope xs u) within k y (run-body _ _ _) = absurd (no-scope xs u y)
+sure-runs (scope xs u) within k y (run-done _ _) = absurd (no-scope xs u y)
+sure-runs (scope xs u) within k y (run-turned _) = absurd (no-scope xs u y)
 
 module _ (p : Plan) where
   -- An activity other than a scope that runs, by what stands within it.
@@ -416,7 +416,7 @@ module _ (p : Plan) where
     part-less sequence g w r = in-sequence w r
     part-less flow g w r = in-flow w r
     part-less pick g w r = nothing-less (leftIn (act pick within) k) t (o .marks) (stepIn itsOwn (act pick within) y₀ k t o .order .marks) (stepIn itsOwn (act pick within) y₀ k t o .result) (λ ms. refl)
-    part-less (scope u) g w r = nothing-less (leftIn (act (scope u) within) k) t (o .marks) (stepIn itsOwn (act (scope u) within) y₀ k t o .order .marks) (stepIn itsOwn (act (scope u) within) y₀ k t o .result) (λ ms. refl)
+    part-less (scope xs u) g w r = nothing-less (leftIn (act (scope xs u) within) k) t (o .marks) (stepIn itsOwn (act (scope xs u) within) y₀ k t o .order .marks) (stepIn itsOwn (act (scope xs u) within) y₀ k t o .result) (λ ms. refl)
     part-less (arm y z vs) g w r = nothing-less (leftIn (act (arm y z vs) within) k) t (o .marks) (stepIn itsOwn (act (arm y z vs) within) y₀ k t o .order .marks) (stepIn itsOwn (act (arm y z vs) within) y₀ k t o .result) (λ ms. refl)
 
   -- in a list, where the one that runs has the step
@@ -466,9 +466,9 @@ module _ (p : Plan) where
     later-all-less h g (undoRaising x) y = tt
 
   -- a scope has no sure step of its own
-  scope-less : (z₀ : Bool) (within : Acts) (y₀ k t : ℕ) (o : Order) → Lessens (act (scope z₀) within) k t (o .marks) (stepIn itsOwn (act (scope z₀) within) y₀ k t o)
+  scope-less : (xs : List ℕ) (z₀ : Bool) (within : Acts) (y₀ k t : ℕ) (o : Order) → Lessens (act (scope xs z₀) within) k t (o .marks) (stepIn itsOwn (act (scope xs z₀) within) y₀ k t o)
   unfolding leftIn
-  scope-less z₀ within y₀ k t o = nothing-less (leftIn (act (scope z₀) within) k) t (o .marks) (stepIn itsOwn (act (scope z₀) within) y₀ k t o .order .marks) (stepIn itsOwn (act (scope z₀) within) y₀ k t o .result) (λ ms. refl)
+  scope-less xs z₀ within y₀ k t o = nothing-less (leftIn (act (scope xs z₀) within) k) t (o .marks) (stepIn itsOwn (act (scope xs z₀) within) y₀ k t o .order .marks) (stepIn itsOwn (act (scope xs z₀) within) y₀ k t o .result) (λ ms. refl)
 
   -- Every step in a tree that runs.
   mutual
@@ -478,7 +478,7 @@ module _ (p : Plan) where
         → Fit x o → k + size a ≤ length (o .marks) → Lessens a k t (o .marks) (stepIn itsOwn a y₀ k t o)
     less (sits-part {q = x} {own} {within} {k} s g u y l) y₀ t o b y₁ w e r v m =
         part-less within y₀ k t o b y₁ (u .before) v l m e (λ c w₁ e₁ r₁. less-one l y₀ t o c y₁ w₁ e₁ r₁ v (omega arith)) (λ c w₁ e₁ r₁. less-all l y₀ t o c y₁ w₁ e₁ r₁ v (omega arith)) own g w r
-    less (sits-scope {v = z₀} {b = b} {f = f} {u = u} {k = k} kn d i sb z sf su) y₀ t o b′ y₁ w e r v m = scope-less z₀ (trio b f u) y₀ k t o
+    less (sits-scope {xs = xs} {v = z₀} {b = b} {f = f} {u = u} {k = k} kn d i sb z) y₀ t o b′ y₁ w e r v m = scope-less xs z₀ (trio b f u) y₀ k t o
 
     less-one : {x : Place} {l : Acts} {c : ℕ} → SitsIn p x l c → (y₀ t : ℕ) (o : Order) (b : Bool) → PartOf x y₀ → WaitsIn (o .marks) l c t b → b ≡ false → One (o .marks) l c
         → Fit x o → c + sizes l ≤ length (o .marks) → TurnAs l c t (o .marks) (stepAmong itsOwn l false y₀ c t o .order .marks) (stepAmong itsOwn l false y₀ c t o .result)
@@ -552,7 +552,7 @@ mutual
   due-left (act flow within) k t b (waits-within z w) e (run-one _ y q) h = due-all within (k + 1) t _ w refl (one-each q) h
   due-left (act flow within) k t b (waits-within z w) e (run-all _ q _) h = due-all within (k + 1) t _ w refl q h
   due-left (act pick within) k t b w e r h = absurd (false≢true h)
-  due-left (act (scope u) within) k t b w e r h = absurd (false≢true h)
+  due-left (act (scope xs u) within) k t b w e r h = absurd (false≢true h)
   due-left (act (arm x y vs) within) k t b w e r h = absurd (false≢true h)
 
   due-turn : {ms : List ℕ} (l : Acts) (c t : ℕ) (b : Bool) → WaitsIn ms l c t b → b ≡ false → One ms l c → some (eqb t) (surelyAmong l c) ≡ true → some (eqb t) (leftInTurn l c ms) ≡ true

@@ -70,6 +70,7 @@ pub mod Nearing
 pub mod NearTold
 pub mod Dropping
 pub mod Bodies
+pub mod Healing
 pub mod Afresh
 pub mod AfreshSteps
 pub mod AfreshTold

@@ -1,28 +1,32 @@
 -- The undo part of a scope that has one: the plan's own words of it, and its tree as it sits, with its kinds and leads. Assumes nothing.
-use Prim.Native.Nat.{ℕ, _+_}
+use Prim.Native.Nat.{ℕ, zero, suc, _+_, _<_}
+use native.Mathlib.Omega.{arith}
 use mathlib.Core.Path.{_≡_, refl, sym, ap, subst, _∙_}
 use mathlib.Core.Bool.{Bool, true, false, not, false≢true}
 use mathlib.Core.List.{List, []}
 use lib.Dec.{eqb, ltb}
 use borrow.Author.Tests.{not-true}
-use Rattle.plan.specs.Tree.{scope, kind, isScope, Act, act, Acts, none, more, Plan, size}
+use Rattle.plan.specs.Tree.{scope, kind, isScope, Act, act, Acts, none, more, Plan, size, generalPart, count}
 use Rattle.order.specs.Lists.{some}
+use Rattle.order.specs.State.{Name}
 use Rattle.order.specs.Begin.{part, partAt}
 use Rattle.undoing.specs.Demand3.{Inner}
-use Rattle.undoing.specs.Ties.{Place}
+use Rattle.undoing.specs.Ties.{Place, undoOf}
 use Rattle.undoing.specs.Begun.{kindAt, Lead, leadAt}
 use Rattle.undoing.specs.Answered.{surely, backIn, backAmong, backOf}
 use Rattle.undoing.proofs.Parts.{both, decide}
 use Rattle.undoing.proofs.Accounts.{Known}
 use Rattle.undoing.proofs.Marks.{trio}
-use Rattle.undoing.proofs.Orders.{bare, bareIn, innerAt, Sits, sits-part, sits-scope, SitsIn, sits-none, sits-more, Remedy, remedy-bare, Rest, rest-undo, rest-none}
+use Rattle.undoing.proofs.Orders.{bare, bareIn, innerAt, Sits, sits-part, sits-scope, SitsIn, sits-none, sits-more, Remedy, Healers}
 use Rattle.undoing.proofs.Planning.{Promised}
 use Rattle.undoing.proofs.Truly.{Knows, knows, KnowsIn, knows-none, knows-more}
-use Rattle.undoing.proofs.Leading.{Leads, leads-part, leads-scope, LeadsIn, leads-more, leads-undo, leads-no}
+use Rattle.undoing.proofs.Leading.{Leads, leads-part, leads-scope, LeadsIn, leads-none, leads-more}
+use Rattle.undoing.proofs.Remedies.{undoer}
+use Rattle.undoing.proofs.Healing.{healers-bare, undo-there}
 use Rattle.undoing.proofs.BegunTold.{body-knows, lb}
 use Rattle.undoing.proofs.Owing.{not-scope}
 use Rattle.undoing.proofs.Repaying.{back-without}
-use Rattle.undoing.proofs.Finding.{hasBack, hasBackIn, Back, backs, backsIn, backs-part, backs-other, backs-own, backs-in-is, backs-none, Whose, own-back, body-back, whose-true, whose-false}
+use Rattle.undoing.proofs.Finding.{hasBack, hasBackIn, Back, backs, backsIn, backs-part, backs-other, backs-own, backs-in-is, backs-none, Whose, own-back, body-back, whose}
 
 pub record Located (p : Plan) (e : ℕ) (x : Back) : Type 0 where
   pub inner : Inner
@@ -36,6 +40,23 @@ pub record Located (p : Plan) (e : ℕ) (x : Back) : Type 0 where
   pub leads : Leads (leadAt p) (x .tree) (x .at)
   pub sure : x .sure ≡ surely (x .tree) (x .at)
 
+-- the i-th of a list is known as the list is, and led
+knows-nth : {f : ℕ → ℕ} {l : Acts} {c : ℕ} → KnowsIn f l c → (i : ℕ) → i < count l → Knows f (part i l) (partAt i l c)
+unfolding part partAt count
+knows-nth knows-none i h = absurd (omega arith)
+knows-nth (knows-more k l) zero h = k
+knows-nth (knows-more k l) (suc i) h = knows-nth l i (omega arith)
+
+leads-nth : {f : ℕ → Lead} {l : Acts} {c : ℕ} {q : Lead} → LeadsIn f l c q → (i : ℕ) → i < count l → Leads f (part i l) (partAt i l c)
+unfolding part partAt count
+leads-nth leads-none i h = absurd (omega arith)
+leads-nth (leads-more e x y) zero h = x
+leads-nth (leads-more e x y) (suc i) h = leads-nth y i (omega arith)
+
+undoer-so : {p : Plan} {s : Name} {xs : List ℕ} {v : Bool} {q w : Place} {l : Acts} {c : ℕ} → Healers p s xs v q w l c → v ≡ true → Remedy p w (part (generalPart xs) l) (partAt (generalPart xs) l c)
+undoer-so {v = true} h e = undoer h
+undoer-so {v = false} h e = absurd (false≢true e)
+
 module _ {p : Plan} where
   mutual
     unfolding part partAt kind
@@ -43,19 +64,27 @@ module _ {p : Plan} where
     locate : {q : Place} {a : Act} {k : ℕ} → Sits p q a k → Knows (kindAt p) a k → Leads (leadAt p) a k → (e : ℕ) → hasBack a k e ≡ true → Located p e (backs a k e)
     locate (sits-part {own = own} {within} {k} s g v y l) (knows _ _ _ kn) (leads-part _ _ w) e h =
         let x = backs-part own within k e s in subst (Located p e) (sym x) (locate-in l kn w e (ap (λ (z : Back). z .has) (sym x) ∙ h))
-    locate (sits-part s g v y l) kn (leads-scope _ _ _ _ _) e h = absurd (not-scope s)
-    locate (sits-scope {v = true} {n = n} {ns = ns} {b = b} {f} {k = k} kn v i sb z sf (rest-undo {q = q} {u = u} su)) (knows _ _ _ (knows-more kb (knows-more kf (knows-more ku knows-none)))) (leads-scope _ _ wb wf (leads-undo _ wu)) e h =
-        go (whose-true sf su e h) (λ hb. locate sb kb wb e hb)
+    locate (sits-part s g v y l) kn (leads-scope _ _ _ _) e h = absurd (not-scope s)
+    locate (sits-scope {xs = xs} {v = v₀} {n = n} {c = m} {ns = ns} {b = b} {f} {u} {k} kn v i sb z) (knows _ _ _ (knows-more kb kl)) (leads-scope _ _ wb wl) e h =
+        go (whose xs b (more f u) v₀ k (healers-bare z) e h) (λ hb. locate sb kb wb e hb)
       where
-        go : Whose b f (more u none) true k e → (hasBack b (k + 1) e ≡ true → Located p e (backs b (k + 1) e)) → Located p e (backs (act (scope true) (trio b f (more u none))) k e)
-        go (own-back u₁ o d d₁ x) r =
-            let y : u ≡ u₁ = cc in
-            subst (Located p e) (sym x) (subst (λ (c : Act). Located p e (record { has = true; tree = c; at = k + 1 + size b + size f; sure = surely c (k + 1 + size b + size f) })) y
-            (record { inner = innerAt true k n ns (trio b f (more u none)); known = kn; number = o; undoes = refl; undo = refl; place = q; sits = su; knows = ku; leads = wu; sure = refl }))
+        go : Whose xs b (more f u) v₀ k e → (hasBack b (k + 1) e ≡ true → Located p e (backs b (k + 1) e)) → Located p e (backs (act (scope xs v₀) (trio b f u)) k e)
+        go (own-back o d x) r =
+            subst (Located p e) (sym x)
+            (record {
+              inner = innerAt xs v₀ k n ns (trio b f u);
+              known = kn;
+              number = o;
+              undoes = d;
+              undo = refl;
+              place = undoOf n ns m;
+              sits = undoer-so z d;
+              knows = knows-nth kl (generalPart xs) (undo-there z d);
+              leads = leads-nth wl (generalPart xs) (undo-there z d);
+              sure = refl;
+            })
         go (body-back hb x) r = subst (Located p e) (sym x) (r hb)
-    locate (sits-scope {v = false} {b = b} {f} {k = k} kn v i sb z sf rest-none) (knows _ _ _ (knows-more kb (knows-more kf knows-none))) (leads-scope _ _ wb wf leads-no) e h =
-        let x = whose-false b f k sf e h in subst (Located p e) (sym (x .1)) (locate sb kb wb e (x .0))
-    locate (sits-scope kn v i sb z sf su) kk (leads-part s _ _) e h = absurd (not-scope s)
+    locate (sits-scope kn v i sb z) kk (leads-part s _ _) e h = absurd (not-scope s)
 
     locate-in : {q : Place} {l : Acts} {c : ℕ} → SitsIn p q l c → KnowsIn (kindAt p) l c → {r : Lead} → LeadsIn (leadAt p) l c r → (e : ℕ) → hasBackIn l c e ≡ true → Located p e (backsIn l c e)
     locate-in (sits-none {c = c}) kn w e h = absurd (backs-none c e h)
@@ -87,32 +116,23 @@ nothing-in : {l : List ℕ} (t : ℕ) → l ≡ [] → some (eqb t) l ≡ true �
 unfolding some
 nothing-in {l} t e h = false≢true (sym (ap (some (eqb t)) e) ∙ h)
 
-rest-sure : {p : Plan} {v : Bool} {q : Place} {u : Acts} {c : ℕ} → Rest p v q u c → (e : ℕ) → backAmong u c e ≡ []
-rest-sure (rest-undo {u = u} {k = c} s) e =
-    decide (ltb e (c + size u))
-    (λ t. ap (λ (z : Back). z .sure) (backs-in-is u none c e true t) ∙ bare-sure u c e (remedy-bare s))
-    (λ t. ap (λ (z : Back). z .sure) (backs-in-is u none c e false t) ∙ none-sure (c + size u) e)
-rest-sure (rest-none {k = c}) e = none-sure c e
-
 module _ {p : Plan} where
-  own-has : {q : Place} (b f : Act) (u : Acts) (v : Bool) (k e t : ℕ) → Rest p v q u (k + 1 + size b + size f) → eqb k e ≡ true → some (eqb t) (backIn (act (scope v) (trio b f u)) k e) ≡ true
-      → hasBack (act (scope v) (trio b f u)) k e ≡ true
-  own-has b f (more u none) true k e t (rest-undo s) d h = ap (λ (z : Back). z .has) (backs-own b f u k e d)
-  own-has b f none false k e t rest-none d h = absurd (nothing-in t (back-without b f k e d) h)
+  own-has : {s : Name} {xs : List ℕ} {v : Bool} {q w : Place} {l : Acts} {c : ℕ} → Healers p s xs v q w l c → (b : Act) (k e t : ℕ) → eqb k e ≡ true → some (eqb t) (backIn (act (scope xs v) (more b l)) k e) ≡ true
+      → hasBack (act (scope xs v) (more b l)) k e ≡ true
+  own-has {xs = xs} {v = true} {l = l} z b k e t d h = ap (λ (z : Back). z .has) (backs-own xs true b l k e d)
+  own-has {v = false} z b k e t d h = absurd (nothing-in t (back-without z b k e d) h)
 
   mutual
     has-back : {q : Place} {a : Act} {k : ℕ} → Sits p q a k → (e t : ℕ) → some (eqb t) (backIn a k e) ≡ true → hasBack a k e ≡ true
     has-back (sits-part {own = own} {within} {k} s g v y l) e t h =
         let x = backs-part own within k e s in ap (λ (z : Back). z .has) x ∙ has-back-in l e t (ap (λ (z : Back). some (eqb t) (z .sure)) (sym x) ∙ h)
-    has-back (sits-scope {v = v₀} {b = b} {f} {u} {k} kn v i sb z sf su) e t h =
-        decide (eqb k e) (λ d. own-has b f u v₀ k e t su d h)
-        (λ d. let x = backs-other (scope v₀) (trio b f u) k e d in
+    has-back (sits-scope {xs = xs} {v = v₀} {b = b} {f} {u} {k} kn v i sb z) e t h =
+        decide (eqb k e) (λ d. own-has z b k e t d h)
+        (λ d. let x = backs-other (scope xs v₀) (trio b f u) k e d in
         decide (ltb e (k + 1 + size b))
         (λ i. let y = x ∙ backs-in-is b (more f u) (k + 1) e true i in ap (λ (z : Back). z .has) y ∙ has-back sb e t (ap (λ (z : Back). some (eqb t) (z .sure)) (sym y) ∙ h))
         (λ i. let y = x ∙ backs-in-is b (more f u) (k + 1) e false i in
-        decide (ltb e (k + 1 + size b + size f))
-        (λ j. absurd (nothing-in t (bare-sure f (k + 1 + size b) e (remedy-bare sf)) (ap (λ (z : Back). some (eqb t) (z .sure)) (sym (y ∙ backs-in-is f u (k + 1 + size b) e true j)) ∙ h)))
-        (λ j. absurd (nothing-in t (rest-sure su e) (ap (λ (z : Back). some (eqb t) (z .sure)) (sym (y ∙ backs-in-is f u (k + 1 + size b) e false j)) ∙ h)))))
+        absurd (nothing-in t (bare-sure-in (more f u) (k + 1 + size b) e (healers-bare z)) (ap (λ (z : Back). some (eqb t) (z .sure)) (sym y) ∙ h))))
 
     has-back-in : {q : Place} {l : Acts} {c : ℕ} → SitsIn p q l c → (e t : ℕ) → some (eqb t) (backAmong l c e) ≡ true → hasBackIn l c e ≡ true
     has-back-in (sits-none {c = c}) e t h = absurd (nothing-in t (none-sure c e) h)

@@ -129,7 +129,7 @@ deed-shut (repeat x) e k o = fault-shut e k (evaluate x o)
 deed-shut sequence e k o = omega arith
 deed-shut flow e k o = omega arith
 deed-shut pick e k o = omega arith
-deed-shut (scope u) e k o = decide (eqb e k) (λ t. rw t (omega arith)) (λ t. rw t (omega arith))
+deed-shut (scope xs u) e k o = decide (eqb e k) (λ t. rw t (omega arith)) (λ t. rw t (omega arith))
 deed-shut (arm x y vs) e k o = omega arith
 
 either-shut : (e t : ℕ) (b : Bool) (x y z : List Event) → z ≡ elim b [ true ↦ x | false ↦ y ] → howMany (isClosedOf e) x ≤ oneIf (eqb e t) → howMany (isClosedOf e) y ≤ oneIf (eqb e t) → howMany (isClosedOf e) z ≤ oneIf (eqb e t)

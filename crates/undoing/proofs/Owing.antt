@@ -6,7 +6,7 @@ use mathlib.Core.Bool.{Bool, true, false, cond, not, _&&_, _||_, or-false, false
 use mathlib.Core.List.{List, [], _++_}
 use lib.Dec.{eqb, ltb}
 use borrow.Author.Tests.{eqb-true, not-true}
-use Rattle.plan.specs.Tree.{Own, empty, send, receive, set as setting, raise, leave, choose, repeat, sequence, flow, pick, scope, arm, kind, Act, act, Acts, none, more, Plan, size, sizes, isScope, isPick}
+use Rattle.plan.specs.Tree.{Own, empty, send, receive, set as setting, raise, leave, choose, repeat, sequence, flow, pick, scope, arm, kind, Act, act, Acts, none, more, Plan, size, sizes, isScope, isPick, numbersOf, generalPart, undoPart}
 use Rattle.order.specs.declared.Order.{Order}
 use Rattle.order.specs.Lists.{some}
 use Rattle.order.specs.State.{Name, active, inside, withMarks, closings, binding, markAt, marked}
@@ -19,11 +19,12 @@ use Rattle.order.specs.Acting.{allBound, finishes, raises, leaves, orRaises, ag
 use Rattle.undoing.specs.Ties.{Place}
 use Rattle.undoing.specs.Answered.{without}
 use Rattle.undoing.proofs.Parts.{both, decide, some-append}
-use Rattle.undoing.proofs.Marks.{trio, Quiet, Run, run-awaits, run-one, run-all, run-body, run-done, run-turned, All, all-run, all-quiet, Stopped, stopped-part, stopped-quiet, stopped-scope, StoppedIn, stopped-more, quiet-part}
-use Rattle.undoing.proofs.Orders.{directs, directsIn, bare, bareIn, Sits, sits-part, sits-scope, SitsIn, sits-none, sits-more, Rest, rest-undo, rest-none}
+use Rattle.undoing.proofs.Marks.{Quiet, Run, run-awaits, run-one, run-all, run-body, run-done, run-turned, All, all-run, all-quiet, Stopped, stopped-part, stopped-quiet, stopped-scope, StoppedIn, stopped-more, quiet-part}
+use Rattle.undoing.proofs.Orders.{directs, directsIn, bare, bareIn, Sits, sits-part, sits-scope, SitsIn, sits-none, sits-more, Healers}
 use Rattle.undoing.proofs.Beginning.{quiet-all}
 use Rattle.undoing.proofs.Seats.{directs-is}
 use Rattle.undoing.proofs.Stepping.{among-is}
+use Rattle.undoing.proofs.Healing.{healers-none, undo-all, undo-turned}
 use Rattle.undoing.proofs.Sure.{leftIn, left-quiet}
 use Rattle.undoing.proofs.Lessening.{own-is, one-each}
 
@@ -88,7 +89,7 @@ closings-itself (repeat x) within y₀ k o s = closings-raises k o (λ n. elim (
 closings-itself sequence within y₀ k o s = refl
 closings-itself flow within y₀ k o s = refl
 closings-itself pick within y₀ k o s = refl
-closings-itself (scope u) within y₀ k o s = absurd (false≢true (sym s))
+closings-itself (scope xs u) within y₀ k o s = absurd (false≢true (sym s))
 closings-itself (arm x y vs) within y₀ k o s = refl
 
 pub closings-combines : (own : Own) (within : Acts) (k t : ℕ) (r : Outcome) → isScope own ≡ false → closings (combines own within k t r .order) ≡ closings (r .order)
@@ -106,7 +107,7 @@ closings-combines sequence within k t r s =
     closings-goes k active (λ o. whereOver (finishes k) (begunIn o (beginAfter within (k + 1) t (o .marks)))) r (λ o. closings-where (finishes k) (begunIn o (beginAfter within (k + 1) t (o .marks))) (λ o. refl))
 closings-combines flow within k t r s = closings-goes k active (joins k within) r (λ o. closings-joins k within o)
 closings-combines pick within k t r s = closings-goes k inside (finishes k) r (λ o. refl)
-closings-combines (scope u) within k t r s = absurd (false≢true (sym s))
+closings-combines (scope xs u) within k t r s = absurd (false≢true (sym s))
 closings-combines (arm x y vs) within k t r s = refl
 
 closings-arms : (own : Own) (within : Acts) (k t : ℕ) (o : Order) → closings (arms own within k t o) ≡ closings o
@@ -185,7 +186,8 @@ mutual
 -- What is to come of the undo parts that run, of the scopes directly in a tree.
 unfoldable mutual
   pub undoLeftIn : Act → (k : ℕ) → (marks : List ℕ) → List ℕ
-  undoLeftIn (act own within) k ms = cond (isScope own) (leftIn (part 2 within) (partAt 2 within (k + 1)) ms) (undoLeftAmong within (k + 1) ms)
+  undoLeftIn (act own within) k ms =
+      cond (isScope own) (leftIn (part (undoPart (numbersOf own)) within) (partAt (undoPart (numbersOf own)) within (k + 1)) ms) (undoLeftAmong within (k + 1) ms)
 
   pub undoLeftAmong : Acts → (c : ℕ) → (marks : List ℕ) → List ℕ
   undoLeftAmong none c ms = []
@@ -196,21 +198,22 @@ unfolding undoLeftIn
 undo-left-is own within k ms s = rw s
 
 -- that of a scope
-pub undo-left-scope : (b f u : Act) (k : ℕ) (ms : List ℕ) → undoLeftIn (act (scope true) (trio b f (more u none))) k ms ≡ leftIn u (k + 1 + size b + size f) ms
-unfolding undoLeftIn kind part partAt
-undo-left-scope b f u k ms = refl
+pub undo-left-scope : (xs : List ℕ) (v : Bool) (b : Act) (l : Acts) (k : ℕ) (ms : List ℕ)
+    → undoLeftIn (act (scope xs v) (more b l)) k ms ≡ leftIn (part (generalPart xs) l) (partAt (generalPart xs) l (k + 1 + size b)) ms
+unfolding undoLeftIn part partAt
+undo-left-scope xs v b l k ms = refl
 
 -- of one with no undo part nothing is to come: what it has handed on is not looked for here
-pub undo-left-none : (b f : Act) (k : ℕ) (ms : List ℕ) → undoLeftIn (act (scope false) (trio b f none)) k ms ≡ []
-unfolding undoLeftIn kind part partAt leftIn
-undo-left-none b f k ms = refl
+pub undo-left-none : {p : Plan} {s : Name} {xs : List ℕ} {q w : Place} {l : Acts} {c : ℕ} → Healers p s xs false q w l c → (b : Act) (k : ℕ) (ms : List ℕ)
+    → undoLeftIn (act (scope xs false) (more b l)) k ms ≡ []
+unfolding leftIn
+undo-left-none {xs = xs} {l = l} h b k ms = undo-left-scope xs false b l k ms ∙ ap (λ (a : Act). leftIn a (partAt (generalPart xs) l (k + 1 + size b)) ms) (healers-none h)
 
--- of either, where what stands after the fault part is quiet
-rest-quiet : {p : Plan} {z : Bool} {x : Place} {u : Acts} {c : ℕ} → Rest p z x u c → (b f : Act) (k : ℕ) → c ≡ k + 1 + size b + size f → (ms : List ℕ) → Quiet ms c (sizes u) → undoLeftIn (act (scope z) (trio b f u)) k ms ≡ []
-unfolding size
-rest-quiet (rest-undo {u = u} {k = c} su) b f k e ms q =
-    undo-left-scope b f u k ms ∙ left-quiet u (k + 1 + size b + size f) ms (subst (λ (i : ℕ). Quiet ms i (size u)) e (quiet-part q (omega arith) (omega arith)))
-rest-quiet rest-none b f k e ms q = undo-left-none b f k ms
+-- of either, where the undo part is quiet
+left-scope : {p : Plan} {s : Name} {xs : List ℕ} {v : Bool} {q w : Place} {l : Acts} (b : Act) (k : ℕ) → Healers p s xs v q w l (k + 1 + size b) → (ms : List ℕ)
+    → (v ≡ true → Quiet ms (partAt (generalPart xs) l (k + 1 + size b)) (size (part (generalPart xs) l))) → undoLeftIn (act (scope xs v) (more b l)) k ms ≡ []
+left-scope {xs = xs} {v = true} {l = l} b k h ms q = undo-left-scope xs true b l k ms ∙ left-quiet (part (generalPart xs) l) (partAt (generalPart xs) l (k + 1 + size b)) ms (q refl)
+left-scope {v = false} b k h ms q = undo-left-none h b k ms
 
 -- nothing where all is quiet
 mutual
@@ -218,7 +221,7 @@ mutual
 
   pub undo-quiet : {p : Plan} {x : Place} {a : Act} {k : ℕ} → Sits p x a k → (ms : List ℕ) → Quiet ms k (size a) → undoLeftIn a k ms ≡ []
   undo-quiet (sits-part {own = own} {within} {k} s g v y l) ms q = undo-left-is own within k ms s ∙ undo-quiet-in l ms (quiet-part q (omega arith) (omega arith))
-  undo-quiet (sits-scope {b = b} {f} {u} {k} kn v i sb z sf su) ms q = rest-quiet su b f k refl ms (quiet-part q (omega arith) (omega arith))
+  undo-quiet (sits-scope {b = b} {f} {u} {k} kn v i sb z) ms q = left-scope b k z ms (λ e. undo-all z e (quiet-part q (omega arith) (omega arith)))
 
   pub undo-quiet-in : {p : Plan} {x : Place} {l : Acts} {c : ℕ} → SitsIn p x l c → (ms : List ℕ) → Quiet ms c (sizes l) → undoLeftAmong l c ms ≡ []
   undo-quiet-in sits-none ms q = refl
@@ -235,7 +238,7 @@ run-within s (run-one _ _ q) = one-each q
 run-within s (run-all _ q _) = q
 run-within s (run-body _ _ _) = absurd (not-scope s)
 run-within s (run-done _ _) = absurd (not-scope s)
-run-within s (run-turned _ _) = absurd (not-scope s)
+run-within s (run-turned _) = absurd (not-scope s)
 
 -- nor where a body runs, or was stopped: the undo parts directly in it are quiet
 mutual
@@ -243,11 +246,11 @@ mutual
 
   pub undo-run : {p : Plan} {x : Place} {a : Act} {k : ℕ} {ms : List ℕ} → Sits p x a k → Run ms a k → undoLeftIn a k ms ≡ []
   undo-run {ms = ms} (sits-part {own = own} {within} {k} s g v y l) r = undo-left-is own within k ms s ∙ undo-within l (run-within s r)
-  undo-run {ms = ms} (sits-scope {b = b} {f} {u} {k} kn v i sb z sf su) (run-awaits s _ _ _) = absurd (not-scope s)
-  undo-run {ms = ms} (sits-scope {b = b} {f} {u} {k} kn v i sb z sf su) (run-one s _ _) = absurd (not-scope s)
-  undo-run {ms = ms} (sits-scope {b = b} {f} {u} {k} kn v i sb z sf su) (run-body e r q) = rest-quiet su b f k refl ms (quiet-part q (omega arith) (omega arith))
-  undo-run {ms = ms} (sits-scope {b = b} {f} {u} {k} kn v i sb z sf su) (run-done e q) = rest-quiet su b f k refl ms (quiet-part q (omega arith) (omega arith))
-  undo-run {ms = ms} (sits-scope {b = b} {f} {u} {k} kn v i sb z sf su) (run-turned e q) = rest-quiet su b f k refl ms q
+  undo-run {ms = ms} (sits-scope {b = b} {f} {u} {k} kn v i sb z) (run-awaits s _ _ _) = absurd (not-scope s)
+  undo-run {ms = ms} (sits-scope {b = b} {f} {u} {k} kn v i sb z) (run-one s _ _) = absurd (not-scope s)
+  undo-run {ms = ms} (sits-scope {b = b} {f} {u} {k} kn v i sb z) (run-body e r q) = left-scope b k z ms (λ e. undo-all z e (quiet-part q (omega arith) (omega arith)))
+  undo-run {ms = ms} (sits-scope {b = b} {f} {u} {k} kn v i sb z) (run-done e q) = left-scope b k z ms (λ e. undo-all z e (quiet-part q (omega arith) (omega arith)))
+  undo-run {ms = ms} (sits-scope {b = b} {f} {u} {k} kn v i sb z) (run-turned t) = left-scope b k z ms (λ e. undo-turned z e t)
 
   undo-within : {p : Plan} {x : Place} {l : Acts} {c : ℕ} {ms : List ℕ} → SitsIn p x l c → All ms l c → undoLeftAmong l c ms ≡ []
   undo-within sits-none r = refl
@@ -260,10 +263,10 @@ mutual
   pub undo-stopped : {p : Plan} {x : Place} {a : Act} {k : ℕ} {ms : List ℕ} → Sits p x a k → Stopped ms a k → undoLeftIn a k ms ≡ []
   undo-stopped {ms = ms} (sits-part s g v y l) (stopped-quiet q) = undo-quiet (sits-part s g v y l) ms q
   undo-stopped {ms = ms} (sits-part {own = own} {within} {k} s g v y l) (stopped-part _ _ r) = undo-left-is own within k ms s ∙ undo-stopped-in l r
-  undo-stopped {ms = ms} (sits-part {within = within} {k} s g v y l) (stopped-scope _ _) = absurd (not-scope s)
-  undo-stopped {ms = ms} (sits-scope kn v i sb z sf su) (stopped-quiet q) = undo-quiet (sits-scope kn v i sb z sf su) ms q
-  undo-stopped {ms = ms} (sits-scope {b = b} {f} {u} {k} kn v i sb z sf su) (stopped-part s _ _) = absurd (not-scope s)
-  undo-stopped {ms = ms} (sits-scope {b = b} {f} {u} {k} kn v i sb z sf su) (stopped-scope t q) = rest-quiet su b f k refl ms q
+  undo-stopped {ms = ms} (sits-part {within = within} {k} s g v y l) (stopped-scope _) = absurd (not-scope s)
+  undo-stopped {ms = ms} (sits-scope kn v i sb z) (stopped-quiet q) = undo-quiet (sits-scope kn v i sb z) ms q
+  undo-stopped {ms = ms} (sits-scope {b = b} {f} {u} {k} kn v i sb z) (stopped-part s _ _) = absurd (not-scope s)
+  undo-stopped {ms = ms} (sits-scope {b = b} {f} {u} {k} kn v i sb z) (stopped-scope t) = left-scope b k z ms (λ e. undo-turned z e t)
 
   pub undo-stopped-in : {p : Plan} {x : Place} {l : Acts} {c : ℕ} {ms : List ℕ} → SitsIn p x l c → StoppedIn ms l c → undoLeftAmong l c ms ≡ []
   undo-stopped-in sits-none r = refl

@@ -146,10 +146,10 @@ module _ (f : ℕ → ℕ) where
   doer-lasts sequence e = absurd (false≢true e)
   doer-lasts flow e = absurd (false≢true e)
   doer-lasts pick e = refl
-  doer-lasts (scope v) e = absurd (false≢true e)
+  doer-lasts (scope xs v) e = absurd (false≢true e)
   doer-lasts (arm p o vs) e = absurd (false≢true e)
 
-  scope-lasts : (v : Bool) → lasts (kind (scope v)) ≡ true
+  scope-lasts : (v : Bool) → lasts (kind (scope xs v)) ≡ true
   unfolding lasts kind
   scope-lasts true = refl
   scope-lasts false = refl
@@ -286,8 +286,8 @@ module _ (p : Plan) (actor : Actor) (f : ℕ → ℕ) (t : ℕ) (o : Order) wher
       go (undoRaising x) d v = absurd v
   seq-claim flow within y₀ k x h w c q e = absurd (false≢true e)
   seq-claim pick within y₀ k x h w c q e = absurd (false≢true e)
-  seq-claim (scope true) within y₀ k x h w c q e = absurd (false≢true e)
-  seq-claim (scope false) within y₀ k x h w c q e = absurd (false≢true e)
+  seq-claim (scope xs true) within y₀ k x h w c q e = absurd (false≢true e)
+  seq-claim (scope xs false) within y₀ k x h w c q e = absurd (false≢true e)
   seq-claim (arm a b vs) within y₀ k x h w c q e = absurd (false≢true e)
 
   part-thru : (own : Own) (within : Acts) (y₀ k : ℕ) (b : Bool) → isScope own ≡ false → Knows f (act own within) k → Waits (o .marks) (act own within) k t b → b ≡ false → Run (o .marks) (act own within) k
@@ -316,7 +316,7 @@ module _ (p : Plan) (actor : Actor) (f : ℕ → ℕ) (t : ℕ) (o : Order) wher
       (all (opens flow (getD (o .marks) k 0)) v refl l (calmer _ _ (combines-has isRash flow within k t (stepAmong actor within false y₀ (k + 1) t o)) c₁)) (omega arith) (omega arith)))
   part-thru own within y₀ k b s x (waits-within h v) q (run-body y r z) m w c one all = absurd (false≢true (sym s))
   part-thru own within y₀ k b s x (waits-within h v) q (run-done y z) m w c one all = absurd (false≢true (sym s))
-  part-thru own within y₀ k b s x (waits-within h v) q (run-turned y z) m w c one all = absurd (false≢true (sym s))
+  part-thru own within y₀ k b s x (waits-within h v) q (run-turned y) m w c one all = absurd (false≢true (sym s))
 
   -- an activity of a stopped body, or of one of which an undo part runs: its own mark is idle
   idle-thru : {C : List Event → Order → Result → Type 0} (own : Own) (within : Acts) (y₀ k : ℕ) → Knows f (act own within) k → isScope own ≡ false → getD (o .marks) k 0 ≡ idle → isPart within (k + 1) t ≡ false → k < t
@@ -463,19 +463,19 @@ module _ (p : Plan) (actor : Actor) (f : ℕ → ℕ) (t : ℕ) (o : Order) wher
   calm-later a l y₀ c h e = subst (λ (q : Outcome). some isRash (q .log) ≡ false) (its-later actor a l y₀ c t o h) e
 
   -- a scope is no sequence
-  no-sequence : (v : Bool) → eqb (kind (scope v)) 8 ≡ true → ⊥
+  no-sequence : (v : Bool) → eqb (kind (scope xs v)) 8 ≡ true → ⊥
   unfolding kind
   no-sequence true e = false≢true e
   no-sequence false e = false≢true e
 
   -- the numbers of a scope
-  its-within-scope : (z₀ : Bool) (b g : Act) (u : Acts) (k : ℕ) → Knows f (act (scope z₀) (trio b g u)) k → Within f (scopeAt k (trio b g u)) (k + 1) (k + 1 + sizes (trio b g u))
-  its-within-scope z₀ b g u k (knows e n r y) = scope-within f (ap isScopeKind e ∙ scope-kind (scope z₀)) (scope-needs f (scope z₀) (count (trio b g u)) refl n) y
+  its-within-scope : (z₀ : Bool) (b g : Act) (u : Acts) (k : ℕ) → Knows f (act (scope xs z₀) (trio b g u)) k → Within f (scopeAt k (trio b g u)) (k + 1) (k + 1 + sizes (trio b g u))
+  its-within-scope z₀ b g u k (knows e n r y) = scope-within f (ap isScopeKind e ∙ scope-kind (scope xs z₀)) (scope-needs f (scope xs z₀) (count (trio b g u)) refl n) y
 
-  module _ {n : Name} {ns : List Name} (z₀ : Bool) (b g : Act) (u : Acts) (y₀ k : ℕ) (h : Seat p (scopeAt k (trio b g u))) (sb : Sits p (bodyOf (inner k) ns n) b (k + 1)) (x : Knows f (act (scope z₀) (trio b g u)) k)
-      (m : k + (1 + (size b + (size g + sizes u))) ≤ length (o .marks)) (lt : k < t) (w : WaitsIn (o .marks) (trio b g u) (k + 1) t false) (c : some isRash (stepIn actor (act (scope z₀) (trio b g u)) y₀ k t o .log) ≡ false) where
+  module _ {n : Name} {ns : List Name} (z₀ : Bool) (b g : Act) (u : Acts) (y₀ k : ℕ) (h : Seat p (scopeAt k (trio b g u))) (sb : Sits p (bodyOf (inner k) ns n) b (k + 1)) (x : Knows f (act (scope xs z₀) (trio b g u)) k)
+      (m : k + (1 + (size b + (size g + sizes u))) ≤ length (o .marks)) (lt : k < t) (w : WaitsIn (o .marks) (trio b g u) (k + 1) t false) (c : some isRash (stepIn actor (act (scope xs z₀) (trio b g u)) y₀ k t o .log) ≡ false) where
     abbrev Whole-step : Outcome
-    Whole-step = stepIn actor (act (scope z₀) (trio b g u)) y₀ k t o
+    Whole-step = stepIn actor (act (scope xs z₀) (trio b g u)) y₀ k t o
 
     abbrev Body-step : Outcome
     Body-step = stepIn actor b (k + 1) (k + 1) t o
@@ -483,10 +483,10 @@ module _ (p : Plan) (actor : Actor) (f : ℕ → ℕ) (t : ℕ) (o : Order) wher
     abbrev Fault-step : Outcome
     Fault-step = stepIn actor g (k + 1 + size b) (k + 1 + size b) t o
 
-    in-body : (t < k + 1 + size b) → Thru Whole-step b (k + 1) → Thru Whole-step (act (scope z₀) (trio b g u)) k
+    in-body : (t < k + 1 + size b) → Thru Whole-step b (k + 1) → Thru Whole-step (act (scope xs z₀) (trio b g u)) k
     in-body e v = thru-in lt (λ d. absurd (no-sequence z₀ d)) (thru-first e v)
 
-    in-fault : k + 1 + size b ≤ t → t < k + 1 + size b + size g → Thru Whole-step g (k + 1 + size b) → Thru Whole-step (act (scope z₀) (trio b g u)) k
+    in-fault : k + 1 + size b ≤ t → t < k + 1 + size b + size g → Thru Whole-step g (k + 1 + size b) → Thru Whole-step (act (scope xs z₀) (trio b g u)) k
     in-fault d e v = thru-in lt (λ d. absurd (no-sequence z₀ d)) (thru-later d (thru-first e v))
 
     calm-body : Whole-step ≡ fromBody (scopeAt k (trio b g u)) Body-step → some isRash (fromBody (scopeAt k (trio b g u)) Body-step .log) ≡ false
@@ -502,11 +502,11 @@ module _ (p : Plan) (actor : Actor) (f : ℕ → ℕ) (t : ℕ) (o : Order) wher
         → ((y : Bool) → Waits (o .marks) b (k + 1) t y → y ≡ false → Stopped (o .marks) b (k + 1) → some isRash (Body-step .log) ≡ false → Thru Body-step b (k + 1))
         → ((y : Bool) → Waits (o .marks) b (k + 1) t y → y ≡ false → Undoing (o .marks) b (k + 1) → (v : Bool) → phase (getD (o .marks) k 0) ≡ Phase.undoes v → some isRash (Body-step .log) ≡ false → Thru Body-step b (k + 1))
         → ((y : Bool) → Waits (o .marks) g (k + 1 + size b) t y → y ≡ false → Run (o .marks) g (k + 1 + size b) → phase (getD (o .marks) k 0) ≡ heals → some isRash (Fault-step .log) ≡ false → Thru Fault-step g (k + 1 + size b))
-        → Thru Whole-step (act (scope z₀) (trio b g u)) k
+        → Thru Whole-step (act (scope xs z₀) (trio b g u)) k
     unfolding size part partAt Its Whole
     turned-thru r q i j l = go r w
       where
-        go : Turned (o .marks) (getD (o .marks) k 0) b (k + 1) g (k + 1 + size b) → WaitsIn (o .marks) (trio b g u) (k + 1) t false → Thru Whole-step (act (scope z₀) (trio b g u)) k
+        go : Turned (o .marks) (getD (o .marks) k 0) b (k + 1) g (k + 1 + size b) → WaitsIn (o .marks) (trio b g u) (k + 1) t false → Thru Whole-step (act (scope xs z₀) (trio b g u)) k
         go (turned-waits d z n y) (waits-first e v) =
             let a = steps-stopped p actor sb (k + 1) t o false refl v refl z (omega arith) in
             let q = body-step p actor z₀ b g u y₀ k t (getD (o .marks) k 0) o lt e (a .kept .below k (omega arith)) (turned-not-rest (turned-waits {f = g} d z n y)) in
@@ -532,11 +532,11 @@ module _ (p : Plan) (actor : Actor) (f : ℕ → ℕ) (t : ℕ) (o : Order) wher
         go z (waits-later a (waits-later e v)) = absurd (quiet-waits-in v refl q)
 
     live-thru : getD (o .marks) k 0 ≡ active → Run (o .marks) b (k + 1) → Quiet (o .marks) (k + 1 + size b) (size g + sizes u)
-        → (Waits (o .marks) b (k + 1) t false → some isRash (Body-step .log) ≡ false → Thru Body-step b (k + 1)) → Thru Whole-step (act (scope z₀) (trio b g u)) k
+        → (Waits (o .marks) b (k + 1) t false → some isRash (Body-step .log) ≡ false → Thru Body-step b (k + 1)) → Thru Whole-step (act (scope xs z₀) (trio b g u)) k
     unfolding size part partAt Its Whole
     live-thru d r q j = go w
       where
-        go : WaitsIn (o .marks) (trio b g u) (k + 1) t false → Thru Whole-step (act (scope z₀) (trio b g u)) k
+        go : WaitsIn (o .marks) (trio b g u) (k + 1) t false → Thru Whole-step (act (scope xs z₀) (trio b g u)) k
         go (waits-first e v) =
             let a = steps p actor sb (k + 1) t o false refl v refl r (ap phase d) (omega arith) in
             let i = body-step p actor z₀ b g u y₀ k t active o lt e (a .kept .below k (omega arith) ∙ d) (λ n. absurd (omega (arith, n))) in
@@ -569,7 +569,7 @@ module _ (p : Plan) (actor : Actor) (f : ℕ → ℕ) (t : ℕ) (o : Order) wher
       let m₁ : k + 1 + sizes within ≤ length (o .marks) = omega arith in
       part-thru own within y₀ k b s x w q run m₁ a c (λ d w₁ e₁ r₁ c₁. one d w₁ e₁ r₁ m₁ c₁) (λ d w₁ e₁ r₁ c₁. all d w₁ e₁ r₁ m₁ c₁)
 
-  module _ {n : Name} {ns : List Name} (z₀ : Bool) (b g : Act) (u : Acts) (y₀ k : ℕ) (h : Seat p (scopeAt k (trio b g u))) (sb : Sits p (bodyOf (inner k) ns n) b (k + 1)) (x : Knows f (act (scope z₀) (trio b g u)) k)
+  module _ {n : Name} {ns : List Name} (z₀ : Bool) (b g : Act) (u : Acts) (y₀ k : ℕ) (h : Seat p (scopeAt k (trio b g u))) (sb : Sits p (bodyOf (inner k) ns n) b (k + 1)) (x : Knows f (act (scope xs z₀) (trio b g u)) k)
       (m : k + (1 + (size b + (size g + sizes u))) ≤ length (o .marks))
       (i : (y : Bool) → Waits (o .marks) b (k + 1) t y → y ≡ false → Stopped (o .marks) b (k + 1) → k + 1 + size b ≤ length (o .marks) → some isRash (stepIn actor b (k + 1) (k + 1) t o .log) ≡ false → Thru (stepIn actor b (k + 1) (k + 1) t o) b (k + 1))
       (j : (y : Bool) → Waits (o .marks) b (k + 1) t y → y ≡ false → Undoing (o .marks) b (k + 1) → (v : Bool) → phase (getD (o .marks) k 0) ≡ Phase.undoes v → k + 1 + size b ≤ length (o .marks)
@@ -577,36 +577,36 @@ module _ (p : Plan) (actor : Actor) (f : ℕ → ℕ) (t : ℕ) (o : Order) wher
       (l : (y : Bool) → Waits (o .marks) g (k + 1 + size b) t y → y ≡ false → Run (o .marks) g (k + 1 + size b) → phase (getD (o .marks) k 0) ≡ heals → k + 1 + size b + size g ≤ length (o .marks)
       → some isRash (stepIn actor g (k + 1 + size b) (k + 1 + size b) t o .log) ≡ false → Thru (stepIn actor g (k + 1 + size b) (k + 1 + size b) t o) g (k + 1 + size b)) where
     -- one that has turned, with the lengths that its parts ask for
-    turned-by : k < t → WaitsIn (o .marks) (trio b g u) (k + 1) t false → some isRash (stepIn actor (act (scope z₀) (trio b g u)) y₀ k t o .log) ≡ false
-        → Turned (o .marks) (getD (o .marks) k 0) b (k + 1) g (k + 1 + size b) → Quiet (o .marks) (k + 1 + size b + size g) (sizes u) → Thru (stepIn actor (act (scope z₀) (trio b g u)) y₀ k t o) (act (scope z₀) (trio b g u)) k
+    turned-by : k < t → WaitsIn (o .marks) (trio b g u) (k + 1) t false → some isRash (stepIn actor (act (scope xs z₀) (trio b g u)) y₀ k t o .log) ≡ false
+        → Turned (o .marks) (getD (o .marks) k 0) b (k + 1) g (k + 1 + size b) → Quiet (o .marks) (k + 1 + size b + size g) (sizes u) → Thru (stepIn actor (act (scope xs z₀) (trio b g u)) y₀ k t o) (act (scope xs z₀) (trio b g u)) k
     turned-by lt w c r q =
         turned-thru {n = n} {ns = ns} z₀ b g u y₀ k h sb x m lt w c r q (λ y w₁ e₁ r₁ c₁. i y w₁ e₁ r₁ (omega arith) c₁) (λ y w₁ e₁ r₁ v z c₁. j y w₁ e₁ r₁ v z (omega arith) c₁) (λ y w₁ e₁ r₁ z c₁. l y w₁ e₁ r₁ z (omega arith) c₁)
 
-    scope-run-by : (c : Bool) → Waits (o .marks) (act (scope z₀) (trio b g u)) k t c → Run (o .marks) (act (scope z₀) (trio b g u)) k → some isRash (stepIn actor (act (scope z₀) (trio b g u)) y₀ k t o .log) ≡ false
+    scope-run-by : (c : Bool) → Waits (o .marks) (act (scope xs z₀) (trio b g u)) k t c → Run (o .marks) (act (scope xs z₀) (trio b g u)) k → some isRash (stepIn actor (act (scope xs z₀) (trio b g u)) y₀ k t o .log) ≡ false
         → ((y : Bool) → Waits (o .marks) b (k + 1) t y → y ≡ false → Run (o .marks) b (k + 1) → phase (getD (o .marks) k 0) ≡ live → k + 1 + size b ≤ length (o .marks) → some isRash (stepIn actor b (k + 1) (k + 1) t o .log) ≡ false
         → Thru (stepIn actor b (k + 1) (k + 1) t o) b (k + 1))
-        → Thru (stepIn actor (act (scope z₀) (trio b g u)) y₀ k t o) (act (scope z₀) (trio b g u)) k
+        → Thru (stepIn actor (act (scope xs z₀) (trio b g u)) y₀ k t o) (act (scope xs z₀) (trio b g u)) k
     unfolding size
     scope-run-by c (waits-itself e d) r z q = thru-here e
     scope-run-by c (waits-within lt w) (run-awaits s d y v) z q = absurd (false≢true (sym s))
     scope-run-by c (waits-within lt w) (run-one s d y) z q = absurd (false≢true (sym s))
     scope-run-by c (waits-within lt w) (run-body d r v) z q = live-thru {n = n} {ns = ns} z₀ b g u y₀ k h sb x m lt w z d r v (λ w₁ c₁. q false w₁ refl r (ap phase d) (omega arith) c₁)
     scope-run-by c (waits-within lt w) (run-done d v) z q = absurd (quiet-waits-in w refl (quiet-part v (omega arith) (omega arith)))
-    scope-run-by c (waits-within lt w) (run-turned d v) z q = turned-by lt w z d v
+    scope-run-by c (waits-within lt w) (run-turned d) z q = turned-by lt w z d v
 
-    scope-stopped-by : (c : Bool) → Waits (o .marks) (act (scope z₀) (trio b g u)) k t c → c ≡ false → Stopped (o .marks) (act (scope z₀) (trio b g u)) k → some isRash (stepIn actor (act (scope z₀) (trio b g u)) y₀ k t o .log) ≡ false
-        → Thru (stepIn actor (act (scope z₀) (trio b g u)) y₀ k t o) (act (scope z₀) (trio b g u)) k
+    scope-stopped-by : (c : Bool) → Waits (o .marks) (act (scope xs z₀) (trio b g u)) k t c → c ≡ false → Stopped (o .marks) (act (scope xs z₀) (trio b g u)) k → some isRash (stepIn actor (act (scope xs z₀) (trio b g u)) y₀ k t o .log) ≡ false
+        → Thru (stepIn actor (act (scope xs z₀) (trio b g u)) y₀ k t o) (act (scope xs z₀) (trio b g u)) k
     scope-stopped-by c w q (stopped-part s e d) z = absurd (false≢true (sym s))
     scope-stopped-by c w q (stopped-quiet e) z = absurd (quiet-waits w q e)
-    scope-stopped-by c (waits-itself e d) q (stopped-scope y v) z = thru-here e
-    scope-stopped-by c (waits-within lt w) q (stopped-scope y v) z = turned-by lt w z y v
+    scope-stopped-by c (waits-itself e d) q (stopped-scope y) z = thru-here e
+    scope-stopped-by c (waits-within lt w) q (stopped-scope y) z = turned-by lt w z y v
 
   -- one whose undo part runs, and one that was looked through
-  scope-undoing-by : (b g u : Act) (y₀ k : ℕ) (c : Bool) → k + (1 + (size b + (size g + (size u + 0)))) ≤ length (o .marks) → Waits (o .marks) (act (scope true) (trio b g (more u none))) k t c → Quiet (o .marks) (k + 1) (size b + size g)
-      → some isRash (stepIn actor (act (scope true) (trio b g (more u none))) y₀ k t o .log) ≡ false
+  scope-undoing-by : (b g u : Act) (y₀ k : ℕ) (c : Bool) → k + (1 + (size b + (size g + (size u + 0)))) ≤ length (o .marks) → Waits (o .marks) (act (scope xs true) (trio b g (more u none))) k t c → Quiet (o .marks) (k + 1) (size b + size g)
+      → some isRash (stepIn actor (act (scope xs true) (trio b g (more u none))) y₀ k t o .log) ≡ false
       → (Waits (o .marks) u (k + 1 + size b + size g) t false → k + 1 + size b + size g + size u ≤ length (o .marks) → some isRash (stepIn actor u (k + 1 + size b + size g) (k + 1 + size b + size g) t o .log) ≡ false
       → Thru (stepIn actor u (k + 1 + size b + size g) (k + 1 + size b + size g) t o) u (k + 1 + size b + size g))
-      → Thru (stepIn actor (act (scope true) (trio b g (more u none))) y₀ k t o) (act (scope true) (trio b g (more u none))) k
+      → Thru (stepIn actor (act (scope xs true) (trio b g (more u none))) y₀ k t o) (act (scope xs true) (trio b g (more u none))) k
   unfolding size Its Whole
   scope-undoing-by b g u y₀ k c m (waits-itself e d) q z i = thru-here e
   scope-undoing-by b g u y₀ k c m (waits-within h (waits-first h₁ w)) q z i = absurd (quiet-waits w refl (quiet-part q (omega arith) (omega arith)))
@@ -617,11 +617,11 @@ module _ (p : Plan) (actor : Actor) (f : ℕ → ℕ) (t : ℕ) (o : Order) wher
       (subst (λ (v : Outcome). Thru v u (k + 1 + size b + size g)) (sym e)
       (thru-map (undo-passes u (k + 1 + size b + size g) (size u)) (i w (omega arith) (undo-calm (stepIn actor u (k + 1 + size b + size g) (k + 1 + size b + size g) t o) (subst (λ (v : Outcome). some isRash (v .log) ≡ false) e z))) (omega arith) (omega arith))))))
 
-  scope-through-by : {m₀ : Name} (b g : Act) (u : Acts) (y₀ k : ℕ) (c : Bool) → Waits (o .marks) (act (scope false) (trio b g u)) k t c → getD (o .marks) k 0 ≡ idle → Quiet (o .marks) (k + 1 + size b) (size g + sizes u)
-      → some isRash (stepIn actor (act (scope false) (trio b g u)) y₀ k t o .log) ≡ false
+  scope-through-by : {m₀ : Name} (b g : Act) (u : Acts) (y₀ k : ℕ) (c : Bool) → Waits (o .marks) (act (scope xs false) (trio b g u)) k t c → getD (o .marks) k 0 ≡ idle → Quiet (o .marks) (k + 1 + size b) (size g + sizes u)
+      → some isRash (stepIn actor (act (scope xs false) (trio b g u)) y₀ k t o .log) ≡ false
       → (Waits (o .marks) b (k + 1) t false → Acted (k + 1) (size b) o (UndoAs p m₀ b (k + 1) t o) (stepIn actor b (k + 1) (k + 1) t o))
       → (Waits (o .marks) b (k + 1) t false → some isRash (stepIn actor b (k + 1) (k + 1) t o .log) ≡ false → Thru (stepIn actor b (k + 1) (k + 1) t o) b (k + 1))
-      → Thru (stepIn actor (act (scope false) (trio b g u)) y₀ k t o) (act (scope false) (trio b g u)) k
+      → Thru (stepIn actor (act (scope xs false) (trio b g u)) y₀ k t o) (act (scope xs false) (trio b g u)) k
   unfolding size
   scope-through-by b g u y₀ k c (waits-itself e d) x q z a i = thru-here e
   scope-through-by {m₀ = m₀} b g u y₀ k c (waits-within h (waits-first h₁ w)) x q z a i =
@@ -641,7 +641,7 @@ module _ (p : Plan) (actor : Actor) (f : ℕ → ℕ) (t : ℕ) (o : Order) wher
       idle-thru own within y₀ k x s e (stopped-part-not p actor j w c) h (omega arith) (steps-stopped-in p actor y y₀ t o _ y₁ w c j (omega arith)) z (λ c₁. i _ w c j (omega arith) c₁)
   part-stopped-by own within y₀ k b s y y₁ x (waits-within h w) (stopped-quiet j) m z i =
       absurd (quiet-waits-in w (opens-idle own (getD (o .marks) k 0) (j .at k (omega arith) (omega arith))) (quiet-part j (omega arith) (omega arith)))
-  part-stopped-by own within y₀ k b s y y₁ x (waits-within h w) (stopped-scope e j) m z i = absurd (false≢true (sym s))
+  part-stopped-by own within y₀ k b s y y₁ x (waits-within h w) (stopped-scope e) m z i = absurd (false≢true (sym s))
 
   part-undoing-by : (own : Own) (within : Acts) (y₀ k : ℕ) (b : Bool) {x : Place} → isScope own ≡ false → SitsIn p x within (k + 1) → PartOf x y₀ → (m₀ : Name) → runnerAt (λ n. markOf n o) (nameOf x) (beyondOf x) ≡ m₀ → Fit (undoOf (nameOf x) (beyondOf x) (lastOf x)) o → Knows f (act own within) k → Waits (o .marks) (act own within) k t b
       → Undoing (o .marks) (act own within) k → k + size (act own within) ≤ length (o .marks) → some isRash (stepIn actor (act own within) y₀ k t o .log) ≡ false

@@ -21,7 +21,7 @@ use Rattle.undoing.proofs.Parts.{both, decide, every-so, some-none}
 use Rattle.undoing.proofs.Accounts.{Known}
 use Rattle.undoing.proofs.Moves.{closed-inside}
 use Rattle.undoing.proofs.Marks.{trio}
-use Rattle.undoing.proofs.Orders.{onto, innerAt, Sits, sits-part, sits-scope, SitsIn, sits-none, sits-more, Rest, rest-undo, rest-none}
+use Rattle.undoing.proofs.Orders.{onto, innerAt, Sits, sits-part, sits-scope, SitsIn, sits-none, sits-more, Healers}
 use Rattle.undoing.proofs.Seats.{Seat, reaches, reaches-range, closings-reach}
 use Rattle.undoing.proofs.Owing.{directly, directlyIn, directly-is, directly-range, directly-range-in, directly-directs}
 use Rattle.undoing.proofs.Deeds.{step-deeds, raise-deeds}
@@ -38,9 +38,9 @@ deed-among-is : (a : Act) (l : Acts) (c t : ℕ) (o : Order) (b : Bool) → ltb 
 unfolding deedIn
 deed-among-is a l c t o b e = subst (λ (z : Bool). deedAmong (more a l) c t o ≡ elim z [ true ↦ deedIn a c t o | false ↦ deedAmong l (c + size a) t o ]) e refl
 
-scope-deed : (z : Bool) (k : ℕ) (o : Order) → deedOf (scope z) k o ≡ closed k ∷ []
+scope-deed : (xs : List ℕ) (z : Bool) (k : ℕ) (o : Order) → deedOf (scope xs z) k o ≡ closed k ∷ []
 unfolding deedOf
-scope-deed z k o = refl
+scope-deed xs z k o = refl
 
 -- the close of a scope directly in a tree
 mutual
@@ -51,8 +51,8 @@ mutual
       let z : directlyIn within (k + 1) t ≡ true = sym (directly-is own within k t false s) ∙ d in
       let r = directly-range-in within (k + 1) t z in
       deed-is own within k t o false (ne-eqb k t (omega arith)) ∙ close-deeds within (k + 1) t o l z
-  close-deed (act (scope z₀) (more b (more f u))) k t o (sits-scope kn v i sb z sf su) d =
-      let e = direct-scope z₀ (trio b f u) k t d in deed-is (scope z₀) (trio b f u) k t o true e ∙ (scope-deed z₀ k o ∙ ap (λ (j : ℕ). closed j ∷ []) (eqb-true k t e))
+  close-deed (act (scope xs z₀) (more b (more f u))) k t o (sits-scope kn v i sb z) d =
+      let e = direct-scope xs z₀ (trio b f u) k t d in deed-is (scope xs z₀) (trio b f u) k t o true e ∙ (scope-deed xs z₀ k o ∙ ap (λ (j : ℕ). closed j ∷ []) (eqb-true k t e))
 
   close-deeds : {p : Plan} {x : Place} (l : Acts) (c t : ℕ) (o : Order) → SitsIn p x l c → directlyIn l c t ≡ true → deedAmong l c t o ≡ closed t ∷ []
   close-deeds none c t o sits-none d = absurd (none-directly c t d)
@@ -109,30 +109,30 @@ later-apart a l c e h =
     let x = leb-true (c + size a) e j in let y = ltb-true e (c + size a + sizes l) d in
     rw (out-directly a c e x, not-true (directlyIn l (c + size a) e) i, le-leb c e (omega arith), lt-ltb e (c + (size a + sizes l)) (omega arith))))
 
-scope-apart : (z : Bool) (b f : Act) (u : Acts) (k e : ℕ) → reaches b (k + 1) e ≡ true → Apart (act (scope z) (trio b f u)) k e ≡ true
+scope-apart : (xs : List ℕ) (z : Bool) (b f : Act) (u : Acts) (k e : ℕ) → reaches b (k + 1) e ≡ true → Apart (act (scope xs z) (trio b f u)) k e ≡ true
 unfolding size
-scope-apart z b f u k e h =
+scope-apart xs z b f u k e h =
     let r = reaches-range b (k + 1) e h in
-    rw (directly-is (scope z) (trio b f u) k e true refl, ne-eqb k e (omega arith), le-leb k e (omega arith), lt-ltb e (k + (1 + (size b + (size f + sizes u)))) (omega arith))
+    rw (directly-is (scope xs z) (trio b f u) k e true refl, ne-eqb k e (omega arith), le-leb k e (omega arith), lt-ltb e (k + (1 + (size b + (size f + sizes u)))) (omega arith))
 
 -- what stands after the fault part of one with no undo part is nothing
-rest-back : {p : Plan} {z : Bool} {x : Place} {u : Acts} {c : ℕ} → Rest p z x u c → (b f : Act) (k : ℕ) → z ≡ false → backIn (act (scope z) (trio b f u)) k k ≡ []
-rest-back (rest-undo su) b f k e = absurd (false≢true (sym e))
-rest-back rest-none b f k e = back-without b f k k (eq-eqb k k refl)
+rest-back : {p : Plan} {s : Name} {xs : List ℕ} {z : Bool} {q w : Place} {l : Acts} {c : ℕ} → Healers p s xs z q w l c → (b : Act) (k : ℕ) → z ≡ false → backIn (act (scope xs z) (more b l)) k k ≡ []
+rest-back {z = true} h b k e = absurd (false≢true (sym e))
+rest-back {z = false} h b k e = back-without h b k k (eq-eqb k k refl)
 
 mutual
   close-at : {p : Plan} {x : Place} {a : Act} {k : ℕ} → Sits p x a k → (t : ℕ) → directly a k t ≡ true → CloseAt p (nameOf x) (backIn a k t) (Apart a k) t
   close-at (sits-part {own = own} {within} {k} s g v y l) t d =
       close-so (close-at-in l t (sym (directly-is own within k t false s) ∙ d)) (back-part own within k t s) (λ e. part-apart own within k e s)
-  close-at {p = p} (sits-scope {v = z₀} {n} {c} {ns} {b} {f} {u} {k} kn v i sb z sf su) t d =
-      subst (λ (j : ℕ). CloseAt p n (backIn (act (scope z₀) (trio b f u)) k j) (Apart (act (scope z₀) (trio b f u)) k) j) (eqb-true k t (direct-scope z₀ (trio b f u) k t d))
+  close-at {p = p} (sits-scope {xs} {v = z₀} {n} {c} {ns} {b} {f} {u} {k} kn v i sb z) t d =
+      subst (λ (j : ℕ). CloseAt p n (backIn (act (scope xs z₀) (trio b f u)) k j) (Apart (act (scope xs z₀) (trio b f u)) k) j) (eqb-true k t (direct-scope xs z₀ (trio b f u) k t d))
       (record {
-        its = innerAt z₀ k n ns (trio b f u);
+        its = innerAt xs z₀ k n ns (trio b f u);
         known = kn;
         number = refl;
         around = refl;
-        none-back = λ e. rest-back su b f k e;
-        handed = λ e past. every-so (reaches b (k + 1)) (Apart (act (scope z₀) (trio b f u)) k) (λ j h. scope-apart z₀ b f u k j h) (closingsOf p (inner k) past) (closings-reach p past sb i);
+        none-back = λ e. rest-back z b k e;
+        handed = λ e past. every-so (reaches b (k + 1)) (Apart (act (scope xs z₀) (trio b f u)) k) (λ j h. scope-apart xs z₀ b f u k j h) (closingsOf p (inner k) past) (closings-reach p past sb i);
       })
 
   close-at-in : {p : Plan} {x : Place} {l : Acts} {c : ℕ} → SitsIn p x l c → (t : ℕ) → directlyIn l c t ≡ true → CloseAt p (nameOf x) (backAmong l c t) (ApartIn l c) t
@@ -247,7 +247,7 @@ module _ (p : Plan) (h : Seat p (rootOf p)) where
   other-own sequence k o d e = refl
   other-own flow k o d e = refl
   other-own pick k o d e = refl
-  other-own (scope z) k o d e = rw e
+  other-own (scope xs z) k o d e = rw e
   other-own (arm x y vs) k o d e = refl
 
   mutual

@@ -9,7 +9,8 @@ use Rattle.plan.specs.Tree.{Plan}
 use Rattle.order.specs.declared.Order.{Order}
 use Rattle.order.specs.declared.End.{End}
 use Rattle.order.specs.declared.End.the-variants.{None, Well, Handled, Failed, Left}
-use Rattle.order.specs.State.{root, inner, idle, active, inside, done, faulty, undoing, handling, closingOf, marked, isLive, noOrder, withRoot, withMarks, remembering, causing}
+use Rattle.order.specs.State.{root, inner, idle, active, inside, done, faulty, undoing, handling, closingOf, markWith, marked, isLive, noOrder, withRoot, withMarks, remembering, causing}
+use Rattle.order.specs.Scope.{generalFor}
 use Rattle.order.specs.Event.{Event, started, began, closed, faulted, stopped, ended, raised, left}
 use Rattle.order.specs.Acting.{startedOrder}
 use Rattle.machine.specs.State.{noTally}
@@ -21,7 +22,7 @@ use Rattle.undoing.specs.Weighing.{weighing}
 use Rattle.undoing.specs.History.{history}
 use Rattle.undoing.specs.Ties.{orderAfter, deedAt, deedsTaken, endList, endsTaken, causeAnswered, causesTaken}
 use Rattle.undoing.specs.Begun.{hasBegan, markBefore, Taken, stepsTaken}
-use Rattle.undoing.specs.UndoneRight.{Named, demand3, orderly, faults, steps, ends, causes, begunTruly, begunAll, begunInTurn, once, afresh, entirely, leftToFinish, keptRunning, passedOn, decided, itsStep, ownSteps, marks, kept, lists, places, goingOn, neverStuck, stoppedWithin, toCome, standing, broken}
+use Rattle.undoing.specs.UndoneRight.{Named, demand3, orderly, faults, steps, ends, causes, begunTruly, begunAll, begunInTurn, once, afresh, entirely, leftToFinish, keptRunning, passedOn, decided, itsStep, ownSteps, marks, choices, lists, places, goingOn, neverStuck, stoppedWithin, toCome, standing, broken}
 
 -- What an engine does: a step of an activity, with what the order becomes, what it logs and what it answers, its end and the number of its fault; or something that happens to the slot while another
 -- slot has its step, or with a post.
@@ -64,6 +65,10 @@ first = posting (record { partner = 0; operation = 0; count = 1; values = 5 ∷ 
 
 abbrev next : Call
 next = stepping 0
+
+-- the mark of a scope that faulted with this number and has no part for it
+abbrev faultedBy : (number state : ℕ) → ℕ
+faultedBy x m = markWith (generalFor x) m
 
 -- the order is over; it has this root and the mark of this activity, and no other
 abbrev gone : Order → Order
@@ -197,6 +202,31 @@ absorbed = 1 ∷ 2 ∷ 0 ∷ 8 ∷ 2 ∷ 2 ∷ 0 ∷ 0 ∷ 1 ∷ 0 ∷ 9 ∷ 2 �
 unfoldable passedOut : List ℕ
 passedOut = 1 ∷ 2 ∷ 0 ∷ 8 ∷ 2 ∷ 2 ∷ 0 ∷ 0 ∷ 1 ∷ 0 ∷ 12 ∷ 4 ∷ 3 ∷ 1 ∷ 1 ∷ 1 ∷ 1 ∷ 2 ∷ 2 ∷ 1 ∷ 0 ∷ []
 
+-- Fault parts by number, code 14.
+
+-- A receive 1; a scope 2 whose body is a raise 3 with the number 17, with fault parts for 16 (a send 4) and 17 (a send 5), a general one (a send 6) and an empty
+-- undo part; the root's fault part 8, empty.
+unfoldable named : List ℕ
+named = 1 ∷ 1 ∷ 0 ∷ 8 ∷ 2 ∷ 2 ∷ 0 ∷ 0 ∷ 1 ∷ 0 ∷ 14 ∷ 13 ∷ 17 ∷ 2 ∷ 16 ∷ 1 ∷ 2 ∷ 1 ∷ 1 ∷ 0 ∷ 17 ∷ 1 ∷ 2 ∷ 2 ∷ 1 ∷ 0 ∷ 1 ∷ 2 ∷ 3 ∷ 1 ∷ 0 ∷ 0 ∷ 0 ∷ []
+
+-- The same with a raise 3 with the number 18, for which the scope has no part.
+unfoldable unnamed : List ℕ
+unnamed = 1 ∷ 1 ∷ 0 ∷ 8 ∷ 2 ∷ 2 ∷ 0 ∷ 0 ∷ 1 ∷ 0 ∷ 14 ∷ 13 ∷ 18 ∷ 2 ∷ 16 ∷ 1 ∷ 2 ∷ 1 ∷ 1 ∷ 0 ∷ 17 ∷ 1 ∷ 2 ∷ 2 ∷ 1 ∷ 0 ∷ 1 ∷ 2 ∷ 3 ∷ 1 ∷ 0 ∷ 0 ∷ 0 ∷ []
+
+-- The same with a sequence 3 for the body: a scope 4 (undo part 7, a send), and a raise 8 with the number 17; the parts are 9, 10 and 11.
+unfoldable namedAfter : List ℕ
+namedAfter = 1 ∷ 1 ∷ 0 ∷ 8 ∷ 2 ∷ 2 ∷ 0 ∷ 0 ∷ 1 ∷ 0 ∷ 14 ∷ 8 ∷ 2 ∷ 11 ∷ 0 ∷ 0 ∷ 1 ∷ 2 ∷ 4 ∷ 1 ∷ 0 ∷ 13 ∷ 17 ∷ 2 ∷ 16 ∷ 1 ∷ 2 ∷ 1 ∷ 1 ∷ 0 ∷ 17 ∷ 1 ∷ 2 ∷ 2 ∷ 1 ∷ 0 ∷ 1 ∷ 2 ∷ 3 ∷ 1 ∷ 0 ∷ 0 ∷ 0 ∷ []
+
+-- A receive 1; a scope 2 whose body is a scope 3: its body a raise 4 with the number 17, for which its fault part is a raise 5 with the number 16, its other parts
+-- empty. Scope 2 has fault parts for 16 (a send 8) and 17 (a send 9), a general one (a send 10) and an empty undo part; the root's fault part 12, empty.
+unfoldable outOfPart : List ℕ
+outOfPart = 1 ∷ 1 ∷ 0 ∷ 8 ∷ 2 ∷ 2 ∷ 0 ∷ 0 ∷ 1 ∷ 0 ∷ 14 ∷ 14 ∷ 13 ∷ 17 ∷ 1 ∷ 17 ∷ 13 ∷ 16 ∷ 0 ∷ 0 ∷ 2 ∷ 16 ∷ 1 ∷ 2 ∷ 1 ∷ 1 ∷ 0 ∷ 17 ∷ 1 ∷ 2 ∷ 2 ∷ 1 ∷ 0 ∷ 1 ∷ 2 ∷ 3 ∷ 1 ∷ 0 ∷ 0 ∷ 0 ∷ []
+
+-- A receive 1; a set 2; a repeat 3, twice, of a sequence 4: a scope 5, whose body is a choose 6 of a raise 7 with the number 16, the first time, and a raise 8 with
+-- the number 17, with fault parts for 16 (a send 9) and 17 (a send 10), its other parts empty; a set 13. The root's fault part 14, empty.
+unfoldable inTurns : List ℕ
+inTurns = 1 ∷ 2 ∷ 0 ∷ 8 ∷ 3 ∷ 2 ∷ 0 ∷ 0 ∷ 1 ∷ 0 ∷ 3 ∷ 1 ∷ 0 ∷ 0 ∷ 7 ∷ 5 ∷ 1 ∷ 1 ∷ 0 ∷ 2 ∷ 8 ∷ 2 ∷ 14 ∷ 6 ∷ 4 ∷ 1 ∷ 1 ∷ 0 ∷ 0 ∷ 13 ∷ 16 ∷ 13 ∷ 17 ∷ 2 ∷ 16 ∷ 1 ∷ 2 ∷ 1 ∷ 1 ∷ 0 ∷ 17 ∷ 1 ∷ 2 ∷ 2 ∷ 1 ∷ 0 ∷ 0 ∷ 0 ∷ 3 ∷ 1 ∷ 2 ∷ 1 ∷ 1 ∷ 0 ∷ 1 ∷ 0 ∷ []
+
 -- Document 01's own and its shortcuts.
 
 -- a raise ends the order at once, without undo
@@ -228,7 +258,7 @@ unfoldable hanging : Engine
 hanging = record {
   bytes = planC;
   calls = first ∷ next ∷ next ∷ next ∷ [];
-  deeds = does 10 (λ o. withRoot faulty (withMarks (noOrder .marks) o)) (raised 10 0 ∷ faulted root 0 ∷ []) None 0 ∷ [];
+  deeds = does 10 (λ o. withRoot (faultedBy 0 faulty) (withMarks (noOrder .marks) o)) (raised 10 0 ∷ faulted root 0 ∷ []) None 0 ∷ [];
 }
 
 -- a raise is logged as a leave
@@ -260,7 +290,7 @@ unfoldable faultFirst : Engine
 faultFirst = record {
   bytes = planC;
   calls = first ∷ next ∷ next ∷ next ∷ [];
-  deeds = does 10 (λ o. remembering (closingOf 2 0 ∷ []) (only1 undoing 9 o)) (raised 10 0 ∷ faulted root 0 ∷ began 11 ∷ began 9 ∷ []) None 0 ∷ does 9 (λ o. remembering [] (only1 undoing 5 o)) (began 5 ∷ []) None 0 ∷ does 5 gone (ended root ∷ []) Handled 0 ∷ [];
+  deeds = does 10 (λ o. remembering (closingOf 2 0 ∷ []) (only1 (faultedBy 0 undoing) 9 o)) (raised 10 0 ∷ faulted root 0 ∷ began 11 ∷ began 9 ∷ []) None 0 ∷ does 9 (λ o. remembering [] (only1 (faultedBy 0 undoing) 5 o)) (began 5 ∷ []) None 0 ∷ does 5 gone (ended root ∷ []) Handled 0 ∷ [];
 }
 
 -- undoing in file order, with the closings logged in the reverse order
@@ -268,7 +298,7 @@ unfoldable turnedAbout : Engine
 turnedAbout = record {
   bytes = planC;
   calls = first ∷ next ∷ [];
-  deeds = does 2 (λ o. marked 2 idle (marked 6 done o)) (began 6 ∷ began 7 ∷ []) None 0 ∷ does 6 (λ o. remembering (closingOf 6 0 ∷ closingOf 2 0 ∷ []) (marked 6 idle (marked 10 active o))) (closed 6 ∷ closed 2 ∷ began 10 ∷ []) None 0 ∷ does 10 (λ o. remembering (closingOf 6 0 ∷ []) (only1 undoing 5 o)) (raised 10 0 ∷ faulted root 0 ∷ began 5 ∷ []) None 0 ∷ [];
+  deeds = does 2 (λ o. marked 2 idle (marked 6 done o)) (began 6 ∷ began 7 ∷ []) None 0 ∷ does 6 (λ o. remembering (closingOf 6 0 ∷ closingOf 2 0 ∷ []) (marked 6 idle (marked 10 active o))) (closed 6 ∷ closed 2 ∷ began 10 ∷ []) None 0 ∷ does 10 (λ o. remembering (closingOf 6 0 ∷ []) (only1 (faultedBy 0 undoing) 5 o)) (raised 10 0 ∷ faulted root 0 ∷ began 5 ∷ []) None 0 ∷ [];
 }
 
 -- an undo part that is over starts a second time, and that is not said
@@ -292,7 +322,7 @@ unfoldable oldest : Engine
 oldest = record {
   bytes = planC;
   calls = first ∷ next ∷ next ∷ next ∷ [];
-  deeds = does 10 (λ o. remembering (closingOf 6 0 ∷ []) (only1 undoing 5 o)) (raised 10 0 ∷ faulted root 0 ∷ began 5 ∷ []) None 0 ∷ [];
+  deeds = does 10 (λ o. remembering (closingOf 6 0 ∷ []) (only1 (faultedBy 0 undoing) 5 o)) (raised 10 0 ∷ faulted root 0 ∷ began 5 ∷ []) None 0 ∷ [];
 }
 
 -- one of them starts twice
@@ -308,7 +338,7 @@ unfoldable other : Engine
 other = record {
   bytes = planC;
   calls = first ∷ next ∷ next ∷ next ∷ [];
-  deeds = does 10 (λ o. remembering [] (only1 undoing 5 o)) (raised 10 0 ∷ faulted root 0 ∷ began 5 ∷ []) None 0 ∷ does 5 gone (began 11 ∷ ended root ∷ []) Handled 0 ∷ [];
+  deeds = does 10 (λ o. remembering [] (only1 (faultedBy 0 undoing) 5 o)) (raised 10 0 ∷ faulted root 0 ∷ began 5 ∷ []) None 0 ∷ does 5 gone (began 11 ∷ ended root ∷ []) Handled 0 ∷ [];
 }
 
 -- once per scope where a repeat closed it often
@@ -316,7 +346,7 @@ unfoldable oncePer : Engine
 oncePer = record {
   bytes = three;
   calls = first ∷ next ∷ next ∷ next ∷ next ∷ next ∷ next ∷ next ∷ next ∷ next ∷ next ∷ next ∷ next ∷ [];
-  deeds = does 10 (λ o. remembering [] (only1 undoing 8 o)) (raised 10 0 ∷ faulted root 0 ∷ began 8 ∷ []) None 0 ∷ does 8 gone (began 11 ∷ ended root ∷ []) Handled 0 ∷ [];
+  deeds = does 10 (λ o. remembering [] (only1 (faultedBy 0 undoing) 8 o)) (raised 10 0 ∷ faulted root 0 ∷ began 8 ∷ []) None 0 ∷ does 8 gone (began 11 ∷ ended root ∷ []) Handled 0 ∷ [];
 }
 
 -- the same, with only the last closing logged
@@ -332,7 +362,7 @@ unfoldable tooEarly : Engine
 tooEarly = record {
   bytes = innerHandler;
   calls = first ∷ next ∷ next ∷ stepping 1 ∷ [];
-  deeds = does 12 (λ o. withRoot undoing (remembering [] (marked 0 idle (marked 2 idle (marked 7 idle (marked 12 idle (marked 11 active o))))))) (raised 12 0 ∷ faulted root 0 ∷ began 11 ∷ []) None 0 ∷ [];
+  deeds = does 12 (λ o. withRoot (faultedBy 0 undoing) (remembering [] (marked 0 idle (marked 2 idle (marked 7 idle (marked 12 idle (marked 11 active o))))))) (raised 12 0 ∷ faulted root 0 ∷ began 11 ∷ []) None 0 ∷ [];
 }
 
 -- an undo part starts before anything around it faulted
@@ -372,7 +402,7 @@ unfoldable undoesHandled : Engine
 undoesHandled = record {
   bytes = handledScope;
   calls = first ∷ next ∷ next ∷ [];
-  deeds = does 6 (only1 undoing 5) (raised 6 0 ∷ faulted root 0 ∷ began 5 ∷ []) None 0 ∷ [];
+  deeds = does 6 (only1 (faultedBy 0 undoing) 5) (raised 6 0 ∷ faulted root 0 ∷ began 5 ∷ []) None 0 ∷ [];
 }
 
 -- the same, with a closing claimed for it
@@ -388,7 +418,7 @@ unfoldable keepsList : Engine
 keepsList = record {
   bytes = closedOuter;
   calls = first ∷ next ∷ next ∷ next ∷ next ∷ next ∷ next ∷ next ∷ next ∷ next ∷ [];
-  deeds = does 12 (λ o. marked 12 idle (marked 5 idle (marked 4 undoing (marked 10 active o)))) (raised 12 0 ∷ faulted (inner 4) 0 ∷ began 10 ∷ []) None 0 ∷ [];
+  deeds = does 12 (λ o. marked 12 idle (marked 5 idle (marked 4 (faultedBy 0 undoing) (marked 10 active o)))) (raised 12 0 ∷ faulted (inner 4) 0 ∷ began 10 ∷ []) None 0 ∷ [];
 }
 
 -- after an undo part that is over at once that of a scope that never began runs as well, and that is not said
@@ -396,7 +426,7 @@ unfoldable oneMore : Engine
 oneMore = record {
   bytes = neverEntered;
   calls = first ∷ next ∷ next ∷ next ∷ [];
-  deeds = does 12 (λ o. remembering [] (only1 undoing 6 o)) (raised 12 0 ∷ faulted root 0 ∷ began 11 ∷ []) None 0 ∷ [];
+  deeds = does 12 (λ o. remembering [] (only1 (faultedBy 0 undoing) 6 o)) (raised 12 0 ∷ faulted root 0 ∷ began 11 ∷ []) None 0 ∷ [];
 }
 
 -- and that is said
@@ -404,7 +434,7 @@ unfoldable oneMoreSaid : Engine
 oneMoreSaid = record {
   bytes = neverEntered;
   calls = first ∷ next ∷ next ∷ next ∷ [];
-  deeds = does 12 (λ o. remembering [] (only1 undoing 6 o)) (raised 12 0 ∷ faulted root 0 ∷ began 11 ∷ began 6 ∷ []) None 0 ∷ [];
+  deeds = does 12 (λ o. remembering [] (only1 (faultedBy 0 undoing) 6 o)) (raised 12 0 ∷ faulted root 0 ∷ began 11 ∷ began 6 ∷ []) None 0 ∷ [];
 }
 
 -- an undo part that is a sequence starts a second time, and only what begins in it is told
@@ -438,7 +468,7 @@ unfoldable claimsSequence : Engine
 claimsSequence = record {
   bytes = inSequence;
   calls = first ∷ next ∷ next ∷ [];
-  deeds = does 8 (λ o. remembering [] (only1 handling 9 o)) (raised 8 0 ∷ faulted root 0 ∷ began 5 ∷ began 9 ∷ []) None 0 ∷ does 9 gone (ended root ∷ []) Handled 0 ∷ [];
+  deeds = does 8 (λ o. remembering [] (only1 (faultedBy 0 handling) 9 o)) (raised 8 0 ∷ faulted root 0 ∷ began 5 ∷ began 9 ∷ []) None 0 ∷ does 9 gone (ended root ∷ []) Handled 0 ∷ [];
 }
 
 -- closed three times, undone once, claimed three times
@@ -446,7 +476,7 @@ unfoldable claimsThrice : Engine
 claimsThrice = record {
   bytes = three;
   calls = first ∷ next ∷ next ∷ next ∷ next ∷ next ∷ next ∷ next ∷ next ∷ next ∷ next ∷ next ∷ next ∷ [];
-  deeds = does 10 (λ o. remembering [] (only1 undoing 8 o)) (raised 10 0 ∷ faulted root 0 ∷ began 8 ∷ began 8 ∷ began 8 ∷ []) None 0 ∷ does 8 gone (began 11 ∷ ended root ∷ []) Handled 0 ∷ [];
+  deeds = does 10 (λ o. remembering [] (only1 (faultedBy 0 undoing) 8 o)) (raised 10 0 ∷ faulted root 0 ∷ began 8 ∷ began 8 ∷ began 8 ∷ []) None 0 ∷ does 8 gone (began 11 ∷ ended root ∷ []) Handled 0 ∷ [];
 }
 
 -- a step of another branch claims again the undo part that runs
@@ -478,7 +508,7 @@ unfoldable runsOn : Engine
 runsOn = record {
   bytes = unstopped;
   calls = first ∷ next ∷ [];
-  deeds = does 9 (λ o. withRoot faulty (marked 0 idle (marked 2 idle (marked 9 idle o)))) (raised 9 0 ∷ faulted root 0 ∷ []) None 0 ∷ [];
+  deeds = does 9 (λ o. withRoot (faultedBy 0 faulty) (marked 0 idle (marked 2 idle (marked 9 idle o)))) (raised 9 0 ∷ faulted root 0 ∷ []) None 0 ∷ [];
 }
 
 -- a step of another branch drops the undo part that runs, and starts it again
@@ -518,7 +548,7 @@ unfoldable halfFlow : Engine
 halfFlow = record {
   bytes = inFlow;
   calls = first ∷ next ∷ next ∷ [];
-  deeds = does 8 (λ o. remembering [] (marked 5 active (only1 undoing 6 o))) (raised 8 0 ∷ faulted root 0 ∷ began 5 ∷ began 6 ∷ []) None 0 ∷ [];
+  deeds = does 8 (λ o. remembering [] (marked 5 active (only1 (faultedBy 0 undoing) 6 o))) (raised 8 0 ∷ faulted root 0 ∷ began 5 ∷ began 6 ∷ []) None 0 ∷ [];
 }
 
 -- an undo part that is a send is only claimed, in the step that ends the order
@@ -542,7 +572,7 @@ unfoldable waitsForEver : Engine
 waitsForEver = record {
   bytes = waiting;
   calls = first ∷ next ∷ next ∷ [];
-  deeds = does 11 (λ o. withRoot faulty (marked 0 idle (marked 6 idle (marked 11 idle o)))) (raised 11 0 ∷ faulted root 0 ∷ []) None 0 ∷ [];
+  deeds = does 11 (λ o. withRoot (faultedBy 0 faulty) (marked 0 idle (marked 6 idle (marked 11 idle o)))) (raised 11 0 ∷ faulted root 0 ∷ []) None 0 ∷ [];
 }
 
 -- the list of a scope that was stopped is only claimed
@@ -550,7 +580,7 @@ unfoldable claimsStopped : Engine
 claimsStopped = record {
   bytes = nested;
   calls = first ∷ next ∷ next ∷ next ∷ [];
-  deeds = does 15 (λ o. remembering [] (only1 handling 16 o)) (raised 15 0 ∷ faulted root 0 ∷ stopped 3 ∷ began 8 ∷ ended (inner 3) ∷ began 16 ∷ []) None 0 ∷ [];
+  deeds = does 15 (λ o. remembering [] (only1 (faultedBy 0 handling) 16 o)) (raised 15 0 ∷ faulted root 0 ∷ stopped 3 ∷ began 8 ∷ ended (inner 3) ∷ began 16 ∷ []) None 0 ∷ [];
 }
 
 -- a scope is said to begin anew, so that its closings are forgotten
@@ -566,7 +596,7 @@ unfoldable swallows : Engine
 swallows = record {
   bytes = raisingUndo;
   calls = first ∷ next ∷ next ∷ next ∷ next ∷ [];
-  deeds = does 9 (λ o. remembering [] (only1 undoing 5 o)) (raised 9 0 ∷ began 5 ∷ []) None 0 ∷ [];
+  deeds = does 9 (λ o. remembering [] (only1 (faultedBy 0 undoing) 5 o)) (raised 9 0 ∷ began 5 ∷ []) None 0 ∷ [];
 }
 
 -- the list of a scope that was stopped is dropped
@@ -574,7 +604,7 @@ unfoldable dropsStopped : Engine
 dropsStopped = record {
   bytes = nested;
   calls = first ∷ next ∷ next ∷ next ∷ [];
-  deeds = does 15 (λ o. remembering [] (only1 handling 16 o)) (raised 15 0 ∷ faulted root 0 ∷ stopped 3 ∷ ended (inner 3) ∷ began 16 ∷ []) None 0 ∷ [];
+  deeds = does 15 (λ o. remembering [] (only1 (faultedBy 0 handling) 16 o)) (raised 15 0 ∷ faulted root 0 ∷ stopped 3 ∷ ended (inner 3) ∷ began 16 ∷ []) None 0 ∷ [];
 }
 
 -- an undo part that is a send is only claimed, while the order lives on
@@ -582,7 +612,7 @@ unfoldable claimsOne : Engine
 claimsOne = record {
   bytes = oneSend;
   calls = first ∷ next ∷ next ∷ [];
-  deeds = does 6 (λ o. remembering [] (only1 handling 7 o)) (raised 6 0 ∷ faulted root 0 ∷ began 5 ∷ began 7 ∷ []) None 0 ∷ [];
+  deeds = does 6 (λ o. remembering [] (only1 (faultedBy 0 handling) 7 o)) (raised 6 0 ∷ faulted root 0 ∷ began 5 ∷ began 7 ∷ []) None 0 ∷ [];
 }
 
 -- two undo parts run at once
@@ -590,7 +620,7 @@ unfoldable bothAtOnce : Engine
 bothAtOnce = record {
   bytes = planC;
   calls = first ∷ next ∷ next ∷ next ∷ [];
-  deeds = does 10 (λ o. remembering [] (marked 9 active (only1 undoing 5 o))) (raised 10 0 ∷ faulted root 0 ∷ began 9 ∷ began 5 ∷ []) None 0 ∷ [];
+  deeds = does 10 (λ o. remembering [] (marked 9 active (only1 (faultedBy 0 undoing) 5 o))) (raised 10 0 ∷ faulted root 0 ∷ began 9 ∷ began 5 ∷ []) None 0 ∷ [];
 }
 
 -- an undo part runs in a body that has not turned
@@ -606,7 +636,7 @@ unfoldable anotherThanTold : Engine
 anotherThanTold = record {
   bytes = planC;
   calls = first ∷ next ∷ next ∷ next ∷ [];
-  deeds = does 10 (λ o. remembering (closingOf 2 0 ∷ []) (only1 undoing 5 o)) (raised 10 0 ∷ faulted root 0 ∷ began 9 ∷ []) None 0 ∷ [];
+  deeds = does 10 (λ o. remembering (closingOf 2 0 ∷ []) (only1 (faultedBy 0 undoing) 5 o)) (raised 10 0 ∷ faulted root 0 ∷ began 9 ∷ []) None 0 ∷ [];
 }
 
 -- What is over before its time.
@@ -616,7 +646,7 @@ unfoldable dropsTail : Engine
 dropsTail = record {
   bytes = inSequence;
   calls = first ∷ next ∷ next ∷ next ∷ [];
-  deeds = does 6 (only1 handling 9) (began 9 ∷ []) None 0 ∷ [];
+  deeds = does 6 (only1 (faultedBy 0 handling) 9) (began 9 ∷ []) None 0 ∷ [];
 }
 
 -- an undo part that is a flow is over after one of its two sends
@@ -624,7 +654,7 @@ unfoldable dropsBranch : Engine
 dropsBranch = record {
   bytes = inFlow;
   calls = first ∷ next ∷ next ∷ next ∷ [];
-  deeds = does 6 (only1 handling 9) (began 9 ∷ []) None 0 ∷ [];
+  deeds = does 6 (only1 (faultedBy 0 handling) 9) (began 9 ∷ []) None 0 ∷ [];
 }
 
 -- of an undo part that is a sequence both sends begin at once
@@ -632,7 +662,7 @@ unfoldable asFlow : Engine
 asFlow = record {
   bytes = inSequence;
   calls = first ∷ next ∷ next ∷ [];
-  deeds = does 8 (λ o. remembering [] (marked 5 active (marked 7 active (only1 undoing 6 o)))) (raised 8 0 ∷ faulted root 0 ∷ began 5 ∷ began 6 ∷ began 7 ∷ []) None 0 ∷ [];
+  deeds = does 8 (λ o. remembering [] (marked 5 active (marked 7 active (only1 (faultedBy 0 undoing) 6 o)))) (raised 8 0 ∷ faulted root 0 ∷ began 5 ∷ began 6 ∷ began 7 ∷ []) None 0 ∷ [];
 }
 
 -- the body of an order, a receive, begins again with the step that should end it
@@ -730,7 +760,7 @@ unfoldable oldestHanded : Engine
 oldestHanded = record {
   bytes = handedOn;
   calls = first ∷ next ∷ next ∷ next ∷ next ∷ [];
-  deeds = does 13 (λ o. remembering (closingOf 8 0 ∷ []) (only1 undoing 7 o)) (raised 13 0 ∷ faulted root 0 ∷ began 7 ∷ []) None 0 ∷ [];
+  deeds = does 13 (λ o. remembering (closingOf 8 0 ∷ []) (only1 (faultedBy 0 undoing) 7 o)) (raised 13 0 ∷ faulted root 0 ∷ began 7 ∷ []) None 0 ∷ [];
 }
 
 -- it is undone twice by the root
@@ -738,7 +768,7 @@ unfoldable twiceHanded : Engine
 twiceHanded = record {
   bytes = handedOn;
   calls = first ∷ next ∷ next ∷ next ∷ next ∷ next ∷ next ∷ [];
-  deeds = does 7 (λ o. only1 undoing 11 o) (began 11 ∷ []) None 0 ∷ [];
+  deeds = does 7 (λ o. only1 (faultedBy 0 undoing) 11 o) (began 11 ∷ []) None 0 ∷ [];
 }
 
 -- the scope of code 12 itself is taken for one that is undone, by its fault part
@@ -746,7 +776,7 @@ unfoldable undoesByFault : Engine
 undoesByFault = record {
   bytes = handedOn;
   calls = first ∷ next ∷ next ∷ next ∷ next ∷ [];
-  deeds = does 13 (λ o. remembering (closingOf 4 0 ∷ []) (only1 undoing 11 o)) (raised 13 0 ∷ faulted root 0 ∷ began 12 ∷ began 11 ∷ []) None 0 ∷ [];
+  deeds = does 13 (λ o. remembering (closingOf 4 0 ∷ []) (only1 (faultedBy 0 undoing) 11 o)) (raised 13 0 ∷ faulted root 0 ∷ began 12 ∷ began 11 ∷ []) None 0 ∷ [];
 }
 
 -- what a scope of code 12 hands on is remembered by the inner closing
@@ -762,7 +792,7 @@ unfoldable undoesDated : Engine
 undoesDated = record {
   bytes = datedOuter;
   calls = first ∷ next ∷ next ∷ stepping 1 ∷ next ∷ [];
-  deeds = does 13 (λ o. remembering (closingOf 4 0 ∷ []) (only1 undoing 12 o)) (raised 13 0 ∷ faulted root 0 ∷ began 12 ∷ []) None 0 ∷ [];
+  deeds = does 13 (λ o. remembering (closingOf 4 0 ∷ []) (only1 (faultedBy 0 undoing) 12 o)) (raised 13 0 ∷ faulted root 0 ∷ began 12 ∷ []) None 0 ∷ [];
 }
 
 -- a scope of code 12 that faulted undoes what closed in it, and hands it on as well
@@ -778,7 +808,7 @@ unfoldable undoesFaulted : Engine
 undoesFaulted = record {
   bytes = faultedOpen;
   calls = first ∷ next ∷ next ∷ next ∷ next ∷ [];
-  deeds = does 10 (only1 undoing 7) (raised 10 0 ∷ faulted root 0 ∷ began 7 ∷ []) None 0 ∷ [];
+  deeds = does 10 (only1 (faultedBy 0 undoing) 7) (raised 10 0 ∷ faulted root 0 ∷ began 7 ∷ []) None 0 ∷ [];
 }
 
 -- a scope of code 12 that faulted hands it on instead of undoing it
@@ -794,7 +824,7 @@ unfoldable passesOver : Engine
 passesOver = record {
   bytes = faultedOpen;
   calls = first ∷ next ∷ next ∷ [];
-  deeds = does 8 (λ o. remembering [] (only1 undoing 7 o)) (raised 8 0 ∷ faulted root 0 ∷ began 7 ∷ []) None 0 ∷ [];
+  deeds = does 8 (λ o. remembering [] (only1 (faultedBy 0 undoing) 7 o)) (raised 8 0 ∷ faulted root 0 ∷ began 7 ∷ []) None 0 ∷ [];
 }
 
 -- a scope of code 12 undoes what it handed on the time before
@@ -802,7 +832,7 @@ unfoldable undoesHandedOn : Engine
 undoesHandedOn = record {
   bytes = handedOnce;
   calls = first ∷ next ∷ next ∷ next ∷ next ∷ next ∷ next ∷ next ∷ next ∷ next ∷ [];
-  deeds = does 12 (λ o. marked 12 idle (marked 5 idle (marked 4 undoing (marked 10 active o)))) (raised 12 0 ∷ faulted (inner 4) 0 ∷ began 10 ∷ []) None 0 ∷ [];
+  deeds = does 12 (λ o. marked 12 idle (marked 5 idle (marked 4 (faultedBy 0 undoing) (marked 10 active o)))) (raised 12 0 ∷ faulted (inner 4) 0 ∷ began 10 ∷ []) None 0 ∷ [];
 }
 
 -- Request 4: the numbers of faults.
@@ -820,7 +850,7 @@ unfoldable losesNumber : Engine
 losesNumber = record {
   bytes = passedOut;
   calls = first ∷ next ∷ next ∷ [];
-  deeds = does 4 (only1 handling 5) (raised 4 1 ∷ ended (inner 2) ∷ faulted root 0 ∷ began 5 ∷ []) None 0 ∷ [];
+  deeds = does 4 (only1 (faultedBy 0 handling) 5) (raised 4 1 ∷ ended (inner 2) ∷ faulted root 0 ∷ began 5 ∷ []) None 0 ∷ [];
 }
 
 -- the root keeps the number of a fault that was absorbed
@@ -828,7 +858,145 @@ unfoldable keepsAbsorbed : Engine
 keepsAbsorbed = record {
   bytes = absorbed;
   calls = first ∷ next ∷ next ∷ stepping 1 ∷ [];
-  deeds = does 5 (λ o. causing root 3 (only1 handling 7 o)) (raised 5 3 ∷ ended (inner 3) ∷ began 7 ∷ []) None 0 ∷ [];
+  deeds = does 5 (λ o. causing root 3 (only1 (faultedBy 1 handling) 7 o)) (raised 5 3 ∷ ended (inner 3) ∷ began 7 ∷ []) None 0 ∷ [];
+}
+
+-- Fault parts by number, the rest of request 4.
+
+-- the general part runs though the number has a part, by the choice that goes with it
+unfoldable generalAlways : Engine
+generalAlways = record {
+  bytes = named;
+  calls = first ∷ next ∷ [];
+  deeds = does 3 (λ o. marked 3 idle (marked 2 (faultedBy 17 handling) (marked 6 active o))) (raised 3 17 ∷ faulted (inner 2) 17 ∷ began 6 ∷ []) None 0 ∷ [];
+}
+
+-- the same, with the right choice kept
+unfoldable generalRuns : Engine
+generalRuns = record {
+  bytes = named;
+  calls = first ∷ next ∷ [];
+  deeds = does 3 (λ o. marked 3 idle (marked 2 (markWith 2 handling) (marked 6 active o))) (raised 3 17 ∷ faulted (inner 2) 17 ∷ began 6 ∷ []) None 0 ∷ [];
+}
+
+-- the general part runs, and the right one is told
+unfoldable generalUntold : Engine
+generalUntold = record {
+  bytes = named;
+  calls = first ∷ next ∷ [];
+  deeds = does 3 (λ o. marked 3 idle (marked 2 (markWith 2 handling) (marked 6 active o))) (raised 3 17 ∷ faulted (inner 2) 17 ∷ began 5 ∷ []) None 0 ∷ [];
+}
+
+-- the part of another number runs
+unfoldable otherNumber : Engine
+otherNumber = record {
+  bytes = named;
+  calls = first ∷ next ∷ [];
+  deeds = does 3 (λ o. marked 3 idle (marked 2 (markWith 1 handling) (marked 4 active o))) (raised 3 17 ∷ faulted (inner 2) 17 ∷ began 4 ∷ []) None 0 ∷ [];
+}
+
+-- the same, with a fault of that number told
+unfoldable otherTold : Engine
+otherTold = record {
+  bytes = named;
+  calls = first ∷ next ∷ [];
+  deeds = does 3 (λ o. marked 3 idle (marked 2 (markWith 1 handling) (marked 4 active o))) (raised 3 17 ∷ faulted (inner 2) 16 ∷ began 4 ∷ []) None 0 ∷ [];
+}
+
+-- the same, with a raise of that number told
+unfoldable otherRaise : Engine
+otherRaise = record {
+  bytes = named;
+  calls = first ∷ next ∷ [];
+  deeds = does 3 (λ o. marked 3 idle (marked 2 (markWith 1 handling) (marked 4 active o))) (raised 3 16 ∷ faulted (inner 2) 16 ∷ began 4 ∷ []) None 0 ∷ [];
+}
+
+-- a part by number runs though the scope faulted with another, for which it has none
+unfoldable nearestNumber : Engine
+nearestNumber = record {
+  bytes = unnamed;
+  calls = first ∷ next ∷ [];
+  deeds = does 3 (λ o. marked 3 idle (marked 2 (markWith 2 handling) (marked 5 active o))) (raised 3 18 ∷ faulted (inner 2) 18 ∷ began 5 ∷ []) None 0 ∷ [];
+}
+
+-- two of them run, one by number and then the general one
+unfoldable bothParts : Engine
+bothParts = record {
+  bytes = named;
+  calls = first ∷ next ∷ next ∷ [];
+  deeds = does 5 (λ o. marked 5 idle (marked 6 active o)) (began 6 ∷ []) None 0 ∷ [];
+}
+
+-- the general part runs, and beside it another fault is kept than it was
+unfoldable misremembers : Engine
+misremembers = record {
+  bytes = unnamed;
+  calls = first ∷ next ∷ [];
+  deeds = does 3 (λ o. marked 3 idle (marked 2 (faultedBy 1 handling) (marked 6 active o))) (raised 3 18 ∷ faulted (inner 2) 18 ∷ began 6 ∷ []) None 0 ∷ [];
+}
+
+-- the choice is lost while the scope undoes
+unfoldable forgetsChoice : Engine
+forgetsChoice = record {
+  bytes = namedAfter;
+  calls = first ∷ next ∷ next ∷ [];
+  deeds = does 8 (λ o. remembering [] (marked 3 idle (marked 8 idle (marked 2 undoing (marked 7 active o))))) (raised 8 17 ∷ faulted (inner 2) 17 ∷ began 7 ∷ []) None 0 ∷ [];
+}
+
+-- it is lost meanwhile, with the step of another slot
+unfoldable losesChoice : Engine
+losesChoice = record {
+  bytes = namedAfter;
+  calls = first ∷ next ∷ next ∷ next ∷ [];
+  deeds = silently (λ o. marked 2 (faultedBy 17 undoing) o) ∷ [];
+}
+
+-- the number of the raise is lost on its way out of a part: the scope around faults with that of a plain raise
+unfoldable plainOut : Engine
+plainOut = record {
+  bytes = outOfPart;
+  calls = first ∷ next ∷ next ∷ [];
+  deeds = does 5 (λ o. marked 5 idle (marked 3 idle (marked 2 (faultedBy 0 handling) (marked 10 active o)))) (raised 5 16 ∷ ended (inner 3) ∷ faulted (inner 2) 0 ∷ began 10 ∷ []) None 0 ∷ [];
+}
+
+-- it faults with the number that the inner scope faulted with
+unfoldable firstOut : Engine
+firstOut = record {
+  bytes = outOfPart;
+  calls = first ∷ next ∷ next ∷ [];
+  deeds = does 5 (λ o. marked 5 idle (marked 3 idle (marked 2 (markWith 2 handling) (marked 9 active o)))) (raised 5 16 ∷ ended (inner 3) ∷ faulted (inner 2) 17 ∷ began 9 ∷ []) None 0 ∷ [];
+}
+
+-- the number is told, and the part for that of the inner scope runs
+unfoldable firstPart : Engine
+firstPart = record {
+  bytes = outOfPart;
+  calls = first ∷ next ∷ next ∷ [];
+  deeds = does 5 (λ o. marked 5 idle (marked 3 idle (marked 2 (markWith 2 handling) (marked 9 active o)))) (raised 5 16 ∷ ended (inner 3) ∷ faulted (inner 2) 16 ∷ began 9 ∷ []) None 0 ∷ [];
+}
+
+-- the choice of the first time decides the second time
+unfoldable choosesOnce : Engine
+choosesOnce = record {
+  bytes = inTurns;
+  calls = first ∷ next ∷ next ∷ next ∷ next ∷ next ∷ next ∷ next ∷ next ∷ next ∷ [];
+  deeds = does 8 (λ o. marked 8 idle (marked 6 idle (marked 5 (markWith 1 handling) (marked 9 active o)))) (raised 8 17 ∷ faulted (inner 5) 17 ∷ began 9 ∷ []) None 0 ∷ [];
+}
+
+-- a scope that is over keeps its choice
+unfoldable keepsChoice : Engine
+keepsChoice = record {
+  bytes = inTurns;
+  calls = first ∷ next ∷ next ∷ next ∷ next ∷ next ∷ [];
+  deeds = does 9 (λ o. marked 9 idle (marked 5 (markWith 1 idle) (marked 13 active o))) (ended (inner 5) ∷ began 13 ∷ []) None 0 ∷ [];
+}
+
+-- it begins again with the choice of the first time
+unfoldable beginsChosen : Engine
+beginsChosen = record {
+  bytes = inTurns;
+  calls = first ∷ next ∷ next ∷ next ∷ next ∷ next ∷ next ∷ next ∷ [];
+  deeds = does 3 (λ o. marked 3 inside (marked 4 active (marked 5 (markWith 1 active) (marked 6 active o)))) (began 4 ∷ began 5 ∷ began 6 ∷ []) None 0 ∷ [];
 }
 
 -- the right course of each plan, as far as its engines go
@@ -860,10 +1028,15 @@ right =
     ∷ (started ∷ began 0 ∷ began 1 ∷ began 2 ∷ began 3 ∷ began 4 ∷ began 5 ∷ began 6 ∷ began 7 ∷ began 8 ∷ closed 7 ∷ began 13 ∷ began 15 ∷ closed 5 ∷ began 17 ∷ began 4 ∷ began 5 ∷ began 6 ∷ began 7 ∷ began 8 ∷ closed 7 ∷ began 13 ∷ began 14 ∷ raised 14 0 ∷ faulted (inner 5) 0 ∷ began 10 ∷ began 11 ∷ began 12 ∷ raised 11 0 ∷ ended (inner 5) ∷ faulted root 0 ∷ began 10 ∷ began 11 ∷ began 12 ∷ [])
     ∷ (started ∷ began 0 ∷ began 1 ∷ began 2 ∷ began 3 ∷ began 4 ∷ began 6 ∷ raised 4 0 ∷ faulted (inner 3) 0 ∷ began 5 ∷ raised 6 1 ∷ faulted root 1 ∷ raised 5 3 ∷ ended (inner 3) ∷ began 7 ∷ ended root ∷ [])
     ∷ (started ∷ began 0 ∷ began 1 ∷ began 2 ∷ began 3 ∷ raised 3 0 ∷ faulted (inner 2) 0 ∷ began 4 ∷ raised 4 1 ∷ ended (inner 2) ∷ faulted root 1 ∷ began 5 ∷ ended root ∷ [])
+    ∷ (started ∷ began 0 ∷ began 1 ∷ began 2 ∷ began 3 ∷ raised 3 17 ∷ faulted (inner 2) 17 ∷ began 5 ∷ ended (inner 2) ∷ ended root ∷ [])
+    ∷ (started ∷ began 0 ∷ began 1 ∷ began 2 ∷ began 3 ∷ raised 3 18 ∷ faulted (inner 2) 18 ∷ began 6 ∷ ended (inner 2) ∷ ended root ∷ [])
+    ∷ (started ∷ began 0 ∷ began 1 ∷ began 2 ∷ began 3 ∷ began 4 ∷ began 5 ∷ closed 4 ∷ began 8 ∷ raised 8 17 ∷ faulted (inner 2) 17 ∷ began 7 ∷ began 10 ∷ ended (inner 2) ∷ ended root ∷ [])
+    ∷ (started ∷ began 0 ∷ began 1 ∷ began 2 ∷ began 3 ∷ began 4 ∷ raised 4 17 ∷ faulted (inner 3) 17 ∷ began 5 ∷ raised 5 16 ∷ ended (inner 3) ∷ faulted (inner 2) 16 ∷ began 8 ∷ ended (inner 2) ∷ ended root ∷ [])
+    ∷ (started ∷ began 0 ∷ began 1 ∷ began 2 ∷ began 3 ∷ began 4 ∷ began 5 ∷ began 6 ∷ began 7 ∷ raised 7 16 ∷ faulted (inner 5) 16 ∷ began 9 ∷ ended (inner 5) ∷ began 13 ∷ began 4 ∷ began 5 ∷ began 6 ∷ began 8 ∷ raised 8 17 ∷ faulted (inner 5) 17 ∷ began 10 ∷ ended (inner 5) ∷ began 13 ∷ ended root ∷ [])
     ∷ []
 
-logged : history (first ∷ next ∷ next ∷ next ∷ next ∷ next ∷ next ∷ []) 0 (loaded planC) noTally ∷ history (first ∷ next ∷ next ∷ next ∷ next ∷ next ∷ next ∷ next ∷ next ∷ next ∷ next ∷ next ∷ next ∷ next ∷ next ∷ next ∷ next ∷ []) 0 (loaded three) noTally ∷ history (first ∷ next ∷ next ∷ stepping 1 ∷ next ∷ next ∷ next ∷ []) 0 (loaded innerHandler) noTally ∷ history (first ∷ next ∷ next ∷ next ∷ []) 0 (loaded handledScope) noTally ∷ history (first ∷ next ∷ next ∷ next ∷ next ∷ next ∷ next ∷ next ∷ next ∷ next ∷ next ∷ next ∷ next ∷ []) 0 (loaded closedOuter) noTally ∷ history (first ∷ next ∷ next ∷ next ∷ next ∷ []) 0 (loaded neverEntered) noTally ∷ history (first ∷ next ∷ next ∷ next ∷ next ∷ next ∷ []) 0 (loaded inSequence) noTally ∷ history (first ∷ next ∷ next ∷ next ∷ next ∷ next ∷ []) 0 (loaded inFlow) noTally ∷ history (first ∷ next ∷ next ∷ next ∷ next ∷ next ∷ next ∷ next ∷ next ∷ next ∷ next ∷ []) 0 (loaded beside) noTally ∷ history (first ∷ next ∷ next ∷ next ∷ next ∷ next ∷ next ∷ next ∷ next ∷ next ∷ next ∷ []) 0 (loaded hung) noTally ∷ history (first ∷ next ∷ []) 0 (loaded unstopped) noTally ∷ history (first ∷ next ∷ next ∷ next ∷ []) 0 (loaded unbegun) noTally ∷ history (first ∷ next ∷ next ∷ []) 0 (loaded waiting) noTally ∷ history (first ∷ next ∷ next ∷ next ∷ []) 0 (loaded nested) noTally ∷ history (first ∷ next ∷ next ∷ next ∷ next ∷ []) 0 (loaded raisingUndo) noTally ∷ history (first ∷ next ∷ next ∷ []) 0 (loaded oneSend) noTally ∷ history (first ∷ next ∷ []) 0 (loaded lone) noTally ∷ history (first ∷ next ∷ next ∷ next ∷ next ∷ next ∷ next ∷ next ∷ next ∷ next ∷ next ∷ []) 0 (loaded twice) noTally ∷ history (first ∷ next ∷ []) 0 (loaded startFlow) noTally ∷ history (first ∷ next ∷ next ∷ next ∷ next ∷ next ∷ next ∷ next ∷ []) 0 (loaded handedOn) noTally ∷ history (first ∷ next ∷ next ∷ stepping 1 ∷ next ∷ next ∷ next ∷ next ∷ []) 0 (loaded datedOuter) noTally ∷ history (first ∷ next ∷ next ∷ next ∷ next ∷ next ∷ []) 0 (loaded faultedOpen) noTally ∷ history (first ∷ next ∷ next ∷ next ∷ next ∷ next ∷ next ∷ next ∷ next ∷ next ∷ next ∷ next ∷ next ∷ next ∷ next ∷ []) 0 (loaded handedOnce) noTally ∷ history (first ∷ next ∷ next ∷ next ∷ next ∷ next ∷ next ∷ next ∷ next ∷ next ∷ next ∷ next ∷ next ∷ []) 0 (loaded anew) noTally ∷ history (first ∷ next ∷ next ∷ stepping 1 ∷ next ∷ next ∷ []) 0 (loaded absorbed) noTally ∷ history (first ∷ next ∷ next ∷ next ∷ next ∷ []) 0 (loaded passedOut) noTally ∷ [] ≡ right
-unfolding right planC three innerHandler handledScope closedOuter neverEntered inSequence inFlow beside hung unstopped unbegun waiting nested raisingUndo oneSend lone twice startFlow handedOn datedOuter faultedOpen handedOnce anew absorbed passedOut computing judging
+logged : history (first ∷ next ∷ next ∷ next ∷ next ∷ next ∷ next ∷ []) 0 (loaded planC) noTally ∷ history (first ∷ next ∷ next ∷ next ∷ next ∷ next ∷ next ∷ next ∷ next ∷ next ∷ next ∷ next ∷ next ∷ next ∷ next ∷ next ∷ next ∷ []) 0 (loaded three) noTally ∷ history (first ∷ next ∷ next ∷ stepping 1 ∷ next ∷ next ∷ next ∷ []) 0 (loaded innerHandler) noTally ∷ history (first ∷ next ∷ next ∷ next ∷ []) 0 (loaded handledScope) noTally ∷ history (first ∷ next ∷ next ∷ next ∷ next ∷ next ∷ next ∷ next ∷ next ∷ next ∷ next ∷ next ∷ next ∷ []) 0 (loaded closedOuter) noTally ∷ history (first ∷ next ∷ next ∷ next ∷ next ∷ []) 0 (loaded neverEntered) noTally ∷ history (first ∷ next ∷ next ∷ next ∷ next ∷ next ∷ []) 0 (loaded inSequence) noTally ∷ history (first ∷ next ∷ next ∷ next ∷ next ∷ next ∷ []) 0 (loaded inFlow) noTally ∷ history (first ∷ next ∷ next ∷ next ∷ next ∷ next ∷ next ∷ next ∷ next ∷ next ∷ next ∷ []) 0 (loaded beside) noTally ∷ history (first ∷ next ∷ next ∷ next ∷ next ∷ next ∷ next ∷ next ∷ next ∷ next ∷ next ∷ []) 0 (loaded hung) noTally ∷ history (first ∷ next ∷ []) 0 (loaded unstopped) noTally ∷ history (first ∷ next ∷ next ∷ next ∷ []) 0 (loaded unbegun) noTally ∷ history (first ∷ next ∷ next ∷ []) 0 (loaded waiting) noTally ∷ history (first ∷ next ∷ next ∷ next ∷ []) 0 (loaded nested) noTally ∷ history (first ∷ next ∷ next ∷ next ∷ next ∷ []) 0 (loaded raisingUndo) noTally ∷ history (first ∷ next ∷ next ∷ []) 0 (loaded oneSend) noTally ∷ history (first ∷ next ∷ []) 0 (loaded lone) noTally ∷ history (first ∷ next ∷ next ∷ next ∷ next ∷ next ∷ next ∷ next ∷ next ∷ next ∷ next ∷ []) 0 (loaded twice) noTally ∷ history (first ∷ next ∷ []) 0 (loaded startFlow) noTally ∷ history (first ∷ next ∷ next ∷ next ∷ next ∷ next ∷ next ∷ next ∷ []) 0 (loaded handedOn) noTally ∷ history (first ∷ next ∷ next ∷ stepping 1 ∷ next ∷ next ∷ next ∷ next ∷ []) 0 (loaded datedOuter) noTally ∷ history (first ∷ next ∷ next ∷ next ∷ next ∷ next ∷ []) 0 (loaded faultedOpen) noTally ∷ history (first ∷ next ∷ next ∷ next ∷ next ∷ next ∷ next ∷ next ∷ next ∷ next ∷ next ∷ next ∷ next ∷ next ∷ next ∷ []) 0 (loaded handedOnce) noTally ∷ history (first ∷ next ∷ next ∷ next ∷ next ∷ next ∷ next ∷ next ∷ next ∷ next ∷ next ∷ next ∷ next ∷ []) 0 (loaded anew) noTally ∷ history (first ∷ next ∷ next ∷ stepping 1 ∷ next ∷ next ∷ []) 0 (loaded absorbed) noTally ∷ history (first ∷ next ∷ next ∷ next ∷ next ∷ []) 0 (loaded passedOut) noTally ∷ history (first ∷ next ∷ next ∷ next ∷ []) 0 (loaded named) noTally ∷ history (first ∷ next ∷ next ∷ next ∷ []) 0 (loaded unnamed) noTally ∷ history (first ∷ next ∷ next ∷ next ∷ next ∷ next ∷ []) 0 (loaded namedAfter) noTally ∷ history (first ∷ next ∷ next ∷ next ∷ next ∷ []) 0 (loaded outOfPart) noTally ∷ history (first ∷ next ∷ next ∷ next ∷ next ∷ next ∷ next ∷ next ∷ next ∷ next ∷ next ∷ next ∷ next ∷ next ∷ []) 0 (loaded inTurns) noTally ∷ [] ≡ right
+unfolding right planC three innerHandler handledScope closedOuter neverEntered inSequence inFlow beside hung unstopped unbegun waiting nested raisingUndo oneSend lone twice startFlow handedOn datedOuter faultedOpen handedOnce anew absorbed passedOut named unnamed namedAfter outOfPart inTurns computing judging
 logged = refl
 
 engines : List Engine
@@ -963,9 +1136,35 @@ refusedHanders = refl
 misnamers : List Engine
 misnamers = namesLast ∷ losesNumber ∷ keepsAbsorbed ∷ []
 
-refusedMisnamers : map verdict misnamers ≡ (causes ∷ []) ∷ (faults ∷ []) ∷ (kept ∷ []) ∷ []
+refusedMisnamers : map verdict misnamers ≡ (causes ∷ []) ∷ (faults ∷ []) ∷ (choices ∷ []) ∷ []
 unfolding misnamers absorbed passedOut namesLast losesNumber keepsAbsorbed first-of judge verdict computing judging weighing
 refusedMisnamers = refl
+
+-- the engines of fault parts by number, and what each breaks
+choosers : List Engine
+choosers = generalAlways ∷ generalRuns ∷ generalUntold ∷ otherNumber ∷ otherTold ∷ otherRaise ∷ nearestNumber ∷ bothParts ∷ misremembers ∷ forgetsChoice ∷ losesChoice ∷ plainOut ∷ firstOut ∷ firstPart ∷ choosesOnce ∷ keepsChoice ∷ beginsChosen ∷ []
+
+refusedChoosers : map verdict choosers
+    ≡ (orderly ∷ choices ∷ [])
+    ∷ (orderly ∷ goingOn ∷ standing ∷ [])
+    ∷ (begunTruly ∷ begunAll ∷ goingOn ∷ standing ∷ [])
+    ∷ (orderly ∷ choices ∷ [])
+    ∷ (faults ∷ [])
+    ∷ (steps ∷ [])
+    ∷ (orderly ∷ choices ∷ [])
+    ∷ (orderly ∷ goingOn ∷ standing ∷ [])
+    ∷ (choices ∷ [])
+    ∷ (choices ∷ [])
+    ∷ (ownSteps ∷ choices ∷ [])
+    ∷ (faults ∷ [])
+    ∷ (faults ∷ [])
+    ∷ (orderly ∷ choices ∷ [])
+    ∷ (orderly ∷ choices ∷ [])
+    ∷ (marks ∷ choices ∷ toCome ∷ standing ∷ [])
+    ∷ (marks ∷ choices ∷ places ∷ standing ∷ [])
+    ∷ []
+unfolding choosers named unnamed namedAfter outOfPart inTurns generalAlways generalRuns generalUntold otherNumber otherTold otherRaise nearestNumber bothParts misremembers forgetsChoice losesChoice plainOut firstOut firstPart choosesOnce keepsChoice beginsChosen first-of judge verdict computing judging weighing
+refusedChoosers = refl
 
 -- with the numbers that the right engine answers in these runs, that of the fault that the root handled
 answeredNumbers : causesTaken (first ∷ next ∷ next ∷ stepping 1 ∷ next ∷ next ∷ []) 0 (loaded absorbed) noTally ∷ causesTaken (first ∷ next ∷ next ∷ next ∷ next ∷ []) 0 (loaded passedOut) noTally ∷ [] ≡ (1 ∷ []) ∷ (1 ∷ []) ∷ []

@@ -7,7 +7,7 @@ use mathlib.Core.List.{List, [], _∷_, _++_, append-nil}
 use lib.ListN.{length, getD}
 use lib.Dec.{eqb, ltb}
 use borrow.Author.Tests.{eqb-true, eq-eqb, ne-eqb, lt-ltb, le-ltb, ltb-true, ltb-false}
-use Rattle.plan.specs.Tree.{Own, empty, send, receive, set as setting, raise, leave, choose, repeat, sequence, flow, pick, arm, kind, Act, act, Acts, none, more, Plan, size, sizes, scope, isScope}
+use Rattle.plan.specs.Tree.{Own, empty, send, receive, set as setting, raise, leave, choose, repeat, sequence, flow, pick, arm, kind, Act, act, Acts, none, more, Plan, size, sizes, scope, isScope, numbersOf, generalPart, undoPart}
 use Rattle.order.specs.declared.Order.{Order}
 use Rattle.order.specs.declared.End.the-variants.{None}
 use Rattle.order.specs.Lists.{some, only, withoutLast}
@@ -25,10 +25,12 @@ use Rattle.undoing.proofs.Parts.{decide, neither, some-append}
 use Rattle.undoing.proofs.Accounts.{Phase, phase, Known}
 use Rattle.undoing.proofs.Moves.{Spot, runnerAt}
 use Rattle.undoing.proofs.Marks.{trio, spread, Quiet, Run, Undoing, undoing-part, undoing-scope, undoing-through, UndoingIn, undoing-here, undoing-later, quiet-part, quiet-agree, agree-below, agree-above}
-use Rattle.undoing.proofs.Orders.{listOf, Does, Fit, Sits, sits-part, sits-scope, SitsIn, sits-none, sits-more, Remedy, remedy, remedy-bare, Rest, rest-undo, rest-none}
+use Rattle.undoing.proofs.Orders.{listOf, Does, Fit, Sits, sits-part, sits-scope, SitsIn, sits-none, sits-more, Remedy, remedy, remedy-bare, Healers}
+use Rattle.undoing.proofs.Remedies.{part-from, part-to, nth-there, nth-run, undoer}
+use Rattle.undoing.proofs.Healing.{healers-none, undo-there, undo-all}
 use Rattle.undoing.proofs.Seats.{Seat, mark-kept, reaches, reachesIn, reaches-is, reaches-range, reaches-range-in, removed-list}
 use Rattle.undoing.proofs.Undo.{undo-is, undo-in-is, unreached, begins-undo, begins-undo-in, awake-kept, last-does, last-begins}
-use Rattle.undoing.proofs.Waiting.{opens, Waits, waits-itself, waits-within, WaitsIn, waits-first, waits-later, opens-idle, quiet-waits, quiet-waits-in, undoing-waits}
+use Rattle.undoing.proofs.Waiting.{opens, Waits, waits-itself, waits-within, WaitsIn, waits-first, waits-later, opens-idle, quiet-waits, quiet-waits-in, nth-waits, undoing-waits}
 use Rattle.undoing.proofs.Scoping.{Acted, RunAs, UndoAs}
 use Rattle.undoing.proofs.Combining.{arms-none, Idly, idly-same, idly-runs, combines-idly}
 use Rattle.undoing.proofs.Stepping.{PartOf, through-is, Whole, among-is, undo-step, undoing-part-not, steps-undoing, steps-undoing-in, steps-part, UndoInAs}
@@ -38,9 +40,9 @@ use Rattle.undoing.proofs.Owing.{not-scope, closings-step, directly, di
 
 -- the definition, by whether an activity is the scope
 back-is : (own : Own) (within : Acts) (k e : ℕ) (b : Bool) → (isScope own && eqb k e) ≡ b
-    → backIn (act own within) k e ≡ elim b [ true ↦ surely (part 2 within) (partAt 2 within (k + 1)) | false ↦ backAmong within (k + 1) e ]
+    → backIn (act own within) k e ≡ elim b [ true ↦ surely (part (undoPart (numbersOf own)) within) (partAt (undoPart (numbersOf own)) within (k + 1)) | false ↦ backAmong within (k + 1) e ]
 unfolding backIn
-back-is own within k e b t = subst (λ (z : Bool). backIn (act own within) k e ≡ elim z [ true ↦ surely (part 2 within) (partAt 2 within (k + 1)) | false ↦ backAmong within (k + 1) e ]) t refl
+back-is own within k e b t = subst (λ (z : Bool). backIn (act own within) k e ≡ elim z [ true ↦ surely (part (undoPart (numbersOf own)) within) (partAt (undoPart (numbersOf own)) within (k + 1)) | false ↦ backAmong within (k + 1) e ]) t refl
 
 back-in-is : (a : Act) (l : Acts) (c e : ℕ) (b : Bool) → ltb e (c + size a) ≡ b → backAmong (more a l) c e ≡ elim b [ true ↦ backIn a c e | false ↦ backAmong l (c + size a) e ]
 unfolding backIn
@@ -50,14 +52,16 @@ back-in-is a l c e b t = subst (λ (z : Bool). backAmong (more a l) c e ≡ elim
 pub back-part : (own : Own) (within : Acts) (k e : ℕ) → isScope own ≡ false → backIn (act own within) k e ≡ backAmong within (k + 1) e
 back-part own within k e s = back-is own within k e false (rw s)
 
-pub back-scope : (b f u : Act) (k e : ℕ) → eqb k e ≡ true → backIn (act (scope true) (trio b f (more u none))) k e ≡ surely u (k + 1 + size b + size f)
+pub back-scope : (xs : List ℕ) (v : Bool) (b : Act) (l : Acts) (k e : ℕ) → eqb k e ≡ true
+    → backIn (act (scope xs v) (more b l)) k e ≡ surely (part (generalPart xs) l) (partAt (generalPart xs) l (k + 1 + size b))
 unfolding part partAt
-back-scope b f u k e t = back-is (scope true) (trio b f (more u none)) k e true t
+back-scope xs v b l k e t = back-is (scope xs v) (more b l) k e true t
 
 -- one with no undo part has none
-pub back-without : (b f : Act) (k e : ℕ) → eqb k e ≡ true → backIn (act (scope false) (trio b f none)) k e ≡ []
-unfolding part partAt surely isSure hasAll
-back-without b f k e t = back-is (scope false) (trio b f none) k e true t
+pub back-without : {p : Plan} {s : Name} {xs : List ℕ} {q w : Place} {l : Acts} {c : ℕ} → Healers p s xs false q w l c → (b : Act) (k e : ℕ) → eqb k e ≡ true
+    → backIn (act (scope xs false) (more b l)) k e ≡ []
+unfolding surely isSure hasAll
+back-without {xs = xs} {l = l} h b k e t = back-scope xs false b l k e t ∙ ap (λ (a : Act). surely a (partAt (generalPart xs) l (k + 1 + size b))) (healers-none h)
 
 -- an account of what began by other words
 comes-so : {left left′ : List ℕ → List ℕ} {sure sure′ : List ℕ} {r : Begun} → Comes left sure r → sure′ ≡ sure → left′ (r .marks) ≡ left (r .marks) → Comes left′ sure′ r
@@ -81,9 +85,10 @@ unfolding directly
 later-directly a l c e d t = rw t at d
 
 -- the undo part of a scope that has one
-third : (b f u : Act) (k e : ℕ) (ms : List ℕ) → eqb k e ≡ true → beginUndo (act (scope true) (trio b f (more u none))) k e ms ≡ begin u (k + 1 + size b + size f) ms
+last-begun : (xs : List ℕ) (b : Act) (l : Acts) (k e : ℕ) (ms : List ℕ) → eqb k e ≡ true
+    → beginUndo (act (scope xs true) (more b l)) k e ms ≡ begin (part (generalPart xs) l) (partAt (generalPart xs) l (k + 1 + size b)) ms
 unfolding beginUndo beginPart part partAt
-third b f u k e ms t = rw t
+last-begun xs b l k e ms t = rw t
 
 -- What is due for scope e where it stands directly in an activity or in a list; for one that was handed on nothing is in the book.
 abbrev pub dueIn : Act → (k e : ℕ) → List ℕ
@@ -116,10 +121,11 @@ due-later a l c e h = rw (out-directly a c e h, back-in-is a l c e false (le-ltb
 
 module _ (p : Plan) where
   -- The undo part of a scope that is reached in an activity begins: what is due for it is to come, and nothing where it was handed on.
-  through-comes : {x : Place} {u : Acts} {c : ℕ} → Rest p false x u c → (b f : Act) (k e : ℕ) → k < e → (r : Begun) → Comes (undoLeftIn (act (scope false) (trio b f u)) k) (dueIn (act (scope false) (trio b f u)) k e) r
-  through-comes rest-none b f k e h r =
-      let z : dueIn (act (scope false) (trio b f none)) k e ≡ [] = rw (directly-is (scope false) (trio b f none) k e true refl, ne-eqb k e (omega arith)) in
-      record { over = λ y. z; runs = λ y. undo-left-none b f k (r .marks) ∙ sym z }
+  through-comes : {s : Name} {xs : List ℕ} {x w : Place} {l : Acts} {c : ℕ} → Healers p s xs false x w l c → (b : Act) (k e : ℕ) → k < e → (r : Begun)
+      → Comes (undoLeftIn (act (scope xs false) (more b l)) k) (dueIn (act (scope xs false) (more b l)) k e) r
+  through-comes {xs = xs} {l = l} z b k e h r =
+      let d : dueIn (act (scope xs false) (more b l)) k e ≡ [] = rw (directly-is (scope xs false) (more b l) k e true refl, ne-eqb k e (omega arith)) in
+      record { over = λ y. d; runs = λ y. undo-left-none z b k (r .marks) ∙ sym d }
 
   mutual
     unfolding size reaches
@@ -132,13 +138,13 @@ module _ (p : Plan) where
     undo-comes (sits-part {q = x} {own} {within} {k} s g v y l) e d m o₀ o f q h r i =
         subst (Comes (undoLeftIn (act own within) k) (dueIn (act own within) k e)) (sym (undo-is own within k e (o .marks) s))
         (comes-so (undo-comes-in l e (sym (reaches-is own within k e s) ∙ d) m o₀ o f (quiet-part q (omega arith) (omega arith)) (omega arith) r i) (due-part own within k e s) (undo-left-is own within k _ s))
-    undo-comes (sits-scope {v = true} {b = b} {f = f′} {k = k} kn v w sb z sf (rest-undo {u = u} su)) e d m o₀ o f q h r i =
+    undo-comes (sits-scope {xs = xs} {v = true} {b = b} {f = f′} {u = u} {k = k} kn v w sb z) e d m o₀ o f q h r i =
         let t : eqb k e ≡ true = d in
-        subst (Comes (undoLeftIn (act (scope true) (trio b f′ (more u none))) k) (dueIn (act (scope true) (trio b f′ (more u none))) k e)) (sym (third b f′ u k e (o .marks) t))
-        (comes-so (remedy-comes p su o (quiet-part q (omega arith) (omega arith)) (omega arith) i)
-        (rw (directly-is (scope true) (trio b f′ (more u none)) k e true refl, t, back-scope b f′ u k e t)) (undo-left-scope b f′ u k _))
-    undo-comes (sits-scope {v = false} {b = b} {f = f′} {u = u} {k = k} kn v w sb z sf su) e d m o₀ o f q h r i =
-        let y = reaches-range b (k + 1) e d in through-comes su b f′ k e (omega arith) _
+        subst (Comes (undoLeftIn (act (scope xs true) (trio b f′ u)) k) (dueIn (act (scope xs true) (trio b f′ u)) k e)) (sym (last-begun xs b (more f′ u) k e (o .marks) t))
+        (comes-so (remedy-comes p (undoer z) o (undo-all z refl (quiet-part q (omega arith) (omega arith))) (omega (arith, part-to (generalPart xs) (more f′ u) (k + 1 + size b) (undo-there z refl))) i)
+        (rw (directly-is (scope xs true) (trio b f′ u) k e true refl, t, back-scope xs true b (more f′ u) k e t)) (undo-left-scope xs true b (more f′ u) k _))
+    undo-comes (sits-scope {v = false} {b = b} {k = k} kn v w sb z) e d m o₀ o f q h r i =
+        let y = reaches-range b (k + 1) e d in through-comes z b k e (omega arith) _
 
     pub undo-comes-in : {x : Place} {l : Acts} {c : ℕ} → SitsIn p x l c → (e : ℕ) → reachesIn l c e ≡ true → (m : Name) (o₀ o : Order)
         → ((y : Inner) (c : Name) → y .undoes ≡ true → Known p y → Spot p (undoOf (y .around) (y .beyond) c) (y .undo) → y .number ≡ e
@@ -166,9 +172,9 @@ mutual
 
   unreached-due : {p : Plan} {x : Place} {a : Act} {k : ℕ} → Sits p x a k → (e : ℕ) → reaches a k e ≡ false → dueIn a k e ≡ []
   unreached-due (sits-part {own = own} {within} {k} s g v y l) e d = due-part own within k e s ∙ unreached-dues l e (sym (reaches-is own within k e s) ∙ d)
-  unreached-due (sits-scope {v = true} {b = b} {f = f} {u = u} {k = k} kn v i sb z sf su) e d = rw (directly-is (scope true) (trio b f u) k e true refl, d)
-  unreached-due (sits-scope {v = false} {b = b} {f = f} {k = k} kn v i sb z sf rest-none) e d =
-      decide (eqb k e) (λ t. rw (directly-is (scope false) (trio b f none) k e true refl, t, back-without b f k e t)) (λ t. rw (directly-is (scope false) (trio b f none) k e true refl, t))
+  unreached-due (sits-scope {xs = xs} {v = true} {b = b} {f = f} {u = u} {k = k} kn v i sb z) e d = rw (directly-is (scope xs true) (trio b f u) k e true refl, d)
+  unreached-due (sits-scope {xs = xs} {v = false} {b = b} {f = f} {u = u} {k = k} kn v i sb z) e d =
+      decide (eqb k e) (λ t. rw (directly-is (scope xs false) (trio b f u) k e true refl, t, back-without z b k e t)) (λ t. rw (directly-is (scope xs false) (trio b f u) k e true refl, t))
 
   unreached-dues : {p : Plan} {x : Place} {l : Acts} {c : ℕ} → SitsIn p x l c → (e : ℕ) → reachesIn l c e ≡ false → dueAmong l c e ≡ []
   unreached-dues (sits-none {c = c}) e d = none-due c e
@@ -261,46 +267,39 @@ nothing-repays left t ms ns (undoRaising x) f = tt
 
 -- A step in a body of which an undo part runs.
 module _ (p : Plan) where
-  scope-repays : {x : Place} {c : Bool} (b f u : Act) (q₀ k t : ℕ) (o : Order) → Remedy p x u (k + 1 + size b + size f) → PartOf x (k + 1 + size b + size f)
-      → Waits (o .marks) (act (scope true) (trio b f (more u none))) k t c → c ≡ false → getD (o .marks) k 0 ≡ idle → Quiet (o .marks) (k + 1) (size b + size f) → Run (o .marks) u (k + 1 + size b + size f)
-      → Fit x o → k + spread b f (more u none) ≤ length (o .marks)
-      → Repays (undoLeftIn (act (scope true) (trio b f (more u none))) k) t o (stepIn itsOwn (act (scope true) (trio b f (more u none))) q₀ k t o)
-  unfolding Whole size
-  scope-repays b f u q₀ k t o su y₁ (waits-itself e d) c x q r v m = absurd (no-less (undoing-waits (undoing-scope {b = b} {f = f} {u = u} x q r) (waits-itself e d) c) e)
-  scope-repays b f u q₀ k t o su y₁ (waits-within e (waits-first d w)) c x q r v m = absurd (quiet-waits w refl (quiet-part q (omega arith) (omega arith)))
-  scope-repays b f u q₀ k t o su y₁ (waits-within e (waits-later d (waits-first y w))) c x q r v m = absurd (quiet-waits w refl (quiet-part q (omega arith) (omega arith)))
-  scope-repays b f u q₀ k t o su y₁ (waits-within e (waits-later d (waits-later y (waits-first z w)))) c x q r v m =
-      let n = k + 1 + size b + size f in
-      subst (Repays (undoLeftIn (act (scope true) (trio b f (more u none))) k) t o) (sym (undo-step p itsOwn b f u q₀ k t o y z))
-      (repays-so (repays-up (leftIn u n) t o (stepIn itsOwn u n n t o) (closings-step u n n t o (remedy-bare su))
-      (not-undone p u n t o _ _ (stepIn itsOwn u n n t o .result) (steps-part p itsOwn su n t o _ y₁ w refl r v (omega arith) .comes))
-      (remedy-less p su n t o _ y₁ w refl r v (omega arith)))
-      (undo-left-scope b f u k (o .marks)) (undo-left-scope b f u k _))
+  scope-repays : {x : Place} {c : Bool} (xs : List ℕ) (b f : Act) (u : Acts) (q₀ k t : ℕ) (o : Order)
+      → Remedy p x (part (undoPart xs) (trio b f u)) (partAt (undoPart xs) (trio b f u) (k + 1)) → PartOf x (partAt (undoPart xs) (trio b f u) (k + 1))
+      → Waits (o .marks) (act (scope xs true) (trio b f u)) k t c → c ≡ false → Undoing (o .marks) (act (scope xs true) (trio b f u)) k
+      → Fit x o → k + spread b f u ≤ length (o .marks)
+      → Repays (undoLeftIn (act (scope xs true) (trio b f u)) k) t o (stepIn itsOwn (act (scope xs true) (trio b f u)) q₀ k t o)
+  unfolding size part partAt
+  scope-repays xs b f u q₀ k t o su y₁ (waits-itself e d) c r v m = absurd (no-less (undoing-waits r (waits-itself e d) c) e)
+  scope-repays xs b f u q₀ k t o su y₁ (waits-within e w) c (undoing-part s _ _) v m = absurd (not-scope s)
+  scope-repays xs b f u q₀ k t o su y₁ (waits-within e w) c (undoing-scope x n r) v m =
+      let z = nth-waits r w refl in
+      let a = part (undoPart xs) (trio b f u) in
+      let n = partAt (undoPart xs) (trio b f u) (k + 1) in
+      let h = part-to (undoPart xs) (trio b f u) (k + 1) (nth-there r) in
+      subst (Repays (undoLeftIn (act (scope xs true) (trio b f u)) k) t o) (sym (undo-step p itsOwn xs b f u q₀ k t o (nth-there r) (z .0) (z .1)))
+      (repays-so (repays-up (leftIn a n) t o (stepIn itsOwn a n n t o) (closings-step a n n t o (remedy-bare su))
+      (not-undone p a n t o _ _ (stepIn itsOwn a n n t o .result) (steps-part p itsOwn su n t o _ y₁ (z .2) refl (nth-run r) v (omega arith) .comes))
+      (remedy-less p su n t o _ y₁ (z .2) refl (nth-run r) v (omega arith)))
+      (undo-left-scope xs true b (more f u) k (o .marks)) (undo-left-scope xs true b (more f u) k _))
 
-  -- by what stands after the fault part
-  rest-repays : {z : Bool} {x : Place} {l : Acts} {n : ℕ} → Rest p z x l n → {c : Bool} (b f u : Act) (q₀ k t : ℕ) (o : Order) → n ≡ k + 1 + size b + size f → l ≡ more u none → ((i : ℕ) → PartOf x i)
-      → Waits (o .marks) (act (scope true) (trio b f (more u none))) k t c → c ≡ false → getD (o .marks) k 0 ≡ idle → Quiet (o .marks) (k + 1) (size b + size f) → Run (o .marks) u (k + 1 + size b + size f)
-      → Fit x o → k + spread b f (more u none) ≤ length (o .marks)
-      → Repays (undoLeftIn (act (scope true) (trio b f (more u none))) k) t o (stepIn itsOwn (act (scope true) (trio b f (more u none))) q₀ k t o)
-  rest-repays (rest-undo {q = x} {u = a} {k = n} su) b f u q₀ k t o g h y₁ w c y q r v m =
-      let z : a ≡ u = cc in
-      scope-repays b f u q₀ k t o (subst (λ (j : ℕ). Remedy p x u j) g (subst (λ (j : Act). Remedy p x j n) z su)) (y₁ (k + 1 + size b + size f)) w c y q r v m
-  rest-repays rest-none b f u q₀ k t o g h y₁ w c y q r v m = absurd (let z : _≡_ {A = ℕ} 0 1 = cc in omega arith)
-
-  through-repays : {x : Place} {u : Acts} {n : ℕ} → Rest p false x u n → {c : Bool} (b f : Act) (q₀ k t : ℕ) (m₀ : Name) (o : Order)
-      → Waits (o .marks) (act (scope false) (trio b f u)) k t c → c ≡ false → getD (o .marks) k 0 ≡ idle → Undoing (o .marks) b (k + 1) → Quiet (o .marks) (k + 1 + size b) (size f + sizes u)
+  through-repays : {s : Name} {xs : List ℕ} {x w : Place} {f : Act} {u : Acts} {n : ℕ} → Healers p s xs false x w (more f u) n → {c : Bool} (b : Act) (q₀ k t : ℕ) (m₀ : Name) (o : Order)
+      → Waits (o .marks) (act (scope xs false) (trio b f u)) k t c → c ≡ false → getD (o .marks) k 0 ≡ idle → Undoing (o .marks) b (k + 1) → Quiet (o .marks) (k + 1 + size b) (size f + sizes u)
       → (Waits (o .marks) b (k + 1) t false → Acted (k + 1) (size b) o (UndoAs p m₀ b (k + 1) t o) (stepIn itsOwn b (k + 1) (k + 1) t o))
       → (Waits (o .marks) b (k + 1) t false → closings (stepIn itsOwn b (k + 1) (k + 1) t o .order) ≡ closings o)
-      → Repays (undoLeftIn (act (scope false) (trio b f u)) k) t o (stepIn itsOwn (act (scope false) (trio b f u)) q₀ k t o)
+      → Repays (undoLeftIn (act (scope xs false) (trio b f u)) k) t o (stepIn itsOwn (act (scope xs false) (trio b f u)) q₀ k t o)
   unfolding size
-  through-repays rest-none b f q₀ k t m₀ o (waits-itself e d) c x r q a g = absurd (no-less (undoing-waits (undoing-through {f = f} {u = none} x r q) (waits-itself e d) c) e)
-  through-repays rest-none b f q₀ k t m₀ o (waits-within e (waits-first d w)) c x r q a g =
-      subst (Repays (undoLeftIn (act (scope false) (trio b f none)) k) t o) (sym (through-is p itsOwn b f none q₀ k t m₀ o x e d (a w)))
-      (record { lists = g w; less = nothing-repays (undoLeftIn (act (scope false) (trio b f none)) k) t (o .marks) _ (stepIn itsOwn b (k + 1) (k + 1) t o .result) (λ ms. undo-left-none b f k ms) })
-  through-repays rest-none b f q₀ k t m₀ o (waits-within e (waits-later d w)) c x r q a g = absurd (quiet-waits-in w refl q)
+  through-repays {xs = xs} {f = f} {u} z b q₀ k t m₀ o (waits-itself e d) c x r q a g = absurd (no-less (undoing-waits (undoing-through {xs = xs} {f = f} {u = u} x r q) (waits-itself e d) c) e)
+  through-repays {xs = xs} {f = f} {u} z b q₀ k t m₀ o (waits-within e (waits-first d w)) c x r q a g =
+      subst (Repays (undoLeftIn (act (scope xs false) (trio b f u)) k) t o) (sym (through-is p itsOwn xs b f u q₀ k t m₀ o x e d (a w)))
+      (record { lists = g w; less = nothing-repays (undoLeftIn (act (scope xs false) (trio b f u)) k) t (o .marks) _ (stepIn itsOwn b (k + 1) (k + 1) t o .result) (λ ms. undo-left-none z b k ms) })
+  through-repays z b q₀ k t m₀ o (waits-within e (waits-later d w)) c x r q a g = absurd (quiet-waits-in w refl q)
 
   mutual
-    unfolding size
+    unfolding size part partAt
 
     pub undo-repays : {x : Place} {a : Act} {k : ℕ} → Sits p x a k → (q₀ t : ℕ) (o : Order) (b : Bool) → PartOf x q₀ → Waits (o .marks) a k t b → b ≡ false → Undoing (o .marks) a k
         → (m₀ : Name) → runnerAt (λ n. markOf n o) (nameOf x) (beyondOf x) ≡ m₀ → Fit (undoOf (nameOf x) (beyondOf x) (lastOf x)) o → k + size a ≤ length (o .marks) → Repays (undoLeftIn a k) t o (stepIn itsOwn a q₀ k t o)
@@ -315,12 +314,10 @@ module _ (p : Plan) where
         (repays-so (undo-repays-in l q₀ t o _ q₁ w i r m₀ y₂ v (omega arith)) (undo-left-is own within k (o .marks) s) (undo-left-is own within k (j .order .marks) s)))
     undo-repays (sits-part s g u y l) q₀ t o b q₁ (waits-within h w) e (undoing-scope _ _ _) m₀ y₂ v m = absurd (not-scope s)
     undo-repays (sits-part s g u y l) q₀ t o b q₁ (waits-within h w) e (undoing-through _ _ _) m₀ y₂ v m = absurd (not-scope s)
-    undo-repays (sits-scope {v = true} kn d i sb z sf su) q₀ t o c q₁ w e (undoing-part s _ _) m₀ y₂ v m = absurd (not-scope s)
-    undo-repays (sits-scope {v = true} {b = b} {f = f} {k = k} kn d i sb z sf su) q₀ t o c q₁ w e (undoing-scope {u = u} x q r) m₀ y₂ v m =
-        rest-repays su b f u q₀ k t o refl refl (λ _. tt) w e x q r v m
-    undo-repays (sits-scope {v = false} kn d i sb z sf su) q₀ t o c q₁ w e (undoing-part s _ _) m₀ y₂ v m = absurd (not-scope s)
-    undo-repays (sits-scope {v = false} {b = b} {f = f} {k = k} kn d i sb z sf su) q₀ t o c q₁ w e (undoing-through x r q) m₀ y₂ v m =
-        through-repays su b f q₀ k t m₀ o w e x r q (λ w₁. steps-undoing p itsOwn sb (k + 1) t o false refl w₁ refl r m₀ (rw x y₂) (rw x v) (omega arith))
+    undo-repays (sits-scope {xs = xs} {v = true} {b = b} {f = f} {u = u} {k = k} kn d i sb z) q₀ t o c q₁ w e r m₀ y₂ v m = scope-repays xs b f u q₀ k t o (undoer z) tt w e r v m
+    undo-repays (sits-scope {v = false} kn d i sb z) q₀ t o c q₁ w e (undoing-part s _ _) m₀ y₂ v m = absurd (not-scope s)
+    undo-repays (sits-scope {v = false} {b = b} {k = k} kn d i sb z) q₀ t o c q₁ w e (undoing-through x r q) m₀ y₂ v m =
+        through-repays z b q₀ k t m₀ o w e x r q (λ w₁. steps-undoing p itsOwn sb (k + 1) t o false refl w₁ refl r m₀ (rw x y₂) (rw x v) (omega arith))
         (λ w₁. undo-repays sb (k + 1) t o false refl w₁ refl r m₀ (rw x y₂) (rw x v) (omega arith) .lists)
 
     pub undo-repays-in : {x : Place} {l : Acts} {c : ℕ} → SitsIn p x l c → (q₀ t : ℕ) (o : Order) (b : Bool) → PartOf x q₀ → WaitsIn (o .marks) l c t b → b ≡ false → UndoingIn (o .marks) l c
@@ -349,8 +346,8 @@ back-first a l c e t = back-in-is a l c e true (lt-ltb e (c + size a) (directly-
 pub back-later : (a : Act) (l : Acts) (c e : ℕ) → directlyIn l (c + size a) e ≡ true → backAmong (more a l) c e ≡ backAmong l (c + size a) e
 back-later a l c e t = back-in-is a l c e false (le-ltb e (c + size a) (directly-range-in l (c + size a) e t .0))
 
-pub direct-scope : (z : Bool) (within : Acts) (k e : ℕ) → directly (act (scope z) within) k e ≡ true → eqb k e ≡ true
-direct-scope z within k e d = sym (directly-is (scope z) within k e true refl) ∙ d
+pub direct-scope : (xs : List ℕ) (z : Bool) (within : Acts) (k e : ℕ) → directly (act (scope xs z) within) k e ≡ true → eqb k e ≡ true
+direct-scope xs z within k e d = sym (directly-is (scope xs z) within k e true refl) ∙ d
 
 -- What takes a scope back is a step of its undo part: a number that is none of a tree's takes none of its scopes back.
 mutual
@@ -359,10 +356,12 @@ mutual
   pub back-none : (a : Act) (k e t : ℕ) {p : Plan} {x : Place} → Sits p x a k → directly a k e ≡ true → Off t k (size a) → some (eqb t) (backIn a k e) ≡ false
   back-none (act own within) k e t (sits-part s g v y l) d f =
       ap (some (eqb t)) (back-part own within k e s) ∙ back-none-in within (k + 1) e t l (sym (directly-is own within k e false s) ∙ d) (off-part f (omega arith) (omega arith))
-  back-none (act (scope true) (more b (more f (more u none)))) k e t (sits-scope kn v i sb z sf (rest-undo su)) d g =
-      ap (some (eqb t)) (back-scope b f u k e (direct-scope true (trio b f (more u none)) k e d)) ∙ surely-none u (k + 1 + size b + size f) t (off-part g (omega arith) (omega arith))
-  back-none (act (scope false) (more b (more f none))) k e t (sits-scope kn v i sb z sf rest-none) d g =
-      ap (some (eqb t)) (back-without b f k e (direct-scope false (trio b f none) k e d))
+  back-none (act (scope xs true) (more b (more f u))) k e t (sits-scope kn v i sb z) d g =
+      ap (some (eqb t)) (back-scope xs true b (more f u) k e (direct-scope xs true (trio b f u) k e d))
+      ∙ surely-none (part (generalPart xs) (more f u)) (partAt (generalPart xs) (more f u) (k + 1 + size b)) t
+      (off-part g (omega (arith, part-from (generalPart xs) (more f u) (k + 1 + size b))) (omega (arith, part-to (generalPart xs) (more f u) (k + 1 + size b) (undo-there z refl))))
+  back-none (act (scope xs false) (more b (more f u))) k e t (sits-scope kn v i sb z) d g =
+      ap (some (eqb t)) (back-without z b k e (direct-scope xs false (trio b f u) k e d))
 
   pub back-none-in : (l : Acts) (c e t : ℕ) {p : Plan} {x : Place} → SitsIn p x l c → directlyIn l c e ≡ true → Off t c (sizes l) → some (eqb t) (backAmong l c e) ≡ false
   back-none-in none c e t sits-none d f = absurd (none-directly c e d)
@@ -372,14 +371,15 @@ mutual
       (λ b. let z = later-directly a l c e d b in ap (some (eqb t)) (back-later a l c e z) ∙ back-none-in l (c + size a) e t y z (off-part f (omega arith) (omega arith)))
 
 -- A step that takes back, in a body of which an undo part runs, is still to come.
-scope-due : {ms : List ℕ} (b f u : Act) (k e t : ℕ) (c : Bool) → Waits ms (act (scope true) (trio b f (more u none))) k t c → c ≡ false → eqb k e ≡ true → getD ms k 0 ≡ idle
-    → Quiet ms (k + 1) (size b + size f) → Run ms u (k + 1 + size b + size f) → some (eqb t) (backIn (act (scope true) (trio b f (more u none))) k e) ≡ true
-    → some (eqb t) (undoLeftIn (act (scope true) (trio b f (more u none))) k ms) ≡ true
-scope-due b f u k e t c (waits-itself z g) n d x q r h = absurd (no-less (undoing-waits (undoing-scope {b = b} {f = f} {u = u} x q r) (waits-itself z g) n) z)
-scope-due b f u k e t c (waits-within z (waits-first g w)) n d x q r h = absurd (quiet-waits w refl (quiet-part q (omega arith) (omega arith)))
-scope-due b f u k e t c (waits-within z (waits-later g (waits-first y w))) n d x q r h = absurd (quiet-waits w refl (quiet-part q (omega arith) (omega arith)))
-scope-due {ms} b f u k e t c (waits-within z (waits-later g (waits-later y (waits-first j w)))) n d x q r h =
-    ap (some (eqb t)) (undo-left-scope b f u k ms) ∙ due-left u (k + 1 + size b + size f) t _ w refl r (ap (some (eqb t)) (sym (back-scope b f u k e d)) ∙ h)
+scope-due : {ms : List ℕ} (xs : List ℕ) (b f : Act) (u : Acts) (k e t : ℕ) (c : Bool) → Waits ms (act (scope xs true) (trio b f u)) k t c → c ≡ false → eqb k e ≡ true
+    → Undoing ms (act (scope xs true) (trio b f u)) k → some (eqb t) (backIn (act (scope xs true) (trio b f u)) k e) ≡ true
+    → some (eqb t) (undoLeftIn (act (scope xs true) (trio b f u)) k ms) ≡ true
+unfolding part partAt
+scope-due xs b f u k e t c (waits-itself z g) n d r h = absurd (no-less (undoing-waits r (waits-itself z g) n) z)
+scope-due xs b f u k e t c (waits-within z w) n d (undoing-part s _ _) h = absurd (not-scope s)
+scope-due {ms} xs b f u k e t c (waits-within z w) n d (undoing-scope x y r) h =
+    ap (some (eqb t)) (undo-left-scope xs true b (more f u) k ms)
+    ∙ due-left (part (undoPart xs) (trio b f u)) (partAt (undoPart xs) (trio b f u) (k + 1)) t _ (nth-waits r w refl .2) refl (nth-run r) (ap (some (eqb t)) (sym (back-scope xs true b (more f u) k e d)) ∙ h)
 
 mutual
   unfolding size some
@@ -392,11 +392,9 @@ mutual
       ∙ undo-due-in within (k + 1) e t _ l (sym (directly-is own within k e false s) ∙ d) w (opens-idle own (getD ms k 0) i) r (ap (some (eqb t)) (sym (back-part own within k e s)) ∙ h)
   undo-due (act own within) k e t b (sits-part s g v y l) d (waits-within z w) f (undoing-scope _ _ _) h = absurd (not-scope s)
   undo-due (act own within) k e t b (sits-part s g v y l) d (waits-within z w) f (undoing-through _ _ _) h = absurd (not-scope s)
-  undo-due (act (scope true) (more b′ (more f′ u))) k e t b (sits-scope kn v i sb z sf su) d w f (undoing-part s _ _) h = absurd (not-scope s)
-  undo-due (act (scope true) (more b′ (more f′ u))) k e t b (sits-scope kn v i sb z sf su) d w f (undoing-scope {u = u′} x q r) h = scope-due b′ f′ u′ k e t b w f (direct-scope true (trio b′ f′ (more u′ none)) k e d) x q r h
-  undo-due (act (scope false) (more b′ (more f′ u))) k e t b (sits-scope kn v i sb z sf su) d w f (undoing-part s _ _) h = absurd (not-scope s)
-  undo-due (act (scope false) (more b′ (more f′ none))) k e t b (sits-scope kn v i sb z sf rest-none) d w f (undoing-through x r q) h =
-      absurd (false≢true (ap (some (eqb t)) (sym (back-without b′ f′ k e (direct-scope false (trio b′ f′ none) k e d))) ∙ h))
+  undo-due (act (scope xs true) (more b′ (more f′ u))) k e t b (sits-scope kn v i sb z) d w f r h = scope-due xs b′ f′ u k e t b w f (direct-scope xs true (trio b′ f′ u) k e d) r h
+  undo-due (act (scope xs false) (more b′ (more f′ u))) k e t b (sits-scope kn v i sb z) d w f r h =
+      absurd (false≢true (ap (some (eqb t)) (sym (back-without z b′ k e (direct-scope xs false (trio b′ f′ u) k e d))) ∙ h))
 
   undo-due-in : {p : Plan} {x : Place} {ms : List ℕ} (l : Acts) (c e t : ℕ) (b : Bool) → SitsIn p x l c → directlyIn l c e ≡ true → WaitsIn ms l c t b → b ≡ false → UndoingIn ms l c
       → some (eqb t) (backAmong l c e) ≡ true → some (eqb t) (undoLeftAmong l c ms) ≡ true
@@ -436,7 +434,7 @@ kind-place p q own within k t v f h = go own h
     go sequence h = f h
     go flow h = f h
     go pick h = absurd (false≢true h)
-    go (scope u) h = absurd (false≢true h)
+    go (scope xs u) h = absurd (false≢true h)
     go (arm x y vs) h = absurd (false≢true h)
 
 mutual
@@ -445,7 +443,7 @@ mutual
   surely-place : {p : Plan} {q : Place} {a : Act} {k : ℕ} → Sits p q a k → (t : ℕ) → some (eqb t) (surely a k) ≡ true → placeOf p t ≡ q
   surely-place {p = p} {q = q} (sits-part {own = own} {within} {k} s g v y l) t h =
       kind-place p q own within k t (v .place) (λ z. surely-places l t z) (ap (some (eqb t)) (sym (surely-is own within k)) ∙ h)
-  surely-place (sits-scope {v = z₀} {b = b} {f = f} {u = u} {k = k} kn v i sb z sf su) t h = absurd (false≢true (ap (some (eqb t)) (sym (surely-is (scope z₀) (trio b f u) k)) ∙ h))
+  surely-place (sits-scope {xs = xs} {v = z₀} {b = b} {f = f} {u = u} {k = k} kn v i sb z) t h = absurd (false≢true (ap (some (eqb t)) (sym (surely-is (scope xs z₀) (trio b f u) k)) ∙ h))
 
   surely-places : {p : Plan} {q : Place} {l : Acts} {c : ℕ} → SitsIn p q l c → (t : ℕ) → some (eqb t) (surelyAmong l c) ≡ true → placeOf p t ≡ q
   surely-places sits-none t h = absurd (false≢true h)
@@ -462,10 +460,10 @@ mutual
   pub back-place : {p : Plan} {x : Place} (a : Act) (k e t : ℕ) → Sits p x a k → directly a k e ≡ true → some (eqb t) (backIn a k e) ≡ true → placeOf p t ≡ undoOf (nameOf x) (beyondOf x) (lastOf x)
   back-place (act own within) k e t (sits-part s g v y l) d h =
       back-places within (k + 1) e t l (sym (directly-is own within k e false s) ∙ d) (ap (some (eqb t)) (sym (back-part own within k e s)) ∙ h)
-  back-place (act (scope true) (more b (more f (more u none)))) k e t (sits-scope kn v i sb z sf (rest-undo su)) d h =
-      remedy-place su t (ap (some (eqb t)) (sym (back-scope b f u k e (direct-scope true (trio b f (more u none)) k e d))) ∙ h)
-  back-place (act (scope false) (more b (more f none))) k e t (sits-scope kn v i sb z sf rest-none) d h =
-      absurd (false≢true (ap (some (eqb t)) (sym (back-without b f k e (direct-scope false (trio b f none) k e d))) ∙ h))
+  back-place (act (scope xs true) (more b (more f u))) k e t (sits-scope kn v i sb z) d h =
+      remedy-place (undoer z) t (ap (some (eqb t)) (sym (back-scope xs true b (more f u) k e (direct-scope xs true (trio b f u) k e d))) ∙ h)
+  back-place (act (scope xs false) (more b (more f u))) k e t (sits-scope kn v i sb z) d h =
+      absurd (false≢true (ap (some (eqb t)) (sym (back-without z b k e (direct-scope xs false (trio b f u) k e d))) ∙ h))
 
   back-places : {p : Plan} {x : Place} (l : Acts) (c e t : ℕ) → SitsIn p x l c → directlyIn l c e ≡ true → some (eqb t) (backAmong l c e) ≡ true → placeOf p t ≡ undoOf (nameOf x) (beyondOf x) (lastOf x)
   back-places none c e t sits-none d h = absurd (none-directly c e d)
@@ -490,7 +488,7 @@ kind-sub t (repeat a) x y z x′ y′ z′ e f g h = h
 kind-sub t sequence x y z x′ y′ z′ e f g h = f h
 kind-sub t flow x y z x′ y′ z′ e f g h = g h
 kind-sub t pick x y z x′ y′ z′ e f g h = h
-kind-sub t (scope u) x y z x′ y′ z′ e f g h = h
+kind-sub t (scope xs u) x y z x′ y′ z′ e f g h = h
 kind-sub t (arm a b vs) x y z x′ y′ z′ e f g h = h
 
 -- of two lists
@@ -568,13 +566,14 @@ mutual
   left-back (sits-part {own = own} {within} {k} s g v y l) t ms h =
       let b = left-backs l t ms (ap (some (eqb t)) (sym (undo-left-is own within k ms s)) ∙ h) in
       record { scope = b .scope; direct = directly-is own within k (b .scope) false s ∙ b .direct; takes = ap (some (eqb t)) (back-part own within k (b .scope) s) ∙ b .takes }
-  left-back (sits-scope {v = true} {b = b} {f = f} {k = k} kn v i sb z sf (rest-undo {u = u} su)) t ms h =
+  left-back (sits-scope {xs = xs} {v = true} {b = b} {f = f} {u = u} {k = k} kn v i sb z) t ms h =
       record {
         scope = k;
-        direct = directly-is (scope true) (trio b f (more u none)) k k true refl ∙ eq-eqb k k refl;
-        takes = ap (some (eqb t)) (back-scope b f u k k (eq-eqb k k refl)) ∙ left-sure u (k + 1 + size b + size f) t ms (ap (some (eqb t)) (sym (undo-left-scope b f u k ms)) ∙ h);
+        direct = directly-is (scope xs true) (trio b f u) k k true refl ∙ eq-eqb k k refl;
+        takes = ap (some (eqb t)) (back-scope xs true b (more f u) k k (eq-eqb k k refl))
+            ∙ left-sure (part (generalPart xs) (more f u)) (partAt (generalPart xs) (more f u) (k + 1 + size b)) t ms (ap (some (eqb t)) (sym (undo-left-scope xs true b (more f u) k ms)) ∙ h);
       }
-  left-back (sits-scope {v = false} {b = b} {f = f} {k = k} kn v i sb z sf rest-none) t ms h = absurd (false≢true (ap (some (eqb t)) (sym (undo-left-none b f k ms)) ∙ h))
+  left-back (sits-scope {v = false} {b = b} {k = k} kn v i sb z) t ms h = absurd (false≢true (ap (some (eqb t)) (sym (undo-left-none z b k ms)) ∙ h))
 
   left-backs : {p : Plan} {x : Place} {l : Acts} {c : ℕ} → SitsIn p x l c → (t : ℕ) (ms : List ℕ) → some (eqb t) (undoLeftAmong l c ms) ≡ true → BackIn l c t
   left-backs (sits-none {c = c}) t ms h = absurd (none-left c t ms h)
@@ -592,8 +591,8 @@ none-without t (x ∷ l) h = decide (eqb t x) (λ e. absurd (false≢true (sym h
 mutual
   pub close-place : {p : Plan} {x : Place} (a : Act) (k e : ℕ) → Sits p x a k → directly a k e ≡ true → placeOf p e ≡ bodyOf (nameOf x) (beyondOf x) (lastOf x)
   close-place (act own within) k e (sits-part s g v y l) d = close-places within (k + 1) e l (sym (directly-is own within k e false s) ∙ d)
-  close-place {p = p} (act (scope z₀) (more b (more f u))) k e (sits-scope {n = n} {c} {ns} kn v i sb z sf su) d =
-      subst (λ (j : ℕ). placeOf p j ≡ bodyOf n ns c) (eqb-true k e (direct-scope z₀ (trio b f u) k e d)) (v .place)
+  close-place {p = p} (act (scope xs z₀) (more b (more f u))) k e (sits-scope {n = n} {c} {ns} kn v i sb z) d =
+      subst (λ (j : ℕ). placeOf p j ≡ bodyOf n ns c) (eqb-true k e (direct-scope xs z₀ (trio b f u) k e d)) (v .place)
 
   close-places : {p : Plan} {x : Place} (l : Acts) (c e : ℕ) → SitsIn p x l c → directlyIn l c e ≡ true → placeOf p e ≡ bodyOf (nameOf x) (beyondOf x) (lastOf x)
   close-places none c e sits-none d = absurd (none-directly c e d)

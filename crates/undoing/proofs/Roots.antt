@@ -55,7 +55,7 @@ unfolding size
 root-reach p = record { start = omega arith; lone = λ i x y. absurd (omega arith); end = omega arith; owns = tt }
 
 -- it has the one fault part
-root-fault : {p : Plan} (h : Seat p (rootOf p)) → Remedy p (faultOf root (h .beyond) (h .around)) (p .fault) (size (p .body))
+pub root-fault : {p : Plan} (h : Seat p (rootOf p)) → Remedy p (faultOf root (h .beyond) (h .around)) (p .fault) (size (p .body))
 unfolding chosenPart chosenAt
 root-fault h = h .fault 0
 

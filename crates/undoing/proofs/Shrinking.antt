@@ -56,7 +56,7 @@ mutual
   left-surely (act sequence within) k s ms h = turn-surely within (k + 1) s ms h
   left-surely (act flow within) k s ms h = all-surely within (k + 1) s ms h
   left-surely (act pick within) k s ms h = absurd (false≢true h)
-  left-surely (act (scope u) within) k s ms h = absurd (false≢true h)
+  left-surely (act (scope xs u) within) k s ms h = absurd (false≢true h)
   left-surely (act (arm x y vs) within) k s ms h = absurd (false≢true h)
 
   turn-surely : (l : Acts) (c s : ℕ) (ms : List ℕ) → some (eqb s) (leftInTurn l c ms) ≡ true → some (eqb s) (surelyAmong l c) ≡ true
@@ -101,7 +101,7 @@ sure-acts (repeat x) s = absurd (false≢true s)
 sure-acts sequence s = absurd (false≢true s)
 sure-acts flow s = absurd (false≢true s)
 sure-acts pick s = absurd (false≢true s)
-sure-acts (scope u) s = absurd (false≢true s)
+sure-acts (scope xs u) s = absurd (false≢true s)
 sure-acts (arm x y vs) s = absurd (false≢true s)
 
 knows-kind : {f : ℕ → ℕ} {own : Own} {within : Acts} {k : ℕ} → Knows f (act own within) k → f k ≡ kind own
@@ -161,7 +161,7 @@ module _ (f : ℕ → ℕ) (lead : ℕ → Lead) (own? : ℕ → Bool) (t : ℕ)
         let i = climb-in w v (off-part o (omega arith) (omega arith)) m (let z = eqb-false m k d in omega arith) (omega arith) y in
         let x = i .from in let z = i .to in
         led own k (1 + sizes within) (i .number) o (omega arith) (omega arith) (i .begun) (i .leads)))
-    climb (leads-scope x y z w v) b o m h e d = absurd (false≢true b)
+    climb (leads-scope x n y z) b o m h e d = absurd (false≢true b)
 
     climb-in : {w : Acts} {c : ℕ} {q : Lead} → LeadsIn lead w c q → bareIn w ≡ true → Off t c (sizes w) → (m : ℕ) → c ≤ m → m < c + sizes w → hasBegan m l ≡ true → Beginner q c m
     climb-in leads-none b o m h e y = absurd (omega arith)
@@ -206,7 +206,7 @@ module _ (f : ℕ → ℕ) (lead : ℕ → Lead) (own? : ℕ → Bool) (t : ℕ)
     mono (act sequence within) k s g w b h = turn-mono within (k + 1) s (knows-within g) (stretch-part w (omega arith) (omega arith)) (λ j x y. b j (omega arith) (omega arith)) h
     mono (act flow within) k s g w b h = all-mono within (k + 1) s (knows-within g) (stretch-part w (omega arith) (omega arith)) (λ j x y. b j (omega arith) (omega arith)) h
     mono (act pick within) k s g w b h = absurd (false≢true h)
-    mono (act (scope u) within) k s g w b h = absurd (false≢true h)
+    mono (act (scope xs u) within) k s g w b h = absurd (false≢true h)
     mono (act (arm x y vs) within) k s g w b h = absurd (false≢true h)
 
     turn-mono : (w : Acts) (c s : ℕ) → KnowsIn f w c → Stretch c (sizes w) → Unbegun c (sizes w) → some (eqb s) (leftInTurn w c ns) ≡ true → some (eqb s) (leftInTurn w c ms) ≡ true
@@ -316,7 +316,7 @@ module _ (f : ℕ → ℕ) (lead : ℕ → Lead) (own? : ℕ → Bool) (t : ℕ)
     fewer-on (act flow within) k (leads-part _ _ d) g b w o (run-all _ r _) (waits-within z v) e n s h =
         fewer-all within (k + 1) k d (knows-within g) b (stretch-part w (omega arith) (omega arith)) o r v refl n s h
     fewer-on (act pick within) k d g b w o r x e n s h = absurd (false≢true h)
-    fewer-on (act (scope u) within) k d g b w o r x e n s h = absurd (false≢true h)
+    fewer-on (act (scope xs u) within) k d g b w o r x e n s h = absurd (false≢true h)
     fewer-on (act (arm y z vs) within) k d g b w o r x e n s h = absurd (false≢true h)
 
     fewer-turn : (v : Acts) (c : ℕ) {b : Bool} (k : ℕ) → LeadsIn lead v c (inOrder k) → KnowsIn f v c → bareIn v ≡ true → Stretch c (sizes v) → (acts (f t) ≡ true → own? t ≡ true)

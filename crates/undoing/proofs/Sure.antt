@@ -36,7 +36,7 @@ ofKind (repeat e) x y z = []
 ofKind sequence x y z = y
 ofKind flow x y z = z
 ofKind pick x y z = []
-ofKind (scope u) x y z = []
+ofKind (scope xs u) x y z = []
 ofKind (arm p op vs) x y z = []
 
 -- the sure steps of activity k that are still to come
@@ -69,7 +69,7 @@ surely-is (repeat e) within k = refl
 surely-is sequence within k = refl
 surely-is flow within k = refl
 surely-is pick within k = refl
-surely-is (scope u) within k = refl
+surely-is (scope xs u) within k = refl
 surely-is (arm p op vs) within k = refl
 
 -- what gives nothing gives nothing
@@ -86,7 +86,7 @@ kind-none (repeat e) = refl
 kind-none sequence = refl
 kind-none flow = refl
 kind-none pick = refl
-kind-none (scope u) = refl
+kind-none (scope xs u) = refl
 kind-none (arm p op vs) = refl
 
 kind-without : (t : ℕ) (own : Own) (x y z : List ℕ) → without t x ≡ x → without t y ≡ y → without t z ≡ z → without t (ofKind own x y z) ≡ ofKind own x y z
@@ -102,7 +102,7 @@ kind-without t (repeat u) x y z e f g = refl
 kind-without t sequence x y z e f g = f
 kind-without t flow x y z e f g = g
 kind-without t pick x y z e f g = refl
-kind-without t (scope u) x y z e f g = refl
+kind-without t (scope xs u) x y z e f g = refl
 kind-without t (arm p op vs) x y z e f g = refl
 
 kind-some : (t : ℕ) (own : Own) (x y z : List ℕ) → some (eqb t) x ≡ false → some (eqb t) y ≡ false → some (eqb t) z ≡ false → some (eqb t) (ofKind own x y z) ≡ false
@@ -118,7 +118,7 @@ kind-some t (repeat u) x y z e f g = refl
 kind-some t sequence x y z e f g = f
 kind-some t flow x y z e f g = g
 kind-some t pick x y z e f g = refl
-kind-some t (scope u) x y z e f g = refl
+kind-some t (scope xs u) x y z e f g = refl
 kind-some t (arm p op vs) x y z e f g = refl
 
 -- t is none of n numbers from k on
@@ -317,7 +317,7 @@ module _ (p : Plan) where
   comes-own sequence within k ms h f g = comes-through k _ _ _ _ _ (f refl)
   comes-own flow within k ms h f g = comes-through k _ _ _ _ _ (g refl)
   comes-own pick within k ms h f g = comes-nothing _
-  comes-own (scope u) within k ms h f g = comes-nothing _
+  comes-own (scope xs u) within k ms h f g = comes-nothing _
   comes-own (arm a b vs) within k ms h f g = comes-nothing _
 
   -- of nothing
@@ -330,9 +330,9 @@ module _ (p : Plan) where
   none-comes-all c ms = record { over = λ e. refl; runs = λ e. refl }
 
   -- a scope has no sure step of its own
-  scope-nothing : (z : Bool) (within : Acts) (k : ℕ) (ms : List ℕ) → Comes (leftIn (act (scope z) within) k) (surely (act (scope z) within) k) (begin (act (scope z) within) k ms)
+  scope-nothing : (xs : List ℕ) (z : Bool) (within : Acts) (k : ℕ) (ms : List ℕ) → Comes (leftIn (act (scope xs z) within) k) (surely (act (scope xs z) within) k) (begin (act (scope xs z) within) k ms)
   unfolding leftIn surely isSure hasAll
-  scope-nothing z within k ms = record { over = λ e. refl; runs = λ e. refl }
+  scope-nothing xs z within k ms = record { over = λ e. refl; runs = λ e. refl }
 
   -- what begins where all is quiet has all its sure steps to come
   mutual
@@ -344,7 +344,7 @@ module _ (p : Plan) where
         comes-own own within k (o .marks) (omega arith)
         (λ e. turn-comes l (marked k active o) (quiet-set active (quiet-part q (omega arith) (omega arith)) (omega arith)) (omega (arith, length-set (o .marks) k active)) (fit-marked x k active o (v .before) w))
         (λ e. all-comes l (marked k active o) (quiet-set active (quiet-part q (omega arith) (omega arith)) (omega arith)) (omega (arith, length-set (o .marks) k active)) (fit-marked x k active o (v .before) w))
-    begin-comes (sits-scope {v = z₀} {b = b} {f = f} {u = u} {k = k} kn v i sb z sf su) o q h w = scope-nothing z₀ (trio b f u) k (o .marks)
+    begin-comes (sits-scope {xs = xs} {v = z₀} {b = b} {f = f} {u = u} {k = k} kn v i sb z) o q h w = scope-nothing xs z₀ (trio b f u) k (o .marks)
 
     pub turn-comes : {x : Place} {l : Acts} {c : ℕ} → SitsIn p x l c → (o : Order) → Quiet (o .marks) c (sizes l) → c + sizes l ≤ length (o .marks) → Fit x o
         → Comes (leftInTurn l c) (surelyAmong l c) (beginInTurn l c (o .marks))

@@ -1,26 +1,27 @@
 -- A live order stands as its plan's shape asks, after any run. Assumes nothing.
-use Prim.Native.Nat.{ℕ, zero, suc, _+_, _≤_, _<_}
+use Prim.Native.Nat.{ℕ, zero, suc, _+_, _-_, _≤_, _<_}
 use native.Mathlib.Omega.{arith}
 use mathlib.Core.Path.{_≡_, refl, sym, ap, subst, _∙_}
 use mathlib.Core.Bool.{Bool, true, false, cond, not, _&&_, _||_, false≢true, or-true}
 use mathlib.Core.List.{List}
 use lib.ListN.{getD}
 use lib.Dec.{eqb}
-use borrow.Author.Tests.{eq-eqb}
-use Rattle.plan.specs.Tree.{Own, empty, send, receive, set as setting, raise, leave, choose, repeat, sequence, flow, pick, scope, arm, kind, isScope, hasUndo, Act, act, Acts, none, more, Plan, size, sizes}
+use borrow.Author.Tests.{eq-eqb, ne-eqb}
+use Rattle.plan.specs.Tree.{Own, empty, send, receive, set as setting, raise, leave, choose, repeat, sequence, flow, pick, scope, arm, kind, isScope, hasUndo, numbersOf, Act, act, Acts, none, more, Plan, size, sizes, count}
 use Rattle.order.specs.declared.Order.{Order}
 use Rattle.order.specs.Event.{Event}
-use Rattle.order.specs.State.{idle, active, inside, done, faulty, undoing, handling, halted, withdrawing, isLive}
+use Rattle.order.specs.State.{idle, active, inside, done, faulty, undoing, handling, halted, withdrawing, stateIn, isLive}
 use Rattle.order.specs.Begin.{quiet}
 use Rattle.order.specs.Scope.{isOpen, innerRuns, rootOf}
-use Rattle.undoing.specs.Standing.{isDoing, holdingOf, runsIn, oneRuns, allRun, scopeRuns, turnedRuns, stoppedIn, stoppedAll, undoingIn, undoingOne, undoingFirst, lastRuns, stands, Stands}
+use Rattle.undoing.specs.Standing.{isDoing, holdingOf, runsIn, oneRuns, allRun, scopeRuns, turnedRuns, onlyRuns, choiceOn, stoppedIn, stoppedAll, undoingIn, undoingOne, undoingFirst, lastRuns, stands, Stands}
 use Rattle.undoing.proofs.Parts.{decide}
 use Rattle.undoing.proofs.Accounts.{Phase, waits, heals, phase}
 use Rattle.undoing.proofs.Places.{first-of, second-of}
-use Rattle.undoing.proofs.Marks.{trio, Quiet, holding, isDoer, Run, run-awaits, run-one, run-all, run-body, run-done, run-turned, One, one-here, one-later, All, all-none, all-run, all-quiet, Turned, turned-waits, turned-undoes, turned-heals, Stopped, stopped-part, stopped-quiet, stopped-scope, StoppedIn, stopped-none, stopped-more, Undoing, undoing-part, undoing-scope, undoing-through, UndoingIn, undoing-here, undoing-later, quiet-part, turned-not-open}
+use Rattle.undoing.proofs.Marks.{trio, Quiet, holding, isDoer, Run, run-awaits, run-one, run-all, run-body, run-done, run-turned, One, one-here, one-later, All, all-none, all-run, all-quiet, Nth, nth-here, nth-later, Turned, turned-waits, turned-undoes, turned-heals, Stopped, stopped-part, stopped-quiet, stopped-scope, StoppedIn, stopped-none, stopped-more, Undoing, undoing-part, undoing-scope, undoing-through, UndoingIn, undoing-here, undoing-later, quiet-part, turned-not-open}
 use Rattle.undoing.proofs.Combining.{quiet-told, quiet-found}
 use Rattle.undoing.proofs.Scoping.{scope-live, scope-done, scope-turned, Running, waits-mark, undoes-mark, no-heals}
-use Rattle.undoing.proofs.Roots.{Standing}
+use Rattle.undoing.proofs.Healing.{only-runs, one-quiet}
+use Rattle.undoing.proofs.Roots.{Standing, choice-none}
 use Rattle.undoing.proofs.Slots.{Slot, slot-free, slot-live}
 use Rattle.undoing.proofs.Told.{slot-after}
 
@@ -38,7 +39,7 @@ doing (repeat x) e = refl
 doing sequence e = absurd (false≢true e)
 doing flow e = absurd (false≢true e)
 doing pick e = refl
-doing (scope v) e = absurd (false≢true e)
+doing (scope xs v) e = absurd (false≢true e)
 doing (arm p o vs) e = absurd (false≢true e)
 
 holds-so : (own : Own) → isScope own ≡ false → holdingOf (kind own) ≡ holding own
@@ -55,20 +56,23 @@ holds-so (repeat x) s = refl
 holds-so sequence s = refl
 holds-so flow s = refl
 holds-so pick s = refl
-holds-so (scope v) s = absurd (false≢true (sym s))
+holds-so (scope xs v) s = absurd (false≢true (sym s))
 holds-so (arm p o vs) s = refl
 
 -- a scope in a phase has one of its two marks
-pub waits-is : (m : ℕ) (w : Bool) → phase m ≡ waits w → (eqb m faulty || eqb m halted) ≡ true
+pub waits-is : (m : ℕ) (w : Bool) → phase m ≡ waits w → (eqb (stateIn m) faulty || eqb m halted) ≡ true
 waits-is m true e = rw (waits-mark m e .0)
 waits-is m false e = rw (waits-mark m e .1, or-true)
 
-pub undoes-is : (m : ℕ) (w : Bool) → phase m ≡ Phase.undoes w → (eqb m undoing || eqb m withdrawing) ≡ true
+pub undoes-is : (m : ℕ) (w : Bool) → phase m ≡ Phase.undoes w → (eqb (stateIn m) undoing || eqb m withdrawing) ≡ true
 undoes-is m true e = rw (undoes-mark m e .0)
 undoes-is m false e = rw (undoes-mark m e .1, or-true)
 
-pub heals-is : (m : ℕ) → phase m ≡ heals → eqb m handling ≡ true
-heals-is m e = decide (eqb m handling) (λ z. z) (λ z. absurd (no-heals m z e))
+pub heals-is : (m : ℕ) → phase m ≡ heals → eqb (stateIn m) handling ≡ true
+heals-is m e = decide (eqb (stateIn m) handling) (λ z. z) (λ z. absurd (no-heals m z e))
+
+one-less : (i : ℕ) → suc i - 1 ≡ i
+one-less i = omega arith
 
 eq-so : (m n : ℕ) → m ≡ n → eqb n n ≡ true → eqb m n ≡ true
 eq-so m n e h = subst (λ (i : ℕ). eqb i n ≡ true) (sym e) h
@@ -83,14 +87,14 @@ module _ (ms : List ℕ) where
       || ((eqb (getD ms k 0) (holdingOf (kind own)) && oneRuns within (k + 1) ms) || (eqb (kind own) 9 && (eqb (getD ms k 0) active && (allRun within (k + 1) ms && not (quiet (k + 1) (sizes within) ms)))))) ≡ true
       → runsIn (act own within) k ms ≡ true
   unfolding runsIn
-  plain-so own within k s e = second-of (isScope own) (scopeRuns within k ms) _ (runsIn (act own within) k ms) refl s ∙ e
+  plain-so own within k s e = second-of (isScope own) (scopeRuns (numbersOf own) within k ms) _ (runsIn (act own within) k ms) refl s ∙ e
 
   stop-plain : (own : Own) (within : Acts) (k : ℕ) → isScope own ≡ false → stoppedIn (act own within) k ms ≡ (eqb (getD ms k 0) idle && stoppedAll within (k + 1) ms)
   unfolding runsIn
-  stop-plain own within k s = second-of (isScope own) (quiet k (1 + sizes within) ms || (not (eqb (getD ms k 0) active || eqb (getD ms k 0) done) && scopeRuns within k ms)) _ (stoppedIn (act own within) k ms) refl s
+  stop-plain own within k s = second-of (isScope own) (quiet k (1 + sizes within) ms || (not (eqb (getD ms k 0) active || eqb (getD ms k 0) done) && scopeRuns (numbersOf own) within k ms)) _ (stoppedIn (act own within) k ms) refl s
 
   stop-scope : (own : Own) (within : Acts) (k : ℕ) → isScope own ≡ true
-      → stoppedIn (act own within) k ms ≡ (quiet k (1 + sizes within) ms || (not (eqb (getD ms k 0) active || eqb (getD ms k 0) done) && scopeRuns within k ms))
+      → stoppedIn (act own within) k ms ≡ (quiet k (1 + sizes within) ms || (not (eqb (getD ms k 0) active || eqb (getD ms k 0) done) && scopeRuns (numbersOf own) within k ms))
   unfolding runsIn
   stop-scope own within k s = first-of (isScope own) _ (eqb (getD ms k 0) idle && stoppedAll within (k + 1) ms) (stoppedIn (act own within) k ms) refl s
 
@@ -117,7 +121,7 @@ module _ (ms : List ℕ) where
     quiet-stopped-all (more a l) c q = rw (quiet-stopped a c (quiet-part q (omega arith) (omega arith)), quiet-stopped-all l (c + size a) (quiet-part q (omega arith) (omega arith)))
 
   mutual
-    unfolding size runsIn kind
+    unfolding size runsIn kind count
 
     run-so : {a : Act} {k : ℕ} → Run ms a k → runsIn a k ms ≡ true
     run-so (run-awaits {own} {within} {k} s y e q) = plain-so own within k s (rw (doing own y, eq-so (getD ms k 0) active e refl, quiet-told (sizes within) (k + 1) ms q))
@@ -127,7 +131,7 @@ module _ (ms : List ℕ) where
         plain-so flow within k refl (rw (eq-so (getD ms k 0) active e refl, all-so r, decide (quiet (k + 1) (sizes within) ms) (λ d. absurd (z (quiet-found (sizes within) (k + 1) ms d))) (λ d. d), or-true, or-true))
     run-so (run-body {v} {b} {f} {u} {k} e r q) = rw (eq-so (getD ms k 0) active e refl, run-so r, q-so (k + 1 + size b) (size f + sizes u) q (omega arith) (omega arith))
     run-so (run-done {v} {b} {f} {u} {k} e q) = rw (eq-so (getD ms k 0) done e refl, q-so (k + 1) (size b + (size f + sizes u)) q (omega arith) (omega arith), or-true)
-    run-so (run-turned {v} {b} {f} {u} {k} t q) = rw (turned-so u t q, or-true, or-true)
+    run-so (run-turned t) = rw (turned-so t, or-true, or-true)
 
     one-so : {l : Acts} {c : ℕ} → One ms l c → oneRuns l c ms ≡ true
     one-so (one-here {a} {l} {c} r q) = rw (run-so r, quiet-told (sizes l) (c + size a) ms q)
@@ -138,20 +142,28 @@ module _ (ms : List ℕ) where
     all-so (all-run r q) = rw (run-so r, all-so q)
     all-so (all-quiet {a} {l} {c} q r) = rw (quiet-told (size a) c ms q, or-true, all-so r)
 
-    turned-so : {m kb kf : ℕ} {b f : Act} (u : Acts) → Turned ms m b kb f kf → Quiet ms (kf + size f) (sizes u)
-        → turnedRuns (more f u) kf ms m (stoppedIn b kb ms && innerRuns b kb ms) (undoingIn b kb ms) (quiet kb (size b) ms) ≡ true
-    turned-so u (turned-waits {w} {m} {kb} {kf} {b} {f} e s i y) q =
-        rw (q-so (kf + size f) (sizes u) q (omega arith) (omega arith), waits-is m w e, stopped-so s, i, quiet-told (size f) kf ms y)
-    turned-so u (turned-undoes {w} {m} {kb} {kf} {b} {f} e s y) q =
-        rw (q-so (kf + size f) (sizes u) q (omega arith) (omega arith), undoes-is m w e, undoing-so s, or-true, quiet-told (size f) kf ms y)
-    turned-so u (turned-heals {m} {kb} {kf} {b} {f} e y r) q =
-        rw (q-so (kf + size f) (sizes u) q (omega arith) (omega arith), heals-is m e, quiet-told (size b) kb ms y, run-so r, or-true)
+    -- the i-th runs, and the others are quiet; the last
+    only-so : {i : ℕ} {l : Acts} {c : ℕ} → Nth ms i l c → onlyRuns i l c ms ≡ true
+    only-so (nth-here {a} {l} {c} r q) = rw (run-so r, quiet-told (sizes l) (c + size a) ms q)
+    only-so (nth-later {i} {a} {l} {c} q r) = rw (ne-eqb (suc i) 0 (omega arith), quiet-told (size a) c ms q, one-less i) (only-so r)
+
+    last-so : {i : ℕ} {l : Acts} {c : ℕ} → Nth ms i l c → count l ≡ suc i → lastRuns l c ms ≡ true
+    last-so (nth-here {l = none} r q) e = run-so r
+    last-so (nth-here {l = more x l} r q) e = absurd (omega arith)
+    last-so (nth-later {l = none} q r) e = absurd (omega arith)
+    last-so (nth-later {i} {a} {l = more x l} {c} q r) e = rw (quiet-told (size a) c ms q) (last-so r (omega arith))
+
+    turned-so : {xs : List ℕ} {m kb kf : ℕ} {b f : Act} {u : Acts} → Turned ms xs m b kb (more f u) kf
+        → turnedRuns (choiceOn xs m) (more f u) kf ms m (stoppedIn b kb ms && innerRuns b kb ms) (undoingIn b kb ms) (quiet kb (size b) ms) ≡ true
+    turned-so {f = f} {u} (turned-waits {w} {m = m} {kf = kf} e s i y) = rw (waits-is m w e, stopped-so s, i, quiet-told (size f + sizes u) kf ms y)
+    turned-so {f = f} {u} (turned-undoes {w} {m = m} {kf = kf} e s y) = rw (undoes-is m w e, undoing-so s, or-true, quiet-told (size f + sizes u) kf ms y)
+    turned-so (turned-heals {m = m} {kb} {b = b} e y r) = rw (heals-is m e, quiet-told (size b) kb ms y, only-so r, or-true)
 
     stopped-so : {a : Act} {k : ℕ} → Stopped ms a k → stoppedIn a k ms ≡ true
     stopped-so (stopped-part {own} {within} {k} s e r) = stop-plain own within k s ∙ rw (e, stopped-all-so r)
     stopped-so (stopped-quiet {a} {k} q) = quiet-stopped a k q
-    stopped-so (stopped-scope {v} {b} {f} {u} {k} t q) =
-        let z : scopeRuns (trio b f u) k ms ≡ true = rw (turned-so u t q, or-true, or-true) in stop-scope (scope v) (trio b f u) k refl ∙ stop-turned (getD ms k 0) (quiet k (1 + sizes (trio b f u)) ms) (turned-not-open t) z
+    stopped-so (stopped-scope {xs} {v} {b} {f} {u} {k} t) =
+        let z : scopeRuns xs (trio b f u) k ms ≡ true = rw (turned-so t, or-true, or-true) in stop-scope (scope xs v) (trio b f u) k refl ∙ stop-turned (getD ms k 0) (quiet k (1 + sizes (trio b f u)) ms) (turned-not-open t) z
 
     stopped-all-so : {l : Acts} {c : ℕ} → StoppedIn ms l c → stoppedAll l c ms ≡ true
     stopped-all-so stopped-none = refl
@@ -159,7 +171,7 @@ module _ (ms : List ℕ) where
 
     undoing-so : {a : Act} {k : ℕ} → Undoing ms a k → undoingIn a k ms ≡ true
     undoing-so (undoing-part {own} {within} {k} s e r) = undo-plain own within k s ∙ rw (e, undoing-one-so r)
-    undoing-so (undoing-scope {b} {f} {u} {k} e q r) = rw (e, quiet-told (size b) (k + 1) ms (quiet-part q (omega arith) (omega arith)), quiet-told (size f) (k + 1 + size b) ms (quiet-part q (omega arith) (omega arith)), run-so r)
+    undoing-so (undoing-scope e n r) = rw (e, last-so r n)
     undoing-so (undoing-through {b} {f} {u} {k} e r q) = rw (e, undoing-so r, q-so (k + 1 + size b) (size f + sizes u) q (omega arith) (omega arith))
 
     undoing-one-so : {l : Acts} {c : ℕ} → UndoingIn ms l c → undoingOne l c ms ≡ true
@@ -175,11 +187,11 @@ standing-so p o st = go (st .runs)
     ms = o .marks
 
     go : Running (rootOf p) (o .marks) (o .root) → stands p o ≡ true
-    go (scope-live e r q) = rw (eq-so (o .root) active e refl, run-so ms r, quiet-told (size (p .fault)) (size (p .body)) ms q)
+    go (scope-live e r q) = rw (eq-so (o .root) active e refl, run-so ms r, quiet-told (size (p .fault)) (size (p .body)) ms (one-quiet (p .fault) q))
     go (scope-done e q r) = absurd (st .going e)
-    go (scope-turned (turned-waits {w} e s i y)) = rw (waits-is (o .root) w e, stopped-so ms s, i, quiet-told (size (p .fault)) (size (p .body)) ms y, or-true)
-    go (scope-turned (turned-undoes {w} e s y)) = rw (undoes-is (o .root) w e, undoing-so ms s, quiet-told (size (p .fault)) (size (p .body)) ms y, or-true, or-true)
-    go (scope-turned (turned-heals e y r)) = rw (heals-is (o .root) e, quiet-told (size (p .body)) 0 ms y, run-so ms r, or-true, or-true)
+    go (scope-turned (turned-waits {w} e s i y)) = rw (waits-is (o .root) w e, stopped-so ms s, i, quiet-told (size (p .fault)) (size (p .body)) ms (one-quiet (p .fault) y), or-true)
+    go (scope-turned (turned-undoes {w} e s y)) = rw (undoes-is (o .root) w e, undoing-so ms s, quiet-told (size (p .fault)) (size (p .body)) ms (one-quiet (p .fault) y), or-true, or-true)
+    go (scope-turned (turned-heals e y r)) = rw (heals-is (o .root) e, quiet-told (size (p .body)) 0 ms y, run-so ms (only-runs r (choice-none (o .root))), or-true, or-true)
 
 -- Every live order stands.
 pub stands-told : Stands

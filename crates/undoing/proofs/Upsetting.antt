@@ -3,14 +3,15 @@ use Prim.Native.Nat.{ℕ, zero, suc, _+_, _≤_, _<_}
 use native.Mathlib.Omega.{arith}
 use mathlib.Core.Path.{_≡_, refl, sym, ap, subst, _∙_}
 use mathlib.Core.Bool.{Bool, true, false, cond, not, false≢true}
+use mathlib.Core.List.{List}
 use lib.ListN.{length, getD}
 use lib.Dec.{eqb, ltb}
 use borrow.Author.Tests.{ne-eqb, lt-ltb, le-ltb, not-true}
-use Rattle.plan.specs.Tree.{Own, empty, send, receive, set as setting, raise, leave, choose, repeat, sequence, flow, pick, scope, arm, kind, Act, act, Acts, none, more, Plan, size, sizes, isScope}
+use Rattle.plan.specs.Tree.{Own, empty, send, receive, set as setting, raise, leave, choose, repeat, sequence, flow, pick, scope, arm, kind, Act, act, Acts, none, more, Plan, size, sizes, isScope, undoPart, count}
 use Rattle.order.specs.declared.Order.{Order}
 use Rattle.order.specs.State.{Name, idle, active, inside, markAt, markOf}
 use Rattle.order.specs.Expression.{conflictingReceive}
-use Rattle.order.specs.Begin.{beginAfter}
+use Rattle.order.specs.Begin.{beginAfter, part, partAt}
 use Rattle.order.specs.declared.Way.{Way as Result}
 use Rattle.order.specs.declared.Way.the-variants.{Running as running, Over as over, Raising as raising, Leaving as leaving, Undone as undone, UndoRaising as undoRaising}
 use Rattle.order.specs.Scope.{Outcome, runs, begunIn, whereOver, fromUndo}
@@ -20,12 +21,13 @@ use Rattle.machine.specs.Calls.{doingIn, doingAmong}
 use Rattle.undoing.specs.Ties.{Place, undoOf, nameOf, beyondOf, lastOf}
 use Rattle.undoing.proofs.Parts.{both}
 use Rattle.undoing.proofs.Marks.{trio, Quiet, Run, Undoing, undoing-part, undoing-scope, undoing-through, UndoingIn, undoing-here, undoing-later, quiet-part}
-use Rattle.undoing.proofs.Orders.{Fit, bare, bareIn, Sits, sits-part, sits-scope, SitsIn, sits-more, remedy-bare, Rest, rest-undo, rest-none}
+use Rattle.undoing.proofs.Orders.{Fit, bare, bareIn, Sits, sits-part, sits-scope, SitsIn, sits-more, remedy-bare}
+use Rattle.undoing.proofs.Remedies.{part-from, nth-there, undoer}
 use Rattle.undoing.proofs.Moves.{runnerAt}
 use Rattle.undoing.proofs.Scoping.{Acted, UndoAs}
-use Rattle.undoing.proofs.Waiting.{opens, Waits, waits-itself, waits-within, WaitsIn, waits-first, waits-later, opens-idle, quiet-waits, quiet-waits-in, undoing-waits}
+use Rattle.undoing.proofs.Waiting.{opens, Waits, waits-itself, waits-within, WaitsIn, waits-first, waits-later, opens-idle, quiet-waits, quiet-waits-in, nth-waits, undoing-waits}
 use Rattle.undoing.proofs.Combining.{arms-none}
-use Rattle.undoing.proofs.Stepping.{PartOf, through-is, steps-undoing, Whole, step-is, among-is, undo-step, undoing-part-not}
+use Rattle.undoing.proofs.Stepping.{PartOf, through-is, steps-undoing, step-is, among-is, undo-step, undoing-part-not}
 use Rattle.undoing.proofs.Judged.{isTake, doing-within, doing-among, doing-later}
 use Rattle.undoing.proofs.Falling.{raised-receive}
 use Rattle.undoing.proofs.Owing.{not-scope}
@@ -69,7 +71,7 @@ up-combines (repeat x) within k t r s n = up-goes k inside (again k) r n
 up-combines sequence within k t r s n = up-goes k active (λ o. whereOver (finishes k) (begunIn o (beginAfter within (k + 1) t (o .marks)))) r n
 up-combines flow within k t r s n = up-goes k active (joins k within) r n
 up-combines pick within k t r s n = up-goes k inside (finishes k) r n
-up-combines (scope v) within k t r s n = absurd (false≢true (sym s))
+up-combines (scope xs v) within k t r s n = absurd (false≢true (sym s))
 up-combines (arm x y vs) within k t r s n = refl
 
 -- by the same choice of what is done and what comes of it
@@ -104,41 +106,44 @@ up-raised r e = rw e
 no-less : {k t : ℕ} → k < t → k ≡ t → ⊥
 no-less y z = omega arith
 
+-- what is done in the i-th of a list
+doing-nth : (i : ℕ) (l : Acts) (c t : ℕ) → i < count l → partAt i l c ≤ t → t < partAt i l c + size (part i l) → doingAmong l c t ≡ doingIn (part i l) (partAt i l c) t
+unfolding part partAt count
+doing-nth i none c t n lo hi = absurd (omega arith)
+doing-nth zero (more a l) c t n lo hi = doing-among a l c t hi
+doing-nth (suc i) (more a l) c t n lo hi = doing-later a l c t (omega (arith, part-from i l (c + size a))) ∙ doing-nth i l (c + size a) t (omega arith) lo hi
+
 -- In a body of which an undo part runs.
 module _ (p : Plan) where
-  scope-raises : {c : Bool} (b f u : Act) (q₀ k t : ℕ) (o : Order) → bare u ≡ true → Waits (o .marks) (act (scope true) (trio b f (more u none))) k t c → c ≡ false
-      → getD (o .marks) k 0 ≡ idle → Quiet (o .marks) (k + 1) (size b + size f) → Run (o .marks) u (k + 1 + size b + size f)
-      → isTake (doingIn (act (scope true) (trio b f (more u none))) k t) ≡ true → stepIn inPlace (act (scope true) (trio b f (more u none))) q₀ k t o .result ≡ undoRaising conflictingReceive
-  unfolding Whole kind
-  scope-raises b f u q₀ k t o su (waits-itself e d) c x q r h = absurd (no-less (undoing-waits (undoing-scope x q r) (waits-itself e d) c) e)
-  scope-raises b f u q₀ k t o su (waits-within e (waits-first d w)) c x q r h = absurd (quiet-waits w refl (quiet-part q (omega arith) (omega arith)))
-  scope-raises b f u q₀ k t o su (waits-within e (waits-later d (waits-first y w))) c x q r h = absurd (quiet-waits w refl (quiet-part q (omega arith) (omega arith)))
-  scope-raises b f u q₀ k t o su (waits-within e (waits-later d (waits-later y (waits-first z w)))) c x q r h =
-      let i : doingIn (act (scope true) (trio b f (more u none))) k t ≡ doingIn u (k + 1 + size b + size f) t
-      = doing-within (scope true) (trio b f (more u none)) k t e
-      ∙ (doing-later b (more f (more u none)) (k + 1) t d ∙ (doing-later f (more u none) (k + 1 + size b) t y ∙ doing-among u none (k + 1 + size b + size f) t z)) in
-      ap (λ (r : Outcome). r .result) (undo-step p inPlace b f u q₀ k t o y z)
-      ∙ up-raised (stepIn inPlace u (k + 1 + size b + size f) (k + 1 + size b + size f) t o) (raise-out u (k + 1 + size b + size f) (k + 1 + size b + size f) t o su (ap isTake (sym i) ∙ h))
+  scope-raises : {c : Bool} (xs : List ℕ) (b f : Act) (u : Acts) (q₀ k t : ℕ) (o : Order) → bare (part (undoPart xs) (trio b f u)) ≡ true → Waits (o .marks) (act (scope xs true) (trio b f u)) k t c → c ≡ false
+      → Undoing (o .marks) (act (scope xs true) (trio b f u)) k
+      → isTake (doingIn (act (scope xs true) (trio b f u)) k t) ≡ true → stepIn inPlace (act (scope xs true) (trio b f u)) q₀ k t o .result ≡ undoRaising conflictingReceive
+  scope-raises xs b f u q₀ k t o su (waits-itself e d) c r h = absurd (no-less (undoing-waits r (waits-itself e d) c) e)
+  scope-raises xs b f u q₀ k t o su (waits-within e w) c (undoing-part s _ _) h = absurd (not-scope s)
+  scope-raises xs b f u q₀ k t o su (waits-within e w) c (undoing-scope x y r) h =
+      let z = nth-waits r w refl in
+      let a = part (undoPart xs) (trio b f u) in
+      let n = partAt (undoPart xs) (trio b f u) (k + 1) in
+      let i : doingIn (act (scope xs true) (trio b f u)) k t ≡ doingIn a n t
+      = doing-within (scope xs true) (trio b f u) k t e ∙ doing-nth (undoPart xs) (trio b f u) (k + 1) t (nth-there r) (z .0) (z .1) in
+      ap (λ (r : Outcome). r .result) (undo-step p inPlace xs b f u q₀ k t o (nth-there r) (z .0) (z .1))
+      ∙ up-raised (stepIn inPlace a n n t o) (raise-out a n n t o su (ap isTake (sym i) ∙ h))
 
   -- looked through
-  through-raises : {c : Bool} (b f : Act) (u : Acts) (q₀ k t : ℕ) (m₀ : Name) (o : Order) → Waits (o .marks) (act (scope false) (trio b f u)) k t c → c ≡ false
-      → getD (o .marks) k 0 ≡ idle → Undoing (o .marks) b (k + 1) → Quiet (o .marks) (k + 1 + size b) (size f + sizes u) → isTake (doingIn (act (scope false) (trio b f u)) k t) ≡ true
+  through-raises : {c : Bool} (xs : List ℕ) (b f : Act) (u : Acts) (q₀ k t : ℕ) (m₀ : Name) (o : Order) → Waits (o .marks) (act (scope xs false) (trio b f u)) k t c → c ≡ false
+      → getD (o .marks) k 0 ≡ idle → Undoing (o .marks) b (k + 1) → Quiet (o .marks) (k + 1 + size b) (size f + sizes u) → isTake (doingIn (act (scope xs false) (trio b f u)) k t) ≡ true
       → (Waits (o .marks) b (k + 1) t false → Acted (k + 1) (size b) o (UndoAs p m₀ b (k + 1) t o) (stepIn inPlace b (k + 1) (k + 1) t o))
       → (Waits (o .marks) b (k + 1) t false → isTake (doingIn b (k + 1) t) ≡ true → stepIn inPlace b (k + 1) (k + 1) t o .result ≡ undoRaising conflictingReceive)
-      → stepIn inPlace (act (scope false) (trio b f u)) q₀ k t o .result ≡ undoRaising conflictingReceive
+      → stepIn inPlace (act (scope xs false) (trio b f u)) q₀ k t o .result ≡ undoRaising conflictingReceive
   unfolding size
-  through-raises b f u q₀ k t m₀ o (waits-itself e d) c x r q h a g = absurd (no-less (undoing-waits (undoing-through {f = f} {u = u} x r q) (waits-itself e d) c) e)
-  through-raises b f u q₀ k t m₀ o (waits-within e (waits-first d w)) c x r q h a g =
-      ap (λ (r : Outcome). r .result) (through-is p inPlace b f u q₀ k t m₀ o x e d (a w))
-      ∙ g w (ap isTake (sym (doing-within (scope false) (trio b f u) k t e ∙ doing-among b (more f u) (k + 1) t d)) ∙ h)
-  through-raises b f u q₀ k t m₀ o (waits-within e (waits-later d w)) c x r q h a g = absurd (quiet-waits-in w refl q)
-
-  rest-bare : {z : Bool} {x : Place} {l : Acts} {k : ℕ} → Rest p z x l k → (u : Act) → l ≡ more u none → bare u ≡ true
-  rest-bare (rest-undo {u = a} su) u e = let z : a ≡ u = cc in subst (λ (j : Act). bare j ≡ true) z (remedy-bare su)
-  rest-bare rest-none u e = absurd (let z : _≡_ {A = ℕ} 0 1 = cc in omega arith)
+  through-raises xs b f u q₀ k t m₀ o (waits-itself e d) c x r q h a g = absurd (no-less (undoing-waits (undoing-through {xs = xs} {f = f} {u = u} x r q) (waits-itself e d) c) e)
+  through-raises xs b f u q₀ k t m₀ o (waits-within e (waits-first d w)) c x r q h a g =
+      ap (λ (r : Outcome). r .result) (through-is p inPlace xs b f u q₀ k t m₀ o x e d (a w))
+      ∙ g w (ap isTake (sym (doing-within (scope xs false) (trio b f u) k t e ∙ doing-among b (more f u) (k + 1) t d)) ∙ h)
+  through-raises xs b f u q₀ k t m₀ o (waits-within e (waits-later d w)) c x r q h a g = absurd (quiet-waits-in w refl q)
 
   mutual
-    unfolding size
+    unfolding size part partAt
 
     pub undo-raises : {x : Place} {a : Act} {k : ℕ} → Sits p x a k → (q₀ t : ℕ) (o : Order) (b : Bool) → PartOf x q₀ → Waits (o .marks) a k t b → b ≡ false → Undoing (o .marks) a k
         → (m₀ : Name) → runnerAt (λ n. markOf n o) (nameOf x) (beyondOf x) ≡ m₀ → Fit (undoOf (nameOf x) (beyondOf x) (lastOf x)) o → k + size a ≤ length (o .marks)
@@ -153,12 +158,10 @@ module _ (p : Plan) where
         ∙ (up-combines own within k t j s (ap isOver d) ∙ d)
     undo-raises (sits-part s g u y l) q₀ t o b q₁ (waits-within v w) e (undoing-scope _ _ _) m₀ y₂ f m h = absurd (not-scope s)
     undo-raises (sits-part s g u y l) q₀ t o b q₁ (waits-within v w) e (undoing-through _ _ _) m₀ y₂ f m h = absurd (not-scope s)
-    undo-raises (sits-scope {v = true} kn d i sb z sf su) q₀ t o c q₁ w e (undoing-part s _ _) m₀ y₂ f m h = absurd (not-scope s)
-    undo-raises (sits-scope {v = true} {b = b} {f = g} {k = k} kn d i sb z sf su) q₀ t o c q₁ w e (undoing-scope {u = u} x q r) m₀ y₂ f m h =
-        scope-raises b g u q₀ k t o (rest-bare su u refl) w e x q r h
-    undo-raises (sits-scope {v = false} kn d i sb z sf su) q₀ t o c q₁ w e (undoing-part s _ _) m₀ y₂ f m h = absurd (not-scope s)
-    undo-raises (sits-scope {v = false} {b = b} {f = g} {u = u} {k = k} kn d i sb z sf su) q₀ t o c q₁ w e (undoing-through x r q) m₀ y₂ f m h =
-        through-raises b g u q₀ k t m₀ o w e x r q h (λ w₁. steps-undoing p inPlace sb (k + 1) t o false refl w₁ refl r m₀ (rw x y₂) (rw x f) (omega arith))
+    undo-raises (sits-scope {xs = xs} {v = true} {b = b} {f = g} {u = u} {k = k} kn d i sb z) q₀ t o c q₁ w e r m₀ y₂ f m h = scope-raises xs b g u q₀ k t o (remedy-bare (undoer z)) w e r h
+    undo-raises (sits-scope {v = false} kn d i sb z) q₀ t o c q₁ w e (undoing-part s _ _) m₀ y₂ f m h = absurd (not-scope s)
+    undo-raises (sits-scope {xs = xs} {v = false} {b = b} {f = g} {u = u} {k = k} kn d i sb z) q₀ t o c q₁ w e (undoing-through x r q) m₀ y₂ f m h =
+        through-raises xs b g u q₀ k t m₀ o w e x r q h (λ w₁. steps-undoing p inPlace sb (k + 1) t o false refl w₁ refl r m₀ (rw x y₂) (rw x f) (omega arith))
         (λ w₁ h₁. undo-raises sb (k + 1) t o false refl w₁ refl r m₀ (rw x y₂) (rw x f) (omega arith) h₁)
 
     pub undo-raises-in : {x : Place} {l : Acts} {c : ℕ} → SitsIn p x l c → (q₀ t : ℕ) (o : Order) (b : Bool) → PartOf x q₀ → WaitsIn (o .marks) l c t b → b ≡ false → UndoingIn (o .marks) l c

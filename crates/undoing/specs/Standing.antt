@@ -115,8 +115,8 @@ stands p o =
     let ms = o .marks in
     let q = quiet (size (p .body)) (size (p .fault)) ms in
     (eqb m active && (runsIn (p .body) 0 ms && q))
-    || (((((eqb m faulty || eqb m halted) && (stoppedIn (p .body) 0 ms && innerRuns (p .body) 0 ms)) || ((eqb m undoing || eqb m withdrawing) && undoingIn (p .body) 0 ms)) && q)
-    || (eqb m handling && (quiet 0 (size (p .body)) ms && runsIn (p .fault) (size (p .body)) ms)))
+    || (((((eqb (stateIn m) faulty || eqb m halted) && (stoppedIn (p .body) 0 ms && innerRuns (p .body) 0 ms)) || ((eqb (stateIn m) undoing || eqb m withdrawing) && undoingIn (p .body) 0 ms)) && q)
+    || (eqb (stateIn m) handling && (quiet 0 (size (p .body)) ms && runsIn (p .fault) (size (p .body)) ms)))
 
 -- After any run of posts, collects and choices from a fresh start, for every accepted plan, a live order in any slot stands so.
 unfoldable pub Stands : Type 0
