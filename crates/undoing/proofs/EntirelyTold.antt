@@ -153,7 +153,7 @@ times-none j (x ∷ l) e = decide (isBeganOf (eqb j) x) (λ d. absurd (let z : 1
 pub formed-named : (f : ℕ → ℕ) {h : Bool} {a : Act} → Formed h false a → Named f a
 unfolding kind
 formed-named f (formed-part s i g y) = i
-formed-named f (formed-scope x y z) = refl
+formed-named f (formed-scope few many x z) = refl
 
 -- each number below
 pub each-below : (f : ℕ → Bool) (n : ℕ) → ((k : ℕ) → k < n → f k ≡ true) → every f (numbers n) ≡ true
