@@ -15,7 +15,7 @@ use Rattle.machine.specs.Calls.{endNumber, loaded}
 use Rattle.undoing.specs.Demand3.{Inner, scopesOf, closingsOf, undoneOf, hasTurned, isLeft, mayTurn, Demand3}
 use Rattle.undoing.specs.Ties.{orderAfter, pastAfter, isName, LiveTold, isTurned, MarksTold, remembered, ListsTold, StepsTold, FaultsTold, EndsTold, HandledBecause, PlacesTold, NeverStuck, GoingOn, NoneTwice}
 use Rattle.undoing.proofs.Settling.{none-twice}
-use Rattle.undoing.specs.Orderly.{Orderly, ChoicesTold}
+use Rattle.undoing.specs.Orderly.{Orderly, isChoice, ChoicesTold}
 use Rattle.undoing.specs.Begun.{BegunAll, BegunInTurn}
 use Rattle.undoing.specs.Entirely.{BegunTrulyEver, BegunOnce, BegunAfresh, BegunEntirely, LeftToFinish, AwaitedTold, Chained, StoppedTold, AllGoOn}
 use Rattle.undoing.specs.Onward.{KeptRunning, PassedOn, Decided}
@@ -108,7 +108,8 @@ undone-right bytes p next e calls slot t =
     (λ v. rw (
       v,
       every-name p (markTold o past) (λ n i. mark-told p o past n (marks-told bytes p next e calls slot t v n i)),
-      choices-told bytes p next e calls slot t v,
+      every-name p (isChoice p o past) (choices-told bytes p next e calls slot t v .0),
+      choices-told bytes p next e calls slot t v .1,
       every-name p (listTold p o past) (λ n i. list-told p o past n (lists-told bytes p next e calls slot t v n i)),
       places-told bytes p next e calls slot t v,
       going-on bytes p next e calls slot t v,
