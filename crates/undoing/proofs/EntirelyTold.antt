@@ -18,7 +18,7 @@ use Rattle.machine.specs.declared.Message.{Message}
 use Rattle.machine.specs.declared.State.{State}
 use Rattle.machine.specs.declared.Tally.{Tally}
 use Rattle.order.specs.Lists.{every, some}
-use Rattle.order.specs.State.{root, idle, done, halted, withdrawing, markAt, isLive, noOrder}
+use Rattle.order.specs.State.{root, idle, done, halted, withdrawing, markAt, isLive, noOrder, going}
 use Rattle.machine.specs.State.{fresh}
 use Rattle.machine.specs.Limits.{rootInLimits}
 use Rattle.order.specs.Event.{Event, started, began, closed, faulted, stopped, ended, raised, left}
@@ -153,7 +153,7 @@ times-none j (x ∷ l) e = decide (isBeganOf (eqb j) x) (λ d. absurd (let z : 1
 pub formed-named : (f : ℕ → ℕ) {h : Bool} {a : Act} → Formed h false a → Named f a
 unfolding kind
 formed-named f (formed-part s i g y) = i
-formed-named f (formed-scope x y z) = refl
+formed-named f (formed-scope few many x y) = refl
 
 -- each number below
 pub each-below : (f : ℕ → Bool) (n : ℕ) → ((k : ℕ) → k < n → f k ≡ true) → every f (numbers n) ≡ true
@@ -214,8 +214,9 @@ module _ (p : Plan) (h : Promised p) where
 
   -- a root that is done has quiet parts
   done-quiets : (ms : List ℕ) (m : ℕ) → m ≡ done → Running (rootOf p) ms m → Quiet ms 0 (size (p .body)) × Quiet ms (size (p .body)) (size (p .fault))
+  unfolding size
   done-quiets ms m e (scope-live d r q) = absurd (let z : _≡_ {A = ℕ} 1 3 = sym d ∙ e in omega arith)
-  done-quiets ms m e (scope-done d r q) = (r, q)
+  done-quiets ms m e (scope-done d r q) = (r, quiet-part q (omega arith) (omega arith))
   done-quiets ms m e (scope-turned t) = absurd (false≢true (sym (turned-not-open t) ∙ rw e))
 
   -- Where a step ends the order, nothing that lasts begins in it.
