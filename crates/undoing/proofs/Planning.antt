@@ -8,39 +8,38 @@ use lib.ListN.{length}
 use lib.Dec.{eqb, ltb, leb}
 use borrow.Author.Tests.{eqb-true, eq-eqb, ne-eqb, not-true, ltb-true, ltb-false, lt-ltb, le-ltb, leb-true}
 use Rattle.plan.specs.Read.{laterOf}
-use Rattle.plan.specs.Tree.{Own, empty, send, receive, set as setting, raise, leave, choose, repeat, sequence, flow, pick, scope, arm, kind, isArm, isPick, isScope, Act, act, Acts, none, more, Plan, size, sizes, count, hasUndo}
+use Rattle.plan.specs.Tree.{Own, empty, send, receive, set as setting, raise, leave, choose, repeat, sequence, flow, pick, scope, arm, kind, isArm, isPick, isScope, numbersOf, generalPart, Act, act, Acts, none, more, Plan, size, sizes, count, hasUndo}
+use Rattle.plan.specs.Found.{among}
 use Rattle.plan.specs.Spell.{spelling}
-use Rattle.plan.specs.Within.{from1, ownWithin, actWithin, actsWithin, levelsBelow, ascending, planWithin}
+use Rattle.plan.specs.Within.{from1, scopeParts, numbersWithin, ownWithin, actWithin, actsWithin, levelsBelow, ascending, planWithin}
 use Rattle.order.specs.Lists.{some, only, every}
 use Rattle.order.specs.State.{Name, root, inner, same}
 use Rattle.order.specs.Begin.{part, partAt}
-use Rattle.order.specs.Scope.{rootOf}
-use Rattle.undoing.specs.Demand3.{Inner, scopesIn, scopesAmong, scopesOf, insideOf, isUndoPart}
-use Rattle.undoing.specs.Ties.{isName, Place, bodyOf, faultOf, undoOf, nameOf, placeIn, placeAmong, placeOf, beyondOf, lastOf, beyondIn, lastIn}
-use Rattle.undoing.specs.Orderly.{isFaultPart}
+use Rattle.order.specs.Scope.{rootOf, partFor}
+use Rattle.undoing.specs.Demand3.{Inner, firsts, scopesIn, scopesAmong, scopesOf, insideOf, isUndoPart}
+use Rattle.undoing.specs.Ties.{isName, Place, bodyOf, faultOf, undoOf, nameOf, placeIn, placeAmong, placeParts, placeOf, beyondOf, lastOf, beyondIn, lastIn}
+use Rattle.undoing.specs.Orderly.{isFaultPart, isPartFor}
 use Rattle.undoing.proofs.Marks.{trio, spread}
 use Rattle.undoing.proofs.Parts.{both, decide, only-append, none-some, one-some, same-itself, same-swap}
-use Rattle.undoing.proofs.Accounts.{NoFaultPart, Known}
+use Rattle.undoing.proofs.Choices.{general-is, root-chosen}
+use Rattle.undoing.proofs.Accounts.{choiceBy, NoFaultPart, Known}
 use Rattle.undoing.proofs.Moves.{Before, Spot, Plain, Befores, Fore}
-use Rattle.undoing.proofs.Orders.{innerAt, directs, directsIn, bare, bareIn, least, Sits, sits-part, sits-scope, SitsIn, sits-none, sits-more, before-on, Faulty, Remedy, remedy, Rest, rest-undo, rest-none, befores-on, fore-on}
-use Rattle.undoing.proofs.Places.{place-here, place-within, place-scope, place-first, place-later, parts-first, parts-later, first-of, second-of}
-use Rattle.undoing.proofs.Seats.{Seat, directs-is}
+use Rattle.undoing.proofs.Orders.{innerAt, directs, directsIn, bare, bareIn, least, Sits, sits-part, sits-scope, SitsIn, sits-none, sits-more, before-on, Faulty, Remedy, remedy, remedy-names, Healers, heals-by, heals-all, Rest, rest-undo, rest-none, befores-on, fore-on}
+use Rattle.undoing.proofs.Remedies.{part-from, part-to, first-at, general-suc, chosenOn, chosen-most}
+use Rattle.undoing.proofs.Places.{place-here, place-within, place-scope, place-first, place-later, parts-first, parts-last, parts-later, first-of, second-of}
+use Rattle.undoing.proofs.Seats.{Chosen, Seat, directs-is}
 
 -- The form of a tree: `h` holds in a handler, where there is no scope; `r` holds of an arm.
 mutual
   pub data Formed : (h r : Bool) → Act → Type 0 where
     formed-part : {h r : Bool} {own : Own} {within : Acts} → isScope own ≡ false → isArm own ≡ r → least own ≤ count within
         → FormedIn h (isPick own) within → Formed h r (act own within)
-    formed-scope : {v : Bool} {b f : Act} {u : Acts} → Formed false false b → Formed true false f → FormedRest v u → Formed false false (act (scope v) (trio b f u))
+    formed-scope : {xs : List ℕ} {v : Bool} {b f : Act} {u : Acts} → length xs ≤ 8 → count (more f u) ≡ length xs + cond v 2 1 → Formed false false b → FormedIn true false (more f u)
+        → Formed false false (act (scope xs v) (trio b f u))
 
   pub data FormedIn : (h r : Bool) → Acts → Type 0 where
     formed-none : {h r : Bool} → FormedIn h r none
     formed-more : {h r : Bool} {a : Act} {l : Acts} → Formed h r a → FormedIn h r l → FormedIn h r (more a l)
-
-  -- what stands after the fault part of a scope: its undo part, or nothing where it has none
-  pub data FormedRest : Bool → Acts → Type 0 where
-    formed-undo : {u : Act} → Formed true false u → FormedRest true (more u none)
-    formed-no : FormedRest false none
 
 -- what an activity may say of itself
 own-formed : (vars : ℕ) (cs : List ℕ) (h r : Bool) (own : Own) (n : ℕ) → ownWithin vars cs h r own n ≡ true → isScope own ≡ false → (isArm own ≡ r) × (least own ≤ n)
@@ -60,12 +59,12 @@ own-formed vars cs h r sequence n e s = (sym (not-true r (both (not r) _ e (λ x
 own-formed vars cs h r flow n e s = (sym (not-true r (both (not r) _ e (λ x y. x))), omega arith)
 own-formed vars cs h r pick n e s =
     both (not r) _ e (λ a b. both (leb 1 n) _ b (λ c d. (sym (not-true r a), let z : 1 ≤ n = leb-true 1 n c in omega arith)))
-own-formed vars cs h r (scope v) n e s = absurd (false≢true (sym s))
+own-formed vars cs h r (scope xs v) n e s = absurd (false≢true (sym s))
 own-formed vars cs h r (arm x y vs) n e s =
     both r _ e (λ a b. both (eqb n 1) _ b (λ c d. (sym a, let z : n ≡ 1 = eqb-true n 1 c in omega arith)))
 
 -- only a scope is one
-pub scope-own : (own : Own) → isScope own ≡ true → own ≡ scope (hasUndo own)
+pub scope-own : (own : Own) → isScope own ≡ true → own ≡ scope (numbersOf own) (hasUndo own)
 scope-own empty e = absurd (false≢true e)
 scope-own (send x y vs) e = absurd (false≢true e)
 scope-own (receive x y vs) e = absurd (false≢true e)
@@ -78,57 +77,46 @@ scope-own (repeat x) e = absurd (false≢true e)
 scope-own sequence e = absurd (false≢true e)
 scope-own flow e = absurd (false≢true e)
 scope-own pick e = absurd (false≢true e)
-scope-own (scope v) e = refl
+scope-own (scope xs v) e = refl
 scope-own (arm x y vs) e = absurd (false≢true e)
 
--- a scope's parts: three with an undo part, and two with none
-three : (v h r : Bool) (l : Acts) → h ≡ false → r ≡ false → count l ≡ cond v 3 2
-    → ((a : Act) (x : Acts) → l ≡ more a x → Formed false false a) → ((a b : Act) (x : Acts) → l ≡ more a (more b x) → Formed true false b)
-    → ((a b c : Act) (x : Acts) → l ≡ more a (more b (more c x)) → Formed true false c) → Formed h r (act (scope v) l)
+-- numbers within the limits are eight at most
+numbers-few : (xs : List ℕ) (v : Bool) → numbersWithin xs v ≡ true → length xs ≤ 8
+unfolding numbersWithin
+numbers-few [] v e = omega arith
+numbers-few (x ∷ xs) v e = both v _ e (λ a b. both (leb (length (x ∷ xs)) 8) _ b (λ c d. leb-true (length (x ∷ xs)) 8 c))
+
+-- a scope's parts, by their number
+its-parts : (xs : List ℕ) (v h r : Bool) (l : Acts) → h ≡ false → r ≡ false → length xs ≤ 8 → count l ≡ scopeParts xs v
+    → ((a : Act) (x : Acts) → l ≡ more a x → Formed false false a) → ((a : Act) (x : Acts) → l ≡ more a x → FormedIn true false x) → Formed h r (act (scope xs v) l)
 unfolding count
-three true h r none e v d f g i = absurd (omega arith)
-three true h r (more a none) e v d f g i = absurd (omega arith)
-three true h r (more a (more b none)) e v d f g i = absurd (omega arith)
-three true h r (more a (more b (more c none))) e v d f g i =
-    subst (λ (z : Bool). Formed z r (act (scope true) (more a (more b (more c none))))) (sym e)
-    (subst (λ (z : Bool). Formed false z (act (scope true) (more a (more b (more c none))))) (sym v) (formed-scope (f a _ refl) (g a b _ refl) (formed-undo (i a b c _ refl))))
-three true h r (more a (more b (more c (more x l)))) e v d f g i = absurd (omega arith)
-three false h r none e v d f g i = absurd (omega arith)
-three false h r (more a none) e v d f g i = absurd (omega arith)
-three false h r (more a (more b none)) e v d f g i =
-    subst (λ (z : Bool). Formed z r (act (scope false) (more a (more b none)))) (sym e)
-    (subst (λ (z : Bool). Formed false z (act (scope false) (more a (more b none)))) (sym v) (formed-scope (f a _ refl) (g a b _ refl) formed-no))
-three false h r (more a (more b (more c l))) e v d f g i = absurd (omega arith)
-
--- the first of a list
-formed-first : {h r : Bool} (a : Act) (l x : Acts) → l ≡ more a x → FormedIn h r l → Formed h r a
-formed-first a l x e (formed-none) = absurd (let z : _≡_ {A = ℕ} 0 1 = cc in omega arith)
-formed-first {h} {r} a l x e (formed-more {a = b} f g) = subst (λ (w : Act). Formed h r w) (let q : b ≡ a = cc in q) f
-
--- the second of a list
-formed-second : {h r : Bool} (a b : Act) (l x : Acts) → l ≡ more a (more b x) → FormedIn h r l → Formed h r b
-formed-second a b l x e (formed-none) = absurd (let z : _≡_ {A = ℕ} 0 1 = cc in omega arith)
-formed-second {h} {r} a b l x e (formed-more {l = m} f g) = formed-first b m x (let q : m ≡ more b x = cc in q) g
+its-parts xs v h r none e d n c f g = absurd (decide v (λ t. let z : 0 ≡ length xs + 3 = rw t at c in omega arith) (λ t. let z : 0 ≡ length xs + 2 = rw t at c in omega arith))
+its-parts xs v h r (more a none) e d n c f g = absurd (decide v (λ t. let z : 1 ≡ length xs + 3 = rw t at c in omega arith) (λ t. let z : 1 ≡ length xs + 2 = rw t at c in omega arith))
+its-parts xs v h r (more a (more b l)) e d n c f g =
+    subst (λ (z : Bool). Formed z r (act (scope xs v) (more a (more b l)))) (sym e)
+    (subst (λ (z : Bool). Formed false z (act (scope xs v) (more a (more b l)))) (sym d) (formed-scope n (one-less v c) (f a (more b l) refl) (g a (more b l) refl)))
+  where
+    one-less : (v : Bool) → 1 + (1 + count l) ≡ length xs + cond v 3 2 → 1 + count l ≡ length xs + cond v 2 1
+    one-less true h = omega arith
+    one-less false h = omega arith
 
 -- a scope within the limits
-formed-scope-own : (v : Bool) (vars : ℕ) (cs : List ℕ) (h r : Bool) (l : Acts) → ownWithin vars cs h r (scope v) (count l) ≡ true
-    → (((a : Act) (x : Acts) → l ≡ more a x → Formed h false a) × ((a : Act) (x : Acts) → l ≡ more a x → FormedIn true false x)) → Formed h r (act (scope v) l)
+formed-scope-own : (xs : List ℕ) (v : Bool) (vars : ℕ) (cs : List ℕ) (h r : Bool) (l : Acts) → ownWithin vars cs h r (scope xs v) (count l) ≡ true
+    → (((a : Act) (x : Acts) → l ≡ more a x → Formed h false a) × ((a : Act) (x : Acts) → l ≡ more a x → FormedIn true false x)) → Formed h r (act (scope xs v) l)
 unfolding ownWithin
-formed-scope-own v vars cs h r l e f =
-    both (not r) _ e (λ x y. both (eqb (count l) (cond v 3 2)) (not h) y (λ c d.
-    let z : h ≡ false = not-true h d in
-    three v h r l z (not-true r x) (eqb-true (count l) (cond v 3 2) c) (λ a x g. subst (λ (b : Bool). Formed b false a) z (f .0 a x g))
-    (λ a b x g. formed-first b (more b x) x refl (f .1 a (more b x) g))
-    (λ a b c x g. formed-second b c (more b (more c x)) x refl (f .1 a (more b (more c x)) g))))
+formed-scope-own xs v vars cs h r l e f =
+    both (not r) _ e (λ x y. both (eqb (count l) (scopeParts xs v)) _ y (λ c d. both (not h) _ d (λ i j.
+    let z : h ≡ false = not-true h i in
+    its-parts xs v h r l z (not-true r x) (numbers-few xs v j) (eqb-true (count l) (scopeParts xs v) c) (λ a x g. subst (λ (b : Bool). Formed b false a) z (f .0 a x g)) (f .1))))
 
 -- the same, of what is a scope
-formed-as-scope : (v : Bool) (vars : ℕ) (cs : List ℕ) (h r : Bool) (own : Own) (l : Acts) → own ≡ scope v → ownWithin vars cs h r own (count l) ≡ true
+formed-as-scope : (xs : List ℕ) (v : Bool) (vars : ℕ) (cs : List ℕ) (h r : Bool) (own : Own) (l : Acts) → own ≡ scope xs v → ownWithin vars cs h r own (count l) ≡ true
     → (((a : Act) (x : Acts) → l ≡ more a x → Formed h (isPick own) a) × ((a : Act) (x : Acts) → l ≡ more a x → FormedIn (laterOf own h) (isPick own) x))
     → Formed h r (act own l)
-formed-as-scope v vars cs h r own l s =
+formed-as-scope xs v vars cs h r own l s =
     subst (λ (own : Own). ownWithin vars cs h r own (count l) ≡ true
     → (((a : Act) (x : Acts) → l ≡ more a x → Formed h (isPick own) a) × ((a : Act) (x : Acts) → l ≡ more a x → FormedIn (laterOf own h) (isPick own) x))
-    → Formed h r (act own l)) (sym s) (λ z f. formed-scope-own v vars cs h r l z f)
+    → Formed h r (act own l)) (sym s) (λ z f. formed-scope-own xs v vars cs h r l z f)
 
 -- A tree within the limits has this form.
 mutual
@@ -139,7 +127,7 @@ mutual
   formed vars cs h r (act own l) depth e =
       both (r || ltb 0 depth) _ e (λ x y. both (ownWithin vars cs h r own (count l)) _ y (λ z w.
       decide (isScope own)
-      (λ s. formed-as-scope (hasUndo own) vars cs h r own l (scope-own own s) z (formed-parts vars cs h (laterOf own h) (isPick own) l (levelsBelow r depth) w))
+      (λ s. formed-as-scope (numbersOf own) (hasUndo own) vars cs h r own l (scope-own own s) z (formed-parts vars cs h (laterOf own h) (isPick own) l (levelsBelow r depth) w))
       (λ s. let f = own-formed vars cs h r own (count l) z s in
       formed-part s (f .0) (f .1)
       (formed-all vars cs h (isPick own) l (levelsBelow r depth)
@@ -165,11 +153,11 @@ mutual
 -- by whether an activity is one
 pub scopes-is : (own : Own) (within : Acts) (k : ℕ) (n : Name) (ns : List Name) (b : Bool) → isScope own ≡ b
     → scopesIn (act own within) k n ns
-    ≡ elim b [ true ↦ innerAt (hasUndo own) k n ns within ∷ scopesAmong within (k + 1) (inner k) (cond (hasUndo own) [] (n ∷ ns)) | false ↦ scopesAmong within (k + 1) n ns ]
+    ≡ elim b [ true ↦ innerAt (numbersOf own) (hasUndo own) k n ns within ∷ scopesAmong within (k + 1) (inner k) (cond (hasUndo own) [] (n ∷ ns)) | false ↦ scopesAmong within (k + 1) n ns ]
 unfolding scopesIn
 scopes-is own within k n ns b t =
     subst (λ (z : Bool). scopesIn (act own within) k n ns
-    ≡ elim z [ true ↦ innerAt (hasUndo own) k n ns within ∷ scopesAmong within (k + 1) (inner k) (cond (hasUndo own) [] (n ∷ ns)) | false ↦ scopesAmong within (k + 1) n ns ]) t refl
+    ≡ elim z [ true ↦ innerAt (numbersOf own) (hasUndo own) k n ns within ∷ scopesAmong within (k + 1) (inner k) (cond (hasUndo own) [] (n ∷ ns)) | false ↦ scopesAmong within (k + 1) n ns ]) t refl
 
 -- there is no scope in a handler
 mutual
@@ -179,7 +167,7 @@ mutual
   pub bare-formed : {r : Bool} {a : Act} {h : Bool} → Formed h r a → h ≡ true → (bare a ≡ true) × ((k : ℕ) (n : Name) (ns : List Name) → scopesIn a k n ns ≡ [])
   bare-formed (formed-part {own = own} {within = within} s i g f) e =
       let b = bare-formed-in f e in (rw (s, b .0), λ k n ns. scopes-is own within k n ns false s ∙ b .1 (k + 1) n ns)
-  bare-formed (formed-scope b f u) e = absurd (false≢true e)
+  bare-formed (formed-scope few many b l) e = absurd (false≢true e)
 
   -- in a list
   pub bare-formed-in : {r : Bool} {l : Acts} {h : Bool} → FormedIn h r l → h ≡ true → (bareIn l ≡ true) × ((c : ℕ) (n : Name) (ns : List Name) → scopesAmong l c n ns ≡ [])
@@ -187,18 +175,11 @@ mutual
   bare-formed-in (formed-more {a = a} {l = l} f g) e =
       let x = bare-formed f e in let y = bare-formed-in g e in (rw (x .0, y .0), λ c n ns. rw (x .1 c n ns, y .1 (c + size a) n ns))
 
--- nor after a fault part
-pub bare-rest : {v : Bool} {u : Acts} → FormedRest v u → (c : ℕ) (n : Name) (ns : List Name) → scopesAmong u c n ns ≡ []
-unfolding scopesIn
-bare-rest (formed-undo z) c n ns = rw (bare-formed z refl .1 c n ns)
-bare-rest formed-no c n ns = refl
-
 -- so those of a scope are itself, and those of its body
-pub scopes-scope : {v : Bool} (b : Act) {f : Act} {u : Acts} → Formed true false f → FormedRest v u → (k : ℕ) (n : Name) (ns : List Name)
-    → scopesIn (act (scope v) (trio b f u)) k n ns ≡ innerAt v k n ns (trio b f u) ∷ scopesIn b (k + 1) (inner k) (cond v [] (n ∷ ns))
+pub scopes-scope : (xs : List ℕ) (v : Bool) (b : Act) {f : Act} {u : Acts} → FormedIn true false (more f u) → (k : ℕ) (n : Name) (ns : List Name)
+    → scopesIn (act (scope xs v) (trio b f u)) k n ns ≡ innerAt xs v k n ns (trio b f u) ∷ scopesIn b (k + 1) (inner k) (cond v [] (n ∷ ns))
 unfolding scopesIn
-scopes-scope {v} b {f} {u} y z k n ns =
-    rw (bare-formed y refl .1 (k + 1 + size b) (inner k) (cond v [] (n ∷ ns)), bare-rest z (k + 1 + size b + size f) (inner k) (cond v [] (n ∷ ns)), append-nil)
+scopes-scope xs v b {f} {u} z k n ns = rw (bare-formed-in z refl .1 (k + 1 + size b) (inner k) (cond v [] (n ∷ ns)), append-nil)
 
 -- the tests that find a scope: by its number, by its undo part, by its fault part, by the scope around it
 abbrev byNumber : ℕ → Inner → Bool
@@ -208,7 +189,7 @@ abbrev byUndo : ℕ → Inner → Bool
 byUndo j x = isUndoPart j x
 
 abbrev byFault : ℕ → Inner → Bool
-byFault j x = eqb (x .fault) j
+byFault j x = among j (x .parts)
 
 abbrev byAround : ℕ → Inner → Bool
 byAround j x = same (x .around) (inner j)
@@ -260,11 +241,51 @@ outside-ne : {j k n : ℕ} (i : ℕ) → Outside j k n → k ≤ i → i < k + n
 outside-ne {j} i (below h) x y = ne-eqb i j (omega arith)
 outside-ne {j} i (above h) x y = ne-eqb i j (omega arith)
 
--- nor is its undo part's number j, where it has one
-undo-outside : {v : Bool} (b f : Act) {u : Acts} {j k : ℕ} → FormedRest v u → (n : Name) (ns : List Name) → Outside j k (spread b f u) → byUndo j (innerAt v k n ns (trio b f u)) ≡ false
-unfolding size part partAt
-undo-outside b f {k = k} (formed-undo {u = u} z) n ns o = outside-ne (k + 1 + size b + size f) o (omega arith) (omega (arith, positive u))
-undo-outside b f formed-no n ns o = refl
+-- a list with the undo part of a scope in it
+undo-in : (xs : List ℕ) (v : Bool) (l : Acts) → count l ≡ length xs + cond v 2 1 → v ≡ true → generalPart xs < count l
+undo-in xs true l e d = omega (arith, general-is xs)
+undo-in xs false l e d = absurd (false≢true d)
+
+-- the numbers of parts are none but theirs
+firsts-outside : (n : ℕ) (l : Acts) (c j : ℕ) → Outside j c (sizes l) → among j (firsts n l c) ≡ false
+unfolding firsts among size
+firsts-outside zero l c j o = refl
+firsts-outside (suc n) none c j o = refl
+firsts-outside (suc n) (more a l) c j o = rw (other o, firsts-outside n l (c + size a) j (outside-part o (omega arith) (omega arith)))
+  where
+    other : Outside j c (size a + sizes l) → eqb j c ≡ false
+    other (below h) = ne-eqb j c (omega arith)
+    other (above h) = ne-eqb j c (omega (arith, positive a))
+
+-- nor is the number of what stands behind them one
+firsts-behind : (n : ℕ) (l : Acts) (c j : ℕ) → partAt n l c ≤ j → among j (firsts n l c) ≡ false
+unfolding firsts among partAt
+firsts-behind zero l c j h = refl
+firsts-behind (suc n) none c j h = refl
+firsts-behind (suc n) (more a l) c j h = rw (ne-eqb j c (omega (arith, positive a, part-from n l (c + size a))), firsts-behind n l (c + size a) j h)
+
+-- no number but its own is that of a scope's undo part or of a fault part
+module _ (xs : List ℕ) (v : Bool) (b f : Act) (u : Acts) (k : ℕ) (n : Name) (ns : List Name) where
+  undo-outside : {j : ℕ} → count (more f u) ≡ length xs + cond v 2 1 → Outside j k (spread b f u) → byUndo j (innerAt xs v k n ns (trio b f u)) ≡ false
+  unfolding size partAt
+  undo-outside e o =
+      decide v
+      (λ t. let i = undo-in xs v (more f u) e t in
+      rw (t, outside-ne (partAt (generalPart xs) (more f u) (k + 1 + size b)) o (omega (arith, part-from (generalPart xs) (more f u) (k + 1 + size b)))
+      (omega (arith, part-to (generalPart xs) (more f u) (k + 1 + size b) i, positive (part (generalPart xs) (more f u))))))
+      (λ t. rw t)
+
+  fault-outside : (j : ℕ) → Outside j k (spread b f u) → byFault j (innerAt xs v k n ns (trio b f u)) ≡ false
+  unfolding size partAt
+  fault-outside j o = firsts-outside (generalPart xs) (more f u) (k + 1 + size b) j (outside-part o (omega arith) (omega arith))
+
+  undo-beside : (j : ℕ) → j < k + 1 + size b → byUndo j (innerAt xs v k n ns (trio b f u)) ≡ false
+  unfolding partAt
+  undo-beside j h = ap (λ (z : Bool). v && z) (ne-eqb (partAt (generalPart xs) (more f u) (k + 1 + size b)) j (omega (arith, part-from (generalPart xs) (more f u) (k + 1 + size b)))) ∙ and-false v
+
+  fault-beside : (j : ℕ) → j < k + 1 + size b → byFault j (innerAt xs v k n ns (trio b f u)) ≡ false
+  unfolding partAt
+  fault-beside j h = firsts-outside (generalPart xs) (more f u) (k + 1 + size b) j (below h)
 
 -- outside its numbers nothing in a tree has to do with j
 mutual
@@ -274,9 +295,9 @@ mutual
   clear-in : {h r : Bool} {a : Act} → Formed h r a → (k j : ℕ) (n : Name) (ns : List Name) → same n (inner j) ≡ false → Outside j k (size a) → Clear j (scopesIn a k n ns)
   clear-in (formed-part {own = own} {within = within} s i g f) k j n ns t o =
       rw (scopes-is own within k n ns false s) (clear-among f (k + 1) j n ns t (outside-part o (omega arith) (omega arith)))
-  clear-in (formed-scope {v = v} {b = b} {f = f} {u = u} x y z) k j n ns t o =
-      subst (λ (l : List Inner). Clear j l) (sym (scopes-scope b y z k n ns))
-      (clear-cons (innerAt v k n ns (trio b f u)) _ (outside-ne k o (omega arith) (omega arith)) (undo-outside b f z n ns o) (outside-ne (k + 1 + size b) o (omega arith) (omega (arith, positive f))) t
+  clear-in (formed-scope {xs} {v = v} {b = b} {f = f} {u = u} few many x z) k j n ns t o =
+      subst (λ (l : List Inner). Clear j l) (sym (scopes-scope xs v b z k n ns))
+      (clear-cons (innerAt xs v k n ns (trio b f u)) _ (outside-ne k o (omega arith) (omega arith)) (undo-outside xs v b f u k n ns many o) (fault-outside xs v b f u k n ns j o) t
       (clear-in x (k + 1) j (inner k) (cond v [] (n ∷ ns)) (outside-ne k o (omega arith) (omega arith)) (outside-part o (omega arith) (omega arith))))
 
   -- a list
@@ -317,9 +338,9 @@ mutual
   free-in : {h r : Bool} {a : Act} → Formed h r a → (k j : ℕ) (n : Name) (ns : List Name) → Outside j k (size a) → Free j (scopesIn a k n ns)
   free-in (formed-part {own = own} {within = within} s i g f) k j n ns o =
       subst (λ (l : List Inner). Free j l) (sym (scopes-is own within k n ns false s)) (free-among f (k + 1) j n ns (outside-part o (omega arith) (omega arith)))
-  free-in (formed-scope {v = v} {b = b} {f = f} {u = u} x y z) k j n ns o =
-      subst (λ (l : List Inner). Free j l) (sym (scopes-scope b y z k n ns))
-      (free-cons j (innerAt v k n ns (trio b f u)) _ (outside-ne k o (omega arith) (omega arith)) (undo-outside b f z n ns o) (outside-ne (k + 1 + size b) o (omega arith) (omega (arith, positive f)))
+  free-in (formed-scope {xs} {v = v} {b = b} {f = f} {u = u} few many x z) k j n ns o =
+      subst (λ (l : List Inner). Free j l) (sym (scopes-scope xs v b z k n ns))
+      (free-cons j (innerAt xs v k n ns (trio b f u)) _ (outside-ne k o (omega arith) (omega arith)) (undo-outside xs v b f u k n ns many o) (fault-outside xs v b f u k n ns j o)
       (free-in x (k + 1) j (inner k) (cond v [] (n ∷ ns)) (outside-part o (omega arith) (omega arith))))
 
   -- a list
@@ -335,8 +356,8 @@ mutual
   -- in an activity
   no-root : {h r : Bool} {a : Act} → Formed h r a → (k i : ℕ) (ns : List Name) → only (λ x. same (x .around) root) (scopesIn a k (inner i) ns) ≡ []
   no-root (formed-part {own = own} {within = within} s x g f) k i ns = rw (scopes-is own within k (inner i) ns false s) (no-root-among f (k + 1) i ns)
-  no-root (formed-scope {v = v} {b = b} {f = f} {u = u} x y z) k i ns =
-      ap (only (λ x. same (x .around) root)) (scopes-scope b y z k (inner i) ns) ∙ no-root x (k + 1) k (cond v [] (inner i ∷ ns))
+  no-root (formed-scope {xs} {v = v} {b = b} {f = f} {u = u} few many x z) k i ns =
+      ap (only (λ x. same (x .around) root)) (scopes-scope xs v b z k (inner i) ns) ∙ no-root x (k + 1) k (cond v [] (inner i ∷ ns))
 
   -- in a list
   no-root-among : {h r : Bool} {l : Acts} → FormedIn h r l → (c i : ℕ) (ns : List Name) → only (λ x. same (x .around) root) (scopesAmong l c (inner i) ns) ≡ []
@@ -362,8 +383,8 @@ mutual
   directs-only : {h r : Bool} {a : Act} → Formed h r a → (k : ℕ) (n : Name) (ns : List Name) → Before n k → only (λ x. same (x .around) n) (scopesIn a k n ns) ≡ directs a k n ns
   directs-only (formed-part {own = own} {within = within} s x g f) k n ns b =
       rw (scopes-is own within k n ns false s, directs-is own within k n ns false s) (directs-only-in f (k + 1) n ns (before-on n b (omega arith)))
-  directs-only (formed-scope {v = v} {b = b} {f = f} {u = u} x y z) k n ns h =
-      ap (only (λ x. same (x .around) n)) (scopes-scope b y z k n ns) ∙ rw (same-itself n, inner-away x k (k + 1) n (cond v [] (n ∷ ns)) h (omega arith))
+  directs-only (formed-scope {xs} {v = v} {b = b} {f = f} {u = u} few many x z) k n ns h =
+      ap (only (λ x. same (x .around) n)) (scopes-scope xs v b z k n ns) ∙ rw (same-itself n, inner-away x k (k + 1) n (cond v [] (n ∷ ns)) h (omega arith))
 
   -- in a list
   directs-only-in : {h r : Bool} {l : Acts} → FormedIn h r l → (c : ℕ) (n : Name) (ns : List Name) → Before n c → only (λ x. same (x .around) n) (scopesAmong l c n ns) ≡ directsIn l c n ns
@@ -396,66 +417,34 @@ focus-same : {p : Plan} {k n : ℕ} (l m : List Inner) → l ≡ m → Focus p l
 focus-same {p} {k} {n} l m e f = subst (λ (x : List Inner). Focus p x k n) e f
 
 -- where no scope of a list has the fault part j, none with a number has
-no-fault-in : (i j : ℕ) (l : List Inner) → only (byFault j) l ≡ [] → some (λ x. eqb (x .number) i && eqb (x .fault) j) l ≡ false
+no-fault-in : (i j : ℕ) (l : List Inner) → only (byFault j) l ≡ [] → some (λ x. eqb (x .number) i && among j (x .parts)) l ≡ false
 unfolding only some
 no-fault-in i j [] e = refl
 no-fault-in i j (x ∷ l) e =
-    decide (eqb (x .fault) j)
+    decide (among j (x .parts))
     (λ t. absurd (let d : x ∷ only (byFault j) l ≡ [] = rw t at e in let z : _≡_ {A = ℕ} 0 1 = cc in omega arith))
     (λ t. rw (t, and-false, no-fault-in i j l (rw t at e)))
 
 -- of the scopes with this fault part the one in a list has another number, or this one
-fault-in : (i j : ℕ) (x : Inner) (l : List Inner) → only (byFault j) l ≡ x ∷ [] → some (λ y. eqb (y .number) i && eqb (y .fault) j) l ≡ eqb (x .number) i
+fault-in : (i j : ℕ) (x : Inner) (l : List Inner) → only (byFault j) l ≡ x ∷ [] → some (λ y. eqb (y .number) i && among j (y .parts)) l ≡ eqb (x .number) i
 unfolding only some
 fault-in i j x [] e = absurd (let z : _≡_ {A = ℕ} 0 1 = cc in omega arith)
 fault-in i j x (y ∷ l) e =
-    decide (eqb (y .fault) j)
+    decide (among j (y .parts))
     (λ t. let d : y ∷ only (byFault j) l ≡ x ∷ [] = rw t at e in
     let z : y ≡ x = cc in let n : only (byFault j) l ≡ [] = cc in
     rw (t, and-true, no-fault-in i j l n, or-false, z))
     (λ t. rw (t, and-false, fault-in i j x l (rw t at e)))
 
--- the places of a tree's numbers, and of a list's
+-- the places of a tree's numbers, of a list's, and of the parts of a scope after its body, with so many fault parts after the first
 abbrev Stood : Plan → Act → (k : ℕ) → Place → Type 0
 Stood p a k q = (t : ℕ) → k ≤ t → t < k + size a → placeOf p t ≡ placeIn a k t q
 
 abbrev StoodIn : Plan → Acts → (c : ℕ) → Place → Type 0
 StoodIn p l c q = (t : ℕ) → c ≤ t → t < c + sizes l → placeOf p t ≡ placeAmong l c t q
 
--- Where the undo part of a scope stands, if it has one: after its fault part, and within its numbers.
-its-undo : {v : Bool} {u : Acts} → FormedRest v u → (b f : Act) (k : ℕ) (n : Name) (ns : List Name) (l : List Inner) → (v ≡ true → Free (k + 1 + size b + size f) l)
-    → v ≡ true → (k + 1 + size b < innerAt v k n ns (trio b f u) .undo) × (innerAt v k n ns (trio b f u) .undo < k + spread b f u) × Free (innerAt v k n ns (trio b f u) .undo) l
-unfolding size part partAt
-its-undo (formed-undo {u = u} z) b f k n ns l g e = (omega (arith, positive f), omega (arith, positive u), g refl)
-its-undo formed-no b f k n ns l g e = absurd (false≢true e)
-
--- no number of its body is that, and none of its fault part after the first, nor of the undo part after the first
-undo-beside : {v : Bool} {u : Acts} → FormedRest v u → (b f : Act) (k : ℕ) (n : Name) (ns : List Name) (j : ℕ) → j < k + 1 + size b → byUndo j (innerAt v k n ns (trio b f u)) ≡ false
-unfolding part partAt
-undo-beside (formed-undo z) b f k n ns j h = ne-eqb (k + 1 + size b + size f) j (omega arith)
-undo-beside formed-no b f k n ns j h = refl
-
-undo-before : {v : Bool} {u : Acts} → FormedRest v u → (b f : Act) (k : ℕ) (n : Name) (ns : List Name) (j : ℕ) → j < k + 1 + size b + size f → byUndo j (innerAt v k n ns (trio b f u)) ≡ false
-unfolding part partAt
-undo-before (formed-undo z) b f k n ns j h = ne-eqb (k + 1 + size b + size f) j (omega arith)
-undo-before formed-no b f k n ns j h = refl
-
-undo-after : {v : Bool} {u : Acts} → FormedRest v u → (b f : Act) (k : ℕ) (n : Name) (ns : List Name) (j : ℕ) → k + 1 + size b + size f < j → byUndo j (innerAt v k n ns (trio b f u)) ≡ false
-unfolding part partAt
-undo-after (formed-undo z) b f k n ns j h = ne-eqb (k + 1 + size b + size f) j (omega arith)
-undo-after formed-no b f k n ns j h = refl
-
--- it is no scope
-its-undo-name : {p : Plan} {v : Bool} {u : Acts} → FormedRest v u → (b f : Act) (k : ℕ) (n : Name) (ns : List Name) → Known p (innerAt v k n ns (trio b f u))
-    → v ≡ true → isName p (inner (k + 1 + size b + size f)) ≡ false
-unfolding part partAt
-its-undo-name (formed-undo z) b f k n ns kn e = kn .noScope refl
-its-undo-name formed-no b f k n ns kn e = absurd (false≢true e)
-
--- its numbers are the scope's
-last-fits : (a : Act) (u : Acts) (b f : Act) (k m : ℕ) → u ≡ more a none → 1 + m ≡ size a → k + 1 + size b + size f + 1 + m ≤ k + spread b f u
-unfolding size
-last-fits a u b f k m e d = let z : sizes u ≡ sizes (more a none) = ap sizes e in omega (arith, z)
+abbrev StoodParts : Plan → (left : ℕ) → Acts → (c : ℕ) → (fault undo : Place) → Type 0
+StoodParts p n l c q u = (t : ℕ) → c ≤ t → t < c + sizes l → placeOf p t ≡ placeParts n l c t q q u
 
 module _ (p : Plan) where
   -- of what stands within, of the first and of the others
@@ -472,23 +461,19 @@ module _ (p : Plan) where
   stood-later a l c q h t x y = h t (omega arith) (omega arith) ∙ place-later a l c t q (le-ltb t (c + size a) (omega arith))
 
   -- of the parts of a scope
-  module _ (v : Bool) (b f : Act) (u : Acts) (k : ℕ) (q : Place) (h : Stood p (act (scope v) (trio b f u)) k q) where
+  module _ (xs : List ℕ) (v : Bool) (b f : Act) (u : Acts) (k : ℕ) (q : Place) (h : Stood p (act (scope xs v) (trio b f u)) k q) where
     stood-body : Stood p b (k + 1) (bodyOf (inner k) (beyondIn v q) (lastIn v q))
     unfolding size
     stood-body t x y =
-        h t (omega arith) (omega arith) ∙ (place-scope v (trio b f u) k t q (ne-eqb k t (omega arith)) ∙ parts-first b (more f u) (k + 1) t _ _ _ (lt-ltb t (k + 1 + size b) (omega arith)))
+        h t (omega arith) (omega arith) ∙ (place-scope xs v (trio b f u) k t q (ne-eqb k t (omega arith)) ∙ parts-first (generalPart xs) b (more f u) (k + 1) t _ _ _ (lt-ltb t (k + 1 + size b) (omega arith)))
 
-    stood-fault : Stood p f (k + 1 + size b) (faultOf (inner k) (beyondIn v q) (lastIn v q))
+    stood-parts : StoodParts p (length xs) (more f u) (k + 1 + size b) (faultOf (inner k) (beyondIn v q) (lastIn v q)) (undoOf (nameOf q) (beyondOf q) (lastOf q))
     unfolding size
-    stood-fault t x y =
-        h t (omega arith) (omega arith) ∙ (place-scope v (trio b f u) k t q (ne-eqb k t (omega arith)) ∙ (parts-later b (more f u) (k + 1) t _ _ _ (le-ltb t (k + 1 + size b) (omega arith))
-        ∙ parts-first f u (k + 1 + size b) t _ _ _ (lt-ltb t (k + 1 + size b + size f) (omega arith))))
-
-  stood-undo : (b f u : Act) (k : ℕ) (q : Place) → Stood p (act (scope true) (trio b f (more u none))) k q → Stood p u (k + 1 + size b + size f) (undoOf (nameOf q) (beyondOf q) (lastOf q))
-  unfolding size
-  stood-undo b f u k q h t x y =
-      h t (omega arith) (omega arith) ∙ (place-scope true (trio b f (more u none)) k t q (ne-eqb k t (omega arith)) ∙ (parts-later b (more f (more u none)) (k + 1) t _ _ _ (le-ltb t (k + 1 + size b) (omega arith))
-      ∙ (parts-later f (more u none) (k + 1 + size b) t _ _ _ (le-ltb t (k + 1 + size b + size f) (omega arith)) ∙ parts-first u none (k + 1 + size b + size f) t _ _ _ (lt-ltb t (k + 1 + size b + size f + size u) (omega arith)))))
+    stood-parts t x y =
+        h t (omega arith) (omega arith)
+        ∙ (place-scope xs v (trio b f u) k t q (ne-eqb k t (omega arith))
+        ∙ (ap (λ (i : ℕ). placeParts i (trio b f u) (k + 1) t (bodyOf (inner k) (beyondIn v q) (lastIn v q)) (faultOf (inner k) (beyondIn v q) (lastIn v q)) (undoOf (nameOf q) (beyondOf q) (lastOf q))) (general-suc xs)
+        ∙ parts-later (length xs) b (more f u) (k + 1) t _ _ _ (le-ltb t (k + 1 + size b) (omega arith))))
 
   -- the names of a place are the plan's
   abbrev Named : Place → Type 0
@@ -515,47 +500,43 @@ module _ (p : Plan) where
       }
 
   -- a scope of the plan: x, before what stands in its body
-  known-focus : (x : Inner) (l : List Inner) (m : ℕ) → Focus p (x ∷ l) (x .number) m → x .number < x .fault → x .fault < x .number + m
-      → (x .undoes ≡ true → (x .fault < x .undo) × (x .undo < x .number + m) × Free (x .undo) l)
+  known-focus : (x : Inner) (l : List Inner) (m : ℕ) → Focus p (x ∷ l) (x .number) m → 0 < m → byFault (x .number) x ≡ false
+      → (x .undoes ≡ true → (x .number < x .undo) × (x .undo < x .number + m) × (byFault (x .undo) x ≡ false) × Free (x .undo) l)
       → Free (x .number) l
-      → same (x .around) (inner (x .number)) ≡ false → isName p (x .around) ≡ true → every (isName p) (x .beyond) ≡ true → Known p x
+      → same (x .around) (inner (x .number)) ≡ false → isName p (x .around) ≡ true → every (isName p) (x .beyond) ≡ true → length (x .numbers) ≤ 8 → Known p x
   unfolding only
-  known-focus x l m f h e g c t n ns =
+  known-focus x l m f h e g c t n ns few =
       let a : only (byNumber (x .number)) (scopesOf p) ≡ x ∷ [] = f .number (x .number) (omega arith) (omega arith) ∙ rw (eq-eqb (x .number) (x .number) refl, c .number) in
       record {
         byNumber = a;
-        byUndo = λ y. let d = g y in f .undo (x .undo) (omega (arith, d .0)) (d .1) ∙ rw (y, eq-eqb (x .undo) (x .undo) refl, d .2 .undo);
+        byUndo = λ y. let d = g y in f .undo (x .undo) (omega (arith, d .0)) (d .1) ∙ rw (y, eq-eqb (x .undo) (x .undo) refl, d .3 .undo);
         noUndo = f .undo (x .number) (omega arith) (omega arith) ∙ rw (not-its-number, c .undo);
-        noScope = λ y. let d = g y in none-some (byNumber (x .undo)) (scopesOf p) (f .number (x .undo) (omega (arith, d .0)) (d .1) ∙ rw (ne-eqb (x .number) (x .undo) (omega (arith, d .0)), d .2 .number));
-        noFault = no-fault (x ∷ l) (x .number) m (x .number) f (omega arith) (omega arith) (rw (ne-eqb (x .fault) (x .number) (omega arith), c .fault));
-        undoNoFault = λ y. let d = g y in no-fault (x ∷ l) (x .number) m (x .undo) f (omega (arith, d .0)) (d .1) (rw (ne-eqb (x .fault) (x .undo) (omega (arith, d .0)), d .2 .fault));
+        noScope = λ y. let d = g y in none-some (byNumber (x .undo)) (scopesOf p) (f .number (x .undo) (omega (arith, d .0)) (d .1) ∙ rw (ne-eqb (x .number) (x .undo) (omega (arith, d .0)), d .3 .number));
+        noFault = no-fault (x ∷ l) (x .number) m (x .number) f (omega arith) (omega arith) (rw (e, c .fault));
+        undoNoFault = λ y. let d = g y in no-fault (x ∷ l) (x .number) m (x .undo) f (omega (arith, d .0)) (d .1) (rw (d .2, d .3 .fault));
         apart = same-swap (inner (x .number)) (x .around) ∙ t;
         name = one-some (byNumber (x .number)) (byNumber (x .number)) x (scopesOf p) a (eq-eqb (x .number) (x .number) refl);
         parent = n;
         further = ns;
+        few = few;
       }
     where
       not-its-number : byUndo (x .number) x ≡ false
       not-its-number = decide (x .undoes) (λ y. rw (y, ne-eqb (x .undo) (x .number) (omega (arith, g y .0)))) (λ y. rw y)
 
-  -- and its fault part
-  faulty-focus : (x : Inner) (l : List Inner) (m : ℕ) → Focus p (x ∷ l) (x .number) m → x .number < x .fault → x .fault < x .number + m
-      → (x .undoes ≡ true → x .fault < x .undo)
-      → Free (x .fault) l → Faulty p (inner (x .number)) (x .fault)
+  -- and one of its fault parts
+  faulty-focus : (x : Inner) (l : List Inner) (m j : ℕ) → Focus p (x ∷ l) (x .number) m → x .number ≤ j → j < x .number + m
+      → byFault j x ≡ true → byUndo j x ≡ false → Free j l → Faulty p (inner (x .number)) j
   unfolding only isFaultPart
-  faulty-focus x l m f h e g c =
+  faulty-focus x l m j f h e d g c =
       record {
-        noUndo = f .undo (x .fault) (omega arith) (omega arith) ∙ rw (not-its-fault, c .undo);
+        noUndo = f .undo j h e ∙ rw (g, c .undo);
         own = theirs;
       }
     where
-      not-its-fault : byUndo (x .fault) x ≡ false
-      not-its-fault = decide (x .undoes) (λ y. rw (y, ne-eqb (x .undo) (x .fault) (omega (arith, g y)))) (λ y. rw y)
-
-      theirs : (s : Name) → isName p s ≡ true → isFaultPart p s (x .fault) ≡ same s (inner (x .number))
-      theirs root i = f .rootless (x .fault) (omega arith) (omega arith)
-      theirs (inner j) i =
-          fault-in j (x .fault) x (scopesOf p) (f .fault (x .fault) (omega arith) (omega arith) ∙ rw (eq-eqb (x .fault) (x .fault) refl, c .fault)) ∙ same-swap (inner (x .number)) (inner j)
+      theirs : (s : Name) → isName p s ≡ true → isFaultPart p s j ≡ same s (inner (x .number))
+      theirs root i = f .rootless j h e
+      theirs (inner i) z = fault-in i j x (scopesOf p) (f .fault j h e ∙ rw (d, c .fault)) ∙ same-swap (inner (x .number)) (inner i)
 
   -- the scopes directly inside one
   inside-focus : (x : Inner) (l d : List Inner) (k m : ℕ) → Focus p (x ∷ l) k m → 0 < m → same (x .around) (inner k) ≡ false
@@ -574,7 +555,7 @@ module _ (p : Plan) where
         sits-part s g (spot-of (act own within) k q d i b) (plain-focus [] k (1 + sizes within) k c (omega arith) (omega arith) (clear-none k))
         (sits-bare-all f e (k + 1) q (focus-part [] [] [] c (omega arith) (omega arith) (λ j u v. clear-none j) (λ j u v. clear-none j)) i (fore-on q b (omega arith))
         (stood-within own within k q s d))
-    sits-bare (formed-scope x y z) e k q c i b d = absurd (false≢true e)
+    sits-bare (formed-scope few many x z) e k q c i b d = absurd (false≢true e)
 
     -- a list
     sits-bare-all : {h r : Bool} {l : Acts} → FormedIn h r l → h ≡ true → (c : ℕ) (q : Place) → Focus p [] c (sizes l) → Named q → Fore q c
@@ -593,15 +574,81 @@ module _ (p : Plan) where
   sits-remedy (formed-part {own = own} {within = within} s i g f) k q e d z c n b v =
       remedy s (i ∙ d) g (spot-of (act own within) k q v n b) z
       (sits-bare-all f e (k + 1) q (c (sizes within) refl) n (fore-on q b (omega arith)) (stood-within own within k q s v)) (bare-formed-in f e .0)
-  sits-remedy (formed-scope x y z) k q e d w c n b v = absurd (false≢true e)
+  sits-remedy (formed-scope few many x z) k q e d w c n b v = absurd (false≢true e)
 
-  -- what stands after a fault part
-  sits-rest : {v : Bool} {u : Acts} → FormedRest v u → (b f : Act) (k : ℕ) (q : Place) → Stood p (act (scope v) (trio b f u)) k q → (v ≡ true → isName p (inner (k + 1 + size b + size f)) ≡ false)
-      → ((a : Act) → u ≡ more a none → (m : ℕ) → 1 + m ≡ size a → Focus p [] (k + 1 + size b + size f + 1) m) → Named q → Fore q k
-      → Rest p v (undoOf (nameOf q) (beyondOf q) (lastOf q)) u (k + 1 + size b + size f)
-  sits-rest (formed-undo {u = u} z) b f k q d i c n h =
-      rest-undo (sits-remedy z (k + 1 + size b + size f) (undoOf (nameOf q) (beyondOf q) (lastOf q)) refl refl (i refl) (c u refl) n (fore-on q h (omega arith)) (stood-undo b f u k q d))
-  sits-rest formed-no b f k q d i c n h = rest-none
+  -- The parts after the body of scope x, from number e on: l has those scopes of the plan that are in its body.
+  module _ (x : Inner) (l : List Inner) (m e : ℕ) (focus : Focus p (x ∷ l) (x .number) m) (behind : x .number < e)
+      (free : (j : ℕ) → e ≤ j → j < x .number + m → Free j l) (clear : (j : ℕ) → e ≤ j → j < x .number + m → byUndo j x ≡ false → byFault j x ≡ false → Clear j (x ∷ l)) where
+    -- none of their numbers is a scope's
+    no-name : (j : ℕ) → e ≤ j → j < x .number + m → isName p (inner j) ≡ false
+    unfolding only
+    no-name j h d = none-some (byNumber j) (scopesOf p) (focus .number j (omega arith) (omega arith) ∙ rw (ne-eqb (x .number) j (omega arith), free j h d .number))
+
+    -- nothing in one of them but its first number has to do with the scope
+    alone-in : (c n : ℕ) → e ≤ c → c + n ≤ x .number + m → ((j : ℕ) → c ≤ j → j < c + n → (byUndo j x ≡ false) × (byFault j x ≡ false)) → Focus p [] c n
+    alone-in c n h d f =
+        focus-part (x ∷ l) [] [] (focus-same (x ∷ l) (x ∷ (l ++ [])) (ap (λ (w : List Inner). x ∷ w) (sym (append-nil l))) focus) (omega arith) (omega arith)
+        (λ j v w. clear j (omega arith) (omega arith) (f j v w .0) (f j v w .1)) (λ j v w. clear-none j)
+
+    -- what stands after the fault parts
+    sits-rest : (v : Bool) {u : Acts} {h r : Bool} → FormedIn h r u → h ≡ true → r ≡ false → count u ≡ cond v 1 0 → (c : ℕ) (q f : Place) → e ≤ c → c + sizes u ≤ x .number + m → Named q → Fore q c
+        → ((j : ℕ) → c < j → j < c + sizes u → (byUndo j x ≡ false) × (byFault j x ≡ false)) → ((t : ℕ) → c ≤ t → t < c + sizes u → placeOf p t ≡ placeParts zero u c t q f q)
+        → Rest p v q u c
+    unfolding size count
+    sits-rest true (formed-none) a b n c q f h d i k g s = absurd (omega arith)
+    sits-rest true (formed-more {a = y} z formed-none) a b n c q f h d i k g s =
+        rest-undo (sits-remedy z c q a b (no-name c h (omega (arith, positive y)))
+        (λ n w. alone-in (c + 1) n (omega arith) (omega arith) (λ j v o. g j (omega arith) (omega arith))) i k
+        (λ t v w. s t v (omega arith) ∙ parts-first zero y none c t q f q (lt-ltb t (c + size y) w)))
+    sits-rest true (formed-more z (formed-more w y)) a b n c q f h d i k g s = absurd (omega arith)
+    sits-rest false (formed-none) a b n c q f h d i k g s = rest-none
+    sits-rest false (formed-more z w) a b n c q f h d i k g s = absurd (omega arith)
+
+    -- one fault part
+    sits-healer : {y : Act} {h r : Bool} → Formed h r y → h ≡ true → r ≡ false → (c : ℕ) (q : Place) → e ≤ c → c + size y ≤ x .number + m → Named q → Fore q c
+        → byFault c x ≡ true → ((j : ℕ) → c < j → j < c + size y → byFault j x ≡ false) → ((j : ℕ) → c ≤ j → j < c + size y → byUndo j x ≡ false) → Stood p y c q
+        → Faulty p (inner (x .number)) c × Remedy p q y c
+    sits-healer {y} z a b c q h d i k f g s t = (
+      faulty-focus x l m c focus (omega arith) (omega (arith, positive y)) f (s c (omega arith) (omega (arith, positive y))) (free c h (omega (arith, positive y))),
+      sits-remedy z c q a b (no-name c h (omega (arith, positive y)))
+          (λ n w. alone-in (c + 1) n (omega arith) (omega arith) (λ j v o. (s j (omega arith) (omega arith), g j (omega arith) (omega arith)))) i k t,
+    )
+
+    -- all of them, and what stands after them
+    sits-healers : (xs : List ℕ) (v : Bool) {u : Acts} {h r : Bool} → FormedIn h r u → h ≡ true → r ≡ false → count u ≡ length xs + cond v 2 1 → (c : ℕ) (q w : Place) → e ≤ c → c + sizes u ≤ x .number + m
+        → Named q → Fore q c → Named w → Fore w c
+        → ((j : ℕ) → c ≤ j → j < c + sizes u → byFault j x ≡ among j (firsts (suc (length xs)) u c))
+        → ((j : ℕ) → c ≤ j → j < c + sizes u → byUndo j x ≡ (v && eqb (partAt (suc (length xs)) u c) j))
+        → StoodParts p (length xs) u c q w → Healers p (inner (x .number)) xs v q w u c
+    unfolding size count firsts among partAt
+    sits-healers xs v (formed-none) a b n c q w h d i f k o g s t = absurd (decide v (λ z. let y : 0 ≡ length xs + 2 = rw z at n in omega arith) (λ z. let y : 0 ≡ length xs + 1 = rw z at n in omega arith))
+    sits-healers [] v (formed-more {a = y} {l = u} z l₁) a b n c q w h d i f k o g s t =
+        let one = sits-healer z a b c q h (omega arith) i f (g c (omega arith) (omega (arith, positive y)) ∙ rw (eq-eqb c c refl))
+        (λ j y₁ z₁. g j (omega arith) (omega arith) ∙ rw (ne-eqb j c (omega arith)))
+        (λ j y₁ z₁. s j (omega arith) (omega arith) ∙ (ap (λ (z : Bool). v && z) (ne-eqb (partAt 0 u (c + size y)) j (omega (arith, part-from 0 u (c + size y)))) ∙ and-false v))
+        (λ j y₁ z₁. t j (omega arith) (omega arith) ∙ parts-first zero y u c j q q w (lt-ltb j (c + size y) z₁)) in
+        heals-all (one .0) (one .1)
+        (sits-rest v l₁ a b (one-less v (count u) n) (c + size y) w q (omega arith) (omega arith) k (fore-on w o (omega arith))
+        (λ j y₁ z₁. (s j (omega arith) (omega arith) ∙ (ap (λ (z : Bool). v && z) (ne-eqb (partAt 0 u (c + size y)) j (omega (arith, first-at u (c + size y)))) ∙ and-false v), g j (omega arith) (omega arith) ∙ rw (ne-eqb j c (omega arith))))
+        (λ j y₁ z₁. t j (omega arith) (omega arith) ∙ parts-last y u c j q q w (le-ltb j (c + size y) y₁)))
+      where
+        one-less : (v : Bool) (i : ℕ) → 1 + i ≡ 0 + cond v 2 1 → i ≡ cond v 1 0
+        one-less true i h = omega arith
+        one-less false i h = omega arith
+    sits-healers (x₁ ∷ xs) v (formed-more {a = y} {l = u} z l₁) a b n c q w h d i f k o g s t =
+        let one = sits-healer z a b c q h (omega arith) i f (g c (omega arith) (omega (arith, positive y)) ∙ rw (eq-eqb c c refl))
+        (λ j y₁ z₁. g j (omega arith) (omega arith) ∙ rw (ne-eqb j c (omega arith), firsts-outside (suc (length xs)) u (c + size y) j (below (omega arith))))
+        (λ j y₁ z₁. s j (omega arith) (omega arith) ∙ (ap (λ (z : Bool). v && z) (ne-eqb (partAt (suc (length xs)) u (c + size y)) j (omega (arith, part-from (suc (length xs)) u (c + size y)))) ∙ and-false v))
+        (λ j y₁ z₁. t j (omega arith) (omega arith) ∙ parts-first (suc (length xs)) y u c j q q w (lt-ltb j (c + size y) z₁)) in
+        heals-by (one .0) (one .1)
+        (sits-healers xs v l₁ a b (one-less v (count u) (length xs) n) (c + size y) q w (omega arith) (omega arith) i (fore-on q f (omega arith)) k (fore-on w o (omega arith))
+        (λ j y₁ z₁. g j (omega arith) (omega arith) ∙ rw (ne-eqb j c (omega (arith, positive y))))
+        (λ j y₁ z₁. s j (omega arith) (omega arith))
+        (λ j y₁ z₁. t j (omega arith) (omega arith) ∙ parts-later (length xs) y u c j q q w (le-ltb j (c + size y) y₁)))
+      where
+        one-less : (v : Bool) (i j : ℕ) → 1 + i ≡ suc j + cond v 2 1 → i ≡ j + cond v 2 1
+        one-less true i j h = omega arith
+        one-less false i j h = omega arith
 
   -- the names around what stands in a scope, and that they come before it
   names-below : (v : Bool) (n : Name) (ns : List Name) → isName p n ≡ true → every (isName p) ns ≡ true → every (isName p) (cond v [] (n ∷ ns)) ≡ true
@@ -627,38 +674,39 @@ module _ (p : Plan) where
         sits-part s g (spot-of (act own within) k (bodyOf n ns m) d i b) q
         (sits-all f (k + 1) n ns m (focus-part [] (scopesAmong within (k + 1) n ns) [] (focus-same _ _ (sym (append-nil (scopesAmong within (k + 1) n ns))) c₁) (omega arith) (omega arith) (λ j u v. clear-none j) (λ j u v. clear-none j)) i (fore-on (bodyOf n ns m) b (omega arith))
         (stood-within own within k (bodyOf n ns m) s d))
-    sits (formed-scope {v = v₀} {b = b} {f = f} {u = u} x y z) k n ns m c i h d =
-        let xi = innerAt v₀ k n ns (trio b f u) in
+    sits (formed-scope {xs} {v = v₀} {b = b} {f = f} {u = u} few many x z) k n ns m c i h d =
+        let xi = innerAt xs v₀ k n ns (trio b f u) in
         let l = scopesIn b (k + 1) (inner k) (cond v₀ [] (n ∷ ns)) in
-        let c₁ : Focus p (xi ∷ l) k (spread b f u) = focus-same _ (xi ∷ l) (scopes-scope b y z k n ns) c in
-        let kn : Known p xi = known-focus xi l (spread b f u) c₁ (omega arith) (omega (arith, positive f))
-        (its-undo z b f k n ns l (λ e. free-in x (k + 1) (k + 1 + size b + size f) (inner k) (cond v₀ [] (n ∷ ns)) (above (omega arith))))
+        let e = k + 1 + size b in
+        let free : (j : ℕ) → e ≤ j → Free j l = λ j y. free-in x (k + 1) j (inner k) (cond v₀ [] (n ∷ ns)) (above (omega arith)) in
+        let c₁ : Focus p (xi ∷ l) k (spread b f u) = focus-same _ (xi ∷ l) (scopes-scope xs v₀ b z k n ns) c in
+        let at = partAt (generalPart xs) (more f u) e in
+        let lo = part-from (generalPart xs) (more f u) e in
+        let kn : Known p xi = known-focus xi l (spread b f u) c₁ (omega arith) (fault-beside xs v₀ b f u k n ns k (omega arith))
+        (λ t. let y = undo-in xs v₀ (more f u) many t in (
+          omega (arith, lo),
+          omega (arith, part-to (generalPart xs) (more f u) e y, positive (part (generalPart xs) (more f u))),
+          firsts-behind (generalPart xs) (more f u) e at (omega arith),
+          free at lo,
+        ))
         (free-in x (k + 1) k (inner k) (cond v₀ [] (n ∷ ns)) (below (omega arith)))
-        (before-other n k k (h .0) (omega arith)) (i .0) (i .1) in
-        let kf : Faulty p (inner k) (k + 1 + size b) = faulty-focus xi l (spread b f u) c₁ (omega arith) (omega (arith, positive f))
-        (λ e. its-undo z b f k n ns l (λ e. free-in x (k + 1) (k + 1 + size b + size f) (inner k) (cond v₀ [] (n ∷ ns)) (above (omega arith))) e .0)
-        (free-in x (k + 1) (k + 1 + size b) (inner k) (cond v₀ [] (n ∷ ns)) (above (omega arith))) in
-        let o : (j : ℕ) → k < j → byUndo j xi ≡ false → eqb (k + 1 + size b) j ≡ false → Clear j (xi ∷ [])
+        (before-other n k k (h .0) (omega arith)) (i .0) (i .1) few in
+        let o : (j : ℕ) → k < j → byUndo j xi ≡ false → byFault j xi ≡ false → Clear j (xi ∷ [])
         = λ j u v w. clear-cons xi [] (ne-eqb k j (omega arith)) v w (before-other n k j (h .0) (omega arith)) (clear-none j) in
         let c₂ : Focus p ((xi ∷ []) ++ (l ++ [])) k (spread b f u) = focus-same (xi ∷ l) (xi ∷ (l ++ [])) (ap (λ (w : List Inner). xi ∷ w) (sym (append-nil l))) c₁ in
-        let c₃ : Focus p ((xi ∷ l) ++ ([] ++ [])) k (spread b f u) = focus-same (xi ∷ l) (xi ∷ (l ++ [])) (ap (λ (w : List Inner). xi ∷ w) (sym (append-nil l))) c₁ in
-        sits-scope kn (spot-of (act (scope v₀) (trio b f u)) k (bodyOf n ns m) d i h)
+        let names = names-below v₀ n ns (i .0) (i .1) in
+        sits-scope kn (spot-of (act (scope xs v₀) (trio b f u)) k (bodyOf n ns m) d i h)
         (inside-focus xi l (directs b (k + 1) (inner k) (cond v₀ [] (n ∷ ns))) k (spread b f u) c₁ (omega arith) (before-other n k k (h .0) (omega arith)) (directs-only x (k + 1) (inner k) (cond v₀ [] (n ∷ ns)) (omega arith)))
         (sits x (k + 1) (inner k) (cond v₀ [] (n ∷ ns)) (cond v₀ n m) (focus-part (xi ∷ []) l [] c₂ (omega arith) (omega arith)
-        (λ j v w. o j (omega arith) (undo-beside z b f k n ns j (omega arith)) (ne-eqb (k + 1 + size b) j (omega arith))) (λ j v w. clear-none j)) (kn .name, names-below v₀ n ns (i .0) (i .1))
+        (λ j v w. o j (omega arith) (undo-beside xs v₀ b f u k n ns j (omega arith)) (fault-beside xs v₀ b f u k n ns j (omega arith))) (λ j v w. clear-none j)) (kn .name, names)
         (omega arith, befores-on (cond v₀ [] (n ∷ ns)) (fores-below v₀ n ns k (h .0) (h .1)) (omega arith))
-        (stood-body v₀ b f u k (bodyOf n ns m) d))
-        kf
-        (sits-remedy y (k + 1 + size b) (faultOf (inner k) (cond v₀ [] (n ∷ ns)) (cond v₀ n m)) refl refl
-        (none-some (byNumber (k + 1 + size b)) (scopesOf p) (c₁ .number (k + 1 + size b) (omega arith) (omega (arith, positive f)) ∙ rw (ne-eqb k (k + 1 + size b) (omega arith), free-in x (k + 1) (k + 1 + size b) (inner k) (cond v₀ [] (n ∷ ns)) (above (omega arith)) .number)))
-        (λ m q. focus-part (xi ∷ l) [] [] c₃ (omega arith) (omega arith)
-        (λ j v w. clear-append (xi ∷ []) l (o j (omega arith) (undo-before z b f k n ns j (omega arith)) (ne-eqb (k + 1 + size b) j (omega arith)))
-        (clear-in x (k + 1) j (inner k) (cond v₀ [] (n ∷ ns)) (ne-eqb k j (omega arith)) (above (omega arith)))) (λ j v w. clear-none j)) (kn .name, names-below v₀ n ns (i .0) (i .1))
-        (omega arith, befores-on (cond v₀ [] (n ∷ ns)) (fores-below v₀ n ns k (h .0) (h .1)) (omega arith)) (stood-fault v₀ b f u k (bodyOf n ns m) d))
-        (sits-rest z b f k (bodyOf n ns m) d (its-undo-name z b f k n ns kn)
-        (λ a e m q. focus-part (xi ∷ l) [] [] c₃ (omega arith) (last-fits a u b f k m e q)
-        (λ j v w. clear-append (xi ∷ []) l (o j (omega arith) (undo-after z b f k n ns j (omega arith)) (ne-eqb (k + 1 + size b) j (omega arith)))
-        (clear-in x (k + 1) j (inner k) (cond v₀ [] (n ∷ ns)) (ne-eqb k j (omega arith)) (above (omega arith)))) (λ j v w. clear-none j)) i h)
+        (stood-body xs v₀ b f u k (bodyOf n ns m) d))
+        (sits-healers xi l (spread b f u) e c₁ (omega arith) (λ j y w. free j y)
+        (λ j y w u₁ f₁. clear-append (xi ∷ []) l (o j (omega arith) u₁ f₁) (clear-in x (k + 1) j (inner k) (cond v₀ [] (n ∷ ns)) (ne-eqb k j (omega arith)) (above (omega arith))))
+        xs v₀ z refl refl many e (faultOf (inner k) (cond v₀ [] (n ∷ ns)) (cond v₀ n m)) (undoOf n ns m) (omega arith) (omega arith) (kn .name, names)
+        (omega arith, befores-on (cond v₀ [] (n ∷ ns)) (fores-below v₀ n ns k (h .0) (h .1)) (omega arith)) i (fore-on (bodyOf n ns m) h (omega arith))
+        (λ j y w. ap (λ (i : ℕ). among j (firsts i (more f u) e)) (general-suc xs)) (λ j y w. ap (λ (i : ℕ). v₀ && eqb (partAt i (more f u) e) j) (general-suc xs))
+        (stood-parts xs v₀ b f u k (bodyOf n ns m) d))
 
     -- a list
     sits-all : {h r : Bool} {l : Acts} → FormedIn h r l → (c : ℕ) (n : Name) (ns : List Name) (m : Name) → Focus p (scopesAmong l c n ns) c (sizes l) → Named (bodyOf n ns m)
@@ -716,7 +764,7 @@ module _ (p : Plan) (x : Formed false false (p .body)) (y : Formed true false (p
 
   -- the root in its plan
   root-seat : Seat p (rootOf p)
-  unfolding placeOf every
+  unfolding placeOf every size count part partAt choiceBy isPartFor
   root-seat =
       record {
         name = refl;
@@ -725,13 +773,12 @@ module _ (p : Plan) (x : Formed false false (p .body)) (y : Formed true false (p
         inside = root-inside;
         body = sits p x 0 root [] root (all-focus 0 (size (p .body)) (λ j u v. ne-eqb (size (p .body)) j (omega arith))) (refl, refl) (tt, tt)
             (λ t u v. first-of (ltb t (size (p .body))) (placeIn (p .body) 0 t (bodyOf root [] root)) (placeIn (p .fault) (size (p .body)) t (faultOf root [] root)) (placeOf p t) refl (lt-ltb t (size (p .body)) (omega arith)));
-        faulty = root-faulty;
-        fault = sits-remedy p y (size (p .body)) (faultOf root [] root) refl refl
-            (none-some (byNumber (size (p .body))) (scopesOf p) (ap (only (byNumber (size (p .body)))) whole ∙ clear-in x 0 (size (p .body)) root [] refl (above (omega arith)) .number))
-            (λ m q. focus-part (scopesIn (p .body) 0 root []) [] [] (focus-same _ _ (sym (append-nil (scopesIn (p .body) 0 root [])))
-            (all-focus (size (p .body) + 1) m (λ j u v. ne-eqb (size (p .body)) j (omega arith)))) (omega arith) (omega arith)
-            (λ j v w. clear-in x 0 j root [] refl (above (omega arith))) (λ j v w. clear-none j)) (refl, refl) (tt, tt)
-            (λ t u v. second-of (ltb t (size (p .body))) (placeIn (p .body) 0 t (bodyOf root [] root)) (placeIn (p .fault) (size (p .body)) t (faultOf root [] root)) (placeOf p t) refl (le-ltb t (size (p .body)) u));
+        faulty = λ c. root-chosen (λ a j. Faulty p root j) p root-faulty c;
+        fault = λ c. root-chosen (λ a j. Remedy p (faultOf root [] root) a j) p root-remedy c;
+        chosen = root-picks;
+        choice = λ n. refl;
+        numbered = λ n. root-chosen (λ a j. eqb (size (p .body)) j ≡ true) p (eq-eqb (size (p .body)) (size (p .body)) refl) (partFor n 1 []);
+        bare = λ j u v. remedy-names root-remedy j u (omega arith);
         after = omega arith;
         before = tt;
         at = refl;
@@ -739,6 +786,24 @@ module _ (p : Plan) (x : Formed false false (p .body)) (y : Formed true false (p
     where
       root-inside : insideOf p root ≡ directs (p .body) 0 root []
       root-inside = root-insides p x whole
+
+      root-remedy : Remedy p (faultOf root [] root) (p .fault) (size (p .body))
+      root-remedy =
+          sits-remedy p y (size (p .body)) (faultOf root [] root) refl refl
+          (none-some (byNumber (size (p .body))) (scopesOf p) (ap (only (byNumber (size (p .body)))) whole ∙ clear-in x 0 (size (p .body)) root [] refl (above (omega arith)) .number))
+          (λ m q. focus-part (scopesIn (p .body) 0 root []) [] [] (focus-same _ _ (sym (append-nil (scopesIn (p .body) 0 root [])))
+          (all-focus (size (p .body) + 1) m (λ j u v. ne-eqb (size (p .body)) j (omega arith)))) (omega arith) (omega arith)
+          (λ j v w. clear-in x 0 j root [] refl (above (omega arith))) (λ j v w. clear-none j)) (refl, refl) (tt, tt)
+          (λ t u v. second-of (ltb t (size (p .body))) (placeIn (p .body) 0 t (bodyOf root [] root)) (placeIn (p .fault) (size (p .body)) t (faultOf root [] root)) (placeOf p t) refl (le-ltb t (size (p .body)) u))
+
+      root-picks : (c : ℕ) → Chosen (rootOf p) c
+      root-picks c =
+          let e : chosenOn [] c ≡ 0 = omega (arith, chosen-most [] c) in
+          record {
+            is = root-chosen (λ a j. a ≡ p .fault) p refl c ∙ sym (ap (λ (i : ℕ). part i (more (p .fault) none)) e);
+            at = root-chosen (λ a j. j ≡ size (p .body)) p refl c ∙ sym (ap (λ (i : ℕ). partAt i (more (p .fault) none) (size (p .body))) e);
+            there = omega (arith, e);
+          }
 
   root-alone : root-seat .beyond ≡ []
   unfolding root-seat

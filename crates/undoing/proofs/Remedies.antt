@@ -29,6 +29,11 @@ part-from i none c = omega arith
 part-from zero (more a l) c = omega arith
 part-from (suc i) (more a l) c = omega (arith, part-from i l (c + size a))
 
+pub first-at : (l : Acts) (c : ℕ) → partAt 0 l c ≡ c
+unfolding partAt
+first-at none c = refl
+first-at (more a l) c = refl
+
 pub part-to : (i : ℕ) (l : Acts) (c : ℕ) → i < count l → partAt i l c + size (part i l) ≤ c + sizes l
 unfolding part partAt count size
 part-to i none c h = absurd (omega arith)
@@ -149,7 +154,7 @@ pub choice-on : (xs : List ℕ) (m c : ℕ) → choiceIn m ≡ c → choiceOn xs
 unfolding choiceOn
 choice-on xs m c e = ap (chosenOn xs) e
 
-general-suc : (xs : List ℕ) → generalPart xs ≡ suc (length xs)
+pub general-suc : (xs : List ℕ) → generalPart xs ≡ suc (length xs)
 general-suc [] = refl
 general-suc (x ∷ xs) = ap suc (general-suc xs)
 
