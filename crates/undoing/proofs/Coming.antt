@@ -22,7 +22,7 @@ use Rattle.undoing.specs.Entirely.{hasNext, AllGoOn}
 use Rattle.undoing.proofs.Parts.{both, decide, every-append, some-append}
 use Rattle.undoing.proofs.Places.{first-of, second-of}
 use Rattle.undoing.proofs.Truly.{Up}
-use Rattle.undoing.proofs.Marks.{trio, Quiet, Nth, nth-here, nth-later, Run, run-awaits, run-one, run-all, run-body, run-done, run-turned, One, one-here, one-later, All, all-none, all-run, all-quiet, Turned, turned-waits, turned-undoes, turned-heals, Stopped, stopped-part, stopped-quiet, stopped-scope, StoppedIn, stopped-none, stopped-more, Undoing, undoing-part, undoing-scope, undoing-through, UndoingIn, undoing-here, undoing-later, quiet-part}
+use Rattle.undoing.proofs.Marks.{trio, Quiet, Run, run-awaits, run-one, run-all, run-body, run-done, run-turned, One, one-here, one-later, All, all-none, all-run, all-quiet, Nth, nth-here, nth-later, Turned, turned-waits, turned-undoes, turned-heals, Stopped, stopped-part, stopped-quiet, stopped-scope, StoppedIn, stopped-none, stopped-more, Undoing, undoing-part, undoing-scope, undoing-through, UndoingIn, undoing-here, undoing-later, quiet-part}
 use Rattle.undoing.proofs.Planning.{Formed, formed-part, formed-scope, FormedIn, formed-none, formed-more, Promised, promised}
 use Rattle.undoing.proofs.Scoping.{scope-live, scope-done, scope-turned, Running}
 use Rattle.undoing.proofs.Roots.{Standing}
@@ -111,6 +111,10 @@ module _ (ms : List ℕ) (rs : List Ready) where
   unfolding readyIn
   among-later a l c w = record { free = w .free; among = λ f e. w .among f (some-append f (readyIn a c (w .free) ms) (readyAmong l (c + size a) (w .free) ms) ∙ rw (e, or-true)) }
 
+  alone-among : (a : Act) (c : ℕ) → Among a c → AmongIn (more a none) c
+  unfolding readyIn
+  alone-among a c w = record { free = w .free; among = λ f e. w .among f (subst (λ (l : List Ready). some f l ≡ true) (append-nil (readyIn a c (w .free) ms)) e) }
+
   -- a step to come in an activity
   abbrev Comes : ℕ → Act → Type 0
   Comes j a = some (λ r. isStep (r .step) && In j (size a) r) rs ≡ true
@@ -150,18 +154,18 @@ module _ (ms : List ℕ) (rs : List Ready) where
       (λ t. subst (λ (i : ℕ). Comes i (actIn (act own within) k i)) (eqb-true k j t) (subst (Comes k) (sym (in-here (act own within) k)) (f (subst (λ (i : ℕ). Up ms i) (sym (eqb-true k j t)) u))))
       (λ t. let z : k < j = let w = eqb-false k j t in omega arith in subst (Comes j) (sym (in-within own within k j z)) (g j (omega arith) (omega arith) u))
 
-  each-scope : (xs : List ℕ) (z : Bool) (b f : Act) (u : Acts) (k : ℕ) → (Up ms k → Comes k (act (scope xs z) (trio b f u))) → Each b (k + 1) → EachIn (more f u) (k + 1 + size b)
-      → Each (act (scope xs z) (trio b f u)) k
-  each-scope xs z b f u k c x y = each-act (scope xs z) (trio b f u) k c (each-more b (more f u) (k + 1) x y)
-
   -- each of a list has its form
-  data FormedEach : Acts → Type 0 where
-    each-none : FormedEach none
-    each-one : {h r : Bool} {a : Act} {l : Acts} → Formed h r a → FormedEach l → FormedEach (more a l)
+  data Forms : Acts → Type 0 where
+    forms-none : Forms none
+    forms-more : {h r : Bool} {a : Act} {l : Acts} → Formed h r a → Forms l → Forms (more a l)
 
-  of-each : {h r : Bool} {l : Acts} → FormedIn h r l → FormedEach l
-  of-each formed-none = each-none
-  of-each (formed-more x y) = each-one x (of-each y)
+  formed-forms : {h r : Bool} {l : Acts} → FormedIn h r l → Forms l
+  formed-forms formed-none = forms-none
+  formed-forms (formed-more x y) = forms-more x (formed-forms y)
+
+  each-scope : (xs : List ℕ) (z : Bool) (b : Act) (l : Acts) (k : ℕ) → (Up ms k → Comes k (act (scope xs z) (more b l))) → Each b (k + 1) → EachIn l (k + 1 + size b)
+      → Each (act (scope xs z) (more b l)) k
+  each-scope xs z b l k c x y = each-act (scope xs z) (more b l) k c (each-more b l (k + 1) x y)
 
   mutual
     unfolding size kind
@@ -176,47 +180,47 @@ module _ (ms : List ℕ) (rs : List Ready) where
     run-each (run-body e r q) (formed-part s i g y) w = absurd (false≢true (sym s))
     run-each (run-done e q) (formed-part s i g y) w = absurd (false≢true (sym s))
     run-each (run-turned e) (formed-part s i g y) w = absurd (false≢true (sym s))
-    run-each (run-awaits s d e q) (formed-scope few many x z) w = absurd (false≢true (sym s))
-    run-each (run-one s e r) (formed-scope few many x z) w = absurd (false≢true (sym s))
-    run-each {k = k} (run-body e r q) (formed-scope {xs} {v = v₀} {b = b} {f = f} {u = u} few many x z) w =
-        each-scope xs v₀ b f u k (λ v. run-comes (run-body e r q) (formed-scope few many x z) w) (run-each r x (among-first b (more f u) (k + 1) (among-within (scope xs v₀) (trio b f u) k w)))
-        (in-quiet (more f u) (k + 1 + size b) (quiet-part q (omega arith) (omega arith)))
-    run-each {k = k} (run-done e q) (formed-scope {xs} {v = v₀} {b = b} {f = f} {u = u} few many x z) w =
-        each-scope xs v₀ b f u k (λ v. run-comes (run-done e q) (formed-scope few many x z) w) (each-quiet b (k + 1) (quiet-part q (omega arith) (omega arith)))
-        (in-quiet (more f u) (k + 1 + size b) (quiet-part q (omega arith) (omega arith)))
-    run-each {k = k} (run-turned t) (formed-scope {xs} {v = v₀} {b = b} {f = f} {u = u} few many x z) w =
+    run-each (run-awaits s d e q) (formed-scope few many x y) w = absurd (false≢true (sym s))
+    run-each (run-one s e r) (formed-scope few many x y) w = absurd (false≢true (sym s))
+    run-each {k = k} (run-body e r q) (formed-scope {xs = xs} {v = v₀} {b = b} {f = f} {u = u} few many x y) w =
+        each-scope xs v₀ b (more f u) k (λ v. run-comes (run-body e r q) (formed-scope few many x y) w)
+        (run-each r x (among-first b (more f u) (k + 1) (among-within (scope xs v₀) (trio b f u) k w))) (in-quiet (more f u) (k + 1 + size b) q)
+    run-each {k = k} (run-done e q) (formed-scope {xs = xs} {v = v₀} {b = b} {f = f} {u = u} few many x y) w =
+        each-scope xs v₀ b (more f u) k (λ v. run-comes (run-done e q) (formed-scope few many x y) w)
+        (each-quiet b (k + 1) (quiet-part q (omega arith) (omega arith))) (in-quiet (more f u) (k + 1 + size b) (quiet-part q (omega arith) (omega arith)))
+    run-each {k = k} (run-turned t) (formed-scope {xs = xs} {v = v₀} {b = b} {f = f} {u = u} few many x y) w =
         let v = among-within (scope xs v₀) (trio b f u) k w in
-        let g = turned-each t x (of-each z) (among-first b (more f u) (k + 1) v) (among-later b (more f u) (k + 1) v) in
-        each-scope xs v₀ b f u k (λ i. run-comes (run-turned t) (formed-scope few many x z) w) (g .0) (g .1)
+        let g = turned-each t x y (among-first b (more f u) (k + 1) v) (among-later b (more f u) (k + 1) v) in
+        each-scope xs v₀ b (more f u) k (λ i. run-comes (run-turned t) (formed-scope few many x y) w) (g .0) (g .1)
 
     one-each : {h r : Bool} {l : Acts} {c : ℕ} → One ms l c → FormedIn h r l → AmongIn l c → EachIn l c
     one-each {c = c} (one-here r q) (formed-more {a = a} {l = l} x y) w = each-more a l c (run-each r x (among-first a l c w)) (in-quiet l (c + size a) q)
     one-each {c = c} (one-later q r) (formed-more {a = a} {l = l} x y) w = each-more a l c (each-quiet a c q) (one-each r y (among-later a l c w))
-
-    nth-each : {i : ℕ} {l : Acts} {c : ℕ} → Nth ms i l c → FormedEach l → AmongIn l c → EachIn l c
-    nth-each {c = c} (nth-here r q) (each-one {a = a} {l = l} x y) w = each-more a l c (run-each r x (among-first a l c w)) (in-quiet l (c + size a) q)
-    nth-each {c = c} (nth-later q r) (each-one {a = a} {l = l} x y) w = each-more a l c (each-quiet a c q) (nth-each r y (among-later a l c w))
 
     all-each : {h r : Bool} {l : Acts} {c : ℕ} → All ms l c → FormedIn h r l → AmongIn l c → EachIn l c
     all-each all-none formed-none w = λ j x y u. absurd (omega arith)
     all-each {c = c} (all-run r z) (formed-more {a = a} {l = l} x y) w = each-more a l c (run-each r x (among-first a l c w)) (all-each z y (among-later a l c w))
     all-each {c = c} (all-quiet q z) (formed-more {a = a} {l = l} x y) w = each-more a l c (each-quiet a c q) (all-each z y (among-later a l c w))
 
-    turned-each : {h r : Bool} {xs : List ℕ} {m kb kf : ℕ} {b : Act} {l : Acts} → Turned ms xs m b kb l kf → Formed h r b → FormedEach l → Among b kb → AmongIn l kf → Each b kb × EachIn l kf
+    nth-each : {i : ℕ} {l : Acts} {c : ℕ} → Nth ms i l c → Forms l → AmongIn l c → EachIn l c
+    nth-each {c = c} (nth-here r q) (forms-more {a = a} {l = l} x y) w = each-more a l c (run-each r x (among-first a l c w)) (in-quiet l (c + size a) q)
+    nth-each {c = c} (nth-later q r) (forms-more {a = a} {l = l} x y) w = each-more a l c (each-quiet a c q) (nth-each r y (among-later a l c w))
+
+    turned-each : {h h₁ r r₁ : Bool} {xs : List ℕ} {m kb kf : ℕ} {b : Act} {l : Acts} → Turned ms xs m b kb l kf → Formed h r b → FormedIn h₁ r₁ l → Among b kb → AmongIn l kf → Each b kb × EachIn l kf
     turned-each {kf = kf} {l = l} (turned-waits e s i q) x y v w = (stopped-each s x v, in-quiet l kf q)
     turned-each {kf = kf} {l = l} (turned-undoes e u q) x y v w = (undoing-each u x v, in-quiet l kf q)
-    turned-each {kb = kb} {b = b} (turned-heals e q r) x y v w = (each-quiet b kb q, nth-each r y w)
+    turned-each {kb = kb} {b = b} (turned-heals e q r) x y v w = (each-quiet b kb q, nth-each r (formed-forms y) w)
 
     stopped-each : {h r : Bool} {a : Act} {k : ℕ} → Stopped ms a k → Formed h r a → Among a k → Each a k
     stopped-each {k = k} (stopped-part s₁ e l) (formed-part {own = own} {within = within} s i g y) w =
         each-act own within k (λ u. absurd (false≢true (sym u ∙ rw e))) (stopped-in-each l y (among-within own within k w))
     stopped-each (stopped-scope t) (formed-part s i g y) w = absurd (false≢true (sym s))
     stopped-each {a = a} {k = k} (stopped-quiet q) x w = each-quiet a k q
-    stopped-each (stopped-part s e l) (formed-scope few many x z) w = absurd (false≢true (sym s))
-    stopped-each {k = k} (stopped-scope t) (formed-scope {xs} {v = v₀} {b = b} {f = f} {u = u} few many x z) w =
+    stopped-each (stopped-part s e l) (formed-scope few many x y) w = absurd (false≢true (sym s))
+    stopped-each {k = k} (stopped-scope t) (formed-scope {xs = xs} {v = v₀} {b = b} {f = f} {u = u} few many x y) w =
         let v = among-within (scope xs v₀) (trio b f u) k w in
-        let g = turned-each t x (of-each z) (among-first b (more f u) (k + 1) v) (among-later b (more f u) (k + 1) v) in
-        each-scope xs v₀ b f u k (λ i. run-comes (run-turned t) (formed-scope few many x z) w) (g .0) (g .1)
+        let g = turned-each t x y (among-first b (more f u) (k + 1) v) (among-later b (more f u) (k + 1) v) in
+        each-scope xs v₀ b (more f u) k (λ i. run-comes (run-turned t) (formed-scope few many x y) w) (g .0) (g .1)
 
     stopped-in-each : {h r : Bool} {l : Acts} {c : ℕ} → StoppedIn ms l c → FormedIn h r l → AmongIn l c → EachIn l c
     stopped-in-each stopped-none formed-none w = λ j x y u. absurd (omega arith)
@@ -225,22 +229,26 @@ module _ (ms : List ℕ) (rs : List Ready) where
     undoing-each : {h r : Bool} {a : Act} {k : ℕ} → Undoing ms a k → Formed h r a → Among a k → Each a k
     undoing-each {k = k} (undoing-part s₁ e l) (formed-part {own = own} {within = within} s i g y) w =
         each-act own within k (λ u. absurd (false≢true (sym u ∙ rw e))) (undoing-in-each l y (among-within own within k w))
-    undoing-each (undoing-scope e q r) (formed-part s i g y) w = absurd (false≢true (sym s))
+    undoing-each (undoing-scope e n r) (formed-part s i g y) w = absurd (false≢true (sym s))
     undoing-each (undoing-through e r q) (formed-part s i g y) w = absurd (false≢true (sym s))
-    undoing-each (undoing-part s e l) (formed-scope few many x z) w = absurd (false≢true (sym s))
-    undoing-each {k = k} (undoing-scope e q r) (formed-scope {xs} {v} {b = b} {f = f} {u = u} few many x z) w =
-        each-act (scope xs v) (trio b f u) k (λ i. absurd (false≢true (sym i ∙ rw e))) (nth-each r (each-one x (of-each z)) (among-within (scope xs v) (trio b f u) k w))
-    undoing-each {k = k} (undoing-through e r q) (formed-scope {xs} {b = b} {f = f} {u = u} few many x z) w =
-        each-scope xs false b f u k (λ i. absurd (false≢true (sym i ∙ rw e))) (undoing-each r x (among-first b (more f u) (k + 1) (among-within (scope xs false) (trio b f u) k w)))
-        (in-quiet (more f u) (k + 1 + size b) (quiet-part q (omega arith) (omega arith)))
+    undoing-each (undoing-part s e l) (formed-scope few many x y) w = absurd (false≢true (sym s))
+    undoing-each {k = k} (undoing-scope {xs} e n r) (formed-scope {b = b} {f = f} {u = u} few many x y) w =
+        each-act (scope xs true) (trio b f u) k (λ i. absurd (false≢true (sym i ∙ rw e))) (nth-each r (forms-more x (formed-forms y)) (among-within (scope xs true) (trio b f u) k w))
+    undoing-each {k = k} (undoing-through {xs} e r q) (formed-scope {b = b} {f = f} {u = u} few many x y) w =
+        each-scope xs false b (more f u) k (λ i. absurd (false≢true (sym i ∙ rw e)))
+        (undoing-each r x (among-first b (more f u) (k + 1) (among-within (scope xs false) (trio b f u) k w))) (in-quiet (more f u) (k + 1 + size b) q)
 
     undoing-in-each : {h r : Bool} {l : Acts} {c : ℕ} → UndoingIn ms l c → FormedIn h r l → AmongIn l c → EachIn l c
     undoing-in-each {c = c} (undoing-here r q) (formed-more {a = a} {l = l} x y) w = each-more a l c (undoing-each r x (among-first a l c w)) (in-quiet l (c + size a) q)
     undoing-in-each {c = c} (undoing-later q r) (formed-more {a = a} {l = l} x y) w = each-more a l c (each-quiet a c q) (undoing-in-each r y (among-later a l c w))
 
+sizes-alone : (a : Act) → sizes (more a none) ≡ size a
+unfolding size
+sizes-alone a = omega arith
+
 -- of an order that stands
 standing-comes : (p : Plan) (o : Order) → Promised p → Standing p o → (k : ℕ) → k < size (p .body) + size (p .fault) → hasNext p o k ≡ true
-unfolding hasNext readyOf readyIn size
+unfolding hasNext readyOf
 standing-comes p o h st k n =
     decide (eqb (getD (o .marks) k 0) idle)
     (λ e. rw e)
@@ -252,26 +260,20 @@ standing-comes p o h st k n =
     inBody : Among (o .marks) rs (p .body) 0
     inBody = record { free = false; among = λ f e. some-append f (readyIn (p .body) 0 false (o .marks)) (readyIn (p .fault) (size (p .body)) false (o .marks)) ∙ rw e }
 
-    inFault : AmongIn (o .marks) rs (more (p .fault) none) (size (p .body))
-    inFault =
-        record {
-          free = false;
-          among = λ f e.
-              let d : some f (readyIn (p .fault) (size (p .body)) false (o .marks)) ≡ true = ap (some f) (sym (append-nil (readyIn (p .fault) (size (p .body)) false (o .marks)))) ∙ e in
-              some-append f (readyIn (p .body) 0 false (o .marks)) (readyIn (p .fault) (size (p .body)) false (o .marks)) ∙ rw (d, or-true);
-        }
+    inFault : Among (o .marks) rs (p .fault) (size (p .body))
+    inFault = record { free = false; among = λ f e. some-append f (readyIn (p .body) 0 false (o .marks)) (readyIn (p .fault) (size (p .body)) false (o .marks)) ∙ rw (e, or-true) }
 
     go : Running (rootOf p) (o .marks) (o .root) → Each (o .marks) rs (p .body) 0 × EachIn (o .marks) rs (more (p .fault) none) (size (p .body))
     go (scope-live e r q) = (run-each (o .marks) rs r (h .body) inBody, in-quiet (o .marks) rs (more (p .fault) none) (size (p .body)) q)
     go (scope-done e q r) = (each-quiet (o .marks) rs (p .body) 0 q, in-quiet (o .marks) rs (more (p .fault) none) (size (p .body)) r)
-    go (scope-turned t) = turned-each (o .marks) rs t (h .body) (each-one (h .fault) each-none) inBody inFault
+    go (scope-turned t) = turned-each (o .marks) rs t (h .body) (formed-more (h .fault) formed-none) inBody (alone-among (o .marks) rs (p .fault) (size (p .body)) inFault)
 
     by-part : Each (o .marks) rs (p .body) 0 × EachIn (o .marks) rs (more (p .fault) none) (size (p .body)) → Up (o .marks) k → Comes (o .marks) rs k (actAt p k)
     by-part w u =
         decide (ltb k (size (p .body)))
         (λ t. let z = ltb-true k (size (p .body)) t in subst (Comes (o .marks) rs k) (sym (in-first (p .body) (more (p .fault) none) 0 k (omega arith))) (w .0 k (omega arith) (omega arith) u))
         (λ t. let z = ltb-false k (size (p .body)) t in
-        subst (Comes (o .marks) rs k) (sym (in-later (p .body) (more (p .fault) none) 0 k (omega arith) ∙ ap (λ (c : ℕ). actAmong (more (p .fault) none) c k) (zero-plus (size (p .body))))) (w .1 k z (omega arith) u))
+        subst (Comes (o .marks) rs k) (sym (in-later (p .body) (more (p .fault) none) 0 k (omega arith) ∙ ap (λ (c : ℕ). actAmong (more (p .fault) none) c k) (zero-plus (size (p .body))))) (w .1 k z (omega (arith, sizes-alone (p .fault))) u))
       where
         zero-plus : (n : ℕ) → 0 + n ≡ n
         zero-plus n = omega arith
