@@ -1,11 +1,12 @@
--- The numbers answered with the ends of orders are those that the history tells, and a root that faulted keeps its own. Assumes nothing.
+-- The numbers answered with the ends of orders are those that the history tells; a root that faulted keeps its own, and a scope the choice for its own. Assumes nothing.
 use Prim.Native.Nat.{ℕ}
+use native.Mathlib.Omega.{arith}
 use mathlib.Core.Path.{_≡_, refl, sym, ap, subst, _∙_}
 use mathlib.Core.Bool.{Bool, true, false, cond, not, _&&_, _||_, false≢true}
 use mathlib.Core.List.{List, [], _∷_, _++_, append-nil, append-assoc}
 use lib.ListN.{getD}
 use lib.Dec.{eqb}
-use borrow.Author.Tests.{eq-eqb}
+use borrow.Author.Tests.{eqb-true, eq-eqb}
 use Rattle.plan.specs.Found.{Found, found}
 use Rattle.plan.specs.Read.{readPlan}
 use Rattle.plan.specs.Tree.{Plan}
@@ -16,7 +17,7 @@ use Rattle.order.specs.declared.End.the-variants.{None, Well, Handled, Failed, 
 use Rattle.machine.specs.declared.State.{State}
 use Rattle.machine.specs.declared.Tally.{Tally}
 use Rattle.order.specs.Lists.{some, only, each}
-use Rattle.order.specs.State.{root, inner, isLive, noOrder}
+use Rattle.order.specs.State.{idle, active, done, faulty, undoing, handling, halted, withdrawing, Name, root, inner, stateIn, choiceIn, markOf, choiceOf, isLive, noOrder}
 use Rattle.machine.specs.State.{fresh}
 use Rattle.order.specs.Event.{Event, started, began, closed, faulted, stopped, ended, raised, left}
 use Rattle.order.specs.Acting.{begunOrder, startedOrder, Actor, Moved, acted}
@@ -24,20 +25,22 @@ use Rattle.order.specs.Judging.{following, stepOrder}
 use Rattle.machine.specs.Calls.{loadedAs, load, post, collect, dropAt, Stepped, doingAt, step, Call, posting, collecting, dropping, stepping}
 use Rattle.undoing.specs.History.{logOf, history}
 use Rattle.undoing.specs.Demand3.{since, isBegin, isTurn, isFinish, hasTurned, noneNow, isOver, allowed}
-use Rattle.undoing.specs.Orderly.{orderly, hasFaulted, isCause, CausesTold}
-use Rattle.undoing.specs.Ties.{stateAfter, orderAfter, pastAfter, isDeed, due, isFaultOf, heedsAfter, endTold, endList, endBy, numbersTold, numberTold, raiseTold, causeBy, causesIn, causeAnswered, causeOf, causesTaken, HandledBecause}
+use Rattle.undoing.specs.Orderly.{orderly, hasFaulted, choiceTold, isChoice, isCause, ChoicesTold}
+use Rattle.undoing.specs.Ties.{isName, stateAfter, orderAfter, pastAfter, isDeed, due, isFaultOf, heedsAfter, endTold, endList, endBy, numbersTold, numberTold, raiseTold, causeBy, causesIn, causeAnswered, causeOf, causesTaken, HandledBecause}
 use Rattle.undoing.proofs.Parts.{both, decide}
+use Rattle.undoing.proofs.Accounts.{accountOf, left-unfinished, Phase, rest, live, waits, undoes, heals, odd, phase, isHurt, choiceBy, Tied, Chosen}
 use Rattle.undoing.proofs.Moves.{HoldsAt, fair}
-use Rattle.undoing.proofs.Orders.{endsTurned, older, momentOf, fairAfter, onto, onto-append}
+use Rattle.undoing.proofs.Orders.{endsTurned, older, listOf, momentOf, fairAfter, onto, onto-append}
 use Rattle.undoing.proofs.Roots.{Awaited, Standing, EndedAs, Passed, passes-on, passes-end}
 use Rattle.undoing.proofs.Planning.{Promised, promised}
 use Rattle.undoing.proofs.Judged.{Fitting, passed-once, root-turns}
-use Rattle.undoing.proofs.Slots.{standing-live, Alike, taking-alike, taken-so, taken-step, order-starts, post-same, collect-same, drop-same, Sane, same-sane, fresh-sane}
+use Rattle.undoing.proofs.Slots.{Slot, slot-free, slot-live, standing-live, Alike, taking-alike, taken-so, taken-step, order-starts, post-same, collect-same, drop-same, Sane, same-sane, fresh-sane}
 use Rattle.undoing.proofs.Demanded.{step-after}
 use Rattle.undoing.proofs.Happening.{orderIn, withMessage, Happens, nothing-here, goes-here, starts-here, step-happens}
 use Rattle.undoing.proofs.Deeds.{start-deed}
 use Rattle.undoing.proofs.Shapes.{OrderShape, shaped, out, order-shape, start-calm}
 use Rattle.undoing.proofs.Fitting.{standing-fits}
+use Rattle.undoing.proofs.Told.{slot-after}
 use Rattle.undoing.proofs.Heeding.{leftBy, Clear, clear-raised, heeds-append, heeds-clears, heeds-once, step-heeds, calm-heeds}
 use Rattle.undoing.proofs.Ending.{isStart, start-kept, log-starts, now-none, after-none, told-end, now-cool}
 use Rattle.undoing.proofs.Numbered.{nextNumber, numberAfter, Told, order-moves, taking-cause, started-number}
@@ -313,16 +316,58 @@ pub handled-because : HandledBecause
 unfolding HandledBecause
 handled-because bytes p next e calls slot t = from-fresh bytes p next e calls slot t .0
 
--- The root of a live order that faulted keeps the number of that fault.
-pub causes-told : CausesTold
-unfolding CausesTold isCause
-causes-told bytes p next e calls slot t v = go (from-fresh bytes p next e calls slot t .1 v)
+-- The choice of a scope, by its phase: where no fault part is to come its mark is one of the nine alone.
+plain-choice : (m : ℕ) (q : Phase) → phase m ≡ q → isHurt q ≡ false → (q ≡ odd → ⊥) → choiceIn m ≡ 0
+plain-choice m q e h f =
+    decide (eqb m active) (λ t. ap choiceIn (eqb-true m active t))
+    (λ t. decide (eqb m done) (λ u. ap choiceIn (eqb-true m done u))
+    (λ u. decide (eqb m halted) (λ v. ap choiceIn (eqb-true m halted v))
+    (λ v. decide (eqb m withdrawing) (λ w. ap choiceIn (eqb-true m withdrawing w))
+    (λ w. decide (eqb m idle) (λ x. ap choiceIn (eqb-true m idle x))
+    (λ x. absurd (decide (eqb (stateIn m) faulty)
+    (λ y. false≢true (sym h ∙ (ap isHurt (sym e) ∙ rw (t, u, y))))
+    (λ y. decide (eqb (stateIn m) undoing)
+    (λ z. false≢true (sym h ∙ (ap isHurt (sym e) ∙ rw (t, u, y, v, z))))
+    (λ z. decide (eqb (stateIn m) handling)
+    (λ a. false≢true (sym h ∙ (ap isHurt (sym e) ∙ rw (t, u, y, v, z, w, a))))
+    (λ a. f (sym e ∙ rw (t, u, y, v, z, w, a, x)))))))))))
+
+-- A scope of a live order keeps its choice for the number that it faulted with.
+chosen-told : (p : Plan) (n : Name) (past : List Event) (m : ℕ) (l : List ℕ) → Tied (phase m) l (accountOf p n past) → Chosen p n m (accountOf p n past)
+    → choiceIn m ≡ cond (hasTurned n past && hasFaulted n past) (choiceTold p n past) 0
+unfolding hasTurned
+chosen-told p n past m l t c = go (phase m) refl t c
+  where
+    by-number : (n : Name) → choiceBy p n (numberTold n past) ≡ choiceTold p n past
+    unfolding choiceTold choiceBy
+    by-number root = refl
+    by-number (inner k) = refl
+
+    go : (q : Phase) → phase m ≡ q → Tied q l (accountOf p n past) → (isHurt q ≡ true → choiceIn m ≡ choiceBy p n (numberTold n past))
+        → choiceIn m ≡ cond ((some (isTurn n) (since n past) && not (some (isFinish n) (since n past))) && hasFaulted n past) (choiceTold p n past) 0
+    go rest e t c = rw (t .2) (plain-choice m rest e refl (λ d. let z : _≡_ {A = ℕ} 0 1 = cc in omega arith))
+    go live e t c = rw (t .1) (plain-choice m live e refl (λ d. let z : _≡_ {A = ℕ} 0 1 = cc in omega arith))
+    go (waits true) e t c = rw (t .1, left-unfinished n past (t .0), t .4) (c refl ∙ by-number n)
+    go (waits false) e t c = rw (t .1, left-unfinished n past (t .0), t .4) (plain-choice m (waits false) e refl (λ d. let z : _≡_ {A = ℕ} 0 1 = cc in omega arith))
+    go (undoes true) e t c = rw (t .1, left-unfinished n past (t .0), t .3) (c refl ∙ by-number n)
+    go (undoes false) e t c = rw (t .1, left-unfinished n past (t .0), t .3) (plain-choice m (undoes false) e refl (λ d. let z : _≡_ {A = ℕ} 0 1 = cc in omega arith))
+    go heals e t c = rw (t .1, left-unfinished n past (t .0), t .4) (c refl ∙ by-number n)
+    go odd e t c = absurd t
+
+-- The scopes of a live order keep the choices of their fault parts, and its root the number that it faulted with.
+pub choices-told : ChoicesTold
+unfolding ChoicesTold isChoice isCause
+choices-told bytes p next e calls slot t v = (λ n i. chosen (slot-after bytes p next e calls slot t) n i, go (from-fresh bytes p next e calls slot t .1 v))
   where
     o : Order
     o = orderAfter calls slot (load bytes .state) t
 
     past : List Event
     past = pastAfter calls slot (load bytes .state) t
+
+    chosen : Slot p o past → (n : Name) → isName p n ≡ true → eqb (choiceOf n o) (cond (hasTurned n past && hasFaulted n past) (choiceTold p n past) 0) ≡ true
+    chosen (slot-free x y) n i = absurd (false≢true (sym x ∙ v))
+    chosen (slot-live x y) n i = eq-eqb (choiceOf n o) _ (chosen-told p n past (markOf n o) (listOf p n o) (y .ties n i) (y .choices n i))
 
     go : Known (o .cause) past → (not (hasFaulted root past) || eqb (o .cause) (numberTold root past)) ≡ true
     go k = decide (hasFaulted root past) (λ f. rw (f, eq-eqb (o .cause) (numberTold root past) (k .known f))) (λ f. rw f)

@@ -8,18 +8,20 @@ use lib.ListN.{length, getD, set, length-set, List·getD-eq-default}
 use lib.Seq.{getD-set-other, getD-set-same}
 use lib.Dec.{eqb, ltb}
 use borrow.Author.Tests.{eqb-true, ltb-true, ltb-false}
-use Rattle.plan.specs.Tree.{Exp, Own, empty, send, receive, set as setting, raise, leave, choose, repeat, sequence, flow, pick, scope, arm, kind, isScope, hasUndo, Act, act, Acts, none, more, Plan, size, sizes}
+use Rattle.plan.specs.Tree.{Exp, Own, empty, send, receive, set as setting, raise, leave, choose, repeat, sequence, flow, pick, scope, arm, kind, isScope, hasUndo, numbersOf, undoPart, Act, act, Acts, none, more, Plan, size, sizes}
 use Rattle.order.specs.declared.Closing.{Closing}
 use Rattle.order.specs.declared.Order.{Order}
 use Rattle.order.specs.declared.Way.{Way as Result}
 use Rattle.order.specs.declared.Way.the-variants.{Running as running, Over as over, Raising as raising, Leaving as leaving, Undone as undone, UndoRaising as undoRaising}
 use Rattle.order.specs.Lists.{only, withoutLast}
-use Rattle.order.specs.State.{idle, active, done, faulty, undoing, handling, halted, withdrawing, Name, root, inner, withMarks, marked, markAt, markOf, marking, closings, remembering}
+use Rattle.order.specs.State.{idle, active, done, faulty, undoing, handling, halted, withdrawing, Name, root, inner, withMarks, marked, markAt, markWith, stateIn, markOf, stateOf, choiceOf, marking, closings, remembering}
 use Rattle.order.specs.Begin.{Begun, nothingBegun, awaiting, throughout, around, itsBeginning, inTurn, sideBySide, begin, beginInTurn, beginAll, beginFirst, beginAfter, part, partAt, beginPart, cleared}
-use Rattle.order.specs.Scope.{Outcome, runs, after, begunIn, whereOver, Scope, scopeAt, rootOf, isFor, isOpen, innerRuns, rememberedFor, forgetting, beginUndo, beginUndoFirst, beginUndoIn, startUndo, undo, ends, handle, undoes, turns, withdraws, faults, breaks, looksAgain, bodyOver, bodyRaised, Stopped, untouched, alsoStopped, stop, stopAll, stopFirst}
+use Rattle.order.specs.Scope.{Outcome, runs, after, begunIn, whereOver, Scope, choiceFor, chosenPart, chosenAt, scopeAt, rootOf, isFor, isOpen, innerRuns, rememberedFor, forgetting, beginUndo, beginUndoFirst, beginUndoIn, startUndo, undo, ends, handle, undoes, turns, withdraws, faults, breaks, looksAgain, bodyOver, bodyRaised, Stopped, untouched, alsoStopped, stop, stopAll, stopFirst}
 use Rattle.order.specs.Judging.{rank}
-use Rattle.undoing.proofs.Causing.{caused, faults-is}
+use Rattle.order.proofs.Chosen.{state-alone, state-with}
+use Rattle.undoing.proofs.Causing.{caused, chosenMark, faults-is}
 use Rattle.undoing.proofs.Parts.{decide}
+use Rattle.undoing.proofs.Choices.{chosenIn, chosen-at}
 
 -- the marks below b are the same
 pub record Same (b : ℕ) (ms ns : List ℕ) : Type 0 where
@@ -83,7 +85,7 @@ mutual
   same-begin (act flow within) b k ms e =
       same-throughout k (beginAll within (k + 1) (set ms k active)) e (same-then (same-set b k active ms e) (same-begin-all within b (k + 1) (set ms k active) (omega arith)))
   same-begin (act pick within) b k ms e = same-set b k active ms e
-  same-begin (act (scope v) within) b k ms e =
+  same-begin (act (scope xs v) within) b k ms e =
       same-around k (beginFirst within (k + 1) (set ms k active)) e (same-then (same-set b k active ms e) (same-begin-first within b (k + 1) (set ms k active) (omega arith)))
   same-begin (act (arm p o vs) within) b k ms e = same-itself b ms
 
@@ -136,10 +138,10 @@ mutual
     where
       go : (v w x : Bool) → Same b ms (beginUndoFirst within (k + 1) e ms .marks) → Same b ms (beginUndoIn within (k + 1) e ms .marks)
           → Same b ms (elim v as (λ _. Begun) [
-            | true ↦ cond w (cond x (beginPart 2 within (k + 1) ms) (nothingBegun ms)) (beginUndoFirst within (k + 1) e ms)
+            | true ↦ cond w (cond x (beginPart (undoPart (numbersOf own)) within (k + 1) ms) (nothingBegun ms)) (beginUndoFirst within (k + 1) e ms)
             | false ↦ beginUndoIn within (k + 1) e ms
           ] .marks)
-      go true true true y z = same-part 2 within b (k + 1) ms (omega arith)
+      go true true true y z = same-part (undoPart (numbersOf own)) within b (k + 1) ms (omega arith)
       go true true false y z = same-itself b ms
       go true false x y z = y
       go false w x y z = z
@@ -199,6 +201,15 @@ rank-set n k v ms =
     (λ e. subst (λ (x : ℕ). rank n x ≤ rank n v) (sym (getD-set-same ms k v 0 (ltb-true k (length ms) e))) (omega arith))
     (λ e. subst (λ (x : ℕ). rank n x ≤ rank n v) (sym (List·getD-eq-default (set ms k v) 0 {n = k} (omega (arith, ltb-false k (length ms) e, length-set ms k v)))) (omega arith))
 
+-- the rank of a mark is that of the one of the nine that it is
+pub rank-with : (n c m : ℕ) → m < 16 → rank n (markWith c m) ≡ rank n m
+unfolding rank
+rank-with n c m h = rw (state-with c m h, state-alone m h)
+
+pub rank-by : (n m x : ℕ) → eqb (stateIn m) x ≡ true → x < 16 → rank n m ≡ rank n x
+unfolding rank
+rank-by n m x e h = rw (eqb-true (stateIn m) x e, state-alone x h)
+
 -- A scope's own mark, and the marks below it: the root's is the root's mark, with none below.
 abbrev RootOf : Name → Order → Order → Type 0
 RootOf root o o′ = Unit {0}
@@ -218,13 +229,13 @@ mark-remembering (inner k) l o = refl
 
 pub record Owns (s : Scope) (b : ℕ) : Type 0 where
   pub keeps : (o o′ : Order) → Low (s .bodyAt) o o′ → markOf (s .name) o′ ≡ markOf (s .name) o
-  pub heals : (o o′ : Order) → Low (s .faultAt) o o′ → markOf (s .name) o′ ≡ markOf (s .name) o
+  pub heals : (c : ℕ) (o o′ : Order) → Low (chosenAt c s) o o′ → markOf (s .name) o′ ≡ markOf (s .name) o
   pub puts : (m : ℕ) (o : Order) → rank 11 (markOf (s .name) (marking (s .name) m o)) ≤ rank 11 m
   pub below : (m : ℕ) (o : Order) → Same b (o .marks) (marking (s .name) m o .marks)
   pub rooted : (m : ℕ) (o : Order) → RootAs (s .name) o (marking (s .name) m o)
   pub low : (o o′ : Order) → o′ .root ≡ o .root → RootAs (s .name) o o′
   pub body : b ≤ s .bodyAt
-  pub fault : b ≤ s .faultAt
+  pub fault : (c : ℕ) → b ≤ chosenAt c s
   pub first : b ≤ s .first
 
 -- its own mark has at most this rank, and below it nothing has changed
@@ -248,7 +259,7 @@ module _ (s : Scope) (b : ℕ) (h : Owns s b) where
   under-put : (m : ℕ) (o : Order) → Under (rank 11 m) s b o (marking (s .name) m o)
   under-put m o = record { rank = h .puts m o; root = h .rooted m o; marks = h .below m o }
 
-  -- then something behind where its body, or its fault part, stands
+  -- then something behind where its body, or a fault part, stands
   under-body : {n : ℕ} {o o′ o″ : Order} → Under n s b o o′ → Low (s .bodyAt) o′ o″ → Under n s b o o″
   under-body {n} {o} {o′} {o″} x y =
       record {
@@ -257,12 +268,12 @@ module _ (s : Scope) (b : ℕ) (h : Owns s b) where
         marks = same-then (x .marks) (same-less (h .body) (y .marks));
       }
 
-  under-fault : {n : ℕ} {o o′ o″ : Order} → Under n s b o o′ → Low (s .faultAt) o′ o″ → Under n s b o o″
-  under-fault {n} {o} {o′} {o″} x y =
+  under-fault : (c : ℕ) {n : ℕ} {o o′ o″ : Order} → Under n s b o o′ → Low (chosenAt c s) o′ o″ → Under n s b o o″
+  under-fault c {n} {o} {o′} {o″} x y =
       record {
-        rank = subst (λ (m : ℕ). rank 11 m ≤ n) (sym (h .heals o′ o″ y)) (x .rank);
+        rank = subst (λ (m : ℕ). rank 11 m ≤ n) (sym (h .heals c o′ o″ y)) (x .rank);
         root = root-then (s .name) (x .root) (h .low o′ o″ (y .root));
-        marks = same-then (x .marks) (same-less (h .fault) (y .marks));
+        marks = same-then (x .marks) (same-less (h .fault c) (y .marks));
       }
 
   under-where : (n : ℕ) (o : Order) (g : Order → Outcome) (r : Outcome) → Under n s b o (r .order) → ((o₁ : Order) → Under n s b o₁ (g o₁ .order)) → Under n s b o (whereOver g r .order)
@@ -283,16 +294,19 @@ module _ (s : Scope) (b : ℕ) (h : Owns s b) where
   under-handle : (o : Order) → Under 1 s b o (handle s o .order)
   unfolding handle rank
   under-handle o =
-      let o′ = marking (s .name) handling o in
-      under-where 1 o (ends s) (begunIn o′ (begin (s .fault) (s .faultAt) (o′ .marks)))
-      (under-fault (under-put handling o) (record { root = refl; marks = same-begin (s .fault) (s .faultAt) (s .faultAt) (o′ .marks) (omega arith) }))
+      let c = choiceOf (s .name) o in
+      let m = markWith c handling in
+      let o′ = marking (s .name) m o in
+      under-where 1 o (ends s) (begunIn o′ (begin (chosenPart c s) (chosenAt c s) (o′ .marks)))
+      (under-fault c (under-more (omega (arith, rank-with 11 c handling (omega arith))) (under-put m o)) (record { root = refl; marks = same-begin (chosenPart c s) (chosenAt c s) (chosenAt c s) (o′ .marks) (omega arith) }))
       (λ o₁. under-more (omega arith) (under-ends o₁))
 
   under-undoes : (w : Bool) (o : Order) → Under 3 s b o (undoes w s o .order)
   unfolding undoes rank
   under-undoes true o =
-      let o′ = marking (s .name) undoing o in
-      under-where 3 o (handle s) (undo (rememberedFor s o′) s o′) (under-body (under-put undoing o) (low-undo (rememberedFor s o′) s o′)) (λ o₁. under-more (omega arith) (under-handle o₁))
+      let c = choiceOf (s .name) o in
+      let o′ = marking (s .name) (markWith c undoing) o in
+      under-where 3 o (handle s) (undo (rememberedFor s o′) s o′) (under-body (under-more (omega (arith, rank-with 11 c undoing (omega arith))) (under-put (markWith c undoing) o)) (low-undo (rememberedFor s o′) s o′)) (λ o₁. under-more (omega arith) (under-handle o₁))
   under-undoes false o =
       let o′ = marking (s .name) withdrawing o in
       under-where 3 o (ends s) (undo (rememberedFor s o′) s o′) (under-more (omega arith) (under-body (under-put withdrawing o) (low-undo (rememberedFor s o′) s o′))) (λ o₁. under-more (omega arith) (under-ends o₁))
@@ -317,8 +331,8 @@ module _ (s : Scope) (b : ℕ) (h : Owns s b) where
   pub again-lowered : (o : Order) → Lowered s b o (looksAgain s o)
   unfolding looksAgain rank
   again-lowered o =
-      decide (eqb (markOf (s .name) o) faulty)
-      (λ e. rw (e, looksAgain) (turns-lowered true o (subst (λ (m : ℕ). 3 < rank 11 m) (sym (eqb-true (markOf (s .name) o) faulty e)) (omega arith))))
+      decide (eqb (stateOf (s .name) o) faulty)
+      (λ e. rw (e, looksAgain) (turns-lowered true o (subst (λ (n : ℕ). 3 < n) (sym (rank-by 11 (markOf (s .name) o) faulty e (omega arith))) (omega arith))))
       (λ e. decide (eqb (markOf (s .name) o) halted)
       (λ d. rw (e, looksAgain, d) (turns-lowered false o (subst (λ (m : ℕ). 3 < rank 11 m) (sym (eqb-true (markOf (s .name) o) halted d)) (omega arith))))
       (λ d. rw (e, looksAgain, d) (stays refl)))
@@ -343,18 +357,18 @@ module _ (s : Scope) (b : ℕ) (h : Owns s b) where
       })
 
 -- the scope in activity k, and the root
-pub own-at : (k : ℕ) (within : Acts) → Owns (scopeAt k within) k
+pub own-at : (xs : List ℕ) (k : ℕ) (within : Acts) → Owns (scopeAt xs k within) k
 unfolding rank
-own-at k within =
+own-at xs k within =
     record {
       keeps = λ o o′ x. x .marks .at k (omega (arith, part-behind 0 within (k + 1)));
-      heals = λ o o′ x. x .marks .at k (omega (arith, part-behind 1 within (k + 1)));
+      heals = λ c o o′ x. x .marks .at k (omega (arith, chosen-at c xs k within, part-behind (chosenIn c xs) within (k + 1)));
       puts = λ m o. rank-set 11 k m (o .marks);
       below = λ m o. same-set k k m (o .marks) (omega arith);
       rooted = λ m o. record { same = refl };
       low = λ o o′ e. record { same = e };
       body = omega (arith, part-behind 0 within (k + 1));
-      fault = omega (arith, part-behind 1 within (k + 1));
+      fault = λ c. omega (arith, chosen-at c xs k within, part-behind (chosenIn c xs) within (k + 1));
       first = omega arith;
     }
 
@@ -362,23 +376,23 @@ pub own-root : (p : Plan) → Owns (rootOf p) 0
 own-root p =
     record {
       keeps = λ o o′ x. x .root;
-      heals = λ o o′ x. x .root;
+      heals = λ c o o′ x. x .root;
       puts = λ m o. omega arith;
       below = λ m o. same-itself 0 (o .marks);
       rooted = λ m o. record { same = tt };
       low = λ o o′ e. record { same = tt };
       body = omega arith;
-      fault = omega arith;
+      fault = λ c. omega arith;
       first = omega arith;
     }
 
-low-withdraws : (within : Acts) (b k : ℕ) (r : Stopped) → b ≤ k → Low b (r .order) (withdraws k (scopeAt k within) r .order)
+low-withdraws : (xs : List ℕ) (within : Acts) (b k : ℕ) (r : Stopped) → b ≤ k → Low b (r .order) (withdraws k (scopeAt xs k within) r .order)
 unfolding withdraws turns
-low-withdraws within b k r e = go (innerRuns (scopeAt k within .body) (scopeAt k within .bodyAt) (r .order .marks))
+low-withdraws xs within b k r e = go (innerRuns (scopeAt xs k within .body) (scopeAt xs k within .bodyAt) (r .order .marks))
   where
-    go : (v : Bool) → Low b (r .order) (elim v as (λ _. Outcome) [ true ↦ runs (r .order) | false ↦ undoes false (scopeAt k within) (r .order) ] .order)
+    go : (v : Bool) → Low b (r .order) (elim v as (λ _. Outcome) [ true ↦ runs (r .order) | false ↦ undoes false (scopeAt xs k within) (r .order) ] .order)
     go true = low-itself b (r .order)
-    go false = let x = under-undoes (scopeAt k within) k (own-at k within) false (r .order) in record { root = x .root .same; marks = same-less e (x .marks) }
+    go false = let x = under-undoes (scopeAt xs k within) k (own-at xs k within) false (r .order) in record { root = x .root .same; marks = same-less e (x .marks) }
 
 -- What stops.
 mutual
@@ -390,12 +404,12 @@ mutual
     where
       go : (v w : Bool) → Low b (marked k halted o) (stopFirst within (k + 1) (marked k halted o) .order) → Low b (marked k idle o) (stopAll within (k + 1) (marked k idle o) .order)
           → Low b o (elim v as (λ _. Stopped) [
-            | true ↦ elim w as (λ _. Stopped) [ true ↦ withdraws k (scopeAt k within) (stopFirst within (k + 1) (marked k halted o)) | false ↦ untouched o ]
+            | true ↦ elim w as (λ _. Stopped) [ true ↦ withdraws k (scopeAt (numbersOf own) k within) (stopFirst within (k + 1) (marked k halted o)) | false ↦ untouched o ]
             | false ↦ stopAll within (k + 1) (marked k idle o)
           ] .order)
       go true true x y =
           low-then (record { root = refl; marks = same-set b k halted (o .marks) e })
-          (low-then x (low-withdraws within b k (stopFirst within (k + 1) (marked k halted o)) e))
+          (low-then x (low-withdraws (numbersOf own) within b k (stopFirst within (k + 1) (marked k halted o)) e))
       go true false x y = low-itself b o
       go false w x y = low-then (record { root = refl; marks = same-set b k idle (o .marks) e }) y
 
@@ -411,9 +425,10 @@ mutual
 pub faults-under : (s : Scope) (b : ℕ) → Owns s b → (number : ℕ) (o : Order) → Under 5 s b o (faults number s o .order)
 unfolding rank
 faults-under s b h number o =
-    let o′ = caused (s .name) number (marking (s .name) faulty o) in
+    let v = chosenMark number s in
+    let o′ = caused (s .name) number (marking (s .name) v o) in
     subst (λ (z : Outcome). Under 5 s b o (z .order)) (sym (faults-is number s o))
-    (under-turns s b h 5 true o (stop (s .body) (s .bodyAt) o′ .order) (omega arith) (under-body s b h (under-put s b h faulty o)
+    (under-turns s b h 5 true o (stop (s .body) (s .bodyAt) o′ .order) (omega arith) (under-body s b h (under-more s b h (omega (arith, rank-with 11 (choiceFor number s) faulty (omega arith))) (under-put s b h v o))
     (low-then (record { root = refl; marks = low-itself (s .bodyAt) o′ .marks }) (low-stop (s .body) (s .bodyAt) (s .bodyAt) o′ (omega arith)))))
 
 pub raised-lowered : (s : Scope) (b : ℕ) → Owns s b → (number : ℕ) (o : Order) → Lowered s b o (bodyRaised number s o)

@@ -6,19 +6,19 @@ use mathlib.Core.Bool.{Bool, true, false, cond, _||_, _&&_}
 use mathlib.Core.List.{List, [], _∷_, _++_}
 use lib.ListN.{drop, getD}
 use lib.Dec.{eqb, ltb}
-use Rattle.plan.specs.Tree.{Own, empty, send, receive, set as setting, raise, leave, choose, repeat, sequence, flow, pick, scope, arm, kind, isScope, isPick, Act, act, Acts, none, more, Plan, size, sizes}
+use Rattle.plan.specs.Tree.{Own, empty, send, receive, set as setting, raise, leave, choose, repeat, sequence, flow, pick, scope, arm, kind, isScope, isPick, numbersOf, undoPart, Act, act, Acts, none, more, Plan, size, sizes}
 use Rattle.order.specs.declared.Order.{Order}
 use Rattle.order.specs.declared.End.{End}
 use Rattle.order.specs.declared.End.the-variants.{None, Well, Handled, Failed, Left}
 use Rattle.machine.specs.declared.Message.{Message}
 use Rattle.order.specs.Lists.{only, withoutLast}
-use Rattle.order.specs.State.{Name, root, inner, idle, active, inside, done, faulty, undoing, handling, halted, withdrawing, withMarks, binding, remembering, closings, markOf, markAt, marked, marking, causing, noOrder}
+use Rattle.order.specs.State.{Name, root, inner, idle, active, inside, done, faulty, undoing, handling, halted, withdrawing, withMarks, binding, remembering, closings, markWith, markOf, stateOf, choiceOf, going, markAt, marked, marking, causing, noOrder}
 use Rattle.order.specs.Expression.{unboundVariable, conflictingReceive, Value, fault, value, evaluate, isTrue}
 use Rattle.order.specs.Event.{Event, started, began, closed, faulted, stopped, ended, raised, left}
 use Rattle.order.specs.Begin.{Begun, begin, beginAfter, beginPart, partAt, cleared, quiet}
 use Rattle.order.specs.declared.Way.{Way as Result}
 use Rattle.order.specs.declared.Way.the-variants.{Running as running, Over as over, Raising as raising, Leaving as leaving, Undone as undone, UndoRaising as undoRaising}
-use Rattle.order.specs.Scope.{Outcome, runs, after, begunIn, whereOver, Scope, scopeAt, rootOf, isFor, forgetting, closing, innerRuns, beginUndo, startUndo, undo, ends, handle, undoes, turns, rememberedFor, isOpen, untouched, withdraws, stop, stopAll, stopFirst, faults, breaks, looksAgain, bodyOver, bodyRaised, undoOver, undoRaised, fromBody, partOver, partRaised, fromFault, goesThrough, fromUndo}
+use Rattle.order.specs.Scope.{Outcome, runs, after, begunIn, whereOver, Scope, choiceFor, chosenPart, chosenAt, scopeAt, rootOf, isFor, forgetting, closing, innerRuns, beginUndo, startUndo, undo, ends, handle, undoes, turns, rememberedFor, isOpen, untouched, withdraws, stop, stopAll, stopFirst, faults, breaks, looksAgain, bodyOver, bodyRaised, undoOver, undoRaised, fromBody, partOver, partRaised, fromFault, goesThrough, fromUndo}
 use Rattle.order.specs.Scope as definitions
 use Rattle.order.specs.Acting.{finishes, raises, orRaises, again, repeats, allBound, itself, isPart, arms, goesOn, joins, inScope, combines, Actor, itsOwn, inPlace, replaces, performs, stepIn, stepAmong, stepRoot, endOf, faultOf, Moved, movedTo, acted, begunOrder, startedOrder}
 use Rattle.order.specs.Judging.{Verdict, clear, clash, conflict, following, upon, judged, spare, settled, stepOrder}
@@ -147,14 +147,15 @@ undo-goes (e ∷ l) s o =
 handle-goes : (s : Scope) (o : Order) → Goes (o .cause) (handle s o)
 unfolding handle
 handle-goes s o =
-    let q = marking (s .name) handling o in
-    goes-as (handle s o) (marking-cause (s .name) handling o)
-    (goes-where (ends s) (begunIn q (begin (s .fault) (s .faultAt) (q .marks))) (begun-goes q (begin (s .fault) (s .faultAt) (q .marks)) (begin-silent isFaulted faults-aside (s .fault) (s .faultAt) (q .marks))) (ends-goes s))
+    let c = choiceOf (s .name) o in
+    let q = going (s .name) handling o in
+    goes-as (handle s o) (marking-cause (s .name) (markWith c handling) o)
+    (goes-where (ends s) (begunIn q (begin (chosenPart c s) (chosenAt c s) (q .marks))) (begun-goes q (begin (chosenPart c s) (chosenAt c s) (q .marks)) (begin-silent isFaulted faults-aside (chosenPart c s) (chosenAt c s) (q .marks))) (ends-goes s))
 
 undoes-goes : (b : Bool) (s : Scope) (o : Order) → Goes (o .cause) (undoes b s o)
 unfolding undoes
 undoes-goes true s o =
-    let q = marking (s .name) undoing o in goes-as (undoes true s o) (marking-cause (s .name) undoing o) (goes-where (handle s) (undo (rememberedFor s q) s q) (undo-goes (rememberedFor s q) s q) (handle-goes s))
+    let q = going (s .name) undoing o in goes-as (undoes true s o) (marking-cause (s .name) (markWith (choiceOf (s .name) o) undoing) o) (goes-where (handle s) (undo (rememberedFor s q) s q) (undo-goes (rememberedFor s q) s q) (handle-goes s))
 undoes-goes false s o =
     let q = marking (s .name) withdrawing o in goes-as (undoes false s o) (marking-cause (s .name) withdrawing o) (goes-where (ends s) (undo (rememberedFor s q) s q) (undo-goes (rememberedFor s q) s q) (ends-goes s))
 
@@ -180,10 +181,10 @@ mutual
   stop-stops : (a : Act) (k : ℕ) (o : Order) → Stops (o .cause) (stop a k o)
   stop-stops (act own within) k o =
       stops-either (isScope own)
-      (elim (isOpen (markAt k o)) [ true ↦ withdraws k (scopeAt k within) (stopFirst within (k + 1) (marked k halted o)) | false ↦ untouched o ])
+      (elim (isOpen (markAt k o)) [ true ↦ withdraws k (scopeAt (numbersOf own) k within) (stopFirst within (k + 1) (marked k halted o)) | false ↦ untouched o ])
       (stopAll within (k + 1) (marked k idle o)) (stop (act own within) k o) refl
-      (stops-either (isOpen (markAt k o)) (withdraws k (scopeAt k within) (stopFirst within (k + 1) (marked k halted o))) (untouched o) _ refl
-      (withdraws-stops k (scopeAt k within) (o .cause) (stopFirst within (k + 1) (marked k halted o)) (stop-first-stops within (k + 1) (marked k halted o))) (nothing-follows o))
+      (stops-either (isOpen (markAt k o)) (withdraws k (scopeAt (numbersOf own) k within) (stopFirst within (k + 1) (marked k halted o))) (untouched o) _ refl
+      (withdraws-stops k (scopeAt (numbersOf own) k within) (o .cause) (stopFirst within (k + 1) (marked k halted o)) (stop-first-stops within (k + 1) (marked k halted o))) (nothing-follows o))
       (stop-all-stops within (k + 1) (marked k idle o))
 
   stop-all-stops : (l : Acts) (c : ℕ) (o : Order) → Stops (o .cause) (stopAll l c o)
@@ -204,12 +205,13 @@ faulted-number (inner k) x m o = refl
 faults-goes : (x : ℕ) (s : Scope) (o : Order) → Goes (o .cause) (faults x s o)
 unfolding faults numberAfter
 faults-goes x s o =
-    let q = causing (s .name) x (marking (s .name) faulty o) in
+    let m = markWith (choiceFor x s) faulty in
+    let q = causing (s .name) x (marking (s .name) m o) in
     let r = stop (s .body) (s .bodyAt) q in
     record {
       keeps =
           then-follows (turns true s (r .order) .log) (turns true s (r .order) .order) (stop-stops (s .body) (s .bodyAt) q) (turns-goes true s (r .order)) .keeps
-          ∙ ap (λ (y : ℕ). numberAfter y (r .log ++ turns true s (r .order) .log)) (faulted-number (s .name) x faulty o);
+          ∙ ap (λ (y : ℕ). numberAfter y (r .log ++ turns true s (r .order) .log)) (faulted-number (s .name) x m o);
     }
 
 breaks-goes : (x : ℕ) (s : Scope) (o : Order) → Goes (o .cause) (breaks x s o)
@@ -219,7 +221,7 @@ breaks-goes x s o = silent-follows (ended (s .name) ∷ []) (breaks x s o .order
 looks-goes : (s : Scope) (o : Order) → Goes (o .cause) (looksAgain s o)
 unfolding looksAgain
 looks-goes s o =
-    goes-either (eqb (markOf (s .name) o) faulty) (turns true s o) (elim (eqb (markOf (s .name) o) halted) [ true ↦ turns false s o | false ↦ runs o ]) (looksAgain s o) refl (turns-goes true s o)
+    goes-either (eqb (stateOf (s .name) o) faulty) (turns true s o) (elim (eqb (markOf (s .name) o) halted) [ true ↦ turns false s o | false ↦ runs o ]) (looksAgain s o) refl (turns-goes true s o)
     (goes-either (eqb (markOf (s .name) o) halted) (turns false s o) (runs o) _ refl (turns-goes false s o) (runs-goes o))
 
 over-goes : (s : Scope) (o : Order) → Goes (o .cause) (bodyOver s o)
@@ -235,20 +237,20 @@ raised-goes x s o = goes-either (isOpen (markOf (s .name) o)) (faults x s o) (lo
 undo-over-goes : (s : Scope) (o : Order) → Goes (o .cause) (undoOver s o)
 unfolding undoOver
 undo-over-goes s o =
-    goes-either (eqb (markOf (s .name) o) undoing) (undoes true s o) (elim (eqb (markOf (s .name) o) withdrawing) [ true ↦ undoes false s o | false ↦ runs o ]) (undoOver s o) refl (undoes-goes true s o)
+    goes-either (eqb (stateOf (s .name) o) undoing) (undoes true s o) (elim (eqb (markOf (s .name) o) withdrawing) [ true ↦ undoes false s o | false ↦ runs o ]) (undoOver s o) refl (undoes-goes true s o)
     (goes-either (eqb (markOf (s .name) o) withdrawing) (undoes false s o) (runs o) _ refl (undoes-goes false s o) (runs-goes o))
 
 undo-raised-goes : (x : ℕ) (s : Scope) (o : Order) → Goes (o .cause) (undoRaised x s o)
 unfolding undoRaised
-undo-raised-goes x s o = goes-either (eqb (markOf (s .name) o) undoing || eqb (markOf (s .name) o) withdrawing) (breaks x s o) (runs o) (undoRaised x s o) refl (breaks-goes x s o) (runs-goes o)
+undo-raised-goes x s o = goes-either (eqb (stateOf (s .name) o) undoing || eqb (markOf (s .name) o) withdrawing) (breaks x s o) (runs o) (undoRaised x s o) refl (breaks-goes x s o) (runs-goes o)
 
 part-over-goes : (s : Scope) (o : Order) → Goes (o .cause) (partOver s o)
 unfolding partOver
-part-over-goes s o = goes-either (eqb (markOf (s .name) o) handling) (ends s o) (runs o) (partOver s o) refl (ends-goes s o) (runs-goes o)
+part-over-goes s o = goes-either (eqb (stateOf (s .name) o) handling) (ends s o) (runs o) (partOver s o) refl (ends-goes s o) (runs-goes o)
 
 part-raised-goes : (x : ℕ) (s : Scope) (o : Order) → Goes (o .cause) (partRaised x s o)
 unfolding partRaised
-part-raised-goes x s o = goes-either (eqb (markOf (s .name) o) handling) (breaks x s o) (runs o) (partRaised x s o) refl (breaks-goes x s o) (runs-goes o)
+part-raised-goes x s o = goes-either (eqb (stateOf (s .name) o) handling) (breaks x s o) (runs o) (partRaised x s o) refl (breaks-goes x s o) (runs-goes o)
 
 -- what it makes of a step in it
 later-goes : {c : ℕ} (r x : Outcome) → Goes c r → Goes (r .order .cause) x → Goes c (after (r .log) x)
@@ -315,7 +317,7 @@ itself-goes (repeat x) within q k o = or-goes k o _ (evaluate x o) (λ n. goes-e
 itself-goes sequence within q k o = runs-goes o
 itself-goes flow within q k o = runs-goes o
 itself-goes pick within q k o = runs-goes o
-itself-goes (scope u) within q k o = silent-follows (closed k ∷ []) (closing u q k (scopeAt k within) o .order) refl refl
+itself-goes (scope xs u) within q k o = silent-follows (closed k ∷ []) (closing u q k (scopeAt xs k within) o .order) refl refl
 itself-goes (arm x y vs) within q k o = begun-goes o (beginPart 0 within (k + 1) (o .marks)) (part-silent isFaulted faults-aside 0 within (k + 1) (o .marks))
 
 on-goes : {c : ℕ} (k m : ℕ) (f : Order → Outcome) (r : Outcome) → Goes c r → ((o : Order) → Goes (o .cause) (f o)) → Goes c (goesOn k m f r)
@@ -341,11 +343,11 @@ combines-goes sequence within k t r w =
     (λ o. goes-where (finishes k) (begunIn o (beginAfter within (k + 1) t (o .marks))) (begun-goes o (beginAfter within (k + 1) t (o .marks)) (after-silent isFaulted faults-aside within (k + 1) t (o .marks))) (finishes-goes k))
 combines-goes flow within k t r w = on-goes k active (joins k within) r w (joins-goes k within)
 combines-goes pick within k t r w = on-goes k inside (finishes k) r w (finishes-goes k)
-combines-goes (scope u) within k t r w =
-    let s = scopeAt k within in
-    goes-either (ltb t (partAt 1 within (k + 1))) (elim (goesThrough u k r) [ true ↦ r | false ↦ fromBody s r ]) (elim (ltb t (partAt 2 within (k + 1))) [ true ↦ fromFault s r | false ↦ fromUndo r ]) _ refl
+combines-goes (scope xs u) within k t r w =
+    let s = scopeAt xs k within in
+    goes-either (ltb t (partAt 1 within (k + 1))) (elim (goesThrough u k r) [ true ↦ r | false ↦ fromBody s r ]) (elim (ltb t (partAt (undoPart xs) within (k + 1))) [ true ↦ fromFault s r | false ↦ fromUndo r ]) _ refl
     (goes-either (goesThrough u k r) r (fromBody s r) _ refl w (body-goes s r w))
-    (goes-either (ltb t (partAt 2 within (k + 1))) (fromFault s r) (fromUndo r) _ refl (fault-goes s r w) w)
+    (goes-either (ltb t (partAt (undoPart xs) within (k + 1))) (fromFault s r) (fromUndo r) _ refl (fault-goes s r w) w)
 combines-goes (arm x y vs) within k t r w = w
 
 performs-goes : (actor : Actor) (own : Own) (within : Acts) (q k : ℕ) (o : Order) → Goes (o .cause) (performs actor own within q k o)

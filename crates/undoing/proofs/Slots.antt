@@ -10,15 +10,15 @@ use lib.Dec.{eqb, ltb, leb}
 use borrow.Author.Tests.{eqb-true, ltb-true, ltb-false}
 use Rattle.plan.specs.Found.{Found, refused, found, among}
 use Rattle.plan.specs.Read.{readPlan}
-use Rattle.plan.specs.Tree.{Plan, size}
+use Rattle.plan.specs.Tree.{Plan, size, none, more, sizes}
 use Rattle.machine.specs.declared.Message.{Message}
 use Rattle.order.specs.declared.Order.{Order}
 use Rattle.machine.specs.declared.State.{State}
 use Rattle.order.specs.Lists.{every, only}
-use Rattle.order.specs.State.{Name, root, inner, idle, active, halted, withdrawing, withRoot, binding, markOf, isLive, noOrder}
+use Rattle.order.specs.State.{Name, root, inner, idle, active, halted, withdrawing, withRoot, binding, choiceIn, markOf, isLive, noOrder}
 use Rattle.machine.specs.State.{noMessage, fresh, letters}
 use Rattle.order.specs.Expression.{isFaultNumber}
-use Rattle.machine.specs.Limits.{exchanged, rootInLimits, orderInLimits, inLimits, planIn, by}
+use Rattle.machine.specs.Limits.{exchanged, rootInLimits, markInLimits, orderInLimits, inLimits, planIn, by}
 use Rattle.order.specs.Event.{Event, started}
 use Rattle.order.specs.Begin.{begin}
 use Rattle.order.specs.Scope.{rootOf}
@@ -32,7 +32,7 @@ use Rattle.undoing.specs.Demand3.{noneNow}
 use Rattle.undoing.proofs.Parts.{both, decide}
 use Rattle.undoing.proofs.Accounts.{Phase, rest, waits, heals, phase}
 use Rattle.undoing.proofs.Moves.{Everywhere, HoldsAt, fair, move-start}
-use Rattle.undoing.proofs.Marks.{Quiet, Run, turned-waits, turned-undoes, turned-heals, quiet-agree, agree-above}
+use Rattle.undoing.proofs.Marks.{Quiet, Run, turned-waits, turned-undoes, turned-heals, quiet-part, quiet-agree, agree-above}
 use Rattle.undoing.proofs.Orders.{momentOf, fairAfter, onto, does-nothing}
 use Rattle.undoing.proofs.Beginning.{Begins, begins}
 use Rattle.undoing.proofs.Waiting.{quiet-waits}
@@ -68,7 +68,7 @@ pub record Alike (p : Plan) (o o′ : Order) : Type 0 where
 
 -- an order and itself
 pub alike-itself : (p : Plan) (o : Order) → Alike p o o
-alike-itself p o = record { marks = refl; root = refl; everywhere = λ s i. (refl, refl) }
+alike-itself p o = record { marks = refl; root = refl; everywhere = λ s i. (refl, refl, refl) }
 
 -- binding some variables
 bound-alike : (p : Plan) (vs xs : List ℕ) (o : Order) → Alike p o (bindAll vs xs o)
@@ -76,9 +76,9 @@ unfolding bindAll
 bound-alike p [] xs o = alike-itself p o
 bound-alike p (v ∷ vs) xs o =
     let r = bound-alike p vs (drop 1 xs) (binding v (getD xs 0 0) o) in
-    record { marks = r .marks; root = r .root; everywhere = λ s i. (r .everywhere s i .0 ∙ same-mark s, r .everywhere s i .1 ∙ refl) }
+    record { marks = r .marks; root = r .root; everywhere = λ s i. let w = r .everywhere s i in (w .0 ∙ ap phase (same-mark s), w .1 ∙ refl, w .2 ∙ ap choiceIn (same-mark s)) }
   where
-    same-mark : (s : Name) → phase (markOf s (binding v (getD xs 0 0) o)) ≡ phase (markOf s o)
+    same-mark : (s : Name) → markOf s (binding v (getD xs 0 0) o) ≡ markOf s o
     same-mark root = refl
     same-mark (inner k) = refl
 
@@ -143,7 +143,7 @@ module _ (p : Plan) (h : Promised p) where
   -- what is logged then is right, and the order stands
   pub order-starts : (t : ℕ) (past : List Event) → noneNow past ≡ true → Awaited p (startedOrder p .marks) t
       → (fairAfter p past (started ∷ begunOrder p .log) ≡ true) × Standing p (startedOrder p) × HoldsAt p (momentOf p (startedOrder p)) (onto (started ∷ begunOrder p .log) past)
-  unfolding startedOrder begunOrder noOrder fairAfter only
+  unfolding startedOrder begunOrder noOrder fairAfter only size
   order-starts t past z w = (
     rw (m .0) (d .0),
     record { many = omega (arith, b .kept .many, h .few, length-replicate 256 idle); runs = go (begunOrder p .over) refl; going = λ e. omega arith },
@@ -165,15 +165,15 @@ module _ (p : Plan) (h : Promised p) where
       d : (fairAfter p (started ∷ past) (begunOrder p .log) ≡ true) × HoldsAt p (momentOf p (startedOrder p)) (onto (begunOrder p .log) (started ∷ past))
       d = b .does .does (started ∷ past) (m .1)
 
-      q : Quiet (begunOrder p .marks) (size (p .body)) (size (p .fault))
-      q = quiet-agree (idle-marks (size (p .body)) (size (p .fault))) (agree-above (b .kept) (omega arith))
+      q : Quiet (begunOrder p .marks) (size (p .body)) (sizes (more (p .fault) none))
+      q = quiet-agree (idle-marks (size (p .body)) (sizes (more (p .fault) none))) (agree-above (b .kept) (omega arith))
 
       go : (v : Bool) → begunOrder p .over ≡ v → Running (rootOf p) (begunOrder p .marks) active
       go true e = absurd (nothing w)
         where
           nothing : Awaited p (begunOrder p .marks) t → ⊥
           nothing (in-body x y) = quiet-waits y refl (b .quiet e)
-          nothing (in-fault x y) = quiet-waits y refl q
+          nothing (in-fault x y) = quiet-waits y refl (quiet-part q (omega arith) (omega arith))
       go false e = scope-live refl (b .runs e) q
 
 -- A state with the same plan and the same orders.
@@ -237,7 +237,7 @@ every-at f (a ∷ l) (suc i) d e h = both (f a) (every f l) h (λ x y. every-at 
 
 -- no order is within the limits
 pub no-order-limits : orderInLimits noOrder ≡ true
-unfolding orderInLimits noOrder rootInLimits every among isFaultNumber
+unfolding orderInLimits noOrder rootInLimits markInLimits every among isFaultNumber
 no-order-limits = refl
 
 -- the root of an order that starts is within its limits
