@@ -17,11 +17,11 @@ use Rattle.order.specs.Lists.{some}
 use Rattle.machine.specs.Fit.{Ready, readyIn, readyAmong, readyOf, awaits, doingOf}
 use Rattle.undoing.specs.Ties.{isStep, NeverStuck}
 use Rattle.undoing.proofs.Parts.{both, decide, some-append}
-use Rattle.undoing.proofs.Marks.{isDoer, trio, Quiet, Run, run-awaits, run-one, run-all, run-body, run-done, run-turned, One, one-here, one-later, All, all-none, all-run, all-quiet, Turned, turned-waits, turned-undoes, turned-heals, Stopped, stopped-part, stopped-quiet, stopped-scope, StoppedIn, stopped-none, stopped-more, Undoing, undoing-part, undoing-scope, UndoingIn, undoing-here, undoing-later, quiet-join, undoing-through}
+use Rattle.undoing.proofs.Marks.{isDoer, trio, Quiet, Run, run-awaits, run-one, run-all, run-body, run-done, run-turned, One, one-here, one-later, All, all-none, all-run, all-quiet, Nth, nth-here, nth-later, Turned, turned-waits, turned-undoes, turned-heals, Stopped, stopped-part, stopped-quiet, stopped-scope, StoppedIn, stopped-none, stopped-more, Undoing, undoing-part, undoing-scope, UndoingIn, undoing-here, undoing-later, quiet-join, undoing-through}
 use Rattle.undoing.proofs.Seats.{quiet-inner, inner-is}
 use Rattle.undoing.proofs.Scoping.{scope-live, scope-done, scope-turned, Running}
 use Rattle.undoing.proofs.Orders.{least}
-use Rattle.undoing.proofs.Planning.{Formed, formed-part, formed-scope, FormedIn, formed-none, formed-more, Promised, promised, FormedRest, formed-undo, formed-no}
+use Rattle.undoing.proofs.Planning.{Formed, formed-part, formed-scope, FormedIn, formed-none, formed-more, Promised, promised}
 use Rattle.undoing.proofs.Roots.{Standing}
 use Rattle.undoing.proofs.Slots.{Slot, slot-free, slot-live}
 use Rattle.undoing.proofs.Told.{slot-after}
@@ -56,24 +56,17 @@ module _ (ms : List ℕ) where
   unfolding awaitsIn
   itself-awaits own within k i e = rw (i, e)
 
-  done-awaits : (v : Bool) (within : Acts) (k : ℕ) → getD ms k 0 ≡ done → awaitsIn (act (scope v) within) k ms ≡ true
+  done-awaits : (xs : List ℕ) (v : Bool) (within : Acts) (k : ℕ) → getD ms k 0 ≡ done → awaitsIn (act (scope xs v) within) k ms ≡ true
   unfolding awaitsIn kind isDoer
-  done-awaits v within k e = rw e
+  done-awaits xs v within k e = rw e
 
   -- the parts of a scope
-  body-awaits : (v : Bool) (b f : Act) (u : Acts) (k : ℕ) → awaitsIn b (k + 1) ms ≡ true → awaitsIn (act (scope v) (trio b f u)) k ms ≡ true
-  body-awaits v b f u k e = within-awaits (scope v) (trio b f u) k (first-awaits b (more f u) (k + 1) e)
+  body-awaits : (own : Own) (b : Act) (l : Acts) (k : ℕ) → awaitsIn b (k + 1) ms ≡ true → awaitsIn (act own (more b l)) k ms ≡ true
+  body-awaits own b l k e = within-awaits own (more b l) k (first-awaits b l (k + 1) e)
 
-  fault-awaits : (v : Bool) (b f : Act) (u : Acts) (k : ℕ) → awaitsIn f (k + 1 + size b) ms ≡ true → awaitsIn (act (scope v) (trio b f u)) k ms ≡ true
-  fault-awaits v b f u k e = within-awaits (scope v) (trio b f u) k (later-awaits b (more f u) (k + 1) (first-awaits f u (k + 1 + size b) e))
-
-  undo-awaits : (b f u : Act) (k : ℕ) → awaitsIn u (k + 1 + size b + size f) ms ≡ true → awaitsIn (act (scope true) (trio b f (more u none))) k ms ≡ true
-  undo-awaits b f u k e =
-      within-awaits (scope true) (trio b f (more u none)) k (later-awaits b (more f (more u none)) (k + 1) (later-awaits f (more u none) (k + 1 + size b) (first-awaits u none (k + 1 + size b + size f) e)))
-
-  -- one of the two parts of a scope
-  either-awaits : (v : Bool) (b f : Act) (u : Acts) (k : ℕ) → (awaitsIn b (k + 1) ms || awaitsIn f (k + 1 + size b) ms) ≡ true → awaitsIn (act (scope v) (trio b f u)) k ms ≡ true
-  either-awaits v b f u k e = decide (awaitsIn b (k + 1) ms) (λ t. body-awaits v b f u k t) (λ t. fault-awaits v b f u k (rw t at e))
+  -- its body, or one of those after it
+  either-awaits : (own : Own) (b : Act) (l : Acts) (k : ℕ) → (awaitsIn b (k + 1) ms || awaitsAmong l (k + 1 + size b) ms) ≡ true → awaitsIn (act own (more b l)) k ms ≡ true
+  either-awaits own b l k e = decide (awaitsIn b (k + 1) ms) (λ t. body-awaits own b l k t) (λ t. within-awaits own (more b l) k (later-awaits b l (k + 1) (rw t at e)))
 
   -- no scope runs where all is quiet
   quiet-not : (a : Act) (k : ℕ) → Quiet ms k (size a) → innerRuns a k ms ≡ true → ⊥
@@ -102,13 +95,17 @@ module _ (ms : List ℕ) where
     run-waits (run-awaits {own} {within} {k} s i e q) = itself-awaits own within k i e
     run-waits (run-one {own} {within} {k} s e r) = within-awaits own within k (one-waits r)
     run-waits (run-all {within} {k} e r z) = within-awaits flow within k (all-waits r z)
-    run-waits (run-body {v} {b} {f} {u} {k} e r q) = body-awaits v b f u k (run-waits r)
-    run-waits (run-done {v} {b} {f} {u} {k} e q) = done-awaits v (trio b f u) k e
-    run-waits (run-turned {v} {b} {f} {u} {k} t q) = either-awaits v b f u k (turned-waits-so t)
+    run-waits (run-body {xs} {v} {b} {f} {u} {k} e r q) = body-awaits (scope xs v) b (more f u) k (run-waits r)
+    run-waits (run-done {xs} {v} {b} {f} {u} {k} e q) = done-awaits xs v (trio b f u) k e
+    run-waits (run-turned {xs} {v} {b} {f} {u} {k} t) = either-awaits (scope xs v) b (more f u) k (turned-waits-so t)
 
     pub one-waits : {l : Acts} {c : ℕ} → One ms l c → awaitsAmong l c ms ≡ true
     one-waits (one-here {a} {l} {c} r q) = first-awaits a l c (run-waits r)
     one-waits (one-later {a} {l} {c} q r) = later-awaits a l c (one-waits r)
+
+    pub nth-waits-so : {i : ℕ} {l : Acts} {c : ℕ} → Nth ms i l c → awaitsAmong l c ms ≡ true
+    nth-waits-so (nth-here {a} {l} {c} r q) = first-awaits a l c (run-waits r)
+    nth-waits-so (nth-later {i} {a} {l} {c} q r) = later-awaits a l c (nth-waits-so r)
 
     pub all-waits : {l : Acts} {c : ℕ} → All ms l c → (Quiet ms c (sizes l) → ⊥) → awaitsAmong l c ms ≡ true
     all-waits (all-none {c}) z = absurd (z (nothing-quiet c))
@@ -116,16 +113,16 @@ module _ (ms : List ℕ) where
     all-waits (all-quiet {a} {l} {c} q x) z = later-awaits a l c (all-waits x (λ y. z (more-quiet a l c q y)))
 
     -- a scope that turned
-    pub turned-waits-so : {m kb kf : ℕ} {b f : Act} → Turned ms m b kb f kf → (awaitsIn b kb ms || awaitsIn f kf ms) ≡ true
+    pub turned-waits-so : {xs : List ℕ} {m kb kf : ℕ} {b : Act} {l : Acts} → Turned ms xs m b kb l kf → (awaitsIn b kb ms || awaitsAmong l kf ms) ≡ true
     turned-waits-so (turned-waits e s n q) = rw (stopped-waits-so s n)
     turned-waits-so (turned-undoes e u q) = rw (undoing-waits-so u)
-    turned-waits-so (turned-heals e q r) = rw (run-waits r, or-true)
+    turned-waits-so (turned-heals e q r) = rw (nth-waits-so r, or-true)
 
     -- a stopped body in which a scope runs
     pub stopped-waits-so : {a : Act} {k : ℕ} → Stopped ms a k → innerRuns a k ms ≡ true → awaitsIn a k ms ≡ true
     stopped-waits-so (stopped-part {own} {within} {k} s e l) n = within-awaits own within k (stopped-in-waits l (sym (inner-is own within k ms false s) ∙ n))
     stopped-waits-so (stopped-quiet {a} {k} q) n = absurd (quiet-not a k q n)
-    stopped-waits-so (stopped-scope {v} {b} {f} {u} {k} t q) n = either-awaits v b f u k (turned-waits-so t)
+    stopped-waits-so (stopped-scope {xs} {v} {b} {f} {u} {k} t) n = either-awaits (scope xs v) b (more f u) k (turned-waits-so t)
 
     stopped-in-waits : {l : Acts} {c : ℕ} → StoppedIn ms l c → innerRunsIn l c ms ≡ true → awaitsAmong l c ms ≡ true
     stopped-in-waits (stopped-none {c}) n = none-runs c n
@@ -134,8 +131,8 @@ module _ (ms : List ℕ) where
     -- one of which an undo part runs
     pub undoing-waits-so : {a : Act} {k : ℕ} → Undoing ms a k → awaitsIn a k ms ≡ true
     undoing-waits-so (undoing-part {own} {within} {k} s e l) = within-awaits own within k (undoing-in-waits l)
-    undoing-waits-so (undoing-scope {b} {f} {u} {k} e q r) = undo-awaits b f u k (run-waits r)
-    undoing-waits-so (undoing-through {b} {f} {u} {k} e r q) = body-awaits false b f u k (undoing-waits-so r)
+    undoing-waits-so (undoing-scope {xs} {b} {f} {u} {k} e n r) = within-awaits (scope xs true) (trio b f u) k (nth-waits-so r)
+    undoing-waits-so (undoing-through {xs} {b} {f} {u} {k} e r q) = body-awaits (scope xs false) b (more f u) k (undoing-waits-so r)
 
     undoing-in-waits : {l : Acts} {c : ℕ} → UndoingIn ms l c → awaitsAmong l c ms ≡ true
     undoing-in-waits (undoing-here {a} {l} {c} r q) = first-awaits a l c (undoing-waits-so r)
@@ -199,7 +196,7 @@ module _ (ms : List ℕ) where
   arm-ready sequence within k e = absurd (false≢true e)
   arm-ready flow within k e = absurd (false≢true e)
   arm-ready pick within k e = absurd (false≢true e)
-  arm-ready (scope v) within k e = absurd (false≢true e)
+  arm-ready (scope xs v) within k e = absurd (false≢true e)
   arm-ready (arm x y vs) within k e = own-ready (arm x y vs) within k true refl refl
 
   -- an arm of a pick
@@ -207,7 +204,7 @@ module _ (ms : List ℕ) where
   unfolding count
   arms-ready formed-none e n c = absurd (omega arith)
   arms-ready (formed-more {l = l} (formed-part {own = own} {within = within} s i g f) y) e n c = first-ready (act own within) l c true (arm-ready own within c (i ∙ e))
-  arms-ready (formed-more (formed-scope x y z) w) e n c = absurd (false≢true e)
+  arms-ready (formed-more (formed-scope few many x y) w) e n c = absurd (false≢true e)
 
   -- what awaits its step, by its kind
   doer-ready : {h : Bool} (own : Own) (within : Acts) (k : ℕ) (b : Bool) → FormedIn h (isPick own) within → least own ≤ count within → isDoer own ≡ true → getD ms k 0 ≡ active
@@ -225,13 +222,13 @@ module _ (ms : List ℕ) where
   doer-ready sequence within k b f n i e = absurd (false≢true i)
   doer-ready flow within k b f n i e = absurd (false≢true i)
   doer-ready pick within k b f n i e = within-ready pick within k b (rw e (arms-ready f refl n (k + 1)))
-  doer-ready (scope v) within k b f n i e = absurd (false≢true i)
+  doer-ready (scope xs v) within k b f n i e = absurd (false≢true i)
   doer-ready (arm x y vs) within k b f n i e = absurd (false≢true i)
 
   -- a scope that is done
-  done-ready : (v : Bool) (within : Acts) (k : ℕ) (b : Bool) → getD ms k 0 ≡ done → some stepping (readyIn (act (scope v) within) k b ms) ≡ true
+  done-ready : (xs : List ℕ) (v : Bool) (within : Acts) (k : ℕ) (b : Bool) → getD ms k 0 ≡ done → some stepping (readyIn (act (scope xs v) within) k b ms) ≡ true
   unfolding kind awaits doingOf isStep
-  done-ready v within k b e = own-ready (scope v) within k b (rw e) refl
+  done-ready xs v within k b e = own-ready (scope xs v) within k b (rw e) refl
 
   -- by where it awaits
   part-cases : {P : Type 0} (own : Own) (within : Acts) (k : ℕ) → awaitsIn (act own within) k ms ≡ true → isScope own ≡ false
@@ -242,9 +239,9 @@ module _ (ms : List ℕ) where
       (λ t. both (isDoer own) (eqb (getD ms k 0) active) t (λ i d. f i (eqb-true (getD ms k 0) active d)))
       (λ t. g (rw (t, s) at e))
 
-  scope-cases : {P : Type 0} (v : Bool) (within : Acts) (k : ℕ) → awaitsIn (act (scope v) within) k ms ≡ true → (getD ms k 0 ≡ done → P) → (awaitsAmong within (k + 1) ms ≡ true → P) → P
+  scope-cases : {P : Type 0} (xs : List ℕ) (v : Bool) (within : Acts) (k : ℕ) → awaitsIn (act (scope xs v) within) k ms ≡ true → (getD ms k 0 ≡ done → P) → (awaitsAmong within (k + 1) ms ≡ true → P) → P
   unfolding awaitsIn kind isDoer
-  scope-cases v within k e f g = decide (eqb (getD ms k 0) done) (λ t. f (eqb-true (getD ms k 0) done t)) (λ t. g (rw t at e))
+  scope-cases xs v within k e f g = decide (eqb (getD ms k 0) done) (λ t. f (eqb-true (getD ms k 0) done t)) (λ t. g (rw t at e))
 
   more-cases : {P : Type 0} (a : Act) (l : Acts) (c : ℕ) → awaitsAmong (more a l) c ms ≡ true → (awaitsIn a c ms ≡ true → P) → (awaitsAmong l (c + size a) ms ≡ true → P) → P
   unfolding awaitsIn
@@ -258,18 +255,11 @@ module _ (ms : List ℕ) where
     pub ready-some : {h r : Bool} {a : Act} → Formed h r a → (k : ℕ) (b : Bool) → awaitsIn a k ms ≡ true → some stepping (readyIn a k b ms) ≡ true
     ready-some (formed-part {own = own} {within = within} s i g f) k b e =
         part-cases own within k e s (λ j d. doer-ready own within k b f g j d) (λ d. within-ready own within k b (ready-among f (k + 1) _ d))
-    ready-some (formed-scope {v = v₀} {b = x} {f = y} {u = z} fx fy fz) k b e =
-        scope-cases v₀ (trio x y z) k e (λ d. done-ready v₀ (trio x y z) k b d)
-        (λ d. within-ready (scope v₀) (trio x y z) k b (more-cases x (more y z) (k + 1) d
+    ready-some (formed-scope {xs = xs} {v = v₀} {b = x} {f = y} {u = z} few many fx fl) k b e =
+        scope-cases xs v₀ (trio x y z) k e (λ d. done-ready xs v₀ (trio x y z) k b d)
+        (λ d. within-ready (scope xs v₀) (trio x y z) k b (more-cases x (more y z) (k + 1) d
         (λ v. first-ready x (more y z) (k + 1) _ (ready-some fx (k + 1) _ v))
-        (λ v. later-ready x (more y z) (k + 1) _ (more-cases y z (k + 1 + size x) v
-        (λ w. first-ready y z (k + 1 + size x) _ (ready-some fy (k + 1 + size x) _ w))
-        (λ w. later-ready y z (k + 1 + size x) _ (ready-rest fz (k + 1 + size x + size y) _ w))))))
-
-    ready-rest : {v : Bool} {l : Acts} → FormedRest v l → (c : ℕ) (b : Bool) → awaitsAmong l c ms ≡ true → some stepping (readyAmong l c b ms) ≡ true
-    ready-rest (formed-undo {u = u} x) c b e =
-        more-cases u none c e (λ d. first-ready u none c b (ready-some x c b d)) (λ d. absurd (none-awaits (c + size u) d))
-    ready-rest formed-no c b e = absurd (none-awaits c e)
+        (λ v. later-ready x (more y z) (k + 1) _ (ready-among fl (k + 1 + size x) _ v))))
 
     pub ready-among : {h r : Bool} {l : Acts} → FormedIn h r l → (c : ℕ) (b : Bool) → awaitsAmong l c ms ≡ true → some stepping (readyAmong l c b ms) ≡ true
     ready-among formed-none c b e = absurd (none-awaits c e)
@@ -285,9 +275,12 @@ standing-waits p o h st = some-append (stepping (o .marks)) (readyIn (p .body) 0
         → (some (stepping (o .marks)) (readyIn (p .body) 0 false (o .marks)) || some (stepping (o .marks)) (readyIn (p .fault) (size (p .body)) false (o .marks))) ≡ true
     in-body e = rw (ready-some (o .marks) (h .body) 0 false e)
 
-    in-either : (awaitsIn (p .body) 0 (o .marks) || awaitsIn (p .fault) (size (p .body)) (o .marks)) ≡ true
+    alone : awaitsAmong (more (p .fault) none) (size (p .body)) (o .marks) ≡ true → awaitsIn (p .fault) (size (p .body)) (o .marks) ≡ true
+    alone e = more-cases (o .marks) (p .fault) none (size (p .body)) e (λ d. d) (λ d. absurd (none-awaits (o .marks) (size (p .body) + size (p .fault)) d))
+
+    in-either : (awaitsIn (p .body) 0 (o .marks) || awaitsAmong (more (p .fault) none) (size (p .body)) (o .marks)) ≡ true
         → (some (stepping (o .marks)) (readyIn (p .body) 0 false (o .marks)) || some (stepping (o .marks)) (readyIn (p .fault) (size (p .body)) false (o .marks))) ≡ true
-    in-either e = decide (awaitsIn (p .body) 0 (o .marks)) (λ t. in-body t) (λ t. rw (ready-some (o .marks) (h .fault) (size (p .body)) false (rw t at e), or-true))
+    in-either e = decide (awaitsIn (p .body) 0 (o .marks)) (λ t. in-body t) (λ t. rw (ready-some (o .marks) (h .fault) (size (p .body)) false (alone (rw t at e)), or-true))
 
     go : Running (rootOf p) (o .marks) (o .root)
         → (some (stepping (o .marks)) (readyIn (p .body) 0 false (o .marks)) || some (stepping (o .marks)) (readyIn (p .fault) (size (p .body)) false (o .marks))) ≡ true

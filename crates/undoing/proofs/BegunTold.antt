@@ -36,15 +36,22 @@ use Rattle.undoing.proofs.Marks.{trio}
 use Rattle.undoing.proofs.Orders.{least, momentOf, onto, onto-append}
 use Rattle.undoing.proofs.Moves.{HoldsAt}
 use Rattle.undoing.proofs.Places.{first-of, second-of}
-use Rattle.undoing.proofs.Planning.{Formed, formed-part, formed-scope, FormedIn, formed-none, formed-more, scopes-is, Promised, promised, FormedRest, formed-undo, formed-no}
+use Rattle.undoing.proofs.Planning.{Formed, formed-part, formed-scope, FormedIn, formed-none, formed-more, scopes-is, Promised, promised}
 use Rattle.undoing.proofs.Roots.{Awaited, Standing, Passed}
 use Rattle.undoing.proofs.Slots.{Slot, slot-live, standing-live, Alike, alike-itself, taking-alike, alike-awaited, alike-stands, alike-holds, passed-slot, idle-marks, order-starts, post-same, collect-same, drop-same, Sane, same-sane, fresh-sane}
 use Rattle.undoing.proofs.Happening.{orderIn, withMessage, Happens, nothing-here, goes-here, starts-here, step-happens}
 use Rattle.undoing.proofs.Demanded.{step-after}
 use Rattle.undoing.proofs.Told.{slot-marks}
 use Rattle.undoing.proofs.Truly.{neither, began-in, began-neither, Up, stay-up, Arms, needs, Knows, knows, KnowsIn, knows-none, knows-more, Began, begin-began, scope-kind}
-use Rattle.undoing.proofs.Leading.{Leads, leads-part, leads-scope, LeadsIn, leads-none, leads-more, Fine, fine-append, fine-event, begin-fine, order-fine, LeadsRest, leads-undo, leads-no}
+use Rattle.undoing.proofs.Leading.{Leads, leads-part, leads-scope, LeadsIn, leads-none, leads-more, Fine, fine-append, fine-event, begin-fine, order-fine}
 use Rattle.undoing.proofs.Keeping.{Steps, steps-from, order-steps, awaited-up}
+use Rattle.plan.specs.Within.{scopeParts}
+
+-- the parts of a scope, by those after its body
+parts-many : (xs : List ℕ) (v : Bool) (b : Act) (l : Acts) → count l ≡ length xs + cond v 2 1 → scopeParts xs v ≤ count (more b l)
+unfolding count
+parts-many xs true b l n = omega arith
+parts-many xs false b l n = omega arith
 
 -- A tree of its form, whose kinds f knows as the tree does.
 module _ (f : ℕ → ℕ) where
@@ -68,26 +75,21 @@ module _ (f : ℕ → ℕ) where
   unfolding needs
   needs-part own n s h = rw s h
 
-  needs-scope : {v : Bool} {u : Acts} → FormedRest v u → (b g : Act) → needs (scope v) ≤ count (trio b g u)
-  unfolding needs count
-  needs-scope (formed-undo z) b g = omega arith
-  needs-scope formed-no b g = omega arith
-
-  rest-arms : {v : Bool} {u : Acts} → FormedRest v u → Arms false u
-  rest-arms (formed-undo (formed-part s i g y)) = (i, tt)
-  rest-arms formed-no = tt
+  needs-scope : (xs : List ℕ) (v : Bool) (b : Act) (l : Acts) → count l ≡ length xs + cond v 2 1 → needs (scope xs v) ≤ count (more b l)
+  unfolding needs
+  needs-scope xs v b l n = parts-many xs v b l n
 
   arms-in : {h r : Bool} {l : Acts} → FormedIn h r l → Arms r l
   unfolding kind
   arms-in formed-none = tt
   arms-in (formed-more (formed-part s i g y) z) = (i, arms-in z)
-  arms-in (formed-more (formed-scope x y w) z) = (refl, arms-in z)
+  arms-in (formed-more (formed-scope few many x y) z) = (refl, arms-in z)
 
   -- no part of a scope is an arm
   not-arms : {h : Bool} {a : Act} (l : Acts) → Formed h false a → Arms false l → Arms false (more a l)
   unfolding kind
   not-arms l (formed-part s i g y) z = (i, z)
-  not-arms l (formed-scope x y w) z = (refl, z)
+  not-arms l (formed-scope few many x y) z = (refl, z)
 
   mutual
     unfolding size kind
@@ -96,18 +98,13 @@ module _ (f : ℕ → ℕ) where
     knows-in (formed-part {own = own} {within = within} s i g y) k d =
         knows (d k (omega arith) (omega arith) ∙ kind-here own within k) (needs-part own (count within) s g) (arms-in y)
         (knows-all y (k + 1) (λ t u v. d t (omega arith) (omega arith) ∙ kind-within own within k t (omega arith)))
-    knows-in (formed-scope {v = v₀} {b = b} {f = g} {u = u} x y z) k d =
-        knows (d k (omega arith) (omega arith) ∙ kind-here (scope v₀) (trio b g u) k) (needs-scope z b g) (not-arms (more g u) x (not-arms u y (rest-arms z)))
+    knows-in (formed-scope {xs = xs} {v = v₀} {b = b} {f = g} {u = u} few many x y) k d =
+        knows (d k (omega arith) (omega arith) ∙ kind-here (scope xs v₀) (trio b g u) k) (needs-scope xs v₀ b (more g u) many) (not-arms (more g u) x (arms-in y))
         (knows-more (knows-in x (k + 1) (λ t v w. e t (omega arith) (omega arith) ∙ kind-first b (more g u) (k + 1) t (omega arith)))
-        (knows-more (knows-in y (k + 1 + size b) (λ t v w. e t (omega arith) (omega arith) ∙ (kind-later b (more g u) (k + 1) t (omega arith) ∙ kind-first g u (k + 1 + size b) t (omega arith))))
-        (knows-rest z (k + 1 + size b + size g) (λ t v w. e t (omega arith) (omega arith) ∙ (kind-later b (more g u) (k + 1) t (omega arith) ∙ kind-later g u (k + 1 + size b) t (omega arith))))))
+        (knows-all y (k + 1 + size b) (λ t v w. e t (omega arith) (omega arith) ∙ kind-later b (more g u) (k + 1) t (omega arith))))
       where
-        e : (t : ℕ) → k < t → t < k + size (act (scope v₀) (trio b g u)) → f t ≡ kindAmong (trio b g u) (k + 1) t
-        e t v w = d t (omega arith) w ∙ kind-within (scope v₀) (trio b g u) k t v
-
-    knows-rest : {v : Bool} {l : Acts} → FormedRest v l → (c : ℕ) → ((t : ℕ) → c ≤ t → t < c + sizes l → f t ≡ kindAmong l c t) → KnowsIn f l c
-    knows-rest (formed-undo {u = u} z) c d = knows-more (knows-in z c (λ t v w. d t (omega arith) (omega arith) ∙ kind-first u none c t (omega arith))) knows-none
-    knows-rest formed-no c d = knows-none
+        e : (t : ℕ) → k < t → t < k + size (act (scope xs v₀) (trio b g u)) → f t ≡ kindAmong (trio b g u) (k + 1) t
+        e t v w = d t (omega arith) w ∙ kind-within (scope xs v₀) (trio b g u) k t v
 
     knows-all : {h r : Bool} {l : Acts} → FormedIn h r l → (c : ℕ) → ((t : ℕ) → c ≤ t → t < c + sizes l → f t ≡ kindAmong l c t) → KnowsIn f l c
     knows-all formed-none c d = knows-none
@@ -170,25 +167,15 @@ module _ (lead : ℕ → Lead) where
     leads-in (formed-part {own = own} {within = within} s i g y) k q d =
         leads-part s g (leads-all y (k + 1) (leadOf own k) (λ j u v. d j (omega arith) (omega arith) ∙ (lead-within own within k j q (omega arith)
         ∙ second-of (isScope own) (leadParts within (k + 1) j (together k)) (leadAmong within (k + 1) j (leadOf own k)) _ refl s)))
-    leads-in (formed-scope {v = v₀} {b = b} {f = g} {u = u} x y z) k q d =
-        leads-scope (kb (k + 1) (omega arith) (size-some b (k + 1)) ∙ lead-here b (k + 1) (together k)) (kg (k + 1 + size b) (omega arith) (size-some g (k + 1 + size b)) ∙ lead-here g (k + 1 + size b) alone)
-        (leads-in x (k + 1) (together k) kb) (leads-in y (k + 1 + size b) alone kg)
-        (leads-rest z (k + 1 + size b + size g) (λ j v w. parts j (omega arith) (omega arith) ∙ (parts-later b (more g u) (k + 1) j (together k) (omega arith) ∙ lead-later g u (k + 1 + size b) j alone v)))
+    leads-in (formed-scope {xs = xs} {v = v₀} {b = b} {f = g} {u = u} few many x y) k q d =
+        leads-scope (kb (k + 1) (omega arith) (size-some b (k + 1)) ∙ lead-here b (k + 1) (together k)) (parts-many xs v₀ b (more g u) many) (leads-in x (k + 1) (together k) kb)
+        (leads-all y (k + 1 + size b) alone (λ j v w. parts j (omega arith) (omega arith) ∙ parts-later b (more g u) (k + 1) j (together k) v))
       where
-        parts : (j : ℕ) → k < j → j < k + size (act (scope v₀) (trio b g u)) → lead j ≡ leadParts (trio b g u) (k + 1) j (together k)
-        parts j v w = d j (omega arith) w ∙ lead-within (scope v₀) (trio b g u) k j q v
+        parts : (j : ℕ) → k < j → j < k + size (act (scope xs v₀) (trio b g u)) → lead j ≡ leadParts (trio b g u) (k + 1) j (together k)
+        parts j v w = d j (omega arith) w ∙ lead-within (scope xs v₀) (trio b g u) k j q v
 
         kb : Knowing b (k + 1) (together k)
         kb j v w = parts j (omega arith) (omega arith) ∙ parts-first b (more g u) (k + 1) j (together k) w
-
-        kg : Knowing g (k + 1 + size b) alone
-        kg j v w = parts j (omega arith) (omega arith) ∙ (parts-later b (more g u) (k + 1) j (together k) v ∙ lead-first g u (k + 1 + size b) j alone w)
-
-    leads-rest : {v : Bool} {l : Acts} → FormedRest v l → (c : ℕ) → ((j : ℕ) → c ≤ j → j < c + sizes l → lead j ≡ leadAmong l c j alone) → LeadsRest lead v l c
-    leads-rest (formed-undo {u = u} z) c d =
-        let e : Knowing u c alone = λ j v w. d j v (omega arith) ∙ lead-first u none c j alone w in
-        leads-undo (e c (omega arith) (size-some u c) ∙ lead-here u c alone) (leads-in z c alone e)
-    leads-rest formed-no c d = leads-no
 
     leads-all : {h r : Bool} {l : Acts} → FormedIn h r l → (c : ℕ) (q : Lead) → ((j : ℕ) → c ≤ j → j < c + sizes l → lead j ≡ leadAmong l c j q)
         → LeadsIn lead l c q

@@ -1,7 +1,7 @@
 -- Marks and lists after any calls, by the history: from the ties that hold of every slot. Assumes nothing.
 use Prim.Native.Nat.{ℕ}
 use mathlib.Core.Path.{_≡_, refl, sym, subst, _∙_}
-use mathlib.Core.Bool.{Bool, true, false, not, _&&_, false≢true}
+use mathlib.Core.Bool.{Bool, true, false, not, _&&_, false≢true, _||_}
 use mathlib.Core.List.{List, [], _∷_, _++_, append-nil}
 use lib.Dec.{eqb}
 use borrow.Author.Tests.{eqb-true}
@@ -13,7 +13,7 @@ use Rattle.machine.specs.declared.State.{State}
 use Rattle.machine.specs.declared.Tally.{Tally}
 use Rattle.order.specs.Lists.{every}
 use Rattle.machine.specs.Fit.{Ready, readyOf}
-use Rattle.order.specs.State.{Name, idle, active, done, faulty, undoing, handling, halted, withdrawing, markOf, isLive}
+use Rattle.order.specs.State.{Name, idle, active, done, faulty, undoing, handling, halted, withdrawing, markOf, isLive, stateIn}
 use Rattle.machine.specs.State.{fresh}
 use Rattle.order.specs.Event.{Event}
 use Rattle.order.specs.Scope.{isOpen}
@@ -44,12 +44,13 @@ told m l a f t =
     decide (eqb m idle) (λ e. is idle e resting)
     (λ e1. decide (eqb m active) (λ e. is active e (opened refl refl refl))
     (λ e2. decide (eqb m done) (λ e. is done e (opened refl refl refl))
-    (λ e3. decide (eqb m faulty) (λ e. is faulty e (λ t. turned refl refl refl (t .0, t .1)))
-    (λ e4. decide (eqb m halted) (λ e. is halted e (λ t. turned refl refl refl (t .0, t .1)))
-    (λ e5. decide (eqb m undoing) (λ e. is undoing e (λ t. turned refl refl refl (t .0, t .1)))
-    (λ e6. decide (eqb m withdrawing) (λ e. is withdrawing e (λ t. turned refl refl refl (t .0, t .1)))
-    (λ e7. decide (eqb m handling) (λ e. is handling e (λ t. turned refl refl refl (t .0, t .1)))
-    (λ e8. absurd (rw (e1, e2, e3, e4, e5, e6, e7, e8) at t)))))))))
+    (λ e3. decide (eqb (stateIn m) faulty || eqb m halted)
+    (λ e. let z : Tied (waits (eqb (stateIn m) faulty)) l a = rw (e2, e3, e) at t in turned (rw e1) (rw (e2, e3)) (rw e) (z .0, z .1))
+    (λ e4. decide (eqb (stateIn m) undoing || eqb m withdrawing)
+    (λ e. let z : Tied (undoes (eqb (stateIn m) undoing)) l a = rw (e2, e3, e4, e) at t in turned (rw e1) (rw (e2, e3)) (rw (e4, e)) (z .0, z .1))
+    (λ e5. decide (eqb (stateIn m) handling)
+    (λ e. let z : Tied heals l a = rw (e2, e3, e4, e5, e) at t in turned (rw e1) (rw (e2, e3)) (rw (e4, e5, e)) (z .0, z .1))
+    (λ e6. absurd (rw (e1, e2, e3, e4, e5, e6) at t)))))))
   where
     is : (v : ℕ) → eqb m v ≡ true → (Tied (phase v) l a → Told v (a .left) (a .turned) (a .finished)) → Told m (a .left) (a .turned) (a .finished)
     is v e g = subst (λ (z : ℕ). Tied (phase z) l a → Told z (a .left) (a .turned) (a .finished)) (sym (eqb-true m v e)) g t
