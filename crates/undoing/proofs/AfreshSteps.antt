@@ -32,10 +32,10 @@ use Rattle.undoing.proofs.Accounts.{Phase, live, waits, heals, phase, p
 use Rattle.undoing.proofs.Places.{first-of, second-of}
 use Rattle.undoing.proofs.Moves.{Spot, runnerAt}
 use Rattle.undoing.proofs.Marks.{trio, spread, Agree, Quiet, Kept, Run, run-awaits, run-one, run-all, run-body, run-done, run-turned, One, one-here, one-later, All, all-run, all-quiet, Nth, Turned, turned-waits, turned-undoes, turned-heals, Stopped, stopped-part, stopped-quiet, stopped-scope, StoppedIn, stopped-more, Stoppable, stoppable-agree, Undoing, undoing-part, undoing-scope, undoing-through, UndoingIn, undoing-here, undoing-later, quiet-part, quiet-join, agree-above, agree-below, stopped-agree, stopped-in-agree, turned-not-open, turned-not-rest, not-open, holding}
-use Rattle.undoing.proofs.Orders.{Fit, innerAt, Sits, sits-part, sits-scope, SitsIn, sits-none, sits-more, Remedy, remedy}
+use Rattle.undoing.proofs.Orders.{Fit, innerAt, Sits, sits-part, sits-scope, SitsIn, sits-none, sits-more, Remedy, remedy, Healers, heals-by, heals-all, Rest, rest-undo, rest-none}
 use Rattle.undoing.proofs.Seats.{Seat, mark-kept, marking-mark, marking-agree, marking-length, inner-is, stopped-rests, stopped-rests-in}
-use Rattle.undoing.proofs.Choices.{general-is, general-there}
-use Rattle.undoing.proofs.Remedies.{part-from, part-to, nth-there, nth-run, healer, healers-there, undoer, chosenOn}
+use Rattle.undoing.proofs.Choices.{general-is}
+use Rattle.undoing.proofs.Remedies.{part-from, part-to, nth-there, nth-run, undoer, chosenOn}
 use Rattle.undoing.proofs.Healing.{choice-least, undo-turned}
 use Rattle.undoing.proofs.Stopping.{seat-of}
 use Rattle.undoing.proofs.Waiting.{opens, Waits, waits-itself, waits-within, WaitsIn, waits-first, waits-later, waits-from, waits-in-from, opens-idle, quiet-waits, quiet-waits-in, nth-waits, undoing-waits, stopped-waits}
@@ -45,7 +45,7 @@ use Rattle.undoing.proofs.Stepping.{PartOf, through-is, awake-first, pl
 use Rattle.undoing.proofs.Truly.{Up, Stay, no-pick, Arms, Knows, knows, KnowsIn, knows-none, knows-more}
 use Rattle.undoing.proofs.Lasting.{isRaising, part-knows, KnowsEach, each-knows}
 use Rattle.undoing.proofs.Entire.{Named, turn-starts}
-use Rattle.undoing.proofs.Entering.{step-at}
+use Rattle.undoing.proofs.Entering.{scope-general, step-at}
 use Rattle.undoing.proofs.Shapes.{isMild, Mild, mild-runs, mild-finishes, mild-again, mild-joins, mild-follows}
 use Rattle.undoing.proofs.Coming.{in-here, in-within, in-first, in-later}
 use Rattle.undoing.proofs.Single.{looks-none, looks-still}
@@ -721,7 +721,7 @@ module _ (p : Plan) (actor : Actor) (f : ℕ → ℕ) (t : ℕ) (o : Order) (rai
     ended-calm (sits-scope {xs} {v = false} {b = b} {f = g} {u = u} kn d j sb y) (knows e n r z) st y₀ y₁ a (waits-itself e₁ d₁) q (stopped-scope x) m c i =
         absurd (no-less (stopped-waits (stopped-scope {xs = xs} {b = b} {f = g} {u = u} x) (waits-itself e₁ d₁) q) e₁)
     ended-calm (sits-scope {xs} {v = false} {b = b} {f = g} {u = u} {k = k} kn d j sb y) (knows e n r (knows-more kb kl)) st y₀ y₁ a (waits-within h w) q (stopped-scope x) m c i =
-        calm-through (scope-ended xs b g u y₀ k (seat-of kn d j sb y) sb (stood-first (stood-within st)) kb (each-knows f xs k (general-there (scope xs false) (count (trio b g u)) n) (knows-more kb kl)) m h w x c i
+        calm-through (scope-ended xs b g u y₀ k (seat-of kn d j sb y) sb (stood-first (stood-within st)) kb (each-knows f xs k (scope-general (scope xs false) (trio b g u) refl n) (knows-more kb kl)) m h w x c i
         (λ x w₁ e₁ r₁ c₁ i₁. ended-calm sb kb (stood-first (stood-within st)) (k + 1) refl x w₁ e₁ r₁ (omega arith) c₁ i₁))
 
     ended-calm-in : {x : Place} {l : Acts} {c : ℕ} → SitsIn p x l c → KnowsIn f l c → StoodIn p l c → (y₀ : ℕ) → PartOf x y₀ → (b : Bool) → WaitsIn (o .marks) l c t b → b ≡ false → StoppedIn (o .marks) l c → c + sizes l ≤ length (o .marks)
@@ -933,12 +933,11 @@ module _ (p : Plan) (actor : Actor) (f : ℕ → ℕ) (t : ℕ) (o : Order) wher
     fresh-run (sits-part {q = x} {own} {within} {k} s g u y l) (knows e n r z) st y₀ y₁ b w q run v m =
         part-fresh own within y₀ k b s (knows e n r z) w q run (λ c w₁ e₁ r₁. fresh-one l z (stood-within st) y₀ y₁ c w₁ e₁ r₁ v (omega arith)) (λ c w₁ e₁ r₁. fresh-all l z (stood-within st) y₀ y₁ c w₁ e₁ r₁ v (omega arith))
     fresh-run (sits-scope {xs} {v = z₀} {n} {c = a} {ns} {b} {f = g} {u} {k} kn d i sb y) (knows e n₁ r (knows-more kb kl)) st y₀ y₁ c w q run v m =
-        scope-run xs z₀ b g u y₀ k (seat-of kn d i sb y) sb (stood-first (stood-within st)) kb (each-knows f xs k (general-there (scope xs z₀) (count (trio b g u)) n₁) (knows-more kb kl)) (each-named p f (By []) (o .marks) xs k (trio b g u) r (general-there (scope xs z₀) (count (trio b g u)) n₁)) m
+        scope-run xs z₀ b g u y₀ k (seat-of kn d i sb y) sb (stood-first (stood-within st)) kb (each-knows f xs k (scope-general (scope xs z₀) (trio b g u) refl n₁) (knows-more kb kl)) (each-named p f (By []) (o .marks) xs k (trio b g u) r (scope-general (scope xs z₀) (trio b g u) refl n₁)) m
         (λ x w₁ e₁ r₁. fresh-stopped sb kb (stood-first (stood-within st)) (k + 1) refl x w₁ e₁ r₁ (omega arith))
         (λ x w₁ e₁ r₁ v z. let r = awake-first p actor (λ n. markOf n o) (inner k) (cond z₀ [] (n ∷ ns)) v z in
         fresh-undoing sb kb (stood-first (stood-within st)) (k + 1) refl x w₁ e₁ r₁ (inner k) r (v, ap (λ (n : Name). phase (markOf n o)) r ∙ z) (omega arith))
-        (λ j le x w₁ e₁ r₁ z. let hi = part-to j (more g u) (k + 1 + size b) (omega (arith, healers-there y)) in
-        fresh-part (healer y j le .1) (part-knows f kl j (omega (arith, healers-there y))) (stood-nth (stood-later (stood-within st)) j (omega (arith, healers-there y))) (partAt j (more g u) (k + 1 + size b)) tt x w₁ e₁ r₁ z (omega arith))
+        (λ j le x w₁ e₁ r₁ z. fresh-healers y kl (stood-later (stood-within st)) j x le (λ _. tt) w₁ e₁ r₁ z (omega arith))
         w run (λ w₁ r₁ x. fresh-run sb kb (stood-first (stood-within st)) (k + 1) refl false w₁ refl r₁ (ap phase x) (omega arith))
 
     fresh-one : {x : Place} {l : Acts} {c : ℕ} → SitsIn p x l c → KnowsIn f l c → StoodIn p l c → (y₀ : ℕ) → PartOf x y₀ → (b : Bool) → WaitsIn (o .marks) l c t b → b ≡ false → One (o .marks) l c → Fit x o → c + sizes l ≤ length (o .marks)
@@ -960,12 +959,11 @@ module _ (p : Plan) (actor : Actor) (f : ℕ → ℕ) (t : ℕ) (o : Order) wher
     fresh-stopped (sits-part {q = x} {own} {within} {k} s g u y l) (knows e n r z) st y₀ y₁ b w q run m =
         part-stopped own within y₀ k s l y₁ w q run m (λ c w₁ e₁ r₁. fresh-stopped-in l z (stood-within st) y₀ y₁ c w₁ e₁ r₁ (omega arith))
     fresh-stopped (sits-scope {xs} {v = z₀} {n} {c = a} {ns} {b} {f = g} {u} {k} kn d i sb y) (knows e n₁ r (knows-more kb kl)) st y₀ y₁ c w q run m =
-        scope-stopped xs z₀ b g u y₀ k (seat-of kn d i sb y) sb (stood-first (stood-within st)) kb (each-knows f xs k (general-there (scope xs z₀) (count (trio b g u)) n₁) (knows-more kb kl)) (each-named p f (By []) (o .marks) xs k (trio b g u) r (general-there (scope xs z₀) (count (trio b g u)) n₁)) m
+        scope-stopped xs z₀ b g u y₀ k (seat-of kn d i sb y) sb (stood-first (stood-within st)) kb (each-knows f xs k (scope-general (scope xs z₀) (trio b g u) refl n₁) (knows-more kb kl)) (each-named p f (By []) (o .marks) xs k (trio b g u) r (scope-general (scope xs z₀) (trio b g u) refl n₁)) m
         (λ x w₁ e₁ r₁. fresh-stopped sb kb (stood-first (stood-within st)) (k + 1) refl x w₁ e₁ r₁ (omega arith))
         (λ x w₁ e₁ r₁ v z. let r = awake-first p actor (λ n. markOf n o) (inner k) (cond z₀ [] (n ∷ ns)) v z in
         fresh-undoing sb kb (stood-first (stood-within st)) (k + 1) refl x w₁ e₁ r₁ (inner k) r (v, ap (λ (n : Name). phase (markOf n o)) r ∙ z) (omega arith))
-        (λ j le x w₁ e₁ r₁ z. let hi = part-to j (more g u) (k + 1 + size b) (omega (arith, healers-there y)) in
-        fresh-part (healer y j le .1) (part-knows f kl j (omega (arith, healers-there y))) (stood-nth (stood-later (stood-within st)) j (omega (arith, healers-there y))) (partAt j (more g u) (k + 1 + size b)) tt x w₁ e₁ r₁ z (omega arith))
+        (λ j le x w₁ e₁ r₁ z. fresh-healers y kl (stood-later (stood-within st)) j x le (λ _. tt) w₁ e₁ r₁ z (omega arith))
         w q run
 
     fresh-stopped-in : {x : Place} {l : Acts} {c : ℕ} → SitsIn p x l c → KnowsIn f l c → StoodIn p l c → (y₀ : ℕ) → PartOf x y₀ → (b : Bool) → WaitsIn (o .marks) l c t b → b ≡ false → StoppedIn (o .marks) l c → c + sizes l ≤ length (o .marks)
@@ -979,9 +977,7 @@ module _ (p : Plan) (actor : Actor) (f : ℕ → ℕ) (t : ℕ) (o : Order) wher
         part-undoing own within y₀ k s l y₁ w q run m₀ y₂ v m (λ c w₁ e₁ r₁. fresh-undoing-in l z (stood-within st) y₀ y₁ c w₁ e₁ r₁ m₀ y₂ v (omega arith))
     fresh-undoing (sits-scope {xs} {v = true} {b = b} {f = g} {u} {k} kn d i sb y) (knows e n₁ r (knows-more kb kl)) st y₀ y₁ c w q run m₀ y₂ v m =
         scope-undoes xs b g u y₀ k w run
-        (λ w₁ j. let h = nth-there j in
-        let hi = part-to (undoPart xs) (trio b g u) (k + 1) h in
-        fresh-part (undoer y) (part-knows f (knows-more kb kl) (undoPart xs) h) (stood-nth (stood-within st) (undoPart xs) h) (partAt (undoPart xs) (trio b g u) (k + 1)) tt false w₁ refl (nth-run j) v (omega arith))
+        (λ w₁ j. fresh-undoer y refl kl (stood-later (stood-within st)) false (λ _. tt) w₁ refl (nth-run j) v (omega arith))
     fresh-undoing (sits-scope {v = false} kn d i sb y) (knows e n₁ r (knows-more kb kl)) st y₀ y₁ c w q (undoing-part s _ j) m₀ y₂ v m = absurd (false≢true (sym s))
     fresh-undoing (sits-scope {xs} {v = false} {b = b} {f = g} {u = u} {k = k} kn d i sb y) (knows e n₁ r (knows-more kb kl)) st y₀ y₁ c w q (undoing-through x z j) m₀ y₂ v m =
         scope-through {m₀ = m₀} xs b g u y₀ k w x j (λ w₁. steps-undoing p actor sb (k + 1) t o false refl w₁ refl z m₀ (rw x y₂) (rw x v) (omega arith))
@@ -993,6 +989,27 @@ module _ (p : Plan) (actor : Actor) (f : ℕ → ℕ) (t : ℕ) (o : Order) wher
     fresh-undoing-in (sits-more {q = x} {a} {l} {c} s y) (knows-more z n) st y₀ y₁ b (waits-later h w) e (undoing-here r q) m₀ y₂ v m = absurd (quiet-waits-in w e q)
     fresh-undoing-in (sits-more {q = x} {a} {l} {c} s y) (knows-more z n) st y₀ y₁ b (waits-first h w) e (undoing-later q r) m₀ y₂ v m = absurd (quiet-waits w e q)
     fresh-undoing-in (sits-more {q = x} {a} {l} {c} s y) (knows-more z n) st y₀ y₁ b (waits-later h w) e (undoing-later q r) m₀ y₂ v m = later-fresh a l y₀ c h (fresh-undoing-in y n (stood-later st) y₀ y₁ b w e r m₀ y₂ v (omega arith))
+
+    -- in one of the fault parts of a scope, in its undo part
+    fresh-healers : {s : Name} {xs : List ℕ} {z : Bool} {q y : Place} {l : Acts} {c : ℕ} → Healers p s xs z q y l c → KnowsIn f l c → StoodIn p l c → (i : ℕ) (b : Bool) → i ≤ length xs → ((j : ℕ) → PartOf q j)
+        → Waits (o .marks) (part i l) (partAt i l c) t b → b ≡ false → Run (o .marks) (part i l) (partAt i l c) → Fit q o → c + sizes l ≤ length (o .marks)
+        → Its-fresh (stepIn actor (part i l) (partAt i l c) (partAt i l c) t o .log)
+    fresh-healers (heals-by {c} y a h) (knows-more k kl) st zero b n d w e r v m = fresh-part a k (stood-first st) c (d c) b w e r v (omega arith)
+    fresh-healers (heals-by y a h) (knows-more k kl) st (suc i) b n d w e r v m = fresh-healers h kl (stood-later st) i b (omega arith) d w e r v (omega arith)
+    fresh-healers (heals-all {c} y a h) (knows-more k kl) st zero b n d w e r v m = fresh-part a k (stood-first st) c (d c) b w e r v (omega arith)
+    fresh-healers (heals-all y a h) (knows-more k kl) st (suc i) b n d w e r v m = absurd (omega arith)
+
+    fresh-undoer : {s : Name} {xs : List ℕ} {z : Bool} {q y : Place} {l : Acts} {c : ℕ} → Healers p s xs z q y l c → z ≡ true → KnowsIn f l c → StoodIn p l c → (b : Bool) → ((j : ℕ) → PartOf y j)
+        → Waits (o .marks) (part (generalPart xs) l) (partAt (generalPart xs) l c) t b → b ≡ false → Run (o .marks) (part (generalPart xs) l) (partAt (generalPart xs) l c) → Fit y o → c + sizes l ≤ length (o .marks)
+        → Its-fresh (stepIn actor (part (generalPart xs) l) (partAt (generalPart xs) l c) (partAt (generalPart xs) l c) t o .log)
+    fresh-undoer (heals-by y a h) n (knows-more k kl) st b d w e r v m = fresh-undoer h n kl (stood-later st) b d w e r v (omega arith)
+    fresh-undoer (heals-all y a h) n (knows-more k kl) st b d w e r v m = fresh-rest h n kl (stood-later st) b d w e r v (omega arith)
+
+    fresh-rest : {z : Bool} {y : Place} {l : Acts} {c : ℕ} → Rest p z y l c → z ≡ true → KnowsIn f l c → StoodIn p l c → (b : Bool) → ((j : ℕ) → PartOf y j)
+        → Waits (o .marks) (part 0 l) (partAt 0 l c) t b → b ≡ false → Run (o .marks) (part 0 l) (partAt 0 l c) → Fit y o → c + sizes l ≤ length (o .marks)
+        → Its-fresh (stepIn actor (part 0 l) (partAt 0 l c) (partAt 0 l c) t o .log)
+    fresh-rest (rest-undo {k} su) n (knows-more ku kl) st b d w e r v m = fresh-part su ku (stood-first st) k (d k) b w e r v (omega arith)
+    fresh-rest rest-none n ku st b d w e r v m = absurd (false≢true n)
 
     pub fresh-part : {x : Place} {a : Act} {k : ℕ} → Remedy p x a k → Knows f a k → Stood p a k → (y₀ : ℕ) → PartOf x y₀ → (b : Bool) → Waits (o .marks) a k t b → b ≡ false → Run (o .marks) a k → Fit x o → k + size a ≤ length (o .marks)
         → Its-fresh (stepIn actor a y₀ k t o .log)

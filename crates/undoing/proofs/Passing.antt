@@ -7,7 +7,7 @@ use mathlib.Core.List.{List, [], _∷_, _++_}
 use lib.ListN.{length, getD}
 use lib.Dec.{eqb, ltb}
 use borrow.Author.Tests.{eqb-true, eqb-false, lt-ltb, le-ltb, ltb-true, ltb-false}
-use Rattle.plan.specs.Tree.{Own, empty, send, receive, set as setting, raise, leave, choose, repeat, sequence, flow, pick, scope, arm, kind, isScope, isPick, Act, act, Acts, none, more, Plan, size, sizes, count, undoPart}
+use Rattle.plan.specs.Tree.{Own, empty, send, receive, set as setting, raise, leave, choose, repeat, sequence, flow, pick, scope, arm, kind, isScope, isPick, Act, act, Acts, none, more, Plan, size, sizes, count, generalPart, undoPart}
 use Rattle.order.specs.declared.Order.{Order}
 use Rattle.order.specs.Lists.{some}
 use Rattle.order.specs.State.{Name, root, inner, idle, active, inside, done, faulty, halted, markAt, markOf, marking}
@@ -27,11 +27,11 @@ use Rattle.undoing.proofs.Parts.{both, decide, some-append}
 use Rattle.undoing.proofs.Accounts.{Phase, live, heals, phase}
 use Rattle.undoing.proofs.Places.{first-of, second-of}
 use Rattle.undoing.proofs.Marks.{trio, Quiet, isDoer, Run, run-awaits, run-one, run-all, run-body, run-done, run-turned, One, one-here, one-later, All, all-none, all-run, all-quiet, Nth, Turned, turned-waits, turned-undoes, turned-heals, Stopped, stopped-part, stopped-quiet, stopped-scope, StoppedIn, stopped-more, Undoing, undoing-part, undoing-scope, undoing-through, UndoingIn, undoing-here, undoing-later, quiet-part, quiet-join, turned-not-rest}
-use Rattle.undoing.proofs.Orders.{Fit, Sits, sits-part, sits-scope, SitsIn, sits-more, Remedy, remedy}
+use Rattle.undoing.proofs.Orders.{Fit, Sits, sits-part, sits-scope, SitsIn, sits-more, Remedy, remedy, Healers, heals-by, heals-all, Rest, rest-undo, rest-none}
 use Rattle.undoing.proofs.Moves.{runnerAt}
 use Rattle.undoing.proofs.Seats.{Seat, mark-kept, stopped-rests}
 use Rattle.undoing.proofs.Choices.{general-is}
-use Rattle.undoing.proofs.Remedies.{part-from, part-to, nth-there, nth-run, healer, undoer}
+use Rattle.undoing.proofs.Remedies.{part-from, part-to, nth-there, nth-run}
 use Rattle.undoing.proofs.Healing.{choice-least}
 use Rattle.undoing.proofs.Stopping.{seat-of}
 use Rattle.undoing.proofs.Waiting.{opens, Waits, waits-itself, waits-within, WaitsIn, waits-first, waits-later, waits-from, opens-idle, quiet-waits, quiet-waits-in, nth-waits, stopped-waits, undoing-waits}
@@ -480,7 +480,7 @@ module _ (p : Plan) (actor : Actor) (f : ℕ → ℕ) (t : ℕ) (o : Order) wher
   unfolding part partAt count
   thru-nth i none c n lo hi w = absurd (omega arith)
   thru-nth zero (more a l) c n lo hi w = thru-first hi w
-  thru-nth (suc i) (more a l) c n lo hi w = thru-later (omega (arith, part-from i l (c + size a))) (thru-nth i l (c + size a) (omega arith) lo hi w)
+  thru-nth (suc i) (more a l) c n lo hi w = thru-later {a = a} {c = c} (omega (arith, part-from i l (c + size a))) (thru-nth i l (c + size a) (omega arith) lo hi w)
 
   -- what f knows of the parts
   within-known : {own : Own} {within : Acts} {k : ℕ} → Knows f (act own within) k → KnowsIn f within (k + 1)
@@ -739,8 +739,7 @@ module _ (p : Plan) (actor : Actor) (f : ℕ → ℕ) (t : ℕ) (o : Order) wher
         (λ x w₁ e₁ r₁ m₁ c₁. thru-stopped sb (first-known (within-known z)) (k + 1) refl x w₁ e₁ r₁ m₁ c₁)
         (λ x w₁ e₁ r₁ v z₁ m₁ c₁. let r = awake-first p actor (λ n. markOf n o) (inner k) (cond z₀ [] (n ∷ ns)) v z₁ in
         thru-undoing sb (first-known (within-known z)) (k + 1) refl x w₁ e₁ r₁ (inner k) r (v, ap (λ (n : Name). phase (markOf n o)) r ∙ z₁) m₁ c₁)
-        (λ j le n₁ x w₁ e₁ r₁ z₁ c₁. let hi = part-to j (more g u) (k + 1 + size b) n₁ in
-        thru-part (healer y j le .1) (part-knows f (later-known (within-known z)) j n₁) (partAt j (more g u) (k + 1 + size b)) tt x w₁ e₁ r₁ z₁ (omega arith) c₁)
+        (λ j le n₁ x w₁ e₁ r₁ z₁ c₁. thru-healers y (later-known (within-known z)) j x le (λ _. tt) w₁ e₁ r₁ z₁ (omega arith) c₁)
         c w run e
         (λ x w₁ e₁ r₁ z₁ m₁ c₁. thru-run sb (first-known (within-known z)) (k + 1) refl x w₁ e₁ r₁ z₁ m₁ c₁)
 
@@ -763,8 +762,7 @@ module _ (p : Plan) (actor : Actor) (f : ℕ → ℕ) (t : ℕ) (o : Order) wher
         (λ x w₁ e₁ r₁ m₁ c₁. thru-stopped sb (first-known (within-known z)) (k + 1) refl x w₁ e₁ r₁ m₁ c₁)
         (λ x w₁ e₁ r₁ v z₁ m₁ c₁. let r = awake-first p actor (λ n. markOf n o) (inner k) (cond z₀ [] (n ∷ ns)) v z₁ in
         thru-undoing sb (first-known (within-known z)) (k + 1) refl x w₁ e₁ r₁ (inner k) r (v, ap (λ (n : Name). phase (markOf n o)) r ∙ z₁) m₁ c₁)
-        (λ j le n₁ x w₁ e₁ r₁ z₁ c₁. let hi = part-to j (more g u) (k + 1 + size b) n₁ in
-        thru-part (healer y j le .1) (part-knows f (later-known (within-known z)) j n₁) (partAt j (more g u) (k + 1 + size b)) tt x w₁ e₁ r₁ z₁ (omega arith) c₁)
+        (λ j le n₁ x w₁ e₁ r₁ z₁ c₁. thru-healers y (later-known (within-known z)) j x le (λ _. tt) w₁ e₁ r₁ z₁ (omega arith) c₁)
         c w q r e
 
     thru-stopped-in : {x : Place} {l : Acts} {c : ℕ} → SitsIn p x l c → KnowsIn f l c → (y₀ : ℕ) → PartOf x y₀ → (b : Bool) → WaitsIn (o .marks) l c t b → b ≡ false → StoppedIn (o .marks) l c → c + sizes l ≤ length (o .marks)
@@ -778,8 +776,7 @@ module _ (p : Plan) (actor : Actor) (f : ℕ → ℕ) (t : ℕ) (o : Order) wher
         part-undoing-by own within y₀ k b s l y₁ m₀ y₂ v z w r m c (λ d w₁ e₁ r₁ m₁ c₁. thru-undoing-in l (within-known z) y₀ y₁ d w₁ e₁ r₁ m₀ y₂ v m₁ c₁)
     thru-undoing (sits-scope {xs} {v = true} {b = b} {f = g} {u} {k} kn d i sb y) z y₀ y₁ c w q run m₀ y₂ v m e =
         scope-undoing-by xs b g u y₀ k c w run e
-        (λ w₁ r c₁. let hi = part-to (undoPart xs) (trio b g u) (k + 1) (nth-there r) in
-        thru-part (undoer y) (part-knows f (within-known z) (undoPart xs) (nth-there r)) (partAt (undoPart xs) (trio b g u) (k + 1)) tt false w₁ refl (nth-run r) v (omega arith) c₁)
+        (λ w₁ r c₁. thru-undoer y refl (later-known (within-known z)) false (λ _. tt) w₁ refl (nth-run r) v (omega arith) c₁)
     thru-undoing (sits-scope {v = false} kn d i sb y) z y₀ y₁ c w q (undoing-part s j r) m₀ y₂ v m e = absurd (false≢true (sym s))
     thru-undoing (sits-scope {xs} {v = false} {b = b} {f = g} {u = u} {k = k} kn d i sb y) z y₀ y₁ c w q (undoing-through x j r) m₀ y₂ v m e =
         scope-through-by {m₀ = m₀} xs b g u y₀ k c w x r e (λ w₁. steps-undoing p actor sb (k + 1) t o false refl w₁ refl j m₀ (rw x y₂) (rw x v) (omega arith))
@@ -789,6 +786,28 @@ module _ (p : Plan) (actor : Actor) (f : ℕ → ℕ) (t : ℕ) (o : Order) wher
         → c + sizes l ≤ length (o .marks) → some isRash (stepAmong actor l false y₀ c t o .log) ≡ false → ThruIn (stepAmong actor l false y₀ c t o) l c
     thru-undoing-in (sits-more {q = x} {a} {l} {c} s y) z y₀ y₁ b w e r m₀ y₂ v m i =
         undoing-by a l y₀ c b w e r m i (λ w₁ r₁ m₁ c₁. thru-undoing s (first-known z) y₀ y₁ b w₁ e r₁ m₀ y₂ v m₁ c₁) (λ w₁ r₁ m₁ c₁. thru-undoing-in y (later-known z) y₀ y₁ b w₁ e r₁ m₀ y₂ v m₁ c₁)
+
+    -- in one of the fault parts of a scope, in its undo part
+    thru-healers : {s : Name} {xs : List ℕ} {z : Bool} {q y : Place} {l : Acts} {c : ℕ} → Healers p s xs z q y l c → KnowsIn f l c → (i : ℕ) (b : Bool) → i ≤ length xs → ((j : ℕ) → PartOf q j)
+        → Waits (o .marks) (part i l) (partAt i l c) t b → b ≡ false → Run (o .marks) (part i l) (partAt i l c) → Fit q o → c + sizes l ≤ length (o .marks)
+        → some isRash (stepIn actor (part i l) (partAt i l c) (partAt i l c) t o .log) ≡ false → Thru (stepIn actor (part i l) (partAt i l c) (partAt i l c) t o) (part i l) (partAt i l c)
+    thru-healers (heals-by {c} y a h) z zero b n d w e r v m i = thru-part a (first-known z) c (d c) b w e r v (omega arith) i
+    thru-healers (heals-by y a h) z (suc j) b n d w e r v m i = thru-healers h (later-known z) j b (omega arith) d w e r v (omega arith) i
+    thru-healers (heals-all {c} y a h) z zero b n d w e r v m i = thru-part a (first-known z) c (d c) b w e r v (omega arith) i
+    thru-healers (heals-all y a h) z (suc j) b n d w e r v m i = absurd (omega arith)
+
+    thru-undoer : {s : Name} {xs : List ℕ} {z : Bool} {q y : Place} {l : Acts} {c : ℕ} → Healers p s xs z q y l c → z ≡ true → KnowsIn f l c → (b : Bool) → ((j : ℕ) → PartOf y j)
+        → Waits (o .marks) (part (generalPart xs) l) (partAt (generalPart xs) l c) t b → b ≡ false → Run (o .marks) (part (generalPart xs) l) (partAt (generalPart xs) l c) → Fit y o → c + sizes l ≤ length (o .marks)
+        → some isRash (stepIn actor (part (generalPart xs) l) (partAt (generalPart xs) l c) (partAt (generalPart xs) l c) t o .log) ≡ false
+        → Thru (stepIn actor (part (generalPart xs) l) (partAt (generalPart xs) l c) (partAt (generalPart xs) l c) t o) (part (generalPart xs) l) (partAt (generalPart xs) l c)
+    thru-undoer (heals-by y a h) n z b d w e r v m i = thru-undoer h n (later-known z) b d w e r v (omega arith) i
+    thru-undoer (heals-all y a h) n z b d w e r v m i = thru-rest h n (later-known z) b d w e r v (omega arith) i
+
+    thru-rest : {v₀ : Bool} {y : Place} {l : Acts} {c : ℕ} → Rest p v₀ y l c → v₀ ≡ true → KnowsIn f l c → (b : Bool) → ((j : ℕ) → PartOf y j)
+        → Waits (o .marks) (part 0 l) (partAt 0 l c) t b → b ≡ false → Run (o .marks) (part 0 l) (partAt 0 l c) → Fit y o → c + sizes l ≤ length (o .marks)
+        → some isRash (stepIn actor (part 0 l) (partAt 0 l c) (partAt 0 l c) t o .log) ≡ false → Thru (stepIn actor (part 0 l) (partAt 0 l c) (partAt 0 l c) t o) (part 0 l) (partAt 0 l c)
+    thru-rest (rest-undo {k} su) n z b d w e r v m i = thru-part su (first-known z) k (d k) b w e r v (omega arith) i
+    thru-rest rest-none n z b d w e r v m i = absurd (false≢true n)
 
     pub thru-part : {x : Place} {a : Act} {k : ℕ} → Remedy p x a k → Knows f a k → (y₀ : ℕ) → PartOf x y₀ → (b : Bool) → Waits (o .marks) a k t b → b ≡ false → Run (o .marks) a k → Fit x o → k + size a ≤ length (o .marks)
         → some isRash (stepIn actor a y₀ k t o .log) ≡ false → Thru (stepIn actor a y₀ k t o) a k
