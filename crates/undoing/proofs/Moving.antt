@@ -55,12 +55,14 @@ use Rattle.undoing.proofs.Slots.{standing-live, Alike, taking-alike, al
 use Rattle.undoing.proofs.Happening.{orderIn, withMessage, Happens, nothing-here, goes-here, starts-here, step-happens}
 use Rattle.undoing.proofs.Demanded.{step-after}
 use Rattle.undoing.proofs.Truly.{Up, Knows}
-use Rattle.undoing.proofs.Lasting.{Within}
+use Rattle.undoing.proofs.Lasting.{KnowsEach, Within}
 use Rattle.undoing.proofs.Keeping as keeping
 use Rattle.undoing.proofs.BegunTold.{body-knows, fault-knows}
 use Rattle.undoing.proofs.EntirelyTold.{each-below}
 use Rattle.undoing.proofs.NearTold.{awaited-to}
 use Rattle.undoing.proofs.Coming.{in-first, in-later}
+use Rattle.undoing.proofs.Choices.{root-chosen}
+use Rattle.undoing.proofs.Healing.{only-runs, one-quiet}
 use Rattle.undoing.proofs.Dropping.{isBad, Drops, step-drops, root-drops, body-has, fault-has, calmer, not-bad}
 use Rattle.undoing.proofs.AfreshSteps.{Stood}
 use Rattle.undoing.proofs.Growing.{body-grows, fault-grows, step-grows}
@@ -93,8 +95,20 @@ module _ (p : Plan) (h : Promised p) where
       zero-plus : (n : ℕ) → 0 + n ≡ n
       zero-plus n = omega arith
 
+  each-kf : KnowsEach (kindAt p) (rootOf p)
+  each-kf = root-chosen (λ a j. Knows (kindAt p) a j) p kf
+
   parts : Within (kindAt p) (rootOf p) 0 (size (p .body) + size (p .fault))
-  parts = record { name = refl; body = kb; fault = kf; bodyFrom = omega arith; bodyTo = omega arith; faultFrom = omega arith; faultTo = omega arith }
+  parts =
+      record {
+        name = refl;
+        body = kb;
+        fault = each-kf;
+        bodyFrom = omega arith;
+        bodyTo = omega arith;
+        faultFrom = root-chosen (λ a j. 0 ≤ j) p (omega arith);
+        faultTo = root-chosen (λ a j. j + size a ≤ size (p .body) + size (p .fault)) p (omega arith);
+      }
 
   abbrev whole : Acts
   whole = more (p .body) (more (p .fault) none)
@@ -153,17 +167,17 @@ module _ (p : Plan) (h : Promised p) where
 
               on : Running (rootOf p) (o .marks) (o .root) → Thru p actor (kindAt p) t o (fromBody (rootOf p) its) (p .body) 0
               on (scope-live d r q) =
-                  mapped (live-passes p actor (kindAt p) t o (rootOf p) (h .seat) 0 (size (p .body) + size (p .fault)) parts (omega arith) (omega (arith, m)) (λ j x y. omega arith) (λ j x y. omega arith) (calm-body e) d
+                  mapped (live-passes p actor (kindAt p) t o (rootOf p) (h .seat) 0 (size (p .body) + size (p .fault)) parts (omega arith) (omega (arith, m)) (λ j x y. omega arith) (calm-body e) d
                   (steps p actor (h .seat .body) 0 t o false (h .seat .at) w refl r (ap phase d) (omega (arith, m))))
                   (thru-run p actor (kindAt p) t o (h .seat .body) kb 0 (h .seat .at) false w refl r (ap phase d) (omega (arith, m)) i)
               on (scope-done d q z) = absurd (st .going d)
               on (scope-turned (turned-waits {w = a} q z _ v)) =
-                  mapped (waits-passes p actor (kindAt p) t o (rootOf p) (h .seat) 0 (size (p .body) + size (p .fault)) parts (omega arith) (omega (arith, m)) (λ j x y. omega arith) (λ j x y. omega arith) (calm-body e)
+                  mapped (waits-passes p actor (kindAt p) t o (rootOf p) (h .seat) 0 (size (p .body) + size (p .fault)) parts (omega arith) (omega (arith, m)) (λ j x y. omega arith) (calm-body e)
                   (steps-stopped p actor (h .seat .body) 0 t o false (h .seat .at) w refl z (omega (arith, m))))
                   (thru-stopped p actor (kindAt p) t o (h .seat .body) kb 0 (h .seat .at) false w refl z (omega (arith, m)) i)
               on (scope-turned (turned-undoes {w = a} q z v)) =
                   let r₀ = awake-first p actor (λ n. markOf n o) root (h .seat .beyond) a q in
-                  mapped (undoes-passes p actor (kindAt p) t o (rootOf p) (h .seat) 0 (size (p .body) + size (p .fault)) parts (omega arith) (omega (arith, m)) (λ j x y. omega arith) (λ j x y. omega arith) (calm-body e) a q
+                  mapped (undoes-passes p actor (kindAt p) t o (rootOf p) (h .seat) 0 (size (p .body) + size (p .fault)) parts (omega arith) (omega (arith, m)) (λ j x y. omega arith) (calm-body e) a q
                   (steps-undoing p actor (h .seat .body) 0 t o false (h .seat .at) w refl z root r₀ (a, ap (λ (n : Name). phase (markOf n o)) r₀ ∙ q) (omega (arith, m))))
                   (thru-undoing p actor (kindAt p) t o (h .seat .body) kb 0 (h .seat .at) false w refl z root r₀ (a, ap (λ (n : Name). phase (markOf n o)) r₀ ∙ q) (omega (arith, m)) i)
               on (scope-turned (turned-heals q z v)) = absurd (quiet-waits w refl z)
@@ -179,14 +193,14 @@ module _ (p : Plan) (h : Promised p) where
               later x = thru-later {a = p .body} {l = more (p .fault) none} {c = 0} (omega arith) (subst (λ (c : ℕ). ThruIn p actor (kindAt p) t o (stepRoot actor p t o) (more (p .fault) none) c) (omega arith) (thru-first {a = p .fault} {l = none} {c = size (p .body)} (awaited-to {p = p} {ms = o .marks} {t = t} (in-fault e w)) x))
 
               on : Running (rootOf p) (o .marks) (o .root) → Thru p actor (kindAt p) t o (fromFault (rootOf p) its) (p .fault) (size (p .body))
-              on (scope-live d r q) = absurd (quiet-waits w refl q)
+              on (scope-live d r q) = absurd (quiet-waits w refl (one-quiet (p .fault) q))
               on (scope-done d q z) = absurd (st .going d)
-              on (scope-turned (turned-waits q z _ v)) = absurd (quiet-waits w refl v)
-              on (scope-turned (turned-undoes q z v)) = absurd (quiet-waits w refl v)
+              on (scope-turned (turned-waits q z _ v)) = absurd (quiet-waits w refl (one-quiet (p .fault) v))
+              on (scope-turned (turned-undoes q z v)) = absurd (quiet-waits w refl (one-quiet (p .fault) v))
               on (scope-turned (turned-heals q z v)) =
                   thru-map p actor (kindAt p) t o
-                  (fault-passes p actor (kindAt p) t o (rootOf p) (h .seat) 0 (size (p .body) + size (p .fault)) parts (omega arith) (omega (arith, m)) (λ j x y. omega arith) (λ j x y. omega arith) (calm-fault e))
-                  (thru-part p actor (kindAt p) t o (h .seat .fault) kf (size (p .body)) tt false w refl v q (omega (arith, m)) i) (omega arith) (omega arith)
+                  (fault-passes p actor (kindAt p) t o (rootOf p) (h .seat) 0 (size (p .body) + size (p .fault)) parts (omega arith) (omega (arith, m)) (λ j x y. omega arith) (p .fault) (size (p .body)) kf (omega arith) (λ j x y. omega arith) (calm-fault e))
+                  (thru-part p actor (kindAt p) t o (roots.root-fault (h .seat)) kf (size (p .body)) tt false w refl (only-runs v (roots.choice-none (o .root))) q (omega (arith, m)) i) (omega arith) (omega arith)
 
     -- what the order becomes
     record Moves (r : Outcome) (q : Order) (l : List Event) : Type 0 where
@@ -196,7 +210,7 @@ module _ (p : Plan) (h : Promised p) where
 
     done-quiets : (ms : List ℕ) (n : ℕ) → n ≡ done → Running (rootOf p) ms n → Quiet ms 0 (size (p .body)) × Quiet ms (size (p .body)) (size (p .fault))
     done-quiets ms n e (scope-live d r q) = absurd (let z : _≡_ {A = ℕ} 1 3 = sym d ∙ e in omega arith)
-    done-quiets ms n e (scope-done d r q) = (r, q)
+    done-quiets ms n e (scope-done d r q) = (r, one-quiet (p .fault) q)
     done-quiets ms n e (scope-turned t) = absurd (false≢true (sym (turned-not-open t) ∙ rw e))
 
     quiet-none : (ms : List ℕ) → Quiet ms 0 (size (p .body)) → Quiet ms (size (p .body)) (size (p .fault)) → (j : ℕ) → j < size (p .body) + size (p .fault) → Up ms j → ⊥
@@ -235,7 +249,7 @@ module _ (p : Plan) (h : Promised p) where
                   },
                 )
             by-done false i c = (c, same (r .order) (λ j n u. u))
-        go over d v c = (c, same noOrder (λ j n u. absurd (quiet-none (r .order .marks) (v .1) (v .2) j n u)))
+        go over d v c = (c, same noOrder (λ j n u. absurd (quiet-none (r .order .marks) (v .1) (one-quiet (p .fault) (v .2)) j n u)))
         go (raising x) d v c = absurd (false≢true (sym c ∙ root-drops (kindAt p) t actor p kb kf o .rash (ap isBad d)))
         go leaving d v c = absurd (false≢true (sym c ∙ root-drops (kindAt p) t actor p kb kf o .rash (ap isBad d)))
         go undone d v c = absurd v
