@@ -63,13 +63,13 @@ const char *moonhalyard_says(uint32_t refusal);
    The marks of activities: 0 not begun, or over; 1 awaits its step, but of a sequence or a flow: runs, and of a scope: its body runs; 2 a choose or a repeat
    has decided, or a pick has taken a message, and what stands within runs; and of a scope 3 its body is done and its close awaits its step, 4 faulted and
    waiting for inner scopes, 5 faulted and undoing, 6 running its fault part, 7 stopped and waiting for inner scopes, 8 stopped and undoing. Arms have 0.
-   Beside 4, 5 and 6, of a scope or the root, stands in the upper four bits of the mark which fault part it is that runs then: 1 to 8 the one by number
-   that stands in that place, else the general one, with 9 to 14 for a fault 0 to 5 and 15 for one with a number from 16 on (0 in a state saved before there
-   were fault parts by number). So the mark itself is what the lower four bits have: `mark & 15`.
+   Where the root or a scope is 4, 5 or 6, its mark is that and 16 times which fault part it runs: 1 to 8 the one by number, in the order of the plan; 9 + n
+   the general one for a fault n of 0 to 4, and 15 for a fault with a number of the plan's own. 0, as in states that were saved before, is the general one too.
+   So ask for `mark & 15`.
 
    Within its limit is: a plan's length up to 4,096; up to 64 messages that wait, each with a partner and an operation up to 63, a count of 1 to 4, and 0
-   in the values beyond it; a root's mark of those above; marks up to 8, and any upper bits beside 4, 5 and 6; bound 0 or 1;
-   up to 32 closings; a cause that is the number of a fault.
+   in the values beyond it; a mark of those above; bound 0 or 1; up to 32 closings; a cause that
+   is the number of a fault.
 
    Bytes of another length or with another mark in front hold no state: every call but load and upgrade answers 17 for them and leaves them as they
    are. */
