@@ -65,6 +65,7 @@ const char *moonhalyard_says(uint32_t refusal);
    waiting for inner scopes, 5 faulted and undoing, 6 running its fault part, 7 stopped and waiting for inner scopes, 8 stopped and undoing. Arms have 0.
    Where the root or a scope is 4, 5 or 6, its mark is that and 16 times which fault part it runs: 1 to 8 the one by number, in the order of the plan; 9 + n
    the general one for a fault n of 0 to 4, and 15 for a fault with a number of the plan's own. 0, as in states that were saved before, is the general one too.
+   So ask for `mark & 15`.
 
    Within its limit is: a plan's length up to 4,096; up to 64 messages that wait, each with a partner and an operation up to 63, a count of 1 to 4, and 0
    in the values beyond it; a mark of those above; bound 0 or 1; up to 32 closings; a cause that
@@ -266,9 +267,10 @@ uint64_t moonhalyard_draw(const uint8_t *plan, size_t n, uint8_t *text, size_t r
    of the plan's bytes. The first number of a row is how many numbers it has; these follow as the plan has them, and 0 in the places behind them:
      the head              1 (the version), how many variables, how many of them are for correlation, and the numbers of these
      0 empty, 4 raise, 5 leave, 11 scope                  its code (after a scope its body, its fault part and its undo part)
-     12 scope, 13 raise    its code (after the scope its body and its fault part); its code and a number
-     14 scope              its code; its body is next, then the count of its fault parts by number, alone in its row, then for each of them its number,
-                           alone in its row, and the part; then its general fault part and its undo part
+     12 scope with no undo part                           its code; its body and its fault part are next
+     13 raise with a number                               its code and that number
+     14 scope with fault parts by number                  its code; its body is next; then a row with how many there are; for each a row with its number,
+                           and that part; then the general fault part and the undo part
      1 send, 2 receive     its code, partner, operation, how many variables, and their numbers
      3 set                 its code and a variable; the rows of its expression are next
      6 choose, 7 repeat    its code; the rows of its expression are next, then its activities
