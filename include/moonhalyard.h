@@ -63,9 +63,12 @@ const char *moonhalyard_says(uint32_t refusal);
    The marks of activities: 0 not begun, or over; 1 awaits its step, but of a sequence or a flow: runs, and of a scope: its body runs; 2 a choose or a repeat
    has decided, or a pick has taken a message, and what stands within runs; and of a scope 3 its body is done and its close awaits its step, 4 faulted and
    waiting for inner scopes, 5 faulted and undoing, 6 running its fault part, 7 stopped and waiting for inner scopes, 8 stopped and undoing. Arms have 0.
+   Where the root or a scope is 4, 5 or 6, its mark is that and 16 times which fault part it runs: 1 to 8 the one by number, in the order of the plan; 9 + n
+   the general one for a fault n of 0 to 4, and 15 for a fault with a number of the plan's own. 0, as in states that were saved before, is the general one too.
+   So ask for `mark & 15`.
 
    Within its limit is: a plan's length up to 4,096; up to 64 messages that wait, each with a partner and an operation up to 63, a count of 1 to 4, and 0
-   in the values beyond it; a root's mark of those above; marks up to 8; bound 0 or 1; up to 32 closings; a cause that
+   in the values beyond it; a mark of those above; bound 0 or 1; up to 32 closings; a cause that
    is the number of a fault.
 
    Bytes of another length or with another mark in front hold no state: every call but load and upgrade answers 17 for them and leaves them as they
@@ -260,10 +263,14 @@ uint64_t moonhalyard_text(const uint8_t *text, size_t n, uint8_t *plan, size_t r
    Refused, nothing in `text` changes, and bytes behind the text never change. */
 uint64_t moonhalyard_draw(const uint8_t *plan, size_t n, uint8_t *text, size_t room);
 
-/* A plan as a table: a row of 20 numbers for the head and for each activity, arm and expression, in the order of the plan's bytes. The first number
-   of a row is how many numbers it has; these follow as the plan has them, and 0 in the places behind them:
+/* A plan as a table: a row of 20 numbers for the head, for each activity, arm and expression, and for each number between the parts of a scope, in the order
+   of the plan's bytes. The first number of a row is how many numbers it has; these follow as the plan has them, and 0 in the places behind them:
      the head              1 (the version), how many variables, how many of them are for correlation, and the numbers of these
      0 empty, 4 raise, 5 leave, 11 scope                  its code (after a scope its body, its fault part and its undo part)
+     12 scope with no undo part                           its code; its body and its fault part are next
+     13 raise with a number                               its code and that number
+     14 scope with fault parts by number                  its code; its body is next; then a row with how many there are; for each a row with its number,
+                           and that part; then the general fault part and the undo part
      1 send, 2 receive     its code, partner, operation, how many variables, and their numbers
      3 set                 its code and a variable; the rows of its expression are next
      6 choose, 7 repeat    its code; the rows of its expression are next, then its activities

@@ -1,8 +1,7 @@
 //! The model of the plan writer, written from document 02's first request and from what a row is
 //! (docs/DECISIONS.md): 20 places, the first of which says how many numbers the row has; then
-//! these numbers as the file has them; then 0. A scope with fault parts by number has all its own
-//! numbers in its row, though its parts stand between them in the file; they are looked at where
-//! the file has them.
+//! these numbers as the file has them; then 0. Of a scope with fault parts by number each of the
+//! numbers that stand between its parts, their count and the number of each, has a row of its own.
 
 use crate::plan::is_fault;
 use crate::reader::{
@@ -133,17 +132,17 @@ impl Cutting<'_> {
                 self.put(&[code, number]);
             }
             14 => {
-                let at = self.table.len();
                 self.put(&[code]);
                 self.activity();
-                let mut numbers = vec![code, self.number()];
-                for _ in 0..numbers[1] {
-                    numbers.push(self.number());
+                let count = self.number();
+                self.put(&[count]);
+                for _ in 0..count {
+                    let number = self.number();
+                    self.put(&[number]);
                     self.activity();
                 }
                 self.activity();
                 self.activity();
-                self.table[at..at + PLACES].copy_from_slice(&row(&numbers));
             }
             _ => {
                 self.put(&[code]);
@@ -306,7 +305,10 @@ impl<'a> Rows<'a> {
         }
         self.count += 1;
         if code == 14 {
-            return self.scope_by_numbers(at, row, level);
+            if !self.spell(row, 1) {
+                return refuse(5, at);
+            }
+            return self.scope_by_numbers(level);
         }
         let most = if code == 10 { 8 } else { 32 };
         let legal = match code {
@@ -351,23 +353,21 @@ impl<'a> Rows<'a> {
     }
 
     /// A scope with fault parts by number, behind its code.
-    fn scope_by_numbers(&mut self, at: usize, row: &[u32], level: u32) -> Result<bool, Refusal> {
-        spell(row[1], &mut self.bytes);
+    fn scope_by_numbers(&mut self, level: u32) -> Result<bool, Refusal> {
         let starts = self.activity(level + 1, false)?;
-        let count = row[2] as usize;
-        let whole = (1..=8).contains(&count)
-            && row[0] as usize == 2 + count
-            && row[3 + count..].iter().all(|&place| place == 0);
-        if !whole {
+        let (at, row) = self.row()?;
+        let count = row[1];
+        if !(1..=8).contains(&count) || !self.spell(row, 1) {
             return refuse(5, at);
         }
-        spell(row[2], &mut self.bytes);
-        let numbers = &row[3..3 + count];
-        for (i, &number) in numbers.iter().enumerate() {
-            if !is_fault(number) || numbers[..i].contains(&number) {
+        let mut numbers = Vec::new();
+        for _ in 0..count {
+            let (at, row) = self.row()?;
+            let number = row[1];
+            if !is_fault(number) || numbers.contains(&number) || !self.spell(row, 1) {
                 return refuse(5, at);
             }
-            spell(number, &mut self.bytes);
+            numbers.push(number);
             self.activity(level + 1, true)?;
         }
         self.activity(level + 1, true)?;
@@ -483,44 +483,36 @@ mod tests {
 
     #[test]
     fn scopes_with_fault_parts_by_number() {
-        let plan = |scope: &[u32], body: &[u32], part: &[u32]| -> Vec<u32> {
-            let front: [&[u32]; 4] = [&[1, 2, 0], &[8, 2], &[2, 3, 5, 1, 0], scope];
-            let parts: [&[u32]; 6] = [body, &[4], part, &[5], &[0], &[0]];
-            front
-                .iter()
-                .chain(&parts)
-                .flat_map(|&some| row(some))
-                .collect()
+        // From the row of the scope on: its code, its body, the count, and a number with each of its parts.
+        let plan = |scope: &[&[u32]]| -> Vec<u32> {
+            let front: [&[u32]; 3] = [&[1, 2, 0], &[8, 2], &[2, 3, 5, 1, 0]];
+            let behind: [&[u32]; 3] = [&[5], &[0], &[0]];
+            let all = front.iter().chain(scope).chain(&behind);
+            all.flat_map(|&some| row(some)).collect()
         };
         let bytes = [
             1, 2, 0, 8, 2, 2, 3, 5, 1, 0, 14, 0, 2, 16, 4, 3, 13, 255, 1, 5, 0, 0,
         ];
-        let table = plan(&[14, 2, 16, 3], &[0], &[13, 255]);
+        let table = plan(&[&[14], &[0], &[2], &[16], &[4], &[3], &[13, 255]]);
         assert_eq!(table_of(&bytes), Ok(table.clone()));
         let mut out = [9; 22];
         assert_eq!(write(&table, &mut out), Ok(22));
         assert_eq!(out, bytes);
-        let refused = |table: &[u32], number, place| {
-            assert_eq!(write(table, &mut []), Err(Refusal { number, place }));
+        let refused = |scope: &[&[u32]], number, place| {
+            assert_eq!(write(&plan(scope), &mut []), Err(Refusal { number, place }));
         };
-        for scope in [
-            &[14, 2, 16, 16][..],
-            &[14, 2, 16, 5],
-            &[14, 2, 16, 256],
-            &[14, 2, 16],
-            &[14, 2, 16, 3, 0],
-            &[14, 9, 16, 3],
-            &[14, 0],
-            &[14],
-        ] {
-            refused(&plan(scope, &[0], &[0]), 5, 3);
-            // The body comes before them.
-            refused(&plan(scope, &[15], &[0]), 4, 4);
+        for count in [&[0][..], &[9], &[2, 0], &[]] {
+            refused(&[&[14], &[0], count, &[16], &[4], &[3], &[0]], 5, 5);
+            // The body comes before it.
+            refused(&[&[14], &[15], count, &[16], &[4], &[3], &[0]], 4, 4);
         }
-        // And a part before the number behind it.
-        refused(&plan(&[14, 2, 5, 3], &[0], &[15]), 5, 3);
-        refused(&plan(&[14, 3, 16, 3, 5], &[0], &[15]), 4, 6);
-        refused(&plan(&[14, 2, 16, 3], &[0], &[12]), 8, 6);
+        for number in [&[16][..], &[5], &[256], &[3, 0], &[]] {
+            refused(&[&[14], &[0], &[2], &[16], &[4], number, &[0]], 5, 8);
+            // A part comes before the number behind it.
+            refused(&[&[14], &[0], &[2], &[16], &[15], number, &[0]], 4, 7);
+        }
+        refused(&[&[14, 2], &[0], &[2], &[16], &[4], &[3], &[0]], 5, 3);
+        refused(&[&[14], &[0], &[2], &[16], &[12], &[3], &[0]], 8, 7);
     }
 
     #[test]

@@ -9,7 +9,7 @@ use Rattle.order.specs.declared.Order.{Order}
 use Rattle.order.specs.declared.Spot.{Spot}
 use Rattle.order.specs.declared.Way.the-variants.{Running, Over, Raising, Leaving, Undone, UndoRaising}
 use Rattle.order.specs.declared.Went.{Went}
-use Rattle.order.specs.Answering.{runsOf, went, outcome, Made, nameOf, scopeOf, Faulting, Clears, Stops, Turns, Undoes, Forgets, endsOf, Leads, Makes, PartOver}
+use Rattle.order.specs.Answering.{runsOf, went, outcome, nameOf, scopeOf, Faulting, Clears, Stops, Turns, Undoes, Forgets, endsOf, Leads, Makes, PartOver}
 use Rattle.order.specs.Scope.{choiceFor, forgetting, isOpen, stop, faults, breaks, looksAgain, bodyOver, bodyRaised, undoOver, undoRaised, fromBody, partOver, partRaised, fromFault, fromUndo}
 use Rattle.order.proofs.Deciding.{yes, no}
 use Rattle.order.specs.State.{markWith, markOf, marking, stateOf, causing, withMarks}

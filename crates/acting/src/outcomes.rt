@@ -144,7 +144,7 @@ fn part_raised(table: &Table, number: u8, spot: Spot, order: Order) -> Went
     runs(order)
 }
 
-// What a scope makes of a step in its fault part.
+// What a scope makes of a step in one of its fault parts.
 pub(crate) fn from_fault(table: &Table, spot: Spot, r: Went) -> Went
     ensures { λ p. ⌜ Makes (now (table .entry)) spot fromFault r p ⌝ }
 {

@@ -13,7 +13,7 @@ use Rattle.plan.specs.Found.{among}
 use Rattle.plan.specs.Spells.{SpellsOwn, variablesOf}
 use Rattle.plan.specs.Table.{rowOf}
 use Rattle.plan.specs.Tree.{Exp, Own, empty, send, receive, set as setting, raise, leave, choose, repeat, sequence, flow, pick, scope, arm, kind, numbersOf, Act, act, Acts, none, more, size, sizes, count}
-use Rattle.plan.specs.Within.{numbersWithin, ownWithin, exchangeWithin, variablesWithin, raiseWithin}
+use Rattle.plan.specs.Within.{ownWithin, exchangeWithin, variablesWithin, raiseWithin}
 use Rattle.plan.proofs.Accepts.{both}
 use Rattle.plan.proofs.TableSpells.{row-count, row-variables}
 use Rattle.order.specs.declared.Closing.{Closing}

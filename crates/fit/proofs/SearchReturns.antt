@@ -159,7 +159,6 @@ and-second : (a b : Bool) → (a && b) ≡ true → b ≡ true
 and-second true b e = e
 and-second false b e = absurd (false≢true e)
 
-
 and-true : (b : Bool) → b ≡ (b && true)
 and-true true = refl
 and-true false = refl

@@ -15,7 +15,7 @@ use Rattle.order.specs.declared.Order.{Order}
 use Rattle.machine.specs.declared.State.{State}
 use Rattle.order.specs.Expression.{isFaultNumber}
 use Rattle.order.specs.Lists.{every}
-use Rattle.order.specs.State.{idle, active, faulty, undoing, handling, withdrawing, stateIn}
+use Rattle.order.specs.State.{faulty, undoing, handling, withdrawing, stateIn}
 use Rattle.machine.specs.State.{letters}
 use Rattle.machine.specs.Planned.{Bare}
 use Rattle.machine.specs.Limits.{exchanged, messageInLimits, rootInLimits, markInLimits, orderInLimits, inLimits}

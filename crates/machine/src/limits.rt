@@ -83,8 +83,8 @@ fn root_ruled(mark: u8) -> bool
     is_chosen(mark)
 }
 
-// A mark without a choice that it may have: at most 8 where it is within its limits. A state saved before there were choices has none, and is within them as
-// it was.
+// The mark itself, and 0 for one that may have a choice: at most 8 exactly where the mark is within its limits. A state saved before there were choices has
+// none, and is within them as it was.
 fn bare(mark: u8) -> u8
     ensures { λ r. ⌜ Bare mark r ⌝ }
 {

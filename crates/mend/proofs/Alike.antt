@@ -4,7 +4,7 @@ use native.Mathlib.Omega.{arith}
 use native.Mathlib.Decide.{decLt}
 use borrow.Author.Tests.{ltb-false, ltb-true, leb-false, lt-ltb, le-ltb, le-leb, eqb-true}
 use mathlib.Core.Path.{_≡_, refl, sym, ap, _∙_}
-use mathlib.Core.Bool.{Bool, true, false, cond, _&&_, _||_}
+use mathlib.Core.Bool.{Bool, true, false, cond, not, _&&_, _||_}
 use mathlib.Core.List.{List, [], _∷_, _++_}
 use Prim.Native.Nat.{ℕ, zero, suc, _+_, _-_, _*_, _%_, _≤_, _<_}
 use lib.ListN.{length, getD, take, drop, length-append, length-drop, take-append-drop}
@@ -18,7 +18,7 @@ use Rattle.numbers.proofs.Laws.{shortest-is-read, shortest-long}
 use Rattle.plan.specs.Found.{Found, refused, found, andThen, foundNumber, numberIn, fieldIn, among}
 use Rattle.plan.specs.Spell.{spell}
 use Rattle.plan.specs.Tree.{Exp, Own, send, receive, set, choose, repeat, sequence, flow, pick, arm, isPick, Act, Plan, size}
-use Rattle.plan.specs.Read.{expressionCodeIn, operationOf, leafIn, expressionIn, variablesIn, tupleIn, Head, head, exchangeIn, armIn, partnerIn, withExpressionIn, setIn, listIn, raiseIn, codeIn, partsIn, headIn, manyIn, wholeIn, readArm, readsIn, laterOf, readAct, startForm, correlationIn, versionIn, closing, rootIn, readAny}
+use Rattle.plan.specs.Read.{expressionCodeIn, operationOf, leafIn, expressionIn, variablesIn, tupleIn, Head, head, exchangeIn, armIn, partnerIn, withExpressionIn, setIn, listIn, raiseIn, namable, faultNumberIn, isScopeCode, codeIn, partsIn, headIn, manyIn, numberedIn, numberedScopeIn, wholeIn, readArm, readsIn, laterOf, readAct, startForm, correlationIn, versionIn, closing, rootIn, readAny}
 use Rattle.mend.specs.Padded.{groupsAt, paddedAt, numbersFrom, numbersOf, shortened, placeFrom, placeOf, lastPlace, noNumber, original, readPadded}
 use Rattle.mend.proofs.PaddedLaws.{next-below, padded-bounds, padded-end}
 use Rattle.mend.proofs.RunReturns.{None, short, bad, none-as, end-none, numbers-none, spell-some, place-none, place-there, place-further, Left, left-over}
@@ -249,8 +249,8 @@ module _ (o : List ℕ) where
   unfolding codeIn
   code handler depth n r =
       goes-then (number r) (λ c next p m.
-      goes-cond (ltb 13 c) (kept refl refl r)
-      (goes-cond (handler && (eqb c 11 || eqb c 12)) (kept refl refl r)
+      goes-cond (ltb 14 c) (kept refl refl r)
+      (goes-cond (handler && isScopeCode c) (kept refl refl r)
       (goes-cond (eqb depth 0 || leb 256 n) (kept refl refl r) (same m))))
 
   parts : (vars : ℕ) (cs : List ℕ) (c : ℕ) {at q : ℕ} → Stands o at q → Goes o (partsIn vars cs o c at) (partsIn vars cs (shortened o) c q)
@@ -269,7 +269,8 @@ module _ (o : List ℕ) where
       (goes-cond (eqb c 10) (list pick 9 r)
       (goes-cond (eqb c 11) (same r)
       (goes-cond (eqb c 12) (same r)
-      (in-raise r)))))))))))))
+      (goes-cond (eqb c 13) (in-raise r)
+      (same r))))))))))))))
 
   in-head : (vars : ℕ) (cs : List ℕ) (handler : Bool) (depth n : ℕ) {at q : ℕ} → Stands o at q
       → Goes o (headIn vars cs o handler depth n at) (headIn vars cs (shortened o) handler depth n q)
@@ -288,9 +289,31 @@ module _ (o : List ℕ) where
       goes-then (ones handler n at q r) (λ a next p m.
       goes-then (many ones later later left (n + size a) m) (λ rest i j k. same k))
 
+  fault-number : (read : List ℕ) {at q : ℕ} → Stands o at q → Goes o (faultNumberIn o read at) (faultNumberIn (shortened o) read q)
+  unfolding faultNumberIn
+  fault-number read r = goes-then (number r) (λ x next p m. goes-cond (namable x && not (among x read)) (same m) (kept refl refl r))
+
+  by-number : {one two : Bool → ℕ → ℕ → Found Act} → Ones one two → (left : ℕ) (read : List ℕ) (n : ℕ) {at q : ℕ} → Stands o at q
+      → Goes o (numberedIn one o left read n at) (numberedIn two (shortened o) left read n q)
+  unfolding numberedIn
+  by-number ones zero read n r = goes-then (many ones true true 2 n r) (λ l next p m. same m)
+  by-number ones (suc left) read n r =
+      goes-then (fault-number read r) (λ x i j k.
+      goes-then (ones true n i j k) (λ a u v w.
+      goes-then (by-number ones left (x ∷ read) (n + size a) w) (λ c next p m. same m)))
+
+  numbered-scope : {one two : Bool → ℕ → ℕ → Found Act} → Ones one two → (handler : Bool) (n : ℕ) {at q : ℕ} → Stands o at q
+      → Goes o (numberedScopeIn one o handler n at) (numberedScopeIn two (shortened o) handler n q)
+  unfolding numberedScopeIn
+  numbered-scope ones handler n {at} {q} r =
+      goes-then (ones handler (n + 1) at q r) (λ body i j k.
+      goes-then (field 1 9 k) (λ count u v w.
+      goes-then (by-number ones count [] (n + 1 + size body) w) (λ c next p m. same m)))
+
   whole : {one two : Bool → ℕ → ℕ → Found Act} → Ones one two → (handler later : Bool) (n : ℕ) (h : Head) {at q : ℕ} → Stands o at q
-      → Goes o (wholeIn one handler later n h at) (wholeIn two handler later n h q)
-  whole ones handler later n h r = goes-then (many ones handler later (h .within) (n + 1) r) (λ rest next p m. same m)
+      → Goes o (wholeIn one o handler later n h at) (wholeIn two (shortened o) handler later n h q)
+  whole ones handler later n h r =
+      goes-cond (h .numbered) (numbered-scope ones handler n r) (goes-then (many ones handler later (h .within) (n + 1) r) (λ rest next p m. same m))
 
   one-arm : {one two : Bool → ℕ → ℕ → Found Act} → Ones one two → (vars : ℕ) → Ones (readArm one vars o) (readArm two vars (shortened o))
   unfolding readArm

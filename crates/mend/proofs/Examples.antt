@@ -9,10 +9,10 @@ use Rattle.numbers.specs.declared.Number.the-variants.{Value, Short, Bad}
 use Rattle.numbers.specs.Number.{lastGroup, groups, numberAt}
 use Rattle.plan.specs.Agree.{inBytes, askedOwn, spanOf, spanAll, askedIn, askedAll, asked, agreesWith, judged}
 use Rattle.plan.specs.Found.{numberIn, fieldIn, among}
-use Rattle.plan.specs.Read.{expressionCodeIn, leafIn, expressionIn, variablesIn, tupleIn, exchangeIn, armIn, partnerIn, withExpressionIn, setIn, listIn, codeIn, partsIn, headIn, manyIn, readArm, readAct, starts, startForm, firstStarts, everyStarts, correlationIn, versionIn, rootIn, readAny, readPlan}
-use Rattle.plan.specs.Spell.{spell, operationCode, expressionNumbers, exchangeNumbers, ownNumbers}
+use Rattle.plan.specs.Read.{expressionCodeIn, leafIn, expressionIn, variablesIn, tupleIn, exchangeIn, armIn, partnerIn, withExpressionIn, setIn, listIn, raiseIn, namable, faultNumberIn, codeIn, partsIn, headIn, manyIn, numberedIn, numberedScopeIn, readArm, readAct, starts, startForm, firstStarts, everyStarts, correlationIn, versionIn, rootIn, readAny, readPlan}
+use Rattle.plan.specs.Spell.{spell, operationCode, expressionNumbers, exchangeNumbers, ownNumbers, gapsOf, actNumbers, actsNumbers, planNumbers, spelling}
 use Rattle.plan.specs.Tree.{kind, size, count}
-use Rattle.mend.specs.Outcome.{answerOf}
+use Rattle.mend.specs.Outcome.{putAnswer, answerOf}
 use Rattle.mend.specs.Padded.{groupsAt, paddedAt, numbersFrom, numbersOf, shortened, cutFrom, groupsCut, placeFrom, placeOf, lastPlace, original, readPadded}
 use Rattle.mend.specs.declared.Answer.{Answer}
 
@@ -70,5 +70,15 @@ disagreeing l = 129 ∷ 0 ∷ 2 ∷ 0 ∷ 8 ∷ 2 ∷ 2 ∷ 3 ∷ 5 ∷ 2 ∷ 0 
 disagreement : answerOf (disagreeing []) (readPadded (disagreeing [])) 4096 ∷ answerOf (disagreeing []) (readPadded (disagreeing [])) 0
     ∷ answerOf (disagreeing (0 ∷ [])) (readPadded (disagreeing (0 ∷ []))) 4096 ∷ []
     ≡ Answer.Refused 21 17 ∷ Answer.Refused 21 17 ∷ Answer.Refused 9 20 ∷ []
-unfolding answerOf readPadded original shortened numbersOf numbersFrom paddedAt groupsAt placeOf lastPlace placeFrom spell shortest spelled lastGroup groups numberAt numberIn fieldIn among kind size count expressionCodeIn leafIn expressionIn variablesIn tupleIn exchangeIn armIn partnerIn withExpressionIn setIn listIn codeIn partsIn headIn manyIn readArm readAct starts startForm firstStarts everyStarts correlationIn versionIn rootIn readAny readPlan inBytes askedOwn spanOf spanAll askedIn askedAll asked agreesWith judged operationCode expressionNumbers exchangeNumbers ownNumbers
+unfolding answerOf readPadded original shortened numbersOf numbersFrom paddedAt groupsAt placeOf lastPlace placeFrom spell shortest spelled lastGroup groups numberAt numberIn fieldIn among kind size count expressionCodeIn leafIn expressionIn variablesIn tupleIn exchangeIn armIn partnerIn withExpressionIn setIn listIn raiseIn namable faultNumberIn codeIn partsIn headIn manyIn numberedIn numberedScopeIn readArm readAct starts startForm firstStarts everyStarts correlationIn versionIn rootIn readAny readPlan inBytes askedOwn spanOf spanAll askedIn askedAll asked agreesWith judged operationCode expressionNumbers exchangeNumbers ownNumbers gapsOf
 disagreement = refl
+
+-- Fault parts by number: document 02, request 4. A plan whose body is a scope with one, with its count in two groups and this number.
+abbrev naming : List ℕ → List ℕ
+naming number = 1 ∷ 2 ∷ 0 ∷ 14 ∷ 2 ∷ 3 ∷ 5 ∷ 1 ∷ 0 ∷ 129 ∷ 0 ∷ (number ++ (0 ∷ 0 ∷ 0 ∷ 0 ∷ []))
+
+-- the number 16 in two groups: two are cut, and 15 bytes come out; 15: 5, at its place in what came in
+numbered : answerOf (naming (144 ∷ 0 ∷ [])) (readPadded (naming (144 ∷ 0 ∷ []))) 4096 ∷ answerOf (naming (15 ∷ [])) (readPadded (naming (15 ∷ []))) 4096 ∷ []
+    ≡ Answer.Mended 15 2 ∷ Answer.Refused 5 11 ∷ []
+unfolding answerOf putAnswer spelling planNumbers actNumbers actsNumbers readPadded original shortened numbersOf numbersFrom groupsCut cutFrom paddedAt groupsAt placeOf lastPlace placeFrom spell shortest spelled lastGroup groups numberAt numberIn fieldIn among kind size count expressionCodeIn leafIn expressionIn variablesIn tupleIn exchangeIn armIn partnerIn withExpressionIn setIn listIn raiseIn namable faultNumberIn codeIn partsIn headIn manyIn numberedIn numberedScopeIn readArm readAct starts startForm firstStarts everyStarts correlationIn versionIn rootIn readAny readPlan inBytes askedOwn spanOf spanAll askedIn askedAll asked agreesWith judged operationCode expressionNumbers exchangeNumbers ownNumbers gapsOf
+numbered = refl

@@ -12,11 +12,13 @@ use lib.ListN.{length, length-append}
 use Rattle.numbers.specs.Shortest.{shortest}
 use Rattle.numbers.specs.declared.Number.{Number}
 use Rattle.numbers.specs.declared.Number.the-variants.{Value, Short, Bad}
-use Rattle.plan.specs.Agree.{Asked, inBytes, askedOwn, spanOf, askedIn, askedAll, asked, agreesWith, judged}
+use Rattle.plan.specs.Agree.{Asked, inBytes, askedOwn, beyond, spanOf, askedIn, askedAll, asked, agreesWith, judged}
 use Rattle.plan.specs.Found.{Found, refused, found, andThen}
 use Rattle.plan.specs.Read.{readAny, readPlan}
-use Rattle.plan.specs.Spell.{spell, exchangeNumbers, ownNumbers, actNumbers, actsNumbers, planNumbers, spelling}
+use Rattle.plan.specs.Spell as spells
+use Rattle.plan.specs.Spell.{spell, exchangeNumbers, ownNumbers, gapsOf, gap, actNumbers, actsNumbers, planNumbers, spelling}
 use Rattle.plan.specs.Table.{bodyPlace}
+use Rattle.plan.specs.Tree as tree
 use Rattle.plan.specs.Tree.{Own, empty, send, receive, set, raise, leave, choose, repeat, sequence, flow, pick, scope, arm, Act, act, Acts, none, more, Plan, count}
 use Rattle.plan.proofs.Agreeing.{Among, here, later}
 use Rattle.plan.proofs.Finds.{cond-case}
@@ -142,7 +144,7 @@ own-within (repeat e) within at m = no-one m
 own-within sequence within at m = no-one m
 own-within flow within at m = no-one m
 own-within pick within at m = no-one m
-own-within (scope undo) within at m = no-one m
+own-within (scope ns undo) within at m = no-one m
 own-within (arm p o vs) within at m =
     only-one (λ x. Within (p ∷ o ∷ length vs ∷ vs) at (x .place)) _ (record { before = p ∷ o ∷ []; after = length vs ∷ vs; is = refl; place = refl }) m
 
@@ -150,26 +152,34 @@ by-either : {P : Type 0} {a : Asked} {l m : List Asked} → Either a l m → (Am
 by-either (left x) f g = f x
 by-either (right x) f g = g x
 
+-- the numbers before the next of those within
+beyond-is : (gs : List (List ℕ)) (at : ℕ) → beyond inBytes gs at ≡ at + length (spell (gap gs))
+unfolding inBytes spell
+beyond-is [] at = omega arith
+beyond-is (g ∷ gs) at = refl
+
 mutual
   unfolding askedIn inBytes actNumbers
 
   act-within : (b : Act) (at : ℕ) {a : Asked} → Among a (askedIn inBytes b at) → Within (actNumbers b) at (a .place)
   act-within (act own l) at {a} m =
       by-either (either a (askedOwn inBytes own at) _ m)
-      (λ x. within-left (actsNumbers l) (own-within own (count l) at x))
-      (λ x. within-right (ownNumbers own (count l)) (acts-within l (at + length (spell (ownNumbers own (count l)))) x))
+      (λ x. within-left (actsNumbers (gapsOf (tree.numbersOf own)) l) (own-within own (count l) at x))
+      (λ x. within-right (ownNumbers own (count l)) (acts-within (gapsOf (tree.numbersOf own)) l (at + length (spell (ownNumbers own (count l)))) x))
 
-  acts-within : (l : Acts) (at : ℕ) {a : Asked} → Among a (askedAll inBytes l at) → Within (actsNumbers l) at (a .place)
-  acts-within none at m = no-one m
-  acts-within (more b l) at {a} m =
-      by-either (either a (askedIn inBytes b at) _ m)
-      (λ x. within-left (actsNumbers l) (act-within b at x))
-      (λ x. within-right (actNumbers b) (rw (span-bytes b) at (acts-within l (at + spanOf inBytes b) x)))
+  acts-within : (gs : List (List ℕ)) (l : Acts) (at : ℕ) {a : Asked} → Among a (askedAll inBytes gs l at) → Within (actsNumbers gs l) at (a .place)
+  acts-within gs none at m = no-one m
+  acts-within gs (more b l) at {a} m =
+      let n = rw (beyond-is gs at) at m in
+      within-right (gap gs)
+      (by-either (either a (askedIn inBytes b (at + length (spell (gap gs)))) _ n)
+      (λ x. within-left (actsNumbers (spells.later gs) l) (act-within b (at + length (spell (gap gs))) x))
+      (λ x. within-right (actNumbers b) (rw (span-bytes b) at (acts-within (spells.later gs) l (at + length (spell (gap gs)) + spanOf inBytes b) x))))
 
 plan-within : (p : Plan) {a : Asked} → Among a (asked p) → Within (planNumbers p) 0 (a .place)
 unfolding asked planNumbers actsNumbers
 plan-within p {a} m =
-    let w = acts-within (more (p .body) (more (p .fault) none)) (bodyPlace p) m in
+    let w = acts-within [] (more (p .body) (more (p .fault) none)) (bodyPlace p) m in
     let v : Within (actNumbers (p .body) ++ actNumbers (p .fault)) (bodyPlace p) (a .place) = rw (append-nil (actNumbers (p .fault))) at w in
     within-right (1 ∷ p .variables ∷ length (p .correlation) ∷ p .correlation) (rw (sym (zero-add (bodyPlace p))) at v)
 

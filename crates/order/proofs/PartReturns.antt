@@ -1,11 +1,11 @@
 -- The returns of the functions by which a scope chooses its fault part and finds its parts. Assumes nothing.
 use mathlib.Core.Path.{_≡_, refl, sym, ap, _∙_}
 use mathlib.Core.Bool.{Bool, true, false, cond, _&&_}
-use mathlib.Core.List.{List, [], _∷_}
-use Prim.Native.Nat.{ℕ, zero, suc, _+_, _*_, _-_, _<_, _≤_}
-use native.Mathlib.Numerals.{add-one, sub-one}
+use mathlib.Core.List.{List}
+use Prim.Native.Nat.{ℕ, suc, _+_, _-_, _<_, _≤_}
+use native.Mathlib.Numerals.{add-one}
 use native.Mathlib.Omega.{arith}
-use borrow.Author.Tests.{eq-eqb, ne-eqb, lt-ltb, le-ltb, lt-leb, le-leb, ltb-true, leb-true}
+use borrow.Author.Tests.{eq-eqb, ne-eqb, lt-ltb, le-ltb, lt-leb, le-leb, leb-true}
 use lib.Dec.{eqb, ltb, leb}
 use lib.ListN.{length, getD, drop, drop-of-length-le}
 use lib.Seq.{drop-cons}
@@ -15,7 +15,7 @@ use Rattle.order.specs.declared.Order.{Order}
 use Rattle.order.specs.declared.Spot.{Spot}
 use Rattle.order.specs.Answering.{Made, nameOf, scopeOf, Held, Numbered, NumberAt, Chooses, Faulting, PartRow, chosenIndex, ChosenRow, UndoRow, scopeAct, SpotAt}
 use Rattle.order.specs.Begin.{part, partAt}
-use Rattle.order.specs.Scope.{Scope, generalFor, partFor, choiceFor, chosenPart, chosenAt}
+use Rattle.order.specs.Scope.{Scope, generalFor, partFor, chosenPart, chosenAt}
 use Rattle.order.specs.Stands.{End, Stands, StandAll}
 use Rattle.order.specs.State.{markWith, marking, causing}
 use Rattle.order.proofs.Standing.{stands-end, first-at, part-stands, part-next, general-is}

@@ -1,5 +1,5 @@
 -- The returns of the functions on the rows of a plan's table. Assumes nothing.
-use mathlib.Core.Path.{_≡_, sym, _∙_}
+use mathlib.Core.Path.{_≡_, _∙_}
 use mathlib.Core.Bool.{Bool, true, false}
 use mathlib.Core.List.{List}
 use Prim.Native.Nat.{ℕ, _+_, _*_, _-_, _<_, _≤_}
@@ -7,7 +7,7 @@ use native.Mathlib.Omega.{arith}
 use borrow.Author.Tests.{ne-eqb, lt-ltb, le-ltb}
 use lib.Dec.{eqb}
 use lib.ListN.{getD}
-use Rattle.plan.specs.Tree.{Acts, more, size, sizes}
+use Rattle.plan.specs.Tree.{more, size, sizes}
 use Rattle.order.specs.declared.Spot.{Spot}
 use Rattle.order.specs.Answering.{scopeKind, undoKind, Made, scopeAct, PartsCount, NumberAt, SpotAt}
 use Rattle.order.specs.Begin.{part, partAt}

@@ -1,16 +1,15 @@
 -- The returns of the functions that read a scope with fault parts by number, and what their calls may count on. Assumes nothing.
 use mathlib.Core.Path.{_≡_, refl, sym, ap, _∙_}
-use mathlib.Core.Bool.{Bool, true, false, cond, not, _&&_, _||_}
+use mathlib.Core.Bool.{Bool, true, false, not, _&&_}
 use mathlib.Core.List.{List, [], _∷_, _++_, map}
-use Prim.Native.Nat.{ℕ, zero, suc, _+_, _-_, _*_, _<_, _≤_}
+use Prim.Native.Nat.{ℕ, zero, suc, _+_, _-_, _<_, _≤_}
 use native.Mathlib.Nat.{add-zero, zero-add, add-assoc}
 use native.Mathlib.Numerals.{add-one, sub-one}
 use native.Mathlib.Omega.{arith}
-use borrow.Author.Tests.{le-leb, lt-leb, eq-eqb, ne-eqb}
-use lib.Dec.{eqb, leb}
+use borrow.Author.Tests.{eq-eqb, ne-eqb}
 use lib.ListN.{length, getD, set, replicate, length-append}
 use lib.Seq.{getD-set-same, getD-set-other}
-use mir.Syntax.{w32, w64}
+use mir.Syntax.{w64}
 use mir.Val.{Fits}
 use Rattle.numbers.specs.Shortest.{shortest, spelled as groups}
 use Rattle.plan.specs.declared.Field.{Field}
@@ -22,17 +21,17 @@ use Rattle.plan.specs.Fits.{NumberFits, FieldFits, weigh, weighScope, we
 use Rattle.plan.specs.Found.{Found, refused, found, andThen, numberIn, fieldIn, among}
 use Rattle.plan.specs.Nodes.{Base, ScopeRoom, NumbersRoom, nodeHeadIn, nodeIn}
 use Rattle.plan.specs.Numbering.{backwards, numbersRow}
-use Rattle.plan.specs.Read.{Head, numberedHead, Numbered, alsoNumbered, namable, faultNumberIn, manyIn, numberedIn, numberedScopeIn, starts, startForm, firstStarts, everyStarts}
+use Rattle.plan.specs.Read.{Head, numberedHead, Numbered, alsoNumbered, namable, faultNumberIn, manyIn, numberedIn, numberedScopeIn, starts, firstStarts, everyStarts}
 use Rattle.plan.specs.Spell.{spell, ownNumbers, gapsOf, actNumbers, actsNumbers}
 use Rattle.plan.specs.Store.{store}
 use Rattle.plan.specs.Table.{scopeRow, rowOf, putRow, putOwn, putOwnNodes, putClose, put, putAll, ownNodes, nodes, nodesAll}
 use Rattle.plan.specs.Tree.{scope, scopeCode, kind, Act, act, Acts, none, more, size, sizes, count}
 use Rattle.plan.specs.Within.{levelsBelow}
 use Rattle.plan.proofs.Beside.{numbers-beside}
-use Rattle.plan.proofs.Bounds.{act-nodes-spelled, parts-numbered}
+use Rattle.plan.proofs.Bounds.{parts-numbered}
 use Rattle.plan.proofs.OneNumber.{then-found, then-refused, field-got, field-no, field-fits, number-fits, handed}
 use Rattle.plan.proofs.OwnReads.{own-numbers}
-use Rattle.plan.proofs.Stands.{Stands, one, NumberedStands, spell-append, stands-append, stands-forward, stands-inside, field-stands, fault-number-stands, numbered-stands}
+use Rattle.plan.proofs.Stands.{one, NumberedStands, spell-append, stands-forward, stands-inside, field-stands, fault-number-stands, numbered-stands}
 use Rattle.plan.proofs.TreeReads.{node-noded, node-stands, node-reads, node-numbered, numbered-told, level, act-refused, act-no, act-got, whole-found, one-base, one-numbered}
 
 -- The numbers while they are read.

@@ -1,5 +1,5 @@
 -- The returns of the functions that read what an activity or arm says of itself. Assumes nothing.
-use mathlib.Core.Path.{_≡_, refl, sym, ap, _∙_}
+use mathlib.Core.Path.{_≡_, refl, sym, _∙_}
 use mathlib.Core.Bool.{Bool, true, false, cond, true≢false, _&&_, _||_}
 use mathlib.Core.List.{List, [], _∷_}
 use Prim.Native.Nat.{ℕ, zero, suc, _+_, _<_, _≤_}
@@ -7,17 +7,17 @@ use native.Mathlib.Nat.{add-zero}
 use native.Mathlib.Omega.{arith}
 use borrow.Author.Tests.{ltb-false, leb-false, eqb-false, lt-ltb, le-ltb, le-leb, lt-leb, eq-eqb, ne-eqb}
 use lib.Dec.{ltb, leb, eqb}
-use lib.ListN.{length, getD}
+use lib.ListN.{getD}
 use Rattle.plan.specs.declared.Field.{Field}
 use Rattle.plan.specs.declared.Field.the-variants.{Got}
 use Rattle.plan.specs.declared.Nodes.{Nodes}
 use Rattle.plan.specs.declared.Tuple.{Tuple}
 use Rattle.plan.specs.declared.Own as code
 use Rattle.plan.specs.Answers.{fieldOf, tupleOf, NodesRead, messageOwn, expressionOwn, listOwn, ownAnswer, OwnPut, OwnRead}
-use Rattle.plan.specs.Fits.{Ahead, NumberFits, FieldFits}
+use Rattle.plan.specs.Fits.{NumberFits, FieldFits}
 use Rattle.plan.specs.Found.{Found, refused, found, andThen, numberIn, fieldIn, among}
 use Rattle.plan.specs.Nodes.{Base, Room, IsMessage, sends, receives, isArm, IsExpression, sets, chooses, repeats, IsList, isSequence, isFlow, isPick, nodeHeadIn}
-use Rattle.plan.specs.Read.{Head, head, numberedHead, expressionIn, tupleIn, exchangeIn, armIn, partnerIn, withExpressionIn, setIn, listIn, raiseIn, isScopeCode, codeIn, partsIn, headIn}
+use Rattle.plan.specs.Read.{Head, head, expressionIn, tupleIn, exchangeIn, armIn, partnerIn, withExpressionIn, setIn, listIn, raiseIn, isScopeCode, codeIn, partsIn, headIn}
 use Rattle.plan.specs.Store.{store, padded, chosen}
 use Rattle.plan.specs.Table.{row, rowOf, putRow, putOwn, putOwnNodes, putNodes, ownNodes, nodesOf}
 use Rattle.plan.specs.Tree.{Exp, Own, empty, raise, leave, scope, kind}

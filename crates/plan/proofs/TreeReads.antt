@@ -1,14 +1,14 @@
 -- The returns of the two functions that read an activity and a list of activities, and why their calls of each other end. Assumes nothing.
 use mathlib.Core.Path.{_≡_, refl, sym, ap, _∙_}
-use mathlib.Core.Bool.{Bool, true, false, cond, _&&_, _||_, false≢true}
+use mathlib.Core.Bool.{Bool, true, false, _&&_, _||_, false≢true}
 use mathlib.Core.List.{List, []}
 use Prim.Native.Nat.{ℕ, zero, suc, _+_, _-_, _*_, _<_, _≤_}
 use native.Mathlib.Nat.{add-zero}
 use native.Mathlib.Numerals.{sub-one}
 use native.Mathlib.Omega.{arith}
 use lib.Dec.{eqb, leb}
-use lib.ListN.{length, length-append}
-use mir.Syntax.{w32, w64}
+use lib.ListN.{length}
+use mir.Syntax.{w64}
 use mir.Val.{Fits}
 use Rattle.plan.specs.declared.Out.{Out}
 use Rattle.plan.specs.declared.Own as code
@@ -16,16 +16,16 @@ use Rattle.plan.specs.Answers.{OwnRead, outOf, Put, ActRead, outAll, Put
 use Rattle.plan.specs.Fits.{weigh, weighScope}
 use Rattle.plan.specs.Found.{Found, refused, found, andThen, fieldIn, among}
 use Rattle.plan.specs.Nodes.{Base, nodeHeadIn, nodeIn}
-use Rattle.plan.specs.Read.{expressionIn, tupleIn, Head, numberedHead, exchangeIn, armIn, partnerIn, withExpressionIn, setIn, listIn, raiseIn, isScopeCode, partsIn, headIn, manyIn, numberedScopeIn, wholeIn, readArm, readAct, laterOf, starts, startForm, firstStarts, everyStarts}
+use Rattle.plan.specs.Read.{expressionIn, tupleIn, Head, numberedHead, exchangeIn, armIn, partnerIn, withExpressionIn, setIn, listIn, raiseIn, isScopeCode, partsIn, headIn, manyIn, wholeIn, readArm, readAct, laterOf, starts, startForm, firstStarts, everyStarts}
 use Rattle.plan.specs.Spell.{spell, ownNumbers, gapsOf, actNumbers, actsNumbers}
 use Rattle.plan.specs.Table.{putOwn, putClose, put, putAll, ownNodes, nodes, nodesAll}
 use Rattle.plan.specs.Tree.{Exp, Own, send, receive, set, choose, repeat, sequence, flow, pick, kind, isScope, isPick, numbersOf, Act, act, Acts, none, more, size, sizes, count}
 use Rattle.plan.specs.Within.{levelsBelow}
 use Rattle.plan.proofs.Bounds.{arm-numbered, own-nodes-spelled, act-nodes-spelled, many-numbered, reads-numbered, act-numbered, Numbered}
-use Rattle.plan.proofs.Finds.{Finds, finds-refused, finds-itself, finds-found, finds-cond, finds-then, finds-so, finds-both, cond-case}
+use Rattle.plan.proofs.Finds.{Finds, finds-refused, finds-itself, finds-found, finds-cond, finds-then, finds-so, finds-both}
 use Rattle.plan.proofs.ByKind.{kind-scope, kind-pick}
 use Rattle.plan.proofs.OneNumber.{then-found, then-refused}
-use Rattle.plan.proofs.OwnReads.{Said, own-got, own-no, Numbers, own-numbers, code-numbered}
+use Rattle.plan.proofs.OwnReads.{Said, own-got, own-no, code-numbered}
 use Rattle.plan.proofs.Stands.{Stands, Reads, Plain, HeadIs, plain, numbered, arm-plain, head-is, field-within, headNumbers, stands-forward, stands-inside, own-some, act-some, arm-stands, head-stands, many-stands, many-count, reads-stand, act-stands}
 
 -- no more than 32 stand directly within; and what stands within an arm are no arms, and no fault parts

@@ -190,7 +190,7 @@ readArm one vars s handler n at = andThen (armIn vars s n at) (wholeIn one s han
 abbrev pub readsIn : Own → (one : Bool → ℕ → ℕ → Found Act) → (vars : ℕ) → List ℕ → Bool → ℕ → ℕ → Found Act
 readsIn own one vars s = cond (isPick own) (readArm one vars s) one
 
--- a scope's fault part and its undo part are handlers, whatever stands around it
+-- a scope's fault parts and its undo part are handlers, whatever stands around it
 abbrev pub laterOf : Own → (handler : Bool) → Bool
 laterOf own handler = isScope own || handler
 

@@ -291,6 +291,9 @@ scope-split {t} {r} {n} numbers a l (cons w x) = go (stands-split t (actRows a) 
     go : Split t (r + 1) (actRows a) ((length numbers ∷ []) ∷ actsRows (rows.alone numbers) l) n → Scoped t r numbers a l n
     go s = let y = tail (s .second) in record { m = s .m; code = w; body = s .first; many = y .0; parts = y .1 }
 
+gaps-none : (t : List ℕ) {r m : ℕ} (gs : List (List ℕ)) (l : Acts) → gs ≡ [] → Stands t r (actsRows gs l) m → Stands t r (actsRows [] l) m
+gaps-none t gs l e x = rw e at x
+
 -- Activities and arms with those within them.
 
 module _ (vars : ℕ) (cs t : List ℕ) where
@@ -329,8 +332,11 @@ module _ (vars : ℕ) (cs t : List ℕ) where
   parts-read (y ∷ ns) (more b l) each known depth n r m many room h f a (cons w x) =
       both (actWithin vars cs true false b depth) _ h (λ u v. both (namable y) _ f (λ g f1. both (not (among y ns)) _ f1 (λ i j.
       let s = stands-split t (actRows b) (actsRows (rows.alone ns) l) x in
-      rw (number-read known w g (apart-first true known ns y a), each .0 false true depth n (r + 1) (s .m) (omega arith) u (s .first),
-      parts-read ns l (each .1) (y ∷ known) depth (n + size b) (s .m) m (omega arith) (omega arith) v j (apart-more known ns y a (not-true _ i)) (s .second)))))
+      rw (
+        number-read known w g (apart-first true known ns y a),
+        each .0 false true depth n (r + 1) (s .m) (omega arith) u (s .first),
+        parts-read ns l (each .1) (y ∷ known) depth (n + size b) (s .m) m (omega arith) (omega arith) v j (apart-more known ns y a (not-true _ i)) (s .second),
+      ))))
 
   numbered-read : (number : ℕ) (numbers : List ℕ) (undo : Bool) (l : Acts) → ReadsEach l → (handler : Bool) (d n r m : ℕ) → n + (1 + sizes l) ≤ 256
       → ownWithin vars cs handler false (scope (number ∷ numbers) undo) (count l) ≡ true → actsWithin vars cs handler true false l d ≡ true
@@ -345,8 +351,12 @@ module _ (vars : ℕ) (cs t : List ℕ) where
       both (actWithin vars cs handler false b d) _ k (λ u v.
       let parts : count l ≡ length (y ∷ ns) + 2 = omega (arith, eqb-true (count (more b l)) (length (y ∷ ns) + 3) e) in
       let s = scope-split (y ∷ ns) b l (rw (scope-rows (y ∷ ns) b l (omega arith) parts) at x) in
-      rw (scope-read vars cs t handler d n (omega arith) (s .code) (not-true handler g), each .0 false handler d (n + 1) (r + 1) (s .m) (omega arith) u (s .body),
-      count-read (s .many) (rw i), parts-read (y ∷ ns) l (each .1) [] d (n + 1 + size b) (s .m + 1) m parts (omega arith) v j (λ w o. refl) (s .parts))))))
+      rw (
+        scope-read vars cs t handler d n (omega arith) (s .code) (not-true handler g),
+        each .0 false handler d (n + 1) (r + 1) (s .m) (omega arith) u (s .body),
+        count-read (s .many) (rw (le-leb 1 (length (y ∷ ns)) (omega arith), i)),
+        parts-read (y ∷ ns) l (each .1) [] d (n + 1 + size b) (s .m + 1) m parts (omega arith) v j (λ w o. refl) (s .parts),
+      )))))
 
   plain-read : (own : Own) (l : Acts) → numbersOf own ≡ [] → ReadsEach l → (handler : Bool) (d n r m : ℕ) → n + (1 + sizes l) ≤ 256
       → ownWithin vars cs handler false own (count l) ≡ true → actsWithin vars cs handler (laterOf own handler) (isPick own) l d ≡ true
@@ -355,8 +365,10 @@ module _ (vars : ℕ) (cs t : List ℕ) where
   plain-read own l e each handler d n r m room a b x =
       let y : Stands t r (ownRows own (count l) ++ actsRows [] l) m = rw e at x in
       let s = stands-split t (ownRows own (count l)) (actsRows [] l) y in
-      rw (own-read vars cs t handler d n (omega arith) own (count l) e a (s .first),
-      many-read l each (isPick own) handler (laterOf own handler) d (n + 1) (s .m) m (omega arith) b (s .second))
+      rw (
+        own-read vars cs t handler d n (omega arith) own (count l) e a (s .first),
+        many-read l each (isPick own) handler (laterOf own handler) d (n + 1) (s .m) m (omega arith) b (s .second),
+      )
 
   any-read : (own : Own) → ByNumber own → (l : Acts) → ReadsEach l → (handler : Bool) (d n r m : ℕ) → n + (1 + sizes l) ≤ 256
       → ownWithin vars cs handler false own (count l) ≡ true → actsWithin vars cs handler (laterOf own handler) (isPick own) l d ≡ true
@@ -370,7 +382,7 @@ module _ (vars : ℕ) (cs t : List ℕ) where
       both (ownWithin vars cs handler true own (count l)) _ h (λ a b.
       let s = stands-split t (ownRows own (count l)) (actsRows (gapsOf (numbersOf own)) l) x in
       let (k, o) = arm-own-read vars cs t handler 0 n (omega arith) own (count l) a (s .first) in
-      rw (o, many-read l each false handler handler depth (n + 1) (s .m) m (omega arith) (rw (k .0, k .1 .0) at b) (rw (k .1 .1) at (s .second))))
+      rw (o, many-read l each false handler handler depth (n + 1) (s .m) m (omega arith) (rw (k .0, k .1 .0) at b) (gaps-none t (gapsOf (numbersOf own)) l (ap gapsOf (k .1 .1)) (s .second))))
   act-read own l each false handler zero n r m room h x = absurd (false≢true h)
   act-read own l each false handler (suc d) n r m room h x =
       both (ltb 0 (suc d)) _ h (λ _ h1. both (ownWithin vars cs handler false own (count l)) _ h1 (λ a b.

@@ -130,8 +130,8 @@ module _ (s t : List ℕ) where
   cut-none k due at (suc left) x y n e = absurd (omega arith)
 
   -- the place is another name for the same
-  cut-there : {k due at bt : ℕ} {l : List (List ℕ)} → at ≡ bt → Cut k due at l → Cut k due bt l
-  cut-there e c = rw e at c
+  cut-there : (k due : ℕ) {at bt : ℕ} (l : List (List ℕ)) → at ≡ bt → Cut k due at l → Cut k due bt l
+  cut-there k due l e c = rw e at c
 
   -- what is to be known of a row: how many numbers it has, how many expressions come after it, and which activity
   record Next (k due at j after : ℕ) (ns : List ℕ) : Type 0 where
@@ -188,18 +188,18 @@ module _ (s t : List ℕ) where
   cut-expression k (binary o a b) due at l c =
       let from = at + length (spell (operationCode o ∷ [])) in
       let q : at + long ((operationCode o ∷ []) ∷ (expressionRows a ++ expressionRows b)) ≡ from + long (expressionRows a) + long (expressionRows b) =
-          omega (arith, long-more (operationCode o ∷ []) (expressionRows a ++ expressionRows b), long-append (expressionRows a) (expressionRows b)) in
+      omega (arith, long-more (operationCode o ∷ []) (expressionRows a ++ expressionRows b), long-append (expressionRows a) (expressionRows b)) in
       cut-more k (suc due) at k (suc (suc due)) (operationCode o ∷ []) ((expressionRows a ++ expressionRows b) ++ l)
       (λ e h m. operation-next k due at (operationCode o) _ (operation-large o) e m)
       (rw (append-assoc (expressionRows a) (expressionRows b) l)
-      (cut-expression k a (suc due) from (expressionRows b ++ l) (cut-expression k b due (from + long (expressionRows a)) l (cut-there q c))))
+      (cut-expression k a (suc due) from (expressionRows b ++ l) (cut-expression k b due (from + long (expressionRows a)) l (cut-there _ _ _ q c))))
 
   -- what an activity or arm says of itself: `wide` is the number of variables where it names some
   module _ (k at : ℕ) (own : Own) (a : kindIn t k ≡ kind own) (c : placeIn t k ≡ at) where
     own-next : (ns : List ℕ) (after : ℕ) → (length ns ≤ 19 → widthOf (kind own) (countIn t k) ≡ length ns) → opens (kind own) ≡ after
-        → {l : List ℕ} → drop at s ≡ spell (ns ++ l) → length ns ≤ 19 → Small ns → Next k 0 at (k + 1) after ns
+        → (l : List ℕ) → drop at s ≡ spell (ns ++ l) → length ns ≤ 19 → Small ns → Next k 0 at (k + 1) after ns
     unfolding rowWidth dueAfter kAfter
-    own-next ns after w o e h m =
+    own-next ns after w o l e h m =
         let z : ltb at (placeIn t k) ≡ false = le-ltb at (placeIn t k) (omega arith) in
         record { wide = rw (z, a) (w h); comes = rw (z, a) o; then = rw z }
 
@@ -213,13 +213,13 @@ module _ (s t : List ℕ) where
 
   alone : (k at : ℕ) (own : Own) (ns : List ℕ) (l : List (List ℕ)) → kindIn t k ≡ kind own → placeIn t k ≡ at
       → (length ns ≤ 19 → widthOf (kind own) (countIn t k) ≡ length ns) → opens (kind own) ≡ 0 → Cut (k + 1) 0 (at + long (ns ∷ [])) l → Cut k 0 at (ns ∷ l)
-  alone k at own ns l a c w o d = cut-more k 0 at (k + 1) 0 ns l (own-next k at own a c ns 0 w o) (rw (long-one ns) at d)
+  alone k at own ns l a c w o d = cut-more k 0 at (k + 1) 0 ns l (own-next k at own a c ns 0 w o (flat l)) (rw (long-one ns) at d)
 
   opening : (k at : ℕ) (own : Own) (ns : List ℕ) (x : Exp) (l : List (List ℕ)) → kindIn t k ≡ kind own → placeIn t k ≡ at
       → widthOf (kind own) (countIn t k) ≡ length ns → opens (kind own) ≡ 1 → Cut (k + 1) 0 (at + long (ns ∷ expressionRows x)) l → Cut k 0 at (ns ∷ (expressionRows x ++ l))
   opening k at own ns x l a c w o d =
       let q : at + long (ns ∷ expressionRows x) ≡ at + length (spell ns) + long (expressionRows x) = omega (arith, long-more ns (expressionRows x)) in
-      cut-more k 0 at (k + 1) 1 ns (expressionRows x ++ l) (own-next k at own a c ns 1 (λ h. w) o) (cut-expression (k + 1) x 0 (at + length (spell ns)) l (cut-there q d))
+      cut-more k 0 at (k + 1) 1 ns (expressionRows x ++ l) (own-next k at own a c ns 1 (λ h. w) o (flat (expressionRows x ++ l))) (cut-expression (k + 1) x 0 (at + length (spell ns)) l (cut-there _ _ _ q d))
 
   cut-own : (own : Own) (within k m at : ℕ) (l : List (List ℕ)) → kindIn t k ≡ kind own → countIn t k ≡ getD (rowOf own m at) 3 0 → placeIn t k ≡ at
       → Cut (k + 1) 0 (at + long (ownRows own within)) l → Cut k 0 at (ownRows own within ++ l)
@@ -248,14 +248,14 @@ module _ (s t : List ℕ) where
 
   cut-alone : (g : List ℕ) (k at : ℕ) (l : List (List ℕ)) → placeIn t k ≡ at + length (spell g) → Cut k 0 (at + length (spell g)) l → Cut k 0 at (rows.alone g ++ l)
   unfolding spell
-  cut-alone [] k at l e c = let z : at + 0 ≡ at = omega arith in cut-there z c
+  cut-alone [] k at l e c = let z : at + 0 ≡ at = omega arith in cut-there _ _ _ z c
   cut-alone (x ∷ g) k at l e c =
       let i = shortest-long x in
       let j = length-append (shortest x) (spell g) in
       let y = append-nil (shortest x) in
       let q : at + length (shortest x ++ spell g) ≡ at + length (shortest x ++ []) + length (spell g) = rw y (omega arith) in
       cut-more k 0 at k 0 (x ∷ []) (rows.alone g ++ l) (λ f h m. number-next k at x (omega (arith, i .0)))
-      (cut-alone g k (at + length (shortest x ++ [])) l (e ∙ q) (cut-there q c))
+      (cut-alone g k (at + length (shortest x ++ [])) l (e ∙ q) (cut-there _ _ _ q c))
 
   -- activities and arms with those within them
   kind-is : {own : Own} {at n m e f : ℕ} → n < 256 → spells.Row own at n m e f t → kindIn t n ≡ kind own
@@ -295,11 +295,11 @@ module _ (s t : List ℕ) where
         let q : at + long (ownRows own (count w) ++ actsRows gs w) ≡ near + long (actsRows gs w) = omega (arith, long-append (ownRows own (count w)) (actsRows gs w)) in
         rw (append-assoc (ownRows own (count w)) (actsRows gs w) l)
         (cut-own own (count w) n m at (actsRows gs w ++ l) (kind-is (omega arith) (x .row)) (count-is (omega arith) (x .row)) (place-is (omega arith) (x .row))
-        (cut-acts gs w near (n + 1) _ l (omega arith) (rw i at (x .within)) (cut-there q (rw z at c))))
+        (cut-acts gs w near (n + 1) _ l (omega arith) (rw i at (x .within)) (cut-there _ _ _ q (rw z at c))))
 
     cut-acts : (gs : List (List ℕ)) (w : Acts) (at n m : ℕ) (l : List (List ℕ)) → n + sizes w ≤ 256 → SpellsAll gs w at n m t
         → Cut (n + sizes w) 0 (at + long (actsRows gs w)) l → Cut n 0 at (actsRows gs w ++ l)
-    cut-acts gs none at n m l h x c = let y : at + long [] ≡ at = none-long at in cut-there y (rw (add-zero n) at c)
+    cut-acts gs none at n m l h x c = let y : at + long [] ≡ at = none-long at in cut-there _ _ _ y (rw (add-zero n) at c)
     cut-acts gs (more a w) at n m l h x c =
         let z : n + (size a + sizes w) ≡ n + size a + sizes w = omega arith in
         let from = at + length (spell (gap gs)) in
@@ -310,10 +310,10 @@ module _ (s t : List ℕ) where
         let first : Spells a from n m t = rw i at (x .first) in
         let rest = rw (i, j) at (x .rest) in
         let q : at + long (rows.alone (gap gs) ++ (actRows a ++ actsRows (later gs) w)) ≡ near + long (actsRows (later gs) w) =
-            omega (arith, long-append (rows.alone (gap gs)) (actRows a ++ actsRows (later gs) w), long-append (actRows a) (actsRows (later gs) w)) in
+        omega (arith, long-append (rows.alone (gap gs)) (actRows a ++ actsRows (later gs) w), long-append (actRows a) (actsRows (later gs) w)) in
         rw (append-assoc (rows.alone (gap gs)) (actRows a ++ actsRows (later gs) w) l, append-assoc (actRows a) (actsRows (later gs) w) l)
         (cut-alone (gap gs) n at _ (act-place a from n m (omega arith) first)
-        (cut-act a from n m (actsRows (later gs) w ++ l) (omega arith) first (cut-acts (later gs) w near (n + size a) _ l (omega arith) rest (cut-there q (rw z at c)))))
+        (cut-act a from n m (actsRows (later gs) w ++ l) (omega arith) first (cut-acts (later gs) w near (n + size a) _ l (omega arith) rest (cut-there _ _ _ q (rw z at c)))))
 
 -- How many rows there are: one for each activity and arm, for each node of an expression, and for each number between the parts of a scope.
 
@@ -341,7 +341,7 @@ own-rows (scope ns undo) within = refl
 own-rows (arm p o vs) within = refl
 
 -- the numbers between parts: those of an activity's own, of it with all within it, and of a list; and those before the ones of a list
-unfoldable betweenOwn : (numbers : List ℕ) → ℕ
+unfoldable pub betweenOwn : (numbers : List ℕ) → ℕ
 betweenOwn [] = 0
 betweenOwn (n ∷ ns) = length (n ∷ ns) + 1
 
@@ -360,7 +360,7 @@ before gs (more a l) = length (gap gs) + before (later gs) l
 before-none : (l : Acts) → before [] l ≡ 0
 unfolding before
 before-none none = refl
-before-none (more a l) = before-none l
+before-none (more a l) = omega (arith, before-none l)
 
 before-alone : (ns : List ℕ) (l : Acts) → length ns ≤ count l → before (rows.alone ns) l ≡ length ns
 unfolding before count
@@ -380,20 +380,23 @@ part-some : (undo : Bool) → 2 ≤ cond undo 3 2
 part-some true = omega arith
 part-some false = omega arith
 
-enough : (vars : ℕ) (cs : List ℕ) (handler arms : Bool) (own : Own) (l : Acts) → ownWithin vars cs handler arms own (count l) ≡ true → before (gapsOf (numbersOf own)) l ≡ betweenOwn (numbersOf own)
-enough vars cs handler arms own l h = go (by-number own) h
-  where
-    parted : (n : ℕ) (ns : List ℕ) (undo : Bool) → ownWithin vars cs handler arms (scope (n ∷ ns) undo) (count l) ≡ true → before (gapsOf (n ∷ ns)) l ≡ betweenOwn (n ∷ ns)
-    unfolding ownWithin
-    parted n ns undo h =
-        both (not arms) _ h (λ a h1. both (eqb (count l) (length (n ∷ ns) + cond undo 3 2)) _ h1 (λ b c.
-        let e = eqb-true (count l) (length (n ∷ ns) + cond undo 3 2) b in
-        before-own (n ∷ ns) l (omega (arith, part-some undo))))
+enough-parts : (vars : ℕ) (cs : List ℕ) (handler arms : Bool) (n : ℕ) (ns : List ℕ) (undo : Bool) (l : Acts) → ownWithin vars cs handler arms (scope (n ∷ ns) undo) (count l) ≡ true
+    → before (gapsOf (n ∷ ns)) l ≡ betweenOwn (n ∷ ns)
+unfolding ownWithin
+enough-parts vars cs handler arms n ns undo l h =
+    both (not arms) _ h (λ a h1. both (eqb (count l) (length (n ∷ ns) + cond undo 3 2)) _ h1 (λ b c.
+    let e = eqb-true (count l) (length (n ∷ ns) + cond undo 3 2) b in
+    before-own (n ∷ ns) l (omega (arith, part-some undo))))
 
-    go : {own : Own} → ByNumber own → ownWithin vars cs handler arms own (count l) ≡ true → before (gapsOf (numbersOf own)) l ≡ betweenOwn (numbersOf own)
-    unfolding gapsOf betweenOwn
-    go (plain e) h = rw e (before-none l)
-    go (numbered n ns undo) h = parted n ns undo h
+enough-by : (vars : ℕ) (cs : List ℕ) (handler arms : Bool) {own : Own} (l : Acts) → ByNumber own → ownWithin vars cs handler arms own (count l) ≡ true
+    → before (gapsOf (numbersOf own)) l ≡ betweenOwn (numbersOf own)
+unfolding gapsOf betweenOwn
+enough-by vars cs handler arms l (plain e) h = rw e (before-none l)
+enough-by vars cs handler arms l (numbered n ns undo) h = enough-parts vars cs handler arms n ns undo l h
+
+enough : (vars : ℕ) (cs : List ℕ) (handler arms : Bool) (own : Own) (l : Acts) → ownWithin vars cs handler arms own (count l) ≡ true
+    → before (gapsOf (numbersOf own)) l ≡ betweenOwn (numbersOf own)
+enough vars cs handler arms own l h = enough-by vars cs handler arms l (by-number own) h
 
 mutual
   unfolding actRows actsRows size sizes nodes nodesAll betweenOf before actWithin
@@ -402,21 +405,32 @@ mutual
       → length (actRows a) ≡ size a + nodes a + betweenOf a
   act-rows vars cs handler arms (act own l) depth h =
       both (arms || ltb 0 depth) _ h (λ a h1. both (ownWithin vars cs handler arms own (count l)) _ h1 (λ b c.
-      omega (arith, length-append (ownRows own (count l)) (actsRows (gapsOf (numbersOf own)) l), own-rows own (count l),
-      acts-rows vars cs handler _ _ (gapsOf (numbersOf own)) l _ c, enough vars cs handler arms own l b)))
+      omega (
+        arith,
+        length-append (ownRows own (count l)) (actsRows (gapsOf (numbersOf own)) l),
+        own-rows own (count l),
+        acts-rows vars cs handler _ _ (gapsOf (numbersOf own)) l _ c,
+        enough vars cs handler arms own l b,
+      )))
 
   acts-rows : (vars : ℕ) (cs : List ℕ) (handler later arms : Bool) (gs : List (List ℕ)) (l : Acts) (depth : ℕ) → actsWithin vars cs handler later arms l depth ≡ true
       → length (actsRows gs l) ≡ sizes l + nodesAll l + betweenAll l + before gs l
   acts-rows vars cs handler after arms gs none depth h = refl
   acts-rows vars cs handler after arms gs (more a l) depth h =
       both (actWithin vars cs handler arms a depth) _ h (λ b c.
-      omega (arith, length-append (rows.alone (gap gs)) (actRows a ++ actsRows (later gs) l), length-append (actRows a) (actsRows (later gs) l), alone-long (gap gs),
-      act-rows vars cs handler arms a depth b, acts-rows vars cs after after arms (later gs) l depth c))
+      omega (
+        arith,
+        length-append (rows.alone (gap gs)) (actRows a ++ actsRows (later gs) l),
+        length-append (actRows a) (actsRows (later gs) l),
+        alone-long (gap gs),
+        act-rows vars cs handler arms a depth b,
+        acts-rows vars cs after after arms (later gs) l depth c,
+      ))
 
 -- what the table says of them
 between-append : (m n : ℕ) (t : List ℕ) (k : ℕ) → betweenIn (m + n) t k ≡ betweenIn m t k + betweenIn n t (k + m)
 unfolding betweenIn
-between-append zero n t k = let e : 0 + n ≡ n = omega arith in rw (e, add-zero k)
+between-append zero n t k = let e : 0 + n ≡ n = omega arith in rw (e, add-zero k) (omega arith)
 between-append (suc m) n t k =
     let e : suc m + n ≡ suc (m + n) = omega arith in
     let f : k + 1 + m ≡ k + suc m = omega arith in
@@ -469,8 +483,13 @@ mutual
   acts-spread vars cs handler after arms gs none depth h = omega arith
   acts-spread vars cs handler after arms gs (more a l) depth h =
       both (actWithin vars cs handler arms a depth) _ h (λ b c.
-      omega (arith, length-append (gap gs) (actNumbers a ++ actsNumbers (later gs) l), length-append (actNumbers a) (actsNumbers (later gs) l),
-      act-spread vars cs handler arms a depth b, acts-spread vars cs after after arms (later gs) l depth c))
+      omega (
+        arith,
+        length-append (gap gs) (actNumbers a ++ actsNumbers (later gs) l),
+        length-append (actNumbers a) (actsNumbers (later gs) l),
+        act-spread vars cs handler arms a depth b,
+        acts-spread vars cs after after arms (later gs) l depth c,
+      ))
 
 -- No number of a plan within the limits has more than 32 bits.
 
@@ -577,22 +596,22 @@ module _ (vars : ℕ) (cs : List ℕ) (k : vars ≤ 16) where
   alone-small [] m = tt
   alone-small (x ∷ ns) m = ((m .0, tt), alone-small ns (m .1))
 
-  gaps-small : (handler arms : Bool) (own : Own) (within : ℕ) → ownWithin vars cs handler arms own within ≡ true → SmallGaps (gapsOf (numbersOf own))
-  gaps-small handler arms own within h = go (by-number own) h
-    where
-      named : (n : ℕ) (ns : List ℕ) (undo : Bool) → ownWithin vars cs handler arms (scope (n ∷ ns) undo) within ≡ true → SmallGaps (gapsOf (n ∷ ns))
-      unfolding ownWithin numbersWithin gapsOf SmallGaps Small
-      named n ns undo h =
-          both (not arms) _ h (λ a h1. both (eqb within (length (n ∷ ns) + cond undo 3 2)) _ h1 (λ b h2. both (not handler) _ h2 (λ c h3. both undo _ h3 (λ d h4.
-          both (leb (length (n ∷ ns)) 8) _ h4 (λ e f.
-          let l = leb-true (length (n ∷ ns)) 8 e in
-          let m = small-names (n ∷ ns) f in
-          (tt, ((omega arith, (m .0, tt)), alone-small ns (m .1))))))))
+  named-small : (handler arms : Bool) (n : ℕ) (ns : List ℕ) (undo : Bool) (within : ℕ) → ownWithin vars cs handler arms (scope (n ∷ ns) undo) within ≡ true → SmallGaps (gapsOf (n ∷ ns))
+  unfolding ownWithin numbersWithin gapsOf SmallGaps Small
+  named-small handler arms n ns undo within h =
+      both (not arms) _ h (λ a h1. both (eqb within (length (n ∷ ns) + cond undo 3 2)) _ h1 (λ b h2. both (not handler) _ h2 (λ c h3. both undo _ h3 (λ d h4.
+      both (leb (length (n ∷ ns)) 8) _ h4 (λ e f.
+      let l = leb-true (length (n ∷ ns)) 8 e in
+      let m = small-names (n ∷ ns) f in
+      (tt, ((omega arith, (m .0, tt)), alone-small ns (m .1))))))))
 
-      go : {own : Own} → ByNumber own → ownWithin vars cs handler arms own within ≡ true → SmallGaps (gapsOf (numbersOf own))
-      unfolding gapsOf SmallGaps
-      go (plain e) h = rw e tt
-      go (numbered n ns undo) h = named n ns undo h
+  small-by : (handler arms : Bool) {own : Own} (within : ℕ) → ByNumber own → ownWithin vars cs handler arms own within ≡ true → SmallGaps (gapsOf (numbersOf own))
+  unfolding gapsOf SmallGaps
+  small-by handler arms within (plain e) h = rw e tt
+  small-by handler arms within (numbered n ns undo) h = named-small handler arms n ns undo within h
+
+  gaps-small : (handler arms : Bool) (own : Own) (within : ℕ) → ownWithin vars cs handler arms own within ≡ true → SmallGaps (gapsOf (numbersOf own))
+  gaps-small handler arms own within h = small-by handler arms within (by-number own) h
 
   mutual
     unfolding actRows actsRows actWithin actsWithin
@@ -644,8 +663,12 @@ module _ (p : Plan) (l : Limits p) where
   pub rows-many : length (planRows p) ≡ size (p .body) + size (p .fault) + (nodes (p .body) + nodes (p .fault)) + (betweenOf (p .body) + betweenOf (p .fault)) + 1
   unfolding planRows
   rows-many =
-      omega (arith, length-append (actRows (p .body)) (actRows (p .fault)), act-rows (p .variables) (p .correlation) false false (p .body) 16 (l .body),
-      act-rows (p .variables) (p .correlation) true false (p .fault) 16 (l .fault))
+      omega (
+        arith,
+        length-append (actRows (p .body)) (actRows (p .fault)),
+        act-rows (p .variables) (p .correlation) false false (p .body) 16 (l .body),
+        act-rows (p .variables) (p .correlation) true false (p .fault) 16 (l .fault),
+      )
 
   -- the numbers between parts, by the table; and they are no more than the bytes
   pub plan-between : (t : List ℕ) → SpellsPlan p t → betweenIn (size (p .body) + size (p .fault)) t 0 ≡ betweenOf (p .body) + betweenOf (p .fault)
@@ -655,9 +678,10 @@ module _ (p : Plan) (l : Limits p) where
       rw e (acts-between t [] (more (p .body) (more (p .fault) none)) (bodyPlace p) 0 0 (omega (arith, l .room)) x ∙ omega arith)
 
   pub between-few : (betweenOf (p .body) ≤ length (spell (actNumbers (p .body)))) × (betweenOf (p .fault) ≤ length (spell (actNumbers (p .fault))))
-  between-few =
-      (omega (arith, act-spread (p .variables) (p .correlation) false false (p .body) 16 (l .body), spell-long (actNumbers (p .body))),
-      omega (arith, act-spread (p .variables) (p .correlation) true false (p .fault) 16 (l .fault), spell-long (actNumbers (p .fault))))
+  between-few = (
+    omega (arith, act-spread (p .variables) (p .correlation) false false (p .body) 16 (l .body), spell-long (actNumbers (p .body))),
+    omega (arith, act-spread (p .variables) (p .correlation) true false (p .fault) 16 (l .fault), spell-long (actNumbers (p .fault))),
+  )
 
   pub table-long : length (rowsOf p) ≡ length (planRows p) * 20
   unfolding rowsOf

@@ -92,8 +92,7 @@ module _ (s : List ℕ) {r : plan.Answer} {vars acts m : ℕ} (e : r ≡ answerO
     between-is : b ≡ betweenOf (x .p .body) + betweenOf (x .p .fault)
     between-is =
         let i = table-is (readPlan s) (x .is) w in
-        let j : b ≡ betweenIn (size (x .p .body) + size (x .p .fault)) (tableOf (x .p)) 0 = f ∙ rw (x .many, i) in
-        j ∙ plan-between (x .p) l (tableOf (x .p)) (accepted-spells s (x .is))
+        f ∙ (ap (λ (n : ℕ). betweenIn n t 0) (x .many) ∙ ap (λ (u : List ℕ). betweenIn (size (x .p .body) + size (x .p .fault)) u 0) i) ∙ plan-between (x .p) l (tableOf (x .p)) (accepted-spells s (x .is))
 
     pub rows-few : acts + m + b ≤ 16384
     rows-few =

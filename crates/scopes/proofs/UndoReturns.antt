@@ -18,7 +18,7 @@ use Rattle.order.specs.declared.Spot.{Spot}
 use Rattle.order.specs.declared.Way.the-variants.{Over}
 use Rattle.order.specs.declared.Went.{Went}
 use Rattle.order.specs.Answering.{entered, went, isOver, begunOf, scopeKind, undoKind, forPart, Begins, Made, UndoRow, SpotAt, BeginsPart, LooksTo, BeginsUndo, KindOf, Entry, Without, LastAt, Last, FindsLast, StartsUndo, Held, scopeOf, UndoesList}
-use Rattle.order.specs.Begin.{Begun, nothingBegun, begin, part, partAt, beginPart}
+use Rattle.order.specs.Begin.{Begun, nothingBegun, part, partAt, beginPart}
 use Rattle.order.specs.Lists.{only, withoutFirst, withoutLast}
 use Rattle.order.specs.Scope.{Scope, isFor, listOf, rememberedFor, beginUndo, beginUndoFirst, beginUndoIn, startUndo, undo}
 use Rattle.order.specs.Stands.{End, Stands, StandAll}

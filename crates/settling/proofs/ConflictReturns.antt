@@ -25,7 +25,7 @@ use Rattle.fit.specs.Answering.{Exchange, openPick, armsFrom, ArmAt}
 use Rattle.fit.specs.Lines.{Line, linesOf, isReady, readyAt, readyLine, Stands, Tabled}
 use Rattle.fit.specs.Receiving.{receives}
 use Rattle.fit.proofs.Lines.{ready-lines, line-stands, plan-long, size-short}
-use Rattle.fit.proofs.SearchReturns.{stands-kind, stands-exchange}
+use Rattle.fit.proofs.SearchReturns.{stands-kind}
 use Rattle.settling.specs.Answering.{SameThing, Opened, opened-none, opened-other, opened-more, SeenRow, Beyond, Reaches, OpenRow, Capped, numberOf, Clashes}
 use Rattle.settling.proofs.Parts.{both, decide}
 

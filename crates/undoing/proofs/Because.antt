@@ -332,26 +332,27 @@ plain-choice m q e h f =
     (λ a. false≢true (sym h ∙ (ap isHurt (sym e) ∙ rw (t, u, y, v, z, w, a))))
     (λ a. f (sym e ∙ rw (t, u, y, v, z, w, a, x)))))))))))
 
+-- the choice for the number that a scope faulted with
+by-number : (p : Plan) (past : List Event) (n : Name) → choiceBy p n (numberTold n past) ≡ choiceTold p n past
+unfolding choiceTold choiceBy
+by-number p past root = refl
+by-number p past (inner k) = refl
+
 -- A scope of a live order keeps its choice for the number that it faulted with.
 chosen-told : (p : Plan) (n : Name) (past : List Event) (m : ℕ) (l : List ℕ) → Tied (phase m) l (accountOf p n past) → Chosen p n m (accountOf p n past)
     → choiceIn m ≡ cond (hasTurned n past && hasFaulted n past) (choiceTold p n past) 0
 unfolding hasTurned
 chosen-told p n past m l t c = go (phase m) refl t c
   where
-    by-number : (n : Name) → choiceBy p n (numberTold n past) ≡ choiceTold p n past
-    unfolding choiceTold choiceBy
-    by-number root = refl
-    by-number (inner k) = refl
-
     go : (q : Phase) → phase m ≡ q → Tied q l (accountOf p n past) → (isHurt q ≡ true → choiceIn m ≡ choiceBy p n (numberTold n past))
         → choiceIn m ≡ cond ((some (isTurn n) (since n past) && not (some (isFinish n) (since n past))) && hasFaulted n past) (choiceTold p n past) 0
     go rest e t c = rw (t .2) (plain-choice m rest e refl (λ d. let z : _≡_ {A = ℕ} 0 1 = cc in omega arith))
     go live e t c = rw (t .1) (plain-choice m live e refl (λ d. let z : _≡_ {A = ℕ} 0 1 = cc in omega arith))
-    go (waits true) e t c = rw (t .1, left-unfinished n past (t .0), t .4) (c refl ∙ by-number n)
+    go (waits true) e t c = rw (t .1, left-unfinished n past (t .0), t .4) (c refl ∙ by-number p past n)
     go (waits false) e t c = rw (t .1, left-unfinished n past (t .0), t .4) (plain-choice m (waits false) e refl (λ d. let z : _≡_ {A = ℕ} 0 1 = cc in omega arith))
-    go (undoes true) e t c = rw (t .1, left-unfinished n past (t .0), t .3) (c refl ∙ by-number n)
+    go (undoes true) e t c = rw (t .1, left-unfinished n past (t .0), t .3) (c refl ∙ by-number p past n)
     go (undoes false) e t c = rw (t .1, left-unfinished n past (t .0), t .3) (plain-choice m (undoes false) e refl (λ d. let z : _≡_ {A = ℕ} 0 1 = cc in omega arith))
-    go heals e t c = rw (t .1, left-unfinished n past (t .0), t .4) (c refl ∙ by-number n)
+    go heals e t c = rw (t .1, left-unfinished n past (t .0), t .4) (c refl ∙ by-number p past n)
     go odd e t c = absurd t
 
 -- The scopes of a live order keep the choices of their fault parts, and its root the number that it faulted with.

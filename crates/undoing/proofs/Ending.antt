@@ -92,7 +92,7 @@ deed-starts (repeat e) k o = by-starts k (evaluate e o)
 deed-starts sequence k o = refl
 deed-starts flow k o = refl
 deed-starts pick k o = refl
-deed-starts (scope u) k o = refl
+deed-starts (scope xs u) k o = refl
 deed-starts (arm x y vs) k o = refl
 
 either-starts : (b : Bool) (x y z : List Event) → z ≡ elim b [ true ↦ x | false ↦ y ] → some isStart x ≡ false → some isStart y ≡ false → some isStart z ≡ false

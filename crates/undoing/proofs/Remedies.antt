@@ -84,6 +84,12 @@ nth-ends (nth-here r q) w z = quiet-join z (quiet-agree q (agree-above w (omega 
 nth-ends (nth-later {i} {a} {l} {c} q r) w z = quiet-join (quiet-agree q (agree-below w (part-from i l (c + size a)))) (nth-ends r w z) refl
 
 -- the others are quiet
+pub nth-first : {ms : List ℕ} {i : ℕ} {a : Act} {l : Acts} {c : ℕ} → Nth ms (suc i) (more a l) c → Quiet ms c (size a)
+nth-first (nth-later q r) = q
+
+pub nth-rest : {ms : List ℕ} {i : ℕ} {a : Act} {l : Acts} {c : ℕ} → Nth ms (suc i) (more a l) c → Nth ms i l (c + size a)
+nth-rest (nth-later q r) = r
+
 pub nth-below : {ms : List ℕ} {i : ℕ} {l : Acts} {c : ℕ} → Nth ms i l c → (j : ℕ) → c ≤ j → j < partAt i l c → getD ms j 0 ≡ 0
 unfolding partAt
 nth-below (nth-here r q) j h e = absurd (omega arith)

@@ -204,7 +204,7 @@ unfoldable pub StoppedTold : Type 0
 StoppedTold = Always (λ p o past. isLive o ≡ true → every (isStopped o) (scopesOf p) ≡ true)
 
 -- STEPS TO COME. In a live order whatever is marked has something in it that awaits its step. With GoingOn, by which a scope that undoes has one undo part that
--- runs, one that handles its fault part, and one that waits an inner scope, each of these has a step to come in the part that it runs.
+-- runs, one that handles the fault part that it chose, and one that waits an inner scope, each of these has a step to come in the part that it runs.
 unfoldable pub hasNext : Plan → Order → (activity : ℕ) → Bool
 hasNext p o k = eqb (markAt k o) idle || some (λ r. isStep (r .step) && (leb k (r .activity) && ltb (r .activity) (k + size (actAt p k)))) (readyOf p o)
 
@@ -223,7 +223,7 @@ AwaitedTold =
     (bytes : List ℕ) (p : Plan) (next : ℕ) → readPlan bytes ≡ found p next → (calls : List Call) (slot : ℕ) (t : Tally) →
     every (isAwaited p) (stepsTaken p calls slot (loaded bytes) t) ≡ true
 
--- LEFT TO FINISH. "an inner scope already faulted, undoing or handling is left to finish": in the body and in the fault part of a scope in which the step does not
+-- LEFT TO FINISH. "an inner scope already faulted, undoing or handling is left to finish": in the body and in the fault parts of a scope in which the step does not
 -- stand nothing begins, unless that scope itself begins or is stopped with it. Of a scope with no undo part this is said of its body as a whole and of its fault part:
 -- an undo part within its body may have been handed on, and then a scope further out begins it. (Whatever else stands within a body begins with it, or with a step in
 -- it: BegunInTurn.)

@@ -196,7 +196,7 @@ StepsTold =
 -- FAULTS. "A raise in a body faults the nearest scope around it."; "A raise inside the undo parts or fault part that a scope is running ends that
 -- scope, forgets the rest of its list, and faults the scope around it."; "A fault that reaches a scope already stopped or faulted is absorbed."
 
--- Where an activity stands: in the body of a scope, in its fault part, or in an undo part that it may run. With the scope goes, where it has no undo part, the
+-- Where an activity stands: in the body of a scope, in one of its fault parts, or in an undo part that it may run. With the scope goes, where it has no undo part, the
 -- one around it, to which it hands on, and so on (`beyond`); and last the scope around the last of these (the root's is the root itself).
 pub data Place : Type 0 where
   bodyOf : (scope : Name) → (beyond : List Name) → (around : Name) → Place
@@ -515,7 +515,7 @@ NeverStuck = Always (λ p o past. isLive o ≡ true → some (λ r. isStep (r .s
 
 -- GOING ON. In a live order a scope that waits has one running directly inside it; one that undoes has an undo part of its own to run running, that of one
 -- directly inside it or inside one there that has no undo part and is not left running; never more than one; and no scope but one that undoes has any; one that
--- handles has something running in its fault part.
+-- handles has something running in the fault part that it chose.
 
 -- 1 where the undo part of a scope, the last of these, runs, and 0 where not
 unfoldable pub undoRuns : (numbers : List ℕ) → Acts → (c : ℕ) → (marks : List ℕ) → ℕ

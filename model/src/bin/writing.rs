@@ -317,8 +317,8 @@ fn damage(random: &mut Random, table: &mut Vec<u32>) {
                 &[10, 1],
                 &[13, 16],
                 &[13, 256],
-                &[14, 1, 16],
-                &[14, 2, 0, 255],
+                &[14],
+                &[255],
             ];
             let one = rows::row(rows[random.below(rows.len())]);
             table[at * PLACES..(at + 1) * PLACES].copy_from_slice(&one);
@@ -364,18 +364,17 @@ fn damage(random: &mut Random, table: &mut Vec<u32>) {
             }
             table[at * PLACES..(at + 1) * PLACES].copy_from_slice(&one);
         }
-        // Another number of a scope with fault parts by number, or another count.
+        // Another number in a row that has one: a code, a count of fault parts by number, or the number of one.
         14 => {
-            let scopes: Vec<usize> = (1..count)
+            let alone: Vec<usize> = (1..count)
                 .map(|row| row * PLACES)
-                .filter(|&row| table[row + 1] == 14 && table[row] > 2)
+                .filter(|&row| table[row] == 1)
                 .collect();
-            if let Some(last) = scopes.len().checked_sub(1) {
-                let row = scopes[random.below(last + 1)];
-                let place = row + 2 + random.below(table[row].min(10) as usize - 1);
-                let telling = [0, 1, 4, 5, 8, 9, 15, 16, 255, 256];
-                table[place] = match random.below(3) {
-                    0 => table[row + 3],
+            if let Some(last) = alone.len().checked_sub(1) {
+                let row = alone[random.below(last + 1)];
+                let telling = [0, 1, 4, 5, 8, 9, 14, 15, 16, 255, 256];
+                table[row + 1] = match random.below(3) {
+                    0 => table[alone[random.below(last + 1)] + 1],
                     _ => telling[random.below(telling.len())],
                 };
             }

@@ -1,6 +1,5 @@
 -- `plan::table::write_numbers` meets its contract. Assumes nothing.
 use borrow.Author.Needs.{needs}
-use mathlib.Core.Path.{refl}
 use native.Mathlib.Nat.{add-zero}
 use Rattle.plan.specs.Store.{store}
 use Rattle.plan.specs.Table.{noted, putRow}
