@@ -2,23 +2,23 @@
 use Prim.Native.Nat.{ℕ, zero, suc, _+_, _≤_, _<_}
 use native.Mathlib.Omega.{arith}
 use mathlib.Core.Path.{_≡_, refl, sym, ap, subst, _∙_}
-use mathlib.Core.Bool.{Bool, true, false, cond, not, _&&_, _||_, false≢true, or-true}
+use mathlib.Core.Bool.{Bool, true, false, cond, _||_, false≢true, or-true}
 use mathlib.Core.List.{List, [], _∷_, _++_}
 use lib.ListN.{length, getD, set, length-set}
 use lib.Seq.{getD-set-same, getD-set-other}
-use lib.Dec.{eqb, ltb, leb}
+use lib.Dec.{eqb, ltb}
 use borrow.Author.Tests.{eqb-true, eqb-false, ltb-true, ltb-false}
 use Rattle.plan.specs.Tree.{Own, kind, isScope, hasUndo, Act, act, Acts, none, more, Plan, size, sizes, count, scope, numbersOf, generalPart, undoPart}
 use Rattle.order.specs.declared.Order.{Order}
 use Rattle.order.specs.Lists.{some}
-use Rattle.order.specs.State.{Name, root, inner, idle, undoing, handling, halted, withdrawing, faulty, active, done, markAt, marked, markOf, marking, stateOf, choiceOf, going}
+use Rattle.order.specs.State.{Name, idle, undoing, handling, halted, withdrawing, faulty, active, done, markAt, marked, markOf, marking, stateOf, choiceOf, going}
 use Rattle.order.specs.Event.{Event, stopped}
-use Rattle.order.specs.Begin.{Begun, nothingBegun, begin, beginInTurn, beginAfter, part, partAt, beginPart}
+use Rattle.order.specs.Begin.{Begun, nothingBegun, begin, part, partAt, beginPart}
 use Rattle.order.specs.declared.Way.{Way as Result}
 use Rattle.order.specs.declared.Way.the-variants.{Running as running, Over as over, Raising as raising, Leaving as leaving, Undone as undone, UndoRaising as undoRaising}
-use Rattle.order.specs.Scope.{Outcome, runs, begunIn, whereOver, Scope, scopeAt, chosenPart, chosenAt, isOpen, innerRuns, beginUndo, beginUndoFirst, beginUndoIn, startUndo, undo, ends, handle, undoes, turns, rememberedFor, untouched, withdraws, stop, stopAll, stopFirst, faults, breaks, looksAgain, bodyOver, bodyRaised, undoOver, undoRaised, fromBody, partOver, partRaised, fromFault}
+use Rattle.order.specs.Scope.{Outcome, runs, begunIn, whereOver, Scope, scopeAt, chosenPart, chosenAt, isOpen, innerRuns, beginUndo, beginUndoFirst, beginUndoIn, startUndo, undo, ends, handle, undoes, turns, rememberedFor, withdraws, stop, stopAll, breaks, looksAgain, bodyOver, undoOver, undoRaised, partOver, partRaised, fromFault}
 use Rattle.order.specs.Scope as definitions
-use Rattle.undoing.specs.Ties.{Place, bodyOf, nameOf, placeOf, isTurned}
+use Rattle.undoing.specs.Ties.{Place, nameOf, placeOf, isTurned}
 use Rattle.undoing.specs.Orderly.{isBeganOf}
 use Rattle.undoing.specs.Begun.{hasBegan}
 use Rattle.undoing.specs.Entirely.{isUndo, times}
@@ -32,9 +32,9 @@ use Rattle.undoing.proofs.Remedies.{part-from, part-to, undoer}
 use Rattle.undoing.proofs.Healing.{undo-there, undo-all, undo-turned}
 use Rattle.undoing.proofs.Lasting.{part-knows, KnowsEach, each-knows}
 use Rattle.undoing.proofs.Seats.{mark-kept}
-use Rattle.undoing.proofs.Stopping.{Stops, stop-is, stops, stops-all}
+use Rattle.undoing.proofs.Stopping.{stop-is, stops}
 use Rattle.undoing.proofs.Truly.{began-in, Arms, Knows, knows, KnowsIn, knows-none, knows-more}
-use Rattle.undoing.proofs.Entire.{Named, begin-starts, turn-starts}
+use Rattle.undoing.proofs.Entire.{Named, begin-starts}
 use Rattle.undoing.proofs.Entering.{scope-undo, scope-general}
 use Rattle.undoing.proofs.Upright.{waits-is, undoes-is, heals-is}
 

@@ -2,55 +2,54 @@
 use Prim.Native.Nat.{ℕ, zero, suc, _+_, _≤_, _<_}
 use native.Mathlib.Omega.{arith}
 use mathlib.Core.Path.{_≡_, refl, sym, ap, subst, _∙_}
-use mathlib.Core.Bool.{Bool, true, false, cond, not, _&&_, _||_, false≢true, or-true}
+use mathlib.Core.Bool.{Bool, true, false, cond, not, _&&_, _||_, false≢true}
 use mathlib.Core.List.{List, [], _∷_, _++_}
-use lib.ListN.{length, getD, set}
+use lib.ListN.{length, getD}
 use lib.Seq.{getD-set-other}
-use lib.Dec.{eqb, ltb, leb}
+use lib.Dec.{eqb, ltb}
 use borrow.Author.Tests.{eqb-true, eqb-false, eq-eqb, ne-eqb, ltb-true, ltb-false, lt-ltb, le-ltb}
 use Rattle.plan.specs.Tree.{Own, empty, send, receive, set as setting, raise, leave, choose, repeat, sequence, flow, pick, scope, arm, kind, isScope, isPick, Act, act, Acts, none, more, Plan, size, sizes, count, generalPart, undoPart}
 use Rattle.order.specs.declared.Order.{Order}
 use Rattle.order.specs.Lists.{some}
-use Rattle.order.specs.State.{Name, root, inner, idle, active, inside, faulty, halted, done, undoing, withdrawing, stateIn, markAt, marked, markOf, marking}
+use Rattle.order.specs.State.{Name, inner, idle, active, inside, faulty, halted, done, undoing, withdrawing, stateIn, markAt, markOf, marking}
 use Rattle.order.specs.Event.{Event, faulted}
-use Rattle.order.specs.Begin.{Begun, begin, beginInTurn, beginAfter, part, partAt, quiet}
+use Rattle.order.specs.Begin.{Begun, beginInTurn, beginAfter, part, partAt, quiet}
 use Rattle.order.specs.declared.Way.{Way as Result}
 use Rattle.order.specs.declared.Way.the-variants.{Running as running, Over as over, Raising as raising, Leaving as leaving, Undone as undone, UndoRaising as undoRaising}
-use Rattle.order.specs.Scope.{Outcome, runs, after, begunIn, whereOver, Scope, scopeAt, chosenPart, choiceFor, rootOf, isOpen, innerRuns, innerRunsIn, turns, stop, faults, looksAgain, bodyOver, bodyRaised, undoOver, undoRaised, fromBody, fromFault, fromUndo, closing}
+use Rattle.order.specs.Scope.{Outcome, runs, begunIn, whereOver, Scope, scopeAt, chosenPart, choiceFor, isOpen, innerRuns, innerRunsIn, turns, stop, faults, looksAgain, bodyOver, bodyRaised, undoOver, undoRaised, fromBody, fromFault, fromUndo, closing}
 use Rattle.order.specs.Acting.{finishes, again, itself, isPart, arms, goesOn, joins, combines, stepIn, stepAmong, Actor, performs}
 use Rattle.order.specs.Taking.{actIn, actAmong, actAt}
 use Rattle.machine.specs.Fit.{awaits}
 use Rattle.undoing.specs.Demand3.{Inner, scopesOf}
-use Rattle.undoing.specs.Ties.{Place, bodyOf, faultOf, undoOf, nameOf, beyondOf, lastOf, placeOf, isTurned}
+use Rattle.undoing.specs.Ties.{Place, bodyOf, undoOf, nameOf, beyondOf, lastOf, placeOf, isTurned}
 use Rattle.undoing.specs.Orderly.{isBeganOf}
-use Rattle.undoing.specs.Begun.{hasBegan}
 use Rattle.undoing.specs.Standing.{choiceOn}
-use Rattle.undoing.specs.Entirely.{isUndo, times, isRash}
+use Rattle.undoing.specs.Entirely.{isUndo, isRash}
 use Rattle.undoing.proofs.Causing.{caused, caused-mark, chosenMark, faults-is}
 use Rattle.undoing.proofs.Parts.{decide, one-some}
-use Rattle.undoing.proofs.Accounts.{Phase, live, waits, heals, phase, phase-faulty}
+use Rattle.undoing.proofs.Accounts.{Phase, waits, heals, phase, phase-faulty}
 use Rattle.undoing.proofs.Places.{first-of, second-of}
 use Rattle.undoing.proofs.Moves.{Spot, runnerAt}
-use Rattle.undoing.proofs.Marks.{trio, spread, Agree, Quiet, Kept, Run, run-awaits, run-one, run-all, run-body, run-done, run-turned, One, one-here, one-later, All, all-run, all-quiet, Nth, Turned, turned-waits, turned-undoes, turned-heals, Stopped, stopped-part, stopped-quiet, stopped-scope, StoppedIn, stopped-more, Stoppable, stoppable-agree, Undoing, undoing-part, undoing-scope, undoing-through, UndoingIn, undoing-here, undoing-later, quiet-part, quiet-join, agree-above, agree-below, stopped-agree, stopped-in-agree, turned-not-open, turned-not-rest, not-open, holding}
-use Rattle.undoing.proofs.Orders.{Fit, innerAt, Sits, sits-part, sits-scope, SitsIn, sits-none, sits-more, Remedy, remedy, Healers, heals-by, heals-all, Rest, rest-undo, rest-none}
+use Rattle.undoing.proofs.Marks.{trio, Agree, Quiet, Run, run-awaits, run-one, run-all, run-body, run-done, run-turned, One, one-here, one-later, All, all-run, all-quiet, Nth, Turned, turned-waits, turned-undoes, turned-heals, Stopped, stopped-part, stopped-quiet, stopped-scope, StoppedIn, stopped-more, Stoppable, stoppable-agree, Undoing, undoing-part, undoing-scope, undoing-through, UndoingIn, undoing-here, undoing-later, quiet-part, agree-above, agree-below, stopped-agree, stopped-in-agree, turned-not-open, turned-not-rest, not-open}
+use Rattle.undoing.proofs.Orders.{Fit, innerAt, Sits, sits-part, sits-scope, SitsIn, sits-more, Remedy, remedy, Healers, heals-by, heals-all, Rest, rest-undo, rest-none}
 use Rattle.undoing.proofs.Seats.{Seat, mark-kept, marking-mark, marking-agree, marking-length, inner-is, stopped-rests, stopped-rests-in}
 use Rattle.undoing.proofs.Choices.{general-is}
 use Rattle.undoing.proofs.Remedies.{part-from, part-to, nth-there, nth-run, undoer, chosenOn}
-use Rattle.undoing.proofs.Healing.{choice-least, undo-turned}
+use Rattle.undoing.proofs.Healing.{other-mark, choice-least, undo-turned}
 use Rattle.undoing.proofs.Stopping.{seat-of}
-use Rattle.undoing.proofs.Waiting.{opens, Waits, waits-itself, waits-within, WaitsIn, waits-first, waits-later, waits-from, waits-in-from, opens-idle, quiet-waits, quiet-waits-in, nth-waits, undoing-waits, stopped-waits}
+use Rattle.undoing.proofs.Waiting.{opens, Waits, waits-itself, waits-within, WaitsIn, waits-first, waits-later, opens-idle, quiet-waits, quiet-waits-in, nth-waits, undoing-waits, stopped-waits}
 use Rattle.undoing.proofs.Scoping.{Acted, RunAs, StopAs, UndoAs, undoes-mark}
 use Rattle.undoing.proofs.Combining.{arms-held, arms-none, Idly, idly-same, idly-runs, combines-idly}
-use Rattle.undoing.proofs.Stepping.{PartOf, through-is, awake-first, plain-performs, steps, steps-one, steps-all, steps-stopped, steps-stopped-in, steps-undoing, steps-undoing-in, steps-part, held-itself, opens-held, stopped-part-not, undoing-part-not, body-step, fault-step, undo-step, Whole, Its}
-use Rattle.undoing.proofs.Truly.{Up, Stay, no-pick, Arms, Knows, knows, KnowsIn, knows-none, knows-more}
-use Rattle.undoing.proofs.Lasting.{isRaising, part-knows, KnowsEach, each-knows}
+use Rattle.undoing.proofs.Stepping.{PartOf, through-is, awake-first, plain-performs, steps, steps-all, steps-stopped, steps-stopped-in, steps-undoing, steps-undoing-in, steps-part, held-itself, opens-held, stopped-part-not, undoing-part-not, body-step, fault-step, undo-step, Whole, Its}
+use Rattle.undoing.proofs.Truly.{no-pick, Arms, Knows, knows, KnowsIn, knows-more}
+use Rattle.undoing.proofs.Lasting.{isRaising, KnowsEach, each-knows}
 use Rattle.undoing.proofs.Entire.{Named, turn-starts}
 use Rattle.undoing.proofs.Entering.{scope-general, step-at}
-use Rattle.undoing.proofs.Shapes.{isMild, Mild, mild-runs, mild-finishes, mild-again, mild-joins, mild-follows}
+use Rattle.undoing.proofs.Shapes.{isMild, Mild, mild-finishes, mild-again, mild-joins, mild-follows}
 use Rattle.undoing.proofs.Coming.{in-here, in-within, in-first, in-later}
 use Rattle.undoing.proofs.Single.{looks-none, looks-still}
 use Rattle.undoing.proofs.Dropping.{isBad, Wane, Drops, step-drops, body-has, fault-has, combines-has, calmer, not-bad}
-use Rattle.undoing.proofs.Afresh.{New, new-idle, new-again, News, quiet-news, news-part, Fresh, fresh-none, fresh-append, fresh-event, fresh-range, Calm, calm-part, calm-undo, calm-through, CalmIn, calm-more, quiet-calm, quiet-calm-in, run-calm, stopped-calm, fresh-where, fresh-either, fresh-runs, turns-fresh, looks-fresh, over-fresh, undone-fresh, undo-raised-fresh, fault-fresh, Opened, stop-fresh, Excuse, Excused, NamedEach, NewsEach, each-named}
+use Rattle.undoing.proofs.Afresh.{New, new-idle, new-again, News, quiet-news, Fresh, fresh-none, fresh-append, fresh-event, fresh-range, Calm, calm-part, calm-undo, calm-through, CalmIn, calm-more, quiet-calm, quiet-calm-in, run-calm, stopped-calm, fresh-where, fresh-either, fresh-runs, turns-fresh, looks-fresh, over-fresh, undone-fresh, undo-raised-fresh, fault-fresh, stop-fresh, Excused, NamedEach, NewsEach, each-named}
 
 abbrev log-of : Outcome → List Event
 log-of o = o .log
@@ -60,10 +59,6 @@ result-of o = o .result
 
 abbrev marks-of : Outcome → List ℕ
 marks-of o = o .order .marks
-
--- a mark of one phase is none of another
-pub other-mark : (m v : ℕ) (q : Phase) → phase m ≡ q → (phase v ≡ q → ⊥) → eqb m v ≡ false
-other-mark m v q e f = decide (eqb m v) (λ t. absurd (f (ap phase (sym (eqb-true m v t)) ∙ e))) (λ t. t)
 
 -- one that undoes has not faulted and waits no more
 pub not-faulty : (m : ℕ) (z : Bool) → phase m ≡ Phase.undoes z → eqb (stateIn m) faulty ≡ false

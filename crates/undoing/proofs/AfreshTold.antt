@@ -1,49 +1,38 @@
 -- What begins was idle before, over any run; and so what lasts begins at most once, also in the step that starts an order. Assumes nothing.
-use Prim.Native.Nat.{ℕ, _+_, _≤_, _<_}
+use Prim.Native.Nat.{ℕ, _+_, _≤_}
 use native.Mathlib.Omega.{arith}
 use mathlib.Core.Path.{_≡_, refl, sym, ap, subst, _∙_}
-use mathlib.Core.Bool.{Bool, true, false, cond, not, _&&_, _||_, false≢true, or-true}
+use mathlib.Core.Bool.{true, false, _&&_, _||_, or-true}
 use mathlib.Core.List.{List, [], _∷_, _++_}
 use lib.ListN.{length, getD}
-use lib.Dec.{eqb, ltb, leb}
-use borrow.Author.Tests.{lt-ltb, le-ltb, le-leb, ltb-true, ltb-false}
-use Rattle.plan.specs.Found.{Found, found}
-use Rattle.plan.specs.Read.{readPlan}
-use Rattle.plan.specs.Tree.{Act, act, Acts, none, more, Plan, size, sizes}
-use Rattle.plan.proofs.Limits.{accepted-is-within}
+use lib.Dec.{eqb, ltb}
+use borrow.Author.Tests.{lt-ltb, le-ltb, le-leb}
+use Rattle.plan.specs.Tree.{none, more, Plan, size}
 use Rattle.order.specs.declared.Order.{Order}
 use Rattle.order.specs.declared.End.{End}
 use Rattle.order.specs.declared.End.the-variants.{None, Well, Handled, Failed, Left}
-use Rattle.machine.specs.declared.Message.{Message}
-use Rattle.machine.specs.declared.State.{State}
-use Rattle.machine.specs.declared.Tally.{Tally}
-use Rattle.order.specs.Lists.{every, some}
-use Rattle.order.specs.State.{Name, root, idle, markOf, isLive, noOrder}
-use Rattle.machine.specs.State.{fresh}
-use Rattle.order.specs.Event.{Event, started, ended}
+use Rattle.order.specs.Lists.{some}
+use Rattle.order.specs.State.{Name, root, idle, markOf, isLive}
+use Rattle.order.specs.Event.{started, ended}
 use Rattle.order.specs.Scope.{chosenPart, Outcome, rootOf, fromBody, fromFault}
 use Rattle.order.specs.Acting.{stepIn, stepRoot, endOf, movedTo, begunOrder, startedOrder, Actor, itsOwn, acted}
 use Rattle.undoing.proofs.EachTime.{time, OfTimes, OfStarts, each-time}
-use Rattle.order.specs.Taking.{actIn, actAmong, actAt}
-use Rattle.machine.specs.Calls.{loadedAs, load, post, collect, Stepped, doingAt, step, Call, posting, collecting, stepping}
-use Rattle.undoing.specs.History.{logOf}
-use Rattle.undoing.specs.Ties.{isTaken, placeOf}
+use Rattle.order.specs.Taking.{actAmong, actAt}
+use Rattle.undoing.specs.Ties.{placeOf}
 use Rattle.undoing.specs.Orderly.{isBeganOf}
-use Rattle.undoing.specs.Begun.{kindAt, hasBegan, Taken, markBefore, takenBy, stepsTaken}
+use Rattle.undoing.specs.Begun.{kindAt, hasBegan, Taken}
 use Rattle.undoing.specs.Entirely.{ofAll, isUndo, standsIn, isRash, mayBeHandedOn, isAfresh, BegunAfresh}
-use Rattle.undoing.proofs.Parts.{decide, every-append, some-append}
+use Rattle.undoing.proofs.Parts.{decide, some-append}
 use Rattle.undoing.proofs.Accounts.{phase}
 use Rattle.undoing.proofs.Marks.{turned-waits, turned-undoes, turned-heals}
-use Rattle.undoing.proofs.Orders.{onto}
 use Rattle.undoing.proofs.Places.{first-of, second-of}
-use Rattle.undoing.proofs.Planning.{Promised, promised}
+use Rattle.undoing.proofs.Planning.{Promised}
 use Rattle.undoing.proofs.Waiting.{quiet-waits}
 use Rattle.undoing.proofs.Scoping.{scope-live, scope-done, scope-turned, Running}
 use Rattle.undoing.proofs.Stepping.{awake-first, steps, steps-stopped, steps-undoing}
 use Rattle.undoing.proofs.Roots.{root-fault, choice-none, Awaited, in-body, in-fault, Standing}
-use Rattle.undoing.proofs.Slots.{standing-live, Alike, taking-alike, alike-awaited, alike-stands, order-starts}
-use Rattle.undoing.proofs.Happening.{orderIn, withMessage, Happens, nothing-here, goes-here, starts-here, step-happens}
-use Rattle.undoing.proofs.Demanded.{step-after}
+use Rattle.undoing.proofs.Slots.{standing-live, alike-awaited, alike-stands}
+use Rattle.undoing.proofs.Happening.{withMessage}
 use Rattle.undoing.proofs.Truly.{Knows}
 use Rattle.undoing.proofs.Entire.{Named}
 use Rattle.undoing.proofs.BegunTold.{body-knows, fault-knows}

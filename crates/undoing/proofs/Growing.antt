@@ -2,19 +2,19 @@
 use Prim.Native.Nat.{ℕ, zero, suc, _+_, _≤_, _<_}
 use native.Mathlib.Omega.{arith}
 use mathlib.Core.Path.{_≡_, refl, sym, ap, subst, _∙_}
-use mathlib.Core.Bool.{Bool, true, false, cond, _&&_, _||_, false≢true}
-use mathlib.Core.List.{List, [], _∷_, _++_}
-use lib.ListN.{length, getD, set, length-set}
+use mathlib.Core.Bool.{Bool, true, false, cond, _&&_, false≢true}
+use mathlib.Core.List.{List, [], _∷_}
+use lib.ListN.{length, getD, length-set}
 use lib.Seq.{getD-set-same}
 use lib.Dec.{eqb, ltb}
 use borrow.Author.Tests.{eqb-true, eqb-false, ltb-true, ltb-false}
-use Rattle.plan.specs.Tree.{Own, empty, send, receive, set as setting, raise, leave, choose, repeat, sequence, flow, pick, scope, arm, kind, isScope, isPick, Act, act, Acts, none, more, Plan, size, sizes, count, undoPart}
+use Rattle.plan.specs.Tree.{Own, empty, send, receive, set as setting, raise, leave, choose, repeat, sequence, flow, pick, scope, arm, kind, isScope, isPick, Act, act, Acts, more, Plan, size, sizes, count, undoPart}
 use Rattle.order.specs.declared.Order.{Order}
 use Rattle.order.specs.Lists.{some}
 use Rattle.order.specs.State.{idle, active, inside, withMarks, marked, markAt, binding}
 use Rattle.order.specs.Event.{Event}
 use Rattle.order.specs.Expression.{conflictingReceive, Value, fault, value, evaluate, isTrue}
-use Rattle.order.specs.Begin.{Begun, part, partAt, beginPart, beginAfter, cleared}
+use Rattle.order.specs.Begin.{partAt, beginPart, beginAfter, cleared}
 use Rattle.order.specs.declared.Way.{Way as Result}
 use Rattle.order.specs.declared.Way.the-variants.{Running as running, Over as over, Raising as raising, Leaving as leaving, Undone as undone, UndoRaising as undoRaising}
 use Rattle.order.specs.Scope.{Outcome, runs, begunIn, whereOver, Scope, scopeAt, closing, fromBody, fromFault, goesThrough, fromUndo}
@@ -26,8 +26,8 @@ use Rattle.undoing.proofs.Parts.{both, decide}
 use Rattle.undoing.proofs.Orders.{least}
 use Rattle.undoing.proofs.Places.{first-of, second-of}
 use Rattle.undoing.proofs.Breaking.{cleared-kept}
-use Rattle.undoing.proofs.Truly.{Up, up-other, scope-kind, no-pick, Arms, needs, Knows, knows, KnowsIn, knows-none, knows-more}
-use Rattle.undoing.proofs.Lasting.{part-began, goes-where, goes-begun, finishes-goes, Goes, Within, looks-goes, over-goes, undone-goes, part-goes, scope-needs, scope-within}
+use Rattle.undoing.proofs.Truly.{Up, up-other, scope-kind, no-pick, needs, Knows, knows, KnowsIn, knows-none, knows-more}
+use Rattle.undoing.proofs.Lasting.{part-began, goes-where, goes-begun, finishes-goes, Within, looks-goes, over-goes, undone-goes, part-goes, scope-needs, scope-within}
 use Rattle.undoing.proofs.Keeping.{again-goes, joins-goes, follows-goes}
 use Rattle.undoing.proofs.Keeping as keeping
 use Rattle.undoing.proofs.Dropping.{isBad, among-drops, combines-has, calmer, not-bad}

@@ -6,21 +6,12 @@ use mathlib.Core.Bool.{Bool, true, false, cond, not, _&&_, _||_, false≢true, o
 use mathlib.Core.List.{List, [], _∷_, _++_}
 use lib.ListN.{length, getD}
 use lib.Dec.{eqb, ltb, leb}
-use borrow.Author.Tests.{eqb-true, eqb-false, eq-eqb, lt-ltb, le-ltb, le-leb, leb-true, ltb-true, ltb-false}
-use Rattle.plan.specs.Found.{Found, found}
-use Rattle.plan.specs.Read.{readPlan}
-use Rattle.plan.specs.Tree.{Own, kind, Act, act, Acts, none, more, Plan, size, sizes}
-use Rattle.plan.proofs.Limits.{accepted-is-within}
+use borrow.Author.Tests.{eqb-true, eq-eqb, lt-ltb, le-ltb, le-leb, ltb-true, ltb-false}
+use Rattle.plan.specs.Tree.{Own, kind, Act, Acts, none, more, Plan, size, sizes}
 use Rattle.order.specs.declared.Order.{Order}
-use Rattle.order.specs.declared.End.{End}
-use Rattle.order.specs.declared.End.the-variants.{None, Well, Handled, Failed, Left}
-use Rattle.machine.specs.declared.Message.{Message}
-use Rattle.machine.specs.declared.State.{State}
-use Rattle.machine.specs.declared.Tally.{Tally}
-use Rattle.order.specs.Lists.{every, some}
+use Rattle.order.specs.declared.End.the-variants.{None, Well}
+use Rattle.order.specs.Lists.{some}
 use Rattle.order.specs.State.{Name, root, idle, done, halted, withdrawing, markAt, markOf, isLive, noOrder}
-use Rattle.machine.specs.State.{fresh}
-use Rattle.machine.specs.Limits.{rootInLimits}
 use Rattle.order.specs.Event.{Event, started, ended}
 use Rattle.order.specs.Begin.{quiet}
 use Rattle.order.specs.declared.Way.{Way as Result}
@@ -31,29 +22,26 @@ use Rattle.undoing.proofs.EachTime.{time, OfTimes, OfStarts, each-time}
 use Rattle.undoing.proofs.Judged.{root-mild}
 use Rattle.undoing.proofs.Moves.{HoldsAt}
 use Rattle.order.specs.Taking.{actAmong, actAt}
-use Rattle.machine.specs.Calls.{loadedAs, load, post, collect, Stepped, doingAt, step, Call, posting, collecting, stepping}
-use Rattle.undoing.specs.History.{logOf}
-use Rattle.undoing.specs.Ties.{isTaken}
+use Rattle.machine.specs.Calls.{doingAt}
 use Rattle.undoing.specs.Orderly.{isBeganOf}
-use Rattle.undoing.specs.Begun.{kindAt, lasts, hasBegan, Taken, takenBy, stepsTaken}
-use Rattle.undoing.specs.Entirely.{ofAll, isRash, standsIn}
-use Rattle.undoing.specs.Onward.{hadBy, standsUnder, mayBeOver, isKept, KeptRunning, laterBegan, goesOn, passesIn, passesAmong, isPassed, PassedOn}
-use Rattle.undoing.proofs.Parts.{both, decide, every-append, some-append}
+use Rattle.undoing.specs.Begun.{kindAt, lasts, hasBegan, Taken}
+use Rattle.undoing.specs.Entirely.{ofAll, isRash}
+use Rattle.undoing.specs.Onward.{hadBy, standsUnder, mayBeOver, isKept, KeptRunning, goesOn, passesIn, passesAmong, isPassed, PassedOn}
+use Rattle.undoing.proofs.Parts.{decide, some-append}
 use Rattle.undoing.proofs.Accounts.{phase}
 use Rattle.undoing.proofs.Marks.{Quiet, turned-waits, turned-undoes, turned-heals, turned-not-open}
 use Rattle.undoing.proofs.Orders.{momentOf, onto}
 use Rattle.undoing.proofs.Places.{first-of, second-of}
 use Rattle.undoing.proofs.Combining.{quiet-found}
-use Rattle.undoing.proofs.Planning.{Promised, promised}
-use Rattle.undoing.proofs.Waiting.{Waits, quiet-waits, waits-from}
+use Rattle.undoing.proofs.Planning.{Promised}
+use Rattle.undoing.proofs.Waiting.{quiet-waits}
 use Rattle.undoing.proofs.Scoping.{scope-live, scope-done, scope-turned, Running, StepsAs}
 use Rattle.undoing.proofs.Scoping as scoping
 use Rattle.undoing.proofs.Stepping.{awake-first, steps, steps-stopped, steps-undoing}
 use Rattle.undoing.proofs.Roots.{Awaited, in-body, in-fault, Standing}
 use Rattle.undoing.proofs.Roots as roots
 use Rattle.undoing.proofs.Slots.{standing-live, Alike, taking-alike, alike-awaited, alike-stands, alike-holds, order-starts}
-use Rattle.undoing.proofs.Happening.{orderIn, withMessage, Happens, nothing-here, goes-here, starts-here, step-happens}
-use Rattle.undoing.proofs.Demanded.{step-after}
+use Rattle.undoing.proofs.Happening.{withMessage}
 use Rattle.undoing.proofs.Truly.{Up, Knows}
 use Rattle.undoing.proofs.Lasting.{KnowsEach, Within}
 use Rattle.undoing.proofs.Keeping as keeping
@@ -63,10 +51,10 @@ use Rattle.undoing.proofs.NearTold.{awaited-to}
 use Rattle.undoing.proofs.Coming.{in-first, in-later}
 use Rattle.undoing.proofs.Choices.{root-chosen}
 use Rattle.undoing.proofs.Healing.{only-runs, one-quiet}
-use Rattle.undoing.proofs.Dropping.{isBad, Drops, step-drops, root-drops, body-has, fault-has, calmer, not-bad}
+use Rattle.undoing.proofs.Dropping.{isBad, step-drops, root-drops, body-has, fault-has, calmer, not-bad}
 use Rattle.undoing.proofs.AfreshSteps.{Stood}
 use Rattle.undoing.proofs.Growing.{body-grows, fault-grows, step-grows}
-use Rattle.undoing.proofs.Passing.{Onward, on-later, on-lives, Thru, thru-here, thru-in, ThruIn, thru-first, thru-later, Passes, thru-map, thru-in-map, later-more, live-passes, waits-passes, undoes-passes, fault-passes, thru-run, thru-stopped, thru-undoing, thru-part}
+use Rattle.undoing.proofs.Passing.{Onward, on-later, on-lives, Thru, thru-here, thru-in, ThruIn, thru-first, thru-later, Passes, thru-map, later-more, live-passes, waits-passes, undoes-passes, fault-passes, thru-run, thru-stopped, thru-undoing, thru-part}
 
 -- a log without its last, or without its first
 calm-front : (l m : List Event) → some isRash (l ++ m) ≡ false → some isRash l ≡ false

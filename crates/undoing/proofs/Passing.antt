@@ -2,22 +2,22 @@
 use Prim.Native.Nat.{ℕ, zero, suc, _+_, _≤_, _<_}
 use native.Mathlib.Omega.{arith}
 use mathlib.Core.Path.{_≡_, refl, sym, ap, subst, _∙_}
-use mathlib.Core.Bool.{Bool, true, false, cond, not, _&&_, _||_, false≢true, or-true}
+use mathlib.Core.Bool.{Bool, true, false, cond, _&&_, false≢true, or-true}
 use mathlib.Core.List.{List, [], _∷_, _++_}
 use lib.ListN.{length, getD}
 use lib.Dec.{eqb, ltb}
-use borrow.Author.Tests.{eqb-true, eqb-false, lt-ltb, le-ltb, ltb-true, ltb-false}
-use Rattle.plan.specs.Tree.{Own, empty, send, receive, set as setting, raise, leave, choose, repeat, sequence, flow, pick, scope, arm, kind, isScope, isPick, Act, act, Acts, none, more, Plan, size, sizes, count, generalPart, undoPart}
+use borrow.Author.Tests.{eqb-true}
+use Rattle.plan.specs.Tree.{Own, empty, send, receive, set as setting, raise, leave, choose, repeat, sequence, flow, pick, scope, arm, kind, isScope, Act, act, Acts, none, more, Plan, size, sizes, count, generalPart, undoPart}
 use Rattle.order.specs.declared.Order.{Order}
 use Rattle.order.specs.Lists.{some}
-use Rattle.order.specs.State.{Name, root, inner, idle, active, inside, done, faulty, halted, markAt, markOf, marking}
+use Rattle.order.specs.State.{Name, inner, idle, active, done, halted, markAt, markOf, marking}
 use Rattle.order.specs.Event.{Event}
 use Rattle.order.specs.Begin.{Begun, inTurn, begin, beginInTurn, beginAfter, part, partAt}
 use Rattle.order.specs.declared.Way.{Way as Result}
 use Rattle.order.specs.declared.Way.the-variants.{Running as running, Over as over, Raising as raising, Leaving as leaving, Undone as undone, UndoRaising as undoRaising}
 use Rattle.order.specs.Scope.{Outcome, runs, begunIn, whereOver, Scope, scopeAt, innerRuns, looksAgain, bodyOver, fromBody, fromFault, fromUndo}
-use Rattle.order.specs.Acting.{finishes, goesOn, combines, stepIn, stepAmong, isPart, Actor, performs}
-use Rattle.undoing.specs.Ties.{Place, bodyOf, faultOf, undoOf, nameOf, beyondOf, lastOf}
+use Rattle.order.specs.Acting.{finishes, goesOn, combines, stepIn, stepAmong, isPart, Actor}
+use Rattle.undoing.specs.Ties.{Place, bodyOf, undoOf, nameOf, beyondOf, lastOf}
 use Rattle.undoing.specs.Orderly.{isBeganOf}
 use Rattle.undoing.specs.Begun.{lasts, isScopeKind, hasBegan}
 use Rattle.undoing.specs.Standing.{choiceOn}
@@ -32,22 +32,21 @@ use Rattle.undoing.proofs.Moves.{runnerAt}
 use Rattle.undoing.proofs.Seats.{Seat, mark-kept, stopped-rests}
 use Rattle.undoing.proofs.Choices.{general-is}
 use Rattle.undoing.proofs.Remedies.{part-from, part-to, nth-there, nth-run}
-use Rattle.undoing.proofs.Healing.{choice-least}
+use Rattle.undoing.proofs.Healing.{other-mark, choice-least}
 use Rattle.undoing.proofs.Stopping.{seat-of}
-use Rattle.undoing.proofs.Waiting.{opens, Waits, waits-itself, waits-within, WaitsIn, waits-first, waits-later, waits-from, opens-idle, quiet-waits, quiet-waits-in, nth-waits, stopped-waits, undoing-waits}
+use Rattle.undoing.proofs.Waiting.{opens, Waits, waits-itself, waits-within, WaitsIn, waits-first, waits-later, opens-idle, quiet-waits, quiet-waits-in, nth-waits}
 use Rattle.undoing.proofs.Scoping.{Acted, RunAs, StopAs, UndoAs}
 use Rattle.undoing.proofs.Combining.{arms-held, arms-none}
-use Rattle.undoing.proofs.Stepping.{PartOf, through-is, awake-first, steps, steps-one, steps-all, steps-stopped, steps-stopped-in, steps-undoing, steps-undoing-in, steps-part, opens-held, stopped-part-not, undoing-part-not, body-step, fault-step, undo-step, Whole, Its}
+use Rattle.undoing.proofs.Stepping.{PartOf, through-is, awake-first, steps, steps-stopped, steps-stopped-in, steps-undoing, steps-undoing-in, steps-part, opens-held, stopped-part-not, undoing-part-not, body-step, fault-step, undo-step, Whole, Its}
 use Rattle.undoing.proofs.Truly.{Up, scope-kind, no-pick, Arms, Knows, knows, KnowsIn, knows-none, knows-more}
 use Rattle.undoing.proofs.Lasting.{part-knows, Within, scope-needs, scope-within}
 use Rattle.undoing.proofs.Keeping.{begins-said}
 use Rattle.undoing.proofs.Keeping as keeping
-use Rattle.undoing.proofs.Entire.{Named}
 use Rattle.undoing.proofs.Entering.{step-at}
 use Rattle.undoing.proofs.Single.{looks-none, looks-still}
 use Rattle.undoing.proofs.Dropping.{isBad, step-drops, among-drops, body-has, fault-has, combines-has, calmer, not-bad}
-use Rattle.undoing.proofs.Afresh.{began-times, Fresh, New, new-idle, new-again, fault-fresh, fresh-append}
-use Rattle.undoing.proofs.AfreshSteps.{other-mark, not-faulty, isOver, isUndone, its-own, its-within, its-first, its-later, after-fresh, combines-fresh, arms-of}
+use Rattle.undoing.proofs.Afresh.{began-times, Fresh, New, new-idle, new-again, fault-fresh}
+use Rattle.undoing.proofs.AfreshSteps.{not-faulty, isOver, isUndone, its-within, its-first, its-later, after-fresh, combines-fresh, arms-of}
 use Rattle.undoing.proofs.Growing.{body-grows, fault-grows, combines-grows}
 
 -- More events: what had begun has.

@@ -1,5 +1,5 @@
 -- A live order stands as its plan's shape asks, after any run. Assumes nothing.
-use Prim.Native.Nat.{ℕ, zero, suc, _+_, _-_, _≤_, _<_}
+use Prim.Native.Nat.{ℕ, zero, suc, _+_, _-_, _≤_}
 use native.Mathlib.Omega.{arith}
 use mathlib.Core.Path.{_≡_, refl, sym, ap, subst, _∙_}
 use mathlib.Core.Bool.{Bool, true, false, cond, not, _&&_, _||_, false≢true, or-true}
@@ -10,7 +10,7 @@ use borrow.Author.Tests.{eq-eqb, ne-eqb}
 use Rattle.plan.specs.Tree.{Own, empty, send, receive, set as setting, raise, leave, choose, repeat, sequence, flow, pick, scope, arm, kind, isScope, hasUndo, numbersOf, Act, act, Acts, none, more, Plan, size, sizes, count}
 use Rattle.order.specs.declared.Order.{Order}
 use Rattle.order.specs.Event.{Event}
-use Rattle.order.specs.State.{idle, active, inside, done, faulty, undoing, handling, halted, withdrawing, stateIn, isLive}
+use Rattle.order.specs.State.{idle, active, done, faulty, undoing, handling, halted, withdrawing, stateIn, isLive}
 use Rattle.order.specs.Begin.{quiet}
 use Rattle.order.specs.Scope.{isOpen, innerRuns, rootOf}
 use Rattle.undoing.specs.Standing.{isDoing, holdingOf, runsIn, oneRuns, allRun, scopeRuns, turnedRuns, onlyRuns, choiceOn, stoppedIn, stoppedAll, undoingIn, undoingOne, undoingFirst, lastRuns, stands, Stands}
