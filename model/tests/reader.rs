@@ -332,15 +332,15 @@ fn scopes_with_fault_parts_by_number_as_text() {
         with(&["    fault part 16: raise", "    leave", "    empty"]),
         bytes(&[14, 0, 1, 16, 4, 5, 0])
     );
-    // A number against its rule, or twice, or nine of them: refused at the scope.
-    for more in [
-        &["    fault part 5: raise"][..],
-        &["    fault part 256: raise"],
-        &["    fault part 16: raise", "    fault part 16: raise"],
-        &["    fault part 16: raise"; 9],
-        &["    fault part 16: raise"; 30],
+    // A number against its rule, or twice: refused at its line. Too many of them: at the first.
+    for (more, line) in [
+        (&["    fault part 5: raise"][..], 6),
+        (&["    fault part 256: raise"], 6),
+        (&["    fault part 16: raise", "    fault part 16: raise"], 7),
+        (&["    fault part 16: raise"; 9], 6),
+        (&["    fault part 16: raise"; 30], 6),
     ] {
-        assert_eq!(parts(more), Err(Wrong::Refused(5, 4)));
+        assert_eq!(parts(more), Err(Wrong::Refused(5, line)));
     }
     // The general fault part and the undo part are there, in this order, and the last.
     assert_eq!(

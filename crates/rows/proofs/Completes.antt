@@ -332,8 +332,11 @@ module _ (vars : ℕ) (cs t : List ℕ) where
   parts-read (y ∷ ns) (more b l) each known depth n r m many room h f a (cons w x) =
       both (actWithin vars cs true false b depth) _ h (λ u v. both (namable y) _ f (λ g f1. both (not (among y ns)) _ f1 (λ i j.
       let s = stands-split t (actRows b) (actsRows (rows.alone ns) l) x in
-      rw (number-read known w g (apart-first true known ns y a), each .0 false true depth n (r + 1) (s .m) (omega arith) u (s .first),
-      parts-read ns l (each .1) (y ∷ known) depth (n + size b) (s .m) m (omega arith) (omega arith) v j (apart-more known ns y a (not-true _ i)) (s .second)))))
+      rw (
+        number-read known w g (apart-first true known ns y a),
+        each .0 false true depth n (r + 1) (s .m) (omega arith) u (s .first),
+        parts-read ns l (each .1) (y ∷ known) depth (n + size b) (s .m) m (omega arith) (omega arith) v j (apart-more known ns y a (not-true _ i)) (s .second),
+      ))))
 
   numbered-read : (number : ℕ) (numbers : List ℕ) (undo : Bool) (l : Acts) → ReadsEach l → (handler : Bool) (d n r m : ℕ) → n + (1 + sizes l) ≤ 256
       → ownWithin vars cs handler false (scope (number ∷ numbers) undo) (count l) ≡ true → actsWithin vars cs handler true false l d ≡ true
@@ -348,8 +351,12 @@ module _ (vars : ℕ) (cs t : List ℕ) where
       both (actWithin vars cs handler false b d) _ k (λ u v.
       let parts : count l ≡ length (y ∷ ns) + 2 = omega (arith, eqb-true (count (more b l)) (length (y ∷ ns) + 3) e) in
       let s = scope-split (y ∷ ns) b l (rw (scope-rows (y ∷ ns) b l (omega arith) parts) at x) in
-      rw (scope-read vars cs t handler d n (omega arith) (s .code) (not-true handler g), each .0 false handler d (n + 1) (r + 1) (s .m) (omega arith) u (s .body),
-      count-read (s .many) (rw (le-leb 1 (length (y ∷ ns)) (omega arith), i)), parts-read (y ∷ ns) l (each .1) [] d (n + 1 + size b) (s .m + 1) m parts (omega arith) v j (λ w o. refl) (s .parts))))))
+      rw (
+        scope-read vars cs t handler d n (omega arith) (s .code) (not-true handler g),
+        each .0 false handler d (n + 1) (r + 1) (s .m) (omega arith) u (s .body),
+        count-read (s .many) (rw (le-leb 1 (length (y ∷ ns)) (omega arith), i)),
+        parts-read (y ∷ ns) l (each .1) [] d (n + 1 + size b) (s .m + 1) m parts (omega arith) v j (λ w o. refl) (s .parts),
+      )))))
 
   plain-read : (own : Own) (l : Acts) → numbersOf own ≡ [] → ReadsEach l → (handler : Bool) (d n r m : ℕ) → n + (1 + sizes l) ≤ 256
       → ownWithin vars cs handler false own (count l) ≡ true → actsWithin vars cs handler (laterOf own handler) (isPick own) l d ≡ true
@@ -358,8 +365,10 @@ module _ (vars : ℕ) (cs t : List ℕ) where
   plain-read own l e each handler d n r m room a b x =
       let y : Stands t r (ownRows own (count l) ++ actsRows [] l) m = rw e at x in
       let s = stands-split t (ownRows own (count l)) (actsRows [] l) y in
-      rw (own-read vars cs t handler d n (omega arith) own (count l) e a (s .first),
-      many-read l each (isPick own) handler (laterOf own handler) d (n + 1) (s .m) m (omega arith) b (s .second))
+      rw (
+        own-read vars cs t handler d n (omega arith) own (count l) e a (s .first),
+        many-read l each (isPick own) handler (laterOf own handler) d (n + 1) (s .m) m (omega arith) b (s .second),
+      )
 
   any-read : (own : Own) → ByNumber own → (l : Acts) → ReadsEach l → (handler : Bool) (d n r m : ℕ) → n + (1 + sizes l) ≤ 256
       → ownWithin vars cs handler false own (count l) ≡ true → actsWithin vars cs handler (laterOf own handler) (isPick own) l d ≡ true

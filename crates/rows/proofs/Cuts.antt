@@ -188,7 +188,7 @@ module _ (s t : List ℕ) where
   cut-expression k (binary o a b) due at l c =
       let from = at + length (spell (operationCode o ∷ [])) in
       let q : at + long ((operationCode o ∷ []) ∷ (expressionRows a ++ expressionRows b)) ≡ from + long (expressionRows a) + long (expressionRows b) =
-          omega (arith, long-more (operationCode o ∷ []) (expressionRows a ++ expressionRows b), long-append (expressionRows a) (expressionRows b)) in
+      omega (arith, long-more (operationCode o ∷ []) (expressionRows a ++ expressionRows b), long-append (expressionRows a) (expressionRows b)) in
       cut-more k (suc due) at k (suc (suc due)) (operationCode o ∷ []) ((expressionRows a ++ expressionRows b) ++ l)
       (λ e h m. operation-next k due at (operationCode o) _ (operation-large o) e m)
       (rw (append-assoc (expressionRows a) (expressionRows b) l)
@@ -310,7 +310,7 @@ module _ (s t : List ℕ) where
         let first : Spells a from n m t = rw i at (x .first) in
         let rest = rw (i, j) at (x .rest) in
         let q : at + long (rows.alone (gap gs) ++ (actRows a ++ actsRows (later gs) w)) ≡ near + long (actsRows (later gs) w) =
-            omega (arith, long-append (rows.alone (gap gs)) (actRows a ++ actsRows (later gs) w), long-append (actRows a) (actsRows (later gs) w)) in
+        omega (arith, long-append (rows.alone (gap gs)) (actRows a ++ actsRows (later gs) w), long-append (actRows a) (actsRows (later gs) w)) in
         rw (append-assoc (rows.alone (gap gs)) (actRows a ++ actsRows (later gs) w) l, append-assoc (actRows a) (actsRows (later gs) w) l)
         (cut-alone (gap gs) n at _ (act-place a from n m (omega arith) first)
         (cut-act a from n m (actsRows (later gs) w ++ l) (omega arith) first (cut-acts (later gs) w near (n + size a) _ l (omega arith) rest (cut-there _ _ _ q (rw z at c)))))
@@ -405,16 +405,27 @@ mutual
       → length (actRows a) ≡ size a + nodes a + betweenOf a
   act-rows vars cs handler arms (act own l) depth h =
       both (arms || ltb 0 depth) _ h (λ a h1. both (ownWithin vars cs handler arms own (count l)) _ h1 (λ b c.
-      omega (arith, length-append (ownRows own (count l)) (actsRows (gapsOf (numbersOf own)) l), own-rows own (count l),
-      acts-rows vars cs handler _ _ (gapsOf (numbersOf own)) l _ c, enough vars cs handler arms own l b)))
+      omega (
+        arith,
+        length-append (ownRows own (count l)) (actsRows (gapsOf (numbersOf own)) l),
+        own-rows own (count l),
+        acts-rows vars cs handler _ _ (gapsOf (numbersOf own)) l _ c,
+        enough vars cs handler arms own l b,
+      )))
 
   acts-rows : (vars : ℕ) (cs : List ℕ) (handler later arms : Bool) (gs : List (List ℕ)) (l : Acts) (depth : ℕ) → actsWithin vars cs handler later arms l depth ≡ true
       → length (actsRows gs l) ≡ sizes l + nodesAll l + betweenAll l + before gs l
   acts-rows vars cs handler after arms gs none depth h = refl
   acts-rows vars cs handler after arms gs (more a l) depth h =
       both (actWithin vars cs handler arms a depth) _ h (λ b c.
-      omega (arith, length-append (rows.alone (gap gs)) (actRows a ++ actsRows (later gs) l), length-append (actRows a) (actsRows (later gs) l), alone-long (gap gs),
-      act-rows vars cs handler arms a depth b, acts-rows vars cs after after arms (later gs) l depth c))
+      omega (
+        arith,
+        length-append (rows.alone (gap gs)) (actRows a ++ actsRows (later gs) l),
+        length-append (actRows a) (actsRows (later gs) l),
+        alone-long (gap gs),
+        act-rows vars cs handler arms a depth b,
+        acts-rows vars cs after after arms (later gs) l depth c,
+      ))
 
 -- what the table says of them
 between-append : (m n : ℕ) (t : List ℕ) (k : ℕ) → betweenIn (m + n) t k ≡ betweenIn m t k + betweenIn n t (k + m)
@@ -472,8 +483,13 @@ mutual
   acts-spread vars cs handler after arms gs none depth h = omega arith
   acts-spread vars cs handler after arms gs (more a l) depth h =
       both (actWithin vars cs handler arms a depth) _ h (λ b c.
-      omega (arith, length-append (gap gs) (actNumbers a ++ actsNumbers (later gs) l), length-append (actNumbers a) (actsNumbers (later gs) l),
-      act-spread vars cs handler arms a depth b, acts-spread vars cs after after arms (later gs) l depth c))
+      omega (
+        arith,
+        length-append (gap gs) (actNumbers a ++ actsNumbers (later gs) l),
+        length-append (actNumbers a) (actsNumbers (later gs) l),
+        act-spread vars cs handler arms a depth b,
+        acts-spread vars cs after after arms (later gs) l depth c,
+      ))
 
 -- No number of a plan within the limits has more than 32 bits.
 
@@ -647,8 +663,12 @@ module _ (p : Plan) (l : Limits p) where
   pub rows-many : length (planRows p) ≡ size (p .body) + size (p .fault) + (nodes (p .body) + nodes (p .fault)) + (betweenOf (p .body) + betweenOf (p .fault)) + 1
   unfolding planRows
   rows-many =
-      omega (arith, length-append (actRows (p .body)) (actRows (p .fault)), act-rows (p .variables) (p .correlation) false false (p .body) 16 (l .body),
-      act-rows (p .variables) (p .correlation) true false (p .fault) 16 (l .fault))
+      omega (
+        arith,
+        length-append (actRows (p .body)) (actRows (p .fault)),
+        act-rows (p .variables) (p .correlation) false false (p .body) 16 (l .body),
+        act-rows (p .variables) (p .correlation) true false (p .fault) 16 (l .fault),
+      )
 
   -- the numbers between parts, by the table; and they are no more than the bytes
   pub plan-between : (t : List ℕ) → SpellsPlan p t → betweenIn (size (p .body) + size (p .fault)) t 0 ≡ betweenOf (p .body) + betweenOf (p .fault)
@@ -658,9 +678,10 @@ module _ (p : Plan) (l : Limits p) where
       rw e (acts-between t [] (more (p .body) (more (p .fault) none)) (bodyPlace p) 0 0 (omega (arith, l .room)) x ∙ omega arith)
 
   pub between-few : (betweenOf (p .body) ≤ length (spell (actNumbers (p .body)))) × (betweenOf (p .fault) ≤ length (spell (actNumbers (p .fault))))
-  between-few =
-      (omega (arith, act-spread (p .variables) (p .correlation) false false (p .body) 16 (l .body), spell-long (actNumbers (p .body))),
-      omega (arith, act-spread (p .variables) (p .correlation) true false (p .fault) 16 (l .fault), spell-long (actNumbers (p .fault))))
+  between-few = (
+    omega (arith, act-spread (p .variables) (p .correlation) false false (p .body) 16 (l .body), spell-long (actNumbers (p .body))),
+    omega (arith, act-spread (p .variables) (p .correlation) true false (p .fault) 16 (l .fault), spell-long (actNumbers (p .fault))),
+  )
 
   pub table-long : length (rowsOf p) ≡ length (planRows p) * 20
   unfolding rowsOf

@@ -177,8 +177,15 @@ module _ (t : List ℕ) (words : Words t) where
         (λ body p b. finds-then (count-stands t p)
         (λ m q f. finds-then (finds-both (node-numbered depth vars cs t m [] (n + 1 + size body) q) (numbered-within depth (actAt depth vars cs t) k m [] (n + 1 + size body) q))
         (λ c next w. finds-found
-        (rw (lt-ltb 0 (suc depth) (omega arith), eq-eqb (1 + count (c .parts)) (length (c .numbers) + 3) (omega (arith, w .0 .many, w .0 .parts)), e,
-        numbers-allowed (c .numbers) (omega (arith, w .0 .many, f .few)) (w .1 .each), sub-one (suc depth), b, w .1 .parts)))))
+        (rw (
+          lt-ltb 0 (suc depth) (omega arith),
+          eq-eqb (1 + count (c .parts)) (length (c .numbers) + 3) (omega (arith, w .0 .many, w .0 .parts)),
+          e,
+          numbers-allowed (c .numbers) (omega (arith, w .0 .many, f .few)) (w .1 .each),
+          sub-one (suc depth),
+          b,
+          w .1 .parts,
+        )))))
 
     arm-act-within : (depth : ℕ) (read : Bool → ℕ → ℕ → Found Act) → Keeps false depth read → Keeps true depth (armWith read vars t)
     unfolding armWith actWithin

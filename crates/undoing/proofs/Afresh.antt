@@ -2,23 +2,23 @@
 use Prim.Native.Nat.{ℕ, zero, suc, _+_, _≤_, _<_}
 use native.Mathlib.Omega.{arith}
 use mathlib.Core.Path.{_≡_, refl, sym, ap, subst, _∙_}
-use mathlib.Core.Bool.{Bool, true, false, cond, not, _&&_, _||_, false≢true, or-true}
+use mathlib.Core.Bool.{Bool, true, false, cond, _||_, false≢true, or-true}
 use mathlib.Core.List.{List, [], _∷_, _++_}
 use lib.ListN.{length, getD, set, length-set}
 use lib.Seq.{getD-set-same, getD-set-other}
-use lib.Dec.{eqb, ltb, leb}
+use lib.Dec.{eqb, ltb}
 use borrow.Author.Tests.{eqb-true, eqb-false, ltb-true, ltb-false}
 use Rattle.plan.specs.Tree.{Own, kind, isScope, hasUndo, Act, act, Acts, none, more, Plan, size, sizes, count, scope, numbersOf, generalPart, undoPart}
 use Rattle.order.specs.declared.Order.{Order}
 use Rattle.order.specs.Lists.{some}
-use Rattle.order.specs.State.{Name, root, inner, idle, undoing, handling, halted, withdrawing, faulty, active, done, markAt, marked, markOf, marking, stateOf, choiceOf, going}
+use Rattle.order.specs.State.{Name, idle, undoing, handling, halted, withdrawing, faulty, active, done, markAt, marked, markOf, marking, stateOf, choiceOf, going}
 use Rattle.order.specs.Event.{Event, stopped}
-use Rattle.order.specs.Begin.{Begun, nothingBegun, begin, beginInTurn, beginAfter, part, partAt, beginPart}
+use Rattle.order.specs.Begin.{Begun, nothingBegun, begin, part, partAt, beginPart}
 use Rattle.order.specs.declared.Way.{Way as Result}
 use Rattle.order.specs.declared.Way.the-variants.{Running as running, Over as over, Raising as raising, Leaving as leaving, Undone as undone, UndoRaising as undoRaising}
-use Rattle.order.specs.Scope.{Outcome, runs, begunIn, whereOver, Scope, scopeAt, chosenPart, chosenAt, isOpen, innerRuns, beginUndo, beginUndoFirst, beginUndoIn, startUndo, undo, ends, handle, undoes, turns, rememberedFor, untouched, withdraws, stop, stopAll, stopFirst, faults, breaks, looksAgain, bodyOver, bodyRaised, undoOver, undoRaised, fromBody, partOver, partRaised, fromFault}
+use Rattle.order.specs.Scope.{Outcome, runs, begunIn, whereOver, Scope, scopeAt, chosenPart, chosenAt, isOpen, innerRuns, beginUndo, beginUndoFirst, beginUndoIn, startUndo, undo, ends, handle, undoes, turns, rememberedFor, withdraws, stop, stopAll, breaks, looksAgain, bodyOver, undoOver, undoRaised, partOver, partRaised, fromFault}
 use Rattle.order.specs.Scope as definitions
-use Rattle.undoing.specs.Ties.{Place, bodyOf, nameOf, placeOf, isTurned}
+use Rattle.undoing.specs.Ties.{Place, nameOf, placeOf, isTurned}
 use Rattle.undoing.specs.Orderly.{isBeganOf}
 use Rattle.undoing.specs.Begun.{hasBegan}
 use Rattle.undoing.specs.Entirely.{isUndo, times}
@@ -27,15 +27,15 @@ use Rattle.undoing.proofs.Accounts.{waits, phase, Known}
 use Rattle.undoing.proofs.Places.{first-of, second-of}
 use Rattle.undoing.proofs.Marks.{trio, Agree, Quiet, Run, run-awaits, run-one, run-all, run-body, run-done, run-turned, One, one-here, one-later, All, all-none, all-run, all-quiet, Turned, turned-waits, turned-undoes, turned-heals, Stopped, stopped-part, stopped-quiet, stopped-scope, StoppedIn, stopped-none, stopped-more, Stoppable, StoppableIn, able-more, quiet-part, agree-above, stoppable-agree, stoppable-in-agree, parts-stoppable, Found, found-quiet, found-open, found-turned, scope-found, turned-not-open, kept-set}
 use Rattle.undoing.proofs.Orders.{before-of, innerAt, Sits, sits-part, sits-scope, SitsIn, sits-none, sits-more, Remedy, remedy}
-use Rattle.undoing.proofs.Choices.{chosen-each, general-there}
-use Rattle.undoing.proofs.Choices as choices
+use Rattle.undoing.proofs.Choices.{chosen-each}
 use Rattle.undoing.proofs.Remedies.{part-from, part-to, undoer}
 use Rattle.undoing.proofs.Healing.{undo-there, undo-all, undo-turned}
 use Rattle.undoing.proofs.Lasting.{part-knows, KnowsEach, each-knows}
 use Rattle.undoing.proofs.Seats.{mark-kept}
-use Rattle.undoing.proofs.Stopping.{Stops, stop-is, stops, stops-all}
+use Rattle.undoing.proofs.Stopping.{stop-is, stops}
 use Rattle.undoing.proofs.Truly.{began-in, Arms, Knows, knows, KnowsIn, knows-none, knows-more}
-use Rattle.undoing.proofs.Entire.{Named, begin-starts, turn-starts}
+use Rattle.undoing.proofs.Entire.{Named, begin-starts}
+use Rattle.undoing.proofs.Entering.{scope-undo, scope-general}
 use Rattle.undoing.proofs.Upright.{waits-is, undoes-is, heals-is}
 
 -- what began did so at least once
@@ -148,7 +148,7 @@ module _ (p : Plan) (f : ℕ → ℕ) (A : ℕ → Type 0) (ms : List ℕ) where
     excuse-calm (sits-scope {xs} {v = true} {b = b} {f} {u} {k} kn d i sb y) q =
         let lo = part-from (generalPart xs) (more f u) (k + 1 + size b) in
         let hi = part-to (generalPart xs) (more f u) (k + 1 + size b) (undo-there y refl) in
-        calm-undo {l = more f u} (record { at = λ j x z. new-again (q .at j (omega arith) (omega arith) (remedy-undo (undoer y) refl j x z)) })
+        calm-undo {xs = xs} {b = b} {l = more f u} {k = k} (record { at = λ j x z. new-again (q .at j (omega arith) (omega arith) (remedy-undo (undoer y) refl j x z)) })
         (λ e. excuse-calm sb (excuse-part q (omega arith) (omega arith)))
     excuse-calm (sits-scope {v = false} kn d i sb y) q = calm-through (excuse-calm sb (excuse-part q (omega arith) (omega arith)))
 
@@ -242,7 +242,7 @@ module _ (p : Plan) (f : ℕ → ℕ) (A : ℕ → Type 0) (ms : List ℕ) where
         (sym (second-of (isScope own) (cond (hasUndo own) (cond (eqb k e) (beginPart (undoPart (numbersOf own)) within (k + 1) ns) (nothingBegun ns)) (beginUndoFirst within (k + 1) e ns)) (beginUndoIn within (k + 1) e ns) (beginUndo (act own within) k e ns) refl s))
         (undo-in-fresh c y e ns)
     undo-fresh (calm-undo {xs} {b} {l} {k} w c) (knows x n r (knows-more kb kl)) e ns =
-        let h = choices.undo-there (scope xs true) (count (more b l)) refl n in
+        let h = scope-undo (scope xs true) (more b l) refl refl n in
         cond-fresh (eqb k e) (beginPart (undoPart xs) (more b l) (k + 1) ns) (nothingBegun ns)
         (begin-fresh (part-knows f kl (generalPart xs) (omega arith)) (part-named (more b l) r (undoPart xs) h) w ns) (none-begun ns)
     undo-fresh (calm-through c) (knows x n r (knows-more kb y)) e ns = undo-fresh c kb e ns
@@ -404,11 +404,11 @@ module _ (p : Plan) (f : ℕ → ℕ) (A : ℕ → Type 0) (ms : List ℕ) where
     stop-fresh (sits-part s g v y l) (knows e n r z) (calm-through c) o w t m h = absurd (false≢true (sym s))
     stop-fresh (sits-scope kn v i sb e) (knows d n r z) (calm-part s c) o w t m h = absurd (false≢true (sym s))
     stop-fresh (sits-scope {xs} {v = true} {b = b} {f = g} {u = u} {k = k} kn v i sb e) (knows d n₁ r (knows-more kb kl)) (calm-undo q c₁) o w t m h =
-        scope-fresh xs true b g u k o kb (each-knows f xs k (general-there (scope xs true) (count (trio b g u)) n₁) (knows-more kb kl)) (each-named xs k (trio b g u) r (general-there (scope xs true) (count (trio b g u)) n₁)) c₁ h (scope-found t)
+        scope-fresh xs true b g u k o kb (each-knows f xs k (scope-general (scope xs true) (trio b g u) refl n₁) (knows-more kb kl)) (each-named xs k (trio b g u) r (scope-general (scope xs true) (trio b g u) refl n₁)) c₁ h (scope-found t)
         (λ c₂ a. stop-fresh sb kb c₂ (marked k halted o) (ap phase (getD-set-same (o .marks) k halted 0 (omega arith))) (stoppable-agree a (agree-set k halted (o .marks) (omega arith)))
         (omega (arith, length-set (o .marks) k halted)) (opened-agree (opened-part h (omega arith) (omega arith)) (agree-set k halted (o .marks) (omega arith))))
     stop-fresh (sits-scope {xs} {v = false} {b = b} {f = g} {u = u} {k = k} kn v i sb e) (knows d n₁ r (knows-more kb kl)) (calm-through c₁) o w t m h =
-        scope-fresh xs false b g u k o kb (each-knows f xs k (general-there (scope xs false) (count (trio b g u)) n₁) (knows-more kb kl)) (each-named xs k (trio b g u) r (general-there (scope xs false) (count (trio b g u)) n₁)) (λ z. c₁) h (scope-found t)
+        scope-fresh xs false b g u k o kb (each-knows f xs k (scope-general (scope xs false) (trio b g u) refl n₁) (knows-more kb kl)) (each-named xs k (trio b g u) r (scope-general (scope xs false) (trio b g u) refl n₁)) (λ z. c₁) h (scope-found t)
         (λ c₂ a. stop-fresh sb kb c₂ (marked k halted o) (ap phase (getD-set-same (o .marks) k halted 0 (omega arith))) (stoppable-agree a (agree-set k halted (o .marks) (omega arith)))
         (omega (arith, length-set (o .marks) k halted)) (opened-agree (opened-part h (omega arith) (omega arith)) (agree-set k halted (o .marks) (omega arith))))
 

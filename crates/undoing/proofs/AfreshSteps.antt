@@ -2,51 +2,54 @@
 use Prim.Native.Nat.{ℕ, zero, suc, _+_, _≤_, _<_}
 use native.Mathlib.Omega.{arith}
 use mathlib.Core.Path.{_≡_, refl, sym, ap, subst, _∙_}
-use mathlib.Core.Bool.{Bool, true, false, cond, not, _&&_, _||_, false≢true, or-true}
+use mathlib.Core.Bool.{Bool, true, false, cond, not, _&&_, _||_, false≢true}
 use mathlib.Core.List.{List, [], _∷_, _++_}
-use lib.ListN.{length, getD, set}
+use lib.ListN.{length, getD}
 use lib.Seq.{getD-set-other}
-use lib.Dec.{eqb, ltb, leb}
+use lib.Dec.{eqb, ltb}
 use borrow.Author.Tests.{eqb-true, eqb-false, eq-eqb, ne-eqb, ltb-true, ltb-false, lt-ltb, le-ltb}
-use Rattle.plan.specs.Tree.{Own, empty, send, receive, set as setting, raise, leave, choose, repeat, sequence, flow, pick, scope, arm, kind, isScope, isPick, Act, act, Acts, none, more, Plan, size, sizes, count}
+use Rattle.plan.specs.Tree.{Own, empty, send, receive, set as setting, raise, leave, choose, repeat, sequence, flow, pick, scope, arm, kind, isScope, isPick, Act, act, Acts, none, more, Plan, size, sizes, count, generalPart, undoPart}
 use Rattle.order.specs.declared.Order.{Order}
 use Rattle.order.specs.Lists.{some}
-use Rattle.order.specs.State.{Name, root, inner, idle, active, inside, faulty, halted, done, undoing, withdrawing, markAt, marked, markOf, marking}
+use Rattle.order.specs.State.{Name, inner, idle, active, inside, faulty, halted, done, undoing, withdrawing, stateIn, markAt, markOf, marking}
 use Rattle.order.specs.Event.{Event, faulted}
-use Rattle.order.specs.Begin.{Begun, begin, beginInTurn, beginAfter, part, partAt, quiet}
+use Rattle.order.specs.Begin.{Begun, beginInTurn, beginAfter, part, partAt, quiet}
 use Rattle.order.specs.declared.Way.{Way as Result}
 use Rattle.order.specs.declared.Way.the-variants.{Running as running, Over as over, Raising as raising, Leaving as leaving, Undone as undone, UndoRaising as undoRaising}
-use Rattle.order.specs.Scope.{Outcome, runs, after, begunIn, whereOver, Scope, scopeAt, rootOf, isOpen, innerRuns, innerRunsIn, turns, stop, faults, looksAgain, bodyOver, bodyRaised, undoOver, undoRaised, fromBody, fromFault, fromUndo, closing}
+use Rattle.order.specs.Scope.{Outcome, runs, begunIn, whereOver, Scope, scopeAt, chosenPart, choiceFor, isOpen, innerRuns, innerRunsIn, turns, stop, faults, looksAgain, bodyOver, bodyRaised, undoOver, undoRaised, fromBody, fromFault, fromUndo, closing}
 use Rattle.order.specs.Acting.{finishes, again, itself, isPart, arms, goesOn, joins, combines, stepIn, stepAmong, Actor, performs}
 use Rattle.order.specs.Taking.{actIn, actAmong, actAt}
 use Rattle.machine.specs.Fit.{awaits}
 use Rattle.undoing.specs.Demand3.{Inner, scopesOf}
-use Rattle.undoing.specs.Ties.{Place, bodyOf, faultOf, undoOf, nameOf, beyondOf, lastOf, placeOf, isTurned}
+use Rattle.undoing.specs.Ties.{Place, bodyOf, undoOf, nameOf, beyondOf, lastOf, placeOf, isTurned}
 use Rattle.undoing.specs.Orderly.{isBeganOf}
-use Rattle.undoing.specs.Begun.{hasBegan}
-use Rattle.undoing.specs.Entirely.{isUndo, times, isRash}
-use Rattle.undoing.proofs.Causing.{caused, caused-mark, faults-is}
+use Rattle.undoing.specs.Standing.{choiceOn}
+use Rattle.undoing.specs.Entirely.{isUndo, isRash}
+use Rattle.undoing.proofs.Causing.{caused, caused-mark, chosenMark, faults-is}
 use Rattle.undoing.proofs.Parts.{decide, one-some}
-use Rattle.undoing.proofs.Accounts.{Phase, live, waits, heals, phase}
+use Rattle.undoing.proofs.Accounts.{Phase, waits, heals, phase, phase-faulty}
 use Rattle.undoing.proofs.Places.{first-of, second-of}
 use Rattle.undoing.proofs.Moves.{Spot, runnerAt}
-use Rattle.undoing.proofs.Marks.{trio, spread, Agree, Quiet, Kept, Run, run-awaits, run-one, run-all, run-body, run-done, run-turned, One, one-here, one-later, All, all-run, all-quiet, Turned, turned-waits, turned-undoes, turned-heals, Stopped, stopped-part, stopped-quiet, stopped-scope, StoppedIn, stopped-more, Stoppable, stoppable-agree, Undoing, undoing-part, undoing-scope, undoing-through, UndoingIn, undoing-here, undoing-later, quiet-part, quiet-join, agree-above, agree-below, stopped-agree, stopped-in-agree, turned-not-open, turned-not-rest, not-open, holding}
-use Rattle.undoing.proofs.Orders.{Fit, innerAt, Sits, sits-part, sits-scope, SitsIn, sits-none, sits-more, Remedy, remedy, Rest, rest-undo, rest-none}
+use Rattle.undoing.proofs.Marks.{trio, Agree, Quiet, Run, run-awaits, run-one, run-all, run-body, run-done, run-turned, One, one-here, one-later, All, all-run, all-quiet, Nth, Turned, turned-waits, turned-undoes, turned-heals, Stopped, stopped-part, stopped-quiet, stopped-scope, StoppedIn, stopped-more, Stoppable, stoppable-agree, Undoing, undoing-part, undoing-scope, undoing-through, UndoingIn, undoing-here, undoing-later, quiet-part, agree-above, agree-below, stopped-agree, stopped-in-agree, turned-not-open, turned-not-rest, not-open}
+use Rattle.undoing.proofs.Orders.{Fit, innerAt, Sits, sits-part, sits-scope, SitsIn, sits-more, Remedy, remedy, Healers, heals-by, heals-all, Rest, rest-undo, rest-none}
 use Rattle.undoing.proofs.Seats.{Seat, mark-kept, marking-mark, marking-agree, marking-length, inner-is, stopped-rests, stopped-rests-in}
+use Rattle.undoing.proofs.Choices.{general-is}
+use Rattle.undoing.proofs.Remedies.{part-from, part-to, nth-there, nth-run, undoer, chosenOn}
+use Rattle.undoing.proofs.Healing.{other-mark, choice-least, undo-turned}
 use Rattle.undoing.proofs.Stopping.{seat-of}
-use Rattle.undoing.proofs.Waiting.{opens, Waits, waits-itself, waits-within, WaitsIn, waits-first, waits-later, waits-from, waits-in-from, opens-idle, quiet-waits, quiet-waits-in, undoing-waits, stopped-waits}
-use Rattle.undoing.proofs.Scoping.{Acted, RunAs, StopAs, UndoAs}
+use Rattle.undoing.proofs.Waiting.{opens, Waits, waits-itself, waits-within, WaitsIn, waits-first, waits-later, opens-idle, quiet-waits, quiet-waits-in, nth-waits, undoing-waits, stopped-waits}
+use Rattle.undoing.proofs.Scoping.{Acted, RunAs, StopAs, UndoAs, undoes-mark}
 use Rattle.undoing.proofs.Combining.{arms-held, arms-none, Idly, idly-same, idly-runs, combines-idly}
-use Rattle.undoing.proofs.Stepping.{PartOf, through-is, awake-first, plain-performs, steps, steps-one, steps-all, steps-stopped, steps-stopped-in, steps-undoing, steps-undoing-in, steps-part, held-itself, opens-held, stopped-part-not, undoing-part-not, body-step, fault-step, undo-step, Whole, Its}
-use Rattle.undoing.proofs.Truly.{Up, Stay, no-pick, Arms, Knows, knows, KnowsIn, knows-none, knows-more}
-use Rattle.undoing.proofs.Lasting.{isRaising}
+use Rattle.undoing.proofs.Stepping.{PartOf, through-is, awake-first, plain-performs, steps, steps-all, steps-stopped, steps-stopped-in, steps-undoing, steps-undoing-in, steps-part, held-itself, opens-held, stopped-part-not, undoing-part-not, body-step, fault-step, undo-step, Whole, Its}
+use Rattle.undoing.proofs.Truly.{no-pick, Arms, Knows, knows, KnowsIn, knows-more}
+use Rattle.undoing.proofs.Lasting.{isRaising, KnowsEach, each-knows}
 use Rattle.undoing.proofs.Entire.{Named, turn-starts}
-use Rattle.undoing.proofs.Entering.{step-at}
-use Rattle.undoing.proofs.Shapes.{isMild, Mild, mild-runs, mild-finishes, mild-again, mild-joins, mild-follows}
+use Rattle.undoing.proofs.Entering.{scope-general, step-at}
+use Rattle.undoing.proofs.Shapes.{isMild, Mild, mild-finishes, mild-again, mild-joins, mild-follows}
 use Rattle.undoing.proofs.Coming.{in-here, in-within, in-first, in-later}
 use Rattle.undoing.proofs.Single.{looks-none, looks-still}
 use Rattle.undoing.proofs.Dropping.{isBad, Wane, Drops, step-drops, body-has, fault-has, combines-has, calmer, not-bad}
-use Rattle.undoing.proofs.Afresh.{New, new-idle, new-again, News, quiet-news, news-part, Fresh, fresh-none, fresh-append, fresh-event, fresh-range, Calm, calm-part, calm-undo, calm-through, CalmIn, calm-more, quiet-calm, quiet-calm-in, run-calm, stopped-calm, fresh-where, fresh-either, fresh-runs, turns-fresh, looks-fresh, over-fresh, undone-fresh, undo-raised-fresh, fault-fresh, Opened, stop-fresh, Excuse, Excused}
+use Rattle.undoing.proofs.Afresh.{New, new-idle, new-again, News, quiet-news, Fresh, fresh-none, fresh-append, fresh-event, fresh-range, Calm, calm-part, calm-undo, calm-through, CalmIn, calm-more, quiet-calm, quiet-calm-in, run-calm, stopped-calm, fresh-where, fresh-either, fresh-runs, turns-fresh, looks-fresh, over-fresh, undone-fresh, undo-raised-fresh, fault-fresh, stop-fresh, Excused, NamedEach, NewsEach, each-named}
 
 abbrev log-of : Outcome → List Event
 log-of o = o .log
@@ -57,9 +60,10 @@ result-of o = o .result
 abbrev marks-of : Outcome → List ℕ
 marks-of o = o .order .marks
 
--- a mark of one phase is none of another
-pub other-mark : (m v : ℕ) (q : Phase) → phase m ≡ q → (phase v ≡ q → ⊥) → eqb m v ≡ false
-other-mark m v q e f = decide (eqb m v) (λ t. absurd (f (ap phase (sym (eqb-true m v t)) ∙ e))) (λ t. t)
+-- one that undoes has not faulted and waits no more
+pub not-faulty : (m : ℕ) (z : Bool) → phase m ≡ Phase.undoes z → eqb (stateIn m) faulty ≡ false
+not-faulty m true q = rw (eqb-true (stateIn m) undoing (undoes-mark m q .0))
+not-faulty m false q = rw (eqb-true m withdrawing (undoes-mark m q .1))
 
 -- by the results of what goes on
 abbrev pub isUndone : Result → Bool
@@ -220,6 +224,12 @@ pub stood-later : {p : Plan} {a : Act} {l : Acts} {c : ℕ} → StoodIn p (more 
 unfolding size
 stood-later {p} {a} {l} {c} w = record { at = λ j x y. w .at j (omega arith) (omega arith) ∙ in-later a l c j x }
 
+pub stood-nth : {p : Plan} {l : Acts} {c : ℕ} → StoodIn p l c → (i : ℕ) → i < count l → Stood p (part i l) (partAt i l c)
+unfolding part partAt count
+stood-nth {l = none} w i h = absurd (omega arith)
+stood-nth {l = more a l} w zero h = stood-first w
+stood-nth {l = more a l} w (suc i) h = stood-nth (stood-later w) i (omega arith)
+
 -- it stands in the body of a scope with no undo part that has turned
 abbrev pub isHanded : Plan → List ℕ → (activity : ℕ) → Bool
 isHanded p ms j = some (λ (y : Inner). (not (y .undoes) && isTurned (getD ms (y .number) 0)) && (ltb (y .number) j && ltb j (y .fault))) (scopesOf p)
@@ -250,10 +260,10 @@ pub its-excused : (p : Plan) (f : ℕ → ℕ) (t : ℕ) (ms : List ℕ) (w : Bo
 unfolding partAt part
 its-excused p f t ms w raised =
     record {
-      at = λ k n ns b g u kn v. record {
+      at = λ xs k n ns b g u kn v. record {
         at = λ j x y z. record {
           place = z;
-          how = handed raised (one-some _ (λ (y : Inner). eqb (y .number) k) (innerAt false k n ns (trio b g u)) (scopesOf p) (kn .byNumber) (rw (v, lt-ltb k j (omega arith), lt-ltb j (k + 1 + size b) y)));
+          how = handed raised (one-some _ (λ (y : Inner). eqb (y .number) k) (innerAt xs false k n ns (trio b g u)) (scopesOf p) (kn .byNumber) (rw (v, lt-ltb k j (omega arith), lt-ltb j (k + 1 + size b) y)));
         };
       };
     }
@@ -327,11 +337,20 @@ module _ (p : Plan) (actor : Actor) (f : ℕ → ℕ) (t : ℕ) (o : Order) (A :
   combines-fresh (arm a b vs) within k r s w h = w
 
   -- A scope, whose body has a step.
-  module _ (s : Scope) (h : Seat p s) (kb : Knows f (s .body) (s .bodyAt)) (kf : Knows f (s .fault) (s .faultAt)) (named : Named f (s .fault)) (q : Quiet (o .marks) (s .faultAt) (size (s .fault)))
+  module _ (s : Scope) (h : Seat p s) (kb : Knows f (s .body) (s .bodyAt)) (kf : KnowsEach f s) (named : NamedEach p f A (o .marks) s) (q : Quiet (o .marks) (s .partsAt) (sizes (s .parts)))
       (m : s .bodyAt + size (s .body) ≤ length (o .marks)) (w : Newly (stepIn actor (s .body) (s .bodyAt) (s .bodyAt) t o .log))
       (ex : some isRash (stepIn actor (s .body) (s .bodyAt) (s .bodyAt) t o .log) ≡ true → Excused p f A (o .marks)) where
     abbrev its : Outcome
     its = stepIn actor (s .body) (s .bodyAt) (s .bodyAt) t o
+
+    -- each fault part that it may choose is quiet
+    each-news : NewsEach p f A (o .marks) s
+    each-news c =
+        let w = h .chosen c in
+        let i = chosenOn (s .numbers) c in
+        let lo = part-from i (s .parts) (s .partsAt) in
+        let hi = part-to i (s .parts) (s .partsAt) (w .there) in
+        quiet-news p f A (o .marks) (quiet-part q (omega (arith, w .at)) (omega (arith, w .at, ap size (w .is))))
 
     its-mark : {C : List Event → Order → Result → Type 0} → Acted (s .bodyAt) (size (s .body)) o C its → markOf (s .name) (its .order) ≡ markOf (s .name) o
     its-mark v = mark-kept (s .name) (s .bodyAt) o (its .order) (h .before) (omega arith) (v .rooted) (v .kept)
@@ -343,18 +362,19 @@ module _ (p : Plan) (actor : Actor) (f : ℕ → ℕ) (t : ℕ) (o : Order) (A :
         → ((j : ℕ) → Wane (o .marks) (o₁ .marks) j) → Newly (faults number s o₁ .log)
     unfolding isBeganOf
     faults-fresh number o₁ c y n st =
-        let o₂ = caused (s .name) number (marking (s .name) faulty o₁) in
+        let z = chosenMark number s in
+        let o₂ = caused (s .name) number (marking (s .name) z o₁) in
         let r = stop (s .body) (s .bodyAt) o₂ in
-        let g : Agree (s .bodyAt) (size (s .body)) (o₁ .marks) (o₂ .marks) = marking-agree (s .name) faulty o₁ (h .before) in
+        let g : Agree (s .bodyAt) (size (s .body)) (o₁ .marks) (o₂ .marks) = marking-agree (s .name) z o₁ (h .before) in
         subst (λ (z : Outcome). Newly (z .log)) (sym (faults-is number s o₁))
         (fresh-event p f A (o .marks) (faulted (s .name) number) _ (λ j. refl)
         (fresh-append p f A (o .marks) (r .log) (turns true s (r .order) .log)
-        (stop-fresh p f A (o .marks) (h .body) kb c o₂ (ap phase (caused-mark (s .name) (s .name) number (marking (s .name) faulty o₁) ∙ marking-mark (s .name) (s .bodyAt) faulty o₁ (h .before) (omega arith))) (stoppable-agree y g) (omega (arith, marking-length (s .name) faulty o₁))
+        (stop-fresh p f A (o .marks) (h .body) kb c o₂ (ap phase (caused-mark (s .name) (s .name) number (marking (s .name) z o₁) ∙ marking-mark (s .name) (s .bodyAt) z o₁ (h .before) (omega arith)) ∙ phase-faulty (choiceFor number s)) (stoppable-agree y g) (omega (arith, marking-length (s .name) z o₁))
         (record {
-          at = λ j x z e. let d : isOpen (getD (o₁ .marks) j 0) ≡ true = subst (λ (i : ℕ). isOpen i ≡ true) (g .at j x z) e in
+          at = λ j x y e. let d : isOpen (getD (o₁ .marks) j 0) ≡ true = subst (λ (i : ℕ). isOpen i ≡ true) (g .at j x y) e in
               st j .was d;
         }))
-        (turns-fresh p f A (o .marks) s kb kf named true (λ e. quiet-news p f A (o .marks) q) (r .order) (λ v. c))))
+        (turns-fresh p f A (o .marks) s kb kf named true (λ e. each-news) (r .order) (λ v. c))))
 
     pub live-fresh : markOf (s .name) o ≡ active → Run (o .marks) (s .body) (s .bodyAt) → Acted (s .bodyAt) (size (s .body)) o (RunAs p (s .body) (s .bodyAt) t o) its → Newly (fromBody s its .log)
     unfolding fromBody bodyRaised bodyOver
@@ -389,8 +409,8 @@ module _ (p : Plan) (actor : Actor) (f : ℕ → ℕ) (t : ℕ) (o : Order) (A :
         c : innerRuns (s .body) (s .bodyAt) (its .order .marks) ≡ false → Calm p f A (o .marks) (s .body) (s .bodyAt)
         c d = decide (some isRash (its .log)) (λ e. stopped-calm p f A (o .marks) (ex e) (h .body) st) (λ e. cm e d)
 
-        nf : News p f A (o .marks) (s .faultAt) (size (s .fault))
-        nf = quiet-news p f A (o .marks) q
+        nf : NewsEach p f A (o .marks) s
+        nf = each-news
 
         go : (x : Result) → StopAs p (s .body) (s .bodyAt) o (its .log) (its .order) x → Newly (fromBody s (record { result = x; order = its .order; log = its .log }) .log)
         go running d = later (looksAgain s (its .order)) (looks-fresh p f A (o .marks) s kb kf named nf (its .order) c)
@@ -412,7 +432,7 @@ module _ (p : Plan) (actor : Actor) (f : ℕ → ℕ) (t : ℕ) (o : Order) (A :
         still : looksAgain s (its .order) ≡ runs (its .order)
         still =
             looks-still f s kb kf (its .order)
-            (other-mark (markOf (s .name) (its .order)) faulty (Phase.undoes z) (ap phase (its-mark v) ∙ ph) (λ d. let z : _≡_ {A = ℕ} 0 1 = cc in omega arith))
+            (not-faulty (markOf (s .name) (its .order)) z (ap phase (its-mark v) ∙ ph))
             (other-mark (markOf (s .name) (its .order)) halted (Phase.undoes z) (ap phase (its-mark v) ∙ ph) (λ d. let z : _≡_ {A = ℕ} 0 1 = cc in omega arith))
 
         go : (x : Result) → its .result ≡ x → UndoAs p (s .name) (s .body) (s .bodyAt) t o (its .log) (its .order) x → Newly (fromBody s (record { result = x; order = its .order; log = its .log }) .log)
@@ -420,7 +440,7 @@ module _ (p : Plan) (actor : Actor) (f : ℕ → ℕ) (t : ℕ) (o : Order) (A :
         go over e d = absurd d
         go (raising x) e d = absurd d
         go leaving e d = w
-        go undone e d = later (undoOver s (its .order)) (undone-fresh p f A (o .marks) s kb kf named (c (subst (λ (y : Result). isUndone y ≡ true) (sym e) refl)) (quiet-news p f A (o .marks) q) (its .order))
+        go undone e d = later (undoOver s (its .order)) (undone-fresh p f A (o .marks) s kb kf named (c (subst (λ (y : Result). isUndone y ≡ true) (sym e) refl)) each-news (its .order))
         go (undoRaising x) e d = later (undoRaised x s (its .order)) (undo-raised-fresh p f A (o .marks) s x (its .order))
 
 -- neither of two
@@ -484,7 +504,7 @@ module _ (p : Plan) (actor : Actor) (f : ℕ → ℕ) (t : ℕ) (o : Order) (rai
         ran-part own within y₀ k b s u i st w e run h d (over-quiet (act own within) y₀ k d (steps p actor (sits-part s g u y l) y₀ t o b y₁ w e run v m))
         (λ c w₁ e₁ r₁ d₁. ran-one l i (stood-within st) y₀ y₁ c w₁ e₁ r₁ v (omega arith) d₁)
         (λ c w₁ e₁ r₁ d₁ q. ran-all l i (stood-within st) y₀ y₁ c w₁ e₁ r₁ v (omega arith) d₁ q)
-    ran-run (sits-scope kn s j sb y sf su) i st y₀ y₁ b w e run v m h d = absurd (false≢true i)
+    ran-run (sits-scope kn s j sb y) i st y₀ y₁ b w e run v m h d = absurd (false≢true i)
 
     ran-one : {x : Place} {l : Acts} {c : ℕ} → SitsIn p x l c → isUndo x ≡ true → StoodIn p l c → (y₀ : ℕ) → PartOf x y₀ → (b : Bool) → WaitsIn (o .marks) l c t b → b ≡ false → One (o .marks) l c → Fit x o → c + sizes l ≤ length (o .marks)
         → isOver (stepAmong actor l false y₀ c t o .result) ≡ true → News p f (Again p t (o .marks) raised) (o .marks) c (sizes l)
@@ -538,7 +558,7 @@ module _ (p : Plan) (actor : Actor) (f : ℕ → ℕ) (t : ℕ) (o : Order) (rai
 
   -- A body of which an undo part runs, and is over after the step.
   mutual
-    unfolding size kind Its Whole
+    unfolding size kind part partAt
 
     pub undoing-calm : {x : Place} {a : Act} {k : ℕ} → Sits p x a k → Stood p a k → (y₀ : ℕ) → PartOf x y₀ → (b : Bool) → Waits (o .marks) a k t b → b ≡ false → Undoing (o .marks) a k → (m₀ : Name) → runnerAt (λ n. markOf n o) (nameOf x) (beyondOf x) ≡ m₀ → Fit (undoOf (nameOf x) (beyondOf x) (lastOf x)) o → k + size a ≤ length (o .marks)
         → isUndone (stepIn actor a y₀ k t o .result) ≡ true → Calm p f (Again p t (o .marks) raised) (o .marks) a k
@@ -550,26 +570,26 @@ module _ (p : Plan) (actor : Actor) (f : ℕ → ℕ) (t : ℕ) (o : Order) (rai
         (combines-undone own within k t (stepAmong actor within false y₀ (k + 1) t o) s (subst (λ (q : Outcome). isUndone (q .result) ≡ true) (its-within actor own within y₀ k t o o s (λ e. omega arith) (arms-none own within k t o (undoing-part-not p actor r w c))) d)))
     undoing-calm (sits-part s g u y l) st y₀ y₁ b w e (undoing-scope i q r) m₀ y₂ v m d = absurd (false≢true (sym s))
     undoing-calm (sits-part s g u y l) st y₀ y₁ b w e (undoing-through i q r) m₀ y₂ v m d = absurd (false≢true (sym s))
-    undoing-calm (sits-scope {v = true} kn s j sb y sf su) st y₀ y₁ b w e (undoing-part s₁ i r) m₀ y₂ v m d = absurd (false≢true (sym s₁))
-    undoing-calm (sits-scope {v = true} {b = b} {f = g} {k = k} kn s j sb y sf (rest-undo {u = u} su)) st y₀ y₁ c (waits-itself e₁ d₁) e (undoing-scope i q r) m₀ y₂ v m d =
-        absurd (no-less (undoing-waits (undoing-scope {b = b} {f = g} {u = u} i q r) (waits-itself e₁ d₁) e) e₁)
-    undoing-calm (sits-scope {v = true} {b = b} {f = g} {k = k} kn s j sb y sf (rest-undo {u = u} su)) st y₀ y₁ c (waits-within h (waits-first h₁ w)) e (undoing-scope i q r) m₀ y₂ v m d =
-        absurd (quiet-waits w refl (quiet-part q (omega arith) (omega arith)))
-    undoing-calm (sits-scope {v = true} {b = b} {f = g} {k = k} kn s j sb y sf (rest-undo {u = u} su)) st y₀ y₁ c (waits-within h (waits-later h₁ (waits-first h₂ w))) e (undoing-scope i q r) m₀ y₂ v m d =
-        absurd (quiet-waits w refl (quiet-part q (omega arith) (omega arith)))
-    undoing-calm (sits-scope {v = true} {b = b} {f = g} {k = k} kn s j sb y sf (rest-undo {u = u} su)) st y₀ y₁ c (waits-within h (waits-later h₁ (waits-later h₂ (waits-first h₃ w)))) e (undoing-scope i q r) m₀ y₂ v m d =
-        calm-undo {b = b} {g = g} {u = u} {k = k}
-        (ran-undo su (stood-first (stood-later (stood-later (stood-within st)))) (k + 1 + size b + size g) tt _ w refl r v (omega arith) h₃
-        (from-undo-over u (k + 1 + size b + size g) (steps-part p actor su (k + 1 + size b + size g) t o _ tt w refl r v (omega arith)) (subst (λ (z : Outcome). isUndone (z .result) ≡ true) (undo-step p actor b g u y₀ k t o h₂ h₃) d)))
+    undoing-calm (sits-scope {v = true} kn s j sb y) st y₀ y₁ b w e (undoing-part s₁ i r) m₀ y₂ v m d = absurd (false≢true (sym s₁))
+    undoing-calm (sits-scope {xs} {v = true} {b = b} {f = g} {u} {k} kn s j sb y) st y₀ y₁ c (waits-itself e₁ d₁) e (undoing-scope i n r) m₀ y₂ v m d =
+        absurd (no-less (undoing-waits (undoing-scope {xs = xs} {b = b} {f = g} {u = u} i n r) (waits-itself e₁ d₁) e) e₁)
+    undoing-calm (sits-scope {xs} {v = true} {b = b} {f = g} {u} {k} kn s j sb y) st y₀ y₁ c (waits-within h w) e (undoing-scope i n r) m₀ y₂ v m d =
+        let z = nth-waits r w refl in
+        let a = part (undoPart xs) (trio b g u) in
+        let k₁ = partAt (undoPart xs) (trio b g u) (k + 1) in
+        let hi = part-to (undoPart xs) (trio b g u) (k + 1) (nth-there r) in
+        calm-undo {l = more g u}
+        (ran-undo (undoer y) (stood-nth (stood-within st) (undoPart xs) (nth-there r)) k₁ tt _ (z .2) refl (nth-run r) v (omega arith) (z .1)
+        (from-undo-over a k₁ (steps-part p actor (undoer y) k₁ t o _ tt (z .2) refl (nth-run r) v (omega arith)) (subst (λ (z : Outcome). isUndone (z .result) ≡ true) (undo-step p actor xs b g u y₀ k t o (nth-there r) (z .0) (z .1)) d)))
         (λ z. absurd (false≢true (subst (λ (n : ℕ). isOpen n ≡ true) i z)))
-    undoing-calm (sits-scope {v = false} kn s j sb y sf su) st y₀ y₁ b w e (undoing-part s₁ i r) m₀ y₂ v m d = absurd (false≢true (sym s₁))
-    undoing-calm (sits-scope {v = false} {b = b} {f = g} {u = u} {k = k} kn s j sb y sf su) st y₀ y₁ c (waits-itself e₁ d₁) e (undoing-through i q r) m₀ y₂ v m d =
-        absurd (no-less (undoing-waits (undoing-through {b = b} {f = g} {u = u} i q r) (waits-itself e₁ d₁) e) e₁)
-    undoing-calm (sits-scope {v = false} {b = b} {f = g} {u = u} {k = k} kn s j sb y sf su) st y₀ y₁ c (waits-within h (waits-first h₁ w)) e (undoing-through i q r) m₀ y₂ v m d =
+    undoing-calm (sits-scope {v = false} kn s j sb y) st y₀ y₁ b w e (undoing-part s₁ i r) m₀ y₂ v m d = absurd (false≢true (sym s₁))
+    undoing-calm (sits-scope {xs} {v = false} {b = b} {f = g} {u = u} {k = k} kn s j sb y) st y₀ y₁ c (waits-itself e₁ d₁) e (undoing-through i q r) m₀ y₂ v m d =
+        absurd (no-less (undoing-waits (undoing-through {xs = xs} {b = b} {f = g} {u = u} i q r) (waits-itself e₁ d₁) e) e₁)
+    undoing-calm (sits-scope {xs} {v = false} {b = b} {f = g} {u = u} {k = k} kn s j sb y) st y₀ y₁ c (waits-within h (waits-first h₁ w)) e (undoing-through i q r) m₀ y₂ v m d =
         calm-through (undoing-calm sb (stood-first (stood-within st)) (k + 1) refl _ w refl q m₀ (rw i y₂) (rw i v) (omega arith)
         (subst (λ (z : Outcome). isUndone (z .result) ≡ true)
-        (through-is p actor b g u y₀ k t m₀ o i h h₁ (steps-undoing p actor sb (k + 1) t o _ refl w refl q m₀ (rw i y₂) (rw i v) (omega arith))) d))
-    undoing-calm (sits-scope {v = false} {b = b} {f = g} {u = u} {k = k} kn s j sb y sf su) st y₀ y₁ c (waits-within h (waits-later h₁ w)) e (undoing-through i q r) m₀ y₂ v m d = absurd (quiet-waits-in w refl r)
+        (through-is p actor xs b g u y₀ k t m₀ o i h h₁ (steps-undoing p actor sb (k + 1) t o _ refl w refl q m₀ (rw i y₂) (rw i v) (omega arith))) d))
+    undoing-calm (sits-scope {v = false} kn s j sb y) st y₀ y₁ c (waits-within h (waits-later h₁ w)) e (undoing-through i q r) m₀ y₂ v m d = absurd (quiet-waits-in w refl r)
 
     undoing-calm-in : {x : Place} {l : Acts} {c : ℕ} → SitsIn p x l c → StoodIn p l c → (y₀ : ℕ) → PartOf x y₀ → (b : Bool) → WaitsIn (o .marks) l c t b → b ≡ false → UndoingIn (o .marks) l c → (m₀ : Name) → runnerAt (λ n. markOf n o) (nameOf x) (beyondOf x) ≡ m₀ → Fit (undoOf (nameOf x) (beyondOf x) (lastOf x)) o
         → c + sizes l ≤ length (o .marks) → isUndone (stepAmong actor l false y₀ c t o .result) ≡ true → CalmIn p f (Again p t (o .marks) raised) (o .marks) l c
@@ -600,33 +620,33 @@ module _ (p : Plan) (actor : Actor) (f : ℕ → ℕ) (t : ℕ) (o : Order) (rai
       go (undoRaising x) n u = absurd (false≢true (sym n))
 
   -- where an inner scope is not left running its mark is idle
-  at-rest : (v : Bool) (within : Acts) (k : ℕ) (ns : List ℕ) → innerRuns (act (scope xs v) within) k ns ≡ false → getD ns k 0 ≡ idle
-  at-rest v within k ns e = eqb-true (getD ns k 0) idle (not-so (eqb (getD ns k 0) idle) (sym (inner-is (scope xs v) within k ns true refl) ∙ e))
+  at-rest : (xs : List ℕ) (v : Bool) (within : Acts) (k : ℕ) (ns : List ℕ) → innerRuns (act (scope xs v) within) k ns ≡ false → getD ns k 0 ≡ idle
+  at-rest xs v within k ns e = eqb-true (getD ns k 0) idle (not-so (eqb (getD ns k 0) idle) (sym (inner-is (scope xs v) within k ns true refl) ∙ e))
     where
       not-so : (x : Bool) → not x ≡ false → x ≡ true
       not-so true e = refl
       not-so false e = absurd (false≢true (sym e))
 
   -- A scope with no undo part, stopped, in whose body the step is, and which is over after it.
-  scope-ended : {n : Name} {ns : List Name} (b g : Act) (u : Acts) (y₀ k : ℕ) → Seat p (scopeAt k (trio b g u)) → Sits p (bodyOf (inner k) ns n) b (k + 1) → Stood p b (k + 1) → (kb : Knows f b (k + 1)) (kf : Knows f g (k + 1 + size b))
+  scope-ended : {n : Name} {ns : List Name} (xs : List ℕ) (b g : Act) (u : Acts) (y₀ k : ℕ) → Seat p (scopeAt xs k (trio b g u)) → Sits p (bodyOf (inner k) ns n) b (k + 1) → Stood p b (k + 1) → (kb : Knows f b (k + 1)) (kf : KnowsEach f (scopeAt xs k (trio b g u)))
       → k + (1 + (size b + (size g + sizes u))) ≤ length (o .marks) → k < t → WaitsIn (o .marks) (trio b g u) (k + 1) t false
-      → Turned (o .marks) (getD (o .marks) k 0) b (k + 1) g (k + 1 + size b) → Quiet (o .marks) (k + 1 + size b + size g) (sizes u)
+      → Turned (o .marks) xs (getD (o .marks) k 0) b (k + 1) (more g u) (k + 1 + size b)
       → some isRash (stepIn actor (act (scope xs false) (trio b g u)) y₀ k t o .log) ≡ false → innerRuns (act (scope xs false) (trio b g u)) k (stepIn actor (act (scope xs false) (trio b g u)) y₀ k t o .order .marks) ≡ false
       → ((x : Bool) → Waits (o .marks) b (k + 1) t x → x ≡ false → Stopped (o .marks) b (k + 1) → some isRash (stepIn actor b (k + 1) (k + 1) t o .log) ≡ false
       → innerRuns b (k + 1) (stepIn actor b (k + 1) (k + 1) t o .order .marks) ≡ false → Calm p f (Again p t (o .marks) raised) (o .marks) b (k + 1))
       → Calm p f (Again p t (o .marks) raised) (o .marks) b (k + 1)
   unfolding size part partAt Its Whole
-  scope-ended b g u y₀ k h sb st kb kf m lt (waits-first e w) (turned-waits {w = a} q z n y) x c i ih =
-      let s = scopeAt k (trio b g u) in
+  scope-ended xs b g u y₀ k h sb st kb kf m lt (waits-first e w) (turned-waits {w = a} q z n y) c i ih =
+      let s = scopeAt xs k (trio b g u) in
       let r = stepIn actor b (k + 1) (k + 1) t o in
       let v = steps-stopped p actor sb (k + 1) t o false refl w refl z (omega arith) in
       let d = v .kept .below k (omega arith) in
-      let j = body-step p actor false b g u y₀ k t (getD (o .marks) k 0) o lt e d (turned-not-rest (turned-waits {f = g} q z n y)) in
+      let j = body-step p actor xs false b g u y₀ k t (getD (o .marks) k 0) o lt e d (turned-not-rest (turned-waits {xs = xs} {l = more g u} q z n y)) in
       let c₁ = calmer (r .log) (fromBody s r .log) (body-has isRash s r) (subst (λ (y : Outcome). some isRash (y .log) ≡ false) j c) in
       decide (innerRuns b (k + 1) (r .order .marks))
-      (λ l. absurd (turned-not-rest (turned-waits {f = g} q z n y)
+      (λ l. absurd (turned-not-rest (turned-waits {xs = xs} {l = more g u} q z n y)
       (sym d ∙ (sym (ap (λ (y : Order). getD (y .marks) k 0) (stays-so s r (looks-none f s kb kf (r .order) l) (other-mark (getD (r .order .marks) k 0) active (waits a) (ap phase d ∙ q) (λ d. let z : _≡_ {A = ℕ} 0 1 = cc in omega arith))
-      (not-bad o r (step-drops f t actor kb (k + 1) o) c₁) (not-undone (r .result) (v .comes)))) ∙ at-rest false (trio b g u) k (fromBody s r .order .marks) (subst (λ (y : Outcome). innerRuns (act (scope xs false) (trio b g u)) k (y .order .marks) ≡ false) j i)))))
+      (not-bad o r (step-drops f t actor kb (k + 1) o) c₁) (not-undone (r .result) (v .comes)))) ∙ at-rest xs false (trio b g u) k (fromBody s r .order .marks) (subst (λ (y : Outcome). innerRuns (act (scope xs false) (trio b g u)) k (y .order .marks) ≡ false) j i)))))
       (λ l. ih false w refl z c₁ l)
     where
       not-undone : (y : Result) → StopAs p b (k + 1) o (stepIn actor b (k + 1) (k + 1) t o .log) (stepIn actor b (k + 1) (k + 1) t o .order) y → isUndone y ≡ false
@@ -636,26 +656,26 @@ module _ (p : Plan) (actor : Actor) (f : ℕ → ℕ) (t : ℕ) (o : Order) (rai
       not-undone leaving c = refl
       not-undone undone c = absurd c
       not-undone (undoRaising x) c = refl
-  scope-ended {ns = ns} b g u y₀ k h sb st kb kf m lt (waits-first e w) (turned-undoes {w = a} q z y) x c i ih =
-      let s = scopeAt k (trio b g u) in
+  scope-ended {ns = ns} xs b g u y₀ k h sb st kb kf m lt (waits-first e w) (turned-undoes {w = a} q z y) c i ih =
+      let s = scopeAt xs k (trio b g u) in
       let r = stepIn actor b (k + 1) (k + 1) t o in
       let r₀ = awake-first p actor (λ n. markOf n o) (inner k) ns a q in
       let v = steps-undoing p actor sb (k + 1) t o false refl w refl z (inner k) r₀ (a, ap (λ (n : Name). phase (markOf n o)) r₀ ∙ q) (omega arith) in
       let d = v .kept .below k (omega arith) in
-      let j = body-step p actor false b g u y₀ k t (getD (o .marks) k 0) o lt e d (turned-not-rest (turned-undoes {f = g} q z y)) in
+      let j = body-step p actor xs false b g u y₀ k t (getD (o .marks) k 0) o lt e d (turned-not-rest (turned-undoes {xs = xs} {l = more g u} q z y)) in
       let c₁ = calmer (r .log) (fromBody s r .log) (body-has isRash s r) (subst (λ (y : Outcome). some isRash (y .log) ≡ false) j c) in
       decide (isUndone (r .result))
       (λ l. undoing-calm sb st (k + 1) refl false w refl z (inner k) r₀ (a, ap (λ (n : Name). phase (markOf n o)) r₀ ∙ q) (omega arith) l)
-      (λ l. absurd (turned-not-rest (turned-undoes {f = g} q z y)
+      (λ l. absurd (turned-not-rest (turned-undoes {xs = xs} {l = more g u} q z y)
       (sym d ∙ (sym (ap (λ (y : Order). getD (y .marks) k 0) (stays-so s r
-      (looks-still f s kb kf (r .order) (other-mark (getD (r .order .marks) k 0) faulty (Phase.undoes a) (ap phase d ∙ q) (λ d. let z : _≡_ {A = ℕ} 0 1 = cc in omega arith))
+      (looks-still f s kb kf (r .order) (not-faulty (getD (r .order .marks) k 0) a (ap phase d ∙ q))
       (other-mark (getD (r .order .marks) k 0) halted (Phase.undoes a) (ap phase d ∙ q) (λ d. let z : _≡_ {A = ℕ} 0 1 = cc in omega arith)))
       (other-mark (getD (r .order .marks) k 0) active (Phase.undoes a) (ap phase d ∙ q) (λ d. let z : _≡_ {A = ℕ} 0 1 = cc in omega arith))
-      (not-bad o r (step-drops f t actor kb (k + 1) o) c₁) l)) ∙ at-rest false (trio b g u) k (fromBody s r .order .marks) (subst (λ (y : Outcome). innerRuns (act (scope xs false) (trio b g u)) k (y .order .marks) ≡ false) j i)))))
-  scope-ended b g u y₀ k h sb st kb kf m lt (waits-first e w) (turned-heals q z y) x c i ih = absurd (quiet-waits w refl z)
-  scope-ended b g u y₀ k h sb st kb kf m lt (waits-later d w) (turned-waits q z n y) x c i ih = absurd (quiet-waits-in w refl (quiet-join y x refl))
-  scope-ended b g u y₀ k h sb st kb kf m lt (waits-later d w) (turned-undoes q z y) x c i ih = absurd (quiet-waits-in w refl (quiet-join y x refl))
-  scope-ended b g u y₀ k h sb st kb kf m lt (waits-later d w) (turned-heals q z y) x c i ih = quiet-calm p f (Again p t (o .marks) raised) (o .marks) sb z
+      (not-bad o r (step-drops f t actor kb (k + 1) o) c₁) l)) ∙ at-rest xs false (trio b g u) k (fromBody s r .order .marks) (subst (λ (y : Outcome). innerRuns (act (scope xs false) (trio b g u)) k (y .order .marks) ≡ false) j i)))))
+  scope-ended xs b g u y₀ k h sb st kb kf m lt (waits-first e w) (turned-heals q z y) c i ih = absurd (quiet-waits w refl z)
+  scope-ended xs b g u y₀ k h sb st kb kf m lt (waits-later d w) (turned-waits q z n y) c i ih = absurd (quiet-waits-in w refl y)
+  scope-ended xs b g u y₀ k h sb st kb kf m lt (waits-later d w) (turned-undoes q z y) c i ih = absurd (quiet-waits-in w refl y)
+  scope-ended xs b g u y₀ k h sb st kb kf m lt (waits-later d w) (turned-heals q z y) c i ih = quiet-calm p f (Again p t (o .marks) raised) (o .marks) sb z
 
   -- An activity of a stopped body.
   part-ended : {x : Place} {b : Bool} (own : Own) (within : Acts) (y₀ k : ℕ) → isScope own ≡ false → SitsIn p x within (k + 1) → PartOf x y₀ → Waits (o .marks) (act own within) k t b → b ≡ false → Stopped (o .marks) (act own within) k
@@ -689,14 +709,14 @@ module _ (p : Plan) (actor : Actor) (f : ℕ → ℕ) (t : ℕ) (o : Order) (rai
         → some isRash (stepIn actor a y₀ k t o .log) ≡ false → innerRuns a k (stepIn actor a y₀ k t o .order .marks) ≡ false → Calm p f (Again p t (o .marks) raised) (o .marks) a k
     ended-calm (sits-part {q = x} {own} {within} {k} s g u y l) (knows e n r z) st y₀ y₁ b w q d m c i =
         part-ended own within y₀ k s l y₁ w q d m c i (λ c₁ w₁ e₁ r₁ c₂ i₂. ended-calm-in l z (stood-within st) y₀ y₁ c₁ w₁ e₁ r₁ (omega arith) c₂ i₂)
-    ended-calm (sits-scope kn d j sb y sf su) (knows e n r z) st y₀ y₁ b w q (stopped-part s i₁ r₁) m c i = absurd (false≢true (sym s))
-    ended-calm (sits-scope kn d j sb y sf su) (knows e n r z) st y₀ y₁ b w q (stopped-quiet r₁) m c i = absurd (quiet-waits w q r₁)
-    ended-calm (sits-scope {v = true} {b = b} {f = g} {k = k} kn d j sb y sf (rest-undo {u = u} su)) (knows e n r z) st y₀ y₁ a w q (stopped-scope x) m c i =
-        calm-undo {b = b} {g = g} {u = u} {k = k} (quiet-news p f (Again p t (o .marks) raised) (o .marks) (quiet-part v (omega arith) (omega arith))) (λ v. absurd (false≢true (sym (turned-not-open x) ∙ v)))
-    ended-calm (sits-scope {v = false} {b = b} {f = g} {u = u} kn d j sb y sf su) (knows e n r (knows-more kb (knows-more kf ku))) st y₀ y₁ a (waits-itself e₁ d₁) q (stopped-scope x) m c i =
-        absurd (no-less (stopped-waits (stopped-scope {b = b} {f = g} {u = u} x v) (waits-itself e₁ d₁) q) e₁)
-    ended-calm (sits-scope {v = false} {b = b} {f = g} {u = u} {k = k} kn d j sb y sf su) (knows e n r (knows-more kb (knows-more kf ku))) st y₀ y₁ a (waits-within h w) q (stopped-scope x) m c i =
-        calm-through (scope-ended b g u y₀ k (seat-of u kn d j sb y sf) sb (stood-first (stood-within st)) kb kf m h w x v c i
+    ended-calm (sits-scope kn d j sb y) (knows e n r z) st y₀ y₁ b w q (stopped-part s i₁ r₁) m c i = absurd (false≢true (sym s))
+    ended-calm (sits-scope kn d j sb y) (knows e n r z) st y₀ y₁ b w q (stopped-quiet r₁) m c i = absurd (quiet-waits w q r₁)
+    ended-calm (sits-scope {v = true} kn d j sb y) (knows e n r z) st y₀ y₁ a w q (stopped-scope x) m c i =
+        calm-undo (quiet-news p f (Again p t (o .marks) raised) (o .marks) (undo-turned y refl x)) (λ v. absurd (false≢true (sym (turned-not-open x) ∙ v)))
+    ended-calm (sits-scope {xs} {v = false} {b = b} {f = g} {u = u} kn d j sb y) (knows e n r z) st y₀ y₁ a (waits-itself e₁ d₁) q (stopped-scope x) m c i =
+        absurd (no-less (stopped-waits (stopped-scope {xs = xs} {b = b} {f = g} {u = u} x) (waits-itself e₁ d₁) q) e₁)
+    ended-calm (sits-scope {xs} {v = false} {b = b} {f = g} {u = u} {k = k} kn d j sb y) (knows e n r (knows-more kb kl)) st y₀ y₁ a (waits-within h w) q (stopped-scope x) m c i =
+        calm-through (scope-ended xs b g u y₀ k (seat-of kn d j sb y) sb (stood-first (stood-within st)) kb (each-knows f xs k (scope-general (scope xs false) (trio b g u) refl n) (knows-more kb kl)) m h w x c i
         (λ x w₁ e₁ r₁ c₁ i₁. ended-calm sb kb (stood-first (stood-within st)) (k + 1) refl x w₁ e₁ r₁ (omega arith) c₁ i₁))
 
     ended-calm-in : {x : Place} {l : Acts} {c : ℕ} → SitsIn p x l c → KnowsIn f l c → StoodIn p l c → (y₀ : ℕ) → PartOf x y₀ → (b : Bool) → WaitsIn (o .marks) l c t b → b ≡ false → StoppedIn (o .marks) l c → c + sizes l ≤ length (o .marks)
@@ -725,10 +745,11 @@ module _ (p : Plan) (actor : Actor) (f : ℕ → ℕ) (t : ℕ) (o : Order) wher
   Its-fresh l = Fresh p f (By l) (o .marks) l
 
   -- the close of a scope is its own
-  plain-scope : (v : Bool) → (eqb (kind (scope xs v)) 2 || eqb (kind (scope xs v)) 255) ≡ false
+  plain-scope : (xs : List ℕ) (v : Bool) → (eqb (kind (scope xs v)) 2 || eqb (kind (scope xs v)) 255) ≡ false
   unfolding kind
-  plain-scope true = refl
-  plain-scope false = refl
+  plain-scope [] true = refl
+  plain-scope [] false = refl
+  plain-scope (x ∷ xs) v = refl
 
   pub arms-of : (own : Own) (within : Acts) → eqb (kind own) 8 ≡ true → Arms (isPick own) within → Arms false within
   arms-of own within e r = subst (λ (b : Bool). Arms b within) (no-pick own 8 refl (eqb-true (kind own) 8 e)) r
@@ -774,78 +795,87 @@ module _ (p : Plan) (actor : Actor) (f : ℕ → ℕ) (t : ℕ) (o : Order) wher
       (fresh-more (combines-has isRash own within k t (stepAmong actor within false y₀ (k + 1) t o)) w)
       (λ e d. absurd (false≢true (subst (λ (z : ℕ). eqb z active ≡ true) (v .kept .below k (omega arith) ∙ i) d))))
 
-  closing-fresh : (z₀ : Bool) (within : Acts) (y₀ k : ℕ) → k ≡ t → Its-fresh (stepIn actor (act (scope xs z₀) within) y₀ k t o .log)
+  closing-fresh : (xs : List ℕ) (z₀ : Bool) (within : Acts) (y₀ k : ℕ) → k ≡ t → Its-fresh (stepIn actor (act (scope xs z₀) within) y₀ k t o .log)
   unfolding itself closing some isBeganOf kind
-  closing-fresh z₀ within y₀ k e = subst (λ (q : Outcome). Its-fresh (q .log)) (sym (its-own actor (scope xs z₀) within y₀ k t o e ∙ plain-performs actor (scope xs z₀) within y₀ k o (plain-scope z₀))) (fresh-none p f (By (itself (scope xs z₀) within y₀ k o .log)) (o .marks) (itself (scope xs z₀) within y₀ k o .log) (λ j. refl))
+  closing-fresh xs z₀ within y₀ k e = subst (λ (q : Outcome). Its-fresh (q .log)) (sym (its-own actor (scope xs z₀) within y₀ k t o e ∙ plain-performs actor (scope xs z₀) within y₀ k o (plain-scope xs z₀))) (fresh-none p f (By (itself (scope xs z₀) within y₀ k o .log)) (o .marks) (itself (scope xs z₀) within y₀ k o .log) (λ j. refl))
+
+  -- a step in one of the fault parts of scope k, the i-th after its body
+  abbrev HealsFresh : (numbers : List ℕ) → Acts → (c k : ℕ) → Type 0
+  HealsFresh xs l c k =
+      (i : ℕ) → i ≤ length xs → (x : Bool) → Waits (o .marks) (part i l) (partAt i l c) t x → x ≡ false → Run (o .marks) (part i l) (partAt i l c) → phase (getD (o .marks) k 0) ≡ heals
+      → Its-fresh (stepIn actor (part i l) (partAt i l c) (partAt i l c) t o .log)
+
+  abbrev Names : (numbers : List ℕ) → Acts → (k : ℕ) → Type 0
+  Names xs l k = (choice : ℕ) → Named f (chosenPart choice (scopeAt xs k l))
 
   -- A scope that has turned.
-  turned-fresh : {n : Name} {ns : List Name} (z₀ : Bool) (b g : Act) (u : Acts) (y₀ k : ℕ) → Seat p (scopeAt k (trio b g u)) → Sits p (bodyOf (inner k) ns n) b (k + 1) → Stood p b (k + 1) → (kb : Knows f b (k + 1)) (kf : Knows f g (k + 1 + size b)) → Named f g
+  turned-fresh : {n : Name} {ns : List Name} (xs : List ℕ) (z₀ : Bool) (b g : Act) (u : Acts) (y₀ k : ℕ) → Seat p (scopeAt xs k (trio b g u)) → Sits p (bodyOf (inner k) ns n) b (k + 1) → Stood p b (k + 1) → (kb : Knows f b (k + 1)) (kf : KnowsEach f (scopeAt xs k (trio b g u))) → Names xs (trio b g u) k
       → k + (1 + (size b + (size g + sizes u))) ≤ length (o .marks)
-      → k < t → WaitsIn (o .marks) (trio b g u) (k + 1) t false → Turned (o .marks) (getD (o .marks) k 0) b (k + 1) g (k + 1 + size b) → Quiet (o .marks) (k + 1 + size b + size g) (sizes u)
+      → k < t → WaitsIn (o .marks) (trio b g u) (k + 1) t false → Turned (o .marks) xs (getD (o .marks) k 0) b (k + 1) (more g u) (k + 1 + size b)
       → ((x : Bool) → Waits (o .marks) b (k + 1) t x → x ≡ false → Stopped (o .marks) b (k + 1) → Its-fresh (stepIn actor b (k + 1) (k + 1) t o .log))
       → ((x : Bool) → Waits (o .marks) b (k + 1) t x → x ≡ false → Undoing (o .marks) b (k + 1) → (v : Bool) → phase (getD (o .marks) k 0) ≡ Phase.undoes v → Its-fresh (stepIn actor b (k + 1) (k + 1) t o .log))
-      → ((x : Bool) → Waits (o .marks) g (k + 1 + size b) t x → x ≡ false → Run (o .marks) g (k + 1 + size b) → phase (getD (o .marks) k 0) ≡ heals → Its-fresh (stepIn actor g (k + 1 + size b) (k + 1 + size b) t o .log))
+      → HealsFresh xs (more g u) (k + 1 + size b) k
       → Its-fresh (stepIn actor (act (scope xs z₀) (trio b g u)) y₀ k t o .log)
   unfolding size part partAt Its Whole
-  turned-fresh z₀ b g u y₀ k h sb st kb kf i m lt (waits-first e w) (turned-waits {w = a} q z n y) x j l v =
+  turned-fresh xs z₀ b g u y₀ k h sb st kb kf i m lt (waits-first e w) (turned-waits {w = a} q z n y) j l v =
       let c = steps-stopped p actor sb (k + 1) t o false refl w refl z (omega arith) in
-      subst (λ (d : Outcome). Its-fresh (d .log)) (sym (body-step p actor z₀ b g u y₀ k t (getD (o .marks) k 0) o lt e (c .kept .below k (omega arith)) (turned-not-rest (turned-waits {f = g} q z n y))))
-      (waits-fresh p actor f t o (By (fromBody (scopeAt k (trio b g u)) (stepIn actor b (k + 1) (k + 1) t o) .log)) (scopeAt k (trio b g u)) h kb kf i y (omega arith) (fresh-more (body-has isRash (scopeAt k (trio b g u)) (stepIn actor b (k + 1) (k + 1) t o)) (j false w refl z)) (λ r. its-excused p f t (o .marks) (some isRash (fromBody (scopeAt k (trio b g u)) (stepIn actor b (k + 1) (k + 1) t o) .log)) (body-has isRash (scopeAt k (trio b g u)) (stepIn actor b (k + 1) (k + 1) t o) r)) a q z
-      (λ d l. ended-calm p actor f t o (some isRash (fromBody (scopeAt k (trio b g u)) (stepIn actor b (k + 1) (k + 1) t o) .log)) sb kb st (k + 1) refl false w refl z (omega arith) d l) c)
-  turned-fresh {ns = ns} z₀ b g u y₀ k h sb st kb kf i m lt (waits-first e w) (turned-undoes {w = a} q z y) x j l v =
+      subst (λ (d : Outcome). Its-fresh (d .log)) (sym (body-step p actor xs z₀ b g u y₀ k t (getD (o .marks) k 0) o lt e (c .kept .below k (omega arith)) (turned-not-rest (turned-waits {xs = xs} {l = more g u} q z n y))))
+      (waits-fresh p actor f t o (By (fromBody (scopeAt xs k (trio b g u)) (stepIn actor b (k + 1) (k + 1) t o) .log)) (scopeAt xs k (trio b g u)) h kb kf i y (omega arith) (fresh-more (body-has isRash (scopeAt xs k (trio b g u)) (stepIn actor b (k + 1) (k + 1) t o)) (j false w refl z)) (λ r. its-excused p f t (o .marks) (some isRash (fromBody (scopeAt xs k (trio b g u)) (stepIn actor b (k + 1) (k + 1) t o) .log)) (body-has isRash (scopeAt xs k (trio b g u)) (stepIn actor b (k + 1) (k + 1) t o) r)) a q z
+      (λ d l. ended-calm p actor f t o (some isRash (fromBody (scopeAt xs k (trio b g u)) (stepIn actor b (k + 1) (k + 1) t o) .log)) sb kb st (k + 1) refl false w refl z (omega arith) d l) c)
+  turned-fresh {ns = ns} xs z₀ b g u y₀ k h sb st kb kf i m lt (waits-first e w) (turned-undoes {w = a} q z y) j l v =
       let r = awake-first p actor (λ n. markOf n o) (inner k) ns a q in
       let c = steps-undoing p actor sb (k + 1) t o false refl w refl z (inner k) r (a, ap (λ (n : Name). phase (markOf n o)) r ∙ q) (omega arith) in
-      subst (λ (d : Outcome). Its-fresh (d .log)) (sym (body-step p actor z₀ b g u y₀ k t (getD (o .marks) k 0) o lt e (c .kept .below k (omega arith)) (turned-not-rest (turned-undoes {f = g} q z y))))
-      (undoes-fresh p actor f t o (By (fromBody (scopeAt k (trio b g u)) (stepIn actor b (k + 1) (k + 1) t o) .log)) (scopeAt k (trio b g u)) h kb kf i y (omega arith) (fresh-more (body-has isRash (scopeAt k (trio b g u)) (stepIn actor b (k + 1) (k + 1) t o)) (l false w refl z a q)) (λ r. its-excused p f t (o .marks) (some isRash (fromBody (scopeAt k (trio b g u)) (stepIn actor b (k + 1) (k + 1) t o) .log)) (body-has isRash (scopeAt k (trio b g u)) (stepIn actor b (k + 1) (k + 1) t o) r)) a q
-      (λ d. undoing-calm p actor f t o (some isRash (fromBody (scopeAt k (trio b g u)) (stepIn actor b (k + 1) (k + 1) t o) .log)) sb st (k + 1) refl false w refl z (inner k) r (a, ap (λ (n : Name). phase (markOf n o)) r ∙ q) (omega arith) d) c)
-  turned-fresh z₀ b g u y₀ k h sb st kb kf i m lt (waits-first e w) (turned-heals q z y) x j l v = absurd (quiet-waits w refl z)
-  turned-fresh z₀ b g u y₀ k h sb st kb kf i m lt (waits-later d (waits-first e w)) (turned-waits q z _ y) x j l v = absurd (quiet-waits w refl y)
-  turned-fresh z₀ b g u y₀ k h sb st kb kf i m lt (waits-later d (waits-first e w)) (turned-undoes q z y) x j l v = absurd (quiet-waits w refl y)
-  turned-fresh z₀ b g u y₀ k h sb st kb kf i m lt (waits-later d (waits-first e w)) (turned-heals q z y) x j l v =
-      subst (λ (d : Outcome). Its-fresh (d .log)) (sym (fault-step p actor z₀ b g u y₀ k t o d e))
-      (fault-fresh p f (By (fromFault (scopeAt k (trio b g u)) (stepIn actor g (k + 1 + size b) (k + 1 + size b) t o) .log)) (o .marks) (scopeAt k (trio b g u)) (stepIn actor g (k + 1 + size b) (k + 1 + size b) t o) (fresh-more (fault-has isRash (scopeAt k (trio b g u)) (stepIn actor g (k + 1 + size b) (k + 1 + size b) t o)) (v false w refl y q)))
-  turned-fresh z₀ b g u y₀ k h sb st kb kf i m lt (waits-later d (waits-later e w)) z x j l v = absurd (quiet-waits-in w refl x)
+      subst (λ (d : Outcome). Its-fresh (d .log)) (sym (body-step p actor xs z₀ b g u y₀ k t (getD (o .marks) k 0) o lt e (c .kept .below k (omega arith)) (turned-not-rest (turned-undoes {xs = xs} {l = more g u} q z y))))
+      (undoes-fresh p actor f t o (By (fromBody (scopeAt xs k (trio b g u)) (stepIn actor b (k + 1) (k + 1) t o) .log)) (scopeAt xs k (trio b g u)) h kb kf i y (omega arith) (fresh-more (body-has isRash (scopeAt xs k (trio b g u)) (stepIn actor b (k + 1) (k + 1) t o)) (l false w refl z a q)) (λ r. its-excused p f t (o .marks) (some isRash (fromBody (scopeAt xs k (trio b g u)) (stepIn actor b (k + 1) (k + 1) t o) .log)) (body-has isRash (scopeAt xs k (trio b g u)) (stepIn actor b (k + 1) (k + 1) t o) r)) a q
+      (λ d. undoing-calm p actor f t o (some isRash (fromBody (scopeAt xs k (trio b g u)) (stepIn actor b (k + 1) (k + 1) t o) .log)) sb st (k + 1) refl false w refl z (inner k) r (a, ap (λ (n : Name). phase (markOf n o)) r ∙ q) (omega arith) d) c)
+  turned-fresh xs z₀ b g u y₀ k h sb st kb kf i m lt (waits-first e w) (turned-heals q z y) j l v = absurd (quiet-waits w refl z)
+  turned-fresh xs z₀ b g u y₀ k h sb st kb kf i m lt (waits-later d w) (turned-waits q z _ y) j l v = absurd (quiet-waits-in w refl y)
+  turned-fresh xs z₀ b g u y₀ k h sb st kb kf i m lt (waits-later d w) (turned-undoes q z y) j l v = absurd (quiet-waits-in w refl y)
+  turned-fresh xs z₀ b g u y₀ k h sb st kb kf i m lt (waits-later d w) (turned-heals q z y) j l v =
+      let c = nth-waits y w refl in
+      let i₁ = choiceOn xs (getD (o .marks) k 0) in
+      let le : i₁ ≤ length xs = omega (arith, choice-least xs (getD (o .marks) k 0), general-is xs) in
+      let r = stepIn actor (part i₁ (more g u)) (partAt i₁ (more g u) (k + 1 + size b)) (partAt i₁ (more g u) (k + 1 + size b)) t o in
+      subst (λ (d : Outcome). Its-fresh (d .log)) (sym (fault-step p actor xs z₀ b g u y₀ k i₁ t o le (nth-there y) (c .0) (c .1)))
+      (fault-fresh p f (By (fromFault (scopeAt xs k (trio b g u)) r .log)) (o .marks) (scopeAt xs k (trio b g u)) r (fresh-more (fault-has isRash (scopeAt xs k (trio b g u)) r) (v i₁ le false (c .2) refl (nth-run y) q)))
 
   -- A scope whose body runs.
-  body-fresh : {n : Name} {ns : List Name} (z₀ : Bool) (b g : Act) (u : Acts) (y₀ k : ℕ) → Seat p (scopeAt k (trio b g u)) → Sits p (bodyOf (inner k) ns n) b (k + 1) → (kb : Knows f b (k + 1)) (kf : Knows f g (k + 1 + size b)) → Named f g
+  body-fresh : {n : Name} {ns : List Name} (xs : List ℕ) (z₀ : Bool) (b g : Act) (u : Acts) (y₀ k : ℕ) → Seat p (scopeAt xs k (trio b g u)) → Sits p (bodyOf (inner k) ns n) b (k + 1) → (kb : Knows f b (k + 1)) (kf : KnowsEach f (scopeAt xs k (trio b g u))) → Names xs (trio b g u) k
       → k + (1 + (size b + (size g + sizes u))) ≤ length (o .marks)
       → k < t → WaitsIn (o .marks) (trio b g u) (k + 1) t false → getD (o .marks) k 0 ≡ active → Run (o .marks) b (k + 1) → Quiet (o .marks) (k + 1 + size b) (size g + sizes u)
       → (Waits (o .marks) b (k + 1) t false → Its-fresh (stepIn actor b (k + 1) (k + 1) t o .log)) → Its-fresh (stepIn actor (act (scope xs z₀) (trio b g u)) y₀ k t o .log)
   unfolding size part partAt Its Whole
-  body-fresh z₀ b g u y₀ k h sb kb kf i m lt (waits-first e w) x r q j =
+  body-fresh xs z₀ b g u y₀ k h sb kb kf i m lt (waits-first e w) x r q j =
       let a = steps p actor sb (k + 1) t o false refl w refl r (ap phase x) (omega arith) in
-      subst (λ (d : Outcome). Its-fresh (d .log)) (sym (body-step p actor z₀ b g u y₀ k t active o lt e (a .kept .below k (omega arith) ∙ x) (λ n. absurd (omega (arith, n)))))
-      (live-fresh p actor f t o (By (fromBody (scopeAt k (trio b g u)) (stepIn actor b (k + 1) (k + 1) t o) .log)) (scopeAt k (trio b g u)) h kb kf i (quiet-part q (omega arith) (omega arith)) (omega arith) (fresh-more (body-has isRash (scopeAt k (trio b g u)) (stepIn actor b (k + 1) (k + 1) t o)) (j w)) (λ r. its-excused p f t (o .marks) (some isRash (fromBody (scopeAt k (trio b g u)) (stepIn actor b (k + 1) (k + 1) t o) .log)) (body-has isRash (scopeAt k (trio b g u)) (stepIn actor b (k + 1) (k + 1) t o) r)) x r a)
-  body-fresh z₀ b g u y₀ k h sb kb kf i m lt (waits-later d (waits-first e w)) x r q j = absurd (quiet-waits w refl (quiet-part q (omega arith) (omega arith)))
-  body-fresh z₀ b g u y₀ k h sb kb kf i m lt (waits-later d (waits-later e w)) x r q j = absurd (quiet-waits-in w refl (quiet-part q (omega arith) (omega arith)))
-
-  second : (b g : Act) (u : Acts) → Arms false (trio b g u) → Named f g
-  second (act ob wb) (act og wg) u r = r .1 .0
+      subst (λ (d : Outcome). Its-fresh (d .log)) (sym (body-step p actor xs z₀ b g u y₀ k t active o lt e (a .kept .below k (omega arith) ∙ x) (λ n. absurd (omega (arith, n)))))
+      (live-fresh p actor f t o (By (fromBody (scopeAt xs k (trio b g u)) (stepIn actor b (k + 1) (k + 1) t o) .log)) (scopeAt xs k (trio b g u)) h kb kf i q (omega arith) (fresh-more (body-has isRash (scopeAt xs k (trio b g u)) (stepIn actor b (k + 1) (k + 1) t o)) (j w)) (λ r. its-excused p f t (o .marks) (some isRash (fromBody (scopeAt xs k (trio b g u)) (stepIn actor b (k + 1) (k + 1) t o) .log)) (body-has isRash (scopeAt xs k (trio b g u)) (stepIn actor b (k + 1) (k + 1) t o) r)) x r a)
+  body-fresh xs z₀ b g u y₀ k h sb kb kf i m lt (waits-later d (waits-first e w)) x r q j = absurd (quiet-waits w refl (quiet-part q (omega arith) (omega arith)))
+  body-fresh xs z₀ b g u y₀ k h sb kb kf i m lt (waits-later d (waits-later e w)) x r q j = absurd (quiet-waits-in w refl (quiet-part q (omega arith) (omega arith)))
 
   -- A scope, by how it stands.
-  module _ {n : Name} {ns : List Name} (z₀ : Bool) (b g : Act) (u : Acts) (y₀ k : ℕ) (h : Seat p (scopeAt k (trio b g u))) (sb : Sits p (bodyOf (inner k) ns n) b (k + 1)) (st : Stood p b (k + 1)) (kb : Knows f b (k + 1)) (kf : Knows f g (k + 1 + size b)) (i : Named f g)
+  module _ {n : Name} {ns : List Name} (xs : List ℕ) (z₀ : Bool) (b g : Act) (u : Acts) (y₀ k : ℕ) (h : Seat p (scopeAt xs k (trio b g u))) (sb : Sits p (bodyOf (inner k) ns n) b (k + 1)) (st : Stood p b (k + 1)) (kb : Knows f b (k + 1)) (kf : KnowsEach f (scopeAt xs k (trio b g u))) (i : Names xs (trio b g u) k)
       (m : k + (1 + (size b + (size g + sizes u))) ≤ length (o .marks))
       (hs : (x : Bool) → Waits (o .marks) b (k + 1) t x → x ≡ false → Stopped (o .marks) b (k + 1) → Its-fresh (stepIn actor b (k + 1) (k + 1) t o .log))
       (hu : (x : Bool) → Waits (o .marks) b (k + 1) t x → x ≡ false → Undoing (o .marks) b (k + 1) → (v : Bool) → phase (getD (o .marks) k 0) ≡ Phase.undoes v → Its-fresh (stepIn actor b (k + 1) (k + 1) t o .log))
-      (hf : (x : Bool) → Waits (o .marks) g (k + 1 + size b) t x → x ≡ false → Run (o .marks) g (k + 1 + size b) → phase (getD (o .marks) k 0) ≡ heals → Its-fresh (stepIn actor g (k + 1 + size b) (k + 1 + size b) t o .log)) where
+      (hf : HealsFresh xs (more g u) (k + 1 + size b) k) where
     scope-run : {c : Bool} → Waits (o .marks) (act (scope xs z₀) (trio b g u)) k t c → Run (o .marks) (act (scope xs z₀) (trio b g u)) k
         → (Waits (o .marks) b (k + 1) t false → Run (o .marks) b (k + 1) → getD (o .marks) k 0 ≡ active → Its-fresh (stepIn actor b (k + 1) (k + 1) t o .log))
         → Its-fresh (stepIn actor (act (scope xs z₀) (trio b g u)) y₀ k t o .log)
     unfolding size
-    scope-run (waits-itself e d) run j = closing-fresh z₀ (trio b g u) y₀ k e
+    scope-run (waits-itself e d) run j = closing-fresh xs z₀ (trio b g u) y₀ k e
     scope-run (waits-within e w) (run-awaits s _ x z) j = absurd (false≢true (sym s))
     scope-run (waits-within e w) (run-one s x z) j = absurd (false≢true (sym s))
-    scope-run (waits-within e w) (run-body x z q) j = body-fresh z₀ b g u y₀ k h sb kb kf i m e w x z q (λ w₁. j w₁ z x)
+    scope-run (waits-within e w) (run-body x z q) j = body-fresh xs z₀ b g u y₀ k h sb kb kf i m e w x z q (λ w₁. j w₁ z x)
     scope-run (waits-within e w) (run-done x z) j = absurd (quiet-waits-in w refl (quiet-part z (omega arith) (omega arith)))
-    scope-run (waits-within e w) (run-turned x) j = turned-fresh z₀ b g u y₀ k h sb st kb kf i m e w x z hs hu hf
+    scope-run (waits-within e w) (run-turned x) j = turned-fresh xs z₀ b g u y₀ k h sb st kb kf i m e w x hs hu hf
 
     scope-stopped : {c : Bool} → Waits (o .marks) (act (scope xs z₀) (trio b g u)) k t c → c ≡ false → Stopped (o .marks) (act (scope xs z₀) (trio b g u)) k
         → Its-fresh (stepIn actor (act (scope xs z₀) (trio b g u)) y₀ k t o .log)
     unfolding size
     scope-stopped w q (stopped-part s _ j) = absurd (false≢true (sym s))
     scope-stopped w q (stopped-quiet j) = absurd (quiet-waits w q j)
-    scope-stopped (waits-itself e d) q (stopped-scope x) = closing-fresh z₀ (trio b g u) y₀ k e
-    scope-stopped (waits-within e w) q (stopped-scope x) = turned-fresh z₀ b g u y₀ k h sb st kb kf i m e w x z hs hu hf
+    scope-stopped (waits-itself e d) q (stopped-scope x) = closing-fresh xs z₀ (trio b g u) y₀ k e
+    scope-stopped (waits-within e w) q (stopped-scope x) = turned-fresh xs z₀ b g u y₀ k h sb st kb kf i m e w x hs hu hf
 
   -- an activity of a body that is stopped, or of which an undo part runs
   part-stopped : {x : Place} {b : Bool} (own : Own) (within : Acts) (y₀ k : ℕ) → isScope own ≡ false → SitsIn p x within (k + 1) → PartOf x y₀ → Waits (o .marks) (act own within) k t b → b ≡ false → Stopped (o .marks) (act own within) k
@@ -871,37 +901,38 @@ module _ (p : Plan) (actor : Actor) (f : ℕ → ℕ) (t : ℕ) (o : Order) wher
   part-undoing own within y₀ k s l y₁ (waits-within h w) q (undoing-through i j z) m₀ y₂ v m g = absurd (false≢true (sym s))
 
   -- a scope whose undo part runs, and one that was looked through
-  scope-undoes : {c : Bool} (b g u : Act) (y₀ k : ℕ) → Waits (o .marks) (act (scope xs true) (trio b g (more u none))) k t c → Quiet (o .marks) (k + 1) (size b + size g)
-      → (Waits (o .marks) u (k + 1 + size b + size g) t false → Its-fresh (stepIn actor u (k + 1 + size b + size g) (k + 1 + size b + size g) t o .log))
-      → Its-fresh (stepIn actor (act (scope xs true) (trio b g (more u none))) y₀ k t o .log)
-  unfolding size Its Whole fromUndo
-  scope-undoes b g u y₀ k (waits-itself e d) z i = closing-fresh true (trio b g (more u none)) y₀ k e
-  scope-undoes b g u y₀ k (waits-within e (waits-first d w)) z i = absurd (quiet-waits w refl (quiet-part z (omega arith) (omega arith)))
-  scope-undoes b g u y₀ k (waits-within e (waits-later d (waits-first c w))) z i = absurd (quiet-waits w refl (quiet-part z (omega arith) (omega arith)))
-  scope-undoes b g u y₀ k (waits-within e (waits-later d (waits-later c (waits-first a w)))) z i = subst (λ (q : Outcome). Its-fresh (q .log)) (sym (undo-step p actor b g u y₀ k t o c a)) (i w)
+  scope-undoes : {c : Bool} (xs : List ℕ) (b g : Act) (u : Acts) (y₀ k : ℕ) → Waits (o .marks) (act (scope xs true) (trio b g u)) k t c → Undoing (o .marks) (act (scope xs true) (trio b g u)) k
+      → (Waits (o .marks) (part (undoPart xs) (trio b g u)) (partAt (undoPart xs) (trio b g u) (k + 1)) t false → Nth (o .marks) (undoPart xs) (trio b g u) (k + 1)
+      → Its-fresh (stepIn actor (part (undoPart xs) (trio b g u)) (partAt (undoPart xs) (trio b g u) (k + 1)) (partAt (undoPart xs) (trio b g u) (k + 1)) t o .log))
+      → Its-fresh (stepIn actor (act (scope xs true) (trio b g u)) y₀ k t o .log)
+  unfolding fromUndo
+  scope-undoes xs b g u y₀ k (waits-itself e d) z i = closing-fresh xs true (trio b g u) y₀ k e
+  scope-undoes xs b g u y₀ k (waits-within e w) (undoing-part s _ _) i = absurd (false≢true (sym s))
+  scope-undoes xs b g u y₀ k (waits-within e w) (undoing-scope x n r) i =
+      let c = nth-waits r w refl in subst (λ (q : Outcome). Its-fresh (q .log)) (sym (undo-step p actor xs b g u y₀ k t o (nth-there r) (c .0) (c .1))) (i (c .2) r)
 
-  scope-through : {c : Bool} {m₀ : Name} (b g : Act) (u : Acts) (y₀ k : ℕ) → Waits (o .marks) (act (scope xs false) (trio b g u)) k t c → getD (o .marks) k 0 ≡ idle → Quiet (o .marks) (k + 1 + size b) (size g + sizes u)
+  scope-through : {c : Bool} {m₀ : Name} (xs : List ℕ) (b g : Act) (u : Acts) (y₀ k : ℕ) → Waits (o .marks) (act (scope xs false) (trio b g u)) k t c → getD (o .marks) k 0 ≡ idle → Quiet (o .marks) (k + 1 + size b) (size g + sizes u)
       → (Waits (o .marks) b (k + 1) t false → Acted (k + 1) (size b) o (UndoAs p m₀ b (k + 1) t o) (stepIn actor b (k + 1) (k + 1) t o))
       → (Waits (o .marks) b (k + 1) t false → Its-fresh (stepIn actor b (k + 1) (k + 1) t o .log))
       → Its-fresh (stepIn actor (act (scope xs false) (trio b g u)) y₀ k t o .log)
   unfolding size
-  scope-through b g u y₀ k (waits-itself e d) x j a i = closing-fresh false (trio b g u) y₀ k e
-  scope-through {m₀ = m₀} b g u y₀ k (waits-within e (waits-first d w)) x j a i = subst (λ (q : Outcome). Its-fresh (q .log)) (sym (through-is p actor b g u y₀ k t m₀ o x e d (a w))) (i w)
-  scope-through b g u y₀ k (waits-within e (waits-later d w)) x j a i = absurd (quiet-waits-in w refl j)
+  scope-through xs b g u y₀ k (waits-itself e d) x j a i = closing-fresh xs false (trio b g u) y₀ k e
+  scope-through {m₀ = m₀} xs b g u y₀ k (waits-within e (waits-first d w)) x j a i = subst (λ (q : Outcome). Its-fresh (q .log)) (sym (through-is p actor xs b g u y₀ k t m₀ o x e d (a w))) (i w)
+  scope-through xs b g u y₀ k (waits-within e (waits-later d w)) x j a i = absurd (quiet-waits-in w refl j)
 
   mutual
-    unfolding size
+    unfolding size part partAt
 
     pub fresh-run : {x : Place} {a : Act} {k : ℕ} → Sits p x a k → Knows f a k → Stood p a k → (y₀ : ℕ) → PartOf x y₀ → (b : Bool) → Waits (o .marks) a k t b → b ≡ false → Run (o .marks) a k → Fit x o → k + size a ≤ length (o .marks)
         → Its-fresh (stepIn actor a y₀ k t o .log)
     fresh-run (sits-part {q = x} {own} {within} {k} s g u y l) (knows e n r z) st y₀ y₁ b w q run v m =
         part-fresh own within y₀ k b s (knows e n r z) w q run (λ c w₁ e₁ r₁. fresh-one l z (stood-within st) y₀ y₁ c w₁ e₁ r₁ v (omega arith)) (λ c w₁ e₁ r₁. fresh-all l z (stood-within st) y₀ y₁ c w₁ e₁ r₁ v (omega arith))
-    fresh-run (sits-scope {v = z₀} {n} {c = a} {ns} {b} {f = g} {u} {k} kn d i sb y sf su) (knows e n₁ r (knows-more kb (knows-more kf ku))) st y₀ y₁ c w q run v m =
-        scope-run z₀ b g u y₀ k (seat-of u kn d i sb y sf) sb (stood-first (stood-within st)) kb kf (second b g u r) m
+    fresh-run (sits-scope {xs} {v = z₀} {n} {c = a} {ns} {b} {f = g} {u} {k} kn d i sb y) (knows e n₁ r (knows-more kb kl)) st y₀ y₁ c w q run v m =
+        scope-run xs z₀ b g u y₀ k (seat-of kn d i sb y) sb (stood-first (stood-within st)) kb (each-knows f xs k (scope-general (scope xs z₀) (trio b g u) refl n₁) (knows-more kb kl)) (each-named p f (By []) (o .marks) xs k (trio b g u) r (scope-general (scope xs z₀) (trio b g u) refl n₁)) m
         (λ x w₁ e₁ r₁. fresh-stopped sb kb (stood-first (stood-within st)) (k + 1) refl x w₁ e₁ r₁ (omega arith))
         (λ x w₁ e₁ r₁ v z. let r = awake-first p actor (λ n. markOf n o) (inner k) (cond z₀ [] (n ∷ ns)) v z in
         fresh-undoing sb kb (stood-first (stood-within st)) (k + 1) refl x w₁ e₁ r₁ (inner k) r (v, ap (λ (n : Name). phase (markOf n o)) r ∙ z) (omega arith))
-        (λ x w₁ e₁ r₁ z. fresh-part sf kf (stood-first (stood-later (stood-within st))) (k + 1 + size b) tt x w₁ e₁ r₁ z (omega arith))
+        (λ j le x w₁ e₁ r₁ z. fresh-healers y kl (stood-later (stood-within st)) j x le (λ _. tt) w₁ e₁ r₁ z (omega arith))
         w run (λ w₁ r₁ x. fresh-run sb kb (stood-first (stood-within st)) (k + 1) refl false w₁ refl r₁ (ap phase x) (omega arith))
 
     fresh-one : {x : Place} {l : Acts} {c : ℕ} → SitsIn p x l c → KnowsIn f l c → StoodIn p l c → (y₀ : ℕ) → PartOf x y₀ → (b : Bool) → WaitsIn (o .marks) l c t b → b ≡ false → One (o .marks) l c → Fit x o → c + sizes l ≤ length (o .marks)
@@ -922,12 +953,12 @@ module _ (p : Plan) (actor : Actor) (f : ℕ → ℕ) (t : ℕ) (o : Order) wher
         → Its-fresh (stepIn actor a y₀ k t o .log)
     fresh-stopped (sits-part {q = x} {own} {within} {k} s g u y l) (knows e n r z) st y₀ y₁ b w q run m =
         part-stopped own within y₀ k s l y₁ w q run m (λ c w₁ e₁ r₁. fresh-stopped-in l z (stood-within st) y₀ y₁ c w₁ e₁ r₁ (omega arith))
-    fresh-stopped (sits-scope {v = z₀} {n} {c = a} {ns} {b} {f = g} {u} {k} kn d i sb y sf su) (knows e n₁ r (knows-more kb (knows-more kf ku))) st y₀ y₁ c w q run m =
-        scope-stopped z₀ b g u y₀ k (seat-of u kn d i sb y sf) sb (stood-first (stood-within st)) kb kf (second b g u r) m
+    fresh-stopped (sits-scope {xs} {v = z₀} {n} {c = a} {ns} {b} {f = g} {u} {k} kn d i sb y) (knows e n₁ r (knows-more kb kl)) st y₀ y₁ c w q run m =
+        scope-stopped xs z₀ b g u y₀ k (seat-of kn d i sb y) sb (stood-first (stood-within st)) kb (each-knows f xs k (scope-general (scope xs z₀) (trio b g u) refl n₁) (knows-more kb kl)) (each-named p f (By []) (o .marks) xs k (trio b g u) r (scope-general (scope xs z₀) (trio b g u) refl n₁)) m
         (λ x w₁ e₁ r₁. fresh-stopped sb kb (stood-first (stood-within st)) (k + 1) refl x w₁ e₁ r₁ (omega arith))
         (λ x w₁ e₁ r₁ v z. let r = awake-first p actor (λ n. markOf n o) (inner k) (cond z₀ [] (n ∷ ns)) v z in
         fresh-undoing sb kb (stood-first (stood-within st)) (k + 1) refl x w₁ e₁ r₁ (inner k) r (v, ap (λ (n : Name). phase (markOf n o)) r ∙ z) (omega arith))
-        (λ x w₁ e₁ r₁ z. fresh-part sf kf (stood-first (stood-later (stood-within st))) (k + 1 + size b) tt x w₁ e₁ r₁ z (omega arith))
+        (λ j le x w₁ e₁ r₁ z. fresh-healers y kl (stood-later (stood-within st)) j x le (λ _. tt) w₁ e₁ r₁ z (omega arith))
         w q run
 
     fresh-stopped-in : {x : Place} {l : Acts} {c : ℕ} → SitsIn p x l c → KnowsIn f l c → StoodIn p l c → (y₀ : ℕ) → PartOf x y₀ → (b : Bool) → WaitsIn (o .marks) l c t b → b ≡ false → StoppedIn (o .marks) l c → c + sizes l ≤ length (o .marks)
@@ -939,12 +970,12 @@ module _ (p : Plan) (actor : Actor) (f : ℕ → ℕ) (t : ℕ) (o : Order) wher
         → k + size a ≤ length (o .marks) → Its-fresh (stepIn actor a y₀ k t o .log)
     fresh-undoing (sits-part {q = x} {own} {within} {k} s g u y l) (knows e n r z) st y₀ y₁ b w q run m₀ y₂ v m =
         part-undoing own within y₀ k s l y₁ w q run m₀ y₂ v m (λ c w₁ e₁ r₁. fresh-undoing-in l z (stood-within st) y₀ y₁ c w₁ e₁ r₁ m₀ y₂ v (omega arith))
-    fresh-undoing (sits-scope {v = true} kn d i sb y sf su) (knows e n₁ r (knows-more kb (knows-more kf ku))) st y₀ y₁ c w q (undoing-part s _ j) m₀ y₂ v m = absurd (false≢true (sym s))
-    fresh-undoing (sits-scope {v = true} {b = b} {f = g} {k = k} kn d i sb y sf su) (knows e n₁ r (knows-more kb (knows-more kf ku))) st y₀ y₁ c w q (undoing-scope {u = u} x z j) m₀ y₂ v m =
-        scope-undoes b g u y₀ k w z (λ w₁. fresh-rest su u refl ku (stood-later (stood-later (stood-within st))) tt false w₁ refl j v (omega arith))
-    fresh-undoing (sits-scope {v = false} kn d i sb y sf su) (knows e n₁ r (knows-more kb (knows-more kf ku))) st y₀ y₁ c w q (undoing-part s _ j) m₀ y₂ v m = absurd (false≢true (sym s))
-    fresh-undoing (sits-scope {v = false} {b = b} {f = g} {u = u} {k = k} kn d i sb y sf su) (knows e n₁ r (knows-more kb (knows-more kf ku))) st y₀ y₁ c w q (undoing-through x z j) m₀ y₂ v m =
-        scope-through {m₀ = m₀} b g u y₀ k w x j (λ w₁. steps-undoing p actor sb (k + 1) t o false refl w₁ refl z m₀ (rw x y₂) (rw x v) (omega arith))
+    fresh-undoing (sits-scope {xs} {v = true} {b = b} {f = g} {u} {k} kn d i sb y) (knows e n₁ r (knows-more kb kl)) st y₀ y₁ c w q run m₀ y₂ v m =
+        scope-undoes xs b g u y₀ k w run
+        (λ w₁ j. fresh-undoer y refl kl (stood-later (stood-within st)) false (λ _. tt) w₁ refl (nth-run j) v (omega arith))
+    fresh-undoing (sits-scope {v = false} kn d i sb y) (knows e n₁ r (knows-more kb kl)) st y₀ y₁ c w q (undoing-part s _ j) m₀ y₂ v m = absurd (false≢true (sym s))
+    fresh-undoing (sits-scope {xs} {v = false} {b = b} {f = g} {u = u} {k = k} kn d i sb y) (knows e n₁ r (knows-more kb kl)) st y₀ y₁ c w q (undoing-through x z j) m₀ y₂ v m =
+        scope-through {m₀ = m₀} xs b g u y₀ k w x j (λ w₁. steps-undoing p actor sb (k + 1) t o false refl w₁ refl z m₀ (rw x y₂) (rw x v) (omega arith))
         (λ w₁. fresh-undoing sb kb (stood-first (stood-within st)) (k + 1) refl false w₁ refl z m₀ (rw x y₂) (rw x v) (omega arith))
 
     fresh-undoing-in : {x : Place} {l : Acts} {c : ℕ} → SitsIn p x l c → KnowsIn f l c → StoodIn p l c → (y₀ : ℕ) → PartOf x y₀ → (b : Bool) → WaitsIn (o .marks) l c t b → b ≡ false → UndoingIn (o .marks) l c → (m₀ : Name) → runnerAt (λ n. markOf n o) (nameOf x) (beyondOf x) ≡ m₀ → Fit (undoOf (nameOf x) (beyondOf x) (lastOf x)) o
@@ -954,14 +985,26 @@ module _ (p : Plan) (actor : Actor) (f : ℕ → ℕ) (t : ℕ) (o : Order) wher
     fresh-undoing-in (sits-more {q = x} {a} {l} {c} s y) (knows-more z n) st y₀ y₁ b (waits-first h w) e (undoing-later q r) m₀ y₂ v m = absurd (quiet-waits w e q)
     fresh-undoing-in (sits-more {q = x} {a} {l} {c} s y) (knows-more z n) st y₀ y₁ b (waits-later h w) e (undoing-later q r) m₀ y₂ v m = later-fresh a l y₀ c h (fresh-undoing-in y n (stood-later st) y₀ y₁ b w e r m₀ y₂ v (omega arith))
 
-    -- what stands after the fault part of a scope
-    fresh-rest : {z : Bool} {x : Place} {l : Acts} {k : ℕ} → Rest p z x l k → (u : Act) → l ≡ more u none → KnowsIn f l k → StoodIn p l k → PartOf x k → (b : Bool) → Waits (o .marks) u k t b → b ≡ false → Run (o .marks) u k → Fit x o
-        → k + size u ≤ length (o .marks) → Its-fresh (stepIn actor u k k t o .log)
-    fresh-rest (rest-undo {q = x} {u = a} {k} su) u e (knows-more ku knows-none) st y₁ b w q r v m =
-        let z : a ≡ u = cc in
-        subst (λ (j : Act). Waits (o .marks) j k t b → Run (o .marks) j k → k + size j ≤ length (o .marks) → Its-fresh (stepIn actor j k k t o .log)) z
-        (λ w₁ r₁ m₁. fresh-part su ku (stood-first st) k y₁ b w₁ q r₁ v m₁) w r m
-    fresh-rest rest-none u e ku st y₁ b w q r v m = absurd (let z : _≡_ {A = ℕ} 0 1 = cc in omega arith)
+    -- in one of the fault parts of a scope, in its undo part
+    fresh-healers : {s : Name} {xs : List ℕ} {z : Bool} {q y : Place} {l : Acts} {c : ℕ} → Healers p s xs z q y l c → KnowsIn f l c → StoodIn p l c → (i : ℕ) (b : Bool) → i ≤ length xs → ((j : ℕ) → PartOf q j)
+        → Waits (o .marks) (part i l) (partAt i l c) t b → b ≡ false → Run (o .marks) (part i l) (partAt i l c) → Fit q o → c + sizes l ≤ length (o .marks)
+        → Its-fresh (stepIn actor (part i l) (partAt i l c) (partAt i l c) t o .log)
+    fresh-healers (heals-by {c} y a h) (knows-more k kl) st zero b n d w e r v m = fresh-part a k (stood-first st) c (d c) b w e r v (omega arith)
+    fresh-healers (heals-by y a h) (knows-more k kl) st (suc i) b n d w e r v m = fresh-healers h kl (stood-later st) i b (omega arith) d w e r v (omega arith)
+    fresh-healers (heals-all {c} y a h) (knows-more k kl) st zero b n d w e r v m = fresh-part a k (stood-first st) c (d c) b w e r v (omega arith)
+    fresh-healers (heals-all y a h) (knows-more k kl) st (suc i) b n d w e r v m = absurd (omega arith)
+
+    fresh-undoer : {s : Name} {xs : List ℕ} {z : Bool} {q y : Place} {l : Acts} {c : ℕ} → Healers p s xs z q y l c → z ≡ true → KnowsIn f l c → StoodIn p l c → (b : Bool) → ((j : ℕ) → PartOf y j)
+        → Waits (o .marks) (part (generalPart xs) l) (partAt (generalPart xs) l c) t b → b ≡ false → Run (o .marks) (part (generalPart xs) l) (partAt (generalPart xs) l c) → Fit y o → c + sizes l ≤ length (o .marks)
+        → Its-fresh (stepIn actor (part (generalPart xs) l) (partAt (generalPart xs) l c) (partAt (generalPart xs) l c) t o .log)
+    fresh-undoer (heals-by y a h) n (knows-more k kl) st b d w e r v m = fresh-undoer h n kl (stood-later st) b d w e r v (omega arith)
+    fresh-undoer (heals-all y a h) n (knows-more k kl) st b d w e r v m = fresh-rest h n kl (stood-later st) b d w e r v (omega arith)
+
+    fresh-rest : {z : Bool} {y : Place} {l : Acts} {c : ℕ} → Rest p z y l c → z ≡ true → KnowsIn f l c → StoodIn p l c → (b : Bool) → ((j : ℕ) → PartOf y j)
+        → Waits (o .marks) (part 0 l) (partAt 0 l c) t b → b ≡ false → Run (o .marks) (part 0 l) (partAt 0 l c) → Fit y o → c + sizes l ≤ length (o .marks)
+        → Its-fresh (stepIn actor (part 0 l) (partAt 0 l c) (partAt 0 l c) t o .log)
+    fresh-rest (rest-undo {k} su) n (knows-more ku kl) st b d w e r v m = fresh-part su ku (stood-first st) k (d k) b w e r v (omega arith)
+    fresh-rest rest-none n ku st b d w e r v m = absurd (false≢true n)
 
     pub fresh-part : {x : Place} {a : Act} {k : ℕ} → Remedy p x a k → Knows f a k → Stood p a k → (y₀ : ℕ) → PartOf x y₀ → (b : Bool) → Waits (o .marks) a k t b → b ≡ false → Run (o .marks) a k → Fit x o → k + size a ≤ length (o .marks)
         → Its-fresh (stepIn actor a y₀ k t o .log)

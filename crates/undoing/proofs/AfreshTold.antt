@@ -1,54 +1,46 @@
 -- What begins was idle before, over any run; and so what lasts begins at most once, also in the step that starts an order. Assumes nothing.
-use Prim.Native.Nat.{ℕ, _+_, _≤_, _<_}
+use Prim.Native.Nat.{ℕ, _+_, _≤_}
 use native.Mathlib.Omega.{arith}
 use mathlib.Core.Path.{_≡_, refl, sym, ap, subst, _∙_}
-use mathlib.Core.Bool.{Bool, true, false, cond, not, _&&_, _||_, false≢true, or-true}
+use mathlib.Core.Bool.{true, false, _&&_, _||_, or-true}
 use mathlib.Core.List.{List, [], _∷_, _++_}
 use lib.ListN.{length, getD}
-use lib.Dec.{eqb, ltb, leb}
-use borrow.Author.Tests.{lt-ltb, le-ltb, le-leb, ltb-true, ltb-false}
-use Rattle.plan.specs.Found.{Found, found}
-use Rattle.plan.specs.Read.{readPlan}
-use Rattle.plan.specs.Tree.{Act, act, Acts, none, more, Plan, size, sizes}
-use Rattle.plan.proofs.Limits.{accepted-is-within}
+use lib.Dec.{eqb, ltb}
+use borrow.Author.Tests.{lt-ltb, le-ltb, le-leb}
+use Rattle.plan.specs.Tree.{none, more, Plan, size}
 use Rattle.order.specs.declared.Order.{Order}
 use Rattle.order.specs.declared.End.{End}
 use Rattle.order.specs.declared.End.the-variants.{None, Well, Handled, Failed, Left}
-use Rattle.machine.specs.declared.Message.{Message}
-use Rattle.machine.specs.declared.State.{State}
-use Rattle.machine.specs.declared.Tally.{Tally}
-use Rattle.order.specs.Lists.{every, some}
-use Rattle.order.specs.State.{Name, root, idle, markOf, isLive, noOrder}
-use Rattle.machine.specs.State.{fresh}
-use Rattle.order.specs.Event.{Event, started, ended}
-use Rattle.order.specs.Scope.{Outcome, rootOf, fromBody, fromFault}
+use Rattle.order.specs.Lists.{some}
+use Rattle.order.specs.State.{Name, root, idle, markOf, isLive}
+use Rattle.order.specs.Event.{started, ended}
+use Rattle.order.specs.Scope.{chosenPart, Outcome, rootOf, fromBody, fromFault}
 use Rattle.order.specs.Acting.{stepIn, stepRoot, endOf, movedTo, begunOrder, startedOrder, Actor, itsOwn, acted}
 use Rattle.undoing.proofs.EachTime.{time, OfTimes, OfStarts, each-time}
-use Rattle.order.specs.Taking.{actIn, actAmong, actAt}
-use Rattle.machine.specs.Calls.{loadedAs, load, post, collect, Stepped, doingAt, step, Call, posting, collecting, stepping}
-use Rattle.undoing.specs.History.{logOf}
-use Rattle.undoing.specs.Ties.{isTaken, placeOf}
+use Rattle.order.specs.Taking.{actAmong, actAt}
+use Rattle.undoing.specs.Ties.{placeOf}
 use Rattle.undoing.specs.Orderly.{isBeganOf}
-use Rattle.undoing.specs.Begun.{kindAt, hasBegan, Taken, markBefore, takenBy, stepsTaken}
+use Rattle.undoing.specs.Begun.{kindAt, hasBegan, Taken}
 use Rattle.undoing.specs.Entirely.{ofAll, isUndo, standsIn, isRash, mayBeHandedOn, isAfresh, BegunAfresh}
-use Rattle.undoing.proofs.Parts.{decide, every-append, some-append}
+use Rattle.undoing.proofs.Parts.{decide, some-append}
 use Rattle.undoing.proofs.Accounts.{phase}
 use Rattle.undoing.proofs.Marks.{turned-waits, turned-undoes, turned-heals}
-use Rattle.undoing.proofs.Orders.{onto}
 use Rattle.undoing.proofs.Places.{first-of, second-of}
-use Rattle.undoing.proofs.Planning.{Promised, promised}
+use Rattle.undoing.proofs.Planning.{Promised}
 use Rattle.undoing.proofs.Waiting.{quiet-waits}
 use Rattle.undoing.proofs.Scoping.{scope-live, scope-done, scope-turned, Running}
 use Rattle.undoing.proofs.Stepping.{awake-first, steps, steps-stopped, steps-undoing}
-use Rattle.undoing.proofs.Roots.{Awaited, in-body, in-fault, Standing}
-use Rattle.undoing.proofs.Slots.{standing-live, Alike, taking-alike, alike-awaited, alike-stands, order-starts}
-use Rattle.undoing.proofs.Happening.{orderIn, withMessage, Happens, nothing-here, goes-here, starts-here, step-happens}
-use Rattle.undoing.proofs.Demanded.{step-after}
+use Rattle.undoing.proofs.Roots.{root-fault, choice-none, Awaited, in-body, in-fault, Standing}
+use Rattle.undoing.proofs.Slots.{standing-live, alike-awaited, alike-stands}
+use Rattle.undoing.proofs.Happening.{withMessage}
 use Rattle.undoing.proofs.Truly.{Knows}
 use Rattle.undoing.proofs.Entire.{Named}
 use Rattle.undoing.proofs.BegunTold.{body-knows, fault-knows}
 use Rattle.undoing.proofs.EntirelyTold.{each-below, formed-named}
 use Rattle.undoing.proofs.Coming.{in-first, in-later}
+use Rattle.undoing.proofs.Choices.{root-chosen}
+use Rattle.undoing.proofs.Healing.{only-runs, one-quiet}
+use Rattle.undoing.proofs.Lasting.{KnowsEach}
 use Rattle.undoing.proofs.Dropping.{body-has, fault-has}
 use Rattle.undoing.proofs.Afresh.{New, new-idle, new-again, Fresh, fresh-append, fresh-none, fault-fresh}
 use Rattle.undoing.proofs.AfreshSteps.{How, in-it, handed, Again, fresh-more, its-excused, Stood, undoing-calm, ended-calm, live-fresh, waits-fresh, undoes-fresh, fresh-run, fresh-stopped, fresh-undoing, fresh-part}
@@ -62,6 +54,13 @@ module _ (p : Plan) (h : Promised p) where
 
   nf : Named (kindAt p) (p .fault)
   nf = formed-named (kindAt p) (h .fault)
+
+  -- of each fault part that the root may choose, which is the one
+  each-kf : KnowsEach (kindAt p) (rootOf p)
+  each-kf = root-chosen (λ a j. Knows (kindAt p) a j) p kf
+
+  each-nf : (choice : ℕ) → Named (kindAt p) (chosenPart choice (rootOf p))
+  each-nf = root-chosen (λ a j. Named (kindAt p) a) p nf
 
   body-stood : Stood p (p .body) 0
   body-stood = record { at = λ j x y. in-first (p .body) (more (p .fault) none) 0 j (omega arith) }
@@ -87,16 +86,16 @@ module _ (p : Plan) (h : Promised p) where
 
       go : Running (rootOf p) (o .marks) (o .root) → Fresh p (kindAt p) (Again p t (o .marks) (some isRash (fromBody (rootOf p) (stepIn actor (p .body) 0 0 t o) .log))) (o .marks) (fromBody (rootOf p) (stepIn actor (p .body) 0 0 t o) .log)
       go (scope-live d r q) =
-          live-fresh p actor (kindAt p) t o (Again p t (o .marks) (some isRash (fromBody (rootOf p) (stepIn actor (p .body) 0 0 t o) .log))) (rootOf p) (h .seat) kb kf nf q (omega arith) (fresh-more (body-has isRash (rootOf p) (stepIn actor (p .body) 0 0 t o)) (fresh-run p actor (kindAt p) t o (h .seat .body) kb body-stood 0 (h .seat .at) false w refl r (ap phase d) (omega arith))) (λ r. its-excused p (kindAt p) t (o .marks) (some isRash (fromBody (rootOf p) (stepIn actor (p .body) 0 0 t o) .log)) (body-has isRash (rootOf p) (stepIn actor (p .body) 0 0 t o) r)) d r
+          live-fresh p actor (kindAt p) t o (Again p t (o .marks) (some isRash (fromBody (rootOf p) (stepIn actor (p .body) 0 0 t o) .log))) (rootOf p) (h .seat) kb each-kf each-nf q (omega arith) (fresh-more (body-has isRash (rootOf p) (stepIn actor (p .body) 0 0 t o)) (fresh-run p actor (kindAt p) t o (h .seat .body) kb body-stood 0 (h .seat .at) false w refl r (ap phase d) (omega arith))) (λ r. its-excused p (kindAt p) t (o .marks) (some isRash (fromBody (rootOf p) (stepIn actor (p .body) 0 0 t o) .log)) (body-has isRash (rootOf p) (stepIn actor (p .body) 0 0 t o) r)) d r
           (steps p actor (h .seat .body) 0 t o false (h .seat .at) w refl r (ap phase d) (omega arith))
       go (scope-done d q z) = absurd (st .going d)
       go (scope-turned (turned-waits {w = a} q z _ v)) =
-          waits-fresh p actor (kindAt p) t o (Again p t (o .marks) (some isRash (fromBody (rootOf p) (stepIn actor (p .body) 0 0 t o) .log))) (rootOf p) (h .seat) kb kf nf v (omega arith) (fresh-more (body-has isRash (rootOf p) (stepIn actor (p .body) 0 0 t o)) (fresh-stopped p actor (kindAt p) t o (h .seat .body) kb body-stood 0 (h .seat .at) false w refl z (omega arith))) (λ r. its-excused p (kindAt p) t (o .marks) (some isRash (fromBody (rootOf p) (stepIn actor (p .body) 0 0 t o) .log)) (body-has isRash (rootOf p) (stepIn actor (p .body) 0 0 t o) r)) a q z
+          waits-fresh p actor (kindAt p) t o (Again p t (o .marks) (some isRash (fromBody (rootOf p) (stepIn actor (p .body) 0 0 t o) .log))) (rootOf p) (h .seat) kb each-kf each-nf v (omega arith) (fresh-more (body-has isRash (rootOf p) (stepIn actor (p .body) 0 0 t o)) (fresh-stopped p actor (kindAt p) t o (h .seat .body) kb body-stood 0 (h .seat .at) false w refl z (omega arith))) (λ r. its-excused p (kindAt p) t (o .marks) (some isRash (fromBody (rootOf p) (stepIn actor (p .body) 0 0 t o) .log)) (body-has isRash (rootOf p) (stepIn actor (p .body) 0 0 t o) r)) a q z
           (λ d l. ended-calm p actor (kindAt p) t o (some isRash (fromBody (rootOf p) (stepIn actor (p .body) 0 0 t o) .log)) (h .seat .body) kb body-stood 0 (h .seat .at) false w refl z (omega arith) d l)
           (steps-stopped p actor (h .seat .body) 0 t o false (h .seat .at) w refl z (omega arith))
       go (scope-turned (turned-undoes {w = a} q z v)) =
           let r₀ = awake-first p actor (λ n. markOf n o) root (h .seat .beyond) a q in
-          undoes-fresh p actor (kindAt p) t o (Again p t (o .marks) (some isRash (fromBody (rootOf p) (stepIn actor (p .body) 0 0 t o) .log))) (rootOf p) (h .seat) kb kf nf v (omega arith) (fresh-more (body-has isRash (rootOf p) (stepIn actor (p .body) 0 0 t o)) (fresh-undoing p actor (kindAt p) t o (h .seat .body) kb body-stood 0 (h .seat .at) false w refl z root r₀ (a, ap (λ (n : Name). phase (markOf n o)) r₀ ∙ q) (omega arith))) (λ r. its-excused p (kindAt p) t (o .marks) (some isRash (fromBody (rootOf p) (stepIn actor (p .body) 0 0 t o) .log)) (body-has isRash (rootOf p) (stepIn actor (p .body) 0 0 t o) r)) a q
+          undoes-fresh p actor (kindAt p) t o (Again p t (o .marks) (some isRash (fromBody (rootOf p) (stepIn actor (p .body) 0 0 t o) .log))) (rootOf p) (h .seat) kb each-kf each-nf v (omega arith) (fresh-more (body-has isRash (rootOf p) (stepIn actor (p .body) 0 0 t o)) (fresh-undoing p actor (kindAt p) t o (h .seat .body) kb body-stood 0 (h .seat .at) false w refl z root r₀ (a, ap (λ (n : Name). phase (markOf n o)) r₀ ∙ q) (omega arith))) (λ r. its-excused p (kindAt p) t (o .marks) (some isRash (fromBody (rootOf p) (stepIn actor (p .body) 0 0 t o) .log)) (body-has isRash (rootOf p) (stepIn actor (p .body) 0 0 t o) r)) a q
           (λ d. undoing-calm p actor (kindAt p) t o (some isRash (fromBody (rootOf p) (stepIn actor (p .body) 0 0 t o) .log)) (h .seat .body) body-stood 0 (h .seat .at) false w refl z root r₀ (a, ap (λ (n : Name). phase (markOf n o)) r₀ ∙ q) (omega arith) d)
           (steps-undoing p actor (h .seat .body) 0 t o false (h .seat .at) w refl z root r₀ (a, ap (λ (n : Name). phase (markOf n o)) r₀ ∙ q) (omega arith))
       go (scope-turned (turned-heals q z v)) = absurd (quiet-waits w refl z)
@@ -108,12 +107,12 @@ module _ (p : Plan) (h : Promised p) where
       m = st .many
 
       go : Running (rootOf p) (o .marks) (o .root) → Fresh p (kindAt p) (Again p t (o .marks) (some isRash (fromFault (rootOf p) (stepIn actor (p .fault) (size (p .body)) (size (p .body)) t o) .log))) (o .marks) (fromFault (rootOf p) (stepIn actor (p .fault) (size (p .body)) (size (p .body)) t o) .log)
-      go (scope-live d r q) = absurd (quiet-waits w refl q)
+      go (scope-live d r q) = absurd (quiet-waits w refl (one-quiet (p .fault) q))
       go (scope-done d q z) = absurd (st .going d)
-      go (scope-turned (turned-waits q z _ v)) = absurd (quiet-waits w refl v)
-      go (scope-turned (turned-undoes q z v)) = absurd (quiet-waits w refl v)
+      go (scope-turned (turned-waits q z _ v)) = absurd (quiet-waits w refl (one-quiet (p .fault) v))
+      go (scope-turned (turned-undoes q z v)) = absurd (quiet-waits w refl (one-quiet (p .fault) v))
       go (scope-turned (turned-heals q z v)) =
-          fault-fresh p (kindAt p) (Again p t (o .marks) (some isRash (fromFault (rootOf p) (stepIn actor (p .fault) (size (p .body)) (size (p .body)) t o) .log))) (o .marks) (rootOf p) (stepIn actor (p .fault) (size (p .body)) (size (p .body)) t o) (fresh-more (fault-has isRash (rootOf p) (stepIn actor (p .fault) (size (p .body)) (size (p .body)) t o)) (fresh-part p actor (kindAt p) t o (h .seat .fault) kf fault-stood (size (p .body)) tt false w refl v q (omega arith)))
+          fault-fresh p (kindAt p) (Again p t (o .marks) (some isRash (fromFault (rootOf p) (stepIn actor (p .fault) (size (p .body)) (size (p .body)) t o) .log))) (o .marks) (rootOf p) (stepIn actor (p .fault) (size (p .body)) (size (p .body)) t o) (fresh-more (fault-has isRash (rootOf p) (stepIn actor (p .fault) (size (p .body)) (size (p .body)) t o)) (fresh-part p actor (kindAt p) t o (root-fault (h .seat)) kf fault-stood (size (p .body)) tt false w refl (only-runs v (choice-none (o .root))) q (omega arith)))
 
   pub order-fresh : (actor : Actor) (t : ℕ) (o : Order) → Awaited p (o .marks) t → Standing p o → Fresh p (kindAt p) (Again p t (o .marks) (some isRash (acted actor p t o .log))) (o .marks) (acted actor p t o .log)
   unfolding acted movedTo some isBeganOf

@@ -15,7 +15,7 @@ use Rattle.machine.specs.Calls.{endNumber, loaded}
 use Rattle.undoing.specs.Demand3.{Inner, scopesOf, closingsOf, undoneOf, hasTurned, isLeft, mayTurn, Demand3}
 use Rattle.undoing.specs.Ties.{orderAfter, pastAfter, isName, LiveTold, isTurned, MarksTold, remembered, ListsTold, StepsTold, FaultsTold, EndsTold, HandledBecause, PlacesTold, NeverStuck, GoingOn, NoneTwice}
 use Rattle.undoing.proofs.Settling.{none-twice}
-use Rattle.undoing.specs.Orderly.{Orderly, CausesTold}
+use Rattle.undoing.specs.Orderly.{Orderly, isChoice, ChoicesTold}
 use Rattle.undoing.specs.Begun.{BegunAll, BegunInTurn}
 use Rattle.undoing.specs.Entirely.{BegunTrulyEver, BegunOnce, BegunAfresh, BegunEntirely, LeftToFinish, AwaitedTold, Chained, StoppedTold, AllGoOn}
 use Rattle.undoing.specs.Onward.{KeptRunning, PassedOn, Decided}
@@ -28,7 +28,7 @@ use Rattle.undoing.proofs.Told.{live-told, marks-told, lists-told, plac
 use Rattle.undoing.proofs.Stepped.{steps-told}
 use Rattle.undoing.proofs.Heeding.{faults-told}
 use Rattle.undoing.proofs.Ending.{ends-told}
-use Rattle.undoing.proofs.Because.{handled-because, causes-told}
+use Rattle.undoing.proofs.Because.{handled-because, choices-told}
 use Rattle.undoing.proofs.BegunTold.{begun-all, begun-in-turn}
 use Rattle.undoing.proofs.Awaiting.{never-stuck}
 use Rattle.undoing.proofs.Going.{going-on}
@@ -81,7 +81,7 @@ module _ (p : Plan) (o : Order) (past : List Event) where
 
 -- The one statement.
 pub undone-right : UndoneRight
-unfolding UndoneRight broken Demand3 Orderly FaultsTold StepsTold EndsTold HandledBecause BegunTrulyEver BegunAll BegunInTurn BegunOnce BegunAfresh BegunEntirely LeftToFinish KeptRunning PassedOn Decided AwaitedTold Chained LiveTold MarksTold CausesTold ListsTold PlacesTold GoingOn NeverStuck NoneTwice StoppedTold AllGoOn Stands
+unfolding UndoneRight broken Demand3 Orderly FaultsTold StepsTold EndsTold HandledBecause BegunTrulyEver BegunAll BegunInTurn BegunOnce BegunAfresh BegunEntirely LeftToFinish KeptRunning PassedOn Decided AwaitedTold Chained LiveTold MarksTold ChoicesTold ListsTold PlacesTold GoingOn NeverStuck NoneTwice StoppedTold AllGoOn Stands
 undone-right bytes p next e calls slot t =
     rw (
       demanded.demand3 bytes p next e calls slot t,
@@ -108,7 +108,8 @@ undone-right bytes p next e calls slot t =
     (λ v. rw (
       v,
       every-name p (markTold o past) (λ n i. mark-told p o past n (marks-told bytes p next e calls slot t v n i)),
-      causes-told bytes p next e calls slot t v,
+      every-name p (isChoice p o past) (choices-told bytes p next e calls slot t v .0),
+      choices-told bytes p next e calls slot t v .1,
       every-name p (listTold p o past) (λ n i. list-told p o past n (lists-told bytes p next e calls slot t v n i)),
       places-told bytes p next e calls slot t v,
       going-on bytes p next e calls slot t v,

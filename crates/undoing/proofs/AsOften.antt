@@ -12,7 +12,7 @@ use Rattle.plan.proofs.Limits.{accepted-is-within}
 use Rattle.order.specs.declared.End.{End}
 use Rattle.order.specs.declared.End.the-variants.{None, Well, Handled, Failed, Left}
 use Rattle.machine.specs.declared.Step.{Step}
-use Rattle.order.specs.Lists.{every, some, only, each, empties}
+use Rattle.order.specs.Lists.{every, some, only, empties}
 use Rattle.order.specs.State.{root}
 use Rattle.machine.specs.Calls.{loaded}
 use Rattle.order.specs.Begin.{part, partAt}

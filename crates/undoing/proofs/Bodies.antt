@@ -1,17 +1,17 @@
 -- What begins with an order that starts stands in no undo part. Assumes nothing.
 use Prim.Native.Nat.{ℕ, zero, suc, _+_}
 use mathlib.Core.Path.{_≡_, refl, sym, ap, subst, _∙_}
-use mathlib.Core.Bool.{Bool, true, false, _||_, false≢true}
+use mathlib.Core.Bool.{Bool, true, false, false≢true}
 use mathlib.Core.List.{List, [], _∷_, _++_}
 use lib.ListN.{set}
 use lib.Dec.{eqb}
 use borrow.Author.Tests.{eqb-true}
-use Rattle.plan.specs.Tree.{Own, empty, send, receive, set as setting, raise, leave, choose, repeat, sequence, flow, pick, scope, arm, Act, act, Acts, none, more, Plan, size}
+use Rattle.plan.specs.Tree.{Own, empty, send, receive, set as setting, raise, leave, choose, repeat, sequence, flow, pick, scope, arm, Act, act, Acts, Plan, size}
 use Rattle.order.specs.Lists.{some}
 use Rattle.order.specs.State.{active}
 use Rattle.order.specs.Event.{Event, began}
 use Rattle.order.specs.Begin.{Begun, throughout, around, inTurn, begin, beginInTurn, beginAll, beginFirst}
-use Rattle.undoing.specs.Ties.{Place, bodyOf, placeOf}
+use Rattle.undoing.specs.Ties.{Place, placeOf}
 use Rattle.undoing.specs.Orderly.{isBeganOf}
 use Rattle.undoing.specs.Begun.{hasBegan}
 use Rattle.undoing.specs.Entirely.{isUndo}

@@ -2,7 +2,7 @@
 use Prim.Native.Nat.{ℕ, _+_, _≤_, _<_}
 use native.Mathlib.Omega.{arith}
 use mathlib.Core.Path.{_≡_, refl, sym, ap, subst, _∙_}
-use mathlib.Core.Bool.{Bool, true, false, cond, not, _||_, false≢true, or-true}
+use mathlib.Core.Bool.{Bool, true, false, not, _||_, false≢true, or-true}
 use mathlib.Core.List.{List, [], _∷_, reverse, map}
 use lib.ListN.{length}
 use lib.Dec.{eqb}
@@ -12,7 +12,7 @@ use Rattle.order.specs.declared.Closing.{Closing}
 use Rattle.order.specs.declared.Order.{Order}
 use Rattle.order.specs.declared.End.the-variants.{None}
 use Rattle.order.specs.Lists.{some, only}
-use Rattle.order.specs.State.{stateIn, choiceIn, markWith, Name, root, inner, idle, active, done, faulty, undoing, handling, halted, withdrawing, withRoot, closings, markOf, causing}
+use Rattle.order.specs.State.{stateIn, choiceIn, markWith, Name, root, idle, active, faulty, undoing, handling, halted, withdrawing, withRoot, markOf, causing}
 use Rattle.order.specs.Expression.{conflictingReceive}
 use Rattle.order.specs.Event.{Event, faulted}
 use Rattle.order.specs.Begin.{Begun, begin}
@@ -23,13 +23,13 @@ use Rattle.order.specs.Acting.{Actor, itsOwn, inPlace, stepIn, stepRoot}
 use Rattle.order.proofs.Chosen.{choice-with}
 use Rattle.undoing.specs.Demand3.{Inner, insideOf, closingsOf}
 use Rattle.undoing.specs.Ties.{Place, undoOf, runAt, seen, placeNow, bodyOfName, fits, isDeed}
-use Rattle.undoing.specs.Answered.{backIn, backOf, isClose, isBack, Book, putting, without, isDue, paid, noted, mayNote}
+use Rattle.undoing.specs.Answered.{backOf, isClose, isBack, Book, putting, without, isDue, paid, noted, mayNote}
 use Rattle.undoing.proofs.Parts.{decide}
 use Rattle.undoing.proofs.Accounts.{Phase, live, waits, heals, phase, phase-faulty, phase-undoing, phase-handling}
 use Rattle.undoing.proofs.Moves.{HoldsAt, tied-at, move-fault}
 use Rattle.undoing.proofs.Marks.{Quiet, Run, Turned, turned-waits, turned-undoes, turned-heals, Stopped, Undoing, Stoppable, not-open, quiet-agree, agree-below, agree-above}
 use Rattle.undoing.proofs.Orders.{listOf, momentOf, onto, Does}
-use Rattle.undoing.proofs.Healing.{only-runs, one-quiet, quiet-one}
+use Rattle.undoing.proofs.Healing.{other-mark, only-runs, one-quiet, quiet-one}
 use Rattle.undoing.proofs.Seats.{faulting-elsewhere, stopped-rests, remembered-list}
 use Rattle.undoing.proofs.Undo.{UndoneAs, Undone, undoes-list}
 use Rattle.undoing.proofs.Turning.{TurnsAs, handles}
@@ -85,10 +85,6 @@ written inPlace p t a = a
 abbrev pub May : Actor → Plan → (t : ℕ) → Book → Type 0
 May itsOwn p t a = mayNote p root t a ≡ true
 May inPlace p t a = Unit {0}
-
--- a mark is none of another phase
-other-mark : (m n : ℕ) (q : Phase) → phase m ≡ q → (phase n ≡ q → ⊥) → eqb m n ≡ false
-other-mark m n q e f = decide (eqb m n) (λ t. absurd (f (ap phase (sym (eqb-true m n t)) ∙ e))) (λ t. t)
 
 -- what the tests say of the mark of a root that waits, that undoes, that handles
 waits-none : (m : ℕ) → phase m ≡ waits true → (eqb (stateIn m) undoing || eqb m withdrawing) ≡ false

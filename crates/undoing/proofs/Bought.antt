@@ -2,13 +2,13 @@
 use Prim.Native.Nat.{ℕ, suc, _+_, _≤_}
 use native.Mathlib.Omega.{arith}
 use mathlib.Core.Path.{_≡_, refl, sym, ap, subst, _∙_}
-use mathlib.Core.Bool.{Bool, true, false, cond, not, _&&_, _||_, false≢true, or-true}
+use mathlib.Core.Bool.{Bool, true, false, cond, not, _&&_, _||_, false≢true}
 use mathlib.Core.List.{List, [], _∷_, _++_, reverse, map}
 use lib.ListN.{length, take, drop, length-append, length-reverse, take-append-drop}
 use native.Mathlib.Nat.{add-zero, zero-add, add-suc, suc-add}
 use lib.Dec.{eqb, leb}
 use borrow.Author.Tests.{eqb-true, eqb-false, eq-eqb, ne-eqb, le-leb, leb-true, leb-false, not-true}
-use Rattle.plan.specs.Tree.{Own, scope, kind, isScope, hasUndo, Act, act, Acts, none, more, Plan, size}
+use Rattle.plan.specs.Tree.{kind, isScope, Act, act, Acts, none, more, Plan, size}
 use Rattle.plan.proofs.Limits.{accepted-is-within}
 use Rattle.order.specs.Lists.{every, some, only, each, alike}
 use Rattle.order.specs.State.{Name, root, inner, same}

@@ -19,7 +19,7 @@ use Rattle.undoing.specs.Entirely.{isStopped, StoppedTold}
 use Rattle.undoing.proofs.Parts.{every-append}
 use Rattle.undoing.proofs.Marks.{trio, Quiet, Run, run-awaits, run-one, run-all, run-body, run-done, run-turned, One, one-here, one-later, All, all-none, all-run, all-quiet, Turned, turned-waits, turned-undoes, turned-heals, Stopped, stopped-part, stopped-quiet, stopped-scope, StoppedIn, stopped-none, stopped-more, Undoing, undoing-part, undoing-scope, undoing-through, UndoingIn, undoing-here, undoing-later, quiet-part, turned-not-open}
 use Rattle.undoing.proofs.Orders.{innerAt}
-use Rattle.undoing.proofs.Remedies.{nth-first}
+use Rattle.undoing.proofs.Remedies.{undo-from, nth-below}
 use Rattle.undoing.proofs.Planning.{Formed, formed-part, formed-scope, FormedIn, formed-none, formed-more, scopes-is, scopes-scope, Promised, promised, whole}
 use Rattle.undoing.proofs.Scoping.{scope-live, scope-done, scope-turned, Running}
 use Rattle.undoing.proofs.Roots.{Standing}
@@ -60,8 +60,8 @@ module _ (o : Order) where
 
     quiet-calm : {h r : Bool} {a : Act} → Formed h r a → (k : ℕ) (n : Name) (ns : List Name) → Quiet (o .marks) k (size a) → Calm a k n ns
     quiet-calm (formed-part {own = own} {within = within} s i g y) k n ns q = part-calm own within k n ns s (quiet-in-calm y (k + 1) n ns (quiet-part q (omega arith) (omega arith)))
-    quiet-calm (formed-scope {xs} {v = v} {b = b} few many x z) k n ns q =
-        scope-calm xs v b k n ns (shut k n (rw (q .at k (omega arith) (omega arith)))) (quiet-calm x (k + 1) (inner k) (cond v [] (n ∷ ns)) (quiet-part q (omega arith) (omega arith))) z
+    quiet-calm (formed-scope {xs = xs} {v = v} {b = b} {f = f} {u = u} few many x y) k n ns q =
+        scope-calm xs v b k n ns (shut k n (rw (q .at k (omega arith) (omega arith)))) (quiet-calm x (k + 1) (inner k) (cond v [] (n ∷ ns)) (quiet-part q (omega arith) (omega arith))) y
 
     quiet-in-calm : {h r : Bool} {l : Acts} → FormedIn h r l → (c : ℕ) (n : Name) (ns : List Name) → Quiet (o .marks) c (sizes l) → CalmIn l c n ns
     quiet-in-calm formed-none c n ns q = none-calm c n ns
@@ -79,11 +79,11 @@ module _ (o : Order) where
     run-calm (run-body e r q) (formed-part s i g y) n ns t = absurd (false≢true (sym s))
     run-calm (run-done e q) (formed-part s i g y) n ns t = absurd (false≢true (sym s))
     run-calm (run-turned e) (formed-part s i g y) n ns t = absurd (false≢true (sym s))
-    run-calm (run-awaits s d e q) (formed-scope few many x z) n ns t = absurd (false≢true (sym s))
-    run-calm (run-one s e r) (formed-scope few many x z) n ns t = absurd (false≢true (sym s))
-    run-calm {k = k} (run-body e r q) (formed-scope {xs} {v = v} {b = b} few many x z) n ns t = scope-calm xs v b k n ns (rw t) (run-calm r x (inner k) (cond v [] (n ∷ ns)) (rw e)) z
-    run-calm {k = k} (run-done e q) (formed-scope {xs} {v = v} {b = b} few many x z) n ns t = scope-calm xs v b k n ns (rw t) (quiet-calm x (k + 1) (inner k) (cond v [] (n ∷ ns)) (quiet-part q (omega arith) (omega arith))) z
-    run-calm {k = k} (run-turned e) (formed-scope {xs} {v = v} {b = b} few many x z) n ns t = scope-calm xs v b k n ns (rw t) (turned-calm e x (inner k) (cond v [] (n ∷ ns))) z
+    run-calm (run-awaits s d e q) (formed-scope few many x y) n ns t = absurd (false≢true (sym s))
+    run-calm (run-one s e r) (formed-scope few many x y) n ns t = absurd (false≢true (sym s))
+    run-calm {k = k} (run-body e r q) (formed-scope {xs = xs} {v = v} {b = b} {f = f} {u = u} few many x y) n ns t = scope-calm xs v b k n ns (rw t) (run-calm r x (inner k) (cond v [] (n ∷ ns)) (rw e)) y
+    run-calm {k = k} (run-done e q) (formed-scope {xs = xs} {v = v} {b = b} {f = f} {u = u} few many x y) n ns t = scope-calm xs v b k n ns (rw t) (quiet-calm x (k + 1) (inner k) (cond v [] (n ∷ ns)) (quiet-part q (omega arith) (omega arith))) y
+    run-calm {k = k} (run-turned e) (formed-scope {xs = xs} {v = v} {b = b} {f = f} {u = u} few many x y) n ns t = scope-calm xs v b k n ns (rw t) (turned-calm e x (inner k) (cond v [] (n ∷ ns))) y
 
     one-calm : {h r : Bool} {l : Acts} {c : ℕ} → One (o .marks) l c → FormedIn h r l → (n : Name) (ns : List Name) → isTurned (markOf n o) ≡ false → CalmIn l c n ns
     one-calm {c = c} (one-here r q) (formed-more {a = a} {l = l} x y) n ns t = more-calm a l c n ns (run-calm r x n ns t) (quiet-in-calm y (c + size a) n ns q)
@@ -95,7 +95,7 @@ module _ (o : Order) where
     all-calm {c = c} (all-quiet q z) (formed-more {a = a} {l = l} x y) n ns t = more-calm a l c n ns (quiet-calm x c n ns q) (all-calm z y n ns t)
 
     -- the body of a scope that has
-    turned-calm : {h r : Bool} {xs : List ℕ} {m kb kf : ℕ} {b : Act} {l : Acts} → Turned (o .marks) xs m b kb l kf → Formed h r b → (n : Name) (ns : List Name) → Calm b kb n ns
+    turned-calm : {h r : Bool} {ms : List ℕ} {m kb kf : ℕ} {b : Act} {l : Acts} → Turned (o .marks) ms m b kb l kf → Formed h r b → (n : Name) (ns : List Name) → Calm b kb n ns
     turned-calm (turned-waits e s i q) x n ns = stopped-calm s x n ns
     turned-calm (turned-undoes e u q) x n ns = undoing-calm u x n ns
     turned-calm {kb = kb} (turned-heals e q r) x n ns = quiet-calm x kb n ns q
@@ -104,8 +104,8 @@ module _ (o : Order) where
     stopped-calm {k = k} (stopped-part s₁ e l) (formed-part {own = own} {within = within} s i g y) n ns = part-calm own within k n ns s (stopped-in-calm l y n ns)
     stopped-calm (stopped-scope t) (formed-part s i g y) n ns = absurd (false≢true (sym s))
     stopped-calm {k = k} (stopped-quiet q) x n ns = quiet-calm x k n ns q
-    stopped-calm (stopped-part s e l) (formed-scope few many x z) n ns = absurd (false≢true (sym s))
-    stopped-calm {k = k} (stopped-scope t) (formed-scope {xs} {v = v} {b = b} few many x z) n ns = scope-calm xs v b k n ns (shut k n (turned-not-open t)) (turned-calm t x (inner k) (cond v [] (n ∷ ns))) z
+    stopped-calm (stopped-part s e l) (formed-scope few many x y) n ns = absurd (false≢true (sym s))
+    stopped-calm {k = k} (stopped-scope t) (formed-scope {xs = xs} {v = v} {b = b} {f = f} {u = u} few many x y) n ns = scope-calm xs v b k n ns (shut k n (turned-not-open t)) (turned-calm t x (inner k) (cond v [] (n ∷ ns))) y
 
     stopped-in-calm : {h r : Bool} {l : Acts} {c : ℕ} → StoppedIn (o .marks) l c → FormedIn h r l → (n : Name) (ns : List Name) → CalmIn l c n ns
     stopped-in-calm {c = c} stopped-none formed-none n ns = none-calm c n ns
@@ -113,13 +113,13 @@ module _ (o : Order) where
 
     undoing-calm : {h r : Bool} {a : Act} {k : ℕ} → Undoing (o .marks) a k → Formed h r a → (n : Name) (ns : List Name) → Calm a k n ns
     undoing-calm {k = k} (undoing-part s₁ e l) (formed-part {own = own} {within = within} s i g y) n ns = part-calm own within k n ns s (undoing-in-calm l y n ns)
-    undoing-calm (undoing-scope e q r) (formed-part s i g y) n ns = absurd (false≢true (sym s))
+    undoing-calm (undoing-scope e c r) (formed-part s i g y) n ns = absurd (false≢true (sym s))
     undoing-calm (undoing-through e r q) (formed-part s i g y) n ns = absurd (false≢true (sym s))
-    undoing-calm (undoing-part s e l) (formed-scope few many x z) n ns = absurd (false≢true (sym s))
-    undoing-calm {k = k} (undoing-scope e q r) (formed-scope {xs} {v = v} {b = b} few many x z) n ns =
-        scope-calm xs v b k n ns (shut k n (rw e)) (quiet-calm x (k + 1) (inner k) (cond v [] (n ∷ ns)) (nth-first r)) z
-    undoing-calm {k = k} (undoing-through e r q) (formed-scope {xs} {v = v} {b = b} few many x z) n ns =
-        scope-calm xs v b k n ns (shut k n (rw e)) (undoing-calm r x (inner k) (cond v [] (n ∷ ns))) z
+    undoing-calm (undoing-part s e l) (formed-scope few many x y) n ns = absurd (false≢true (sym s))
+    undoing-calm {k = k} (undoing-scope e c r) (formed-scope {xs = xs} {v = v} {b = b} {f = f} {u = u} few many x y) n ns =
+        scope-calm xs v b k n ns (shut k n (rw e)) (quiet-calm x (k + 1) (inner k) (cond v [] (n ∷ ns)) (record { at = λ i p q. nth-below r i p (omega (arith, undo-from xs b f u k)) })) y
+    undoing-calm {k = k} (undoing-through e r q) (formed-scope {xs = xs} {v = v} {b = b} {f = f} {u = u} few many x y) n ns =
+        scope-calm xs v b k n ns (shut k n (rw e)) (undoing-calm r x (inner k) (cond v [] (n ∷ ns))) y
 
     undoing-in-calm : {h r : Bool} {l : Acts} {c : ℕ} → UndoingIn (o .marks) l c → FormedIn h r l → (n : Name) (ns : List Name) → CalmIn l c n ns
     undoing-in-calm {c = c} (undoing-here r q) (formed-more {a = a} {l = l} x y) n ns = more-calm a l c n ns (undoing-calm r x n ns) (quiet-in-calm y (c + size a) n ns q)

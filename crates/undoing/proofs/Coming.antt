@@ -3,7 +3,7 @@ use Prim.Native.Nat.{ℕ, zero, suc, _+_, _≤_, _<_}
 use native.Mathlib.Omega.{arith}
 use mathlib.Core.Path.{_≡_, refl, sym, ap, subst, _∙_}
 use mathlib.Core.Bool.{Bool, true, false, _&&_, _||_, false≢true, or-true}
-use mathlib.Core.List.{List, [], _∷_, _++_}
+use mathlib.Core.List.{List, [], _∷_, _++_, append-nil}
 use lib.ListN.{getD}
 use lib.Dec.{eqb, ltb, leb}
 use borrow.Author.Tests.{eqb-true, eqb-false, eq-eqb, ne-eqb, lt-ltb, le-ltb, ltb-true, ltb-false, le-leb, leb-true}
@@ -22,8 +22,8 @@ use Rattle.undoing.specs.Entirely.{hasNext, AllGoOn}
 use Rattle.undoing.proofs.Parts.{both, decide, every-append, some-append}
 use Rattle.undoing.proofs.Places.{first-of, second-of}
 use Rattle.undoing.proofs.Truly.{Up}
-use Rattle.undoing.proofs.Marks.{trio, Quiet, Run, run-awaits, run-one, run-all, run-body, run-done, run-turned, One, one-here, one-later, All, all-none, all-run, all-quiet, Turned, turned-waits, turned-undoes, turned-heals, Stopped, stopped-part, stopped-quiet, stopped-scope, StoppedIn, stopped-none, stopped-more, Undoing, undoing-part, undoing-scope, undoing-through, UndoingIn, undoing-here, undoing-later, quiet-part}
-use Rattle.undoing.proofs.Planning.{Formed, formed-part, formed-scope, FormedIn, formed-none, formed-more, FormedRest, formed-undo, formed-no, Promised, promised}
+use Rattle.undoing.proofs.Marks.{trio, Quiet, Run, run-awaits, run-one, run-all, run-body, run-done, run-turned, One, one-here, one-later, All, all-none, all-run, all-quiet, Nth, nth-here, nth-later, Turned, turned-waits, turned-undoes, turned-heals, Stopped, stopped-part, stopped-quiet, stopped-scope, StoppedIn, stopped-none, stopped-more, Undoing, undoing-part, undoing-scope, undoing-through, UndoingIn, undoing-here, undoing-later, quiet-part}
+use Rattle.undoing.proofs.Planning.{Formed, formed-part, formed-scope, FormedIn, formed-none, formed-more, Promised, promised}
 use Rattle.undoing.proofs.Scoping.{scope-live, scope-done, scope-turned, Running}
 use Rattle.undoing.proofs.Roots.{Standing}
 use Rattle.undoing.proofs.Slots.{Slot, slot-free, slot-live}
@@ -111,6 +111,10 @@ module _ (ms : List ℕ) (rs : List Ready) where
   unfolding readyIn
   among-later a l c w = record { free = w .free; among = λ f e. w .among f (some-append f (readyIn a c (w .free) ms) (readyAmong l (c + size a) (w .free) ms) ∙ rw (e, or-true)) }
 
+  alone-among : (a : Act) (c : ℕ) → Among a c → AmongIn (more a none) c
+  unfolding readyIn
+  alone-among a c w = record { free = w .free; among = λ f e. w .among f (subst (λ (l : List Ready). some f l ≡ true) (append-nil (readyIn a c (w .free) ms)) e) }
+
   -- a step to come in an activity
   abbrev Comes : ℕ → Act → Type 0
   Comes j a = some (λ r. isStep (r .step) && In j (size a) r) rs ≡ true
@@ -150,9 +154,18 @@ module _ (ms : List ℕ) (rs : List Ready) where
       (λ t. subst (λ (i : ℕ). Comes i (actIn (act own within) k i)) (eqb-true k j t) (subst (Comes k) (sym (in-here (act own within) k)) (f (subst (λ (i : ℕ). Up ms i) (sym (eqb-true k j t)) u))))
       (λ t. let z : k < j = let w = eqb-false k j t in omega arith in subst (Comes j) (sym (in-within own within k j z)) (g j (omega arith) (omega arith) u))
 
-  each-scope : (z : Bool) (b f : Act) (u : Acts) (k : ℕ) → (Up ms k → Comes k (act (scope z) (trio b f u))) → Each b (k + 1) → Each f (k + 1 + size b) → EachIn u (k + 1 + size b + size f)
-      → Each (act (scope z) (trio b f u)) k
-  each-scope z b f u k c x y w = each-act (scope z) (trio b f u) k c (each-more b (more f u) (k + 1) x (each-more f u (k + 1 + size b) y w))
+  -- each of a list has its form
+  data Forms : Acts → Type 0 where
+    forms-none : Forms none
+    forms-more : {h r : Bool} {a : Act} {l : Acts} → Formed h r a → Forms l → Forms (more a l)
+
+  formed-forms : {h r : Bool} {l : Acts} → FormedIn h r l → Forms l
+  formed-forms formed-none = forms-none
+  formed-forms (formed-more x y) = forms-more x (formed-forms y)
+
+  each-scope : (xs : List ℕ) (z : Bool) (b : Act) (l : Acts) (k : ℕ) → (Up ms k → Comes k (act (scope xs z) (more b l))) → Each b (k + 1) → EachIn l (k + 1 + size b)
+      → Each (act (scope xs z) (more b l)) k
+  each-scope xs z b l k c x y = each-act (scope xs z) (more b l) k c (each-more b l (k + 1) x y)
 
   mutual
     unfolding size kind
@@ -166,19 +179,19 @@ module _ (ms : List ℕ) (rs : List Ready) where
         each-act own within k (λ u. run-comes (run-all e r z) (formed-part s i g y) w) (all-each r y (among-within own within k w))
     run-each (run-body e r q) (formed-part s i g y) w = absurd (false≢true (sym s))
     run-each (run-done e q) (formed-part s i g y) w = absurd (false≢true (sym s))
-    run-each (run-turned e q) (formed-part s i g y) w = absurd (false≢true (sym s))
-    run-each (run-awaits s d e q) (formed-scope x y z) w = absurd (false≢true (sym s))
-    run-each (run-one s e r) (formed-scope x y z) w = absurd (false≢true (sym s))
-    run-each {k = k} (run-body e r q) (formed-scope {v = v₀} {b = b} {f = f} {u = u} x y z) w =
-        each-scope v₀ b f u k (λ v. run-comes (run-body e r q) (formed-scope x y z) w) (run-each r x (among-first b (more f u) (k + 1) (among-within (scope v₀) (trio b f u) k w)))
-        (each-quiet f (k + 1 + size b) (quiet-part q (omega arith) (omega arith))) (in-quiet u (k + 1 + size b + size f) (quiet-part q (omega arith) (omega arith)))
-    run-each {k = k} (run-done e q) (formed-scope {v = v₀} {b = b} {f = f} {u = u} x y z) w =
-        each-scope v₀ b f u k (λ v. run-comes (run-done e q) (formed-scope x y z) w) (each-quiet b (k + 1) (quiet-part q (omega arith) (omega arith)))
-        (each-quiet f (k + 1 + size b) (quiet-part q (omega arith) (omega arith))) (in-quiet u (k + 1 + size b + size f) (quiet-part q (omega arith) (omega arith)))
-    run-each {k = k} (run-turned t q) (formed-scope {v = v₀} {b = b} {f = f} {u = u} x y z) w =
-        let v = among-within (scope v₀) (trio b f u) k w in
-        let g = turned-each t x y (among-first b (more f u) (k + 1) v) (among-first f u (k + 1 + size b) (among-later b (more f u) (k + 1) v)) in
-        each-scope v₀ b f u k (λ i. run-comes (run-turned t q) (formed-scope x y z) w) (g .0) (g .1) (in-quiet u (k + 1 + size b + size f) q)
+    run-each (run-turned e) (formed-part s i g y) w = absurd (false≢true (sym s))
+    run-each (run-awaits s d e q) (formed-scope few many x y) w = absurd (false≢true (sym s))
+    run-each (run-one s e r) (formed-scope few many x y) w = absurd (false≢true (sym s))
+    run-each {k = k} (run-body e r q) (formed-scope {xs = xs} {v = v₀} {b = b} {f = f} {u = u} few many x y) w =
+        each-scope xs v₀ b (more f u) k (λ v. run-comes (run-body e r q) (formed-scope few many x y) w)
+        (run-each r x (among-first b (more f u) (k + 1) (among-within (scope xs v₀) (trio b f u) k w))) (in-quiet (more f u) (k + 1 + size b) q)
+    run-each {k = k} (run-done e q) (formed-scope {xs = xs} {v = v₀} {b = b} {f = f} {u = u} few many x y) w =
+        each-scope xs v₀ b (more f u) k (λ v. run-comes (run-done e q) (formed-scope few many x y) w)
+        (each-quiet b (k + 1) (quiet-part q (omega arith) (omega arith))) (in-quiet (more f u) (k + 1 + size b) (quiet-part q (omega arith) (omega arith)))
+    run-each {k = k} (run-turned t) (formed-scope {xs = xs} {v = v₀} {b = b} {f = f} {u = u} few many x y) w =
+        let v = among-within (scope xs v₀) (trio b f u) k w in
+        let g = turned-each t x y (among-first b (more f u) (k + 1) v) (among-later b (more f u) (k + 1) v) in
+        each-scope xs v₀ b (more f u) k (λ i. run-comes (run-turned t) (formed-scope few many x y) w) (g .0) (g .1)
 
     one-each : {h r : Bool} {l : Acts} {c : ℕ} → One ms l c → FormedIn h r l → AmongIn l c → EachIn l c
     one-each {c = c} (one-here r q) (formed-more {a = a} {l = l} x y) w = each-more a l c (run-each r x (among-first a l c w)) (in-quiet l (c + size a) q)
@@ -189,21 +202,25 @@ module _ (ms : List ℕ) (rs : List Ready) where
     all-each {c = c} (all-run r z) (formed-more {a = a} {l = l} x y) w = each-more a l c (run-each r x (among-first a l c w)) (all-each z y (among-later a l c w))
     all-each {c = c} (all-quiet q z) (formed-more {a = a} {l = l} x y) w = each-more a l c (each-quiet a c q) (all-each z y (among-later a l c w))
 
-    turned-each : {h h₁ r r₁ : Bool} {m kb kf : ℕ} {b f : Act} → Turned ms m b kb f kf → Formed h r b → Formed h₁ r₁ f → Among b kb → Among f kf → Each b kb × Each f kf
-    turned-each {kb = kb} {kf = kf} {f = f} (turned-waits e s i q) x y v w = (stopped-each s x v, each-quiet f kf q)
-    turned-each {kb = kb} {kf = kf} {f = f} (turned-undoes e u q) x y v w = (undoing-each u x v, each-quiet f kf q)
-    turned-each {kb = kb} {kf = kf} {b = b} (turned-heals e q r) x y v w = (each-quiet b kb q, run-each r y w)
+    nth-each : {i : ℕ} {l : Acts} {c : ℕ} → Nth ms i l c → Forms l → AmongIn l c → EachIn l c
+    nth-each {c = c} (nth-here r q) (forms-more {a = a} {l = l} x y) w = each-more a l c (run-each r x (among-first a l c w)) (in-quiet l (c + size a) q)
+    nth-each {c = c} (nth-later q r) (forms-more {a = a} {l = l} x y) w = each-more a l c (each-quiet a c q) (nth-each r y (among-later a l c w))
+
+    turned-each : {h h₁ r r₁ : Bool} {xs : List ℕ} {m kb kf : ℕ} {b : Act} {l : Acts} → Turned ms xs m b kb l kf → Formed h r b → FormedIn h₁ r₁ l → Among b kb → AmongIn l kf → Each b kb × EachIn l kf
+    turned-each {kf = kf} {l = l} (turned-waits e s i q) x y v w = (stopped-each s x v, in-quiet l kf q)
+    turned-each {kf = kf} {l = l} (turned-undoes e u q) x y v w = (undoing-each u x v, in-quiet l kf q)
+    turned-each {kb = kb} {b = b} (turned-heals e q r) x y v w = (each-quiet b kb q, nth-each r (formed-forms y) w)
 
     stopped-each : {h r : Bool} {a : Act} {k : ℕ} → Stopped ms a k → Formed h r a → Among a k → Each a k
     stopped-each {k = k} (stopped-part s₁ e l) (formed-part {own = own} {within = within} s i g y) w =
         each-act own within k (λ u. absurd (false≢true (sym u ∙ rw e))) (stopped-in-each l y (among-within own within k w))
-    stopped-each (stopped-scope t q) (formed-part s i g y) w = absurd (false≢true (sym s))
+    stopped-each (stopped-scope t) (formed-part s i g y) w = absurd (false≢true (sym s))
     stopped-each {a = a} {k = k} (stopped-quiet q) x w = each-quiet a k q
-    stopped-each (stopped-part s e l) (formed-scope x y z) w = absurd (false≢true (sym s))
-    stopped-each {k = k} (stopped-scope t q) (formed-scope {v = v₀} {b = b} {f = f} {u = u} x y z) w =
-        let v = among-within (scope v₀) (trio b f u) k w in
-        let g = turned-each t x y (among-first b (more f u) (k + 1) v) (among-first f u (k + 1 + size b) (among-later b (more f u) (k + 1) v)) in
-        each-scope v₀ b f u k (λ i. run-comes (run-turned t q) (formed-scope x y z) w) (g .0) (g .1) (in-quiet u (k + 1 + size b + size f) q)
+    stopped-each (stopped-part s e l) (formed-scope few many x y) w = absurd (false≢true (sym s))
+    stopped-each {k = k} (stopped-scope t) (formed-scope {xs = xs} {v = v₀} {b = b} {f = f} {u = u} few many x y) w =
+        let v = among-within (scope xs v₀) (trio b f u) k w in
+        let g = turned-each t x y (among-first b (more f u) (k + 1) v) (among-later b (more f u) (k + 1) v) in
+        each-scope xs v₀ b (more f u) k (λ i. run-comes (run-turned t) (formed-scope few many x y) w) (g .0) (g .1)
 
     stopped-in-each : {h r : Bool} {l : Acts} {c : ℕ} → StoppedIn ms l c → FormedIn h r l → AmongIn l c → EachIn l c
     stopped-in-each stopped-none formed-none w = λ j x y u. absurd (omega arith)
@@ -212,22 +229,22 @@ module _ (ms : List ℕ) (rs : List Ready) where
     undoing-each : {h r : Bool} {a : Act} {k : ℕ} → Undoing ms a k → Formed h r a → Among a k → Each a k
     undoing-each {k = k} (undoing-part s₁ e l) (formed-part {own = own} {within = within} s i g y) w =
         each-act own within k (λ u. absurd (false≢true (sym u ∙ rw e))) (undoing-in-each l y (among-within own within k w))
-    undoing-each (undoing-scope e q r) (formed-part s i g y) w = absurd (false≢true (sym s))
+    undoing-each (undoing-scope e n r) (formed-part s i g y) w = absurd (false≢true (sym s))
     undoing-each (undoing-through e r q) (formed-part s i g y) w = absurd (false≢true (sym s))
-    undoing-each (undoing-part s e l) (formed-scope x y z) w = absurd (false≢true (sym s))
-    undoing-each {k = k} (undoing-scope e q r) (formed-scope {b = b} {f = f} x y (formed-undo {u = u} z)) w =
-        let v = among-within (scope true) (trio b f (more u none)) k w in
-        each-scope true b f (more u none) k (λ i. absurd (false≢true (sym i ∙ rw e))) (each-quiet b (k + 1) (quiet-part q (omega arith) (omega arith))) (each-quiet f (k + 1 + size b) (quiet-part q (omega arith) (omega arith)))
-        (each-more u none (k + 1 + size b + size f)
-        (run-each r z (among-first u none (k + 1 + size b + size f) (among-later f (more u none) (k + 1 + size b) (among-later b (more f (more u none)) (k + 1) v))))
-        (λ j x y i. absurd (omega arith)))
-    undoing-each {k = k} (undoing-through e r q) (formed-scope {b = b} {f = f} {u = u} x y z) w =
-        each-scope false b f u k (λ i. absurd (false≢true (sym i ∙ rw e))) (undoing-each r x (among-first b (more f u) (k + 1) (among-within (scope false) (trio b f u) k w)))
-        (each-quiet f (k + 1 + size b) (quiet-part q (omega arith) (omega arith))) (in-quiet u (k + 1 + size b + size f) (quiet-part q (omega arith) (omega arith)))
+    undoing-each (undoing-part s e l) (formed-scope few many x y) w = absurd (false≢true (sym s))
+    undoing-each {k = k} (undoing-scope {xs} e n r) (formed-scope {b = b} {f = f} {u = u} few many x y) w =
+        each-act (scope xs true) (trio b f u) k (λ i. absurd (false≢true (sym i ∙ rw e))) (nth-each r (forms-more x (formed-forms y)) (among-within (scope xs true) (trio b f u) k w))
+    undoing-each {k = k} (undoing-through {xs} e r q) (formed-scope {b = b} {f = f} {u = u} few many x y) w =
+        each-scope xs false b (more f u) k (λ i. absurd (false≢true (sym i ∙ rw e)))
+        (undoing-each r x (among-first b (more f u) (k + 1) (among-within (scope xs false) (trio b f u) k w))) (in-quiet (more f u) (k + 1 + size b) q)
 
     undoing-in-each : {h r : Bool} {l : Acts} {c : ℕ} → UndoingIn ms l c → FormedIn h r l → AmongIn l c → EachIn l c
     undoing-in-each {c = c} (undoing-here r q) (formed-more {a = a} {l = l} x y) w = each-more a l c (undoing-each r x (among-first a l c w)) (in-quiet l (c + size a) q)
     undoing-in-each {c = c} (undoing-later q r) (formed-more {a = a} {l = l} x y) w = each-more a l c (each-quiet a c q) (undoing-in-each r y (among-later a l c w))
+
+sizes-alone : (a : Act) → sizes (more a none) ≡ size a
+unfolding size
+sizes-alone a = omega arith
 
 -- of an order that stands
 standing-comes : (p : Plan) (o : Order) → Promised p → Standing p o → (k : ℕ) → k < size (p .body) + size (p .fault) → hasNext p o k ≡ true
@@ -246,17 +263,17 @@ standing-comes p o h st k n =
     inFault : Among (o .marks) rs (p .fault) (size (p .body))
     inFault = record { free = false; among = λ f e. some-append f (readyIn (p .body) 0 false (o .marks)) (readyIn (p .fault) (size (p .body)) false (o .marks)) ∙ rw (e, or-true) }
 
-    go : Running (rootOf p) (o .marks) (o .root) → Each (o .marks) rs (p .body) 0 × Each (o .marks) rs (p .fault) (size (p .body))
-    go (scope-live e r q) = (run-each (o .marks) rs r (h .body) inBody, each-quiet (o .marks) rs (p .fault) (size (p .body)) q)
-    go (scope-done e q r) = (each-quiet (o .marks) rs (p .body) 0 q, each-quiet (o .marks) rs (p .fault) (size (p .body)) r)
-    go (scope-turned t) = turned-each (o .marks) rs t (h .body) (h .fault) inBody inFault
+    go : Running (rootOf p) (o .marks) (o .root) → Each (o .marks) rs (p .body) 0 × EachIn (o .marks) rs (more (p .fault) none) (size (p .body))
+    go (scope-live e r q) = (run-each (o .marks) rs r (h .body) inBody, in-quiet (o .marks) rs (more (p .fault) none) (size (p .body)) q)
+    go (scope-done e q r) = (each-quiet (o .marks) rs (p .body) 0 q, in-quiet (o .marks) rs (more (p .fault) none) (size (p .body)) r)
+    go (scope-turned t) = turned-each (o .marks) rs t (h .body) (formed-more (h .fault) formed-none) inBody (alone-among (o .marks) rs (p .fault) (size (p .body)) inFault)
 
-    by-part : Each (o .marks) rs (p .body) 0 × Each (o .marks) rs (p .fault) (size (p .body)) → Up (o .marks) k → Comes (o .marks) rs k (actAt p k)
+    by-part : Each (o .marks) rs (p .body) 0 × EachIn (o .marks) rs (more (p .fault) none) (size (p .body)) → Up (o .marks) k → Comes (o .marks) rs k (actAt p k)
     by-part w u =
         decide (ltb k (size (p .body)))
         (λ t. let z = ltb-true k (size (p .body)) t in subst (Comes (o .marks) rs k) (sym (in-first (p .body) (more (p .fault) none) 0 k (omega arith))) (w .0 k (omega arith) (omega arith) u))
         (λ t. let z = ltb-false k (size (p .body)) t in
-        subst (Comes (o .marks) rs k) (sym (in-later (p .body) (more (p .fault) none) 0 k (omega arith) ∙ (ap (λ (c : ℕ). actAmong (more (p .fault) none) c k) (zero-plus (size (p .body))) ∙ in-first (p .fault) none (size (p .body)) k (omega arith)))) (w .1 k z (omega arith) u))
+        subst (Comes (o .marks) rs k) (sym (in-later (p .body) (more (p .fault) none) 0 k (omega arith) ∙ ap (λ (c : ℕ). actAmong (more (p .fault) none) c k) (zero-plus (size (p .body))))) (w .1 k z (omega (arith, sizes-alone (p .fault))) u))
       where
         zero-plus : (n : ℕ) → 0 + n ≡ n
         zero-plus n = omega arith

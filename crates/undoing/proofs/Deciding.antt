@@ -2,7 +2,7 @@
 use Prim.Native.Nat.{ℕ, zero, suc, _+_, _≤_, _<_}
 use native.Mathlib.Omega.{arith}
 use mathlib.Core.Path.{_≡_, refl, sym, ap, subst, _∙_}
-use mathlib.Core.Bool.{Bool, true, false, cond, not, _&&_, _||_, or-true}
+use mathlib.Core.Bool.{Bool, true, false, cond, _&&_, _||_, or-true}
 use mathlib.Core.List.{List, [], _∷_, _++_}
 use lib.Dec.{eqb, ltb}
 use Rattle.plan.specs.Tree.{Exp, constant, variable, binary, Own, empty, send, receive, set as setting, raise, leave, choose, repeat, sequence, flow, pick, scope, arm, kind, isScope, isPick, Act, act, Acts, none, more, Plan, size, sizes, count}
@@ -10,18 +10,18 @@ use Rattle.order.specs.declared.Order.{Order}
 use Rattle.order.specs.declared.End.{End}
 use Rattle.order.specs.declared.End.the-variants.{None, Well, Handled, Failed, Left}
 use Rattle.machine.specs.declared.Message.{Message}
-use Rattle.order.specs.Lists.{every, some}
+use Rattle.order.specs.Lists.{every}
 use Rattle.order.specs.State.{inside, root, withMarks, marked}
 use Rattle.order.specs.Event.{Event, started, ended}
 use Rattle.order.specs.Expression.{conflictingReceive, Value, fault, value, evaluate, isTrue}
 use Rattle.order.specs.Begin.{part, partAt, beginPart, cleared}
 use Rattle.order.specs.Scope.{Outcome, begunIn, rootOf, fromBody, fromFault}
 use Rattle.order.specs.Acting.{finishes, raises, orRaises, enters, again, repeats, itself, arms, combines, stepIn, stepAmong, stepRoot, endOf, movedTo, acted, begunOrder, startedOrder, Actor, itsOwn, inPlace, replaces, performs, isPart}
-use Rattle.order.specs.Awaited.{Doing, doingOf, kindAt}
+use Rattle.order.specs.Awaited.{doingOf, kindAt}
 use Rattle.machine.specs.Calls.{doingIn, doingAmong, doingAt, orderTaking}
 use Rattle.undoing.specs.Orderly.{isBeganOf}
 use Rattle.undoing.specs.Begun.{hasBegan}
-use Rattle.undoing.specs.Onward.{hadBy, pickedBy, picks, picksIn, picksAmong, picksAt, isDecided, Decided}
+use Rattle.undoing.specs.Onward.{pickedBy, picks, picksIn, picksAmong, picksAt, isDecided, Decided}
 use Rattle.undoing.proofs.Parts.{decide, some-append, every-so}
 use Rattle.undoing.proofs.Orders.{least}
 use Rattle.undoing.proofs.Places.{first-of, second-of}
@@ -31,7 +31,7 @@ use Rattle.undoing.proofs.Deeds.{taking-either}
 use Rattle.undoing.proofs.Truly.{Arms, needs, Knows, knows, KnowsIn, knows-none, knows-more}
 use Rattle.undoing.proofs.Keeping.{begins-said}
 use Rattle.undoing.proofs.BegunTold.{body-knows, fault-knows}
-use Rattle.undoing.proofs.EachTime.{time, Took, took, took-none, OfTaking, OfStarts, each-taking}
+use Rattle.undoing.proofs.EachTime.{Took, took, took-none, OfTaking, OfStarts, each-taking}
 use Rattle.undoing.proofs.Dropping.{where-has, body-has, fault-has, combines-has}
 
 -- all of these began

@@ -18,7 +18,7 @@ use Rattle.machine.specs.declared.Message.{Message}
 use Rattle.machine.specs.declared.State.{State}
 use Rattle.machine.specs.declared.Tally.{Tally}
 use Rattle.order.specs.Lists.{every, some}
-use Rattle.order.specs.State.{root, idle, done, halted, withdrawing, markAt, isLive, noOrder}
+use Rattle.order.specs.State.{root, idle, done, halted, withdrawing, markAt, isLive, noOrder, going}
 use Rattle.machine.specs.State.{fresh}
 use Rattle.machine.specs.Limits.{rootInLimits}
 use Rattle.order.specs.Event.{Event, started, began, closed, faulted, stopped, ended, raised, left}
@@ -35,7 +35,7 @@ use Rattle.undoing.specs.Orderly.{isBeganOf}
 use Rattle.undoing.specs.Begun.{kindAt, lasts, ownsAt, hasBegan, Taken, isMarked, numbers, ofEach, takenBy, stepsTaken, BegunTruly}
 use Rattle.undoing.specs.Entirely.{ofAll, BegunTrulyEver, times, Turn, apart, along, behind, turnIn, turnAmong, turnFirst, turnBehind, turnAt, suits, isEntire, BegunEntirely}
 use Rattle.undoing.proofs.Parts.{both, decide, every-append}
-use Rattle.undoing.proofs.Marks.{Quiet, turned-not-open}
+use Rattle.undoing.proofs.Marks.{Quiet, quiet-part, turned-not-open}
 use Rattle.undoing.proofs.Orders.{momentOf, onto}
 use Rattle.undoing.proofs.Places.{first-of, second-of}
 use Rattle.undoing.proofs.Planning.{Formed, formed-part, formed-scope, Promised, promised}
@@ -153,7 +153,7 @@ times-none j (x ∷ l) e = decide (isBeganOf (eqb j) x) (λ d. absurd (let z : 1
 pub formed-named : (f : ℕ → ℕ) {h : Bool} {a : Act} → Formed h false a → Named f a
 unfolding kind
 formed-named f (formed-part s i g y) = i
-formed-named f (formed-scope x y z) = refl
+formed-named f (formed-scope few many x y) = refl
 
 -- each number below
 pub each-below : (f : ℕ → Bool) (n : ℕ) → ((k : ℕ) → k < n → f k ≡ true) → every f (numbers n) ≡ true
@@ -212,10 +212,15 @@ module _ (p : Plan) (h : Promised p) where
       like : HoldsIn no (begunOrder p .log) (whole (kindAt p) t p) 0 → HoldsIn no (started ∷ begunOrder p .log) (whole (kindAt p) t p) 0
       like w = holds-in-same no (begunOrder p .log) (started ∷ begunOrder p .log) (whole (kindAt p) t p) 0 (record { at = λ j u v. times-event j started (begunOrder p .log) refl }) w
 
+  -- the only one of a list
+  alone-quiet : {ms : List ℕ} (a : Act) (c : ℕ) → Quiet ms c (sizes (more a none)) → Quiet ms c (size a)
+  unfolding size
+  alone-quiet a c q = quiet-part q (omega arith) (omega arith)
+
   -- a root that is done has quiet parts
   done-quiets : (ms : List ℕ) (m : ℕ) → m ≡ done → Running (rootOf p) ms m → Quiet ms 0 (size (p .body)) × Quiet ms (size (p .body)) (size (p .fault))
   done-quiets ms m e (scope-live d r q) = absurd (let z : _≡_ {A = ℕ} 1 3 = sym d ∙ e in omega arith)
-  done-quiets ms m e (scope-done d r q) = (r, q)
+  done-quiets ms m e (scope-done d r q) = (r, alone-quiet (p .fault) (size (p .body)) q)
   done-quiets ms m e (scope-turned t) = absurd (false≢true (sym (turned-not-open t) ∙ rw e))
 
   -- Where a step ends the order, nothing that lasts begins in it.
@@ -251,7 +256,7 @@ module _ (p : Plan) (h : Promised p) where
               began-in k (r .log) (ended root ∷ []) b (λ d. quiet (z .0) (z .1) d) (λ d. false≢true d)
           by-done false i v b =
               false≢true (sym v ∙ standing-live p (r .order) (record { many = omega (arith, st .many, w .apart .many); runs = c .0; going = eqb-false (r .order .root) done i }))
-      go over d c v b = quiet (c .1) (c .2) b
+      go over d c v b = quiet (c .1) (alone-quiet (p .fault) (size (p .body)) (c .2)) b
       go (raising x) d c v b = false≢true (sym (s .quits (ap isRaising d) k) ∙ b)
       go leaving d c v b = false≢true (sym (times-none k (r .log) (root-at (kindAt p) t p kb kf (formed-named (kindAt p) (h .fault)) actor o .leaves (ap isLeaving d) k)) ∙ b)
       go undone d c v b = c

@@ -8,30 +8,30 @@ use lib.ListN.{getD, set}
 use lib.Seq.{getD-set-other}
 use lib.Dec.{eqb, ltb}
 use borrow.Author.Tests.{eqb-true, eqb-false, eq-eqb, ne-eqb, lt-ltb, le-ltb, ltb-true, ltb-false}
-use Rattle.plan.specs.Tree.{Exp, Own, empty, send, receive, set as setting, raise, leave, choose, repeat, sequence, flow, pick, scope, arm, kind, isScope, isArm, isPick, Act, act, Acts, none, more, Plan, size, sizes, numbersOf}
+use Rattle.plan.specs.Tree.{Exp, Own, empty, send, receive, set as setting, raise, leave, choose, repeat, sequence, flow, pick, scope, arm, kind, isScope, isArm, isPick, Act, act, Acts, none, more, Plan, size, sizes, undoPart}
 use Rattle.order.specs.declared.Order.{Order}
 use Rattle.order.specs.declared.Way.{Way as Result}
 use Rattle.order.specs.declared.Way.the-variants.{Running as running, Over as over, Raising as raising, Leaving as leaving, Undone as undone, UndoRaising as undoRaising}
-use Rattle.order.specs.State.{idle, active, inside, done, faulty, undoing, handling, halted, withdrawing, Name, root, inner, withMarks, marked, markAt, markOf, marking, closings, remembering, causing, stateOf, going, markWith}
+use Rattle.order.specs.State.{idle, active, inside, done, faulty, undoing, handling, halted, withdrawing, Name, root, inner, withMarks, marked, markAt, markOf, marking, closings, remembering, causing, stateOf, choiceOf, going, markWith}
 use Rattle.order.specs.Lists.{withoutLast}
 use Rattle.order.specs.Expression.{conflictingReceive}
 use Rattle.order.specs.Event.{Event}
 use Rattle.order.specs.Begin.{Begun, begin, beginAfter, part, partAt, quiet, cleared}
-use Rattle.order.specs.Scope.{Outcome, runs, after, begunIn, whereOver, Scope, scopeAt, rootOf, isFor, isOpen, innerRuns, rememberedFor, beginUndo, startUndo, undo, stop, ends, handle, undoes, turns, faults, breaks, looksAgain, bodyOver, bodyRaised, undoRaised, fromBody, partRaised, fromFault, fromUndo, goesThrough, choiceFor}
+use Rattle.order.specs.Scope.{Outcome, runs, after, begunIn, whereOver, Scope, scopeAt, rootOf, isFor, isOpen, innerRuns, rememberedFor, beginUndo, startUndo, undo, stop, ends, handle, undoes, turns, faults, breaks, looksAgain, bodyOver, bodyRaised, undoRaised, fromBody, partRaised, fromFault, fromUndo, goesThrough, choiceFor, chosenPart, chosenAt}
 use Rattle.order.specs.Acting.{finishes, raises, again, isPart, arms, goesOn, joins, inScope, combines, inPlace, replaces, performs, stepIn, stepAmong}
 use Rattle.order.specs.Awaited.{Doing, doingOf, awaits}
 use Rattle.order.specs.Judging.{rank}
 use Rattle.machine.specs.Calls.{doingIn, doingAmong}
 use Rattle.undoing.proofs.Parts.{both, decide}
 use Rattle.undoing.proofs.Places.{first-of, second-of}
-use Rattle.undoing.proofs.Planning.{Formed, formed-part, formed-scope, FormedIn, formed-none, formed-more, FormedRest, formed-undo, formed-no}
+use Rattle.undoing.proofs.Planning.{Formed, formed-part, formed-scope, FormedIn, formed-none, formed-more}
 use Rattle.undoing.proofs.Waiting.{opens, Waits, waits-itself, waits-within, WaitsIn, waits-first, waits-later}
 use Rattle.undoing.proofs.Truly.{Arms, Knows, knows, KnowsIn, knows-none, knows-more}
 use Rattle.undoing.proofs.Marks.{trio}
 use Rattle.undoing.proofs.Keeping.{pick-kind, part-from, arm-open}
 use Rattle.undoing.proofs.Stepping.{in-parts}
 use Rattle.undoing.proofs.Judged.{isTake, doing-here, doing-within, doing-among, doing-later}
-use Rattle.undoing.proofs.Lower.{Same, same-itself, same-then, same-less, same-set, endWith, same-after, same-cleared, rank-set, Low, low-itself, low-then, low-less, Owns, own-at, own-root, Under, Lowered, stays, lowers, again-lowered, over-lowered, breaks-lowered, raised-lowered}
+use Rattle.undoing.proofs.Lower.{Same, same-itself, same-then, same-less, same-set, endWith, same-after, same-cleared, rank-set, rank-by, Low, low-itself, low-then, low-less, Owns, own-at, own-root, Under, Lowered, stays, lowers, again-lowered, over-lowered, breaks-lowered, raised-lowered}
 
 -- the first mark that changes falls, from b on and before e
 pub record Falls (f : ℕ → ℕ) (b e : ℕ) (ms ns : List ℕ) : Type 0 where
@@ -251,7 +251,8 @@ plain-handle : (s : Scope) (o : Order) → isPlain (handle s o .result) ≡ true
 unfolding handle
 plain-handle s o =
     let o′ = going (s .name) handling o in
-    let b = begin (s .fault) (s .faultAt) (o′ .marks) in
+    let c = choiceOf (s .name) o in
+    let b = begin (chosenPart c s) (chosenAt c s) (o′ .marks) in
     plain-where (ends s) (begunIn o′ b) (plain-begun o′ b) (λ o₁. refl)
 
 plain-undoes : (w : Bool) (s : Scope) (o : Order) → isPlain (undoes w s o .result) ≡ true
@@ -292,7 +293,7 @@ part-lowered : (s : Scope) (b : ℕ) → Owns s b
 unfolding partRaised breaks rank
 part-lowered s b h f number o =
     decide (eqb (stateOf (s .name) o) handling)
-    (λ e. rw (e, partRaised) (breaks-lowered s b h number o (subst (λ (m : ℕ). 0 < rank 11 m) (sym (eqb-true (markOf (s .name) o) handling e)) (omega arith)) f, refl))
+    (λ e. rw (e, partRaised) (breaks-lowered s b h number o (subst (λ (n : ℕ). 0 < n) (sym (rank-by 11 (markOf (s .name) o) handling e (omega arith))) (omega arith)) f, refl))
     (λ e. rw (e, partRaised) (stays refl, refl))
 
 undo-lowered : (s : Scope) (b : ℕ) → Owns s b
@@ -301,7 +302,7 @@ undo-lowered : (s : Scope) (b : ℕ) → Owns s b
 unfolding undoRaised breaks rank
 undo-lowered s b h f number o =
     decide (eqb (stateOf (s .name) o) undoing)
-    (λ e. rw (e, undoRaised) (breaks-lowered s b h number o (subst (λ (m : ℕ). 0 < rank 11 m) (sym (eqb-true (markOf (s .name) o) undoing e)) (omega arith)) f, refl))
+    (λ e. rw (e, undoRaised) (breaks-lowered s b h number o (subst (λ (n : ℕ). 0 < n) (sym (rank-by 11 (markOf (s .name) o) undoing e (omega arith))) (omega arith)) f, refl))
     (λ e. decide (eqb (markOf (s .name) o) withdrawing)
     (λ d. rw (e, undoRaised, d) (breaks-lowered s b h number o (subst (λ (m : ℕ). 0 < rank 11 m) (sym (eqb-true (markOf (s .name) o) withdrawing d)) (omega arith)) f, refl))
     (λ d. rw (e, undoRaised, d) (stays refl, refl)))
@@ -331,23 +332,24 @@ module _ (s : Scope) (b : ℕ) (h : Owns s b)
   fault-lowered {number} r x = subst (λ (z : Result). Lowered s b (r .order) (fromFault s (record { result = z; order = r .order; log = r .log })) × (isPlain (fromFault s (record { result = z; order = r .order; log = r .log }) .result) ≡ true)) (sym x)
       (let u = part-lowered s b h f number (r .order) in (lowered-after (r .log) (r .order) (partRaised number s (r .order)) (u .0), u .1))
 
--- a scope with an undo part and one with none have the same ranks
-rank-scope : (z : Bool) (m : ℕ) → rank (kind (scope xs z)) m ≡ rank 11 m
+-- all scopes have the same ranks
+rank-scope : (xs : List ℕ) (z : Bool) (m : ℕ) → rank (kind (scope xs z)) m ≡ rank 11 m
 unfolding rank kind
-rank-scope true m = refl
-rank-scope false m = refl
+rank-scope [] true m = refl
+rank-scope [] false m = refl
+rank-scope (x ∷ xs) z m = refl
 
 -- a scope with a number: what fell in it still does, or it does itself
-fell-scope : (f : ℕ → ℕ) (z : Bool) (k d : ℕ) (within : Acts) (o : Order) (h : Bool) (r r₁ : Outcome) → f k ≡ kind (scope xs z) → k < d → Fell f h (k + 1) d o r
+fell-scope : (f : ℕ → ℕ) (xs : List ℕ) (z : Bool) (k d : ℕ) (within : Acts) (o : Order) (h : Bool) (r r₁ : Outcome) → f k ≡ kind (scope xs z) → k < d → Fell f h (k + 1) d o r
     → Lowered (scopeAt xs k within) k (r .order) r₁ → isPlain (r₁ .result) ≡ true → Fell f false k d o r₁
-fell-scope f z k d within o h r r₁ n v w (stays e) y =
+fell-scope f xs z k d within o h r r₁ n v w (stays e) y =
     record {
       falls = subst (λ (x : Order). Falls f k d (o .marks) (x .marks)) (sym e) (falls-wider (omega arith) (omega arith) (w .falls));
       root = ap (λ (x : Order). x .root) e ∙ w .root;
       plain = y;
       out = λ z. absurd (false≢true z);
     }
-fell-scope f z k d within o h r r₁ n v w (lowers i u) y =
+fell-scope f xs z k d within o h r r₁ n v w (lowers i u) y =
     record {
       falls = record {
         at = k;
@@ -355,8 +357,8 @@ fell-scope f z k d within o h r r₁ n v w (lowers i u) y =
         to = v;
         same = same-then (same-less (omega arith) (falls-below (w .falls))) (u .marks);
         less = subst (λ (j : ℕ). rank j (getD (r₁ .order .marks) k 0) < rank j (getD (o .marks) k 0)) (sym n)
-            (subst (λ (x : ℕ). x < rank (kind (scope xs z)) (getD (o .marks) k 0)) (sym (rank-scope z (getD (r₁ .order .marks) k 0)))
-            (subst (λ (x : ℕ). rank 11 (getD (r₁ .order .marks) k 0) < x) (sym (rank-scope z (getD (o .marks) k 0)))
+            (subst (λ (x : ℕ). x < rank (kind (scope xs z)) (getD (o .marks) k 0)) (sym (rank-scope xs z (getD (r₁ .order .marks) k 0)))
+            (subst (λ (x : ℕ). rank 11 (getD (r₁ .order .marks) k 0) < x) (sym (rank-scope xs z (getD (o .marks) k 0)))
             (subst (λ (x : ℕ). rank 11 (getD (r₁ .order .marks) k 0) < rank 11 x) (falls-below (w .falls) .at k (omega arith)) (omega (arith, i, u .rank)))));
       };
       root = u .root .same ∙ w .root;
@@ -460,12 +462,12 @@ Deep (act own within) k t = isArm own ≡ true → k ≡ t → ⊥
 pub no-arm : {h : Bool} {a : Act} (k t : ℕ) → Formed h false a → Deep a k t
 unfolding kind
 no-arm k t (formed-part s n g l) = λ e d. false≢true (sym n ∙ e)
-no-arm k t (formed-scope hb hg hu) = λ e d. false≢true e
+no-arm k t (formed-scope few many hb hl) = λ e d. false≢true e
 
 deep-first : {h : Bool} (r : Bool) {a : Act} (l : Acts) (c t : ℕ) → Formed h r a → (r && isPart (more a l) c t) ≡ false → Deep a c t
 unfolding isPart kind
 deep-first r l c t (formed-part s n g y) d = λ e q. false≢true (sym d ∙ rw (sym n ∙ e, eq-eqb c t q))
-deep-first r l c t (formed-scope hb hg hu) d = λ e q. false≢true e
+deep-first r l c t (formed-scope few many hb hl) d = λ e q. false≢true e
 
 deep-later : (r x y : Bool) → (r && (x || y)) ≡ false → (r && y) ≡ false
 deep-later true true y d = absurd (false≢true (sym d))
@@ -539,7 +541,7 @@ clears : (k : ℕ) (within : Acts) (o : Order)
 clears k within o = cleared-rank (1 + sizes within) k (o .marks)
 
 -- a scope, by where the raise is
-module _ (f : ℕ → ℕ) (z : Bool) (b g : Act) (u : Acts) (y k t : ℕ) (o : Order) (n : f k ≡ kind (scope xs z)) where
+module _ (f : ℕ → ℕ) (xs : List ℕ) (z : Bool) (b g : Act) (u : Acts) (y k t : ℕ) (o : Order) (n : f k ≡ kind (scope xs z)) where
   abbrev Whole : ℕ
   Whole = k + (1 + sizes (trio b g u))
 
@@ -548,7 +550,7 @@ module _ (f : ℕ → ℕ) (z : Bool) (b g : Act) (u : Acts) (y k t : ℕ) (o : 
   unfolding size
   fell-body e w =
       subst (λ (x : Outcome). Fell f false k (k + (1 + sizes (trio b g u))) o x)
-      (sym (ap (inScope xs z k t (trio b g u)) (first-among b (more g u) true y (k + 1) t o e) ∙ in-parts z b g u k t r true _ (lt-ltb t (k + 1 + size b) e) refl))
+      (sym (ap (inScope xs z k t (trio b g u)) (first-among b (more g u) true y (k + 1) t o e) ∙ in-parts xs z b g u k t r true _ (lt-ltb t (k + 1 + size b) e) refl))
       (go (goesThrough z k r))
     where
       r : Outcome
@@ -557,43 +559,42 @@ module _ (f : ℕ → ℕ) (z : Bool) (b g : Act) (u : Acts) (y k t : ℕ) (o : 
       go : (v : Bool) → Fell f false k (k + (1 + sizes (trio b g u))) o (elim v [ true ↦ r | false ↦ fromBody (scopeAt xs k (trio b g u)) r ])
       go true = fell-wider (omega arith) (omega arith) w
       go false =
-          let x = body-lowered (scopeAt (numbersOf own) k (trio b g u)) k (own-at k (trio b g u)) (clears k (trio b g u)) r (w .plain) in
-          fell-scope f z k (k + (1 + sizes (trio b g u))) (trio b g u) o false r (fromBody (scopeAt xs k (trio b g u)) r) n (omega arith) (fell-wider (omega arith) (omega arith) w) (x .0) (x .1)
+          let x = body-lowered (scopeAt xs k (trio b g u)) k (own-at xs k (trio b g u)) (clears k (trio b g u)) r (w .plain) in
+          fell-scope f xs z k (k + (1 + sizes (trio b g u))) (trio b g u) o false r (fromBody (scopeAt xs k (trio b g u)) r) n (omega arith) (fell-wider (omega arith) (omega arith) w) (x .0) (x .1)
 
-  fell-fault : k + 1 + size b ≤ t → t < k + 1 + size b + size g → Fell f true (k + 1 + size b) (k + 1 + size b + size g) o (stepIn inPlace g (k + 1 + size b) (k + 1 + size b) t o)
+  fell-later : k + 1 + size b ≤ t → Fell f true (k + 1 + size b) (endWith (more g u) (k + 1 + size b) t) o (stepAmong inPlace (more g u) true y (k + 1 + size b) t o)
       → Fell f false k Whole o (inScope xs z k t (trio b g u) (stepAmong inPlace (trio b g u) true y (k + 1) t o))
-  unfolding size
-  fell-fault e d w =
-      let r = stepIn inPlace g (k + 1 + size b) (k + 1 + size b) t o in
-      let x = fault-lowered (scopeAt (numbersOf own) k (trio b g u)) k (own-at k (trio b g u)) (clears k (trio b g u)) r (w .out refl) in
-      subst (λ (x : Outcome). Fell f false k (k + (1 + sizes (trio b g u))) o x)
-      (sym (ap (inScope xs z k t (trio b g u)) (later-among b (more g u) true y (k + 1) t o e ∙ first-among g u true y (k + 1 + size b) t o d)
-      ∙ in-parts z b g u k t r false true (le-ltb t (k + 1 + size b) e) (lt-ltb t (k + 1 + size b + size g) d)))
-      (fell-scope f z k (k + (1 + sizes (trio b g u))) (trio b g u) o true r (fromFault (scopeAt xs k (trio b g u)) r) n (omega arith) (fell-wider (omega arith) (omega arith) w) (x .0) (x .1))
+  unfolding size fromUndo
+  fell-later e w = go (ltb t (partAt (undoPart xs) (trio b g u) (k + 1))) refl
+    where
+      r : Outcome
+      r = stepAmong inPlace (more g u) true y (k + 1 + size b) t o
 
--- in the undo part of a scope that has one
-fell-undo : (f : ℕ → ℕ) (b g u : Act) (y k t : ℕ) (o : Order) → k + 1 + size b + size g ≤ t → t < k + 1 + size b + size g + size u
-    → Fell f true (k + 1 + size b + size g) (k + 1 + size b + size g + size u) o (stepIn inPlace u (k + 1 + size b + size g) (k + 1 + size b + size g) t o)
-    → Fell f false k (k + (1 + sizes (trio b g (more u none)))) o (inScope true k t (trio b g (more u none)) (stepAmong inPlace (trio b g (more u none)) true y (k + 1) t o))
-unfolding size fromUndo
-fell-undo f b g u y k t o e d w =
-    let r = stepIn inPlace u (k + 1 + size b + size g) (k + 1 + size b + size g) t o in
-    subst (λ (x : Outcome). Fell f false k (k + (1 + sizes (trio b g (more u none)))) o x)
-    (sym (ap (inScope true k t (trio b g (more u none)))
-    (later-among b (more g (more u none)) true y (k + 1) t o (omega arith)
-    ∙ (later-among g (more u none) true y (k + 1 + size b) t o e ∙ first-among u none true y (k + 1 + size b + size g) t o d))
-    ∙ in-parts true b g (more u none) k t r false false (le-ltb t (k + 1 + size b) (omega arith)) (le-ltb t (k + 1 + size b + size g) e)))
-    (record {
-      falls = falls-wider (omega arith) (omega arith) (w .falls);
-      root = w .root;
-      plain = subst (λ (x : Result). isPlain (fromUndo (record { result = x; order = r .order; log = r .log }) .result) ≡ true) (sym (w .out refl)) refl;
-      out = λ y. absurd (false≢true y);
-    })
+      last : endWith (more g u) (k + 1 + size b) t ≤ k + (1 + (size b + (size g + sizes u)))
+      last = omega (arith, end-within (more g u) (k + 1 + size b) t .1)
+
+      as-it-is : (v : Bool) → ltb t (partAt (undoPart xs) (trio b g u) (k + 1)) ≡ v
+          → inScope xs z k t (trio b g u) (stepAmong inPlace (trio b g u) true y (k + 1) t o) ≡ elim v [ true ↦ fromFault (scopeAt xs k (trio b g u)) r | false ↦ fromUndo r ]
+      as-it-is v d = ap (inScope xs z k t (trio b g u)) (later-among b (more g u) true y (k + 1) t o e) ∙ in-parts xs z b g u k t r false v (le-ltb t (k + 1 + size b) e) d
+
+      go : (v : Bool) → ltb t (partAt (undoPart xs) (trio b g u) (k + 1)) ≡ v → Fell f false k Whole o (inScope xs z k t (trio b g u) (stepAmong inPlace (trio b g u) true y (k + 1) t o))
+      go true d =
+          let x = fault-lowered (scopeAt xs k (trio b g u)) k (own-at xs k (trio b g u)) (clears k (trio b g u)) r (w .out refl) in
+          subst (λ (x : Outcome). Fell f false k (k + (1 + sizes (trio b g u))) o x) (sym (as-it-is true d))
+          (fell-scope f xs z k (k + (1 + sizes (trio b g u))) (trio b g u) o true r (fromFault (scopeAt xs k (trio b g u)) r) n (omega arith) (fell-wider (omega arith) (omega (arith, last)) w) (x .0) (x .1))
+      go false d =
+          subst (λ (x : Outcome). Fell f false k (k + (1 + sizes (trio b g u))) o x) (sym (as-it-is false d))
+          (record {
+            falls = falls-wider (omega arith) (omega (arith, last)) (w .falls);
+            root = w .root;
+            plain = subst (λ (x : Result). isPlain (fromUndo (record { result = x; order = r .order; log = r .log }) .result) ≡ true) (sym (w .out refl)) refl;
+            out = λ y. absurd (false≢true y);
+          })
 
 -- a scope takes no message
-scope-no-take : (z : Bool) (within : Acts) (k : ℕ) → isTake (doingOf (scope xs z) within k) ≡ false
+scope-no-take : (xs : List ℕ) (z : Bool) (within : Acts) (k : ℕ) → isTake (doingOf (scope xs z) within k) ≡ false
 unfolding isTake doingOf
-scope-no-take z within k = refl
+scope-no-take xs z within k = refl
 
 -- by other names
 take-as : {x y : Doing} → x ≡ y → isTake x ≡ true → isTake y ≡ true
@@ -604,10 +605,10 @@ among-as : (f : ℕ → ℕ) (h : Bool) (l : Acts) (w : Bool) (q c t : ℕ) (o :
 among-as f h l w q c t o {e} {r} x y z =
     subst (λ (i : Outcome). Fell f h c (endWith l c t) o i) (sym y) (subst (λ (i : ℕ). Fell f h c i o r) (sym x) z)
 
-in-scope : (z : Bool) (b g : Act) (u : Acts) (q k t : ℕ) (o : Order) → k < t
+in-scope : (xs : List ℕ) (z : Bool) (b g : Act) (u : Acts) (q k t : ℕ) (o : Order) → k < t
     → stepIn inPlace (act (scope xs z) (trio b g u)) q k t o ≡ inScope xs z k t (trio b g u) (stepAmong inPlace (trio b g u) true q (k + 1) t o)
 unfolding combines arms kind
-in-scope z b g u q k t o e = deeper (scope xs z) (trio b g u) q k t o e
+in-scope xs z b g u q k t o e = deeper (scope xs z) (trio b g u) q k t o e
 
 mutual
   unfolding size kind rank
@@ -631,26 +632,14 @@ mutual
   step-falls {f} {h} (formed-part {own = own} {within = within} s g n l) (knows {k = k} x y z w) y₀ t o (waits-within e q) i d =
       part-falls f h own within y₀ k t o s x z e q (subst (λ (u : Doing). isTake u ≡ true) (doing-within own within k t e) i)
       (λ c. among-falls l w (isScope own) y₀ t o q (subst (λ (u : Doing). isTake u ≡ true) (doing-within own within k t e) i) c)
-  step-falls {f} {h} (formed-scope {v = v₀} {b = b} {f = g} {u = u} hb hg hu) (knows {k = k} x y z (knows-more kb (knows-more kg ku))) y₀ t o (waits-itself e q) i d =
-      absurd (false≢true (sym (scope-no-take v₀ (trio b g u) k) ∙ subst (λ (v : Doing). isTake v ≡ true) (ap (λ (v : ℕ). doingIn (act (scope xs v₀) (trio b g u)) k v) (sym e) ∙ doing-here (scope xs v₀) (trio b g u) k) i))
-  step-falls {f} {h} (formed-scope {v = v₀} {b = b} {f = g} {u = u} hb hg hu) (knows {k = k} x y z (knows-more kb (knows-more kg ku))) y₀ t o (waits-within e (waits-first v w)) i d =
-      subst (λ (r : Outcome). Fell f false k (k + (1 + sizes (trio b g u))) o r) (sym (in-scope v₀ b g u y₀ k t o e))
-      (fell-body f v₀ b g u y₀ k t o x v (step-falls hb kb (k + 1) t o w (take-as (doing-within (scope xs v₀) (trio b g u) k t e ∙ doing-among b (more g u) (k + 1) t v) i) (no-arm (k + 1) t hb)))
-  step-falls {f} {h} (formed-scope {v = v₀} {b = b} {f = g} {u = u} hb hg hu) (knows {k = k} x y z (knows-more kb (knows-more kg ku))) y₀ t o (waits-within e (waits-later v (waits-first v₁ w))) i d =
-      subst (λ (r : Outcome). Fell f false k (k + (1 + sizes (trio b g u))) o r) (sym (in-scope v₀ b g u y₀ k t o e))
-      (fell-fault f v₀ b g u y₀ k t o x v v₁
-      (step-falls hg kg (k + 1 + size b) t o w (take-as (doing-within (scope xs v₀) (trio b g u) k t e ∙ (doing-later b (more g u) (k + 1) t v ∙ doing-among g u (k + 1 + size b) t v₁)) i) (no-arm (k + 1 + size b) t hg)))
-  step-falls {f} {h} (formed-scope {v = v₀} {b = b} {f = g} {u = u} hb hg hu) (knows {k = k} x y z (knows-more kb (knows-more kg ku))) y₀ t o (waits-within e (waits-later v (waits-later v₁ w))) i d =
-      subst (λ (r : Outcome). Fell f false k (k + (1 + sizes (trio b g u))) o r) (sym (in-scope v₀ b g u y₀ k t o e))
-      (rest-falls hu b g k ku y₀ t o v₁ w (take-as (doing-within (scope xs v₀) (trio b g u) k t e ∙ (doing-later b (more g u) (k + 1) t v ∙ doing-later g u (k + 1 + size b) t v₁)) i))
-
-  -- in what stands after the fault part of a scope
-  rest-falls : {f : ℕ → ℕ} {z c : Bool} {u : Acts} → FormedRest z u → (b g : Act) (k : ℕ) → KnowsIn f u (k + 1 + size b + size g) → (y₀ t : ℕ) (o : Order) → k + 1 + size b + size g ≤ t
-      → WaitsIn (o .marks) u (k + 1 + size b + size g) t c → isTake (doingAmong u (k + 1 + size b + size g) t) ≡ true
-      → Fell f false k (k + (1 + sizes (trio b g u))) o (inScope xs z k t (trio b g u) (stepAmong inPlace (trio b g u) true y₀ (k + 1) t o))
-  rest-falls {f} (formed-undo {u = u} hu) b g k (knows-more ku knows-none) y₀ t o e (waits-first v w) i =
-      fell-undo f b g u y₀ k t o e v
-      (step-falls hu ku (k + 1 + size b + size g) t o w (take-as (doing-among u none (k + 1 + size b + size g) t v) i) (no-arm (k + 1 + size b + size g) t hu))
+  step-falls {f} {h} (formed-scope {xs} {v = v₀} {b = b} {f = g} {u = u} few many hb hl) (knows {k = k} x y z (knows-more kb kl)) y₀ t o (waits-itself e q) i d =
+      absurd (false≢true (sym (scope-no-take xs v₀ (trio b g u) k) ∙ subst (λ (v : Doing). isTake v ≡ true) (ap (λ (v : ℕ). doingIn (act (scope xs v₀) (trio b g u)) k v) (sym e) ∙ doing-here (scope xs v₀) (trio b g u) k) i))
+  step-falls {f} {h} (formed-scope {xs} {v = v₀} {b = b} {f = g} {u = u} few many hb hl) (knows {k = k} x y z (knows-more kb kl)) y₀ t o (waits-within e (waits-first v w)) i d =
+      subst (λ (r : Outcome). Fell f false k (k + (1 + sizes (trio b g u))) o r) (sym (in-scope xs v₀ b g u y₀ k t o e))
+      (fell-body f xs v₀ b g u y₀ k t o x v (step-falls hb kb (k + 1) t o w (take-as (doing-within (scope xs v₀) (trio b g u) k t e ∙ doing-among b (more g u) (k + 1) t v) i) (no-arm (k + 1) t hb)))
+  step-falls {f} {h} (formed-scope {xs} {v = v₀} {b = b} {f = g} {u = u} few many hb hl) (knows {k = k} x y z (knows-more kb kl)) y₀ t o (waits-within e (waits-later v w)) i d =
+      subst (λ (r : Outcome). Fell f false k (k + (1 + sizes (trio b g u))) o r) (sym (in-scope xs v₀ b g u y₀ k t o e))
+      (fell-later f xs v₀ b g u y₀ k t o x v (among-falls hl kl true y₀ t o w (take-as (doing-within (scope xs v₀) (trio b g u) k t e ∙ doing-later b (more g u) (k + 1) t v) i) refl))
 
   among-falls : {f : ℕ → ℕ} {h r b : Bool} {l : Acts} {c : ℕ} → FormedIn h r l → KnowsIn f l c → (z : Bool) (y₀ t : ℕ) (o : Order) → WaitsIn (o .marks) l c t b → isTake (doingAmong l c t) ≡ true
       → (r && isPart l c t) ≡ false

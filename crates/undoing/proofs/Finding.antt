@@ -13,7 +13,7 @@ use Rattle.undoing.specs.Ties.{Place}
 use Rattle.undoing.specs.Answered.{surely, backIn, backAmong}
 use Rattle.undoing.proofs.Parts.{both, decide}
 use Rattle.undoing.proofs.Marks.{trio, nth-later, Quiet, Run, run-awaits, run-one, run-all, run-body, run-done, run-turned, All, all-none, all-run, all-quiet, Turned, turned-waits, turned-undoes, turned-heals, Stopped, stopped-part, stopped-quiet, stopped-scope, StoppedIn, stopped-none, stopped-more, Undoing, undoing-part, undoing-scope, undoing-through, UndoingIn, undoing-here, undoing-later, quiet-part}
-use Rattle.undoing.proofs.Orders.{bare, bareIn, Sits, sits-part, sits-scope, SitsIn, sits-none, sits-more, Remedy, remedy-bare, Healers}
+use Rattle.undoing.proofs.Orders.{bare, bareIn, Sits, sits-part, sits-scope, SitsIn, sits-none, sits-more, Healers}
 use Rattle.undoing.proofs.Waiting.{Waits, waits-itself, waits-within, WaitsIn, waits-first, waits-later, quiet-waits}
 use Rattle.undoing.proofs.Remedies.{part-from, part-to, nth-run}
 use Rattle.undoing.proofs.Healing.{waits-at, healers-bare, undo-there, undo-all, undo-turned}

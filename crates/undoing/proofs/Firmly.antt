@@ -1,37 +1,22 @@
 -- A step taken is that of an activity or an arm that awaits it, over any run. Assumes nothing.
 use Prim.Native.Nat.{ℕ, _+_}
-use mathlib.Core.Path.{_≡_, refl, sym, ap, subst, _∙_}
-use mathlib.Core.Bool.{Bool, true, false, cond, _&&_, _||_, or-true}
-use mathlib.Core.List.{List, [], _∷_, _++_}
+use mathlib.Core.Path.{_≡_, ap, _∙_}
+use mathlib.Core.Bool.{Bool, true, false, or-true}
+use mathlib.Core.List.{List}
 use lib.ListN.{getD}
 use lib.Dec.{eqb}
 use borrow.Author.Tests.{eq-eqb}
-use Rattle.plan.specs.Found.{Found, found}
-use Rattle.plan.specs.Read.{readPlan}
-use Rattle.plan.specs.Tree.{Own, kind, Act, act, Acts, more, Plan, size}
-use Rattle.plan.proofs.Limits.{accepted-is-within}
+use Rattle.plan.specs.Tree.{Act, Acts, Plan, size}
 use Rattle.order.specs.declared.Order.{Order}
-use Rattle.machine.specs.declared.State.{State}
-use Rattle.machine.specs.declared.Tally.{Tally}
-use Rattle.order.specs.Lists.{every, some}
-use Rattle.order.specs.State.{active, isLive}
-use Rattle.machine.specs.State.{fresh}
-use Rattle.order.specs.Event.{Event}
+use Rattle.order.specs.Lists.{some}
 use Rattle.order.specs.Acting.{startedOrder}
 use Rattle.machine.specs.Fit.{Ready, readyIn, readyAmong, readyOf, awaits}
-use Rattle.machine.specs.Calls.{loaded, loadedAs, load, post, collect, Stepped, step, Call, posting, collecting, stepping}
-use Rattle.undoing.specs.History.{logOf}
-use Rattle.undoing.specs.Ties.{orderAfter, isTaken}
-use Rattle.undoing.specs.Begun.{Taken, takenBy, stepsTaken}
 use Rattle.undoing.specs.Entirely.{isAwaited, AwaitedTold}
-use Rattle.undoing.proofs.Parts.{decide, every-append, some-append}
-use Rattle.undoing.proofs.Orders.{onto}
-use Rattle.undoing.proofs.Planning.{Promised, promised}
+use Rattle.undoing.proofs.Parts.{decide, some-append}
+use Rattle.undoing.proofs.Planning.{Promised}
 use Rattle.undoing.proofs.Waiting.{Waits, waits-itself, waits-within, WaitsIn, waits-first, waits-later}
 use Rattle.undoing.proofs.Roots.{Awaited, in-body, in-fault}
-use Rattle.undoing.proofs.Slots.{standing-live, post-same, collect-same, Sane, same-sane, fresh-sane}
-use Rattle.undoing.proofs.Happening.{orderIn, Happens, nothing-here, goes-here, starts-here, step-happens}
-use Rattle.undoing.proofs.Demanded.{step-after}
+use Rattle.undoing.proofs.Slots.{standing-live}
 use Rattle.undoing.proofs.Awaiting.{ready-is}
 use Rattle.undoing.proofs.EachTime.{OfTimes, OfStarts, each-time}
 

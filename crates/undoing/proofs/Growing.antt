@@ -2,19 +2,19 @@
 use Prim.Native.Nat.{ℕ, zero, suc, _+_, _≤_, _<_}
 use native.Mathlib.Omega.{arith}
 use mathlib.Core.Path.{_≡_, refl, sym, ap, subst, _∙_}
-use mathlib.Core.Bool.{Bool, true, false, cond, _&&_, _||_, false≢true}
-use mathlib.Core.List.{List, [], _∷_, _++_}
-use lib.ListN.{length, getD, set, length-set}
+use mathlib.Core.Bool.{Bool, true, false, cond, _&&_, false≢true}
+use mathlib.Core.List.{List, [], _∷_}
+use lib.ListN.{length, getD, length-set}
 use lib.Seq.{getD-set-same}
 use lib.Dec.{eqb, ltb}
 use borrow.Author.Tests.{eqb-true, eqb-false, ltb-true, ltb-false}
-use Rattle.plan.specs.Tree.{Own, empty, send, receive, set as setting, raise, leave, choose, repeat, sequence, flow, pick, scope, arm, kind, isScope, isPick, Act, act, Acts, none, more, Plan, size, sizes, count}
+use Rattle.plan.specs.Tree.{Own, empty, send, receive, set as setting, raise, leave, choose, repeat, sequence, flow, pick, scope, arm, kind, isScope, isPick, Act, act, Acts, more, Plan, size, sizes, count, undoPart}
 use Rattle.order.specs.declared.Order.{Order}
 use Rattle.order.specs.Lists.{some}
 use Rattle.order.specs.State.{idle, active, inside, withMarks, marked, markAt, binding}
 use Rattle.order.specs.Event.{Event}
 use Rattle.order.specs.Expression.{conflictingReceive, Value, fault, value, evaluate, isTrue}
-use Rattle.order.specs.Begin.{Begun, part, partAt, beginPart, beginAfter, cleared}
+use Rattle.order.specs.Begin.{partAt, beginPart, beginAfter, cleared}
 use Rattle.order.specs.declared.Way.{Way as Result}
 use Rattle.order.specs.declared.Way.the-variants.{Running as running, Over as over, Raising as raising, Leaving as leaving, Undone as undone, UndoRaising as undoRaising}
 use Rattle.order.specs.Scope.{Outcome, runs, begunIn, whereOver, Scope, scopeAt, closing, fromBody, fromFault, goesThrough, fromUndo}
@@ -26,8 +26,8 @@ use Rattle.undoing.proofs.Parts.{both, decide}
 use Rattle.undoing.proofs.Orders.{least}
 use Rattle.undoing.proofs.Places.{first-of, second-of}
 use Rattle.undoing.proofs.Breaking.{cleared-kept}
-use Rattle.undoing.proofs.Truly.{Up, up-other, scope-kind, no-pick, Arms, needs, Knows, knows, KnowsIn, knows-none, knows-more}
-use Rattle.undoing.proofs.Lasting.{part-began, goes-where, goes-begun, finishes-goes, Goes, Within, looks-goes, over-goes, undone-goes, part-goes, scope-needs, scope-within}
+use Rattle.undoing.proofs.Truly.{Up, up-other, scope-kind, no-pick, needs, Knows, knows, KnowsIn, knows-none, knows-more}
+use Rattle.undoing.proofs.Lasting.{part-began, goes-where, goes-begun, finishes-goes, Within, looks-goes, over-goes, undone-goes, part-goes, scope-needs, scope-within}
 use Rattle.undoing.proofs.Keeping.{again-goes, joins-goes, follows-goes}
 use Rattle.undoing.proofs.Keeping as keeping
 use Rattle.undoing.proofs.Dropping.{isBad, among-drops, combines-has, calmer, not-bad}
@@ -99,11 +99,11 @@ module _ (f : ℕ → ℕ) where
   combines-grows flow within k t r e n y m q j l d u = on-grows k active (joins k within) r j (joins-goes f k 0 within (r .order) .grows j l (λ i. d (omega arith)) u) u
   combines-grows pick within k t r e n y m q j l d u = on-grows k inside (finishes k) r j (finishes-goes f k 0 (r .order) .grows j l (λ i. d (omega arith)) u) u
   combines-grows (scope xs v) within k t r e n y m q j l d u =
-      let s = scopeAt k within in
-      let h = scope-within f (ap isScopeKind e ∙ scope-kind (scope xs v)) (scope-needs f (scope xs v) (count within) refl n) y in
-      grows-either j (ltb t (partAt 1 within (k + 1))) (elim (goesThrough v k r) [ true ↦ r | false ↦ fromBody s r ]) (elim (ltb t (partAt 2 within (k + 1))) [ true ↦ fromFault s r | false ↦ fromUndo r ]) _ refl
+      let s = scopeAt xs k within in
+      let h = scope-within f xs (ap isScopeKind e ∙ scope-kind (scope xs v)) (scope-needs f (scope xs v) (count within) refl n) y in
+      grows-either j (ltb t (partAt 1 within (k + 1))) (elim (goesThrough v k r) [ true ↦ r | false ↦ fromBody s r ]) (elim (ltb t (partAt (undoPart xs) within (k + 1))) [ true ↦ fromFault s r | false ↦ fromUndo r ]) _ refl
       (grows-either j (goesThrough v k r) r (fromBody s r) _ refl u (body-grows s (k + 1) (k + 1 + sizes within) h r m q j l (λ i. d (omega arith)) u))
-      (grows-either j (ltb t (partAt 2 within (k + 1))) (fromFault s r) (fromUndo r) _ refl (fault-grows s (k + 1) (k + 1 + sizes within) h r m q j l (λ i. d (omega arith)) u) u)
+      (grows-either j (ltb t (partAt (undoPart xs) within (k + 1))) (fromFault s r) (fromUndo r) _ refl (fault-grows s (k + 1) (k + 1 + sizes within) h r m q j l (λ i. d (omega arith)) u) u)
   combines-grows (arm a b vs) within k t r e n y m q j l d u = u
 
   -- its own step
@@ -219,8 +219,9 @@ module _ (f : ℕ → ℕ) where
   again-up sequence within k t r e m u = absurd (omega arith)
   again-up flow within k t r e m u = absurd (omega arith)
   again-up pick within k t r e m u = absurd (omega arith)
-  again-up (scope xs true) within k t r e m u = absurd (omega arith)
-  again-up (scope xs false) within k t r e m u = absurd (omega arith)
+  again-up (scope [] true) within k t r e m u = absurd (omega arith)
+  again-up (scope [] false) within k t r e m u = absurd (omega arith)
+  again-up (scope (x ∷ xs) v) within k t r e m u = absurd (omega arith)
   again-up (arm a b vs) within k t r e m u = absurd (omega arith)
 
   -- A step: j has it not in it, or is a repeat that has it, and not as its own; and j does not stand in what has it.

@@ -2,20 +2,28 @@
 -- that runs. Assumes nothing.
 use Prim.Native.Nat.{ℕ, zero, suc, _+_, _≤_, _<_}
 use native.Mathlib.Omega.{arith}
-use mathlib.Core.Path.{_≡_, refl, ap}
+use mathlib.Core.Path.{_≡_, refl, sym, ap, _∙_}
 use mathlib.Core.Bool.{Bool, true, false, cond}
-use mathlib.Core.List.{List, [], _∷_}
+use mathlib.Core.List.{List}
 use lib.ListN.{length}
+use lib.Dec.{eqb}
+use borrow.Author.Tests.{eqb-true}
 use Rattle.plan.specs.Tree.{empty, generalPart, Act, act, Acts, none, more, Plan, size, sizes, count}
 use Rattle.order.specs.State.{Name, choiceIn}
 use Rattle.order.specs.Begin.{part, partAt}
 use Rattle.undoing.specs.Ties.{Place}
 use Rattle.undoing.specs.Standing.{choiceOn}
+use Rattle.undoing.proofs.Parts.{decide}
+use Rattle.undoing.proofs.Accounts.{Phase, phase}
 use Rattle.undoing.proofs.Marks.{Quiet, Run, Nth, nth-here, nth-later, Turned, turned-waits, turned-undoes, turned-heals, quiet-part}
 use Rattle.undoing.proofs.Orders.{bare, bareIn, remedy-bare, Healers, heals-by, heals-all, rest-undo, rest-none}
 use Rattle.undoing.proofs.Waiting.{Waits, WaitsIn, waits-first, waits-later}
 use Rattle.undoing.proofs.Choices.{general-is}
 use Rattle.undoing.proofs.Remedies.{part-from, part-to, healers-many, chosen-most, choice-on}
+
+-- a mark of one phase is none of another
+pub other-mark : (m v : ℕ) (q : Phase) → phase m ≡ q → (phase v ≡ q → ⊥) → eqb m v ≡ false
+other-mark m v q e f = decide (eqb m v) (λ t. absurd (f (ap phase (sym (eqb-true m v t)) ∙ e))) (λ t. t)
 
 -- where the i-th of a list runs each other is quiet
 pub nth-quiet : {ms : List ℕ} {i : ℕ} {l : Acts} {c : ℕ} → Nth ms i l c → (j : ℕ) → (j ≡ i → ⊥) → j < count l → Quiet ms (partAt j l c) (size (part j l))

@@ -63,6 +63,20 @@ at-to i none c = omega arith
 at-to zero (more a l) c = omega arith
 at-to (suc i) (more a l) c = omega (arith, at-to i l (c + size a))
 
+-- the last ends with the list, and beyond it stands what follows the list
+pub at-last : (i : ℕ) (l : Acts) (c : ℕ) → count l ≡ suc i → partAt i l c + size (part i l) ≡ c + sizes l
+unfolding part partAt count size
+at-last i none c h = absurd (omega arith)
+at-last zero (more a none) c h = omega arith
+at-last zero (more a (more b l)) c h = absurd (omega arith)
+at-last (suc i) (more a l) c h = omega (arith, at-last i l (c + size a) (omega arith))
+
+pub at-end : (i : ℕ) (l : Acts) (c : ℕ) → count l ≤ i → partAt i l c ≡ c + sizes l
+unfolding partAt count size
+at-end i none c h = omega arith
+at-end zero (more a l) c h = absurd (omega arith)
+at-end (suc i) (more a l) c h = omega (arith, at-end i l (c + size a) (omega arith))
+
 -- it is before each later one, and not before itself or an earlier one
 pub lands-before : {l : Acts} {c t i : ℕ} → Lands l c t i → (g : ℕ) → i < g → ltb t (partAt g l c) ≡ true
 unfolding partAt

@@ -20,7 +20,7 @@ use Rattle.order.specs.declared.Way.the-variants.{Running as running, Over as o
 use Rattle.order.specs.Scope.{Outcome, runs, after, begunIn, whereOver}
 use Rattle.order.specs.Acting.{allBound, finishes, raises, orRaises, enters, itself, goesOn, joins, combines, arms, itsOwn, replaces, performs, stepIn, stepAmong}
 use Rattle.machine.specs.Fit.{awaits}
-use Rattle.undoing.specs.Ties.{Place, nameOf}
+use Rattle.undoing.specs.Ties.{Place}
 use Rattle.undoing.specs.Answered.{isSure, hasAll, surely, surelyAmong, without}
 use Rattle.undoing.proofs.Parts.{decide, only-append, some-append}
 use Rattle.undoing.proofs.Marks.{trio, isDoer, run-loud, Quiet, Kept, holding, Run, run-awaits, run-one, run-all, run-body, run-done, run-turned, One, one-here, one-later, All, all-run, all-quiet, quiet-agree, agree-below, agree-above}

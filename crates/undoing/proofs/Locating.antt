@@ -19,7 +19,8 @@ use Rattle.undoing.proofs.Accounts.{Known}
 use Rattle.undoing.proofs.Marks.{trio}
 use Rattle.undoing.proofs.Orders.{bare, bareIn, innerAt, Sits, sits-part, sits-scope, SitsIn, sits-none, sits-more, Remedy, Healers}
 use Rattle.undoing.proofs.Planning.{Promised}
-use Rattle.undoing.proofs.Truly.{Knows, knows, KnowsIn, knows-none, knows-more}
+use Rattle.undoing.proofs.Truly.{Knows, knows, KnowsIn, knows-more}
+use Rattle.undoing.proofs.Lasting.{part-knows}
 use Rattle.undoing.proofs.Leading.{Leads, leads-part, leads-scope, LeadsIn, leads-none, leads-more}
 use Rattle.undoing.proofs.Remedies.{undoer}
 use Rattle.undoing.proofs.Healing.{healers-bare, undo-there}
@@ -40,13 +41,7 @@ pub record Located (p : Plan) (e : ℕ) (x : Back) : Type 0 where
   pub leads : Leads (leadAt p) (x .tree) (x .at)
   pub sure : x .sure ≡ surely (x .tree) (x .at)
 
--- the i-th of a list is known as the list is, and led
-knows-nth : {f : ℕ → ℕ} {l : Acts} {c : ℕ} → KnowsIn f l c → (i : ℕ) → i < count l → Knows f (part i l) (partAt i l c)
-unfolding part partAt count
-knows-nth knows-none i h = absurd (omega arith)
-knows-nth (knows-more k l) zero h = k
-knows-nth (knows-more k l) (suc i) h = knows-nth l i (omega arith)
-
+-- the i-th of a list is led as the list is
 leads-nth : {f : ℕ → Lead} {l : Acts} {c : ℕ} {q : Lead} → LeadsIn f l c q → (i : ℕ) → i < count l → Leads f (part i l) (partAt i l c)
 unfolding part partAt count
 leads-nth leads-none i h = absurd (omega arith)
@@ -79,7 +74,7 @@ module _ {p : Plan} where
               undo = refl;
               place = undoOf n ns m;
               sits = undoer-so z d;
-              knows = knows-nth kl (generalPart xs) (undo-there z d);
+              knows = part-knows (kindAt p) kl (generalPart xs) (undo-there z d);
               leads = leads-nth wl (generalPart xs) (undo-there z d);
               sure = refl;
             })

@@ -6,21 +6,12 @@ use mathlib.Core.Bool.{Bool, true, false, cond, not, _&&_, _||_, false≢true, o
 use mathlib.Core.List.{List, [], _∷_, _++_}
 use lib.ListN.{length, getD}
 use lib.Dec.{eqb, ltb, leb}
-use borrow.Author.Tests.{eqb-true, eqb-false, eq-eqb, lt-ltb, le-ltb, le-leb, leb-true, ltb-true, ltb-false}
-use Rattle.plan.specs.Found.{Found, found}
-use Rattle.plan.specs.Read.{readPlan}
-use Rattle.plan.specs.Tree.{Own, kind, Act, act, Acts, none, more, Plan, size, sizes}
-use Rattle.plan.proofs.Limits.{accepted-is-within}
+use borrow.Author.Tests.{eqb-true, eq-eqb, lt-ltb, le-ltb, le-leb, ltb-true, ltb-false}
+use Rattle.plan.specs.Tree.{Own, kind, Act, Acts, none, more, Plan, size, sizes}
 use Rattle.order.specs.declared.Order.{Order}
-use Rattle.order.specs.declared.End.{End}
-use Rattle.order.specs.declared.End.the-variants.{None, Well, Handled, Failed, Left}
-use Rattle.machine.specs.declared.Message.{Message}
-use Rattle.machine.specs.declared.State.{State}
-use Rattle.machine.specs.declared.Tally.{Tally}
-use Rattle.order.specs.Lists.{every, some}
+use Rattle.order.specs.declared.End.the-variants.{None, Well}
+use Rattle.order.specs.Lists.{some}
 use Rattle.order.specs.State.{Name, root, idle, done, halted, withdrawing, markAt, markOf, isLive, noOrder}
-use Rattle.machine.specs.State.{fresh}
-use Rattle.machine.specs.Limits.{rootInLimits}
 use Rattle.order.specs.Event.{Event, started, ended}
 use Rattle.order.specs.Begin.{quiet}
 use Rattle.order.specs.declared.Way.{Way as Result}
@@ -31,40 +22,39 @@ use Rattle.undoing.proofs.EachTime.{time, OfTimes, OfStarts, each-time}
 use Rattle.undoing.proofs.Judged.{root-mild}
 use Rattle.undoing.proofs.Moves.{HoldsAt}
 use Rattle.order.specs.Taking.{actAmong, actAt}
-use Rattle.machine.specs.Calls.{loadedAs, load, post, collect, Stepped, doingAt, step, Call, posting, collecting, stepping}
-use Rattle.undoing.specs.History.{logOf}
-use Rattle.undoing.specs.Ties.{isTaken}
+use Rattle.machine.specs.Calls.{doingAt}
 use Rattle.undoing.specs.Orderly.{isBeganOf}
-use Rattle.undoing.specs.Begun.{kindAt, lasts, hasBegan, Taken, takenBy, stepsTaken}
-use Rattle.undoing.specs.Entirely.{ofAll, isRash, standsIn}
-use Rattle.undoing.specs.Onward.{hadBy, standsUnder, mayBeOver, isKept, KeptRunning, laterBegan, goesOn, passesIn, passesAmong, isPassed, PassedOn}
-use Rattle.undoing.proofs.Parts.{both, decide, every-append, some-append}
+use Rattle.undoing.specs.Begun.{kindAt, lasts, hasBegan, Taken}
+use Rattle.undoing.specs.Entirely.{ofAll, isRash}
+use Rattle.undoing.specs.Onward.{hadBy, standsUnder, mayBeOver, isKept, KeptRunning, goesOn, passesIn, passesAmong, isPassed, PassedOn}
+use Rattle.undoing.proofs.Parts.{decide, some-append}
 use Rattle.undoing.proofs.Accounts.{phase}
 use Rattle.undoing.proofs.Marks.{Quiet, turned-waits, turned-undoes, turned-heals, turned-not-open}
 use Rattle.undoing.proofs.Orders.{momentOf, onto}
 use Rattle.undoing.proofs.Places.{first-of, second-of}
 use Rattle.undoing.proofs.Combining.{quiet-found}
-use Rattle.undoing.proofs.Planning.{Promised, promised}
-use Rattle.undoing.proofs.Waiting.{Waits, quiet-waits, waits-from}
+use Rattle.undoing.proofs.Planning.{Promised}
+use Rattle.undoing.proofs.Waiting.{quiet-waits}
 use Rattle.undoing.proofs.Scoping.{scope-live, scope-done, scope-turned, Running, StepsAs}
 use Rattle.undoing.proofs.Scoping as scoping
 use Rattle.undoing.proofs.Stepping.{awake-first, steps, steps-stopped, steps-undoing}
 use Rattle.undoing.proofs.Roots.{Awaited, in-body, in-fault, Standing}
 use Rattle.undoing.proofs.Roots as roots
 use Rattle.undoing.proofs.Slots.{standing-live, Alike, taking-alike, alike-awaited, alike-stands, alike-holds, order-starts}
-use Rattle.undoing.proofs.Happening.{orderIn, withMessage, Happens, nothing-here, goes-here, starts-here, step-happens}
-use Rattle.undoing.proofs.Demanded.{step-after}
+use Rattle.undoing.proofs.Happening.{withMessage}
 use Rattle.undoing.proofs.Truly.{Up, Knows}
-use Rattle.undoing.proofs.Lasting.{Within}
+use Rattle.undoing.proofs.Lasting.{KnowsEach, Within}
 use Rattle.undoing.proofs.Keeping as keeping
 use Rattle.undoing.proofs.BegunTold.{body-knows, fault-knows}
 use Rattle.undoing.proofs.EntirelyTold.{each-below}
 use Rattle.undoing.proofs.NearTold.{awaited-to}
 use Rattle.undoing.proofs.Coming.{in-first, in-later}
-use Rattle.undoing.proofs.Dropping.{isBad, Drops, step-drops, root-drops, body-has, fault-has, calmer, not-bad}
+use Rattle.undoing.proofs.Choices.{root-chosen}
+use Rattle.undoing.proofs.Healing.{only-runs, one-quiet}
+use Rattle.undoing.proofs.Dropping.{isBad, step-drops, root-drops, body-has, fault-has, calmer, not-bad}
 use Rattle.undoing.proofs.AfreshSteps.{Stood}
 use Rattle.undoing.proofs.Growing.{body-grows, fault-grows, step-grows}
-use Rattle.undoing.proofs.Passing.{Onward, on-later, on-lives, Thru, thru-here, thru-in, ThruIn, thru-first, thru-later, Passes, thru-map, thru-in-map, later-more, live-passes, waits-passes, undoes-passes, fault-passes, thru-run, thru-stopped, thru-undoing, thru-part}
+use Rattle.undoing.proofs.Passing.{Onward, on-later, on-lives, Thru, thru-here, thru-in, ThruIn, thru-first, thru-later, Passes, thru-map, later-more, live-passes, waits-passes, undoes-passes, fault-passes, thru-run, thru-stopped, thru-undoing, thru-part}
 
 -- a log without its last, or without its first
 calm-front : (l m : List Event) → some isRash (l ++ m) ≡ false → some isRash l ≡ false
@@ -93,8 +83,20 @@ module _ (p : Plan) (h : Promised p) where
       zero-plus : (n : ℕ) → 0 + n ≡ n
       zero-plus n = omega arith
 
+  each-kf : KnowsEach (kindAt p) (rootOf p)
+  each-kf = root-chosen (λ a j. Knows (kindAt p) a j) p kf
+
   parts : Within (kindAt p) (rootOf p) 0 (size (p .body) + size (p .fault))
-  parts = record { name = refl; body = kb; fault = kf; bodyFrom = omega arith; bodyTo = omega arith; faultFrom = omega arith; faultTo = omega arith }
+  parts =
+      record {
+        name = refl;
+        body = kb;
+        fault = each-kf;
+        bodyFrom = omega arith;
+        bodyTo = omega arith;
+        faultFrom = root-chosen (λ a j. 0 ≤ j) p (omega arith);
+        faultTo = root-chosen (λ a j. j + size a ≤ size (p .body) + size (p .fault)) p (omega arith);
+      }
 
   abbrev whole : Acts
   whole = more (p .body) (more (p .fault) none)
@@ -153,17 +155,17 @@ module _ (p : Plan) (h : Promised p) where
 
               on : Running (rootOf p) (o .marks) (o .root) → Thru p actor (kindAt p) t o (fromBody (rootOf p) its) (p .body) 0
               on (scope-live d r q) =
-                  mapped (live-passes p actor (kindAt p) t o (rootOf p) (h .seat) 0 (size (p .body) + size (p .fault)) parts (omega arith) (omega (arith, m)) (λ j x y. omega arith) (λ j x y. omega arith) (calm-body e) d
+                  mapped (live-passes p actor (kindAt p) t o (rootOf p) (h .seat) 0 (size (p .body) + size (p .fault)) parts (omega arith) (omega (arith, m)) (λ j x y. omega arith) (calm-body e) d
                   (steps p actor (h .seat .body) 0 t o false (h .seat .at) w refl r (ap phase d) (omega (arith, m))))
                   (thru-run p actor (kindAt p) t o (h .seat .body) kb 0 (h .seat .at) false w refl r (ap phase d) (omega (arith, m)) i)
               on (scope-done d q z) = absurd (st .going d)
               on (scope-turned (turned-waits {w = a} q z _ v)) =
-                  mapped (waits-passes p actor (kindAt p) t o (rootOf p) (h .seat) 0 (size (p .body) + size (p .fault)) parts (omega arith) (omega (arith, m)) (λ j x y. omega arith) (λ j x y. omega arith) (calm-body e)
+                  mapped (waits-passes p actor (kindAt p) t o (rootOf p) (h .seat) 0 (size (p .body) + size (p .fault)) parts (omega arith) (omega (arith, m)) (λ j x y. omega arith) (calm-body e)
                   (steps-stopped p actor (h .seat .body) 0 t o false (h .seat .at) w refl z (omega (arith, m))))
                   (thru-stopped p actor (kindAt p) t o (h .seat .body) kb 0 (h .seat .at) false w refl z (omega (arith, m)) i)
               on (scope-turned (turned-undoes {w = a} q z v)) =
                   let r₀ = awake-first p actor (λ n. markOf n o) root (h .seat .beyond) a q in
-                  mapped (undoes-passes p actor (kindAt p) t o (rootOf p) (h .seat) 0 (size (p .body) + size (p .fault)) parts (omega arith) (omega (arith, m)) (λ j x y. omega arith) (λ j x y. omega arith) (calm-body e) a q
+                  mapped (undoes-passes p actor (kindAt p) t o (rootOf p) (h .seat) 0 (size (p .body) + size (p .fault)) parts (omega arith) (omega (arith, m)) (λ j x y. omega arith) (calm-body e) a q
                   (steps-undoing p actor (h .seat .body) 0 t o false (h .seat .at) w refl z root r₀ (a, ap (λ (n : Name). phase (markOf n o)) r₀ ∙ q) (omega (arith, m))))
                   (thru-undoing p actor (kindAt p) t o (h .seat .body) kb 0 (h .seat .at) false w refl z root r₀ (a, ap (λ (n : Name). phase (markOf n o)) r₀ ∙ q) (omega (arith, m)) i)
               on (scope-turned (turned-heals q z v)) = absurd (quiet-waits w refl z)
@@ -179,14 +181,14 @@ module _ (p : Plan) (h : Promised p) where
               later x = thru-later {a = p .body} {l = more (p .fault) none} {c = 0} (omega arith) (subst (λ (c : ℕ). ThruIn p actor (kindAt p) t o (stepRoot actor p t o) (more (p .fault) none) c) (omega arith) (thru-first {a = p .fault} {l = none} {c = size (p .body)} (awaited-to {p = p} {ms = o .marks} {t = t} (in-fault e w)) x))
 
               on : Running (rootOf p) (o .marks) (o .root) → Thru p actor (kindAt p) t o (fromFault (rootOf p) its) (p .fault) (size (p .body))
-              on (scope-live d r q) = absurd (quiet-waits w refl q)
+              on (scope-live d r q) = absurd (quiet-waits w refl (one-quiet (p .fault) q))
               on (scope-done d q z) = absurd (st .going d)
-              on (scope-turned (turned-waits q z _ v)) = absurd (quiet-waits w refl v)
-              on (scope-turned (turned-undoes q z v)) = absurd (quiet-waits w refl v)
+              on (scope-turned (turned-waits q z _ v)) = absurd (quiet-waits w refl (one-quiet (p .fault) v))
+              on (scope-turned (turned-undoes q z v)) = absurd (quiet-waits w refl (one-quiet (p .fault) v))
               on (scope-turned (turned-heals q z v)) =
                   thru-map p actor (kindAt p) t o
-                  (fault-passes p actor (kindAt p) t o (rootOf p) (h .seat) 0 (size (p .body) + size (p .fault)) parts (omega arith) (omega (arith, m)) (λ j x y. omega arith) (λ j x y. omega arith) (calm-fault e))
-                  (thru-part p actor (kindAt p) t o (h .seat .fault) kf (size (p .body)) tt false w refl v q (omega (arith, m)) i) (omega arith) (omega arith)
+                  (fault-passes p actor (kindAt p) t o (rootOf p) (h .seat) 0 (size (p .body) + size (p .fault)) parts (omega arith) (omega (arith, m)) (λ j x y. omega arith) (p .fault) (size (p .body)) kf (omega arith) (λ j x y. omega arith) (calm-fault e))
+                  (thru-part p actor (kindAt p) t o (roots.root-fault (h .seat)) kf (size (p .body)) tt false w refl (only-runs v (roots.choice-none (o .root))) q (omega (arith, m)) i) (omega arith) (omega arith)
 
     -- what the order becomes
     record Moves (r : Outcome) (q : Order) (l : List Event) : Type 0 where
@@ -196,7 +198,7 @@ module _ (p : Plan) (h : Promised p) where
 
     done-quiets : (ms : List ℕ) (n : ℕ) → n ≡ done → Running (rootOf p) ms n → Quiet ms 0 (size (p .body)) × Quiet ms (size (p .body)) (size (p .fault))
     done-quiets ms n e (scope-live d r q) = absurd (let z : _≡_ {A = ℕ} 1 3 = sym d ∙ e in omega arith)
-    done-quiets ms n e (scope-done d r q) = (r, q)
+    done-quiets ms n e (scope-done d r q) = (r, one-quiet (p .fault) q)
     done-quiets ms n e (scope-turned t) = absurd (false≢true (sym (turned-not-open t) ∙ rw e))
 
     quiet-none : (ms : List ℕ) → Quiet ms 0 (size (p .body)) → Quiet ms (size (p .body)) (size (p .fault)) → (j : ℕ) → j < size (p .body) + size (p .fault) → Up ms j → ⊥
@@ -235,7 +237,7 @@ module _ (p : Plan) (h : Promised p) where
                   },
                 )
             by-done false i c = (c, same (r .order) (λ j n u. u))
-        go over d v c = (c, same noOrder (λ j n u. absurd (quiet-none (r .order .marks) (v .1) (v .2) j n u)))
+        go over d v c = (c, same noOrder (λ j n u. absurd (quiet-none (r .order .marks) (v .1) (one-quiet (p .fault) (v .2)) j n u)))
         go (raising x) d v c = absurd (false≢true (sym c ∙ root-drops (kindAt p) t actor p kb kf o .rash (ap isBad d)))
         go leaving d v c = absurd (false≢true (sym c ∙ root-drops (kindAt p) t actor p kb kf o .rash (ap isBad d)))
         go undone d v c = absurd v

@@ -8,7 +8,7 @@ use lib.Dec.{eqb, ltb, leb}
 use borrow.Author.Tests.{eqb-true, eq-eqb, lt-ltb, le-leb, ltb-true}
 use Rattle.plan.specs.Found.{Found, found}
 use Rattle.plan.specs.Read.{readPlan}
-use Rattle.plan.specs.Tree.{Own, kind, Act, act, Acts, none, more, Plan, size, sizes, scope}
+use Rattle.plan.specs.Tree.{Own, kind, Act, act, Acts, none, more, Plan, size, sizes, scope, undoPart, count}
 use Rattle.plan.proofs.Limits.{accepted-is-within}
 use Rattle.order.specs.declared.Order.{Order}
 use Rattle.order.specs.declared.End.{End}
@@ -30,9 +30,10 @@ use Rattle.undoing.specs.Orderly.{isBeganOf}
 use Rattle.undoing.specs.Begun.{kindAt, hasBegan, Taken, takenBy, stepsTaken}
 use Rattle.undoing.specs.Entirely.{times, isStopOf, isLocal, LeftToFinish, inParts, beyondAll}
 use Rattle.undoing.proofs.Parts.{both, decide, every-append}
-use Rattle.undoing.proofs.Marks.{trio}
+use Rattle.undoing.proofs.Choices.{general-is}
+use Rattle.undoing.proofs.Landing.{at-last, at-end}
 use Rattle.undoing.proofs.Orders.{onto, innerAt}
-use Rattle.undoing.proofs.Planning.{Formed, formed-part, formed-scope, FormedIn, formed-none, formed-more, scopes-is, Promised, promised, whole, FormedRest, formed-undo, formed-no, scopes-scope}
+use Rattle.undoing.proofs.Planning.{Formed, formed-part, formed-scope, FormedIn, formed-none, formed-more, scopes-is, Promised, promised, whole, scopes-scope}
 use Rattle.undoing.proofs.Waiting.{Waits, waits-itself, waits-within, WaitsIn, waits-first, waits-later}
 use Rattle.undoing.proofs.Roots.{Awaited, in-body, in-fault}
 use Rattle.undoing.proofs.Slots.{post-same, collect-same, Sane, same-sane, fresh-sane}
@@ -43,6 +44,7 @@ use Rattle.undoing.proofs.Fitting.{waits-to}
 use Rattle.undoing.proofs.Entire.{Two}
 use Rattle.undoing.proofs.EntirelyTold.{formed-named}
 use Rattle.undoing.proofs.Nearing.{Near, near-stands, near-began, near-stopped, near-none, Local, LocalIn, in-append, in-none, all, root-local, start-local}
+use lib.ListN.{length}
 
 -- what awaits has one of the numbers
 pub awaited-to : {p : Plan} {ms : List ℕ} {t : ℕ} → Awaited p ms t → t < size (p .body) + size (p .fault)
@@ -68,24 +70,26 @@ none-some f (raised i x ∷ l) z = none-some f l (λ j x. let e = z j x in omega
 none-some f (left ∷ l) z = none-some f l (λ j x. let e = z j x in omega arith)
 
 -- where a scope ends
-scope-end : {v : Bool} {u : Acts} → FormedRest v u → (b g : Act) (k : ℕ) (n : Name) (ns : List Name) → beyondAll (innerAt v k n ns (trio b g u)) ≡ k + (1 + (size b + (size g + sizes u)))
-unfolding part partAt size
-scope-end (formed-undo {u = u} z) b g k n ns = omega arith
-scope-end formed-no b g k n ns = omega arith
+scope-end : (xs : List ℕ) (v : Bool) (b : Act) (l : Acts) → count l ≡ length xs + cond v 2 1 → (k : ℕ) (n : Name) (ns : List Name)
+    → beyondAll (innerAt xs v k n ns (more b l)) ≡ k + (1 + sizes (more b l))
+unfolding count
+scope-end xs true b l many k n ns = omega (arith, at-last (undoPart xs) (more b l) (k + 1) (omega (arith, general-is xs)))
+scope-end xs false b l many k n ns = omega (arith, at-end (undoPart xs) (more b l) (k + 1) (omega (arith, general-is xs)))
 
 module _ (x : Taken) where
-  near-told : {v : Bool} {u : Acts} → FormedRest v u → (b g : Act) (k : ℕ) (n : Name) (ns : List Name)
-      → Near (x .activity) (x .log) v k (partAt 1 (trio b g u) (k + 1)) (partAt 2 (trio b g u) (k + 1)) (k + size (act (scope v) (trio b g u))) → isLocal x (innerAt v k n ns (trio b g u)) ≡ true
+  near-told : (xs : List ℕ) (v : Bool) (b : Act) (l : Acts) → count l ≡ length xs + cond v 2 1 → (k : ℕ) (n : Name) (ns : List Name)
+      → Near (x .activity) (x .log) v k (partAt 1 (more b l) (k + 1)) (partAt (undoPart xs) (more b l) (k + 1)) (k + size (act (scope xs v) (more b l)))
+      → isLocal x (innerAt xs v k n ns (more b l)) ≡ true
   unfolding isLocal size
-  near-told {v} {u} r b g k n ns (near-stands h e) =
-      rw (le-leb k (x .activity) h, lt-ltb (x .activity) (beyondAll (innerAt v k n ns (trio b g u))) (subst (λ (i : ℕ). x .activity < i) (sym (scope-end r b g k n ns)) e))
-  near-told r b g k n ns (near-began h) = rw (h, or-true)
-  near-told r b g k n ns (near-stopped h) = rw (h, or-true, or-true)
-  near-told {v} {u} r b g k n ns (near-none h) =
+  near-told xs v b l r k n ns (near-stands h e) =
+      rw (le-leb k (x .activity) h, lt-ltb (x .activity) (beyondAll (innerAt xs v k n ns (more b l))) (subst (λ (i : ℕ). x .activity < i) (sym (scope-end xs v b l r k n ns)) e))
+  near-told xs v b l r k n ns (near-began h) = rw (h, or-true)
+  near-told xs v b l r k n ns (near-stopped h) = rw (h, or-true, or-true)
+  near-told xs v b l r k n ns (near-none h) =
+      let u = partAt (undoPart xs) (more b l) (k + 1) in
       rw (
-        none-some (inParts (innerAt v k n ns (trio b g u))) (x .log)
-            (λ j e. both (ltb k j && ltb j (partAt 2 (trio b g u) (k + 1))) (v || (eqb j (k + 1) || leb (partAt 1 (trio b g u) (k + 1)) j)) e (λ c d.
-            both (ltb k j) (ltb j (partAt 2 (trio b g u) (k + 1))) c (λ y z. h j (ltb-true k j y) (ltb-true j (partAt 2 (trio b g u) (k + 1)) z) d))),
+        none-some (inParts (innerAt xs v k n ns (more b l))) (x .log)
+            (λ j e. both (ltb k j && ltb j u) (v || (eqb j (k + 1) || leb (partAt 1 (more b l) (k + 1)) j)) e (λ c d. both (ltb k j) (ltb j u) c (λ y z. h j (ltb-true k j y) (ltb-true j u z) d))),
         or-true,
         or-true,
       )
@@ -96,9 +100,9 @@ module _ (x : Taken) where
     local-told : {h r : Bool} {a : Act} → Formed h r a → (k : ℕ) (n : Name) (ns : List Name) → Local (x .activity) (x .log) a k → every (isLocal x) (scopesIn a k n ns) ≡ true
     local-told (formed-part {own = own} {within = within} s i g y) k n ns w =
         subst (λ (l : List Inner). every (isLocal x) l ≡ true) (sym (scopes-is own within k n ns false s)) (in-told y (k + 1) n ns (w .other))
-    local-told (formed-scope {v = v} {b = b} {f = g} {u = u} fb fg fu) k n ns w =
-        subst (λ (l : List Inner). every (isLocal x) l ≡ true) (sym (scopes-scope b fg fu k n ns))
-        (rw (near-told fu b g k n ns (w .one refl)) (local-told fb (k + 1) (inner k) (cond v [] (n ∷ ns)) (w .other .one)))
+    local-told (formed-scope {xs = xs} {v = v} {b = b} {f = g} {u = u} few many fb fl) k n ns w =
+        subst (λ (l : List Inner). every (isLocal x) l ≡ true) (sym (scopes-scope xs v b fl k n ns))
+        (rw (near-told xs v b (more g u) many k n ns (w .one refl)) (local-told fb (k + 1) (inner k) (cond v [] (n ∷ ns)) (w .other .one)))
 
     in-told : {h r : Bool} {l : Acts} → FormedIn h r l → (c : ℕ) (n : Name) (ns : List Name) → LocalIn (x .activity) (x .log) l c → every (isLocal x) (scopesAmong l c n ns) ≡ true
     in-told formed-none c n ns w = refl

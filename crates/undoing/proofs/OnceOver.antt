@@ -9,7 +9,7 @@ use lib.Dec.{eqb, ltb, leb}
 use borrow.Author.Tests.{eqb-true, lt-ltb, le-ltb, le-leb}
 use Rattle.plan.specs.Found.{Found, found}
 use Rattle.plan.specs.Read.{readPlan}
-use Rattle.plan.specs.Tree.{Plan, size}
+use Rattle.plan.specs.Tree.{Plan, size, Act, none, more}
 use Rattle.plan.proofs.Limits.{accepted-is-within}
 use Rattle.order.specs.declared.Order.{Order}
 use Rattle.order.specs.declared.End.{End}
@@ -21,7 +21,7 @@ use Rattle.order.specs.Lists.{every, some}
 use Rattle.order.specs.State.{Name, idle, root, markOf, isLive, noOrder}
 use Rattle.machine.specs.State.{fresh}
 use Rattle.order.specs.Event.{Event, started, ended}
-use Rattle.order.specs.Scope.{Outcome, rootOf, fromBody, fromFault}
+use Rattle.order.specs.Scope.{Outcome, rootOf, chosenPart, chosenAt, fromBody, fromFault}
 use Rattle.order.specs.Acting.{stepIn, stepRoot, endOf, movedTo, begunOrder, startedOrder, Actor, itsOwn, acted}
 use Rattle.machine.specs.Calls.{loadedAs, load, post, collect, Stepped, doingAt, step, Call, posting, collecting, stepping}
 use Rattle.undoing.specs.History.{logOf}
@@ -31,18 +31,20 @@ use Rattle.undoing.specs.Begun.{hasBegan, kindAt, lasts, Taken, numbers,
 use Rattle.undoing.specs.Entirely.{ofAll, times, isOnce, isRash, BegunOnce}
 use Rattle.undoing.proofs.Parts.{decide, every-append}
 use Rattle.undoing.proofs.Accounts.{phase}
-use Rattle.undoing.proofs.Marks.{turned-waits, turned-undoes, turned-heals}
+use Rattle.undoing.proofs.Choices.{root-chosen}
+use Rattle.undoing.proofs.Marks.{quiet-part, Nth, nth-here, nth-later, Run, turned-waits, turned-undoes, turned-heals}
 use Rattle.undoing.proofs.Orders.{onto}
 use Rattle.undoing.proofs.Places.{first-of, second-of}
 use Rattle.undoing.proofs.Planning.{Promised, promised}
 use Rattle.undoing.proofs.Waiting.{quiet-waits}
 use Rattle.undoing.proofs.Scoping.{scope-live, scope-done, scope-turned, Running}
 use Rattle.undoing.proofs.Stepping.{awake-first, steps, steps-stopped, steps-undoing}
-use Rattle.undoing.proofs.Roots.{Awaited, in-body, in-fault, Standing}
+use Rattle.undoing.proofs.Roots.{Awaited, in-body, in-fault, Standing, choice-none}
 use Rattle.undoing.proofs.Slots.{standing-live, Alike, taking-alike, alike-awaited, alike-stands, order-starts}
 use Rattle.undoing.proofs.Happening.{orderIn, withMessage, Happens, nothing-here, goes-here, starts-here, step-happens}
 use Rattle.undoing.proofs.Demanded.{step-after}
 use Rattle.undoing.proofs.Truly.{Knows}
+use Rattle.undoing.proofs.Lasting.{KnowsEach}
 use Rattle.undoing.proofs.BegunTold.{body-knows, fault-knows, start-began}
 use Rattle.undoing.proofs.Entire.{times-append, times-event}
 use Rattle.undoing.proofs.Single.{Once, once-light, light-none, Onto, begin-onto}
@@ -55,15 +57,20 @@ use Rattle.undoing.proofs.AfreshTold.{order-fresh}
 use Rattle.undoing.proofs.EachTime.{time, OfTimes, OfStarts, each-time}
 use Rattle.undoing.proofs.EntirelyTold.{each-below}
 
+-- the one fault part of the root runs
+first-run : {ms : List ℕ} {i : ℕ} {a : Act} {c : ℕ} → Nth ms i (more a none) c → i ≡ 0 → Run ms a c
+first-run (nth-here r q) e = r
+first-run (nth-later q r) e = absurd (omega arith)
+
 module _ (p : Plan) (h : Promised p) where
   kb : Knows (kindAt p) (p .body) 0
   kb = body-knows p h
 
-  kf : Knows (kindAt p) (p .fault) (size (p .body))
-  kf = fault-knows p h
+  kf : KnowsEach (kindAt p) (rootOf p)
+  kf = root-chosen (λ a j. Knows (kindAt p) a j) p (fault-knows p h)
 
   root-once : (actor : Actor) (t : ℕ) (o : Order) → Awaited p (o .marks) t → Standing p o → Once (kindAt p) (stepRoot actor p t o .log)
-  unfolding stepRoot
+  unfolding stepRoot size chosenPart chosenAt
   root-once actor t o (in-body e w) st =
       subst (λ (r : Outcome). Once (kindAt p) (r .log))
       (sym (first-of (ltb t (size (p .body))) (fromBody (rootOf p) (stepIn actor (p .body) 0 0 t o)) (fromFault (rootOf p) (stepIn actor (p .fault) (size (p .body)) (size (p .body)) t o)) (stepRoot actor p t o) refl (lt-ltb t (size (p .body)) e))) (go (st .runs))
@@ -91,12 +98,12 @@ module _ (p : Plan) (h : Promised p) where
       m = st .many
 
       go : Running (rootOf p) (o .marks) (o .root) → Once (kindAt p) (fromFault (rootOf p) (stepIn actor (p .fault) (size (p .body)) (size (p .body)) t o) .log)
-      go (scope-live d r q) = absurd (quiet-waits w refl q)
+      go (scope-live d r q) = absurd (quiet-waits w refl (quiet-part q (omega arith) (omega arith)))
       go (scope-done d q z) = absurd (st .going d)
-      go (scope-turned (turned-waits q z _ v)) = absurd (quiet-waits w refl v)
-      go (scope-turned (turned-undoes q z v)) = absurd (quiet-waits w refl v)
+      go (scope-turned (turned-waits q z _ v)) = absurd (quiet-waits w refl (quiet-part v (omega arith) (omega arith)))
+      go (scope-turned (turned-undoes q z v)) = absurd (quiet-waits w refl (quiet-part v (omega arith) (omega arith)))
       go (scope-turned (turned-heals q z v)) =
-          fault-once (kindAt p) (rootOf p) kb kf (stepIn actor (p .fault) (size (p .body)) (size (p .body)) t o) (once-part p actor (kindAt p) (h .seat .fault) kf (size (p .body)) t o false w refl v q (omega arith))
+          fault-once (kindAt p) (rootOf p) kb kf (stepIn actor (p .fault) (size (p .body)) (size (p .body)) t o) (once-part p actor (kindAt p) (h .seat .fault 0) (fault-knows p h) (size (p .body)) t o false w refl (first-run v (choice-none (o .root))) q (omega arith))
 
   order-once : (actor : Actor) (t : ℕ) (o : Order) → Awaited p (o .marks) t → Standing p o → Once (kindAt p) (acted actor p t o .log)
   unfolding acted movedTo times isBeganOf

@@ -14,10 +14,9 @@ use Rattle.order.specs.Expression.{unboundVariable, Value, fault, value, evalua
 use Rattle.order.specs.Begin.{beginAfter, beginPart, part, partAt, cleared, quiet}
 use Rattle.order.specs.declared.Way.{Way as Result}
 use Rattle.order.specs.declared.Way.the-variants.{Running as running, Over as over, Raising as raising, Leaving as leaving, Undone as undone, UndoRaising as undoRaising}
-use Rattle.order.specs.Scope.{Outcome, runs, after, begunIn, whereOver, undo}
-use Rattle.order.specs.Acting.{allBound, finishes, raises, leaves, orRaises, again, repeats, itself, goesOn, joins, combines, arms, isPart, itsOwn, stepIn, stepAmong}
+use Rattle.order.specs.Scope.{Outcome, runs, after, begunIn, whereOver}
+use Rattle.order.specs.Acting.{allBound, finishes, raises, orRaises, again, repeats, itself, goesOn, joins, combines, arms, isPart, itsOwn, stepIn, stepAmong}
 use Rattle.undoing.specs.Ties.{Place}
-use Rattle.undoing.specs.Answered.{without}
 use Rattle.undoing.proofs.Parts.{both, decide, some-append}
 use Rattle.undoing.proofs.Marks.{Quiet, Run, run-awaits, run-one, run-all, run-body, run-done, run-turned, All, all-run, all-quiet, Stopped, stopped-part, stopped-quiet, stopped-scope, StoppedIn, stopped-more, quiet-part}
 use Rattle.undoing.proofs.Orders.{directs, directsIn, bare, bareIn, Sits, sits-part, sits-scope, SitsIn, sits-none, sits-more, Healers}

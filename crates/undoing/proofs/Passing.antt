@@ -2,48 +2,51 @@
 use Prim.Native.Nat.{ℕ, zero, suc, _+_, _≤_, _<_}
 use native.Mathlib.Omega.{arith}
 use mathlib.Core.Path.{_≡_, refl, sym, ap, subst, _∙_}
-use mathlib.Core.Bool.{Bool, true, false, cond, not, _&&_, _||_, false≢true, or-true}
+use mathlib.Core.Bool.{Bool, true, false, cond, _&&_, false≢true, or-true}
 use mathlib.Core.List.{List, [], _∷_, _++_}
 use lib.ListN.{length, getD}
 use lib.Dec.{eqb, ltb}
-use borrow.Author.Tests.{eqb-true, eqb-false, lt-ltb, le-ltb, ltb-true, ltb-false}
-use Rattle.plan.specs.Tree.{Own, empty, send, receive, set as setting, raise, leave, choose, repeat, sequence, flow, pick, scope, arm, kind, isScope, isPick, Act, act, Acts, none, more, Plan, size, sizes, count}
+use borrow.Author.Tests.{eqb-true}
+use Rattle.plan.specs.Tree.{Own, empty, send, receive, set as setting, raise, leave, choose, repeat, sequence, flow, pick, scope, arm, kind, isScope, Act, act, Acts, none, more, Plan, size, sizes, count, generalPart, undoPart}
 use Rattle.order.specs.declared.Order.{Order}
 use Rattle.order.specs.Lists.{some}
-use Rattle.order.specs.State.{Name, root, inner, idle, active, inside, done, faulty, halted, markAt, markOf, marking}
+use Rattle.order.specs.State.{Name, inner, idle, active, done, halted, markAt, markOf, marking}
 use Rattle.order.specs.Event.{Event}
 use Rattle.order.specs.Begin.{Begun, inTurn, begin, beginInTurn, beginAfter, part, partAt}
 use Rattle.order.specs.declared.Way.{Way as Result}
 use Rattle.order.specs.declared.Way.the-variants.{Running as running, Over as over, Raising as raising, Leaving as leaving, Undone as undone, UndoRaising as undoRaising}
 use Rattle.order.specs.Scope.{Outcome, runs, begunIn, whereOver, Scope, scopeAt, innerRuns, looksAgain, bodyOver, fromBody, fromFault, fromUndo}
-use Rattle.order.specs.Acting.{finishes, goesOn, combines, stepIn, stepAmong, isPart, Actor, performs}
-use Rattle.undoing.specs.Ties.{Place, bodyOf, faultOf, undoOf, nameOf, beyondOf, lastOf}
+use Rattle.order.specs.Acting.{finishes, goesOn, combines, stepIn, stepAmong, isPart, Actor}
+use Rattle.undoing.specs.Ties.{Place, bodyOf, undoOf, nameOf, beyondOf, lastOf}
 use Rattle.undoing.specs.Orderly.{isBeganOf}
 use Rattle.undoing.specs.Begun.{lasts, isScopeKind, hasBegan}
+use Rattle.undoing.specs.Standing.{choiceOn}
 use Rattle.undoing.specs.Entirely.{times, isRash}
 use Rattle.undoing.specs.Onward.{eachBegan, laterBegan}
 use Rattle.undoing.proofs.Parts.{both, decide, some-append}
 use Rattle.undoing.proofs.Accounts.{Phase, live, heals, phase}
 use Rattle.undoing.proofs.Places.{first-of, second-of}
-use Rattle.undoing.proofs.Marks.{trio, Quiet, isDoer, Run, run-awaits, run-one, run-all, run-body, run-done, run-turned, One, one-here, one-later, All, all-none, all-run, all-quiet, Turned, turned-waits, turned-undoes, turned-heals, Stopped, stopped-part, stopped-quiet, stopped-scope, StoppedIn, stopped-more, Undoing, undoing-part, undoing-scope, undoing-through, UndoingIn, undoing-here, undoing-later, quiet-part, quiet-join, turned-not-rest}
-use Rattle.undoing.proofs.Orders.{Fit, Sits, sits-part, sits-scope, SitsIn, sits-more, Remedy, remedy, Rest, rest-undo, rest-none}
+use Rattle.undoing.proofs.Marks.{trio, Quiet, isDoer, Run, run-awaits, run-one, run-all, run-body, run-done, run-turned, One, one-here, one-later, All, all-none, all-run, all-quiet, Nth, Turned, turned-waits, turned-undoes, turned-heals, Stopped, stopped-part, stopped-quiet, stopped-scope, StoppedIn, stopped-more, Undoing, undoing-part, undoing-scope, undoing-through, UndoingIn, undoing-here, undoing-later, quiet-part, quiet-join, turned-not-rest}
+use Rattle.undoing.proofs.Orders.{Fit, Sits, sits-part, sits-scope, SitsIn, sits-more, Remedy, remedy, Healers, heals-by, heals-all, Rest, rest-undo, rest-none}
 use Rattle.undoing.proofs.Moves.{runnerAt}
 use Rattle.undoing.proofs.Seats.{Seat, mark-kept, stopped-rests}
+use Rattle.undoing.proofs.Choices.{general-is}
+use Rattle.undoing.proofs.Remedies.{part-from, part-to, nth-there, nth-run}
+use Rattle.undoing.proofs.Healing.{other-mark, choice-least}
 use Rattle.undoing.proofs.Stopping.{seat-of}
-use Rattle.undoing.proofs.Waiting.{opens, Waits, waits-itself, waits-within, WaitsIn, waits-first, waits-later, waits-from, opens-idle, quiet-waits, quiet-waits-in, stopped-waits, undoing-waits}
+use Rattle.undoing.proofs.Waiting.{opens, Waits, waits-itself, waits-within, WaitsIn, waits-first, waits-later, opens-idle, quiet-waits, quiet-waits-in, nth-waits}
 use Rattle.undoing.proofs.Scoping.{Acted, RunAs, StopAs, UndoAs}
 use Rattle.undoing.proofs.Combining.{arms-held, arms-none}
-use Rattle.undoing.proofs.Stepping.{PartOf, through-is, awake-first, steps, steps-one, steps-all, steps-stopped, steps-stopped-in, steps-undoing, steps-undoing-in, steps-part, opens-held, stopped-part-not, undoing-part-not, body-step, fault-step, undo-step, Whole, Its}
+use Rattle.undoing.proofs.Stepping.{PartOf, through-is, awake-first, steps, steps-stopped, steps-stopped-in, steps-undoing, steps-undoing-in, steps-part, opens-held, stopped-part-not, undoing-part-not, body-step, fault-step, undo-step, Whole, Its}
 use Rattle.undoing.proofs.Truly.{Up, scope-kind, no-pick, Arms, Knows, knows, KnowsIn, knows-none, knows-more}
-use Rattle.undoing.proofs.Lasting.{Within, scope-needs, scope-within}
+use Rattle.undoing.proofs.Lasting.{part-knows, Within, scope-needs, scope-within}
 use Rattle.undoing.proofs.Keeping.{begins-said}
 use Rattle.undoing.proofs.Keeping as keeping
-use Rattle.undoing.proofs.Entire.{Named}
 use Rattle.undoing.proofs.Entering.{step-at}
 use Rattle.undoing.proofs.Single.{looks-none, looks-still}
 use Rattle.undoing.proofs.Dropping.{isBad, step-drops, among-drops, body-has, fault-has, combines-has, calmer, not-bad}
-use Rattle.undoing.proofs.Afresh.{began-times, Fresh, New, new-idle, new-again, fault-fresh, fresh-append}
-use Rattle.undoing.proofs.AfreshSteps.{other-mark, isOver, isUndone, its-own, its-within, its-first, its-later, after-fresh, combines-fresh, arms-of}
+use Rattle.undoing.proofs.Afresh.{began-times, Fresh, New, new-idle, new-again, fault-fresh}
+use Rattle.undoing.proofs.AfreshSteps.{not-faulty, isOver, isUndone, its-within, its-first, its-later, after-fresh, combines-fresh, arms-of}
 use Rattle.undoing.proofs.Growing.{body-grows, fault-grows, combines-grows}
 
 -- More events: what had begun has.
@@ -149,10 +152,11 @@ module _ (f : ℕ → ℕ) where
   doer-lasts (scope xs v) e = absurd (false≢true e)
   doer-lasts (arm p o vs) e = absurd (false≢true e)
 
-  scope-lasts : (v : Bool) → lasts (kind (scope xs v)) ≡ true
+  scope-lasts : (xs : List ℕ) (v : Bool) → lasts (kind (scope xs v)) ≡ true
   unfolding lasts kind
-  scope-lasts true = refl
-  scope-lasts false = refl
+  scope-lasts [] true = refl
+  scope-lasts [] false = refl
+  scope-lasts (x ∷ xs) v = refl
 
   mutual
     unfolding size lasts kind
@@ -161,9 +165,9 @@ module _ (f : ℕ → ℕ) where
     run-loud-so {ms} (knows e n r y) (run-awaits {own} {within} {k} s d z q) = loud k (omega arith) (omega arith) (ap lasts e ∙ doer-lasts own d) (rw z)
     run-loud-so (knows e n r y) (run-one s d z) = loud-wider (one-loud-so y z) (omega arith) (omega arith)
     run-loud-so (knows e n r y) (run-all d z q) = loud-wider (all-loud-so y z q) (omega arith) (omega arith)
-    run-loud-so (knows e n r y) (run-body {v} {k = k} d z q) = loud k (omega arith) (omega arith) (ap lasts e ∙ scope-lasts v) (rw d)
-    run-loud-so (knows e n r y) (run-done {v} {k = k} d q) = loud k (omega arith) (omega arith) (ap lasts e ∙ scope-lasts v) (rw d)
-    run-loud-so {ms} (knows e n r y) (run-turned {v} {k = k} d q) = loud k (omega arith) (omega arith) (ap lasts e ∙ scope-lasts v) (decide (eqb (getD ms k 0) idle) (λ z. absurd (turned-not-rest d (eqb-true (getD ms k 0) idle z))) (λ z. z))
+    run-loud-so (knows e n r y) (run-body {xs} {v} {k = k} d z q) = loud k (omega arith) (omega arith) (ap lasts e ∙ scope-lasts xs v) (rw d)
+    run-loud-so (knows e n r y) (run-done {xs} {v} {k = k} d q) = loud k (omega arith) (omega arith) (ap lasts e ∙ scope-lasts xs v) (rw d)
+    run-loud-so {ms} (knows e n r y) (run-turned {xs} {v} {k = k} d) = loud k (omega arith) (omega arith) (ap lasts e ∙ scope-lasts xs v) (decide (eqb (getD ms k 0) idle) (λ z. absurd (turned-not-rest d (eqb-true (getD ms k 0) idle z))) (λ z. z))
 
     one-loud-so : {ms : List ℕ} {l : Acts} {c : ℕ} → KnowsIn f l c → One ms l c → Loud ms c (sizes l)
     one-loud-so (knows-more x y) (one-here r q) = loud-wider (run-loud-so x r) (omega arith) (omega arith)
@@ -286,8 +290,9 @@ module _ (p : Plan) (actor : Actor) (f : ℕ → ℕ) (t : ℕ) (o : Order) wher
       go (undoRaising x) d v = absurd v
   seq-claim flow within y₀ k x h w c q e = absurd (false≢true e)
   seq-claim pick within y₀ k x h w c q e = absurd (false≢true e)
-  seq-claim (scope xs true) within y₀ k x h w c q e = absurd (false≢true e)
-  seq-claim (scope xs false) within y₀ k x h w c q e = absurd (false≢true e)
+  seq-claim (scope [] true) within y₀ k x h w c q e = absurd (false≢true e)
+  seq-claim (scope [] false) within y₀ k x h w c q e = absurd (false≢true e)
+  seq-claim (scope (n ∷ ns) v) within y₀ k x h w c q e = absurd (false≢true e)
   seq-claim (arm a b vs) within y₀ k x h w c q e = absurd (false≢true e)
 
   part-thru : (own : Own) (within : Acts) (y₀ k : ℕ) (b : Bool) → isScope own ≡ false → Knows f (act own within) k → Waits (o .marks) (act own within) k t b → b ≡ false → Run (o .marks) (act own within) k
@@ -331,7 +336,7 @@ module _ (p : Plan) (actor : Actor) (f : ℕ → ℕ) (t : ℕ) (o : Order) wher
       (g (calmer _ _ (combines-has isRash own within k t (stepAmong actor within false y₀ (k + 1) t o)) c₁)) (omega arith) (omega arith)))
 
   -- A scope.
-  module _ (s : Scope) (h : Seat p s) (b e : ℕ) (w : Within f s b e) (from : b ≤ s .bodyAt) (m : e ≤ length (o .marks)) (below : (j : ℕ) → s .bodyAt ≤ j → j + 1 ≡ b → ⊥) (belowFault : (j : ℕ) → s .faultAt ≤ j → j + 1 ≡ b → ⊥) where
+  module _ (s : Scope) (h : Seat p s) (b e : ℕ) (w : Within f s b e) (from : b ≤ s .bodyAt) (m : e ≤ length (o .marks)) (below : (j : ℕ) → s .bodyAt ≤ j → j + 1 ≡ b → ⊥) where
     abbrev its : Outcome
     its = stepIn actor (s .body) (s .bodyAt) (s .bodyAt) t o
 
@@ -417,7 +422,7 @@ module _ (p : Plan) (actor : Actor) (f : ℕ → ℕ) (t : ℕ) (o : Order) wher
       undoes-passes z ph v =
           body-passes (λ j x y u. (
             looks-still f s (w .body) (w .fault) (its .order)
-                (other-mark (markOf (s .name) (its .order)) faulty (Phase.undoes z) (ap phase (its-mark v) ∙ ph) (λ d. let z : _≡_ {A = ℕ} 0 1 = cc in omega arith))
+                (not-faulty (markOf (s .name) (its .order)) z (ap phase (its-mark v) ∙ ph))
                 (other-mark (markOf (s .name) (its .order)) halted (Phase.undoes z) (ap phase (its-mark v) ∙ ph) (λ d. let z : _≡_ {A = ℕ} 0 1 = cc in omega arith)),
             decide (isUndone (its .result)) (λ d. absurd (undone-quiet (its .result) d (v .comes) j x y u)) (λ d. d),
           ))
@@ -430,16 +435,16 @@ module _ (p : Plan) (actor : Actor) (f : ℕ → ℕ) (t : ℕ) (o : Order) wher
           undone-quiet undone d c j x z u = false≢true (sym u ∙ ap (λ (m : ℕ). eqb m idle) (c .0 .at j x z))
           undone-quiet (undoRaising n) d c j x z u = false≢true d
 
-    -- its fault part
-    pub fault-passes : some isRash (fromFault s (stepIn actor (s .fault) (s .faultAt) (s .faultAt) t o) .log) ≡ false
-        → Passes (stepIn actor (s .fault) (s .faultAt) (s .faultAt) t o) (fromFault s (stepIn actor (s .fault) (s .faultAt) (s .faultAt) t o)) (s .faultAt) (size (s .fault))
-    fault-passes c =
-        let r = stepIn actor (s .fault) (s .faultAt) (s .faultAt) t o in
-        let good = not-bad o r (step-drops f t actor (w .fault) (s .faultAt) o) (calmer (r .log) (fromFault s r .log) (fault-has isRash s r) c) in
+    -- one of its fault parts
+    pub fault-passes : (a : Act) (k : ℕ) → Knows f a k → k + size a ≤ e → ((j : ℕ) → k ≤ j → j + 1 ≡ b → ⊥) → some isRash (fromFault s (stepIn actor a k k t o) .log) ≡ false
+        → Passes (stepIn actor a k k t o) (fromFault s (stepIn actor a k k t o)) k (size a)
+    fault-passes a k x to low c =
+        let r = stepIn actor a k k t o in
+        let good = not-bad o r (step-drops f t actor x k o) (calmer (r .log) (fromFault s r .log) (fault-has isRash s r) c) in
         record {
           has = λ i d. fault-has (isBeganOf (eqb i)) s r d;
-          grows = λ j x z l u. fault-grows f s b e w r (omega (arith, keeping.step-steps f actor (w .fault) (s .faultAt) t o (omega (arith, w .faultTo)) .long)) good j l (belowFault j x) u;
-          none = λ i j x z v u d. none-from r (fromFault s r) (fault-fresh p f (Begun-in r) (o .marks) s r (its-fresh r)) i u d;
+          grows = λ j y z l u. fault-grows f s b e w r (omega (arith, keeping.step-steps f actor x k t o (omega arith) .long)) good j l (low j y) u;
+          none = λ i j y z v u d. none-from r (fromFault s r) (fault-fresh p f (Begun-in r) (o .marks) s r (its-fresh r)) i u d;
         }
 
   undo-passes : (a : Act) (k n : ℕ) → Passes (stepIn actor a k k t o) (fromUndo (stepIn actor a k k t o)) k n
@@ -463,88 +468,18 @@ module _ (p : Plan) (actor : Actor) (f : ℕ → ℕ) (t : ℕ) (o : Order) wher
   calm-later a l y₀ c h e = subst (λ (q : Outcome). some isRash (q .log) ≡ false) (its-later actor a l y₀ c t o h) e
 
   -- a scope is no sequence
-  no-sequence : (v : Bool) → eqb (kind (scope xs v)) 8 ≡ true → ⊥
+  no-sequence : (xs : List ℕ) (v : Bool) → eqb (kind (scope xs v)) 8 ≡ true → ⊥
   unfolding kind
-  no-sequence true e = false≢true e
-  no-sequence false e = false≢true e
+  no-sequence [] true e = false≢true e
+  no-sequence [] false e = false≢true e
+  no-sequence (x ∷ xs) v e = false≢true e
 
-  -- the numbers of a scope
-  its-within-scope : (z₀ : Bool) (b g : Act) (u : Acts) (k : ℕ) → Knows f (act (scope xs z₀) (trio b g u)) k → Within f (scopeAt k (trio b g u)) (k + 1) (k + 1 + sizes (trio b g u))
-  its-within-scope z₀ b g u k (knows e n r y) = scope-within f (ap isScopeKind e ∙ scope-kind (scope xs z₀)) (scope-needs f (scope xs z₀) (count (trio b g u)) refl n) y
-
-  module _ {n : Name} {ns : List Name} (z₀ : Bool) (b g : Act) (u : Acts) (y₀ k : ℕ) (h : Seat p (scopeAt k (trio b g u))) (sb : Sits p (bodyOf (inner k) ns n) b (k + 1)) (x : Knows f (act (scope xs z₀) (trio b g u)) k)
-      (m : k + (1 + (size b + (size g + sizes u))) ≤ length (o .marks)) (lt : k < t) (w : WaitsIn (o .marks) (trio b g u) (k + 1) t false) (c : some isRash (stepIn actor (act (scope xs z₀) (trio b g u)) y₀ k t o .log) ≡ false) where
-    abbrev Whole-step : Outcome
-    Whole-step = stepIn actor (act (scope xs z₀) (trio b g u)) y₀ k t o
-
-    abbrev Body-step : Outcome
-    Body-step = stepIn actor b (k + 1) (k + 1) t o
-
-    abbrev Fault-step : Outcome
-    Fault-step = stepIn actor g (k + 1 + size b) (k + 1 + size b) t o
-
-    in-body : (t < k + 1 + size b) → Thru Whole-step b (k + 1) → Thru Whole-step (act (scope xs z₀) (trio b g u)) k
-    in-body e v = thru-in lt (λ d. absurd (no-sequence z₀ d)) (thru-first e v)
-
-    in-fault : k + 1 + size b ≤ t → t < k + 1 + size b + size g → Thru Whole-step g (k + 1 + size b) → Thru Whole-step (act (scope xs z₀) (trio b g u)) k
-    in-fault d e v = thru-in lt (λ d. absurd (no-sequence z₀ d)) (thru-later d (thru-first e v))
-
-    calm-body : Whole-step ≡ fromBody (scopeAt k (trio b g u)) Body-step → some isRash (fromBody (scopeAt k (trio b g u)) Body-step .log) ≡ false
-    calm-body q = subst (λ (q : Outcome). some isRash (q .log) ≡ false) q c
-
-    calm-its : Whole-step ≡ fromBody (scopeAt k (trio b g u)) Body-step → some isRash (Body-step .log) ≡ false
-    calm-its q = calmer _ _ (body-has isRash (scopeAt k (trio b g u)) Body-step) (calm-body q)
-
-    W : Within f (scopeAt k (trio b g u)) (k + 1) (k + 1 + sizes (trio b g u))
-    W = its-within-scope z₀ b g u k x
-
-    turned-thru : Turned (o .marks) (getD (o .marks) k 0) b (k + 1) g (k + 1 + size b) → Quiet (o .marks) (k + 1 + size b + size g) (sizes u)
-        → ((y : Bool) → Waits (o .marks) b (k + 1) t y → y ≡ false → Stopped (o .marks) b (k + 1) → some isRash (Body-step .log) ≡ false → Thru Body-step b (k + 1))
-        → ((y : Bool) → Waits (o .marks) b (k + 1) t y → y ≡ false → Undoing (o .marks) b (k + 1) → (v : Bool) → phase (getD (o .marks) k 0) ≡ Phase.undoes v → some isRash (Body-step .log) ≡ false → Thru Body-step b (k + 1))
-        → ((y : Bool) → Waits (o .marks) g (k + 1 + size b) t y → y ≡ false → Run (o .marks) g (k + 1 + size b) → phase (getD (o .marks) k 0) ≡ heals → some isRash (Fault-step .log) ≡ false → Thru Fault-step g (k + 1 + size b))
-        → Thru Whole-step (act (scope xs z₀) (trio b g u)) k
-    unfolding size part partAt Its Whole
-    turned-thru r q i j l = go r w
-      where
-        go : Turned (o .marks) (getD (o .marks) k 0) b (k + 1) g (k + 1 + size b) → WaitsIn (o .marks) (trio b g u) (k + 1) t false → Thru Whole-step (act (scope xs z₀) (trio b g u)) k
-        go (turned-waits d z n y) (waits-first e v) =
-            let a = steps-stopped p actor sb (k + 1) t o false refl v refl z (omega arith) in
-            let q = body-step p actor z₀ b g u y₀ k t (getD (o .marks) k 0) o lt e (a .kept .below k (omega arith)) (turned-not-rest (turned-waits {f = g} d z n y)) in
-            in-body e (subst (λ (q : Outcome). Thru q b (k + 1)) (sym q)
-            (thru-map (waits-passes (scopeAt k (trio b g u)) h (k + 1) (k + 1 + sizes (trio b g u)) W (omega arith) (omega arith) (λ j a d. omega arith) (λ j a d. omega arith) (calm-body q) a)
-            (i false v refl z (calm-its q)) (omega arith) (omega arith)))
-        go (turned-undoes {w = a} d z y) (waits-first e v) =
-            let r = awake-first p actor (λ n. markOf n o) (inner k) ns a d in
-            let s = steps-undoing p actor sb (k + 1) t o false refl v refl z (inner k) r (a, ap (λ (n : Name). phase (markOf n o)) r ∙ d) (omega arith) in
-            let q = body-step p actor z₀ b g u y₀ k t (getD (o .marks) k 0) o lt e (s .kept .below k (omega arith)) (turned-not-rest (turned-undoes {f = g} d z y)) in
-            in-body e (subst (λ (q : Outcome). Thru q b (k + 1)) (sym q)
-            (thru-map (undoes-passes (scopeAt k (trio b g u)) h (k + 1) (k + 1 + sizes (trio b g u)) W (omega arith) (omega arith) (λ j a d. omega arith) (λ j a d. omega arith) (calm-body q) a d s)
-            (j false v refl z a d (calm-its q)) (omega arith) (omega arith)))
-        go (turned-heals d z y) (waits-first e v) = absurd (quiet-waits v refl z)
-        go (turned-waits d z _ y) (waits-later a (waits-first e v)) = absurd (quiet-waits v refl y)
-        go (turned-undoes d z y) (waits-later a (waits-first e v)) = absurd (quiet-waits v refl y)
-        go (turned-heals d z y) (waits-later a (waits-first e v)) =
-            let q = fault-step p actor z₀ b g u y₀ k t o a e in
-            let c₁ : some isRash (fromFault (scopeAt k (trio b g u)) Fault-step .log) ≡ false = subst (λ (z : Outcome). some isRash (z .log) ≡ false) q c in
-            in-fault a e (subst (λ (q : Outcome). Thru q g (k + 1 + size b)) (sym q)
-            (thru-map (fault-passes (scopeAt k (trio b g u)) h (k + 1) (k + 1 + sizes (trio b g u)) W (omega arith) (omega arith) (λ j a d. omega arith) (λ j a d. omega arith) c₁)
-            (l false v refl y d (calmer _ _ (fault-has isRash (scopeAt k (trio b g u)) Fault-step) c₁)) (omega arith) (omega arith)))
-        go z (waits-later a (waits-later e v)) = absurd (quiet-waits-in v refl q)
-
-    live-thru : getD (o .marks) k 0 ≡ active → Run (o .marks) b (k + 1) → Quiet (o .marks) (k + 1 + size b) (size g + sizes u)
-        → (Waits (o .marks) b (k + 1) t false → some isRash (Body-step .log) ≡ false → Thru Body-step b (k + 1)) → Thru Whole-step (act (scope xs z₀) (trio b g u)) k
-    unfolding size part partAt Its Whole
-    live-thru d r q j = go w
-      where
-        go : WaitsIn (o .marks) (trio b g u) (k + 1) t false → Thru Whole-step (act (scope xs z₀) (trio b g u)) k
-        go (waits-first e v) =
-            let a = steps p actor sb (k + 1) t o false refl v refl r (ap phase d) (omega arith) in
-            let i = body-step p actor z₀ b g u y₀ k t active o lt e (a .kept .below k (omega arith) ∙ d) (λ n. absurd (omega (arith, n))) in
-            in-body e (subst (λ (q : Outcome). Thru q b (k + 1)) (sym i)
-            (thru-map (live-passes (scopeAt k (trio b g u)) h (k + 1) (k + 1 + sizes (trio b g u)) W (omega arith) (omega arith) (λ j a d. omega arith) (λ j a d. omega arith) (calm-body i) d a)
-            (j v (calm-its i)) (omega arith) (omega arith)))
-        go (waits-later a (waits-first e v)) = absurd (quiet-waits v refl (quiet-part q (omega arith) (omega arith)))
-        go (waits-later a (waits-later e v)) = absurd (quiet-waits-in v refl (quiet-part q (omega arith) (omega arith)))
+  -- in the i-th of a list
+  thru-nth : {r : Outcome} (i : ℕ) (l : Acts) (c : ℕ) → i < count l → partAt i l c ≤ t → t < partAt i l c + size (part i l) → Thru r (part i l) (partAt i l c) → ThruIn r l c
+  unfolding part partAt count
+  thru-nth i none c n lo hi w = absurd (omega arith)
+  thru-nth zero (more a l) c n lo hi w = thru-first hi w
+  thru-nth (suc i) (more a l) c n lo hi w = thru-later {a = a} {c = c} (omega (arith, part-from i l (c + size a))) (thru-nth i l (c + size a) (omega arith) lo hi w)
 
   -- what f knows of the parts
   within-known : {own : Own} {within : Acts} {k : ℕ} → Knows f (act own within) k → KnowsIn f within (k + 1)
@@ -555,6 +490,93 @@ module _ (p : Plan) (actor : Actor) (f : ℕ → ℕ) (t : ℕ) (o : Order) wher
 
   later-known : {a : Act} {l : Acts} {c : ℕ} → KnowsIn f (more a l) c → KnowsIn f l (c + size a)
   later-known (knows-more x y) = y
+
+  -- the numbers of a scope
+  its-within-scope : (xs : List ℕ) (z₀ : Bool) (b g : Act) (u : Acts) (k : ℕ) → Knows f (act (scope xs z₀) (trio b g u)) k → Within f (scopeAt xs k (trio b g u)) (k + 1) (k + 1 + sizes (trio b g u))
+  its-within-scope xs z₀ b g u k (knows e n r y) = scope-within f xs (ap isScopeKind e ∙ scope-kind (scope xs z₀)) (scope-needs f (scope xs z₀) (count (trio b g u)) refl n) y
+
+  module _ {n : Name} {ns : List Name} (xs : List ℕ) (z₀ : Bool) (b g : Act) (u : Acts) (y₀ k : ℕ) (h : Seat p (scopeAt xs k (trio b g u))) (sb : Sits p (bodyOf (inner k) ns n) b (k + 1)) (x : Knows f (act (scope xs z₀) (trio b g u)) k)
+      (m : k + (1 + (size b + (size g + sizes u))) ≤ length (o .marks)) (lt : k < t) (w : WaitsIn (o .marks) (trio b g u) (k + 1) t false) (c : some isRash (stepIn actor (act (scope xs z₀) (trio b g u)) y₀ k t o .log) ≡ false) where
+    abbrev Whole-step : Outcome
+    Whole-step = stepIn actor (act (scope xs z₀) (trio b g u)) y₀ k t o
+
+    abbrev Body-step : Outcome
+    Body-step = stepIn actor b (k + 1) (k + 1) t o
+
+    abbrev Fault-step : ℕ → Outcome
+    Fault-step i = stepIn actor (part i (more g u)) (partAt i (more g u) (k + 1 + size b)) (partAt i (more g u) (k + 1 + size b)) t o
+
+    in-body : (t < k + 1 + size b) → Thru Whole-step b (k + 1) → Thru Whole-step (act (scope xs z₀) (trio b g u)) k
+    in-body e v = thru-in lt (λ d. absurd (no-sequence xs z₀ d)) (thru-first e v)
+
+    in-fault : (i : ℕ) → i < count (more g u) → k + 1 + size b ≤ t → partAt i (more g u) (k + 1 + size b) ≤ t → t < partAt i (more g u) (k + 1 + size b) + size (part i (more g u))
+        → Thru Whole-step (part i (more g u)) (partAt i (more g u) (k + 1 + size b)) → Thru Whole-step (act (scope xs z₀) (trio b g u)) k
+    in-fault i n d lo hi v = thru-in lt (λ d. absurd (no-sequence xs z₀ d)) (thru-later d (thru-nth i (more g u) (k + 1 + size b) n lo hi v))
+
+    calm-body : Whole-step ≡ fromBody (scopeAt xs k (trio b g u)) Body-step → some isRash (fromBody (scopeAt xs k (trio b g u)) Body-step .log) ≡ false
+    calm-body q = subst (λ (q : Outcome). some isRash (q .log) ≡ false) q c
+
+    calm-its : Whole-step ≡ fromBody (scopeAt xs k (trio b g u)) Body-step → some isRash (Body-step .log) ≡ false
+    calm-its q = calmer _ _ (body-has isRash (scopeAt xs k (trio b g u)) Body-step) (calm-body q)
+
+    W : Within f (scopeAt xs k (trio b g u)) (k + 1) (k + 1 + sizes (trio b g u))
+    W = its-within-scope xs z₀ b g u k x
+
+    turned-thru : Turned (o .marks) xs (getD (o .marks) k 0) b (k + 1) (more g u) (k + 1 + size b)
+        → ((y : Bool) → Waits (o .marks) b (k + 1) t y → y ≡ false → Stopped (o .marks) b (k + 1) → some isRash (Body-step .log) ≡ false → Thru Body-step b (k + 1))
+        → ((y : Bool) → Waits (o .marks) b (k + 1) t y → y ≡ false → Undoing (o .marks) b (k + 1) → (v : Bool) → phase (getD (o .marks) k 0) ≡ Phase.undoes v → some isRash (Body-step .log) ≡ false → Thru Body-step b (k + 1))
+        → ((i : ℕ) → i ≤ length xs → i < count (more g u) → (y : Bool) → Waits (o .marks) (part i (more g u)) (partAt i (more g u) (k + 1 + size b)) t y → y ≡ false
+        → Run (o .marks) (part i (more g u)) (partAt i (more g u) (k + 1 + size b)) → phase (getD (o .marks) k 0) ≡ heals → some isRash (Fault-step i .log) ≡ false
+        → Thru (Fault-step i) (part i (more g u)) (partAt i (more g u) (k + 1 + size b)))
+        → Thru Whole-step (act (scope xs z₀) (trio b g u)) k
+    unfolding size part partAt Its Whole
+    turned-thru r i j l = go r w
+      where
+        go : Turned (o .marks) xs (getD (o .marks) k 0) b (k + 1) (more g u) (k + 1 + size b) → WaitsIn (o .marks) (trio b g u) (k + 1) t false → Thru Whole-step (act (scope xs z₀) (trio b g u)) k
+        go (turned-waits d z n y) (waits-first e v) =
+            let a = steps-stopped p actor sb (k + 1) t o false refl v refl z (omega arith) in
+            let q = body-step p actor xs z₀ b g u y₀ k t (getD (o .marks) k 0) o lt e (a .kept .below k (omega arith)) (turned-not-rest (turned-waits {xs = xs} {l = more g u} d z n y)) in
+            in-body e (subst (λ (q : Outcome). Thru q b (k + 1)) (sym q)
+            (thru-map (waits-passes (scopeAt xs k (trio b g u)) h (k + 1) (k + 1 + sizes (trio b g u)) W (omega arith) (omega arith) (λ j a d. omega arith) (calm-body q) a)
+            (i false v refl z (calm-its q)) (omega arith) (omega arith)))
+        go (turned-undoes {w = a} d z y) (waits-first e v) =
+            let r = awake-first p actor (λ n. markOf n o) (inner k) ns a d in
+            let s = steps-undoing p actor sb (k + 1) t o false refl v refl z (inner k) r (a, ap (λ (n : Name). phase (markOf n o)) r ∙ d) (omega arith) in
+            let q = body-step p actor xs z₀ b g u y₀ k t (getD (o .marks) k 0) o lt e (s .kept .below k (omega arith)) (turned-not-rest (turned-undoes {xs = xs} {l = more g u} d z y)) in
+            in-body e (subst (λ (q : Outcome). Thru q b (k + 1)) (sym q)
+            (thru-map (undoes-passes (scopeAt xs k (trio b g u)) h (k + 1) (k + 1 + sizes (trio b g u)) W (omega arith) (omega arith) (λ j a d. omega arith) (calm-body q) a d s)
+            (j false v refl z a d (calm-its q)) (omega arith) (omega arith)))
+        go (turned-heals d z y) (waits-first e v) = absurd (quiet-waits v refl z)
+        go (turned-waits d z _ y) (waits-later a v) = absurd (quiet-waits-in v refl y)
+        go (turned-undoes d z y) (waits-later a v) = absurd (quiet-waits-in v refl y)
+        go (turned-heals d z y) (waits-later a v) =
+            let e = nth-waits y v refl in
+            let i₁ = choiceOn xs (getD (o .marks) k 0) in
+            let le : i₁ ≤ length xs = omega (arith, choice-least xs (getD (o .marks) k 0), general-is xs) in
+            let k₁ = partAt i₁ (more g u) (k + 1 + size b) in
+            let lo = part-from i₁ (more g u) (k + 1 + size b) in
+            let hi = part-to i₁ (more g u) (k + 1 + size b) (nth-there y) in
+            let q = fault-step p actor xs z₀ b g u y₀ k i₁ t o le (nth-there y) (e .0) (e .1) in
+            let c₁ : some isRash (fromFault (scopeAt xs k (trio b g u)) (Fault-step i₁) .log) ≡ false = subst (λ (z : Outcome). some isRash (z .log) ≡ false) q c in
+            in-fault i₁ (nth-there y) a (e .0) (e .1) (subst (λ (q : Outcome). Thru q (part i₁ (more g u)) k₁) (sym q)
+            (thru-map (fault-passes (scopeAt xs k (trio b g u)) h (k + 1) (k + 1 + sizes (trio b g u)) W (omega arith) (omega arith) (λ j a d. omega arith) (part i₁ (more g u)) k₁
+            (part-knows f (later-known (within-known x)) i₁ (nth-there y)) (omega arith) (λ j a d. omega arith) c₁)
+            (l i₁ le (nth-there y) false (e .2) refl (nth-run y) d (calmer _ _ (fault-has isRash (scopeAt xs k (trio b g u)) (Fault-step i₁)) c₁)) (omega arith) (omega arith)))
+
+    live-thru : getD (o .marks) k 0 ≡ active → Run (o .marks) b (k + 1) → Quiet (o .marks) (k + 1 + size b) (size g + sizes u)
+        → (Waits (o .marks) b (k + 1) t false → some isRash (Body-step .log) ≡ false → Thru Body-step b (k + 1)) → Thru Whole-step (act (scope xs z₀) (trio b g u)) k
+    unfolding size part partAt Its Whole
+    live-thru d r q j = go w
+      where
+        go : WaitsIn (o .marks) (trio b g u) (k + 1) t false → Thru Whole-step (act (scope xs z₀) (trio b g u)) k
+        go (waits-first e v) =
+            let a = steps p actor sb (k + 1) t o false refl v refl r (ap phase d) (omega arith) in
+            let i = body-step p actor xs z₀ b g u y₀ k t active o lt e (a .kept .below k (omega arith) ∙ d) (λ n. absurd (omega (arith, n))) in
+            in-body e (subst (λ (q : Outcome). Thru q b (k + 1)) (sym i)
+            (thru-map (live-passes (scopeAt xs k (trio b g u)) h (k + 1) (k + 1 + sizes (trio b g u)) W (omega arith) (omega arith) (λ j a d. omega arith) (calm-body i) d a)
+            (j v (calm-its i)) (omega arith) (omega arith)))
+        go (waits-later a (waits-first e v)) = absurd (quiet-waits v refl (quiet-part q (omega arith) (omega arith)))
+        go (waits-later a (waits-later e v)) = absurd (quiet-waits-in v refl (quiet-part q (omega arith) (omega arith)))
 
   -- What the mutual block below asks of each kind of activity, with what it finds of the parts as premises: so that each is checked by itself.
   part-by : (own : Own) (within : Acts) (y₀ k : ℕ) (b : Bool) → isScope own ≡ false → Knows f (act own within) k → Waits (o .marks) (act own within) k t b → b ≡ false → Run (o .marks) (act own within) k
@@ -569,18 +591,20 @@ module _ (p : Plan) (actor : Actor) (f : ℕ → ℕ) (t : ℕ) (o : Order) wher
       let m₁ : k + 1 + sizes within ≤ length (o .marks) = omega arith in
       part-thru own within y₀ k b s x w q run m₁ a c (λ d w₁ e₁ r₁ c₁. one d w₁ e₁ r₁ m₁ c₁) (λ d w₁ e₁ r₁ c₁. all d w₁ e₁ r₁ m₁ c₁)
 
-  module _ {n : Name} {ns : List Name} (z₀ : Bool) (b g : Act) (u : Acts) (y₀ k : ℕ) (h : Seat p (scopeAt k (trio b g u))) (sb : Sits p (bodyOf (inner k) ns n) b (k + 1)) (x : Knows f (act (scope xs z₀) (trio b g u)) k)
+  module _ {n : Name} {ns : List Name} (xs : List ℕ) (z₀ : Bool) (b g : Act) (u : Acts) (y₀ k : ℕ) (h : Seat p (scopeAt xs k (trio b g u))) (sb : Sits p (bodyOf (inner k) ns n) b (k + 1)) (x : Knows f (act (scope xs z₀) (trio b g u)) k)
       (m : k + (1 + (size b + (size g + sizes u))) ≤ length (o .marks))
       (i : (y : Bool) → Waits (o .marks) b (k + 1) t y → y ≡ false → Stopped (o .marks) b (k + 1) → k + 1 + size b ≤ length (o .marks) → some isRash (stepIn actor b (k + 1) (k + 1) t o .log) ≡ false → Thru (stepIn actor b (k + 1) (k + 1) t o) b (k + 1))
       (j : (y : Bool) → Waits (o .marks) b (k + 1) t y → y ≡ false → Undoing (o .marks) b (k + 1) → (v : Bool) → phase (getD (o .marks) k 0) ≡ Phase.undoes v → k + 1 + size b ≤ length (o .marks)
       → some isRash (stepIn actor b (k + 1) (k + 1) t o .log) ≡ false → Thru (stepIn actor b (k + 1) (k + 1) t o) b (k + 1))
-      (l : (y : Bool) → Waits (o .marks) g (k + 1 + size b) t y → y ≡ false → Run (o .marks) g (k + 1 + size b) → phase (getD (o .marks) k 0) ≡ heals → k + 1 + size b + size g ≤ length (o .marks)
-      → some isRash (stepIn actor g (k + 1 + size b) (k + 1 + size b) t o .log) ≡ false → Thru (stepIn actor g (k + 1 + size b) (k + 1 + size b) t o) g (k + 1 + size b)) where
+      (l : (i : ℕ) → i ≤ length xs → i < count (more g u) → (y : Bool) → Waits (o .marks) (part i (more g u)) (partAt i (more g u) (k + 1 + size b)) t y → y ≡ false
+      → Run (o .marks) (part i (more g u)) (partAt i (more g u) (k + 1 + size b)) → phase (getD (o .marks) k 0) ≡ heals
+      → some isRash (stepIn actor (part i (more g u)) (partAt i (more g u) (k + 1 + size b)) (partAt i (more g u) (k + 1 + size b)) t o .log) ≡ false
+      → Thru (stepIn actor (part i (more g u)) (partAt i (more g u) (k + 1 + size b)) (partAt i (more g u) (k + 1 + size b)) t o) (part i (more g u)) (partAt i (more g u) (k + 1 + size b))) where
     -- one that has turned, with the lengths that its parts ask for
     turned-by : k < t → WaitsIn (o .marks) (trio b g u) (k + 1) t false → some isRash (stepIn actor (act (scope xs z₀) (trio b g u)) y₀ k t o .log) ≡ false
-        → Turned (o .marks) (getD (o .marks) k 0) b (k + 1) g (k + 1 + size b) → Quiet (o .marks) (k + 1 + size b + size g) (sizes u) → Thru (stepIn actor (act (scope xs z₀) (trio b g u)) y₀ k t o) (act (scope xs z₀) (trio b g u)) k
-    turned-by lt w c r q =
-        turned-thru {n = n} {ns = ns} z₀ b g u y₀ k h sb x m lt w c r q (λ y w₁ e₁ r₁ c₁. i y w₁ e₁ r₁ (omega arith) c₁) (λ y w₁ e₁ r₁ v z c₁. j y w₁ e₁ r₁ v z (omega arith) c₁) (λ y w₁ e₁ r₁ z c₁. l y w₁ e₁ r₁ z (omega arith) c₁)
+        → Turned (o .marks) xs (getD (o .marks) k 0) b (k + 1) (more g u) (k + 1 + size b) → Thru (stepIn actor (act (scope xs z₀) (trio b g u)) y₀ k t o) (act (scope xs z₀) (trio b g u)) k
+    turned-by lt w c r =
+        turned-thru {n = n} {ns = ns} xs z₀ b g u y₀ k h sb x m lt w c r (λ y w₁ e₁ r₁ c₁. i y w₁ e₁ r₁ (omega arith) c₁) (λ y w₁ e₁ r₁ v z c₁. j y w₁ e₁ r₁ v z (omega arith) c₁) l
 
     scope-run-by : (c : Bool) → Waits (o .marks) (act (scope xs z₀) (trio b g u)) k t c → Run (o .marks) (act (scope xs z₀) (trio b g u)) k → some isRash (stepIn actor (act (scope xs z₀) (trio b g u)) y₀ k t o .log) ≡ false
         → ((y : Bool) → Waits (o .marks) b (k + 1) t y → y ≡ false → Run (o .marks) b (k + 1) → phase (getD (o .marks) k 0) ≡ live → k + 1 + size b ≤ length (o .marks) → some isRash (stepIn actor b (k + 1) (k + 1) t o .log) ≡ false
@@ -590,44 +614,46 @@ module _ (p : Plan) (actor : Actor) (f : ℕ → ℕ) (t : ℕ) (o : Order) wher
     scope-run-by c (waits-itself e d) r z q = thru-here e
     scope-run-by c (waits-within lt w) (run-awaits s d y v) z q = absurd (false≢true (sym s))
     scope-run-by c (waits-within lt w) (run-one s d y) z q = absurd (false≢true (sym s))
-    scope-run-by c (waits-within lt w) (run-body d r v) z q = live-thru {n = n} {ns = ns} z₀ b g u y₀ k h sb x m lt w z d r v (λ w₁ c₁. q false w₁ refl r (ap phase d) (omega arith) c₁)
+    scope-run-by c (waits-within lt w) (run-body d r v) z q = live-thru {n = n} {ns = ns} xs z₀ b g u y₀ k h sb x m lt w z d r v (λ w₁ c₁. q false w₁ refl r (ap phase d) (omega arith) c₁)
     scope-run-by c (waits-within lt w) (run-done d v) z q = absurd (quiet-waits-in w refl (quiet-part v (omega arith) (omega arith)))
-    scope-run-by c (waits-within lt w) (run-turned d) z q = turned-by lt w z d v
+    scope-run-by c (waits-within lt w) (run-turned d) z q = turned-by lt w z d
 
     scope-stopped-by : (c : Bool) → Waits (o .marks) (act (scope xs z₀) (trio b g u)) k t c → c ≡ false → Stopped (o .marks) (act (scope xs z₀) (trio b g u)) k → some isRash (stepIn actor (act (scope xs z₀) (trio b g u)) y₀ k t o .log) ≡ false
         → Thru (stepIn actor (act (scope xs z₀) (trio b g u)) y₀ k t o) (act (scope xs z₀) (trio b g u)) k
     scope-stopped-by c w q (stopped-part s e d) z = absurd (false≢true (sym s))
     scope-stopped-by c w q (stopped-quiet e) z = absurd (quiet-waits w q e)
     scope-stopped-by c (waits-itself e d) q (stopped-scope y) z = thru-here e
-    scope-stopped-by c (waits-within lt w) q (stopped-scope y) z = turned-by lt w z y v
+    scope-stopped-by c (waits-within lt w) q (stopped-scope y) z = turned-by lt w z y
 
   -- one whose undo part runs, and one that was looked through
-  scope-undoing-by : (b g u : Act) (y₀ k : ℕ) (c : Bool) → k + (1 + (size b + (size g + (size u + 0)))) ≤ length (o .marks) → Waits (o .marks) (act (scope xs true) (trio b g (more u none))) k t c → Quiet (o .marks) (k + 1) (size b + size g)
-      → some isRash (stepIn actor (act (scope xs true) (trio b g (more u none))) y₀ k t o .log) ≡ false
-      → (Waits (o .marks) u (k + 1 + size b + size g) t false → k + 1 + size b + size g + size u ≤ length (o .marks) → some isRash (stepIn actor u (k + 1 + size b + size g) (k + 1 + size b + size g) t o .log) ≡ false
-      → Thru (stepIn actor u (k + 1 + size b + size g) (k + 1 + size b + size g) t o) u (k + 1 + size b + size g))
-      → Thru (stepIn actor (act (scope xs true) (trio b g (more u none))) y₀ k t o) (act (scope xs true) (trio b g (more u none))) k
-  unfolding size Its Whole
-  scope-undoing-by b g u y₀ k c m (waits-itself e d) q z i = thru-here e
-  scope-undoing-by b g u y₀ k c m (waits-within h (waits-first h₁ w)) q z i = absurd (quiet-waits w refl (quiet-part q (omega arith) (omega arith)))
-  scope-undoing-by b g u y₀ k c m (waits-within h (waits-later h₁ (waits-first h₂ w))) q z i = absurd (quiet-waits w refl (quiet-part q (omega arith) (omega arith)))
-  scope-undoing-by b g u y₀ k c m (waits-within h (waits-later h₁ (waits-later h₂ (waits-first h₃ w)))) q z i =
-      let e = undo-step p actor b g u y₀ k t o h₂ h₃ in
-      thru-in h (λ d. absurd (no-sequence true d)) (thru-later h₁ (thru-later h₂ (thru-first h₃
-      (subst (λ (v : Outcome). Thru v u (k + 1 + size b + size g)) (sym e)
-      (thru-map (undo-passes u (k + 1 + size b + size g) (size u)) (i w (omega arith) (undo-calm (stepIn actor u (k + 1 + size b + size g) (k + 1 + size b + size g) t o) (subst (λ (v : Outcome). some isRash (v .log) ≡ false) e z))) (omega arith) (omega arith))))))
+  scope-undoing-by : (xs : List ℕ) (b g : Act) (u : Acts) (y₀ k : ℕ) (c : Bool) → Waits (o .marks) (act (scope xs true) (trio b g u)) k t c → Undoing (o .marks) (act (scope xs true) (trio b g u)) k
+      → some isRash (stepIn actor (act (scope xs true) (trio b g u)) y₀ k t o .log) ≡ false
+      → (Waits (o .marks) (part (undoPart xs) (trio b g u)) (partAt (undoPart xs) (trio b g u) (k + 1)) t false → Nth (o .marks) (undoPart xs) (trio b g u) (k + 1)
+      → some isRash (stepIn actor (part (undoPart xs) (trio b g u)) (partAt (undoPart xs) (trio b g u) (k + 1)) (partAt (undoPart xs) (trio b g u) (k + 1)) t o .log) ≡ false
+      → Thru (stepIn actor (part (undoPart xs) (trio b g u)) (partAt (undoPart xs) (trio b g u) (k + 1)) (partAt (undoPart xs) (trio b g u) (k + 1)) t o) (part (undoPart xs) (trio b g u)) (partAt (undoPart xs) (trio b g u) (k + 1)))
+      → Thru (stepIn actor (act (scope xs true) (trio b g u)) y₀ k t o) (act (scope xs true) (trio b g u)) k
+  scope-undoing-by xs b g u y₀ k c (waits-itself e d) q z i = thru-here e
+  scope-undoing-by xs b g u y₀ k c (waits-within h w) (undoing-part s _ _) z i = absurd (false≢true (sym s))
+  scope-undoing-by xs b g u y₀ k c (waits-within h w) (undoing-scope x n r) z i =
+      let d = nth-waits r w refl in
+      let a = part (undoPart xs) (trio b g u) in
+      let k₁ = partAt (undoPart xs) (trio b g u) (k + 1) in
+      let e = undo-step p actor xs b g u y₀ k t o (nth-there r) (d .0) (d .1) in
+      thru-in h (λ d. absurd (no-sequence xs true d)) (thru-nth (undoPart xs) (trio b g u) (k + 1) (nth-there r) (d .0) (d .1)
+      (subst (λ (v : Outcome). Thru v a k₁) (sym e)
+      (thru-map (undo-passes a k₁ (size a)) (i (d .2) r (undo-calm (stepIn actor a k₁ k₁ t o) (subst (λ (v : Outcome). some isRash (v .log) ≡ false) e z))) (omega arith) (omega arith))))
 
-  scope-through-by : {m₀ : Name} (b g : Act) (u : Acts) (y₀ k : ℕ) (c : Bool) → Waits (o .marks) (act (scope xs false) (trio b g u)) k t c → getD (o .marks) k 0 ≡ idle → Quiet (o .marks) (k + 1 + size b) (size g + sizes u)
+  scope-through-by : {m₀ : Name} (xs : List ℕ) (b g : Act) (u : Acts) (y₀ k : ℕ) (c : Bool) → Waits (o .marks) (act (scope xs false) (trio b g u)) k t c → getD (o .marks) k 0 ≡ idle → Quiet (o .marks) (k + 1 + size b) (size g + sizes u)
       → some isRash (stepIn actor (act (scope xs false) (trio b g u)) y₀ k t o .log) ≡ false
       → (Waits (o .marks) b (k + 1) t false → Acted (k + 1) (size b) o (UndoAs p m₀ b (k + 1) t o) (stepIn actor b (k + 1) (k + 1) t o))
       → (Waits (o .marks) b (k + 1) t false → some isRash (stepIn actor b (k + 1) (k + 1) t o .log) ≡ false → Thru (stepIn actor b (k + 1) (k + 1) t o) b (k + 1))
       → Thru (stepIn actor (act (scope xs false) (trio b g u)) y₀ k t o) (act (scope xs false) (trio b g u)) k
   unfolding size
-  scope-through-by b g u y₀ k c (waits-itself e d) x q z a i = thru-here e
-  scope-through-by {m₀ = m₀} b g u y₀ k c (waits-within h (waits-first h₁ w)) x q z a i =
-      let e = through-is p actor b g u y₀ k t m₀ o x h h₁ (a w) in
-      thru-in h (λ d. absurd (no-sequence false d)) (thru-first h₁ (subst (λ (v : Outcome). Thru v b (k + 1)) (sym e) (i w (subst (λ (v : Outcome). some isRash (v .log) ≡ false) e z))))
-  scope-through-by b g u y₀ k c (waits-within h (waits-later h₁ w)) x q z a i = absurd (quiet-waits-in w refl q)
+  scope-through-by xs b g u y₀ k c (waits-itself e d) x q z a i = thru-here e
+  scope-through-by {m₀ = m₀} xs b g u y₀ k c (waits-within h (waits-first h₁ w)) x q z a i =
+      let e = through-is p actor xs b g u y₀ k t m₀ o x h h₁ (a w) in
+      thru-in h (λ d. absurd (no-sequence xs false d)) (thru-first h₁ (subst (λ (v : Outcome). Thru v b (k + 1)) (sym e) (i w (subst (λ (v : Outcome). some isRash (v .log) ≡ false) e z))))
+  scope-through-by xs b g u y₀ k c (waits-within h (waits-later h₁ w)) x q z a i = absurd (quiet-waits-in w refl q)
 
   part-stopped-by : (own : Own) (within : Acts) (y₀ k : ℕ) (b : Bool) {x : Place} → isScope own ≡ false → SitsIn p x within (k + 1) → PartOf x y₀ → Knows f (act own within) k → Waits (o .marks) (act own within) k t b → Stopped (o .marks) (act own within) k
       → k + size (act own within) ≤ length (o .marks) → some isRash (stepIn actor (act own within) y₀ k t o .log) ≡ false
@@ -700,19 +726,19 @@ module _ (p : Plan) (actor : Actor) (f : ℕ → ℕ) (t : ℕ) (o : Order) wher
   undoing-by a l y₀ c b (waits-later h w) e (undoing-later q r) m i f g = later-thru a l y₀ c h (g w r (omega arith) (calm-later a l y₀ c h i))
 
   mutual
-    unfolding size
+    unfolding size part partAt
 
     pub thru-run : {x : Place} {a : Act} {k : ℕ} → Sits p x a k → Knows f a k → (y₀ : ℕ) → PartOf x y₀ → (b : Bool) → Waits (o .marks) a k t b → b ≡ false → Run (o .marks) a k → Fit x o → k + size a ≤ length (o .marks)
         → some isRash (stepIn actor a y₀ k t o .log) ≡ false → Thru (stepIn actor a y₀ k t o) a k
     thru-run (sits-part {q = x} {own} {within} {k} s g u y l) z y₀ y₁ b w q run v m c =
         part-by own within y₀ k b s z w q run m (steps p actor (sits-part s g u y l) y₀ t o b y₁ w q run v m) c
         (λ d w₁ e₁ r₁ m₁ c₁. thru-one l (within-known z) y₀ y₁ d w₁ e₁ r₁ v m₁ c₁) (λ d w₁ e₁ r₁ m₁ c₁. thru-all l (within-known z) y₀ y₁ d w₁ e₁ r₁ v m₁ c₁)
-    thru-run (sits-scope {v = z₀} {n} {c = a} {ns} {b} {f = g} {u} {k} kn d i sb y sf su) z y₀ y₁ c w q run v m e =
-        scope-run-by z₀ b g u y₀ k (seat-of u kn d i sb y sf) sb z m
+    thru-run (sits-scope {xs} {v = z₀} {n} {c = a} {ns} {b} {f = g} {u} {k} kn d i sb y) z y₀ y₁ c w q run v m e =
+        scope-run-by xs z₀ b g u y₀ k (seat-of kn d i sb y) sb z m
         (λ x w₁ e₁ r₁ m₁ c₁. thru-stopped sb (first-known (within-known z)) (k + 1) refl x w₁ e₁ r₁ m₁ c₁)
         (λ x w₁ e₁ r₁ v z₁ m₁ c₁. let r = awake-first p actor (λ n. markOf n o) (inner k) (cond z₀ [] (n ∷ ns)) v z₁ in
         thru-undoing sb (first-known (within-known z)) (k + 1) refl x w₁ e₁ r₁ (inner k) r (v, ap (λ (n : Name). phase (markOf n o)) r ∙ z₁) m₁ c₁)
-        (λ x w₁ e₁ r₁ z₁ m₁ c₁. thru-part sf (first-known (later-known (within-known z))) (k + 1 + size b) tt x w₁ e₁ r₁ z₁ m₁ c₁)
+        (λ j le n₁ x w₁ e₁ r₁ z₁ c₁. thru-healers y (later-known (within-known z)) j x le (λ _. tt) w₁ e₁ r₁ z₁ (omega arith) c₁)
         c w run e
         (λ x w₁ e₁ r₁ z₁ m₁ c₁. thru-run sb (first-known (within-known z)) (k + 1) refl x w₁ e₁ r₁ z₁ m₁ c₁)
 
@@ -730,12 +756,12 @@ module _ (p : Plan) (actor : Actor) (f : ℕ → ℕ) (t : ℕ) (o : Order) wher
         → some isRash (stepIn actor a y₀ k t o .log) ≡ false → Thru (stepIn actor a y₀ k t o) a k
     thru-stopped (sits-part {q = x} {own} {within} {k} s g u y l) z y₀ y₁ b w q r m c =
         part-stopped-by own within y₀ k b s l y₁ z w r m c (λ d w₁ e₁ r₁ m₁ c₁. thru-stopped-in l (within-known z) y₀ y₁ d w₁ e₁ r₁ m₁ c₁)
-    thru-stopped (sits-scope {v = z₀} {n} {c = a} {ns} {b} {f = g} {u} {k} kn d i sb y sf su) z y₀ y₁ c w q r m e =
-        scope-stopped-by z₀ b g u y₀ k (seat-of u kn d i sb y sf) sb z m
+    thru-stopped (sits-scope {xs} {v = z₀} {n} {c = a} {ns} {b} {f = g} {u} {k} kn d i sb y) z y₀ y₁ c w q r m e =
+        scope-stopped-by xs z₀ b g u y₀ k (seat-of kn d i sb y) sb z m
         (λ x w₁ e₁ r₁ m₁ c₁. thru-stopped sb (first-known (within-known z)) (k + 1) refl x w₁ e₁ r₁ m₁ c₁)
         (λ x w₁ e₁ r₁ v z₁ m₁ c₁. let r = awake-first p actor (λ n. markOf n o) (inner k) (cond z₀ [] (n ∷ ns)) v z₁ in
         thru-undoing sb (first-known (within-known z)) (k + 1) refl x w₁ e₁ r₁ (inner k) r (v, ap (λ (n : Name). phase (markOf n o)) r ∙ z₁) m₁ c₁)
-        (λ x w₁ e₁ r₁ z₁ m₁ c₁. thru-part sf (first-known (later-known (within-known z))) (k + 1 + size b) tt x w₁ e₁ r₁ z₁ m₁ c₁)
+        (λ j le n₁ x w₁ e₁ r₁ z₁ c₁. thru-healers y (later-known (within-known z)) j x le (λ _. tt) w₁ e₁ r₁ z₁ (omega arith) c₁)
         c w q r e
 
     thru-stopped-in : {x : Place} {l : Acts} {c : ℕ} → SitsIn p x l c → KnowsIn f l c → (y₀ : ℕ) → PartOf x y₀ → (b : Bool) → WaitsIn (o .marks) l c t b → b ≡ false → StoppedIn (o .marks) l c → c + sizes l ≤ length (o .marks)
@@ -747,12 +773,12 @@ module _ (p : Plan) (actor : Actor) (f : ℕ → ℕ) (t : ℕ) (o : Order) wher
         → k + size a ≤ length (o .marks) → some isRash (stepIn actor a y₀ k t o .log) ≡ false → Thru (stepIn actor a y₀ k t o) a k
     thru-undoing (sits-part {q = x} {own} {within} {k} s g u y l) z y₀ y₁ b w q r m₀ y₂ v m c =
         part-undoing-by own within y₀ k b s l y₁ m₀ y₂ v z w r m c (λ d w₁ e₁ r₁ m₁ c₁. thru-undoing-in l (within-known z) y₀ y₁ d w₁ e₁ r₁ m₀ y₂ v m₁ c₁)
-    thru-undoing (sits-scope {v = true} kn d i sb y sf su) z y₀ y₁ c w q (undoing-part s j r) m₀ y₂ v m e = absurd (false≢true (sym s))
-    thru-undoing (sits-scope {v = true} {b = b} {f = g} {k = k} kn d i sb y sf su) z y₀ y₁ c w q (undoing-scope {u = u} x j r) m₀ y₂ v m e =
-        scope-undoing-by b g u y₀ k c m w j e (λ w₁ m₁ c₁. thru-rest su u refl (later-known (later-known (within-known z))) tt false w₁ refl r v m₁ c₁)
-    thru-undoing (sits-scope {v = false} kn d i sb y sf su) z y₀ y₁ c w q (undoing-part s j r) m₀ y₂ v m e = absurd (false≢true (sym s))
-    thru-undoing (sits-scope {v = false} {b = b} {f = g} {u = u} {k = k} kn d i sb y sf su) z y₀ y₁ c w q (undoing-through x j r) m₀ y₂ v m e =
-        scope-through-by {m₀ = m₀} b g u y₀ k c w x r e (λ w₁. steps-undoing p actor sb (k + 1) t o false refl w₁ refl j m₀ (rw x y₂) (rw x v) (omega arith))
+    thru-undoing (sits-scope {xs} {v = true} {b = b} {f = g} {u} {k} kn d i sb y) z y₀ y₁ c w q run m₀ y₂ v m e =
+        scope-undoing-by xs b g u y₀ k c w run e
+        (λ w₁ r c₁. thru-undoer y refl (later-known (within-known z)) false (λ _. tt) w₁ refl (nth-run r) v (omega arith) c₁)
+    thru-undoing (sits-scope {v = false} kn d i sb y) z y₀ y₁ c w q (undoing-part s j r) m₀ y₂ v m e = absurd (false≢true (sym s))
+    thru-undoing (sits-scope {xs} {v = false} {b = b} {f = g} {u = u} {k = k} kn d i sb y) z y₀ y₁ c w q (undoing-through x j r) m₀ y₂ v m e =
+        scope-through-by {m₀ = m₀} xs b g u y₀ k c w x r e (λ w₁. steps-undoing p actor sb (k + 1) t o false refl w₁ refl j m₀ (rw x y₂) (rw x v) (omega arith))
         (λ w₁ c₁. thru-undoing sb (first-known (within-known z)) (k + 1) refl false w₁ refl j m₀ (rw x y₂) (rw x v) (omega arith) c₁)
 
     thru-undoing-in : {x : Place} {l : Acts} {c : ℕ} → SitsIn p x l c → KnowsIn f l c → (y₀ : ℕ) → PartOf x y₀ → (b : Bool) → WaitsIn (o .marks) l c t b → b ≡ false → UndoingIn (o .marks) l c → (m₀ : Name) → runnerAt (λ n. markOf n o) (nameOf x) (beyondOf x) ≡ m₀ → Fit (undoOf (nameOf x) (beyondOf x) (lastOf x)) o
@@ -760,14 +786,27 @@ module _ (p : Plan) (actor : Actor) (f : ℕ → ℕ) (t : ℕ) (o : Order) wher
     thru-undoing-in (sits-more {q = x} {a} {l} {c} s y) z y₀ y₁ b w e r m₀ y₂ v m i =
         undoing-by a l y₀ c b w e r m i (λ w₁ r₁ m₁ c₁. thru-undoing s (first-known z) y₀ y₁ b w₁ e r₁ m₀ y₂ v m₁ c₁) (λ w₁ r₁ m₁ c₁. thru-undoing-in y (later-known z) y₀ y₁ b w₁ e r₁ m₀ y₂ v m₁ c₁)
 
-    -- what stands after the fault part of a scope
-    thru-rest : {v : Bool} {x : Place} {l : Acts} {k : ℕ} → Rest p v x l k → (u : Act) → l ≡ more u none → KnowsIn f l k → PartOf x k → (b : Bool) → Waits (o .marks) u k t b → b ≡ false → Run (o .marks) u k → Fit x o
-        → k + size u ≤ length (o .marks) → some isRash (stepIn actor u k k t o .log) ≡ false → Thru (stepIn actor u k k t o) u k
-    thru-rest (rest-undo {q = x} {u = a} {k} su) u e z y₁ b w q r v m c =
-        let d : a ≡ u = cc in
-        subst (λ (j : Act). Waits (o .marks) j k t b → Run (o .marks) j k → k + size j ≤ length (o .marks) → some isRash (stepIn actor j k k t o .log) ≡ false → Thru (stepIn actor j k k t o) j k) d
-        (λ w₁ r₁ m₁ c₁. thru-part su (first-known z) k y₁ b w₁ q r₁ v m₁ c₁) w r m c
-    thru-rest rest-none u e z y₁ b w q r v m c = absurd (let d : _≡_ {A = ℕ} 0 1 = cc in omega arith)
+    -- in one of the fault parts of a scope, in its undo part
+    thru-healers : {s : Name} {xs : List ℕ} {z : Bool} {q y : Place} {l : Acts} {c : ℕ} → Healers p s xs z q y l c → KnowsIn f l c → (i : ℕ) (b : Bool) → i ≤ length xs → ((j : ℕ) → PartOf q j)
+        → Waits (o .marks) (part i l) (partAt i l c) t b → b ≡ false → Run (o .marks) (part i l) (partAt i l c) → Fit q o → c + sizes l ≤ length (o .marks)
+        → some isRash (stepIn actor (part i l) (partAt i l c) (partAt i l c) t o .log) ≡ false → Thru (stepIn actor (part i l) (partAt i l c) (partAt i l c) t o) (part i l) (partAt i l c)
+    thru-healers (heals-by {c} y a h) z zero b n d w e r v m i = thru-part a (first-known z) c (d c) b w e r v (omega arith) i
+    thru-healers (heals-by y a h) z (suc j) b n d w e r v m i = thru-healers h (later-known z) j b (omega arith) d w e r v (omega arith) i
+    thru-healers (heals-all {c} y a h) z zero b n d w e r v m i = thru-part a (first-known z) c (d c) b w e r v (omega arith) i
+    thru-healers (heals-all y a h) z (suc j) b n d w e r v m i = absurd (omega arith)
+
+    thru-undoer : {s : Name} {xs : List ℕ} {z : Bool} {q y : Place} {l : Acts} {c : ℕ} → Healers p s xs z q y l c → z ≡ true → KnowsIn f l c → (b : Bool) → ((j : ℕ) → PartOf y j)
+        → Waits (o .marks) (part (generalPart xs) l) (partAt (generalPart xs) l c) t b → b ≡ false → Run (o .marks) (part (generalPart xs) l) (partAt (generalPart xs) l c) → Fit y o → c + sizes l ≤ length (o .marks)
+        → some isRash (stepIn actor (part (generalPart xs) l) (partAt (generalPart xs) l c) (partAt (generalPart xs) l c) t o .log) ≡ false
+        → Thru (stepIn actor (part (generalPart xs) l) (partAt (generalPart xs) l c) (partAt (generalPart xs) l c) t o) (part (generalPart xs) l) (partAt (generalPart xs) l c)
+    thru-undoer (heals-by y a h) n z b d w e r v m i = thru-undoer h n (later-known z) b d w e r v (omega arith) i
+    thru-undoer (heals-all y a h) n z b d w e r v m i = thru-rest h n (later-known z) b d w e r v (omega arith) i
+
+    thru-rest : {v₀ : Bool} {y : Place} {l : Acts} {c : ℕ} → Rest p v₀ y l c → v₀ ≡ true → KnowsIn f l c → (b : Bool) → ((j : ℕ) → PartOf y j)
+        → Waits (o .marks) (part 0 l) (partAt 0 l c) t b → b ≡ false → Run (o .marks) (part 0 l) (partAt 0 l c) → Fit y o → c + sizes l ≤ length (o .marks)
+        → some isRash (stepIn actor (part 0 l) (partAt 0 l c) (partAt 0 l c) t o .log) ≡ false → Thru (stepIn actor (part 0 l) (partAt 0 l c) (partAt 0 l c) t o) (part 0 l) (partAt 0 l c)
+    thru-rest (rest-undo {k} su) n z b d w e r v m i = thru-part su (first-known z) k (d k) b w e r v (omega arith) i
+    thru-rest rest-none n z b d w e r v m i = absurd (false≢true n)
 
     pub thru-part : {x : Place} {a : Act} {k : ℕ} → Remedy p x a k → Knows f a k → (y₀ : ℕ) → PartOf x y₀ → (b : Bool) → Waits (o .marks) a k t b → b ≡ false → Run (o .marks) a k → Fit x o → k + size a ≤ length (o .marks)
         → some isRash (stepIn actor a y₀ k t o .log) ≡ false → Thru (stepIn actor a y₀ k t o) a k

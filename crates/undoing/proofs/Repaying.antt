@@ -2,21 +2,21 @@
 use Prim.Native.Nat.{ℕ, zero, suc, _+_, _≤_, _<_}
 use native.Mathlib.Omega.{arith}
 use mathlib.Core.Path.{_≡_, refl, sym, ap, subst, _∙_}
-use mathlib.Core.Bool.{Bool, true, false, cond, not, _&&_, _||_, false≢true, or-true, or-false}
+use mathlib.Core.Bool.{Bool, true, false, cond, _&&_, _||_, false≢true, or-true, or-false}
 use mathlib.Core.List.{List, [], _∷_, _++_, append-nil}
 use lib.ListN.{length, getD}
 use lib.Dec.{eqb, ltb}
 use borrow.Author.Tests.{eqb-true, eq-eqb, ne-eqb, lt-ltb, le-ltb, ltb-true, ltb-false}
-use Rattle.plan.specs.Tree.{Own, empty, send, receive, set as setting, raise, leave, choose, repeat, sequence, flow, pick, arm, kind, Act, act, Acts, none, more, Plan, size, sizes, scope, isScope, numbersOf, generalPart, undoPart}
+use Rattle.plan.specs.Tree.{Own, empty, send, receive, set as setting, raise, leave, choose, repeat, sequence, flow, pick, arm, Act, act, Acts, none, more, Plan, size, sizes, scope, isScope, numbersOf, generalPart, undoPart}
 use Rattle.order.specs.declared.Order.{Order}
 use Rattle.order.specs.declared.End.the-variants.{None}
 use Rattle.order.specs.Lists.{some, only, withoutLast}
-use Rattle.order.specs.State.{Name, root, inner, idle, active, withMarks, closings, remembering, markOf}
+use Rattle.order.specs.State.{Name, idle, active, withMarks, closings, remembering, markOf}
 use Rattle.order.specs.Event.{Event, began}
 use Rattle.order.specs.Begin.{Begun, begin, beginPart, part, partAt, quiet}
 use Rattle.order.specs.declared.Way.{Way as Result}
 use Rattle.order.specs.declared.Way.the-variants.{Running as running, Over as over, Raising as raising, Leaving as leaving, Undone as undone, UndoRaising as undoRaising}
-use Rattle.order.specs.Scope.{Outcome, after, begunIn, whereOver, Scope, isFor, beginUndo, beginUndoIn, startUndo, undo, fromUndo}
+use Rattle.order.specs.Scope.{Outcome, begunIn, whereOver, Scope, isFor, beginUndo, beginUndoIn, startUndo, undo, fromUndo}
 use Rattle.order.specs.Acting.{combines, itsOwn, stepIn, stepAmong}
 use Rattle.undoing.specs.Demand3.{Inner}
 use Rattle.undoing.specs.Ties.{Place, placeOf, bodyOf, undoOf, nameOf, beyondOf, lastOf}
@@ -24,7 +24,7 @@ use Rattle.undoing.specs.Answered.{isSure, hasAll, surely, surelyAmong, 
 use Rattle.undoing.proofs.Parts.{decide, neither, some-append}
 use Rattle.undoing.proofs.Accounts.{Phase, phase, Known}
 use Rattle.undoing.proofs.Moves.{Spot, runnerAt}
-use Rattle.undoing.proofs.Marks.{trio, spread, Quiet, Run, Undoing, undoing-part, undoing-scope, undoing-through, UndoingIn, undoing-here, undoing-later, quiet-part, quiet-agree, agree-below, agree-above}
+use Rattle.undoing.proofs.Marks.{trio, spread, Quiet, Undoing, undoing-part, undoing-scope, undoing-through, UndoingIn, undoing-here, undoing-later, quiet-part, quiet-agree, agree-below, agree-above}
 use Rattle.undoing.proofs.Orders.{listOf, Does, Fit, Sits, sits-part, sits-scope, SitsIn, sits-none, sits-more, Remedy, remedy, remedy-bare, Healers}
 use Rattle.undoing.proofs.Remedies.{part-from, part-to, nth-there, nth-run, undoer}
 use Rattle.undoing.proofs.Healing.{healers-none, undo-there, undo-all}
@@ -33,7 +33,7 @@ use Rattle.undoing.proofs.Undo.{undo-is, undo-in-is, unreached, begins-
 use Rattle.undoing.proofs.Waiting.{opens, Waits, waits-itself, waits-within, WaitsIn, waits-first, waits-later, opens-idle, quiet-waits, quiet-waits-in, nth-waits, undoing-waits}
 use Rattle.undoing.proofs.Scoping.{Acted, RunAs, UndoAs}
 use Rattle.undoing.proofs.Combining.{arms-none, Idly, idly-same, idly-runs, combines-idly}
-use Rattle.undoing.proofs.Stepping.{PartOf, through-is, Whole, among-is, undo-step, undoing-part-not, steps-undoing, steps-undoing-in, steps-part, UndoInAs}
+use Rattle.undoing.proofs.Stepping.{PartOf, through-is, among-is, undo-step, undoing-part-not, steps-undoing, steps-undoing-in, steps-part, UndoInAs}
 use Rattle.undoing.proofs.Sure.{ofKind, surely-is, leftIn, leftInTurn, leftOfAll, Off, off-below, off-above, off-part, surely-none, Comes, remedy-comes}
 use Rattle.undoing.proofs.Lessening.{own-is, LessAs, remedy-less, due-left}
 use Rattle.undoing.proofs.Owing.{not-scope, closings-step, directly, directlyIn, directly-is, directly-range, directly-range-in, undo-left-none, undoLeftIn, undoLeftAmong, undo-left-is, undo-left-scope, undo-quiet, undo-quiet-in}

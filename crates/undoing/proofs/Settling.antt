@@ -16,7 +16,7 @@ use Rattle.order.specs.declared.End.{End}
 use Rattle.order.specs.declared.End.the-variants.{None, Well, Handled, Failed, Left}
 use Rattle.machine.specs.declared.State.{State}
 use Rattle.machine.specs.declared.Tally.{Tally}
-use Rattle.order.specs.State.{idle, active, done, markOf, root, withMarks, noOrder}
+use Rattle.order.specs.State.{idle, active, done, markOf, root, withMarks, noOrder, stateIn}
 use Rattle.machine.specs.State.{fresh}
 use Rattle.order.specs.Begin.{cleared}
 use Rattle.order.specs.declared.Way.{Way as Result}
@@ -48,14 +48,14 @@ use Rattle.undoing.proofs.Falling.{Falls, falls-wider, Fell, isPlain, n
 rank-most : (n m : ℕ) → rank n m ≤ 8
 unfolding rank
 rank-most n m =
-    decide (eqb m 2) (λ e. decide (eqb n 7) (λ d. rw (e, rank, d) (omega arith)) (λ d. rw (e, rank, d) (omega arith)))
-    (λ e. decide (eqb m 1) (λ d. rw (e, rank, d) (omega arith))
-    (λ d. decide (eqb m 3) (λ c. rw (e, rank, d, c) (omega arith))
-    (λ c. decide (eqb m 4) (λ b. rw (e, rank, d, c, b) (omega arith))
-    (λ b. decide (eqb m 7) (λ a. rw (e, rank, d, c, b, a) (omega arith))
-    (λ a. decide (eqb m 5) (λ z. rw (e, rank, d, c, b, a, z) (omega arith))
-    (λ z. decide (eqb m 8) (λ y. rw (e, rank, d, c, b, a, z, y) (omega arith))
-    (λ y. decide (eqb m 6) (λ x. rw (e, rank, d, c, b, a, z, y, x) (omega arith)) (λ x. rw (e, rank, d, c, b, a, z, y, x) (omega arith)))))))))
+    decide (eqb (stateIn m) 2) (λ e. decide (eqb n 7) (λ d. rw (e, rank, d) (omega arith)) (λ d. rw (e, rank, d) (omega arith)))
+    (λ e. decide (eqb (stateIn m) 1) (λ d. rw (e, rank, d) (omega arith))
+    (λ d. decide (eqb (stateIn m) 3) (λ c. rw (e, rank, d, c) (omega arith))
+    (λ c. decide (eqb (stateIn m) 4) (λ b. rw (e, rank, d, c, b) (omega arith))
+    (λ b. decide (eqb (stateIn m) 7) (λ a. rw (e, rank, d, c, b, a) (omega arith))
+    (λ a. decide (eqb (stateIn m) 5) (λ z. rw (e, rank, d, c, b, a, z) (omega arith))
+    (λ z. decide (eqb (stateIn m) 8) (λ y. rw (e, rank, d, c, b, a, z, y) (omega arith))
+    (λ y. decide (eqb (stateIn m) 6) (λ x. rw (e, rank, d, c, b, a, z, y, x) (omega arith)) (λ x. rw (e, rank, d, c, b, a, z, y, x) (omega arith)))))))))
 
 -- What is less stays less, whatever follows.
 weight-less : (f : ℕ → ℕ) (n k : ℕ) (ms ns : List ℕ) (x y : ℕ) → x < y → weight f k n ns x < weight f k n ms y

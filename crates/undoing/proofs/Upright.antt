@@ -1,5 +1,5 @@
 -- A live order stands as its plan's shape asks, after any run. Assumes nothing.
-use Prim.Native.Nat.{ℕ, zero, suc, _+_, _-_, _≤_, _<_}
+use Prim.Native.Nat.{ℕ, zero, suc, _+_, _-_, _≤_}
 use native.Mathlib.Omega.{arith}
 use mathlib.Core.Path.{_≡_, refl, sym, ap, subst, _∙_}
 use mathlib.Core.Bool.{Bool, true, false, cond, not, _&&_, _||_, false≢true, or-true}
@@ -10,7 +10,7 @@ use borrow.Author.Tests.{eq-eqb, ne-eqb}
 use Rattle.plan.specs.Tree.{Own, empty, send, receive, set as setting, raise, leave, choose, repeat, sequence, flow, pick, scope, arm, kind, isScope, hasUndo, numbersOf, Act, act, Acts, none, more, Plan, size, sizes, count}
 use Rattle.order.specs.declared.Order.{Order}
 use Rattle.order.specs.Event.{Event}
-use Rattle.order.specs.State.{idle, active, inside, done, faulty, undoing, handling, halted, withdrawing, stateIn, isLive}
+use Rattle.order.specs.State.{idle, active, done, faulty, undoing, handling, halted, withdrawing, stateIn, isLive}
 use Rattle.order.specs.Begin.{quiet}
 use Rattle.order.specs.Scope.{isOpen, innerRuns, rootOf}
 use Rattle.undoing.specs.Standing.{isDoing, holdingOf, runsIn, oneRuns, allRun, scopeRuns, turnedRuns, onlyRuns, choiceOn, stoppedIn, stoppedAll, undoingIn, undoingOne, undoingFirst, lastRuns, stands, Stands}
@@ -131,7 +131,7 @@ module _ (ms : List ℕ) where
         plain-so flow within k refl (rw (eq-so (getD ms k 0) active e refl, all-so r, decide (quiet (k + 1) (sizes within) ms) (λ d. absurd (z (quiet-found (sizes within) (k + 1) ms d))) (λ d. d), or-true, or-true))
     run-so (run-body {v} {b} {f} {u} {k} e r q) = rw (eq-so (getD ms k 0) active e refl, run-so r, q-so (k + 1 + size b) (size f + sizes u) q (omega arith) (omega arith))
     run-so (run-done {v} {b} {f} {u} {k} e q) = rw (eq-so (getD ms k 0) done e refl, q-so (k + 1) (size b + (size f + sizes u)) q (omega arith) (omega arith), or-true)
-    run-so (run-turned t) = rw (turned-so t, or-true, or-true)
+    run-so (run-turned {f} {u} t) = rw (turned-so f u t refl, or-true, or-true)
 
     one-so : {l : Acts} {c : ℕ} → One ms l c → oneRuns l c ms ≡ true
     one-so (one-here {a} {l} {c} r q) = rw (run-so r, quiet-told (sizes l) (c + size a) ms q)
@@ -153,17 +153,18 @@ module _ (ms : List ℕ) where
     last-so (nth-later {l = none} q r) e = absurd (omega arith)
     last-so (nth-later {i} {a} {l = more x l} {c} q r) e = rw (quiet-told (size a) c ms q) (last-so r (omega arith))
 
-    turned-so : {xs : List ℕ} {m kb kf : ℕ} {b f : Act} {u : Acts} → Turned ms xs m b kb (more f u) kf
+    turned-so : {xs : List ℕ} {m kb kf : ℕ} {b : Act} {l : Acts} (f : Act) (u : Acts) → Turned ms xs m b kb l kf → l ≡ more f u
         → turnedRuns (choiceOn xs m) (more f u) kf ms m (stoppedIn b kb ms && innerRuns b kb ms) (undoingIn b kb ms) (quiet kb (size b) ms) ≡ true
-    turned-so {f = f} {u} (turned-waits {w} {m = m} {kf = kf} e s i y) = rw (waits-is m w e, stopped-so s, i, quiet-told (size f + sizes u) kf ms y)
-    turned-so {f = f} {u} (turned-undoes {w} {m = m} {kf = kf} e s y) = rw (undoes-is m w e, undoing-so s, or-true, quiet-told (size f + sizes u) kf ms y)
-    turned-so (turned-heals {m = m} {kb} {b = b} e y r) = rw (heals-is m e, quiet-told (size b) kb ms y, only-so r, or-true)
+    turned-so f u (turned-waits {w} {m = m} {kf = kf} e s i y) d = rw (waits-is m w e, stopped-so s, i, quiet-told (size f + sizes u) kf ms (subst (λ (l : Acts). Quiet ms kf (sizes l)) d y))
+    turned-so f u (turned-undoes {w} {m = m} {kf = kf} e s y) d = rw (undoes-is m w e, undoing-so s, or-true, quiet-told (size f + sizes u) kf ms (subst (λ (l : Acts). Quiet ms kf (sizes l)) d y))
+    turned-so f u (turned-heals {xs} {m} {kb} {kf} {b} e y r) d =
+        let z : onlyRuns (choiceOn xs m) (more f u) kf ms ≡ true = subst (λ (l : Acts). onlyRuns (choiceOn xs m) l kf ms ≡ true) d (only-so r) in rw (heals-is m e, quiet-told (size b) kb ms y, z, or-true)
 
     stopped-so : {a : Act} {k : ℕ} → Stopped ms a k → stoppedIn a k ms ≡ true
     stopped-so (stopped-part {own} {within} {k} s e r) = stop-plain own within k s ∙ rw (e, stopped-all-so r)
     stopped-so (stopped-quiet {a} {k} q) = quiet-stopped a k q
     stopped-so (stopped-scope {xs} {v} {b} {f} {u} {k} t) =
-        let z : scopeRuns xs (trio b f u) k ms ≡ true = rw (turned-so t, or-true, or-true) in stop-scope (scope xs v) (trio b f u) k refl ∙ stop-turned (getD ms k 0) (quiet k (1 + sizes (trio b f u)) ms) (turned-not-open t) z
+        let z : scopeRuns xs (trio b f u) k ms ≡ true = rw (turned-so f u t refl, or-true, or-true) in stop-scope (scope xs v) (trio b f u) k refl ∙ stop-turned (getD ms k 0) (quiet k (1 + sizes (trio b f u)) ms) (turned-not-open t) z
 
     stopped-all-so : {l : Acts} {c : ℕ} → StoppedIn ms l c → stoppedAll l c ms ≡ true
     stopped-all-so stopped-none = refl

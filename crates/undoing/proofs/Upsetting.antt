@@ -1,7 +1,7 @@
 -- A raise in place of a receive comes out of the undo part that runs: no scope stands there that could take it. Assumes nothing.
 use Prim.Native.Nat.{ℕ, zero, suc, _+_, _≤_, _<_}
 use native.Mathlib.Omega.{arith}
-use mathlib.Core.Path.{_≡_, refl, sym, ap, subst, _∙_}
+use mathlib.Core.Path.{_≡_, refl, sym, ap, _∙_}
 use mathlib.Core.Bool.{Bool, true, false, cond, not, false≢true}
 use mathlib.Core.List.{List}
 use lib.ListN.{length, getD}
@@ -20,7 +20,7 @@ use Rattle.order.specs.Awaited.{Doing, doingOf}
 use Rattle.machine.specs.Calls.{doingIn, doingAmong}
 use Rattle.undoing.specs.Ties.{Place, undoOf, nameOf, beyondOf, lastOf}
 use Rattle.undoing.proofs.Parts.{both}
-use Rattle.undoing.proofs.Marks.{trio, Quiet, Run, Undoing, undoing-part, undoing-scope, undoing-through, UndoingIn, undoing-here, undoing-later, quiet-part}
+use Rattle.undoing.proofs.Marks.{trio, Quiet, Undoing, undoing-part, undoing-scope, undoing-through, UndoingIn, undoing-here, undoing-later}
 use Rattle.undoing.proofs.Orders.{Fit, bare, bareIn, Sits, sits-part, sits-scope, SitsIn, sits-more, remedy-bare}
 use Rattle.undoing.proofs.Remedies.{part-from, nth-there, undoer}
 use Rattle.undoing.proofs.Moves.{runnerAt}

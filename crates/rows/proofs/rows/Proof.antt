@@ -19,6 +19,10 @@ rows-spec =
     (λ c. search needs)
     -- add-left
     (λ c. search cases)
+    -- between-requires
+    (λ c κs. search cases)
+    -- add-left-2
+    (λ c. search cases)
     -- returns
     (λ c. (search cases, search cases))
     -- put-rows-requires
@@ -32,4 +36,4 @@ rows-spec =
     -- same-length
     (λ c. search needs)
     -- returns-3
-    (λ c. (search cases, (let y : Bytes (c .before .before .before .before .before .before .before .before .before .before .before .before .before .before .args .s .now) = λ i. omega (arith, c .before .before .before .before .before .before .before .before .before .before .before .before .before .shared-slice-known .given i) in search cases))))
+    (λ c. (search cases, (let y : Bytes (c .before .before .before .before .before .before .before .before .before .before .before .before .before .before .before .before .args .s .now) = λ i. omega (arith, c .before .before .before .before .before .before .before .before .before .before .before .before .before .before .before .shared-slice-known .given i) in search cases))))
