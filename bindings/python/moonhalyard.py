@@ -159,7 +159,7 @@ class Tally(NamedTuple):
 
 class Order(NamedTuple):
     """A live order: its slot, its root's mark, the marks of activities and arms, the values of its bound variables, the scopes that it remembers, and the number
-    of the fault that its root faulted with, 0 where it has not."""
+    of the fault that its root faulted with, 0 where it has not. What a mark says stands in its lower four bits (docs/EMBEDDING.md)."""
 
     slot: int
     root: int

@@ -88,7 +88,7 @@ pub struct Tally {
 }
 
 /// A live order: its slot, its root's mark, the marks of activities and arms, its variables, the scopes that it remembers, and the number of the fault that its
-/// root faulted with, 0 where it has not.
+/// root faulted with, 0 where it has not. What a mark says stands in its lower four bits (docs/EMBEDDING.md).
 #[derive(Clone, Debug, PartialEq, Eq)]
 pub struct Order {
     pub slot: usize,
