@@ -1,14 +1,16 @@
-// A save with care, for a desk that speaks to a person: what has the name of the file is looked at first, and stays beside it as FILE.old.
+// Files with care, for a desk that speaks to a person: what has the name of the file is looked at first, and stays beside it as FILE.old.
 mod ordinary;
+mod paging;
 mod retaining;
 
 use drawing::put_error;
 use ordinary::Kind;
+pub use paging::page;
 use papers::Desk;
 use papers::failed;
 
-// A save that is not made, and why.
-fn not_saved(desk: Desk, number: u64, why: &[u8], out: &mut [u8; 4096]) -> Desk {
+// What is not done, and why.
+fn not_done(desk: Desk, number: u64, why: &[u8], out: &mut [u8; 4096]) -> Desk {
     let used = put_error(out, desk.used, number, why);
     failed(desk, used)
 }
@@ -36,7 +38,7 @@ fn replacing(
     out: &mut [u8; 4096],
 ) -> Desk {
     if is_anothers(desk, file) {
-        return not_saved(
+        return not_done(
             desk,
             number,
             b"cannot save: another desk has saved it since: say save! to replace it",
@@ -73,7 +75,7 @@ fn over_plan(
     let state = desk.state;
     if state.length == 0 {
         if !desk.bold {
-            return not_saved(
+            return not_done(
                 desk,
                 number,
                 b"cannot save: the file has a plan, and the desk has none: say save! to replace it",
@@ -100,8 +102,8 @@ pub fn save(
         Kind::Nothing => papers::save(desk, file, number, names, out),
         Kind::Ordinary => replacing(desk, file, number, names, out),
         Kind::Plan => over_plan(desk, file, number, names, out),
-        Kind::Folder => not_saved(desk, number, b"cannot save: it is a folder", out),
-        Kind::Link => not_saved(desk, number, b"cannot save: it is a link", out),
-        Kind::Other => not_saved(desk, number, b"cannot save: it is no ordinary file", out),
+        Kind::Folder => not_done(desk, number, b"cannot save: it is a folder", out),
+        Kind::Link => not_done(desk, number, b"cannot save: it is a link", out),
+        Kind::Other => not_done(desk, number, b"cannot save: it is no ordinary file", out),
     }
 }

@@ -253,6 +253,19 @@ fn put_indent(out: &mut [u8; 4096], used: usize, depth: usize) -> usize {
     at
 }
 
+// What part activity n is, and what it is.
+pub fn put_labelled(
+    out: &mut [u8; 4096],
+    used: usize,
+    names: &[u8; 8976],
+    table: &Table,
+    correlation: &[u8; 16],
+    n: usize,
+) -> usize {
+    let at = put_role(out, used, table, n);
+    put_activity(out, at, names, table, correlation, n)
+}
+
 // Where activity n stands in the drawing, what part it is, and what it is.
 pub fn put_drawn(
     out: &mut [u8; 4096],
@@ -263,8 +276,7 @@ pub fn put_drawn(
     n: usize,
 ) -> usize {
     let mut at = put_indent(out, used, depth_of(table, n));
-    at = put_role(out, at, table, n);
-    at = put_activity(out, at, names, table, correlation, n);
+    at = put_labelled(out, at, names, table, correlation, n);
     put_byte(out, at, 10)
 }
 

@@ -52,7 +52,7 @@ pub fn after(m: usize) -> usize {
 }
 
 // How many activities and arms stand around activity n.
-pub(crate) fn depth_of(table: &Table, n: usize) -> usize {
+pub fn depth_of(table: &Table, n: usize) -> usize {
     let mut depth = 0;
     let mut m = 0;
     while m < n {

@@ -7,6 +7,7 @@ mod mends;
 mod places;
 mod plans;
 mod reasons;
+mod rules;
 mod sealed;
 mod sums;
 mod writing;

@@ -9,11 +9,14 @@ use super::places::put_place;
 use super::plans::fresh;
 use super::reasons::put_why;
 use super::refused;
+use super::rules::put_rule;
+use super::shown;
 use drawing::put;
 use drawing::put_byte;
 use drawing::put_hex;
 use drawing::put_next;
 use drawing::put_pair;
+use drawing::unended;
 use machine::State;
 use sheet::Sheet;
 use writer::Answer;
@@ -199,6 +202,27 @@ fn answer_of(rows: &[u32], length: usize, plan: &mut [u8; 4096]) -> Answer {
     }
 }
 
+// A text that is refused, and, for a person, by which rule where that is not told by the number.
+fn ruled(
+    desk: Desk,
+    text: &[u8],
+    rows: &[u32; 87100],
+    lines: &[u32; 4355],
+    row: usize,
+    out: &mut [u8; 4096],
+) -> Desk {
+    if desk.said != 5 {
+        return desk;
+    }
+    if !desk.spoken {
+        return desk;
+    }
+    let mut at = unended(out, desk.used);
+    at = put_rule(out, at, text, rows, lines, row);
+    at = put_byte(out, at, 10);
+    shown(desk, at)
+}
+
 // The rows of a text are written.
 fn write_rows(
     desk: Desk,
@@ -230,7 +254,7 @@ fn write_rows(
             }
             let line = line_after(number, line_of(lines, place));
             let used = put_pair(out, desk.used, b"write", wide(refusal), line);
-            refused(desk, used, refusal)
+            ruled(refused(desk, used, refusal), text, rows, lines, place, out)
         }
     }
 }

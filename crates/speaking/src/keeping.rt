@@ -179,6 +179,21 @@ pub(crate) fn save(
     filed(d, b" - saved in ", file, out)
 }
 
+// Writes a page.
+pub(crate) fn page(
+    desk: Desk,
+    file: &[u8],
+    number: u64,
+    names: &[u8; 8976],
+    out: &mut [u8; 4096],
+) -> Desk {
+    let d = care::page(desk, file, number, names, out);
+    if d.spoken {
+        return filed(d, b" - a page in ", file, out);
+    }
+    d
+}
+
 // Opens a file.
 pub(crate) fn open(
     desk: Desk,

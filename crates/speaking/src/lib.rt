@@ -140,6 +140,7 @@ fn kept(
         What::Mend => keeping::mend(desk, word, number, bytes, names, out),
         What::Save => keeping::save(desk, word, number, names, out),
         What::Open => keeping::open(desk, word, number, bytes, names, out),
+        What::Page => keeping::page(desk, word, number, names, out),
         _ => desk,
     }
 }
@@ -183,7 +184,7 @@ fn said(
 // Whether a line is about plans and files; without the brakes of a person it is the console's.
 fn is_kept(what: What) -> bool {
     match what {
-        What::Plan | What::Mend | What::Save | What::Open => true,
+        What::Plan | What::Mend | What::Save | What::Open | What::Page => true,
         _ => false,
     }
 }

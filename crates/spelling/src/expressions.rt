@@ -1,6 +1,9 @@
 // Reads an expression: numbers, variables and constants, with operations between them, and parentheses. An operation waits on a stack, with the row that
 // its left operand starts at, until what comes next binds no stronger (operations.rt); then it and its operands become rows (combining.rt).
 use super::combining::combine;
+use super::declaring::declared;
+use super::declaring::is_reserved;
+use super::declaring::plain_variable;
 use super::marks::after_word;
 use super::marks::byte_at;
 use super::marks::decimal;
@@ -9,9 +12,6 @@ use super::marks::is_over;
 use super::marks::more;
 use super::marks::past_blanks;
 use super::marks::word_end;
-use super::declaring::declared;
-use super::declaring::is_reserved;
-use super::declaring::plain_variable;
 use super::operations::are_compared;
 use super::operations::is_first;
 use super::operations::level;

@@ -1,4 +1,5 @@
 // The front of a line of the drawing: a number and the name of a part, which may each be left out. And the scopes that have names.
+use super::declaring::word_from;
 use super::marks::after_mark;
 use super::marks::after_word;
 use super::marks::decimal;
@@ -6,7 +7,6 @@ use super::marks::is_same;
 use super::marks::next_line;
 use super::marks::past_blanks;
 use super::marks::word_end;
-use super::declaring::word_from;
 
 // The place after a number at the front of a line, which may be left out.
 pub fn past_number(s: &[u8], at: usize) -> usize {

@@ -1,14 +1,21 @@
 // What the lines of a plan as text are made of: words and marks, names, expressions, and the rows that they become. Each function that reads answers the
 // place after what it read; a place is an index into the text.
 mod combining;
+mod declaring;
 mod expressions;
 mod fronts;
 mod marks;
-mod declaring;
 mod naming;
 mod operations;
 mod table;
 
+pub use declaring::after_correlation;
+pub use declaring::declaration;
+pub use declaring::declared;
+pub use declaring::is_correlation;
+pub use declaring::is_long;
+pub use declaring::what_of;
+pub use declaring::wrong_place;
 pub use expressions::Read;
 pub use expressions::expression;
 pub use expressions::narrow;
@@ -27,13 +34,6 @@ pub use marks::next_line;
 pub use marks::past_blanks;
 pub use marks::tab_in;
 pub use marks::word_end;
-pub use declaring::after_correlation;
-pub use declaring::declaration;
-pub use declaring::declared;
-pub use declaring::is_correlation;
-pub use declaring::is_long;
-pub use declaring::what_of;
-pub use declaring::wrong_place;
 pub use naming::names_of;
 pub use table::add;
 pub use table::begin;

@@ -1,4 +1,5 @@
 // What an order does and waits for, a line for each activity that awaits its step.
+use super::holding::is_held;
 use super::near::put_near;
 use drawing::entry;
 use drawing::is_scope;
@@ -53,7 +54,7 @@ fn put_open(
     put_near(out, at, names, table, n, &asked, messages, state.waiting)
 }
 
-// A send that awaits its step: held while 64 messages wait, and a fault where a variable is not bound.
+// A send that awaits its step: it may be held while 64 messages wait, and is a fault where a variable is not bound.
 fn put_send(
     out: &mut [u8; 4096],
     used: usize,
@@ -61,7 +62,7 @@ fn put_send(
     table: &Table,
     flags: &[u8; 16],
     n: usize,
-    waiting: usize,
+    held: bool,
     order: Order,
 ) -> usize {
     let bound = order.bound;
@@ -69,10 +70,10 @@ fn put_send(
     let mut at = put(out, used, b"  is to send ");
     at = put_sent(out, at, names, table, flags, n, &bound, &values);
     at = put_place(out, at, n);
+    if held {
+        return put(out, at, b": held, since 64 messages wait\n");
+    }
     if activity::all_bound(table, n, order) {
-        if 64 <= waiting {
-            return put(out, at, b": held, since 64 messages wait\n");
-        }
         return put_byte(out, at, 10);
     }
     put(out, at, b": it will fault\n")
@@ -162,22 +163,14 @@ fn put_close(
     names: &[u8; 8976],
     table: &Table,
     n: usize,
-    kept: usize,
+    held: bool,
 ) -> usize {
     let mut at = put(out, used, b"  is to close ");
     at = put_scope(out, at, names, table, n);
-    if 32 <= kept {
-        return put(out, at, b": held, where it remembers 32 closings\n");
+    if held {
+        return put(out, at, b": held, since the order remembers 32 closings\n");
     }
     put_byte(out, at, 10)
-}
-
-// How many closings may hold the close of a scope of this kind: all that are kept, but none where it has no undo part, and hands on what closed in it.
-fn held_by(kind: u32, kept: usize) -> usize {
-    if kind == kind::SCOPE {
-        return kept;
-    }
-    0
 }
 
 fn put_ready(
@@ -202,11 +195,12 @@ fn put_active(
     table: &Table,
     flags: &[u8; 16],
     n: usize,
+    held: bool,
     state: State,
     order: Order,
 ) -> usize {
     match entry(table, n, KIND) {
-        kind::SEND => put_send(out, used, names, table, flags, n, state.waiting, order),
+        kind::SEND => put_send(out, used, names, table, flags, n, held, order),
         kind::RECEIVE => put_open(out, used, names, table, flags, n, state, order),
         kind::SET
         | kind::RAISE
@@ -218,8 +212,8 @@ fn put_active(
     }
 }
 
-// Activity or arm n.
-fn put_row(
+// Activity or arm n, whose step is held or not.
+pub(crate) fn put_row(
     out: &mut [u8; 4096],
     used: usize,
     names: &[u8; 8976],
@@ -227,17 +221,17 @@ fn put_row(
     flags: &[u8; 16],
     picks: &[usize; 256],
     n: usize,
+    held: bool,
     state: State,
     order: Order,
 ) -> usize {
     let marks = order.marks;
     let mark = mark_at(&marks, n);
     if mark == 1 {
-        return put_active(out, used, names, table, flags, n, state, order);
+        return put_active(out, used, names, table, flags, n, held, state, order);
     }
     if mark == 3 {
-        let kept = held_by(entry(table, n, KIND), order.kept);
-        return put_close(out, used, names, table, n, kept);
+        return put_close(out, used, names, table, n, held);
     }
     if fit::search::arm_open(table, picks, &marks, n) {
         return put_open(out, used, names, table, flags, n, state, order);
@@ -262,7 +256,8 @@ pub(crate) fn put_rows(
     let mut at = used;
     let mut n = 0;
     while n < activities {
-        at = put_row(out, at, names, table, flags, picks, n, state, order);
+        let held = is_held(table, picks, activities, state.waiting, order, n);
+        at = put_row(out, at, names, table, flags, picks, n, held, state, order);
         n += 1;
     }
     at

@@ -78,15 +78,15 @@ fn put_closing(
     part: usize,
     order: Order,
 ) -> usize {
-    let mut at = put(out, used, b"  would undo ");
-    at = put_scope(out, at, names, table, n);
+    let mut at = put_scope(out, used, names, table, n);
     at = put_whose(out, at, names, table, part);
     at = put_byte(out, at, 10);
     let from = end_of(table, end_of(table, after(n)));
     put_sends(out, at, names, table, flags, from, end_of(table, n), order)
 }
 
-fn put_place(
+// The closing in place i, of those that an order remembers, the oldest in place 0: which scope, for what, and what its undo part sends.
+pub fn put_undone(
     out: &mut [u8; 4096],
     used: usize,
     names: &[u8; 8976],
@@ -114,6 +114,23 @@ fn put_place(
     used
 }
 
+// The same in `why`, where there is one.
+fn put_would_undo(
+    out: &mut [u8; 4096],
+    used: usize,
+    names: &[u8; 8976],
+    table: &Table,
+    flags: &[u8; 16],
+    i: usize,
+    order: Order,
+) -> usize {
+    if i < order.kept {
+        let at = put(out, used, b"  would undo ");
+        return put_undone(out, at, names, table, flags, i, order);
+    }
+    used
+}
+
 // All closings that an order remembers, the latest first.
 pub(crate) fn put_undo(
     out: &mut [u8; 4096],
@@ -126,7 +143,7 @@ pub(crate) fn put_undo(
     let mut at = used;
     let mut i = 0;
     while i < 32 {
-        at = put_place(out, at, names, table, flags, 31 - i, order);
+        at = put_would_undo(out, at, names, table, flags, 31 - i, order);
         i += 1;
     }
     at

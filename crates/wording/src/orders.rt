@@ -1,4 +1,5 @@
 // The live orders in words, and one order on the drawing of its plan.
+use super::doing::doing_of;
 use super::doing::part_in;
 use super::doing::put_doing;
 use super::doing::scope_in;
@@ -95,7 +96,7 @@ fn put_values(
 }
 
 // An order's variables.
-fn put_variables(
+pub fn put_variables(
     out: &mut [u8; 4096],
     used: usize,
     names: &[u8; 8976],
@@ -149,13 +150,18 @@ fn put_closings(
     at
 }
 
+// How an order stands, and by which fault.
+pub fn put_standing(out: &mut [u8; 4096], used: usize, order: Order) -> usize {
+    let at = put_root(out, used, order.root);
+    put_cause(out, at, order.root, order.cause)
+}
+
 // The slot of an order, how it stands, and by which fault.
 fn put_head(out: &mut [u8; 4096], used: usize, slot: usize, order: Order) -> usize {
     let mut at = put(out, used, b"order");
     at = put_next(out, at, slot as u64);
     at = put_byte(out, at, 32);
-    at = put_root(out, at, order.root);
-    put_cause(out, at, order.root, order.cause)
+    put_standing(out, at, order)
 }
 
 // A line for a live order.
@@ -191,7 +197,7 @@ fn with_live(live: u64, root: u8) -> u64 {
 }
 
 // How many orders are live.
-pub(crate) fn live_of(orders: [Order; 16]) -> u64 {
+pub fn live_of(orders: [Order; 16]) -> u64 {
     let mut live = 0;
     let mut slot = 0;
     while slot < 16 {
@@ -254,7 +260,7 @@ fn put_doing_line(
 ) -> usize {
     let mut at = put_aligned(out, used, n as u64);
     at = put(out, at, b"  ");
-    at = put_doing(out, at, table, order, n);
+    at = put_doing(out, at, true, doing_of(table, order, n));
     put_drawn(out, at, names, table, correlation, n)
 }
 

@@ -2,7 +2,7 @@
 
 // The line of the write, 0 where no text comes in; how many bytes of the text are kept; and the first line that could not be, 0 where all could,
 // with whether it is itself too long, or all of them together are.
-pub struct Page {
+pub struct Incoming {
     pub line: u64,
     pub used: usize,
     pub wrong: u64,
@@ -10,8 +10,8 @@ pub struct Page {
 }
 
 // No text comes in.
-pub fn none() -> Page {
-    Page {
+pub fn none() -> Incoming {
+    Incoming {
         line: 0,
         used: 0,
         wrong: 0,
@@ -20,8 +20,8 @@ pub fn none() -> Page {
 }
 
 // One begins after this line.
-pub fn begun(line: u64) -> Page {
-    Page {
+pub fn begun(line: u64) -> Incoming {
+    Incoming {
         line,
         used: 0,
         wrong: 0,
@@ -30,16 +30,16 @@ pub fn begun(line: u64) -> Page {
 }
 
 // The line with this number cannot be kept: one before it may be the first.
-pub fn spoilt(page: Page, number: u64, long: bool) -> Page {
-    if page.wrong == 0 {
-        return Page {
-            line: page.line,
-            used: page.used,
+pub fn spoilt(incoming: Incoming, number: u64, long: bool) -> Incoming {
+    if incoming.wrong == 0 {
+        return Incoming {
+            line: incoming.line,
+            used: incoming.used,
             wrong: number,
             long,
         };
     }
-    page
+    incoming
 }
 
 // Whether a line ends the text: it has no word.
@@ -81,16 +81,16 @@ fn copy(text: &mut [u8; 131072], used: usize, line: &[u8]) {
 }
 
 // A line more, with a line feed.
-pub fn added(text: &mut [u8; 131072], page: Page, line: &[u8], number: u64) -> Page {
-    let after = plus(page.used, plus(line.len(), 1));
-    if has_room(page.used, plus(line.len(), 1)) {
-        copy(text, page.used, line);
-        return Page {
-            line: page.line,
+pub fn added(text: &mut [u8; 131072], incoming: Incoming, line: &[u8], number: u64) -> Incoming {
+    let after = plus(incoming.used, plus(line.len(), 1));
+    if has_room(incoming.used, plus(line.len(), 1)) {
+        copy(text, incoming.used, line);
+        return Incoming {
+            line: incoming.line,
             used: after,
-            wrong: page.wrong,
-            long: page.long,
+            wrong: incoming.wrong,
+            long: incoming.long,
         };
     }
-    spoilt(page, number, false)
+    spoilt(incoming, number, false)
 }

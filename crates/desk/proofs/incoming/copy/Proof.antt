@@ -1,10 +1,10 @@
--- `desk::page::copy` is safe and ends. The measure is what is left of the line. Assumes nothing.
+-- `desk::incoming::copy` is safe and ends. The measure is what is left of the line. Assumes nothing.
 use borrow.Author.Needs.{needs}
 use native.Mathlib.Omega.{arith}
 use Prim.Native.Nat.{_-_}
 use lib.ListN.{length}
-use Rattle.desk.proofs.page.copy.Statement.{statement}
-use Rattle.desk.proofs.page.copy.Tie as tie
+use Rattle.desk.proofs.incoming.copy.Statement.{statement}
+use Rattle.desk.proofs.incoming.copy.Tie as tie
 
 abbrev Inv-loop : tie.InvT-loop
 Inv-loop text₀ used line i₀ text i = Unit {0}
