@@ -6,10 +6,10 @@ use Rattle.wording.proofs.orders.put_all_faulted.Statement.{statement}
 use Rattle.wording.proofs.orders.put_all_faulted.Tie as tie
 
 abbrev Inv-loop : tie.InvT-loop
-Inv-loop out₀ used names table order marks at₀ n₀ out at n = Unit {0}
+Inv-loop out₀ used names table marks at₀ n₀ out at n = Unit {0}
 
 abbrev μ-loop : tie.MeasureT-loop
-μ-loop out₀ used names table order marks at₀ n₀ out at n = 256 - n
+μ-loop out₀ used names table marks at₀ n₀ out at n = 256 - n
 
 pub put-all-faulted-spec : {M : Type 1} → statement M
 put-all-faulted-spec =
