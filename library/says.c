@@ -28,7 +28,7 @@ static const char *const refusals[] = {
 };
 
 static const char *const reasons[] = {
-    "expected 'variable NAME', 'variable NAME (correlation)', 'partner NUMBER NAME', 'operation NUMBER NAME' or 'constant NAME NUMBER'",
+    "expected 'variable NAME', 'variable NAME (correlation)', 'partner NUMBER NAME', 'operation NUMBER NAME', 'fault NUMBER NAME' or 'constant NAME NUMBER'",
     "another has this name",
     "partners and operations are 0 to 63",
     "a plan has at most 16 variables",
@@ -46,7 +46,7 @@ static const char *const reasons[] = {
     "arms stand in a pick, and nothing else does",
     "expected another part: root body, root fault part; of a scope body, fault part, undo part; of a choose then, else",
     "more than 63 activities within one another",
-    "a part is missing: the root and a choose have 2, a scope 2 or 3, a repeat and an arm 1",
+    "a part is missing: the root and a choose have 2, a scope 2 or 3, one with fault parts by number all of them, a repeat and an arm 1",
     "the text has no activity",
     "a tab stands in it, where blanks may",
     "a name has at most 32 characters",
@@ -55,6 +55,7 @@ static const char *const reasons[] = {
     "nothing stands behind this word",
     "expected 'arm: receive from partner P, operation O: V, ..'",
     "'and', 'or' and 'not' are words of expressions",
+    "faults with a name are 16 to 255",
 };
 
 const char *moonhalyard_says(uint32_t refusal)

@@ -83,6 +83,7 @@ struct Names<'a> {
     partners: Vec<(&'a [u8], u32)>,
     operations: Vec<(&'a [u8], u32)>,
     constants: Vec<(&'a [u8], u32)>,
+    faults: Vec<(&'a [u8], u32)>,
     scopes: Vec<&'a [u8]>,
 }
 
@@ -122,15 +123,16 @@ impl<'a> Names<'a> {
                 fits.then(|| self.constants.push((name, number)))
             }
             [Word(what), Word(number), Word(name)] => {
-                let list = match *what {
-                    b"partner" => &mut self.partners,
-                    b"operation" => &mut self.operations,
+                let (list, numbers) = match *what {
+                    b"partner" => (&mut self.partners, 0..64),
+                    b"operation" => (&mut self.operations, 0..64),
+                    b"fault" => (&mut self.faults, 16..256),
                     _ => return None,
                 };
                 let number = decimal(number)?;
                 let fits = is_name(name)
                     && name.len() <= 32
-                    && number < 64
+                    && numbers.contains(&number)
                     && list.iter().all(|(n, k)| n != name && *k != number);
                 fits.then(|| list.push((name, number)))
             }
@@ -395,7 +397,10 @@ fn activity(names: &Names, tokens: &[Token]) -> Option<(u32, Vec<Vec<u32>>)> {
         [Word(b"set"), Word(word), Word(b"to"), rest @ ..] => {
             judged(3, vec![3, names.variable(word)?], rest)
         }
-        [Word(b"raise"), Word(number)] => Some((13, vec![vec![13, decimal(number)?]])),
+        [Word(b"raise"), Word(word)] => {
+            let number = Names::numbered(&names.faults, word)?;
+            Some((13, vec![vec![13, number]]))
+        }
         [Word(b"choose"), Word(b"by"), rest @ ..] => judged(6, vec![6], rest),
         [Word(b"repeat"), Word(b"while"), rest @ ..] => judged(7, vec![7], rest),
         [Word(b"scope"), Word(name)] => {
@@ -538,7 +543,7 @@ impl Drawing {
         if let [Word(b"fault"), Word(b"part"), Word(word), Mark(b':'), ..] = rest[..]
             && behind
         {
-            number = Some(decimal(word).ok_or(wrong)?);
+            number = Some(Names::numbered(&names.faults, word).ok_or(wrong)?);
             rest.drain(..4);
         } else if part.len() > 1 && rest.starts_with(&part) {
             rest.drain(..part.len());
@@ -599,6 +604,23 @@ impl Drawing {
     }
 }
 
+/// Whether a line that starts with `fault` declares one, and is no part of a scope.
+fn names_fault(tokens: &[Token]) -> bool {
+    match tokens {
+        [_, Word(b"part"), ..] | [_, Word(_), Mark(b':'), ..] => false,
+        [Word(b"fault"), Word(_), ..] => true,
+        _ => false,
+    }
+}
+
+/// Whether a line is a declaration, right or wrong.
+fn is_declaration(tokens: &[Token]) -> bool {
+    match tokens {
+        [Word(b"variable" | b"partner" | b"operation" | b"constant"), ..] => true,
+        _ => names_fault(tokens),
+    }
+}
+
 /// The bytes of the plan that a text says.
 pub fn read(text: &[u8]) -> Result<Vec<u8>, Wrong> {
     let mut names = Names::default();
@@ -613,14 +635,14 @@ pub fn read(text: &[u8]) -> Result<Vec<u8>, Wrong> {
         let wrong = Wrong::Line(count);
         let line = bare(line);
         let tokens = tokens(line).ok_or(wrong)?;
+        let bare: Vec<Token> = tokens.iter().map(|(_, token)| *token).collect();
         match tokens.first() {
             None => {}
-            Some((_, Word(b"variable" | b"partner" | b"operation" | b"constant"))) => {
-                let tokens: Vec<Token> = tokens.iter().map(|(_, token)| *token).collect();
+            Some(_) if is_declaration(&bare) => {
                 if drawing.is_some() {
                     return Err(wrong);
                 }
-                names.declare(&tokens).ok_or(wrong)?;
+                names.declare(&bare).ok_or(wrong)?;
             }
             Some(_) => drawing
                 .get_or_insert_with(|| Drawing::begin(&names, count))

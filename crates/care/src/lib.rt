@@ -34,7 +34,7 @@ fn replacing(
     desk: Desk,
     file: &[u8],
     number: u64,
-    names: &[u8; 8976],
+    names: &[u8; 16896],
     out: &mut [u8; 4096],
 ) -> Desk {
     if is_anothers(desk, file) {
@@ -53,7 +53,7 @@ fn replaced(
     desk: Desk,
     file: &[u8],
     number: u64,
-    names: &[u8; 8976],
+    names: &[u8; 16896],
     out: &mut [u8; 4096],
 ) -> Desk {
     let e = retaining::retained(file);
@@ -69,7 +69,7 @@ fn over_plan(
     desk: Desk,
     file: &[u8],
     number: u64,
-    names: &[u8; 8976],
+    names: &[u8; 16896],
     out: &mut [u8; 4096],
 ) -> Desk {
     let state = desk.state;
@@ -91,7 +91,7 @@ pub fn save(
     desk: Desk,
     file: &[u8],
     number: u64,
-    names: &[u8; 8976],
+    names: &[u8; 16896],
     out: &mut [u8; 4096],
 ) -> Desk {
     if !desk.spoken {

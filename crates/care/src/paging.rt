@@ -13,7 +13,7 @@ use papers::replaced_by;
 use papers::shown;
 
 // The page through a descriptor, and on disk: 0, or the reason.
-fn written(fd: i32, desk: Desk, names: &[u8; 8976]) -> i32 {
+fn written(fd: i32, desk: Desk, names: &[u8; 16896]) -> i32 {
     let state = desk.state;
     let tally = desk.tally;
     let mut sheet = drawing::page_to(fd);
@@ -37,7 +37,7 @@ fn is_taken(fd: i32) -> bool {
 }
 
 // The same, and the file is closed.
-fn written_whole(fd: i32, desk: Desk, names: &[u8; 8976]) -> i32 {
+fn written_whole(fd: i32, desk: Desk, names: &[u8; 16896]) -> i32 {
     let mut e = libc::EMFILE;
     if is_taken(fd) {
         e = written(fd, desk, names);
@@ -51,7 +51,7 @@ fn written_whole(fd: i32, desk: Desk, names: &[u8; 8976]) -> i32 {
 }
 
 // The page in a new file, whose name `new` becomes; that file then takes the name of the old one. 0, or the reason.
-fn replaced(new: &mut [u8], file: &[u8], desk: Desk, names: &[u8; 8976]) -> i32 {
+fn replaced(new: &mut [u8], file: &[u8], desk: Desk, names: &[u8; 16896]) -> i32 {
     let fd = os::create_temp(new);
     if fd < 0 {
         return failure();
@@ -64,7 +64,7 @@ fn replaced(new: &mut [u8], file: &[u8], desk: Desk, names: &[u8; 8976]) -> i32 
     replaced_by(new, file)
 }
 
-fn replaced_at(name: &mut [u8], n: usize, file: &[u8], desk: Desk, names: &[u8; 8976]) -> i32 {
+fn replaced_at(name: &mut [u8], n: usize, file: &[u8], desk: Desk, names: &[u8; 16896]) -> i32 {
     if name.len() <= n {
         return libc::ENAMETOOLONG;
     }
@@ -76,13 +76,13 @@ fn replaced_in(
     n: usize,
     file: &[u8],
     desk: Desk,
-    names: &[u8; 8976],
+    names: &[u8; 16896],
 ) -> i32 {
     replaced_at(name, n, file, desk, names)
 }
 
 // The page takes the name, whatever has it.
-fn made(desk: Desk, file: &[u8], number: u64, names: &[u8; 8976], out: &mut [u8; 4096]) -> Desk {
+fn made(desk: Desk, file: &[u8], number: u64, names: &[u8; 16896], out: &mut [u8; 4096]) -> Desk {
     let mut name = [0u8; 4096];
     let at = put_name(&mut name, 0, file);
     let n = put_name(&mut name, at, b".XXXXXX");
@@ -100,7 +100,7 @@ fn over_other(
     desk: Desk,
     file: &[u8],
     number: u64,
-    names: &[u8; 8976],
+    names: &[u8; 16896],
     why: &[u8],
     out: &mut [u8; 4096],
 ) -> Desk {
@@ -120,7 +120,7 @@ fn over_ordinary(
     desk: Desk,
     file: &[u8],
     number: u64,
-    names: &[u8; 8976],
+    names: &[u8; 16896],
     out: &mut [u8; 4096],
 ) -> Desk {
     if ordinary::is_page(file) {
@@ -141,7 +141,7 @@ pub fn page(
     desk: Desk,
     file: &[u8],
     number: u64,
-    names: &[u8; 8976],
+    names: &[u8; 16896],
     out: &mut [u8; 4096],
 ) -> Desk {
     if !desk.spoken {

@@ -14,6 +14,7 @@ use drawing::put;
 use drawing::put_activity;
 use drawing::put_byte;
 use drawing::number_at;
+use drawing::put_fault_name;
 use drawing::put_next;
 use drawing::put_pair;
 use drawing::put_variable;
@@ -53,7 +54,7 @@ fn is_earned(table: &Table, correlation: &[u8; 16], n: usize, what: u32) -> bool
     }
 }
 
-fn put_variable_words(out: &mut [u8; 4096], used: usize, names: &[u8; 8976], what: u32) -> usize {
+fn put_variable_words(out: &mut [u8; 4096], used: usize, names: &[u8; 16896], what: u32) -> usize {
     if what < 16 {
         return used;
     }
@@ -85,16 +86,16 @@ fn put_rival(out: &mut [u8; 4096], used: usize, j: usize) -> usize {
 }
 
 // The fault part for this number never runs.
-fn put_never_runs(out: &mut [u8; 4096], used: usize, number: u32) -> usize {
-    let mut at = put(out, used, b"its fault part");
-    at = put_next(out, at, number as u64);
+fn put_never_runs(out: &mut [u8; 4096], used: usize, names: &[u8; 16896], number: u32) -> usize {
+    let mut at = put(out, used, b"its fault part ");
+    at = put_fault_name(out, at, names, b"", number);
     put(out, at, b" never runs: no raise in its body has that number")
 }
 
 fn put_words(
     out: &mut [u8; 4096],
     used: usize,
-    names: &[u8; 8976],
+    names: &[u8; 16896],
     table: &Table,
     n: usize,
     what: u32,
@@ -131,7 +132,7 @@ fn put_words(
             b"it never runs: what it stands in goes by a constant",
         ),
         6 => put_rival(out, used, rival_of(table, n)),
-        7..=14 => put_never_runs(out, used, number_at(table, n, part_of(what))),
+        7..=14 => put_never_runs(out, used, names, number_at(table, n, part_of(what))),
         _ => put_variable_words(out, used, names, what),
     }
 }
@@ -139,7 +140,7 @@ fn put_words(
 fn put_warning(
     out: &mut [u8; 4096],
     used: usize,
-    names: &[u8; 8976],
+    names: &[u8; 16896],
     table: &Table,
     correlation: &[u8; 16],
     n: usize,
@@ -157,7 +158,7 @@ fn put_warning(
 fn put_earned(
     out: &mut [u8; 4096],
     used: usize,
-    names: &[u8; 8976],
+    names: &[u8; 16896],
     table: &Table,
     correlation: &[u8; 16],
     n: usize,
@@ -173,7 +174,7 @@ fn put_earned(
 fn put_warnings_at(
     out: &mut [u8; 4096],
     used: usize,
-    names: &[u8; 8976],
+    names: &[u8; 16896],
     table: &Table,
     correlation: &[u8; 16],
     n: usize,
@@ -191,7 +192,7 @@ fn put_warnings_at(
 pub fn put_warnings(
     out: &mut [u8; 4096],
     used: usize,
-    names: &[u8; 8976],
+    names: &[u8; 16896],
     table: &Table,
     correlation: &[u8; 16],
     activities: usize,
@@ -239,7 +240,7 @@ fn count_of(table: &Table, correlation: &[u8; 16], activities: usize) -> u64 {
 pub fn put_check(
     out: &mut [u8; 4096],
     used: usize,
-    names: &[u8; 8976],
+    names: &[u8; 16896],
     table: &Table,
     correlation: &[u8; 16],
     activities: usize,

@@ -110,7 +110,7 @@ fn answered(
     s: Session,
     line: &[u8],
     bytes: &mut [u8; 8000],
-    names: &mut [u8; 8976],
+    names: &mut [u8; 16896],
     out: &mut [u8; 4096],
 ) -> Session {
     let before = s.desk;
@@ -144,7 +144,7 @@ fn written_of(
     incoming: Incoming,
     text: &[u8],
     bytes: &mut [u8; 8000],
-    names: &mut [u8; 8976],
+    names: &mut [u8; 16896],
     out: &mut [u8; 4096],
 ) -> Desk {
     let used = incoming.used;
@@ -160,7 +160,7 @@ fn written_in(
     incoming: Incoming,
     text: &[u8; 131072],
     bytes: &mut [u8; 8000],
-    names: &mut [u8; 8976],
+    names: &mut [u8; 16896],
     out: &mut [u8; 4096],
 ) -> Desk {
     if 0 < incoming.wrong {
@@ -174,7 +174,7 @@ fn written(
     s: Session,
     text: &[u8; 131072],
     bytes: &mut [u8; 8000],
-    names: &mut [u8; 8976],
+    names: &mut [u8; 16896],
     out: &mut [u8; 4096],
 ) -> Session {
     let before = s.desk;
@@ -189,7 +189,7 @@ fn gathered(
     line: &[u8],
     text: &mut [u8; 131072],
     bytes: &mut [u8; 8000],
-    names: &mut [u8; 8976],
+    names: &mut [u8; 16896],
     out: &mut [u8; 4096],
 ) -> Session {
     let before = s.desk;
@@ -208,7 +208,7 @@ fn taken(
     line: &[u8],
     text: &mut [u8; 131072],
     bytes: &mut [u8; 8000],
-    names: &mut [u8; 8976],
+    names: &mut [u8; 16896],
     out: &mut [u8; 4096],
 ) -> Session {
     let incoming = s.incoming;
@@ -240,7 +240,7 @@ fn ended_at(
     kept: &[u8],
     text: &mut [u8; 131072],
     bytes: &mut [u8; 8000],
-    names: &mut [u8; 8976],
+    names: &mut [u8; 16896],
     out: &mut [u8; 4096],
 ) -> Session {
     let l = text::line_of(kept);
@@ -300,7 +300,7 @@ fn ended_of(
     line: &[u8],
     text: &mut [u8; 131072],
     bytes: &mut [u8; 8000],
-    names: &mut [u8; 8976],
+    names: &mut [u8; 16896],
     out: &mut [u8; 4096],
 ) -> Session {
     let length = s.length;
@@ -317,7 +317,7 @@ fn ended(
     line: &[u8; 16002],
     text: &mut [u8; 131072],
     bytes: &mut [u8; 8000],
-    names: &mut [u8; 8976],
+    names: &mut [u8; 16896],
     out: &mut [u8; 4096],
 ) -> Session {
     if s.open {
@@ -332,7 +332,7 @@ fn feed(
     line: &mut [u8; 16002],
     text: &mut [u8; 131072],
     bytes: &mut [u8; 8000],
-    names: &mut [u8; 8976],
+    names: &mut [u8; 16896],
     out: &mut [u8; 4096],
 ) -> Session {
     let mut session = s;
@@ -354,7 +354,7 @@ fn last_ended(
     line: &[u8; 16002],
     text: &mut [u8; 131072],
     bytes: &mut [u8; 8000],
-    names: &mut [u8; 8976],
+    names: &mut [u8; 16896],
     out: &mut [u8; 4096],
 ) -> Session {
     if 0 < s.length {
@@ -369,7 +369,7 @@ fn closed(
     line: &[u8; 16002],
     text: &mut [u8; 131072],
     bytes: &mut [u8; 8000],
-    names: &mut [u8; 8976],
+    names: &mut [u8; 16896],
     out: &mut [u8; 4096],
 ) -> Session {
     let mut last = last_ended(s, line, text, bytes, names, out);
@@ -411,7 +411,7 @@ fn turn(
     line: &mut [u8; 16002],
     text: &mut [u8; 131072],
     bytes: &mut [u8; 8000],
-    names: &mut [u8; 8976],
+    names: &mut [u8; 16896],
     out: &mut [u8; 4096],
 ) -> Session {
     let mut chunk = io::buffer();
@@ -457,7 +457,7 @@ fn round(
     line: &mut [u8; 16002],
     text: &mut [u8; 131072],
     bytes: &mut [u8; 8000],
-    names: &mut [u8; 8976],
+    names: &mut [u8; 16896],
     out: &mut [u8; 4096],
 ) -> Session {
     let after = turn(s, line, text, bytes, names, out);
@@ -470,7 +470,7 @@ fn run(
     line: &mut [u8; 16002],
     text: &mut [u8; 131072],
     bytes: &mut [u8; 8000],
-    names: &mut [u8; 8976],
+    names: &mut [u8; 16896],
     out: &mut [u8; 4096],
 ) -> Session {
     let mut session = s;
@@ -505,7 +505,7 @@ fn served(start: Session) {
     let mut line = [0u8; 16002];
     let mut text = [0u8; 131072];
     let mut bytes = [0u8; 8000];
-    let mut names = [0u8; 8976];
+    let mut names = [0u8; 16896];
     let mut out = [0u8; 4096];
     let first = flushed(asked(start, &mut out), &out);
     let last = run(

@@ -1,5 +1,6 @@
 // An accepted plan in words, by its table: an activity or arm on each line.
 use super::expressions::put_expression;
+use super::naming::put_fault_name;
 use super::naming::put_operation;
 use super::naming::put_partner;
 use super::naming::put_scope_name;
@@ -32,6 +33,7 @@ use plan::table::VARIABLES;
 fn put_scope_part(
     out: &mut [u8; 4096],
     used: usize,
+    names: &[u8; 16896],
     table: &Table,
     s: usize,
     order: usize,
@@ -42,7 +44,7 @@ fn put_scope_part(
     }
     if order <= many {
         let mut at = put(out, used, b"fault part ");
-        at = put_number(out, at, number_at(table, s, order - 1) as u64);
+        at = put_fault_name(out, at, names, b"", number_at(table, s, order - 1));
         return put(out, at, b": ");
     }
     if order - many == 1 {
@@ -52,10 +54,17 @@ fn put_scope_part(
 }
 
 // What part of activity m, a scope or a choose, an activity is, by its order there.
-fn put_part(out: &mut [u8; 4096], used: usize, table: &Table, m: usize, order: usize) -> usize {
+fn put_part(
+    out: &mut [u8; 4096],
+    used: usize,
+    names: &[u8; 16896],
+    table: &Table,
+    m: usize,
+    order: usize,
+) -> usize {
     let kind = entry(table, m, KIND);
     if is_scope(kind) {
-        return put_scope_part(out, used, table, m, order);
+        return put_scope_part(out, used, names, table, m, order);
     }
     if kind == kind::CHOOSE {
         if order == 0 {
@@ -66,11 +75,17 @@ fn put_part(out: &mut [u8; 4096], used: usize, table: &Table, m: usize, order: u
     used
 }
 
-fn put_role(out: &mut [u8; 4096], used: usize, table: &Table, n: usize) -> usize {
+fn put_role(
+    out: &mut [u8; 4096],
+    used: usize,
+    names: &[u8; 16896],
+    table: &Table,
+    n: usize,
+) -> usize {
     let parent = parent_of(table, n);
     if parent < n {
         let order = order_of(table, parent + 1, n);
-        return put_part(out, used, table, parent, order);
+        return put_part(out, used, names, table, parent, order);
     }
     if n == 0 {
         return put(out, used, b"root body: ");
@@ -90,7 +105,7 @@ pub(crate) fn is_correlation(correlation: &[u8; 16], number: u32) -> bool {
 pub fn put_member(
     out: &mut [u8; 4096],
     used: usize,
-    names: &[u8; 8976],
+    names: &[u8; 16896],
     correlation: &[u8; 16],
     number: u32,
 ) -> usize {
@@ -105,7 +120,7 @@ pub fn put_member(
 fn put_another(
     out: &mut [u8; 4096],
     used: usize,
-    names: &[u8; 8976],
+    names: &[u8; 16896],
     table: &Table,
     correlation: &[u8; 16],
     n: usize,
@@ -124,7 +139,7 @@ fn put_another(
 fn put_tuple(
     out: &mut [u8; 4096],
     used: usize,
-    names: &[u8; 8976],
+    names: &[u8; 16896],
     table: &Table,
     correlation: &[u8; 16],
     n: usize,
@@ -139,7 +154,7 @@ fn put_tuple(
 fn put_exchange(
     out: &mut [u8; 4096],
     used: usize,
-    names: &[u8; 8976],
+    names: &[u8; 16896],
     words: &[u8],
     table: &Table,
     correlation: &[u8; 16],
@@ -158,7 +173,7 @@ fn put_exchange(
 fn put_with_expression(
     out: &mut [u8; 4096],
     used: usize,
-    names: &[u8; 8976],
+    names: &[u8; 16896],
     words: &[u8],
     table: &Table,
     n: usize,
@@ -178,7 +193,7 @@ fn put_with_expression(
 fn put_set(
     out: &mut [u8; 4096],
     used: usize,
-    names: &[u8; 8976],
+    names: &[u8; 16896],
     table: &Table,
     n: usize,
 ) -> usize {
@@ -191,7 +206,7 @@ fn put_set(
 fn put_named_scope(
     out: &mut [u8; 4096],
     used: usize,
-    names: &[u8; 8976],
+    names: &[u8; 16896],
     table: &Table,
     n: usize,
 ) -> usize {
@@ -203,7 +218,7 @@ fn put_named_scope(
 pub fn put_scope(
     out: &mut [u8; 4096],
     used: usize,
-    names: &[u8; 8976],
+    names: &[u8; 16896],
     table: &Table,
     n: usize,
 ) -> usize {
@@ -212,17 +227,23 @@ pub fn put_scope(
     put_scope_name(out, at, names, scopes_before(table, n), b" (", b")")
 }
 
-// A raise with its number.
-fn put_raise(out: &mut [u8; 4096], used: usize, table: &Table, n: usize) -> usize {
+// A raise with its number, or the name of that.
+fn put_raise(
+    out: &mut [u8; 4096],
+    used: usize,
+    names: &[u8; 16896],
+    table: &Table,
+    n: usize,
+) -> usize {
     let at = put(out, used, b"raise ");
-    put_number(out, at, entry(table, n, NUMBER) as u64)
+    put_fault_name(out, at, names, b"", entry(table, n, NUMBER))
 }
 
 // Activity or arm n in words.
 pub fn put_activity(
     out: &mut [u8; 4096],
     used: usize,
-    names: &[u8; 8976],
+    names: &[u8; 16896],
     table: &Table,
     correlation: &[u8; 16],
     n: usize,
@@ -234,7 +255,7 @@ pub fn put_activity(
         kind::RECEIVE => put_exchange(out, used, names, b"receive from", table, correlation, n),
         kind::SET => put_set(out, used, names, table, n),
         kind::RAISE => put(out, used, b"raise"),
-        kind::NUMBERED_RAISE => put_raise(out, used, table, n),
+        kind::NUMBERED_RAISE => put_raise(out, used, names, table, n),
         kind::LEAVE => put(out, used, b"leave"),
         kind::CHOOSE => put_with_expression(out, used, names, b"choose by ", table, n),
         kind::REPEAT => put_with_expression(out, used, names, b"repeat while ", table, n),
@@ -276,12 +297,12 @@ fn put_indent(out: &mut [u8; 4096], used: usize, depth: usize) -> usize {
 pub fn put_labelled(
     out: &mut [u8; 4096],
     used: usize,
-    names: &[u8; 8976],
+    names: &[u8; 16896],
     table: &Table,
     correlation: &[u8; 16],
     n: usize,
 ) -> usize {
-    let at = put_role(out, used, table, n);
+    let at = put_role(out, used, names, table, n);
     put_activity(out, at, names, table, correlation, n)
 }
 
@@ -289,7 +310,7 @@ pub fn put_labelled(
 pub fn put_drawn(
     out: &mut [u8; 4096],
     used: usize,
-    names: &[u8; 8976],
+    names: &[u8; 16896],
     table: &Table,
     correlation: &[u8; 16],
     n: usize,
@@ -302,7 +323,7 @@ pub fn put_drawn(
 fn put_line(
     out: &mut [u8; 4096],
     used: usize,
-    names: &[u8; 8976],
+    names: &[u8; 16896],
     table: &Table,
     correlation: &[u8; 16],
     n: usize,
@@ -316,7 +337,7 @@ fn put_line(
 pub fn put_drawing(
     out: &mut [u8; 4096],
     used: usize,
-    names: &[u8; 8976],
+    names: &[u8; 16896],
     table: &Table,
     correlation: &[u8; 16],
     activities: usize,

@@ -26,7 +26,7 @@ fn put_operator(out: &mut [u8; 4096], used: usize, form: u32) -> usize {
 fn put_leaf(
     out: &mut [u8; 4096],
     used: usize,
-    names: &[u8; 8976],
+    names: &[u8; 16896],
     table: &Table,
     m: usize,
 ) -> usize {
@@ -49,7 +49,7 @@ fn put_if(out: &mut [u8; 4096], used: usize, wanted: bool, b: u8) -> usize {
 pub(crate) fn put_expression(
     out: &mut [u8; 4096],
     used: usize,
-    names: &[u8; 8976],
+    names: &[u8; 16896],
     table: &Table,
     m: usize,
     depth: usize,

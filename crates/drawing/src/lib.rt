@@ -12,6 +12,7 @@ pub use activities::put_drawn;
 pub use activities::put_labelled;
 pub use activities::put_member;
 pub use activities::put_scope;
+pub use naming::put_fault_name;
 pub use naming::put_names;
 pub use naming::put_operation;
 pub use naming::put_partner;

@@ -94,7 +94,7 @@ fn put_state(out: &mut [u8; 4096], used: usize, doing: usize, order: Order, n: u
 fn put_label(
     out: &mut [u8; 4096],
     used: usize,
-    names: &[u8; 8976],
+    names: &[u8; 16896],
     table: &Table,
     flags: &[u8; 16],
     n: usize,
@@ -145,7 +145,7 @@ fn end_of_state(table: &Table, n: usize, whole: usize) -> usize {
 fn put_box(
     out: &mut [u8; 4096],
     used: usize,
-    names: &[u8; 8976],
+    names: &[u8; 16896],
     table: &Table,
     flags: &[u8; 16],
     order: Order,
@@ -175,7 +175,7 @@ fn put_box(
 }
 
 // How wide a drawing must be for row n.
-fn width_for(names: &[u8; 8976], table: &Table, flags: &[u8; 16], order: Order, n: usize) -> usize {
+fn width_for(names: &[u8; 16896], table: &Table, flags: &[u8; 16], order: Order, n: usize) -> usize {
     let mut out = measure();
     let label = put_label(&mut out, 0, names, table, flags, n);
     let state = put_state(&mut out, 0, doing::doing_of(table, order, n), order, n);
@@ -190,7 +190,7 @@ fn wider(x: usize, y: usize) -> usize {
 }
 
 fn width_of(
-    names: &[u8; 8976],
+    names: &[u8; 16896],
     table: &Table,
     flags: &[u8; 16],
     activities: usize,
@@ -224,7 +224,7 @@ fn put_opening(out: &mut [u8; 4096], used: usize, width: usize, height: usize) -
 fn put_rows(
     out: &mut [u8; 4096],
     used: usize,
-    names: &[u8; 8976],
+    names: &[u8; 16896],
     table: &Table,
     flags: &[u8; 16],
     activities: usize,
@@ -244,7 +244,7 @@ fn put_rows(
 pub(crate) fn put_boxes(
     out: &mut [u8; 4096],
     used: usize,
-    names: &[u8; 8976],
+    names: &[u8; 16896],
     table: &Table,
     flags: &[u8; 16],
     activities: usize,

@@ -30,7 +30,7 @@ pub fn is_front(bytes: &[u8]) -> bool {
 fn put_held(
     out: &mut [u8; 4096],
     used: usize,
-    names: &[u8; 8976],
+    names: &[u8; 16896],
     table: &Table,
     flags: &[u8; 16],
     picks: &[usize; 256],
@@ -55,7 +55,7 @@ fn put_held(
 fn put_idle_plan(
     out: &mut [u8; 4096],
     used: usize,
-    names: &[u8; 8976],
+    names: &[u8; 16896],
     table: &Table,
     flags: &[u8; 16],
     activities: usize,
@@ -75,7 +75,7 @@ fn put_idle_plan(
 fn put_plan(
     out: &mut [u8; 4096],
     used: usize,
-    names: &[u8; 8976],
+    names: &[u8; 16896],
     table: &Table,
     flags: &[u8; 16],
     variables: u32,
@@ -97,7 +97,7 @@ fn put_plan(
 fn put_planned(
     out: &mut [u8; 4096],
     used: usize,
-    names: &[u8; 8976],
+    names: &[u8; 16896],
     table: &Table,
     flags: &[u8; 16],
     variables: u32,
@@ -119,7 +119,7 @@ fn put_planless(out: &mut [u8; 4096], used: usize) -> usize {
 }
 
 // What a state holds.
-fn put_state(out: &mut [u8; 4096], used: usize, names: &[u8; 8976], state: State) -> usize {
+fn put_state(out: &mut [u8; 4096], used: usize, names: &[u8; 16896], state: State) -> usize {
     let mut table = [0u32; LENGTH];
     let mut flags = [0u8; 16];
     let a = machine::limits::planned(state, &mut table, &mut flags);
@@ -149,7 +149,7 @@ fn put_state(out: &mut [u8; 4096], used: usize, names: &[u8; 8976], state: State
 pub fn put_page(
     out: &mut [u8; 4096],
     used: usize,
-    names: &[u8; 8976],
+    names: &[u8; 16896],
     state: State,
     tally: Tally,
 ) -> usize {

@@ -34,7 +34,7 @@ fn put_marked(out: &mut [u8; 4096], used: usize, words: &[u8]) -> usize {
 fn put_one(
     out: &mut [u8; 4096],
     used: usize,
-    names: &[u8; 8976],
+    names: &[u8; 16896],
     table: &Table,
     activities: usize,
     place: usize,
@@ -53,7 +53,7 @@ fn put_one(
 fn put_lines(
     out: &mut [u8; 4096],
     used: usize,
-    names: &[u8; 8976],
+    names: &[u8; 16896],
     table: &Table,
     flags: &[u8; 16],
     picks: &[usize; 256],
@@ -81,7 +81,7 @@ fn put_lines(
 fn put_table(
     out: &mut [u8; 4096],
     used: usize,
-    names: &[u8; 8976],
+    names: &[u8; 16896],
     table: &Table,
     flags: &[u8; 16],
     picks: &[usize; 256],
@@ -103,7 +103,7 @@ fn put_table(
 pub(crate) fn put_messages(
     out: &mut [u8; 4096],
     used: usize,
-    names: &[u8; 8976],
+    names: &[u8; 16896],
     table: &Table,
     flags: &[u8; 16],
     picks: &[usize; 256],

@@ -14,7 +14,7 @@ use wording::put_standing;
 fn put_line(
     out: &mut [u8; 4096],
     used: usize,
-    names: &[u8; 8976],
+    names: &[u8; 16896],
     table: &Table,
     flags: &[u8; 16],
     picks: &[usize; 256],
@@ -47,7 +47,7 @@ fn put_line(
 fn put_lines(
     out: &mut [u8; 4096],
     used: usize,
-    names: &[u8; 8976],
+    names: &[u8; 16896],
     table: &Table,
     flags: &[u8; 16],
     picks: &[usize; 256],
@@ -82,7 +82,7 @@ fn put_lines(
 fn put_table(
     out: &mut [u8; 4096],
     used: usize,
-    names: &[u8; 8976],
+    names: &[u8; 16896],
     table: &Table,
     flags: &[u8; 16],
     picks: &[usize; 256],
@@ -105,7 +105,7 @@ fn put_table(
 pub(crate) fn put_list(
     out: &mut [u8; 4096],
     used: usize,
-    names: &[u8; 8976],
+    names: &[u8; 16896],
     table: &Table,
     flags: &[u8; 16],
     picks: &[usize; 256],
@@ -121,7 +121,7 @@ pub(crate) fn put_list(
 fn put_closing(
     out: &mut [u8; 4096],
     used: usize,
-    names: &[u8; 8976],
+    names: &[u8; 16896],
     table: &Table,
     flags: &[u8; 16],
     turn: usize,
@@ -138,7 +138,7 @@ fn put_closing(
 fn put_closings(
     out: &mut [u8; 4096],
     used: usize,
-    names: &[u8; 8976],
+    names: &[u8; 16896],
     table: &Table,
     flags: &[u8; 16],
     order: Order,
@@ -172,7 +172,7 @@ fn put_nothing(out: &mut [u8; 4096], used: usize, root: u8) -> usize {
 fn put_undo(
     out: &mut [u8; 4096],
     used: usize,
-    names: &[u8; 8976],
+    names: &[u8; 16896],
     table: &Table,
     flags: &[u8; 16],
     order: Order,
@@ -191,7 +191,7 @@ fn put_undo(
 fn put_order(
     out: &mut [u8; 4096],
     used: usize,
-    names: &[u8; 8976],
+    names: &[u8; 16896],
     table: &Table,
     flags: &[u8; 16],
     variables: u32,
@@ -217,7 +217,7 @@ fn put_order(
 pub(crate) fn put_orders(
     out: &mut [u8; 4096],
     used: usize,
-    names: &[u8; 8976],
+    names: &[u8; 16896],
     table: &Table,
     flags: &[u8; 16],
     variables: u32,

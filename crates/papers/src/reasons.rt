@@ -7,7 +7,7 @@ fn put_declaration(out: &mut [u8; 4096], used: usize, reason: usize) -> usize {
         1 => put(
             out,
             used,
-            b"expected 'variable NAME', 'variable NAME (correlation)', 'partner NUMBER NAME', 'operation NUMBER NAME' or 'constant NAME NUMBER'",
+            b"expected 'variable NAME', 'variable NAME (correlation)', 'partner NUMBER NAME', 'operation NUMBER NAME', 'fault NUMBER NAME' or 'constant NAME NUMBER'",
         ),
         2 => put(out, used, b"another has this name"),
         3 => put(out, used, b"partners and operations are 0 to 63"),
@@ -15,6 +15,7 @@ fn put_declaration(out: &mut [u8; 4096], used: usize, reason: usize) -> usize {
         5 => put(out, used, b"declarations stand before the first activity"),
         22 => put(out, used, b"a name has at most 32 characters"),
         27 => put(out, used, b"'and', 'or' and 'not' are words of expressions"),
+        28 => put(out, used, b"faults with a name are 16 to 255"),
         _ => put(out, used, b"this number has a name already"),
     }
 }
@@ -71,7 +72,7 @@ fn put_place(out: &mut [u8; 4096], used: usize, reason: usize) -> usize {
         19 => put(
             out,
             used,
-            b"a part is missing: the root and a choose have 2, a scope 2 or 3, a repeat and an arm 1",
+            b"a part is missing: the root and a choose have 2, a scope 2 or 3, one with fault parts by number all of them, a repeat and an arm 1",
         ),
         20 => put(out, used, b"the text has no activity"),
         _ => put(out, used, b"a tab stands in it, where blanks may"),
@@ -85,7 +86,7 @@ fn is_of_declaration(reason: usize) -> bool {
     if reason == 22 {
         return true;
     }
-    if reason == 27 {
+    if 26 < reason {
         return true;
     }
     reason == 23

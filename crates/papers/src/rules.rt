@@ -30,6 +30,15 @@ fn put_activity(out: &mut [u8; 4096], used: usize, code: u32) -> usize {
     }
 }
 
+// The rule of the fault parts by number: of their count, and of each number, which have a row of one number each.
+fn put_numbers(out: &mut [u8; 4096], used: usize) -> usize {
+    put(
+        out,
+        used,
+        b" - a scope has up to 8 fault parts by number, for 0 to 4 and 16 to 255, no two for one",
+    )
+}
+
 // A row of two numbers, the first of which is 1, is a variable in an expression.
 fn is_variable(numbers: u32, code: u32) -> bool {
     if numbers == 2 {
@@ -56,6 +65,9 @@ pub(crate) fn put_rule(
     let code = cell(rows, row, 1);
     if is_variable(cell(rows, row, 0), code) {
         return put(out, used, b" - the plan has no such variable");
+    }
+    if cell(rows, row, 0) == 1 {
+        return put_numbers(out, used);
     }
     put_activity(out, used, code)
 }

@@ -58,16 +58,16 @@ fn is_kept(before: State, bytes: &[u8; 8000], length: usize) -> bool {
     false
 }
 
-fn clear(names: &mut [u8; 8976]) {
+fn clear(names: &mut [u8; 16896]) {
     let mut i = 0;
-    while i < 8976 {
+    while i < 16896 {
         names[i] = 0;
         i += 1;
     }
 }
 
 // The names are those of the plan of the state before, and of no other.
-pub(crate) fn forget(before: State, bytes: &[u8; 8000], length: usize, names: &mut [u8; 8976]) {
+pub(crate) fn forget(before: State, bytes: &[u8; 8000], length: usize, names: &mut [u8; 16896]) {
     if is_kept(before, bytes, length) {
         return;
     }
@@ -137,7 +137,7 @@ fn renamed(
     text: &[u8],
     plan: &[u8],
     length: usize,
-    names: &mut [u8; 8976],
+    names: &mut [u8; 16896],
     out: &mut [u8; 4096],
 ) -> Desk {
     if length <= plan.len() {
@@ -165,7 +165,7 @@ fn written_with_care(
     length: usize,
     number: u64,
     bytes: &mut [u8; 8000],
-    names: &mut [u8; 8976],
+    names: &mut [u8; 16896],
     out: &mut [u8; 4096],
 ) -> Desk {
     let state = desk.state;
@@ -184,7 +184,7 @@ fn written(
     plan: &[u8; 4096],
     length: usize,
     bytes: &mut [u8; 8000],
-    names: &mut [u8; 8976],
+    names: &mut [u8; 16896],
     out: &mut [u8; 4096],
 ) -> Desk {
     copied(plan, bytes);
@@ -232,7 +232,7 @@ fn write_rows(
     length: usize,
     lines: &[u32; 4355],
     bytes: &mut [u8; 8000],
-    names: &mut [u8; 8976],
+    names: &mut [u8; 16896],
     out: &mut [u8; 4096],
 ) -> Desk {
     let mut plan = [0u8; 4096];
@@ -266,7 +266,7 @@ pub fn write(
     text: &[u8],
     number: u64,
     bytes: &mut [u8; 8000],
-    names: &mut [u8; 8976],
+    names: &mut [u8; 16896],
     out: &mut [u8; 4096],
 ) -> Desk {
     let mut rows = [0u32; 87100];

@@ -10,6 +10,7 @@ use spelling::begin;
 use spelling::decimal;
 use spelling::declared;
 use spelling::expression;
+use spelling::fault_number;
 use spelling::is_correlation;
 use spelling::is_long;
 use spelling::is_name;
@@ -17,6 +18,7 @@ use spelling::is_over;
 use spelling::is_scope_named;
 use spelling::more;
 use spelling::narrow;
+use spelling::no_fault;
 use spelling::past_blanks;
 use spelling::variable;
 use spelling::word_end;
@@ -425,16 +427,16 @@ fn scope(s: &[u8], stop: usize, at: usize, rows: &mut [u32; 87100], r: usize) ->
     bad(25, from)
 }
 
-// A raise, plain or with its number from `at` on.
-fn raised(s: &[u8], at: usize, rows: &mut [u32; 87100], r: usize) -> Own {
+// A raise, plain or with its number or name from `at` on.
+fn raised(s: &[u8], stop: usize, at: usize, rows: &mut [u32; 87100], r: usize) -> Own {
     if is_over(s, at) {
         return plain(s, at, code::RAISE, rows, r);
     }
     let from = past_blanks(s, at);
     let to = word_end(s, from);
-    let number = decimal(s, from, to);
+    let number = fault_number(s, stop, from, to);
     if 4294967295 < number {
-        return bad(10, from);
+        return bad(no_fault(s, from), from);
     }
     if is_over(s, to) {
         add(rows, r, kind_code(code::NUMBERED_RAISE));
@@ -452,7 +454,7 @@ fn worded(s: &[u8], stop: usize, at: usize, rows: &mut [u32; 87100], r: usize) -
     }
     let raise = after_word(s, at, b"raise");
     if 0 < raise {
-        return raised(s, raise, rows, r);
+        return raised(s, stop, raise, rows, r);
     }
     let leave = after_word(s, at, b"leave");
     if 0 < leave {

@@ -9,8 +9,8 @@ use spelling::add;
 use spelling::after_numbered;
 use spelling::after_part;
 use spelling::begin;
-use spelling::decimal;
 use spelling::declaration;
+use spelling::fault_number;
 use spelling::is_correlation;
 use spelling::is_over;
 use spelling::is_part;
@@ -19,6 +19,7 @@ use spelling::more;
 pub use spelling::names_of;
 use spelling::narrow;
 use spelling::next_line;
+use spelling::no_fault;
 use spelling::part_number;
 pub use spelling::past_blanks;
 use spelling::past_number;
@@ -28,7 +29,7 @@ pub use spelling::word_end;
 use spelling::wrong_place;
 
 // How many numbers of the table are used, 20 for each row; or the line that is wrong, counted from 1, and the reason:
-//     1  a declaration is a word, a number where it is a partner's or an operation's, and a name; a constant's number stands behind its name
+//     1  a declaration is a word, a number where it is a partner's, an operation's or a fault's, and a name; a constant's number stands behind its name
 //     2  the name is declared before, or is another variable's v0, v1, ..
 //     3  the number is above 63
 //     4  more than 16 variables
@@ -55,6 +56,7 @@ use spelling::wrong_place;
 //     25 something stands behind a word that stands alone
 //     26 an arm is said otherwise
 //     27 a word of expressions is no name
+//     28 a fault's number is not 16 to 255
 // `place` is where in the text, the length of the text where it is no place in it.
 pub enum Sheet {
     Rows {
@@ -310,7 +312,7 @@ fn put_count(
     st
 }
 
-// The row of the number of a fault part, which stands at `from`.
+// The row of the number of a fault part, which stands at `from`, or its name.
 fn put_number(
     s: &[u8],
     from: usize,
@@ -319,9 +321,9 @@ fn put_number(
     levels: &mut [usize; 512],
     st: State,
 ) -> State {
-    let number = decimal(s, from, word_end(s, from));
+    let number = fault_number(s, st.stop, from, word_end(s, from));
     if 4294967295 < number {
-        return failed(st, st.line, 10, from);
+        return failed(st, st.line, no_fault(s, from), from);
     }
     let c = put_count(rows, lines, levels, st);
     if is_there(c.row) {
@@ -412,7 +414,7 @@ fn read_line(
         return st;
     }
     let what = what_of(s, at);
-    if what < 4 {
+    if what < 5 {
         return declare(s, at, what, st);
     }
     let p = past_number(s, at);

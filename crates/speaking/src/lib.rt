@@ -27,7 +27,7 @@ fn answer_alone(
     line: &[u8],
     number: u64,
     bytes: &mut [u8; 8000],
-    names: &mut [u8; 8976],
+    names: &mut [u8; 16896],
     out: &mut [u8; 4096],
 ) -> Desk {
     match what {
@@ -51,7 +51,7 @@ fn answer_numbered(
     line: &[u8],
     number: u64,
     bytes: &mut [u8; 8000],
-    names: &mut [u8; 8976],
+    names: &mut [u8; 16896],
     out: &mut [u8; 4096],
 ) -> Desk {
     match what {
@@ -68,7 +68,7 @@ fn answer_listed(
     line: &[u8],
     from: usize,
     number: u64,
-    names: &[u8; 8976],
+    names: &[u8; 16896],
     out: &mut [u8; 4096],
 ) -> Desk {
     match what {
@@ -83,7 +83,7 @@ fn told(
     line: &[u8],
     number: u64,
     bytes: &mut [u8; 8000],
-    names: &mut [u8; 8976],
+    names: &mut [u8; 16896],
     out: &mut [u8; 4096],
 ) -> Desk {
     let c = commands::command_of(line);
@@ -116,7 +116,7 @@ fn usual(
     line: &[u8],
     number: u64,
     bytes: &mut [u8; 8000],
-    names: &mut [u8; 8976],
+    names: &mut [u8; 16896],
     out: &mut [u8; 4096],
 ) -> Desk {
     if desk.spoken {
@@ -132,7 +132,7 @@ fn kept(
     word: &[u8],
     number: u64,
     bytes: &mut [u8; 8000],
-    names: &mut [u8; 8976],
+    names: &mut [u8; 16896],
     out: &mut [u8; 4096],
 ) -> Desk {
     match what {
@@ -151,7 +151,7 @@ fn said(
     p: Phrase,
     line: &[u8],
     number: u64,
-    names: &[u8; 8976],
+    names: &[u8; 16896],
     out: &mut [u8; 4096],
 ) -> Desk {
     let what = p.what;
@@ -203,7 +203,7 @@ fn phrased(
     line: &[u8],
     number: u64,
     bytes: &mut [u8; 8000],
-    names: &mut [u8; 8976],
+    names: &mut [u8; 16896],
     out: &mut [u8; 4096],
 ) -> Desk {
     let what = p.what;
@@ -239,7 +239,7 @@ pub fn answer(
     line: &[u8],
     number: u64,
     bytes: &mut [u8; 8000],
-    names: &mut [u8; 8976],
+    names: &mut [u8; 16896],
     out: &mut [u8; 4096],
 ) -> Desk {
     let p = phrases::phrase_of(line);

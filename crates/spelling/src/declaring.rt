@@ -1,8 +1,8 @@
-// The lines in front of a drawing, which declare its variables, partners, operations and constants:
+// The lines in front of a drawing, which declare its variables, partners, operations, constants and faults:
 //     variable NAME                  the next variable, from 0 on
 //     variable NAME (correlation)    the same, for correlation
 //     partner NUMBER NAME            operation NUMBER NAME
-//     constant NAME NUMBER
+//     constant NAME NUMBER           fault NUMBER NAME
 // `stop` is the place of the first line that is no such line.
 use super::marks::after_mark;
 use super::marks::after_word;
@@ -21,13 +21,33 @@ pub struct Span {
     pub to: usize,
 }
 
-// The place after the word that starts a declaration of a variable (0), a partner (1), an operation (2) or a constant (3), where the line has it.
+// The place after the word that starts the declaration of a fault, where the line has it: `fault` before a word, which is no part's name.
+fn after_fault(s: &[u8], at: usize) -> usize {
+    let p = after_word(s, at, b"fault");
+    if p == 0 {
+        return 0;
+    }
+    if 0 < after_word(s, p, b"part") {
+        return 0;
+    }
+    let w = word_from(s, p);
+    if w.to <= w.from {
+        return 0;
+    }
+    if 0 < after_mark(s, w.to, 58) {
+        return 0;
+    }
+    p
+}
+
+// The place after the word that starts a declaration of a variable (0), a partner (1), an operation (2), a constant (3) or a fault (4), where the line has it.
 pub fn after_what(s: &[u8], at: usize, what: usize) -> usize {
     match what {
         0 => after_word(s, at, b"variable"),
         1 => after_word(s, at, b"partner"),
         2 => after_word(s, at, b"operation"),
-        _ => after_word(s, at, b"constant"),
+        3 => after_word(s, at, b"constant"),
+        _ => after_fault(s, at),
     }
 }
 
@@ -51,7 +71,7 @@ fn is_name_first(what: usize) -> bool {
     what == 3
 }
 
-// The name that a line declares for a variable, a partner, an operation or a constant; an empty word where it declares none.
+// The name that a line declares for a variable, a partner, an operation, a constant or a fault; an empty word where it declares none.
 fn name_in(s: &[u8], at: usize, what: usize) -> Span {
     let p = after_what(s, at, what);
     if p == 0 {
@@ -64,7 +84,7 @@ fn name_in(s: &[u8], at: usize, what: usize) -> Span {
     word_from(s, w.to)
 }
 
-// The number that a line declares for a partner or an operation, or of a constant.
+// The number that a line declares for a partner, an operation or a fault, or of a constant.
 fn number_word(s: &[u8], at: usize, what: usize) -> Span {
     let w = word_from(s, after_what(s, at, what));
     if is_name_first(what) {
@@ -90,7 +110,7 @@ pub fn plain_variable(s: &[u8], from: usize, to: usize) -> u64 {
     4294967296
 }
 
-// What is declared before `stop` under a name: the number of a variable, a partner or an operation, the value of a constant; 4,294,967,296 where there
+// What is declared before `stop` under a name: the number of a variable, a partner, an operation or a fault, the value of a constant; 4,294,967,296 where there
 // is none.
 pub fn declared(s: &[u8], stop: usize, what: usize, from: usize, to: usize) -> u64 {
     let mut at = 0;
@@ -161,7 +181,7 @@ pub fn is_correlation(s: &[u8], stop: usize, k: u64) -> bool {
     false
 }
 
-// The name of a variable (0), a partner (1) or an operation (2) by its number; an empty word where it has none.
+// The name of a variable (0), a partner (1), an operation (2) or a fault (4) by its number; an empty word where it has none.
 pub fn named(s: &[u8], stop: usize, what: usize, number: u64) -> Span {
     if what == 0 {
         let line = variable_line(s, stop, number);
@@ -186,7 +206,7 @@ pub fn named(s: &[u8], stop: usize, what: usize, number: u64) -> Span {
     no_word()
 }
 
-// Whether a line is a declaration: 0 a variable's, 1 a partner's, 2 an operation's, 3 a constant's; 4 where it is none.
+// Whether a line is a declaration: 0 a variable's, 1 a partner's, 2 an operation's, 3 a constant's, 4 a fault's; 5 where it is none.
 pub fn what_of(s: &[u8], at: usize) -> usize {
     if 0 < after_what(s, at, 0) {
         return 0;
@@ -200,7 +220,10 @@ pub fn what_of(s: &[u8], at: usize) -> usize {
     if 0 < after_what(s, at, 3) {
         return 3;
     }
-    4
+    if 0 < after_what(s, at, 4) {
+        return 4;
+    }
+    5
 }
 
 // The place after the mark `(correlation)`, where it is next in the line.
@@ -279,7 +302,7 @@ fn odd_place(s: &[u8], at: usize, what: usize) -> usize {
 pub fn wrong_place(s: &[u8], at: usize, what: usize, reason: usize) -> usize {
     match reason {
         1 => odd_place(s, at, what),
-        3 | 10 | 23 => {
+        3 | 10 | 23 | 28 => {
             let w = number_word(s, at, what);
             w.from
         }
@@ -312,7 +335,7 @@ pub fn declaration(s: &[u8], at: usize, what: usize, count: u64) -> usize {
 }
 
 // 2: a name that is declared before, or that says another number; 3: a number above 63; 4: more than 16 variables; 10: a constant that is no number; 23:
-// a number with a name before; 27: a word of expressions.
+// a number with a name before; 27: a word of expressions; 28: a fault's number that is not 16 to 255.
 fn clash(s: &[u8], at: usize, what: usize, count: u64, from: usize, to: usize) -> usize {
     if declared(s, at, what, from, to) < 4294967296 {
         return 2;
@@ -321,14 +344,48 @@ fn clash(s: &[u8], at: usize, what: usize, count: u64, from: usize, to: usize) -
         return operand_clash(s, at, what, count, from, to);
     }
     let number = number_in(s, at, what);
-    if 63 < number {
-        return 3;
+    let wrong = outside(what, number);
+    if 0 < wrong {
+        return wrong;
     }
     let before = named(s, at, what, number);
     if before.from < before.to {
         return 23;
     }
     0
+}
+
+// What is wrong with the number of a partner, an operation or a fault by its size.
+fn outside(what: usize, number: u64) -> usize {
+    if what < 4 {
+        if 63 < number {
+            return 3;
+        }
+        return 0;
+    }
+    if number < 16 {
+        return 28;
+    }
+    if 255 < number {
+        return 28;
+    }
+    0
+}
+
+// The number of a fault that is said by its number or by its name; 4,294,967,296 where it is none.
+pub fn fault_number(s: &[u8], stop: usize, from: usize, to: usize) -> u64 {
+    if is_name(s, from) {
+        return declared(s, stop, 4, from, to);
+    }
+    decimal(s, from, to)
+}
+
+// What is wrong with a word that is no fault's number: no such name, or no number.
+pub fn no_fault(s: &[u8], from: usize) -> usize {
+    if is_name(s, from) {
+        return 8;
+    }
+    10
 }
 
 // Variables and constants stand in expressions, so no two of them have one name.

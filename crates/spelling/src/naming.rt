@@ -1,5 +1,5 @@
-// The names that a text declares, as a table: 272 places of 33 bytes, for 16 variables, 64 partners, 64 operations and 128 scopes in turn, the scopes in the
-// order of the drawing. A place holds the length of the name, then its characters; one without a name holds 0.
+// The names that a text declares, as a table: 512 places of 33 bytes, for 16 variables, 64 partners, 64 operations, 128 scopes and the faults 16 to 255 in
+// turn, the scopes in the order of the drawing. A place holds the length of the name, then its characters; one without a name holds 0.
 use super::declaring::Span;
 use super::declaring::named;
 use super::declaring::no_word;
@@ -17,7 +17,10 @@ fn what_at(place: usize) -> usize {
     if place < 80 {
         return 1;
     }
-    2
+    if place < 272 {
+        return 2;
+    }
+    4
 }
 
 fn number_at(place: usize) -> u64 {
@@ -27,11 +30,14 @@ fn number_at(place: usize) -> u64 {
     if place < 80 {
         return (place - 16) as u64;
     }
-    (place - 80) as u64
+    if place < 272 {
+        return (place - 80) as u64;
+    }
+    (place - 256) as u64
 }
 
-fn set_byte(names: &mut [u8; 8976], place: usize, i: usize, b: u8) {
-    if place < 272 {
+fn set_byte(names: &mut [u8; 16896], place: usize, i: usize, b: u8) {
+    if place < 512 {
         if i < 33 {
             names[place * 33 + i] = b;
         }
@@ -57,7 +63,7 @@ fn letter(s: &[u8], w: Span, i: usize) -> u8 {
     0
 }
 
-fn put_name(s: &[u8], w: Span, names: &mut [u8; 8976], place: usize) {
+fn put_name(s: &[u8], w: Span, names: &mut [u8; 16896], place: usize) {
     set_byte(names, place, 0, length_of(w));
     let mut i = 0;
     while i < 32 {
@@ -71,7 +77,7 @@ fn is_drawn(s: &[u8], line: usize) -> bool {
     if is_over(s, line) {
         return false;
     }
-    what_of(s, line) == 4
+    what_of(s, line) == 5
 }
 
 // Where the drawing begins, and no declaration stands any more.
@@ -90,16 +96,24 @@ fn drawing_of(s: &[u8]) -> usize {
     line
 }
 
+// Whether a place is that of a scope, whose name is declared in its line.
+fn is_scope(place: usize) -> bool {
+    if place < 144 {
+        return false;
+    }
+    place < 272
+}
+
 // The name that is declared for a place; of a scope none.
 fn name_at(s: &[u8], stop: usize, place: usize) -> Span {
-    if place < 144 {
-        return named(s, stop, what_at(place), number_at(place));
+    if is_scope(place) {
+        return no_word();
     }
-    no_word()
+    named(s, stop, what_at(place), number_at(place))
 }
 
 // The names of the scopes from the line `first` on, in the order of the lines.
-fn put_scopes(s: &[u8], first: usize, names: &mut [u8; 8976]) {
+fn put_scopes(s: &[u8], first: usize, names: &mut [u8; 16896]) {
     let mut line = first;
     let mut place = 144;
     while line < s.len() {
@@ -117,18 +131,19 @@ fn put_scopes(s: &[u8], first: usize, names: &mut [u8; 8976]) {
     }
 }
 
+// The place of the next scope; 512, where no name is, after the last.
 fn next_place(place: usize) -> usize {
-    if place < 272 {
+    if place < 271 {
         return place + 1;
     }
-    place
+    512
 }
 
 // The table of the names that a text declares.
-pub fn names_of(s: &[u8], names: &mut [u8; 8976]) {
+pub fn names_of(s: &[u8], names: &mut [u8; 16896]) {
     let stop = drawing_of(s);
     let mut place = 0;
-    while place < 272 {
+    while place < 512 {
         let w = name_at(s, stop, place);
         put_name(s, w, names, place);
         place += 1;

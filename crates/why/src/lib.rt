@@ -22,7 +22,7 @@ pub use undo::put_undone;
 fn put_key(
     out: &mut [u8; 4096],
     used: usize,
-    names: &[u8; 8976],
+    names: &[u8; 16896],
     flag: u8,
     variable: u32,
     known: u64,
@@ -42,7 +42,7 @@ fn put_key(
 fn put_keys(
     out: &mut [u8; 4096],
     used: usize,
-    names: &[u8; 8976],
+    names: &[u8; 16896],
     flags: &[u8; 16],
     bound: &[u8; 16],
     values: &[u32; 16],
@@ -67,7 +67,7 @@ fn put_keys(
 pub fn put_called(
     out: &mut [u8; 4096],
     used: usize,
-    names: &[u8; 8976],
+    names: &[u8; 16896],
     flags: &[u8; 16],
     slot: usize,
     order: Order,
@@ -83,7 +83,7 @@ pub fn put_called(
 pub fn put_doings(
     out: &mut [u8; 4096],
     used: usize,
-    names: &[u8; 8976],
+    names: &[u8; 16896],
     table: &Table,
     flags: &[u8; 16],
     picks: &[usize; 256],
@@ -91,7 +91,7 @@ pub fn put_doings(
     state: State,
     order: Order,
 ) -> usize {
-    let at = rows::put_root_faulted(out, used, table, order.root, order.cause);
+    let at = rows::put_root_faulted(out, used, names, table, order.root, order.cause);
     rows::put_rows(
         out,
         at,
@@ -109,7 +109,7 @@ pub fn put_doings(
 fn put_order(
     out: &mut [u8; 4096],
     used: usize,
-    names: &[u8; 8976],
+    names: &[u8; 16896],
     table: &Table,
     flags: &[u8; 16],
     picks: &[usize; 256],
@@ -148,7 +148,7 @@ fn is_asked(only: usize, slot: usize, root: u8) -> bool {
 fn put_orders(
     out: &mut [u8; 4096],
     used: usize,
-    names: &[u8; 8976],
+    names: &[u8; 16896],
     table: &Table,
     flags: &[u8; 16],
     picks: &[usize; 256],
@@ -184,7 +184,7 @@ fn put_orders(
 fn put_all(
     out: &mut [u8; 4096],
     used: usize,
-    names: &[u8; 8976],
+    names: &[u8; 16896],
     table: &Table,
     flags: &[u8; 16],
     activities: usize,
@@ -223,7 +223,7 @@ fn put_all(
 pub fn put_why(
     out: &mut [u8; 4096],
     used: usize,
-    names: &[u8; 8976],
+    names: &[u8; 16896],
     state: State,
     only: usize,
 ) -> usize {
@@ -247,7 +247,7 @@ pub fn put_why(
 fn put_held_row(
     out: &mut [u8; 4096],
     used: usize,
-    names: &[u8; 8976],
+    names: &[u8; 16896],
     table: &Table,
     flags: &[u8; 16],
     picks: &[usize; 256],
@@ -267,7 +267,7 @@ fn put_held_row(
 fn put_held_rows(
     out: &mut [u8; 4096],
     used: usize,
-    names: &[u8; 8976],
+    names: &[u8; 16896],
     table: &Table,
     flags: &[u8; 16],
     picks: &[usize; 256],
@@ -301,7 +301,7 @@ fn put_held_rows(
 pub fn put_held(
     out: &mut [u8; 4096],
     used: usize,
-    names: &[u8; 8976],
+    names: &[u8; 16896],
     table: &Table,
     flags: &[u8; 16],
     picks: &[usize; 256],

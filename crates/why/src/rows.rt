@@ -37,7 +37,7 @@ fn put_place(out: &mut [u8; 4096], used: usize, n: usize) -> usize {
 fn put_open(
     out: &mut [u8; 4096],
     used: usize,
-    names: &[u8; 8976],
+    names: &[u8; 16896],
     table: &Table,
     flags: &[u8; 16],
     n: usize,
@@ -60,7 +60,7 @@ fn put_open(
 fn put_send(
     out: &mut [u8; 4096],
     used: usize,
-    names: &[u8; 8976],
+    names: &[u8; 16896],
     table: &Table,
     flags: &[u8; 16],
     n: usize,
@@ -106,6 +106,7 @@ fn put_conflict(out: &mut [u8; 4096], used: usize, table: &Table, cause: u8) -> 
 pub(crate) fn put_root_faulted(
     out: &mut [u8; 4096],
     used: usize,
+    names: &[u8; 16896],
     table: &Table,
     mark: u8,
     cause: u8,
@@ -114,7 +115,7 @@ pub(crate) fn put_root_faulted(
         return used;
     }
     let mut at = put(out, used, b"  the root faulted");
-    at = put_by_fault(out, at, cause);
+    at = put_by_fault(out, at, names, cause);
     at = put_conflict(out, at, table, cause);
     put_byte(out, at, 10)
 }
@@ -142,7 +143,7 @@ fn put_contested(out: &mut [u8; 4096], used: usize, table: &Table, n: usize, cho
 fn put_faulted(
     out: &mut [u8; 4096],
     used: usize,
-    names: &[u8; 8976],
+    names: &[u8; 16896],
     table: &Table,
     n: usize,
     mark: u8,
@@ -159,7 +160,7 @@ fn put_faulted(
 fn put_close(
     out: &mut [u8; 4096],
     used: usize,
-    names: &[u8; 8976],
+    names: &[u8; 16896],
     table: &Table,
     n: usize,
     held: bool,
@@ -175,7 +176,7 @@ fn put_close(
 fn put_ready(
     out: &mut [u8; 4096],
     used: usize,
-    names: &[u8; 8976],
+    names: &[u8; 16896],
     table: &Table,
     flags: &[u8; 16],
     n: usize,
@@ -190,7 +191,7 @@ fn put_ready(
 fn put_active(
     out: &mut [u8; 4096],
     used: usize,
-    names: &[u8; 8976],
+    names: &[u8; 16896],
     table: &Table,
     flags: &[u8; 16],
     n: usize,
@@ -215,7 +216,7 @@ fn put_active(
 pub(crate) fn put_row(
     out: &mut [u8; 4096],
     used: usize,
-    names: &[u8; 8976],
+    names: &[u8; 16896],
     table: &Table,
     flags: &[u8; 16],
     picks: &[usize; 256],
@@ -244,7 +245,7 @@ pub(crate) fn put_row(
 pub(crate) fn put_rows(
     out: &mut [u8; 4096],
     used: usize,
-    names: &[u8; 8976],
+    names: &[u8; 16896],
     table: &Table,
     flags: &[u8; 16],
     picks: &[usize; 256],

@@ -72,7 +72,7 @@ fn taker_of(
 fn put_message(
     out: &mut [u8; 4096],
     used: usize,
-    names: &[u8; 8976],
+    names: &[u8; 16896],
     table: &Table,
     activities: usize,
     j: usize,
@@ -151,7 +151,7 @@ fn is_full(orders: [Order; 16]) -> bool {
 fn put_stray(
     out: &mut [u8; 4096],
     used: usize,
-    names: &[u8; 8976],
+    names: &[u8; 16896],
     table: &Table,
     activities: usize,
     held_alone: bool,
@@ -180,7 +180,7 @@ fn put_stray(
 fn put_untaken(
     out: &mut [u8; 4096],
     used: usize,
-    names: &[u8; 8976],
+    names: &[u8; 16896],
     table: &Table,
     activities: usize,
     fate: u32,
@@ -216,7 +216,7 @@ fn put_untaken(
 pub(crate) fn put_strays(
     out: &mut [u8; 4096],
     used: usize,
-    names: &[u8; 8976],
+    names: &[u8; 16896],
     table: &Table,
     flags: &[u8; 16],
     picks: &[usize; 256],

@@ -16,7 +16,7 @@ use telling::put_sent;
 fn put_whose(
     out: &mut [u8; 4096],
     used: usize,
-    names: &[u8; 8976],
+    names: &[u8; 16896],
     table: &Table,
     part: usize,
 ) -> usize {
@@ -31,7 +31,7 @@ fn put_whose(
 fn put_one(
     out: &mut [u8; 4096],
     used: usize,
-    names: &[u8; 8976],
+    names: &[u8; 16896],
     table: &Table,
     flags: &[u8; 16],
     n: usize,
@@ -51,7 +51,7 @@ fn put_one(
 fn put_sends(
     out: &mut [u8; 4096],
     used: usize,
-    names: &[u8; 8976],
+    names: &[u8; 16896],
     table: &Table,
     flags: &[u8; 16],
     from: usize,
@@ -71,7 +71,7 @@ fn put_sends(
 fn put_closing(
     out: &mut [u8; 4096],
     used: usize,
-    names: &[u8; 8976],
+    names: &[u8; 16896],
     table: &Table,
     flags: &[u8; 16],
     n: usize,
@@ -89,7 +89,7 @@ fn put_closing(
 pub fn put_undone(
     out: &mut [u8; 4096],
     used: usize,
-    names: &[u8; 8976],
+    names: &[u8; 16896],
     table: &Table,
     flags: &[u8; 16],
     i: usize,
@@ -118,7 +118,7 @@ pub fn put_undone(
 fn put_would_undo(
     out: &mut [u8; 4096],
     used: usize,
-    names: &[u8; 8976],
+    names: &[u8; 16896],
     table: &Table,
     flags: &[u8; 16],
     i: usize,
@@ -135,7 +135,7 @@ fn put_would_undo(
 pub(crate) fn put_undo(
     out: &mut [u8; 4096],
     used: usize,
-    names: &[u8; 8976],
+    names: &[u8; 16896],
     table: &Table,
     flags: &[u8; 16],
     order: Order,

@@ -38,11 +38,17 @@ fn put_root(out: &mut [u8; 4096], used: usize, root: u8) -> usize {
 }
 
 // The fault that the root faulted with, where it has faulted: its mark is then neither free nor running.
-fn put_cause(out: &mut [u8; 4096], used: usize, root: u8, cause: u8) -> usize {
+fn put_cause(
+    out: &mut [u8; 4096],
+    used: usize,
+    names: &[u8; 16896],
+    root: u8,
+    cause: u8,
+) -> usize {
     if root < 2 {
         return used;
     }
-    sayings::put_by_fault(out, used, cause)
+    sayings::put_by_fault(out, used, names, cause)
 }
 
 // What stands between two of a list.
@@ -57,7 +63,7 @@ fn put_between(out: &mut [u8; 4096], used: usize, i: usize) -> usize {
 fn put_variable(
     out: &mut [u8; 4096],
     used: usize,
-    names: &[u8; 8976],
+    names: &[u8; 16896],
     correlation: &[u8; 16],
     i: usize,
     bound: u8,
@@ -77,7 +83,7 @@ fn put_variable(
 fn put_values(
     out: &mut [u8; 4096],
     used: usize,
-    names: &[u8; 8976],
+    names: &[u8; 16896],
     correlation: &[u8; 16],
     variables: u32,
     bound: &[u8; 16],
@@ -99,7 +105,7 @@ fn put_values(
 pub fn put_variables(
     out: &mut [u8; 4096],
     used: usize,
-    names: &[u8; 8976],
+    names: &[u8; 16896],
     correlation: &[u8; 16],
     variables: u32,
     order: Order,
@@ -113,7 +119,7 @@ pub fn put_variables(
 fn put_closing(
     out: &mut [u8; 4096],
     used: usize,
-    names: &[u8; 8976],
+    names: &[u8; 16896],
     table: &Table,
     n: usize,
     part: usize,
@@ -130,7 +136,7 @@ fn put_closing(
 fn put_closings(
     out: &mut [u8; 4096],
     used: usize,
-    names: &[u8; 8976],
+    names: &[u8; 16896],
     table: &Table,
     order: Order,
 ) -> usize {
@@ -154,7 +160,7 @@ fn put_closings(
 fn put_faulted(
     out: &mut [u8; 4096],
     used: usize,
-    names: &[u8; 8976],
+    names: &[u8; 16896],
     table: &Table,
     n: usize,
     mark: u8,
@@ -170,7 +176,7 @@ fn put_faulted(
 fn put_all_faulted(
     out: &mut [u8; 4096],
     used: usize,
-    names: &[u8; 8976],
+    names: &[u8; 16896],
     table: &Table,
     marks: &[u8; 256],
 ) -> usize {
@@ -187,13 +193,13 @@ fn put_all_faulted(
 pub fn put_standing(
     out: &mut [u8; 4096],
     used: usize,
-    names: &[u8; 8976],
+    names: &[u8; 16896],
     table: &Table,
     order: Order,
 ) -> usize {
     let marks = order.marks;
     let mut at = put_root(out, used, order.root);
-    at = put_cause(out, at, order.root, order.cause);
+    at = put_cause(out, at, names, order.root, order.cause);
     put_all_faulted(out, at, names, table, &marks)
 }
 
@@ -201,7 +207,7 @@ pub fn put_standing(
 fn put_head(
     out: &mut [u8; 4096],
     used: usize,
-    names: &[u8; 8976],
+    names: &[u8; 16896],
     table: &Table,
     slot: usize,
     order: Order,
@@ -216,7 +222,7 @@ fn put_head(
 fn put_order_line(
     out: &mut [u8; 4096],
     used: usize,
-    names: &[u8; 8976],
+    names: &[u8; 16896],
     table: &Table,
     correlation: &[u8; 16],
     variables: u32,
@@ -259,7 +265,7 @@ pub fn live_of(orders: [Order; 16]) -> u64 {
 fn put_order_lines(
     out: &mut [u8; 4096],
     used: usize,
-    names: &[u8; 8976],
+    names: &[u8; 16896],
     table: &Table,
     correlation: &[u8; 16],
     variables: u32,
@@ -278,7 +284,7 @@ fn put_order_lines(
 }
 
 // How many orders are live, each of them, and a blank line.
-pub fn put_orders(out: &mut [u8; 4096], used: usize, names: &[u8; 8976], state: State) -> usize {
+pub fn put_orders(out: &mut [u8; 4096], used: usize, names: &[u8; 16896], state: State) -> usize {
     let mut table = [0u32; LENGTH];
     let mut correlation = [0u8; 16];
     let orders = state.orders;
@@ -300,7 +306,7 @@ pub fn put_orders(out: &mut [u8; 4096], used: usize, names: &[u8; 8976], state: 
 fn put_doing_line(
     out: &mut [u8; 4096],
     used: usize,
-    names: &[u8; 8976],
+    names: &[u8; 16896],
     table: &Table,
     correlation: &[u8; 16],
     order: Order,
@@ -315,7 +321,7 @@ fn put_doing_line(
 fn put_doing_lines(
     out: &mut [u8; 4096],
     used: usize,
-    names: &[u8; 8976],
+    names: &[u8; 16896],
     table: &Table,
     correlation: &[u8; 16],
     activities: usize,
@@ -334,7 +340,7 @@ fn put_doing_lines(
 fn put_foot(
     out: &mut [u8; 4096],
     used: usize,
-    names: &[u8; 8976],
+    names: &[u8; 16896],
     table: &Table,
     correlation: &[u8; 16],
     variables: u32,
@@ -351,7 +357,7 @@ fn put_foot(
 fn put_drawn_order(
     out: &mut [u8; 4096],
     used: usize,
-    names: &[u8; 8976],
+    names: &[u8; 16896],
     table: &Table,
     correlation: &[u8; 16],
     variables: u32,
@@ -372,7 +378,7 @@ fn put_drawn_order(
 pub fn put_order(
     out: &mut [u8; 4096],
     used: usize,
-    names: &[u8; 8976],
+    names: &[u8; 16896],
     state: State,
     slot: usize,
 ) -> usize {

@@ -221,12 +221,14 @@ fn name(random: &mut Random, number: usize) -> String {
     name + &end
 }
 
-/// Names for variables, partners, operations and scopes; an empty one is none.
+/// Names for variables, partners, operations, scopes and faults; an empty one is none.
 struct Named {
     variables: Vec<String>,
     partners: Vec<String>,
     operations: Vec<String>,
     scopes: Vec<String>,
+    /// By their numbers; those below 16 have none.
+    faults: Vec<String>,
 }
 
 fn named(random: &mut Random) -> Named {
@@ -237,12 +239,15 @@ fn named(random: &mut Random) -> Named {
         };
         (0..many).map(|k| one(k, random)).collect::<Vec<String>>()
     };
-    Named {
+    let mut named = Named {
         variables: some(16, 80),
         partners: some(64, 60),
         operations: some(64, 60),
         scopes: some(128, 60),
-    }
+        faults: some(256, 60),
+    };
+    named.faults[..16].fill(String::new());
+    named
 }
 
 /// A drawing by these names.
@@ -255,7 +260,9 @@ fn by_names(text: &str, named: &Named) -> String {
         let lines = lines.map(|(k, name)| format!("{what} {k} {name}\n"));
         lines.collect::<String>()
     };
-    let others = declared("partner", &named.partners) + &declared("operation", &named.operations);
+    let others = declared("partner", &named.partners)
+        + &declared("operation", &named.operations)
+        + &declared("fault", &named.faults);
     let mut out = String::new();
     let mut others = Some(others);
     let mut scopes = named.scopes.iter();
@@ -275,6 +282,7 @@ fn by_names(text: &str, named: &Named) -> String {
             let list = match (before, word.strip_prefix('v')) {
                 ("partner", _) => Some((&named.partners, word)),
                 ("operation", _) => Some((&named.operations, word)),
+                ("raise" | "part", _) => Some((&named.faults, word)),
                 (_, Some(number)) => Some((&named.variables, number)),
                 _ => None,
             };
@@ -728,7 +736,7 @@ fn main() {
 
 /// The lines in front of a drawing.
 fn declarations(text: &str) -> String {
-    let words = ["variable ", "partner ", "operation "];
+    let words = ["variable ", "partner ", "operation ", "fault "];
     let lines = text
         .lines()
         .filter(|line| words.iter().any(|word| line.starts_with(word)));
@@ -742,6 +750,7 @@ fn names_of(text: &str) -> Named {
         partners: vec![String::new(); 64],
         operations: vec![String::new(); 64],
         scopes: Vec::new(),
+        faults: vec![String::new(); 256],
     };
     for line in text.lines() {
         let bare = line.split('#').next().expect("a line");
@@ -755,6 +764,9 @@ fn names_of(text: &str) -> Named {
             }
             ["operation", number, name, ..] => {
                 named.operations[number.parse::<usize>().expect("a number")] = name.to_string()
+            }
+            ["fault", number, name, ..] if number.parse::<usize>().is_ok() => {
+                named.faults[number.parse::<usize>().expect("a number")] = name.to_string()
             }
             _ => {}
         }

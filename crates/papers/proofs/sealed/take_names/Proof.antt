@@ -9,7 +9,7 @@ abbrev Inv-loop : tie.InvT-loop
 Inv-loop file names₀ start i₀ names i = Unit {0}
 
 abbrev μ-loop : tie.MeasureT-loop
-μ-loop file names₀ start i₀ names i = 8976 - i
+μ-loop file names₀ start i₀ names i = 16896 - i
 
 pub take-names-spec : {M : Type 1} → statement M
 take-names-spec =

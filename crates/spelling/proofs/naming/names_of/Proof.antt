@@ -8,7 +8,7 @@ abbrev Inv-loop : tie.InvT-loop
 Inv-loop s names₀ stop place₀ names place = Unit {0}
 
 abbrev μ-loop : tie.MeasureT-loop
-μ-loop s names₀ stop place₀ names place = 272 - place
+μ-loop s names₀ stop place₀ names place = 512 - place
 
 pub names-of-spec : {M : Type 1} → statement M
 names-of-spec =
