@@ -193,12 +193,7 @@ fn put_all_named(
     at
 }
 
-fn put_all_faults(
-    out: &mut [u8; 4096],
-    used: usize,
-    names: &[u8; 16896],
-    word: &[u8],
-) -> usize {
+fn put_all_faults(out: &mut [u8; 4096], used: usize, names: &[u8; 16896], word: &[u8]) -> usize {
     let mut at = used;
     let mut k = 16;
     while k < 256 {
