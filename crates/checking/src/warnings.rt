@@ -10,10 +10,10 @@ use super::sending::never_leaves;
 use super::swallowing::swallows;
 use super::undoing::forgets;
 use super::undoing::loses;
+use drawing::number_at;
 use drawing::put;
 use drawing::put_activity;
 use drawing::put_byte;
-use drawing::number_at;
 use drawing::put_fault_name;
 use drawing::put_next;
 use drawing::put_pair;
@@ -89,7 +89,11 @@ fn put_rival(out: &mut [u8; 4096], used: usize, j: usize) -> usize {
 fn put_never_runs(out: &mut [u8; 4096], used: usize, names: &[u8; 16896], number: u32) -> usize {
     let mut at = put(out, used, b"its fault part ");
     at = put_fault_name(out, at, names, b"", number);
-    put(out, at, b" never runs: no raise in its body has that number")
+    put(
+        out,
+        at,
+        b" never runs: no raise in its body has that number",
+    )
 }
 
 fn put_words(

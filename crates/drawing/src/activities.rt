@@ -262,7 +262,13 @@ pub fn put_activity(
         kind::SEQUENCE => put(out, used, b"sequence"),
         kind::FLOW => put(out, used, b"flow"),
         kind::PICK => put(out, used, b"pick"),
-        kind::SCOPE | kind::OPEN_SCOPE | kind::NUMBERED_SCOPE => put_named_scope(out, used, names, table, n),
+        kind::SCOPE | kind::OPEN_SCOPE | kind::NUMBERED_SCOPE => put_named_scope(
+            out,
+            used,
+            names,
+            table,
+            n,
+        ),
         kind::ARM => put_exchange(
             out,
             used,

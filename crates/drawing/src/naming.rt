@@ -193,11 +193,11 @@ fn put_all_named(
     at
 }
 
-fn put_all_faults(out: &mut [u8; 4096], used: usize, names: &[u8; 16896]) -> usize {
+fn put_all_faults(out: &mut [u8; 4096], used: usize, names: &[u8; 16896], word: &[u8]) -> usize {
     let mut at = used;
     let mut k = 16;
     while k < 256 {
-        at = put_named(out, at, names, b"fault", fault_place(k), k as u64);
+        at = put_named(out, at, names, word, fault_place(k), k as u64);
         k += 1;
     }
     at
@@ -214,5 +214,5 @@ pub fn put_names(
     let mut at = put_variables(out, used, names, correlation, variables);
     at = put_all_named(out, at, names, b"partner", 16);
     at = put_all_named(out, at, names, b"operation", 80);
-    put_all_faults(out, at, names)
+    put_all_faults(out, at, names, b"fault")
 }

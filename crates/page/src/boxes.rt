@@ -175,7 +175,13 @@ fn put_box(
 }
 
 // How wide a drawing must be for row n.
-fn width_for(names: &[u8; 16896], table: &Table, flags: &[u8; 16], order: Order, n: usize) -> usize {
+fn width_for(
+    names: &[u8; 16896],
+    table: &Table,
+    flags: &[u8; 16],
+    order: Order,
+    n: usize,
+) -> usize {
     let mut out = measure();
     let label = put_label(&mut out, 0, names, table, flags, n);
     let state = put_state(&mut out, 0, doing::doing_of(table, order, n), order, n);

@@ -65,7 +65,13 @@ fn put_refused(drawn: bool, number: u32, place: usize, out: &mut [u8; 4096], use
     put_pair(out, used, b"names", number as u64, place as u64)
 }
 
-fn put_draw(s: &[u8], names: &[u8; 16896], drawn: bool, out: &mut [u8; 4096], used: usize) -> usize {
+fn put_draw(
+    s: &[u8],
+    names: &[u8; 16896],
+    drawn: bool,
+    out: &mut [u8; 4096],
+    used: usize,
+) -> usize {
     let mut table = [0u32; LENGTH];
     let mut correlation = [0u8; 16];
     let a = plan::accept(s, &mut table, &mut correlation);

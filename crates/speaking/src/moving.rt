@@ -64,7 +64,13 @@ fn put_taken(
     }
 }
 
-fn put_told(out: &mut [u8; 4096], used: usize, names: &[u8; 16896], state: State, x: Step) -> usize {
+fn put_told(
+    out: &mut [u8; 4096],
+    used: usize,
+    names: &[u8; 16896],
+    state: State,
+    x: Step,
+) -> usize {
     let mut at = unended(out, used);
     if x.refusal != 0 {
         return put_refused(out, at, x.refusal);
@@ -115,7 +121,13 @@ fn choice_at(choices: &[usize; 1000], i: usize) -> usize {
 }
 
 // One step more of a run, told; the state after it.
-fn put_turn(out: &mut [u8; 4096], used: usize, names: &[u8; 16896], state: State, x: Step) -> usize {
+fn put_turn(
+    out: &mut [u8; 4096],
+    used: usize,
+    names: &[u8; 16896],
+    state: State,
+    x: Step,
+) -> usize {
     let mut at = put(out, used, b"  ");
     at = put_taken(out, at, names, state, x);
     put_byte(out, at, 10)

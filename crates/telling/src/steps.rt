@@ -35,13 +35,7 @@ fn put_ended_by(
 }
 
 // How an order ended, if it did, and by which fault, where it was by one.
-fn put_end(
-    out: &mut [u8; 4096],
-    used: usize,
-    names: &[u8; 16896],
-    end: End,
-    fault: u8,
-) -> usize {
+fn put_end(out: &mut [u8; 4096], used: usize, names: &[u8; 16896], end: End, fault: u8) -> usize {
     match end {
         End::None => used,
         End::Well => put(out, used, b"; it ended well"),

@@ -5,10 +5,10 @@ use Rattle.drawing.proofs.naming.put_all_faults.Statement.{statement}
 use Rattle.drawing.proofs.naming.put_all_faults.Tie as tie
 
 abbrev Inv-loop : tie.InvT-loop
-Inv-loop out₀ used names at₀ k₀ out at k = Unit {0}
+Inv-loop out₀ used names word at₀ k₀ out at k = Unit {0}
 
 abbrev μ-loop : tie.MeasureT-loop
-μ-loop out₀ used names at₀ k₀ out at k = 256 - k
+μ-loop out₀ used names word at₀ k₀ out at k = 256 - k
 
 pub put-all-faults-spec : {M : Type 1} → statement M
 put-all-faults-spec =
