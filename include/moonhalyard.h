@@ -50,7 +50,7 @@ enum moonhalyard_refusal {
     MOONHALYARD_NO_STATE = 17,     /* state without an accepted plan, or with a number outside its limit; or bytes that hold no state */
     MOONHALYARD_ROOM = 18,         /* too little room, or too much (load); or buffers that overlap */
     MOONHALYARD_DISAGREE = 21,     /* receives that disagree: a count that differs from an earlier one for the same partner and operation */
-    MOONHALYARD_TEXT = 32          /* moonhalyard_text: 32 and the number of a reason, 33 to 58 */
+    MOONHALYARD_TEXT = 32          /* moonhalyard_text: 32 and the number of a reason, 33 to 60 */
 };
 
 /* A refusal in words, without a full stop, for people to read; never NULL. */
@@ -254,7 +254,7 @@ uint32_t moonhalyard_run(uint8_t *state, size_t size, const uint64_t *choices, s
 uint32_t moonhalyard_tell(uint8_t *state, size_t size, const uint64_t *choices, size_t many, uint64_t *budget, uint64_t *told, size_t room);
 
 /* Writes the plan that a text says (docs/DESK.md, "A plan as text") into the front of `plan`. The answer is how many bytes it has; or the refusal times
-   2^32, and the line in trouble, counted from 1: 33 to 58 where the text is wrong there, or what moonhalyard_write refuses, whose row is told by its line
+   2^32, and the line in trouble, counted from 1: 33 to 60 where the text is wrong there, or what moonhalyard_write refuses, whose row is told by its line
    (for 1 and 18 that of the first row). A refused text changes nothing in `plan`, and bytes behind the plan never change. Takes up to 512 KiB of stack. */
 uint64_t moonhalyard_text(const uint8_t *text, size_t n, uint8_t *plan, size_t room);
 

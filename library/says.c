@@ -28,7 +28,7 @@ static const char *const refusals[] = {
 };
 
 static const char *const reasons[] = {
-    "expected 'variable NAME', 'variable NAME (correlation)', 'partner NUMBER NAME' or 'operation NUMBER NAME'",
+    "expected 'variable NAME', 'variable NAME (correlation)', 'partner NUMBER NAME', 'operation NUMBER NAME', 'fault NUMBER NAME' or 'constant NAME NUMBER'",
     "another has this name",
     "partners and operations are 0 to 63",
     "a plan has at most 16 variables",
@@ -36,9 +36,9 @@ static const char *const reasons[] = {
     "no such activity",
     "expected 'partner P, operation O: V, ..'",
     "no such name",
-    "expected an expression: a number, a variable, or two operands with + - = or < between them, parentheses around an operand that has two",
+    "expected an expression: numbers, variables and constants, with + - = != < <= > >= 'and' 'or' 'not' and parentheses",
     "numbers are 0 to 4294967295",
-    "more than 31 parentheses within one another",
+    "more than 64 operations and parentheses within one another",
     "the text has more than a plan can hold",
     "the variable is not for correlation",
     "expected the indentation of a line before it, or two, four, .. blanks more than the activity that it stands in",
@@ -46,7 +46,7 @@ static const char *const reasons[] = {
     "arms stand in a pick, and nothing else does",
     "expected another part: root body, root fault part; of a scope body, fault part, undo part; of a choose then, else",
     "more than 63 activities within one another",
-    "a part is missing: the root and a choose have 2, a scope 2 or 3, a repeat and an arm 1",
+    "a part is missing: the root and a choose have 2, a scope 2 or 3, one with fault parts by number all of them, a repeat and an arm 1",
     "the text has no activity",
     "a tab stands in it, where blanks may",
     "a name has at most 32 characters",
@@ -54,6 +54,8 @@ static const char *const reasons[] = {
     "expected 'set V to E'",
     "nothing stands behind this word",
     "expected 'arm: receive from partner P, operation O: V, ..'",
+    "'and', 'or' and 'not' are words of expressions",
+    "faults with a name are 16 to 255",
 };
 
 const char *moonhalyard_says(uint32_t refusal)

@@ -66,7 +66,7 @@ static void words(void)
     same(moonhalyard_version(), MOONHALYARD_VERSION);
     same(strcmp(moonhalyard_says(MOONHALYARD_FULL), "64 messages wait already"), 0);
     for (uint32_t i = 0; i < 70; i++) {
-        int known = i <= MOONHALYARD_ROOM || i == MOONHALYARD_DISAGREE || (i > MOONHALYARD_TEXT && i <= MOONHALYARD_TEXT + 26);
+        int known = i <= MOONHALYARD_ROOM || i == MOONHALYARD_DISAGREE || (i > MOONHALYARD_TEXT && i <= MOONHALYARD_TEXT + 27);
         same(strcmp(moonhalyard_says(i), "unknown refusal") != 0, known);
     }
     same(strcmp(moonhalyard_says(UINT32_MAX), "unknown refusal"), 0);
@@ -117,7 +117,7 @@ static void offsets(void)
     same(memcmp(state, MOONHALYARD_MARK, 8), 0);
     same(moonhalyard_long(state + MOONHALYARD_PLAN_LENGTH), plan_length);
     same(memcmp(state + MOONHALYARD_PLAN, plan, plan_length), 0);
-    same(moonhalyard_post(state, sizeof state, 0, 0, 2, 7, 40, 0, 0), 0);
+    same(moonhalyard_post(state, sizeof state, 0, 0, 3, 101, 7, 40, 0), 0);
     same(moonhalyard_post(state, sizeof state, 63, 62, 4, 1, 2, 3, UINT32_MAX), 0);
     same(moonhalyard_long(state + MOONHALYARD_WAITING), 2);
     message = moonhalyard_message(state, 1);
@@ -131,9 +131,11 @@ static void offsets(void)
     same(order[MOONHALYARD_ORDER_ROOT], 1);
     same(order[MOONHALYARD_ORDER_BOUND], 1);
     same(order[MOONHALYARD_ORDER_BOUND + 1], 1);
-    same(order[MOONHALYARD_ORDER_BOUND + 2], 0);
-    same(moonhalyard_number(order + MOONHALYARD_ORDER_VALUES), 7);
-    same(moonhalyard_number(order + MOONHALYARD_ORDER_VALUES + 4), 40);
+    same(order[MOONHALYARD_ORDER_BOUND + 2], 1);
+    same(order[MOONHALYARD_ORDER_BOUND + 3], 0);
+    same(moonhalyard_number(order + MOONHALYARD_ORDER_VALUES), 101);
+    same(moonhalyard_number(order + MOONHALYARD_ORDER_VALUES + 4), 7);
+    same(moonhalyard_number(order + MOONHALYARD_ORDER_VALUES + 8), 40);
     same(moonhalyard_number(state + MOONHALYARD_TALLY_STARTED), 1);
     same(moonhalyard_long(order + MOONHALYARD_ORDER_KEPT), 0);
     same(order[MOONHALYARD_ORDER_CAUSE], 0);
@@ -164,7 +166,7 @@ static void busy(uint8_t *of)
 {
     memcpy(of, state, MOONHALYARD_STATE);
     for (uint32_t i = 0; i < 12; i++) {
-        same(moonhalyard_post(of, MOONHALYARD_STATE, 0, 0, 2, 100 + i / 2, 40, 0, 0), 0);
+        same(moonhalyard_post(of, MOONHALYARD_STATE, 0, 0, 3, 100 + i / 2, 7, 40, 0), 0);
         if (i % 3 == 0)
             same(moonhalyard_step_refusal(moonhalyard_step(of, MOONHALYARD_STATE, 0)), 0);
     }

@@ -97,11 +97,11 @@ pub fn sample() -> Vec<Vec<u8>> {
     let mut state = loaded(&plan);
     let mut states = Vec::new();
     let answers = [
-        message(0, 0, &[5, 3]),
-        message(1, 2, &[5, 1]),
-        message(2, 4, &[5]),
-        message(3, 7, &[5]),
-        message(4, 10, &[5]),
+        message(0, 0, &[101, 5, 3]),
+        message(1, 2, &[101, 5, 1]),
+        message(2, 4, &[101]),
+        message(3, 7, &[101]),
+        message(4, 10, &[101]),
     ];
     let mut answers = answers.into_iter();
     loop {

@@ -1,6 +1,6 @@
 //! The model of a plan as text: declarations, and then the drawing (docs/DESK.md).
 //!
-//! It shares no code with the crate sheet and goes about it otherwise, by tokens. It was written with that crate in view, so that on points the page
+//! It shares no code with the crates sheet and spelling and goes about it otherwise, by tokens. It was written with these in view, so that on points the page
 //! leaves open the agreement of the two is no second opinion.
 
 use crate::rows::{self, row};
@@ -18,8 +18,10 @@ pub enum Wrong {
 enum Token<'a> {
     Word(&'a [u8]),
     Mark(u8),
+    /// `<=`, `>=` or `!=`, by the first of the two.
+    Pair(u8),
 }
-use Token::{Mark, Word};
+use Token::{Mark, Pair, Word};
 
 /// A line without its comment.
 fn bare(line: &[u8]) -> &[u8] {
@@ -42,6 +44,10 @@ fn tokens(line: &[u8]) -> Option<Vec<(usize, Token<'_>)>> {
                     at += 1;
                 }
                 tokens.push((from, Word(&line[from..at])));
+            }
+            b @ (b'<' | b'>' | b'!') if line.get(at + 1) == Some(&b'=') => {
+                tokens.push((at, Pair(b)));
+                at += 2;
             }
             b => {
                 tokens.push((at, Mark(b)));
@@ -76,6 +82,14 @@ struct Names<'a> {
     variables: Vec<(&'a [u8], bool)>,
     partners: Vec<(&'a [u8], u32)>,
     operations: Vec<(&'a [u8], u32)>,
+    constants: Vec<(&'a [u8], u32)>,
+    faults: Vec<(&'a [u8], u32)>,
+    scopes: Vec<&'a [u8]>,
+}
+
+/// The words of expressions, which are no names there.
+fn is_reserved(word: &[u8]) -> bool {
+    matches!(word, b"and" | b"or" | b"not")
 }
 
 impl<'a> Names<'a> {
@@ -92,20 +106,33 @@ impl<'a> Names<'a> {
                 let fits = is_name(name)
                     && name.len() <= 32
                     && count < 16
+                    && !is_reserved(name)
                     && self.variables.iter().all(|(other, _)| other != name)
+                    && self.constants.iter().all(|(other, _)| other != name)
                     && plain(name).is_none_or(|number| number as usize == count);
                 fits.then(|| self.variables.push((name, marked)))
             }
+            [Word(b"constant"), Word(name), Word(number)] => {
+                let number = decimal(number)?;
+                let fits = is_name(name)
+                    && name.len() <= 32
+                    && !is_reserved(name)
+                    && plain(name).is_none()
+                    && self.variables.iter().all(|(other, _)| other != name)
+                    && self.constants.iter().all(|(other, _)| other != name);
+                fits.then(|| self.constants.push((name, number)))
+            }
             [Word(what), Word(number), Word(name)] => {
-                let list = match *what {
-                    b"partner" => &mut self.partners,
-                    b"operation" => &mut self.operations,
+                let (list, numbers) = match *what {
+                    b"partner" => (&mut self.partners, 0..64),
+                    b"operation" => (&mut self.operations, 0..64),
+                    b"fault" => (&mut self.faults, 16..256),
                     _ => return None,
                 };
                 let number = decimal(number)?;
                 let fits = is_name(name)
                     && name.len() <= 32
-                    && number < 64
+                    && numbers.contains(&number)
                     && list.iter().all(|(n, k)| n != name && *k != number);
                 fits.then(|| list.push((name, number)))
             }
@@ -129,51 +156,169 @@ impl<'a> Names<'a> {
     }
 }
 
-/// An operand: a number, a variable or what stands in parentheses. Gives what follows.
-fn operand<'a, 't>(
-    names: &Names,
-    tokens: &'t [Token<'a>],
-    inside: usize,
-    out: &mut Vec<Vec<u32>>,
-) -> Option<&'t [Token<'a>]> {
-    match tokens {
-        [Mark(b'('), rest @ ..] if inside < 31 => match expression(names, rest, inside + 1, out)? {
-            [Mark(b')'), rest @ ..] => Some(rest),
-            _ => None,
-        },
-        [Word(word), rest @ ..] => {
-            if is_name(word) {
-                out.push(vec![1, names.variable(word)?]);
-            } else {
-                out.push(vec![0, decimal(word)?]);
+/// An expression, as the bytes can say it.
+#[derive(Clone, Debug, PartialEq, Eq)]
+pub enum Exp {
+    Constant(u32),
+    Variable(u32),
+    /// A code, 2 to 5, and two operands.
+    Two(u32, Box<Exp>, Box<Exp>),
+}
+
+fn two(code: u32, left: Exp, right: Exp) -> Exp {
+    Exp::Two(code, Box::new(left), Box::new(right))
+}
+
+/// `E = 0`.
+fn not(e: Exp) -> Exp {
+    two(4, e, Exp::Constant(0))
+}
+
+/// A comparison, which is 0 or 1; of anything else, whether it is above 0.
+fn judged(e: Exp) -> Exp {
+    match e {
+        Exp::Two(4 | 5, ..) => e,
+        _ => two(5, Exp::Constant(0), e),
+    }
+}
+
+impl Exp {
+    /// Its rows, the operation first, then the operands.
+    fn rows(&self, out: &mut Vec<Vec<u32>>) {
+        match self {
+            Exp::Constant(value) => out.push(vec![0, *value]),
+            Exp::Variable(number) => out.push(vec![1, *number]),
+            Exp::Two(code, left, right) => {
+                out.push(vec![*code]);
+                left.rows(out);
+                right.rows(out);
             }
-            Some(rest)
         }
+    }
+
+    /// Its value where the variables have these, unless it faults.
+    pub fn value(&self, variables: &[u32]) -> Option<u32> {
+        match self {
+            Exp::Constant(value) => Some(*value),
+            Exp::Variable(number) => variables.get(*number as usize).copied(),
+            Exp::Two(code, left, right) => {
+                let (left, right) = (left.value(variables)?, right.value(variables)?);
+                match code {
+                    2 => left.checked_add(right),
+                    3 => left.checked_sub(right),
+                    4 => Some(u32::from(left == right)),
+                    _ => Some(u32::from(left < right)),
+                }
+            }
+        }
+    }
+}
+
+/// How many operations and parentheses may wait for what is read.
+const WAITING: usize = 64;
+
+type Found<'a, 't> = Option<(Exp, &'t [Token<'a>])>;
+
+/// A number, a variable, a constant, or what stands in parentheses. Gives what follows.
+fn operand<'a, 't>(names: &Names, tokens: &'t [Token<'a>], waiting: usize) -> Found<'a, 't> {
+    match tokens {
+        [Mark(b'('), rest @ ..] if waiting < WAITING => {
+            match expression(names, rest, waiting + 1)? {
+                (e, [Mark(b')'), rest @ ..]) => Some((e, rest)),
+                _ => None,
+            }
+        }
+        [Word(word), rest @ ..] if is_name(word) && !is_reserved(word) => {
+            let constant = || Names::numbered(&names.constants, word).map(Exp::Constant);
+            let e = names.variable(word).map(Exp::Variable).or_else(constant)?;
+            Some((e, rest))
+        }
+        [Word(word), rest @ ..] => Some((Exp::Constant(decimal(word)?), rest)),
         _ => None,
     }
 }
 
-fn expression<'a, 't>(
-    names: &Names,
-    tokens: &'t [Token<'a>],
-    inside: usize,
-    out: &mut Vec<Vec<u32>>,
-) -> Option<&'t [Token<'a>]> {
-    let mut left = Vec::new();
-    let rest = operand(names, tokens, inside, &mut left)?;
-    let code = match rest {
-        [Mark(b'+'), ..] => 2,
-        [Mark(b'-'), ..] => 3,
-        [Mark(b'='), ..] => 4,
-        [Mark(b'<'), ..] => 5,
-        _ => {
-            out.append(&mut left);
-            return Some(rest);
+/// Sums and differences, from the left.
+fn sum<'a, 't>(names: &Names, tokens: &'t [Token<'a>], waiting: usize) -> Found<'a, 't> {
+    let (mut e, mut rest) = operand(names, tokens, waiting)?;
+    while let [Mark(mark @ (b'+' | b'-')), behind @ ..] = rest {
+        if waiting >= WAITING {
+            return None;
         }
+        let (right, behind) = operand(names, behind, waiting + 1)?;
+        e = two(if *mark == b'+' { 2 } else { 3 }, e, right);
+        rest = behind;
+    }
+    Some((e, rest))
+}
+
+/// One comparison, or none.
+fn comparison<'a, 't>(names: &Names, tokens: &'t [Token<'a>], waiting: usize) -> Found<'a, 't> {
+    let (left, rest) = sum(names, tokens, waiting)?;
+    let [mark @ (Mark(b'=' | b'<' | b'>') | Pair(_)), behind @ ..] = rest else {
+        return Some((left, rest));
     };
-    out.push(vec![code]);
-    out.append(&mut left);
-    operand(names, &rest[1..], inside, out)
+    if waiting >= WAITING {
+        return None;
+    }
+    let (right, rest) = sum(names, behind, waiting + 1)?;
+    if let [Mark(b'=' | b'<' | b'>') | Pair(_), ..] = rest {
+        return None;
+    }
+    let e = match mark {
+        Mark(b'=') => two(4, left, right),
+        Mark(b'<') => two(5, left, right),
+        Mark(_) => two(5, right, left),
+        Pair(b'<') => not(two(5, right, left)),
+        Pair(b'>') => not(two(5, left, right)),
+        _ => not(two(4, left, right)),
+    };
+    Some((e, rest))
+}
+
+fn negation<'a, 't>(names: &Names, tokens: &'t [Token<'a>], waiting: usize) -> Found<'a, 't> {
+    match tokens {
+        [Word(b"not"), rest @ ..] if waiting < WAITING => {
+            let (e, rest) = negation(names, rest, waiting + 1)?;
+            Some((not(e), rest))
+        }
+        _ => comparison(names, tokens, waiting),
+    }
+}
+
+/// `and`s, from the right: 1 where neither is 0.
+fn conjunction<'a, 't>(names: &Names, tokens: &'t [Token<'a>], waiting: usize) -> Found<'a, 't> {
+    match negation(names, tokens, waiting)? {
+        (left, [Word(b"and"), rest @ ..]) if waiting < WAITING => {
+            let (right, rest) = conjunction(names, rest, waiting + 1)?;
+            Some((two(5, not(left), judged(right)), rest))
+        }
+        (_, [Word(b"and"), ..]) => None,
+        found => Some(found),
+    }
+}
+
+/// `or`s, from the right: 1 where one is not 0.
+fn expression<'a, 't>(names: &Names, tokens: &'t [Token<'a>], waiting: usize) -> Found<'a, 't> {
+    match conjunction(names, tokens, waiting)? {
+        (left, [Word(b"or"), rest @ ..]) if waiting < WAITING => {
+            let (right, rest) = expression(names, rest, waiting + 1)?;
+            let sum = two(2, judged(left), judged(right));
+            Some((two(5, Exp::Constant(0), sum), rest))
+        }
+        (_, [Word(b"or"), ..]) => None,
+        found => Some(found),
+    }
+}
+
+/// The expression that a text says, its variables as v0, v1, ..
+pub fn expression_of(text: &str) -> Option<Exp> {
+    let tokens = tokens(text.as_bytes())?;
+    let tokens: Vec<Token> = tokens.iter().map(|(_, token)| *token).collect();
+    match expression(&Names::default(), &tokens, 0)? {
+        (e, []) => Some(e),
+        _ => None,
+    }
 }
 
 /// `partner P, operation O: V, ..` to the end of the line.
@@ -229,8 +374,11 @@ const SCOPE: u32 = 12;
 fn activity(names: &Names, tokens: &[Token]) -> Option<(u32, Vec<Vec<u32>>)> {
     let judged = |code: u32, front: Vec<u32>, tokens: &[Token]| {
         let mut rows = vec![front];
-        match expression(names, tokens, 0, &mut rows)? {
-            [] => Some((code, rows)),
+        match expression(names, tokens, 0)? {
+            (e, []) => {
+                e.rows(&mut rows);
+                Some((code, rows))
+            }
             _ => None,
         }
     };
@@ -249,9 +397,16 @@ fn activity(names: &Names, tokens: &[Token]) -> Option<(u32, Vec<Vec<u32>>)> {
         [Word(b"set"), Word(word), Word(b"to"), rest @ ..] => {
             judged(3, vec![3, names.variable(word)?], rest)
         }
-        [Word(b"raise"), Word(number)] => Some((13, vec![vec![13, decimal(number)?]])),
+        [Word(b"raise"), Word(word)] => {
+            let number = Names::numbered(&names.faults, word)?;
+            Some((13, vec![vec![13, number]]))
+        }
         [Word(b"choose"), Word(b"by"), rest @ ..] => judged(6, vec![6], rest),
         [Word(b"repeat"), Word(b"while"), rest @ ..] => judged(7, vec![7], rest),
+        [Word(b"scope"), Word(name)] => {
+            let fits = is_name(name) && name.len() <= 32 && !names.scopes.contains(name);
+            fits.then(|| (SCOPE, vec![vec![SCOPE]]))
+        }
         [Word(word)] => {
             let code = match *word {
                 b"empty" => 0,
@@ -357,10 +512,10 @@ impl Drawing {
         Ok(())
     }
 
-    fn line(
+    fn line<'a>(
         &mut self,
-        names: &Names,
-        mut tokens: &[(usize, Token)],
+        names: &mut Names<'a>,
+        mut tokens: &[(usize, Token<'a>)],
         end: usize,
         line: usize,
     ) -> Result<(), Wrong> {
@@ -377,7 +532,7 @@ impl Drawing {
         };
         let column = *column;
         self.close(column)?;
-        let mut rest: Vec<Token> = tokens.iter().map(|(_, token)| *token).collect();
+        let mut rest: Vec<Token<'a>> = tokens.iter().map(|(_, token)| *token).collect();
         let outer = self.levels.last().expect("the root");
         let mut part: Vec<Token> = outer.part().iter().map(|word| Word(word)).collect();
         part.push(Mark(b':'));
@@ -388,7 +543,7 @@ impl Drawing {
         if let [Word(b"fault"), Word(b"part"), Word(word), Mark(b':'), ..] = rest[..]
             && behind
         {
-            number = Some(decimal(word).ok_or(wrong)?);
+            number = Some(Names::numbered(&names.faults, word).ok_or(wrong)?);
             rest.drain(..4);
         } else if part.len() > 1 && rest.starts_with(&part) {
             rest.drain(..part.len());
@@ -396,7 +551,9 @@ impl Drawing {
             return Err(wrong);
         }
         let (kind, rows) = activity(names, &rest).ok_or(wrong)?;
-        let at = self.rows.len();
+        if let [Word(b"scope"), Word(name)] = rest[..] {
+            names.scopes.push(name);
+        }
         let depth = self.levels.len();
         let outer = self.levels.last_mut().expect("the root");
         let aligned = if outer.within > 0 {
@@ -415,11 +572,12 @@ impl Drawing {
             (8..=10, within, _) => row[1] = within as u32,
             (SCOPE, _, Some(number)) => {
                 row[0] = 14;
-                outer.numbered += 1;
-                if outer.numbered == 1 {
-                    outer.counted = at;
+                // The count of these parts, and the number of each, have rows of their own.
+                if outer.numbered == 0 {
+                    outer.counted = self.rows.len();
                     self.rows.push(vec![0]);
                 }
+                outer.numbered += 1;
                 self.rows[outer.counted][0] = outer.numbered as u32;
                 self.rows.push(vec![number]);
             }
@@ -446,6 +604,23 @@ impl Drawing {
     }
 }
 
+/// Whether a line that starts with `fault` declares one, and is no part of a scope.
+fn names_fault(tokens: &[Token]) -> bool {
+    match tokens {
+        [_, Word(b"part"), ..] | [_, Word(_), Mark(b':'), ..] => false,
+        [Word(b"fault"), Word(_), ..] => true,
+        _ => false,
+    }
+}
+
+/// Whether a line is a declaration, right or wrong.
+fn is_declaration(tokens: &[Token]) -> bool {
+    match tokens {
+        [Word(b"variable" | b"partner" | b"operation" | b"constant"), ..] => true,
+        _ => names_fault(tokens),
+    }
+}
+
 /// The bytes of the plan that a text says.
 pub fn read(text: &[u8]) -> Result<Vec<u8>, Wrong> {
     let mut names = Names::default();
@@ -460,18 +635,18 @@ pub fn read(text: &[u8]) -> Result<Vec<u8>, Wrong> {
         let wrong = Wrong::Line(count);
         let line = bare(line);
         let tokens = tokens(line).ok_or(wrong)?;
+        let bare: Vec<Token> = tokens.iter().map(|(_, token)| *token).collect();
         match tokens.first() {
             None => {}
-            Some((_, Word(b"variable" | b"partner" | b"operation"))) => {
-                let tokens: Vec<Token> = tokens.iter().map(|(_, token)| *token).collect();
+            Some(_) if is_declaration(&bare) => {
                 if drawing.is_some() {
                     return Err(wrong);
                 }
-                names.declare(&tokens).ok_or(wrong)?;
+                names.declare(&bare).ok_or(wrong)?;
             }
             Some(_) => drawing
                 .get_or_insert_with(|| Drawing::begin(&names, count))
-                .line(&names, &tokens, line.len(), count)?,
+                .line(&mut names, &tokens, line.len(), count)?,
         }
     }
     let mut drawing = drawing.ok_or(Wrong::Line(count))?;
@@ -494,5 +669,44 @@ pub fn read(text: &[u8]) -> Result<Vec<u8>, Wrong> {
             refusal.number,
             drawing.lines[refusal.place as usize],
         )),
+    }
+}
+
+#[cfg(test)]
+mod tests {
+    use super::expression_of;
+
+    /// What a spelling must be, by the two values.
+    type Meant = fn(u32, u32) -> bool;
+
+    #[test]
+    fn spellings_mean_what_they_say_for_every_value() {
+        let spellings: [(&str, Meant); 11] = [
+            ("v0 and v1", |a, b| a != 0 && b != 0),
+            ("v0 or v1", |a, b| a != 0 || b != 0),
+            ("not v0", |a, _| a == 0),
+            ("v0 > v1", |a, b| a > b),
+            ("v0 <= v1", |a, b| a <= b),
+            ("v0 >= v1", |a, b| a >= b),
+            ("v0 != v1", |a, b| a != b),
+            ("not v0 = v1", |a, b| a != b),
+            ("v0 and not v1 or v1 < v0", |a, b| {
+                (a != 0 && b == 0) || b < a
+            }),
+            ("v0 = 1 or v1 = 2 or v0 and v1 and v0 != v1", |a, b| {
+                a == 1 || b == 2 || (a != 0 && b != 0 && a != b)
+            }),
+            ("not (v0 or v1) and v0 <= v1", |a, b| a == 0 && b == 0),
+        ];
+        let values = [0, 1, 2, 3, u32::MAX - 1, u32::MAX];
+        for (text, meant) in spellings {
+            let e = expression_of(text).expect(text);
+            for a in values {
+                for b in values {
+                    let wanted = Some(u32::from(meant(a, b)));
+                    assert_eq!(e.value(&[a, b]), wanted, "{text} of {a} and {b}");
+                }
+            }
+        }
     }
 }

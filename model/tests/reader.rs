@@ -248,8 +248,8 @@ fn plans_as_text() {
     assert_eq!(text::read(cut.as_bytes()), Err(Wrong::Line(3)));
     let empty = "variable a\nempty\nempty";
     assert_eq!(text::read(empty.as_bytes()), Err(Wrong::Refused(7, 2)));
-    // the sample plan, as it was in bytes before it was a text
-    let sample = "010401000807020000020001010b010100020102020002060401020000040009020b0802010c03020001020204010000010c050200010b0802010d06020001020307010000010d080100010e090200010a02040a0100010a0b0100040c02000304010a0d0100";
+    // the sample plan, as the desk writes it in the story
+    let sample = "0105020001080702000003000102010b0102000102010203000103060401030000040009020b0802010c0303000102020204010004010c05030001020b0802010d06020002020307010004010d080100010e090200020a02040a0100010a0b0100040c02000404010a0d0100";
     assert_eq!(
         text::read(model::fullest::SAMPLE.as_bytes()).ok(),
         vectors::bytes(sample)

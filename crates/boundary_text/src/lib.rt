@@ -56,7 +56,11 @@ pub extern "C" fn moonhalyard_text(text: &[u8], plan: &mut [u8]) -> u64 {
     let r = sheet::read(text, &mut rows, &mut lines);
     match r {
         Sheet::Rows { length } => written(&rows, length, &lines, plan),
-        Sheet::Wrong { line, reason } => pair_of((reason as u64) % 4096 + 32, line as u64),
+        Sheet::Wrong {
+            line,
+            reason,
+            place: _,
+        } => pair_of((reason as u64) % 4096 + 32, line as u64),
     }
 }
 

@@ -1,14 +1,16 @@
-// A save with care, for a desk that speaks to a person: what has the name of the file is looked at first, and stays beside it as FILE.old.
+// Files with care, for a desk that speaks to a person: what has the name of the file is looked at first, and stays beside it as FILE.old.
 mod ordinary;
+mod paging;
 mod retaining;
 
 use drawing::put_error;
 use ordinary::Kind;
+pub use paging::page;
 use papers::Desk;
 use papers::failed;
 
-// A save that is not made, and why.
-fn not_saved(desk: Desk, number: u64, why: &[u8], out: &mut [u8; 4096]) -> Desk {
+// What is not done, and why.
+fn not_done(desk: Desk, number: u64, why: &[u8], out: &mut [u8; 4096]) -> Desk {
     let used = put_error(out, desk.used, number, why);
     failed(desk, used)
 }
@@ -32,11 +34,11 @@ fn replacing(
     desk: Desk,
     file: &[u8],
     number: u64,
-    names: &[u8; 4752],
+    names: &[u8; 16896],
     out: &mut [u8; 4096],
 ) -> Desk {
     if is_anothers(desk, file) {
-        return not_saved(
+        return not_done(
             desk,
             number,
             b"cannot save: another desk has saved it since: say save! to replace it",
@@ -51,7 +53,7 @@ fn replaced(
     desk: Desk,
     file: &[u8],
     number: u64,
-    names: &[u8; 4752],
+    names: &[u8; 16896],
     out: &mut [u8; 4096],
 ) -> Desk {
     let e = retaining::retained(file);
@@ -67,13 +69,13 @@ fn over_plan(
     desk: Desk,
     file: &[u8],
     number: u64,
-    names: &[u8; 4752],
+    names: &[u8; 16896],
     out: &mut [u8; 4096],
 ) -> Desk {
     let state = desk.state;
     if state.length == 0 {
         if !desk.bold {
-            return not_saved(
+            return not_done(
                 desk,
                 number,
                 b"cannot save: the file has a plan, and the desk has none: say save! to replace it",
@@ -89,7 +91,7 @@ pub fn save(
     desk: Desk,
     file: &[u8],
     number: u64,
-    names: &[u8; 4752],
+    names: &[u8; 16896],
     out: &mut [u8; 4096],
 ) -> Desk {
     if !desk.spoken {
@@ -100,8 +102,8 @@ pub fn save(
         Kind::Nothing => papers::save(desk, file, number, names, out),
         Kind::Ordinary => replacing(desk, file, number, names, out),
         Kind::Plan => over_plan(desk, file, number, names, out),
-        Kind::Folder => not_saved(desk, number, b"cannot save: it is a folder", out),
-        Kind::Link => not_saved(desk, number, b"cannot save: it is a link", out),
-        Kind::Other => not_saved(desk, number, b"cannot save: it is no ordinary file", out),
+        Kind::Folder => not_done(desk, number, b"cannot save: it is a folder", out),
+        Kind::Link => not_done(desk, number, b"cannot save: it is a link", out),
+        Kind::Other => not_done(desk, number, b"cannot save: it is no ordinary file", out),
     }
 }

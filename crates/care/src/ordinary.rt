@@ -115,7 +115,7 @@ pub(crate) fn kind_of(file: &[u8]) -> Kind {
 }
 
 fn sum_in(fd: i32) -> u64 {
-    let mut packed = [0u8; 17261];
+    let mut packed = [0u8; 29405];
     let n = io::read_full(fd, &mut packed);
     libc::close(fd);
     papers::sum_of(&packed[..n])
@@ -128,4 +128,20 @@ pub(crate) fn sum_at(file: &[u8]) -> u64 {
         return 0;
     }
     sum_in(fd)
+}
+
+fn is_page_in(fd: i32) -> bool {
+    let mut front = [0u8; page::FRONT];
+    let n = io::read_full(fd, &mut front);
+    libc::close(fd);
+    page::is_front(&front[..n])
+}
+
+// Whether a file is a page of the desk.
+pub(crate) fn is_page(file: &[u8]) -> bool {
+    let fd = os::open_read(file);
+    if fd < 0 {
+        return false;
+    }
+    is_page_in(fd)
 }

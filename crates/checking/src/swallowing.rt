@@ -2,10 +2,11 @@
 use super::binding::may_lack_one;
 use super::rivals::is_contested;
 use super::uses::computes;
-use super::ways::fault_of;
 use super::ways::part_in;
 use drawing::after;
 use drawing::entry;
+use drawing::fault_of;
+use drawing::general_of;
 use drawing::is_scope;
 use drawing::scope_of;
 use plan::kind;
@@ -34,7 +35,7 @@ fn may_fault(table: &Table, n: usize) -> bool {
     may_lack_one(table, n)
 }
 
-// Whether a fault of activity n faults scope s: n stands in its body, or in the fault part of a scope there.
+// Whether a fault of activity n faults scope s: n stands in its body, or in a fault part of a scope there.
 fn reaches(table: &Table, s: usize, n: usize) -> bool {
     let inner = scope_of(table, n);
     if inner == s {
@@ -66,10 +67,10 @@ fn may_be_faulted(table: &Table, s: usize) -> bool {
     false
 }
 
-// Whether activity s is a scope that may fault, and whose fault part is empty.
+// Whether activity s is a scope that may fault, and whose fault part, the general one, is empty.
 pub(crate) fn swallows(table: &Table, s: usize) -> bool {
     if is_scope(entry(table, s, KIND)) {
-        if entry(table, fault_of(table, s), KIND) == kind::EMPTY {
+        if entry(table, general_of(table, s), KIND) == kind::EMPTY {
             return may_be_faulted(table, s);
         }
     }

@@ -3,22 +3,23 @@ use super::uses::binds;
 use super::uses::is_bound_within;
 use super::uses::is_used_within;
 use super::ways::around;
-use super::ways::fault_of;
 use super::ways::is_within;
 use super::ways::keeper_of;
 use super::ways::part_in;
 use super::ways::repeats;
-use super::ways::undo_of;
 use drawing::after;
 use drawing::end_of;
 use drawing::entry;
+use drawing::fault_of;
+use drawing::has_undo;
+use drawing::undo_of;
 use plan::kind;
 use plan::table::KIND;
 use plan::table::Table;
 
 // Whether activity t is a scope whose undo part does something, and that is remembered for scope s when that closes.
 fn is_undone_for(table: &Table, s: usize, t: usize) -> bool {
-    if entry(table, t, KIND) == kind::SCOPE {
+    if has_undo(entry(table, t, KIND)) {
         if keeper_of(table, t) == s {
             return kind::EMPTY < entry(table, undo_of(table, t), KIND);
         }
@@ -40,7 +41,7 @@ fn has_undone(table: &Table, s: usize) -> bool {
 
 // Whether activity s is a scope with an empty undo part around scopes with one: once it closes they are forgotten.
 pub(crate) fn forgets(table: &Table, s: usize) -> bool {
-    if entry(table, s, KIND) == kind::SCOPE {
+    if has_undo(entry(table, s, KIND)) {
         if entry(table, undo_of(table, s), KIND) == kind::EMPTY {
             return has_undone(table, s);
         }
@@ -133,7 +134,7 @@ fn is_for_correlation(correlation: &[u8; 16], v: u32) -> bool {
 // Whether activity s is a scope whose undo part goes by variable v, which may be set again after the scope. (A variable that is for correlation keeps
 // its value once it has one.)
 pub(crate) fn loses(table: &Table, correlation: &[u8; 16], s: usize, v: u32) -> bool {
-    if entry(table, s, KIND) == kind::SCOPE {
+    if has_undo(entry(table, s, KIND)) {
         if is_for_correlation(correlation, v) {
             return false;
         }

@@ -67,16 +67,36 @@ fn is_in_expression(table: &Table, m: usize, v: u32) -> bool {
     false
 }
 
+// Equal and less, which give 0 or 1.
+fn is_comparison(table: &Table, m: usize) -> bool {
+    let code = code_of(table, m);
+    if code == 4 {
+        return true;
+    }
+    code == 5
+}
+
+// Whether both operands of node m are comparisons: their sum is at most 2. (An `or` is such a sum.)
+fn is_of_comparisons(table: &Table, m: usize) -> bool {
+    if is_comparison(table, after(m)) {
+        return is_comparison(table, value_of(table, m) as usize);
+    }
+    false
+}
+
 // A sum may be above the range, a difference below 0.
 fn is_sum(table: &Table, m: usize) -> bool {
     let code = code_of(table, m);
     if code == 2 {
+        if is_of_comparisons(table, m) {
+            return false;
+        }
         return true;
     }
     code == 3
 }
 
-// Whether a sum or a difference stands in the expression whose first node is m.
+// Whether a sum or a difference that may fault stands in the expression whose first node is m.
 fn has_sum(table: &Table, m: usize) -> bool {
     let stop = after(last_of(table, m));
     let mut i = m;
@@ -89,7 +109,7 @@ fn has_sum(table: &Table, m: usize) -> bool {
     false
 }
 
-// Whether activity n computes a sum or a difference.
+// Whether activity n computes a sum or a difference that may fault.
 pub(crate) fn computes(table: &Table, n: usize) -> bool {
     match entry(table, n, KIND) {
         kind::SET | kind::CHOOSE | kind::REPEAT => has_sum(

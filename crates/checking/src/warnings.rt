@@ -1,5 +1,6 @@
 // The warnings in words: `warning ACTIVITY - what it is - what is wrong with it`.
 use super::binding::is_unbound;
+use super::numbering::never_runs;
 use super::reaching::is_cut_off;
 use super::reaching::is_passed_by;
 use super::rivals::is_contested;
@@ -12,12 +13,14 @@ use super::undoing::loses;
 use drawing::put;
 use drawing::put_activity;
 use drawing::put_byte;
+use drawing::number_at;
+use drawing::put_fault_name;
 use drawing::put_next;
 use drawing::put_pair;
 use drawing::put_variable;
 use plan::table::Table;
 
-// What is warned of has a number: 0 to 6, and for each of 16 variables 16 and 32 more.
+// What is warned of has a number: 0 to 6, for each of eight fault parts by number 7 more, and for each of 16 variables 16 and 32 more.
 fn is_of_variable(table: &Table, correlation: &[u8; 16], n: usize, what: u32) -> bool {
     if what < 16 {
         return false;
@@ -26,6 +29,14 @@ fn is_of_variable(table: &Table, correlation: &[u8; 16], n: usize, what: u32) ->
         return is_unbound(table, n, what - 16);
     }
     loses(table, correlation, n, what - 32)
+}
+
+// Which of the fault parts by number a warning is of.
+fn part_of(what: u32) -> usize {
+    if 6 < what {
+        return what as usize - 7;
+    }
+    0
 }
 
 // Whether activity n earns this warning.
@@ -38,11 +49,12 @@ fn is_earned(table: &Table, correlation: &[u8; 16], n: usize, what: u32) -> bool
         4 => is_cut_off(table, n),
         5 => is_passed_by(table, n),
         6 => is_contested(table, n),
+        7..=14 => never_runs(table, n, part_of(what)),
         _ => is_of_variable(table, correlation, n, what),
     }
 }
 
-fn put_variable_words(out: &mut [u8; 4096], used: usize, names: &[u8; 4752], what: u32) -> usize {
+fn put_variable_words(out: &mut [u8; 4096], used: usize, names: &[u8; 16896], what: u32) -> usize {
     if what < 16 {
         return used;
     }
@@ -73,10 +85,17 @@ fn put_rival(out: &mut [u8; 4096], used: usize, j: usize) -> usize {
     )
 }
 
+// The fault part for this number never runs.
+fn put_never_runs(out: &mut [u8; 4096], used: usize, names: &[u8; 16896], number: u32) -> usize {
+    let mut at = put(out, used, b"its fault part ");
+    at = put_fault_name(out, at, names, b"", number);
+    put(out, at, b" never runs: no raise in its body has that number")
+}
+
 fn put_words(
     out: &mut [u8; 4096],
     used: usize,
-    names: &[u8; 4752],
+    names: &[u8; 16896],
     table: &Table,
     n: usize,
     what: u32,
@@ -113,6 +132,7 @@ fn put_words(
             b"it never runs: what it stands in goes by a constant",
         ),
         6 => put_rival(out, used, rival_of(table, n)),
+        7..=14 => put_never_runs(out, used, names, number_at(table, n, part_of(what))),
         _ => put_variable_words(out, used, names, what),
     }
 }
@@ -120,7 +140,7 @@ fn put_words(
 fn put_warning(
     out: &mut [u8; 4096],
     used: usize,
-    names: &[u8; 4752],
+    names: &[u8; 16896],
     table: &Table,
     correlation: &[u8; 16],
     n: usize,
@@ -138,7 +158,7 @@ fn put_warning(
 fn put_earned(
     out: &mut [u8; 4096],
     used: usize,
-    names: &[u8; 4752],
+    names: &[u8; 16896],
     table: &Table,
     correlation: &[u8; 16],
     n: usize,
@@ -154,7 +174,7 @@ fn put_earned(
 fn put_warnings_at(
     out: &mut [u8; 4096],
     used: usize,
-    names: &[u8; 4752],
+    names: &[u8; 16896],
     table: &Table,
     correlation: &[u8; 16],
     n: usize,
@@ -172,7 +192,7 @@ fn put_warnings_at(
 pub fn put_warnings(
     out: &mut [u8; 4096],
     used: usize,
-    names: &[u8; 4752],
+    names: &[u8; 16896],
     table: &Table,
     correlation: &[u8; 16],
     activities: usize,
@@ -220,7 +240,7 @@ fn count_of(table: &Table, correlation: &[u8; 16], activities: usize) -> u64 {
 pub fn put_check(
     out: &mut [u8; 4096],
     used: usize,
-    names: &[u8; 4752],
+    names: &[u8; 16896],
     table: &Table,
     correlation: &[u8; 16],
     activities: usize,

@@ -2,6 +2,9 @@
 use drawing::after;
 use drawing::end_of;
 use drawing::entry;
+use drawing::fault_of;
+use drawing::has_undo;
+use drawing::undo_of;
 use plan::kind;
 use plan::table::KIND;
 use plan::table::Table;
@@ -53,17 +56,8 @@ pub(crate) fn repeats(table: &Table, first: usize, m: usize, n: usize) -> bool {
     false
 }
 
-// The fault part and the undo part of scope s: they stand after its body.
-pub(crate) fn fault_of(table: &Table, s: usize) -> usize {
-    end_of(table, after(s))
-}
-
-pub(crate) fn undo_of(table: &Table, s: usize) -> usize {
-    end_of(table, fault_of(table, s))
-}
-
 fn is_keeper(table: &Table, s: usize, n: usize) -> bool {
-    if entry(table, s, KIND) == kind::SCOPE {
+    if has_undo(entry(table, s, KIND)) {
         return n < end_of(table, s);
     }
     false
@@ -82,7 +76,7 @@ pub(crate) fn keeper_of(table: &Table, n: usize) -> usize {
     keeper
 }
 
-// In which part of scope s activity n stands: 0 the body, 1 the fault part, 2 the undo part.
+// In which part of scope s activity n stands: 0 the body, 1 a fault part, 2 the undo part.
 pub(crate) fn part_in(table: &Table, s: usize, n: usize) -> u32 {
     if n < fault_of(table, s) {
         return 0;
@@ -94,7 +88,7 @@ pub(crate) fn part_in(table: &Table, s: usize, n: usize) -> u32 {
 }
 
 fn is_undo_around(table: &Table, s: usize, n: usize) -> bool {
-    if entry(table, s, KIND) == kind::SCOPE {
+    if has_undo(entry(table, s, KIND)) {
         if is_within(table, s, n) {
             return part_in(table, s, n) == 2;
         }
@@ -133,7 +127,7 @@ fn comes_before(table: &Table, a: usize, m: usize, n: usize) -> bool {
     match entry(table, a, KIND) {
         kind::SEQUENCE => is_earlier(table, a, m, n),
         kind::FLOW => true,
-        kind::SCOPE | kind::OPEN_SCOPE => part_in(table, a, m) == 0,
+        kind::SCOPE | kind::OPEN_SCOPE | kind::NUMBERED_SCOPE => part_in(table, a, m) == 0,
         _ => false,
     }
 }

@@ -29,7 +29,7 @@ fn answer_alone(
     what: Alone,
     number: u64,
     bytes: &mut [u8; 8000],
-    names: &mut [u8; 4752],
+    names: &mut [u8; 16896],
     out: &mut [u8; 4096],
 ) -> Desk {
     match what {
@@ -46,7 +46,7 @@ fn answer_alone(
 }
 
 // One that changes nothing.
-fn put_alone(desk: Desk, what: Alone, names: &[u8; 4752], out: &mut [u8; 4096]) -> usize {
+fn put_alone(desk: Desk, what: Alone, names: &[u8; 16896], out: &mut [u8; 4096]) -> usize {
     let state = desk.state;
     let tally = desk.tally;
     match what {
@@ -66,7 +66,7 @@ fn answer_worded(
     word: &[u8],
     number: u64,
     bytes: &mut [u8; 8000],
-    names: &mut [u8; 4752],
+    names: &mut [u8; 16896],
     out: &mut [u8; 4096],
 ) -> Desk {
     match what {
@@ -82,7 +82,7 @@ fn answer_order(
     desk: Desk,
     slot: u32,
     number: u64,
-    names: &[u8; 4752],
+    names: &[u8; 16896],
     out: &mut [u8; 4096],
 ) -> Desk {
     if 15 < slot {
@@ -101,7 +101,7 @@ fn answer_numbered(
     k: u32,
     number: u64,
     bytes: &[u8; 8000],
-    names: &[u8; 4752],
+    names: &[u8; 16896],
     out: &mut [u8; 4096],
 ) -> Desk {
     match what {
@@ -132,7 +132,7 @@ pub fn answer(
     line: &[u8],
     number: u64,
     bytes: &mut [u8; 8000],
-    names: &mut [u8; 4752],
+    names: &mut [u8; 16896],
     out: &mut [u8; 4096],
 ) -> Desk {
     let c = commands::command_of(line);

@@ -1,10 +1,10 @@
 // The desk: the console of the engine. It reads commands from standard input, one a line, and answers each on standard output (docs/DESK.md).
-mod page;
+mod incoming;
 mod words;
 
 use commands::Command;
+use incoming::Incoming;
 use libc::STDIN_FILENO;
-use page::Page;
 use papers::Desk;
 use phrases::What;
 use text::Line;
@@ -13,7 +13,7 @@ use text::Line;
 // is repeated before its answer, whether an error ends the session, and whether who types is asked for the next line; and whether input may follow.
 struct Session {
     desk: Desk,
-    page: Page,
+    incoming: Incoming,
     lines: u64,
     length: usize,
     echo: bool,
@@ -23,10 +23,10 @@ struct Session {
 }
 
 // The same with another desk, and another text that comes in.
-fn turned(s: Session, desk: Desk, page: Page) -> Session {
+fn turned(s: Session, desk: Desk, incoming: Incoming) -> Session {
     Session {
         desk,
-        page,
+        incoming,
         lines: s.lines,
         length: s.length,
         echo: s.echo,
@@ -102,7 +102,7 @@ fn is_bold(line: &[u8]) -> bool {
 fn begun(s: Session, desk: Desk, line: &[u8]) -> Session {
     let mut d = desk;
     d.bold = is_bold(line);
-    turned(s, d, page::begun(s.lines))
+    turned(s, d, incoming::begun(s.lines))
 }
 
 // A command.
@@ -110,7 +110,7 @@ fn answered(
     s: Session,
     line: &[u8],
     bytes: &mut [u8; 8000],
-    names: &mut [u8; 4752],
+    names: &mut [u8; 16896],
     out: &mut [u8; 4096],
 ) -> Session {
     let before = s.desk;
@@ -119,37 +119,37 @@ fn answered(
         return begun(s, d, line);
     }
     let desk = speaking::answer(d, line, s.lines, bytes, names, out);
-    turned(s, desk, page::none())
+    turned(s, desk, incoming::none())
 }
 
-fn put_spoilt(out: &mut [u8; 4096], used: usize, page: Page) -> usize {
-    if page.long {
+fn put_spoilt(out: &mut [u8; 4096], used: usize, incoming: Incoming) -> usize {
+    if incoming.long {
         return drawing::put_error(
             out,
             used,
-            page.wrong,
+            incoming.wrong,
             b"the line has more than 16000 characters",
         );
     }
     drawing::put_error(
         out,
         used,
-        page.wrong,
+        incoming.wrong,
         b"the text has more than 131072 characters",
     )
 }
 
 fn written_of(
     desk: Desk,
-    page: Page,
+    incoming: Incoming,
     text: &[u8],
     bytes: &mut [u8; 8000],
-    names: &mut [u8; 4752],
+    names: &mut [u8; 16896],
     out: &mut [u8; 4096],
 ) -> Desk {
-    let used = page.used;
+    let used = incoming.used;
     if used <= text.len() {
-        return speaking::written(desk, &text[0..used], page.line, bytes, names, out);
+        return speaking::written(desk, &text[0..used], incoming.line, bytes, names, out);
     }
     desk
 }
@@ -157,30 +157,30 @@ fn written_of(
 // The text has ended.
 fn written_in(
     desk: Desk,
-    page: Page,
+    incoming: Incoming,
     text: &[u8; 131072],
     bytes: &mut [u8; 8000],
-    names: &mut [u8; 4752],
+    names: &mut [u8; 16896],
     out: &mut [u8; 4096],
 ) -> Desk {
-    if 0 < page.wrong {
-        let used = put_spoilt(out, desk.used, page);
+    if 0 < incoming.wrong {
+        let used = put_spoilt(out, desk.used, incoming);
         return papers::failed(desk, used);
     }
-    written_of(desk, page, text, bytes, names, out)
+    written_of(desk, incoming, text, bytes, names, out)
 }
 
 fn written(
     s: Session,
     text: &[u8; 131072],
     bytes: &mut [u8; 8000],
-    names: &mut [u8; 4752],
+    names: &mut [u8; 16896],
     out: &mut [u8; 4096],
 ) -> Session {
     let before = s.desk;
-    let page = s.page;
-    let desk = written_in(before, page, text, bytes, names, out);
-    turned(s, desk, page::none())
+    let incoming = s.incoming;
+    let desk = written_in(before, incoming, text, bytes, names, out);
+    turned(s, desk, incoming::none())
 }
 
 // A line of a text, or the one that ends it.
@@ -189,16 +189,16 @@ fn gathered(
     line: &[u8],
     text: &mut [u8; 131072],
     bytes: &mut [u8; 8000],
-    names: &mut [u8; 4752],
+    names: &mut [u8; 16896],
     out: &mut [u8; 4096],
 ) -> Session {
     let before = s.desk;
-    let page = s.page;
+    let incoming = s.incoming;
     let desk = text_echoed(before, s.echo, line, out);
-    if page::is_end(line) {
-        return written(turned(s, desk, page), text, bytes, names, out);
+    if incoming::is_end(line) {
+        return written(turned(s, desk, incoming), text, bytes, names, out);
     }
-    let next = page::added(text, page, line, s.lines);
+    let next = incoming::added(text, incoming, line, s.lines);
     turned(s, desk, next)
 }
 
@@ -208,11 +208,11 @@ fn taken(
     line: &[u8],
     text: &mut [u8; 131072],
     bytes: &mut [u8; 8000],
-    names: &mut [u8; 4752],
+    names: &mut [u8; 16896],
     out: &mut [u8; 4096],
 ) -> Session {
-    let page = s.page;
-    if page.line == 0 {
+    let incoming = s.incoming;
+    if incoming.line == 0 {
         return answered(s, line, bytes, names, out);
     }
     gathered(s, line, text, bytes, names, out)
@@ -220,18 +220,18 @@ fn taken(
 
 // A line that is too long: in a text, the text is not read.
 fn too_long(s: Session, out: &mut [u8; 4096]) -> Session {
-    let page = s.page;
+    let incoming = s.incoming;
     let desk = s.desk;
-    if page.line == 0 {
+    if incoming.line == 0 {
         let used = drawing::put_error(
             out,
             desk.used,
             s.lines,
             b"the line has more than 16000 characters",
         );
-        return turned(s, papers::failed(desk, used), page);
+        return turned(s, papers::failed(desk, used), incoming);
     }
-    turned(s, desk, page::spoilt(page, s.lines, true))
+    turned(s, desk, incoming::spoilt(incoming, s.lines, true))
 }
 
 // The bytes kept of a line that has ended.
@@ -240,7 +240,7 @@ fn ended_at(
     kept: &[u8],
     text: &mut [u8; 131072],
     bytes: &mut [u8; 8000],
-    names: &mut [u8; 4752],
+    names: &mut [u8; 16896],
     out: &mut [u8; 4096],
 ) -> Session {
     let l = text::line_of(kept);
@@ -258,10 +258,10 @@ fn ended_at(
 // The session at the start of its next line.
 fn counted(s: Session) -> Session {
     let desk = s.desk;
-    let page = s.page;
+    let incoming = s.incoming;
     Session {
         desk,
-        page,
+        incoming,
         lines: more(s.lines),
         length: 0,
         echo: s.echo,
@@ -300,7 +300,7 @@ fn ended_of(
     line: &[u8],
     text: &mut [u8; 131072],
     bytes: &mut [u8; 8000],
-    names: &mut [u8; 4752],
+    names: &mut [u8; 16896],
     out: &mut [u8; 4096],
 ) -> Session {
     let length = s.length;
@@ -317,7 +317,7 @@ fn ended(
     line: &[u8; 16002],
     text: &mut [u8; 131072],
     bytes: &mut [u8; 8000],
-    names: &mut [u8; 4752],
+    names: &mut [u8; 16896],
     out: &mut [u8; 4096],
 ) -> Session {
     if s.open {
@@ -332,7 +332,7 @@ fn feed(
     line: &mut [u8; 16002],
     text: &mut [u8; 131072],
     bytes: &mut [u8; 8000],
-    names: &mut [u8; 4752],
+    names: &mut [u8; 16896],
     out: &mut [u8; 4096],
 ) -> Session {
     let mut session = s;
@@ -354,7 +354,7 @@ fn last_ended(
     line: &[u8; 16002],
     text: &mut [u8; 131072],
     bytes: &mut [u8; 8000],
-    names: &mut [u8; 4752],
+    names: &mut [u8; 16896],
     out: &mut [u8; 4096],
 ) -> Session {
     if 0 < s.length {
@@ -369,12 +369,12 @@ fn closed(
     line: &[u8; 16002],
     text: &mut [u8; 131072],
     bytes: &mut [u8; 8000],
-    names: &mut [u8; 4752],
+    names: &mut [u8; 16896],
     out: &mut [u8; 4096],
 ) -> Session {
     let mut last = last_ended(s, line, text, bytes, names, out);
-    let page = last.page;
-    if 0 < page.line {
+    let incoming = last.incoming;
+    if 0 < incoming.line {
         last = written(last, text, bytes, names, out);
     }
     last.open = false;
@@ -384,12 +384,12 @@ fn closed(
 // What is not saved at the end of the input is told, where the desk speaks to a person.
 fn warned(s: Session, out: &mut [u8; 4096]) -> Session {
     let mut desk = s.desk;
-    let page = s.page;
+    let incoming = s.incoming;
     if desk.spoken {
         if speaking::is_at_risk(desk) {
             let at = speaking::put_risk(desk, out, desk.used);
             desk.used = drawing::put_byte(out, at, 10);
-            return turned(s, desk, page);
+            return turned(s, desk, incoming);
         }
     }
     s
@@ -399,7 +399,7 @@ fn failed(s: Session, out: &mut [u8; 4096]) -> Session {
     let desk = s.desk;
     let number = more(s.lines);
     let used = drawing::put_error(out, desk.used, number, b"the input cannot be read");
-    let mut last = turned(s, papers::failed(desk, used), page::none());
+    let mut last = turned(s, papers::failed(desk, used), incoming::none());
     last.open = false;
     words::stopped(b"the input cannot be read\n");
     last
@@ -411,7 +411,7 @@ fn turn(
     line: &mut [u8; 16002],
     text: &mut [u8; 131072],
     bytes: &mut [u8; 8000],
-    names: &mut [u8; 4752],
+    names: &mut [u8; 16896],
     out: &mut [u8; 4096],
 ) -> Session {
     let mut chunk = io::buffer();
@@ -429,23 +429,23 @@ fn turn(
 // Writes what waits.
 fn flushed(s: Session, out: &[u8; 4096]) -> Session {
     let mut desk = s.desk;
-    let page = s.page;
+    let incoming = s.incoming;
     desk.used = drawing::flush(out, desk.used);
-    gone_on(turned(s, desk, page))
+    gone_on(turned(s, desk, incoming))
 }
 
 // Who types is asked for the next line.
 fn asked(s: Session, out: &mut [u8; 4096]) -> Session {
     let mut desk = s.desk;
-    let page = s.page;
+    let incoming = s.incoming;
     if s.asking {
         if s.open {
-            if page.line == 0 {
+            if incoming.line == 0 {
                 desk.used = drawing::put(out, desk.used, b"desk> ");
             } else {
                 desk.used = drawing::put(out, desk.used, b"text> ");
             }
-            return turned(s, desk, page);
+            return turned(s, desk, incoming);
         }
     }
     s
@@ -457,7 +457,7 @@ fn round(
     line: &mut [u8; 16002],
     text: &mut [u8; 131072],
     bytes: &mut [u8; 8000],
-    names: &mut [u8; 4752],
+    names: &mut [u8; 16896],
     out: &mut [u8; 4096],
 ) -> Session {
     let after = turn(s, line, text, bytes, names, out);
@@ -470,7 +470,7 @@ fn run(
     line: &mut [u8; 16002],
     text: &mut [u8; 131072],
     bytes: &mut [u8; 8000],
-    names: &mut [u8; 4752],
+    names: &mut [u8; 16896],
     out: &mut [u8; 4096],
 ) -> Session {
     let mut session = s;
@@ -505,7 +505,7 @@ fn served(start: Session) {
     let mut line = [0u8; 16002];
     let mut text = [0u8; 131072];
     let mut bytes = [0u8; 8000];
-    let mut names = [0u8; 4752];
+    let mut names = [0u8; 16896];
     let mut out = [0u8; 4096];
     let first = flushed(asked(start, &mut out), &out);
     let last = run(
@@ -539,7 +539,7 @@ fn main() {
     desk.spoken = !w.plain;
     served(Session {
         desk,
-        page: page::none(),
+        incoming: incoming::none(),
         lines: 0,
         length: 0,
         echo: w.echo,

@@ -1,19 +1,23 @@
 // An accepted plan in words, by its table: an activity or arm on each line.
+use super::expressions::put_expression;
+use super::naming::put_fault_name;
 use super::naming::put_operation;
 use super::naming::put_partner;
+use super::naming::put_scope_name;
 use super::naming::put_variable;
 use super::output::put;
 use super::output::put_aligned;
 use super::output::put_byte;
+use super::output::put_next;
 use super::output::put_number;
-use super::table::after;
-use super::table::code_of;
 use super::table::depth_of;
 use super::table::entry;
 use super::table::is_scope;
+use super::table::number_at;
+use super::table::numbers_of;
 use super::table::order_of;
 use super::table::parent_of;
-use super::table::value_of;
+use super::table::scopes_before;
 use plan::kind;
 use plan::table::COUNT;
 use plan::table::EXPRESSION;
@@ -25,16 +29,42 @@ use plan::table::Table;
 use plan::table::VARIABLE;
 use plan::table::VARIABLES;
 
-// What part of a scope or of a choose an activity is, by its order there.
-fn put_part(out: &mut [u8; 4096], used: usize, kind: u32, order: usize) -> usize {
+// What part of scope s an activity is, by its order there: the body, a fault part for each of its numbers, the general one, the undo part.
+fn put_scope_part(
+    out: &mut [u8; 4096],
+    used: usize,
+    names: &[u8; 16896],
+    table: &Table,
+    s: usize,
+    order: usize,
+) -> usize {
+    let many = numbers_of(table, s);
+    if order == 0 {
+        return put(out, used, b"body: ");
+    }
+    if order <= many {
+        let mut at = put(out, used, b"fault part ");
+        at = put_fault_name(out, at, names, b"", number_at(table, s, order - 1));
+        return put(out, at, b": ");
+    }
+    if order - many == 1 {
+        return put(out, used, b"fault part: ");
+    }
+    put(out, used, b"undo part: ")
+}
+
+// What part of activity m, a scope or a choose, an activity is, by its order there.
+fn put_part(
+    out: &mut [u8; 4096],
+    used: usize,
+    names: &[u8; 16896],
+    table: &Table,
+    m: usize,
+    order: usize,
+) -> usize {
+    let kind = entry(table, m, KIND);
     if is_scope(kind) {
-        if order == 0 {
-            return put(out, used, b"body: ");
-        }
-        if order == 1 {
-            return put(out, used, b"fault part: ");
-        }
-        return put(out, used, b"undo part: ");
+        return put_scope_part(out, used, names, table, m, order);
     }
     if kind == kind::CHOOSE {
         if order == 0 {
@@ -45,12 +75,17 @@ fn put_part(out: &mut [u8; 4096], used: usize, kind: u32, order: usize) -> usize
     used
 }
 
-fn put_role(out: &mut [u8; 4096], used: usize, table: &Table, n: usize) -> usize {
+fn put_role(
+    out: &mut [u8; 4096],
+    used: usize,
+    names: &[u8; 16896],
+    table: &Table,
+    n: usize,
+) -> usize {
     let parent = parent_of(table, n);
     if parent < n {
-        let kind = entry(table, parent, KIND);
         let order = order_of(table, parent + 1, n);
-        return put_part(out, used, kind, order);
+        return put_part(out, used, names, table, parent, order);
     }
     if n == 0 {
         return put(out, used, b"root body: ");
@@ -70,7 +105,7 @@ pub(crate) fn is_correlation(correlation: &[u8; 16], number: u32) -> bool {
 pub fn put_member(
     out: &mut [u8; 4096],
     used: usize,
-    names: &[u8; 4752],
+    names: &[u8; 16896],
     correlation: &[u8; 16],
     number: u32,
 ) -> usize {
@@ -85,7 +120,7 @@ pub fn put_member(
 fn put_another(
     out: &mut [u8; 4096],
     used: usize,
-    names: &[u8; 4752],
+    names: &[u8; 16896],
     table: &Table,
     correlation: &[u8; 16],
     n: usize,
@@ -104,7 +139,7 @@ fn put_another(
 fn put_tuple(
     out: &mut [u8; 4096],
     used: usize,
-    names: &[u8; 4752],
+    names: &[u8; 16896],
     table: &Table,
     correlation: &[u8; 16],
     n: usize,
@@ -119,7 +154,7 @@ fn put_tuple(
 fn put_exchange(
     out: &mut [u8; 4096],
     used: usize,
-    names: &[u8; 4752],
+    names: &[u8; 16896],
     words: &[u8],
     table: &Table,
     correlation: &[u8; 16],
@@ -134,75 +169,11 @@ fn put_exchange(
     put_tuple(out, at, names, table, correlation, n)
 }
 
-fn put_operator(out: &mut [u8; 4096], used: usize, code: u32) -> usize {
-    match code {
-        2 => put(out, used, b" + "),
-        3 => put(out, used, b" - "),
-        4 => put(out, used, b" = "),
-        _ => put(out, used, b" < "),
-    }
-}
-
-// A constant or a variable. (No node of an accepted plan is anything else where no level is left.)
-fn put_leaf(
-    out: &mut [u8; 4096],
-    used: usize,
-    names: &[u8; 4752],
-    table: &Table,
-    m: usize,
-) -> usize {
-    let value = value_of(table, m);
-    if code_of(table, m) == 0 {
-        return put_number(out, used, value as u64);
-    }
-    put_variable(out, used, names, value)
-}
-
-// A byte, where it is wanted.
-fn put_if(out: &mut [u8; 4096], used: usize, wanted: bool, b: u8) -> usize {
-    if wanted {
-        return put_byte(out, used, b);
-    }
-    used
-}
-
-// The expression whose first node is m, where `depth` levels are left below it; an operation that is an operand stands in parentheses.
-fn put_expression(
-    out: &mut [u8; 4096],
-    used: usize,
-    names: &[u8; 4752],
-    table: &Table,
-    m: usize,
-    depth: usize,
-    operand: bool,
-) -> usize {
-    let code = code_of(table, m);
-    if code < 2 {
-        return put_leaf(out, used, names, table, m);
-    }
-    if depth == 0 {
-        return put_leaf(out, used, names, table, m);
-    }
-    let opened = put_if(out, used, operand, 40);
-    let left = put_expression(out, opened, names, table, after(m), depth - 1, true);
-    let between = put_operator(out, left, code);
-    let right = put_expression(
-        out,
-        between,
-        names,
-        table,
-        value_of(table, m) as usize,
-        depth - 1,
-        true,
-    );
-    put_if(out, right, operand, 41)
-}
-
 // Words, and then the expression of row n.
 fn put_with_expression(
     out: &mut [u8; 4096],
     used: usize,
-    names: &[u8; 4752],
+    names: &[u8; 16896],
     words: &[u8],
     table: &Table,
     n: usize,
@@ -222,7 +193,7 @@ fn put_with_expression(
 fn put_set(
     out: &mut [u8; 4096],
     used: usize,
-    names: &[u8; 4752],
+    names: &[u8; 16896],
     table: &Table,
     n: usize,
 ) -> usize {
@@ -231,17 +202,48 @@ fn put_set(
     put_with_expression(out, at, names, b" to ", table, n)
 }
 
-// A raise with its number.
-fn put_raise(out: &mut [u8; 4096], used: usize, table: &Table, n: usize) -> usize {
+// Scope n, with the name that it may have.
+fn put_named_scope(
+    out: &mut [u8; 4096],
+    used: usize,
+    names: &[u8; 16896],
+    table: &Table,
+    n: usize,
+) -> usize {
+    let at = put(out, used, b"scope");
+    put_scope_name(out, at, names, scopes_before(table, n), b" ", b"")
+}
+
+// Scope n by its number, and by the name that it may have: `scope 6 (stock)`.
+pub fn put_scope(
+    out: &mut [u8; 4096],
+    used: usize,
+    names: &[u8; 16896],
+    table: &Table,
+    n: usize,
+) -> usize {
+    let mut at = put(out, used, b"scope");
+    at = put_next(out, at, n as u64);
+    put_scope_name(out, at, names, scopes_before(table, n), b" (", b")")
+}
+
+// A raise with its number, or the name of that.
+fn put_raise(
+    out: &mut [u8; 4096],
+    used: usize,
+    names: &[u8; 16896],
+    table: &Table,
+    n: usize,
+) -> usize {
     let at = put(out, used, b"raise ");
-    put_number(out, at, entry(table, n, NUMBER) as u64)
+    put_fault_name(out, at, names, b"", entry(table, n, NUMBER))
 }
 
 // Activity or arm n in words.
 pub fn put_activity(
     out: &mut [u8; 4096],
     used: usize,
-    names: &[u8; 4752],
+    names: &[u8; 16896],
     table: &Table,
     correlation: &[u8; 16],
     n: usize,
@@ -253,14 +255,14 @@ pub fn put_activity(
         kind::RECEIVE => put_exchange(out, used, names, b"receive from", table, correlation, n),
         kind::SET => put_set(out, used, names, table, n),
         kind::RAISE => put(out, used, b"raise"),
-        kind::NUMBERED_RAISE => put_raise(out, used, table, n),
+        kind::NUMBERED_RAISE => put_raise(out, used, names, table, n),
         kind::LEAVE => put(out, used, b"leave"),
         kind::CHOOSE => put_with_expression(out, used, names, b"choose by ", table, n),
         kind::REPEAT => put_with_expression(out, used, names, b"repeat while ", table, n),
         kind::SEQUENCE => put(out, used, b"sequence"),
         kind::FLOW => put(out, used, b"flow"),
         kind::PICK => put(out, used, b"pick"),
-        kind::SCOPE | kind::OPEN_SCOPE => put(out, used, b"scope"),
+        kind::SCOPE | kind::OPEN_SCOPE | kind::NUMBERED_SCOPE => put_named_scope(out, used, names, table, n),
         kind::ARM => put_exchange(
             out,
             used,
@@ -291,25 +293,37 @@ fn put_indent(out: &mut [u8; 4096], used: usize, depth: usize) -> usize {
     at
 }
 
+// What part activity n is, and what it is.
+pub fn put_labelled(
+    out: &mut [u8; 4096],
+    used: usize,
+    names: &[u8; 16896],
+    table: &Table,
+    correlation: &[u8; 16],
+    n: usize,
+) -> usize {
+    let at = put_role(out, used, names, table, n);
+    put_activity(out, at, names, table, correlation, n)
+}
+
 // Where activity n stands in the drawing, what part it is, and what it is.
 pub fn put_drawn(
     out: &mut [u8; 4096],
     used: usize,
-    names: &[u8; 4752],
+    names: &[u8; 16896],
     table: &Table,
     correlation: &[u8; 16],
     n: usize,
 ) -> usize {
     let mut at = put_indent(out, used, depth_of(table, n));
-    at = put_role(out, at, table, n);
-    at = put_activity(out, at, names, table, correlation, n);
+    at = put_labelled(out, at, names, table, correlation, n);
     put_byte(out, at, 10)
 }
 
 fn put_line(
     out: &mut [u8; 4096],
     used: usize,
-    names: &[u8; 4752],
+    names: &[u8; 16896],
     table: &Table,
     correlation: &[u8; 16],
     n: usize,
@@ -323,7 +337,7 @@ fn put_line(
 pub fn put_drawing(
     out: &mut [u8; 4096],
     used: usize,
-    names: &[u8; 4752],
+    names: &[u8; 16896],
     table: &Table,
     correlation: &[u8; 16],
     activities: usize,

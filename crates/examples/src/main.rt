@@ -110,7 +110,7 @@ fn found(differs: u64, same: bool, number: u64) -> u64 {
 fn tried(s: Session, line: &[u8], number: u64, bytes: &mut [u8; 8000]) -> Session {
     let mut out = [0u8; 4096];
     // no example is written as text, so that there are no names
-    let mut names = [0u8; 4752];
+    let mut names = [0u8; 16896];
     let mark = mark_of(line);
     let mut before = s.desk;
     before.used = 0;

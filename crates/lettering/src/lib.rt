@@ -17,32 +17,44 @@ use plan::table::Table;
 use plan::table::VARIABLE;
 use plan::table::VARIABLES;
 use table::Place;
-use table::after;
 use table::code_of;
 use table::entry;
+use table::is_scope;
 use table::narrow;
+use table::number_at;
+use table::numbers_of;
 use table::order_of;
 use table::place_of;
 use table::value_of;
 
-// Whether an activity of this kind is a scope: with an undo part, or without.
-fn is_scope(kind: u32) -> bool {
-    if kind == kind::SCOPE {
-        return true;
+// What part of scope s an activity is, by its order there: the body, a fault part for each of its numbers, the general one, the undo part.
+fn put_scope_part(
+    out: &mut [u8; 65536],
+    used: usize,
+    table: &Table,
+    s: usize,
+    order: usize,
+) -> usize {
+    let many = numbers_of(table, s);
+    if order == 0 {
+        return put(out, used, b"body: ");
     }
-    kind == kind::OPEN_SCOPE
+    if order <= many {
+        let mut at = put(out, used, b"fault part ");
+        at = put_number(out, at, number_at(table, s, order - 1));
+        return put(out, at, b": ");
+    }
+    if order - many == 1 {
+        return put(out, used, b"fault part: ");
+    }
+    put(out, used, b"undo part: ")
 }
 
-// What part of a scope or of a choose an activity is, by its order there.
-fn put_part(out: &mut [u8; 65536], used: usize, kind: u32, order: usize) -> usize {
+// What part of activity m, a scope or a choose, an activity is, by its order there.
+fn put_part(out: &mut [u8; 65536], used: usize, table: &Table, m: usize, order: usize) -> usize {
+    let kind = entry(table, m, KIND);
     if is_scope(kind) {
-        if order == 0 {
-            return put(out, used, b"body: ");
-        }
-        if order == 1 {
-            return put(out, used, b"fault part: ");
-        }
-        return put(out, used, b"undo part: ");
+        return put_scope_part(out, used, table, m, order);
     }
     if kind == kind::CHOOSE {
         if order == 0 {
@@ -56,9 +68,8 @@ fn put_part(out: &mut [u8; 65536], used: usize, kind: u32, order: usize) -> usiz
 fn put_role(out: &mut [u8; 65536], used: usize, table: &Table, p: Place, n: usize) -> usize {
     let parent = p.parent;
     if parent < n {
-        let kind = entry(table, parent, KIND);
         let order = order_of(table, parent, n);
-        return put_part(out, used, kind, order);
+        return put_part(out, used, table, parent, order);
     }
     if n == 0 {
         return put(out, used, b"root body: ");
@@ -126,12 +137,18 @@ fn put_exchange(
     put_another(out, third, table, correlation, n, 3)
 }
 
-fn put_operator(out: &mut [u8; 65536], used: usize, code: u32) -> usize {
-    match code {
+fn put_operator(out: &mut [u8; 65536], used: usize, form: u32) -> usize {
+    match form {
         2 => put(out, used, b" + "),
         3 => put(out, used, b" - "),
         4 => put(out, used, b" = "),
-        _ => put(out, used, b" < "),
+        5 => put(out, used, b" < "),
+        forms::AND => put(out, used, b" and "),
+        forms::OR => put(out, used, b" or "),
+        forms::NOT_LESS => put(out, used, b" >= "),
+        forms::MORE => put(out, used, b" > "),
+        forms::NOT_MORE => put(out, used, b" <= "),
+        _ => put(out, used, b" != "),
     }
 }
 
@@ -161,24 +178,25 @@ fn put_expression(
     depth: usize,
     operand: bool,
 ) -> usize {
-    let code = code_of(table, m);
-    if code < 2 {
+    if code_of(table, m) < 2 {
         return put_leaf(out, used, table, m);
     }
     if depth == 0 {
         return put_leaf(out, used, table, m);
     }
+    let form = forms::form_of(table, m);
+    let first = forms::first_of(table, m, form);
     let opened = put_if(out, used, operand, 40);
-    let left = put_expression(out, opened, table, after(m), depth - 1, true);
-    let between = put_operator(out, left, code);
-    let right = put_expression(
-        out,
-        between,
-        table,
-        value_of(table, m) as usize,
-        depth - 1,
-        true,
-    );
+    if form == forms::NOT {
+        let not = put(out, opened, b"not ");
+        let whole = put_expression(out, not, table, first, depth - 1, true);
+        return put_if(out, whole, operand, 41);
+    }
+    let left = put_expression(out, opened, table, first, depth - 1, true);
+    let between = put_operator(out, left, form);
+    let second = forms::second_of(table, m, form);
+    let apart = !forms::goes_on(table, form, second);
+    let right = put_expression(out, between, table, second, depth - 1, apart);
     put_if(out, right, operand, 41)
 }
 
@@ -235,7 +253,7 @@ fn put_activity(
         kind::SEQUENCE => put(out, used, b"sequence"),
         kind::FLOW => put(out, used, b"flow"),
         kind::PICK => put(out, used, b"pick"),
-        kind::SCOPE | kind::OPEN_SCOPE => put(out, used, b"scope"),
+        kind::SCOPE | kind::OPEN_SCOPE | kind::NUMBERED_SCOPE => put(out, used, b"scope"),
         kind::ARM => put_exchange(
             out,
             used,

@@ -1,6 +1,11 @@
 // What the table of an accepted plan says of its activities and arms. (The rows and the nodes are those of the crate plan, specs/Table.antt.)
+use plan::kind;
+use plan::table::COUNT;
 use plan::table::END;
+use plan::table::FIRST_NUMBERS;
+use plan::table::KIND;
 use plan::table::NODES;
+use plan::table::OTHER_NUMBERS;
 use plan::table::Table;
 use plan::table::VALUES;
 use plan::table::WIDTH;
@@ -18,6 +23,39 @@ pub(crate) fn entry(table: &Table, n: usize, field: usize) -> u32 {
         if field < WIDTH {
             return table[n * WIDTH + field];
         }
+    }
+    0
+}
+
+// Whether an activity of this kind is a scope.
+pub(crate) fn is_scope(kind: u32) -> bool {
+    if kind == kind::SCOPE {
+        return true;
+    }
+    if kind == kind::OPEN_SCOPE {
+        return true;
+    }
+    kind == kind::NUMBERED_SCOPE
+}
+
+// How many fault parts by number scope s has: at most eight.
+pub(crate) fn numbers_of(table: &Table, s: usize) -> usize {
+    if entry(table, s, KIND) == kind::NUMBERED_SCOPE {
+        let count = entry(table, s, COUNT) as usize;
+        if count < 9 {
+            return count;
+        }
+    }
+    0
+}
+
+// The number of fault part i of scope s, counted from 0.
+pub(crate) fn number_at(table: &Table, s: usize, i: usize) -> u32 {
+    if i < 2 {
+        return entry(table, s, FIRST_NUMBERS + i);
+    }
+    if i < 8 {
+        return entry(table, s, OTHER_NUMBERS + i - 2);
     }
     0
 }

@@ -16,19 +16,19 @@ use Rattle.names.specs.declared.Stands.{Stands}
 use Rattle.names.specs.declared.Stands.the-variants.{Number, Large, Unnamed, Unnumbered}
 use Rattle.names.specs.Named.{lengthAt, nameAt, isNamed, firstFrom, numberNamed, numbered, byName, orElse, standsFor}
 
-pub length-beyond : (l : List ℕ) (p : ℕ) → 144 ≤ p → 0 ≡ lengthAt l p
+pub length-beyond : (l : List ℕ) (p : ℕ) → 512 ≤ p → 0 ≡ lengthAt l p
 unfolding lengthAt
-length-beyond l p h = rw (le-ltb p 144 h)
+length-beyond l p h = rw (le-ltb p 512 h)
 
-pub length-short : (l : List ℕ) (p n : ℕ) → p < 144 → n ≡ getD l (p * 33) 0 → n < 33 → n ≡ lengthAt l p
+pub length-short : (l : List ℕ) (p n : ℕ) → p < 512 → n ≡ getD l (p * 33) 0 → n < 33 → n ≡ lengthAt l p
 unfolding lengthAt
-length-short l p n h e s = rw (lt-ltb p 144 h, ← e, lt-ltb n 33 s)
+length-short l p n h e s = rw (lt-ltb p 512 h, ← e, lt-ltb n 33 s)
 
-pub length-long : (l : List ℕ) (p n : ℕ) → p < 144 → n ≡ getD l (p * 33) 0 → 33 ≤ n → 0 ≡ lengthAt l p
+pub length-long : (l : List ℕ) (p n : ℕ) → p < 512 → n ≡ getD l (p * 33) 0 → 33 ≤ n → 0 ≡ lengthAt l p
 unfolding lengthAt
-length-long l p n h e s = rw (lt-ltb p 144 h, ← e, le-ltb n 33 s)
+length-long l p n h e s = rw (lt-ltb p 512 h, ← e, le-ltb n 33 s)
 
-pub name-beyond : (l : List ℕ) (p : ℕ) → 144 ≤ p → [] ≡ nameAt l p
+pub name-beyond : (l : List ℕ) (p : ℕ) → 512 ≤ p → [] ≡ nameAt l p
 unfolding nameAt
 name-beyond l p h = rw (← length-beyond l p h)
 

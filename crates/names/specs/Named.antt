@@ -1,4 +1,4 @@
--- Meaning: which number a name stands for, by a table of names: 144 places of 33 bytes, each the length of a name and its characters. Assumes nothing: these
+-- Meaning: which number a name stands for, by a table of names: 512 places of 33 bytes, each the length of a name and its characters. Assumes nothing: these
 -- are definitions.
 use Prim.Native.Nat.{ℕ, zero, suc, _+_, _*_}
 use mathlib.Core.Bool.{Bool, true, false, cond, not, _&&_}
@@ -15,7 +15,7 @@ use Rattle.names.specs.declared.Stands.the-variants.{Number, Large, Unna
 -- how long the name at a place is; a length of 33 or more, which no name has, counts as none
 unfoldable pub lengthAt : List ℕ → (place : ℕ) → ℕ
 lengthAt names place =
-    cond (ltb place 144) (cond (ltb (getD names (place * 33) 0) 33) (getD names (place * 33) 0) 0) 0
+    cond (ltb place 512) (cond (ltb (getD names (place * 33) 0) 33) (getD names (place * 33) 0) 0) 0
 
 -- the characters of the name at a place
 unfoldable pub nameAt : List ℕ → (place : ℕ) → List ℕ

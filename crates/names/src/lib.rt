@@ -1,6 +1,6 @@
-// The names of a plan's variables, partners and operations, and the number that a typed name stands for. A table of names, which the crate sheet makes of a
-// text, has 144 places of 33 bytes, each the length of a name and its characters: 16 for variables, then 64 for partners, then 64 for operations. A
-// table of zeros has no names.
+// The names of a plan's variables, partners, operations, scopes and faults, and the number that a typed name stands for. A table of names, which the crate spelling makes of a
+// text, has 512 places of 33 bytes, each the length of a name and its characters: 16 for variables, then 64 for partners, then 64 for operations, then
+// 128 for scopes in the order of the drawing, then 240 for the faults 16 to 255. A table of zeros has no names.
 use text::Decimal;
 ghost use mathlib.Core.Path.{_≡_};
 ghost use Prim.Native.Nat.{_+_, _<_, _≤_};
@@ -23,10 +23,10 @@ fn wide(x: u8) -> usize
 
 // How long the name at a place is: 0 where there is none.
 fn length_in(names: &[u8], place: usize) -> usize
-    requires { ⌜ length (now names) ≡ 4752 ⌝ }
+    requires { ⌜ length (now names) ≡ 16896 ⌝ }
     ensures { λ r. ⌜ (r ≡ lengthAt (now (names .entry)) place) × (r < 33) ⌝ }
 {
-    if 144 <= place {
+    if 512 <= place {
         return 0;
     }
     let n = wide(names[place * 33]);
@@ -38,10 +38,10 @@ fn length_in(names: &[u8], place: usize) -> usize
 
 // The name at a place, as the part of the table that spells it.
 fn name_at(names: &[u8], place: usize) -> &[u8]
-    requires { ⌜ length (now names) ≡ 4752 ⌝ }
+    requires { ⌜ length (now names) ≡ 16896 ⌝ }
     ensures { λ r. ⌜ now r ≡ nameAt (now (names .entry)) place ⌝ }
 {
-    if 144 <= place {
+    if 512 <= place {
         return &names[..0];
     }
     let from = place * 33 + 1;
@@ -51,7 +51,7 @@ fn name_at(names: &[u8], place: usize) -> &[u8]
 
 // Whether a word is the name at a place. A place without a name has none, the empty word neither.
 fn is_named(names: &[u8], place: usize, word: &[u8]) -> bool
-    requires { ⌜ length (now names) ≡ 4752 ⌝ }
+    requires { ⌜ length (now names) ≡ 16896 ⌝ }
     ensures { λ r. ⌜ r ≡ isNamed (now (names .entry)) place (now (word .entry)) ⌝ }
 {
     if word.len() == 0 {
@@ -62,7 +62,7 @@ fn is_named(names: &[u8], place: usize, word: &[u8]) -> bool
 
 // How far from `first` the first name is that the word is, of `many` places; `many` where none is.
 fn number_named(names: &[u8], first: usize, many: usize, word: &[u8]) -> usize
-    requires { ⌜ (length (now names) ≡ 4752) × (first < 144) × (many < 144) ⌝ }
+    requires { ⌜ (length (now names) ≡ 16896) × (first < 512) × (many < 512) ⌝ }
     ensures { λ r. ⌜ r ≡ numberNamed (now (names .entry)) first many (now (word .entry)) ⌝ }
 {
     let mut k = 0;
@@ -76,28 +76,28 @@ fn number_named(names: &[u8], first: usize, many: usize, word: &[u8]) -> usize
 }
 
 // The number of a variable by its name, 16 where none is called so.
-pub fn variable_named(names: &[u8; 4752], word: &[u8]) -> usize
+pub fn variable_named(names: &[u8; 16896], word: &[u8]) -> usize
     ensures { λ r. ⌜ r ≡ numberNamed (now (names .entry)) 0 16 (now (word .entry)) ⌝ }
 {
     number_named(names, 0, 16, word)
 }
 
 // The number of a partner by its name, 64 where none is called so.
-pub fn partner_named(names: &[u8; 4752], word: &[u8]) -> usize
+pub fn partner_named(names: &[u8; 16896], word: &[u8]) -> usize
     ensures { λ r. ⌜ r ≡ numberNamed (now (names .entry)) 16 64 (now (word .entry)) ⌝ }
 {
     number_named(names, 16, 64, word)
 }
 
 // The number of an operation by its name, 64 where none is called so.
-pub fn operation_named(names: &[u8; 4752], word: &[u8]) -> usize
+pub fn operation_named(names: &[u8; 16896], word: &[u8]) -> usize
     ensures { λ r. ⌜ r ≡ numberNamed (now (names .entry)) 80 64 (now (word .entry)) ⌝ }
 {
     number_named(names, 80, 64, word)
 }
 
 // How long the name at a place is: 0 where there is none.
-pub fn length_at(names: &[u8; 4752], place: usize) -> usize
+pub fn length_at(names: &[u8; 16896], place: usize) -> usize
     ensures { λ r. ⌜ (r ≡ lengthAt (now (names .entry)) place) × (r < 33) ⌝ }
 {
     length_in(names, place)
@@ -114,7 +114,7 @@ fn numbered_by(k: usize) -> Stands
 }
 
 // What word n of a message names: the first a partner, the second an operation.
-fn by_name(names: &[u8; 4752], word: &[u8], n: usize) -> Stands
+fn by_name(names: &[u8; 16896], word: &[u8], n: usize) -> Stands
     ensures { λ r. ⌜ r ≡ byName (now (names .entry)) n (now (word .entry)) ⌝ }
 {
     if n == 0 {
@@ -127,7 +127,7 @@ fn by_name(names: &[u8; 4752], word: &[u8], n: usize) -> Stands
 }
 
 // What word n of a message stands for: the number that it spells, else what it names.
-pub fn stands_for(names: &[u8; 4752], word: &[u8], n: usize) -> Stands
+pub fn stands_for(names: &[u8; 16896], word: &[u8], n: usize) -> Stands
     ensures { λ r. ⌜ r ≡ standsFor (now (names .entry)) n (now (word .entry)) ⌝ }
 {
     let d = text::decimal_of(word);

@@ -17,7 +17,7 @@ fn put_refused(asked: bool, number: u32, place: usize, out: &mut [u8; 4096], use
 }
 
 fn put_accepted(
-    names: &[u8; 4752],
+    names: &[u8; 16896],
     table: &Table,
     correlation: &[u8; 16],
     activities: usize,
@@ -33,7 +33,7 @@ fn put_accepted(
 
 fn put_checked(
     s: &[u8],
-    names: &[u8; 4752],
+    names: &[u8; 16896],
     asked: bool,
     out: &mut [u8; 4096],
     used: usize,
@@ -54,7 +54,7 @@ fn put_checked(
 fn check_of(
     bytes: &[u8],
     plan: usize,
-    names: &[u8; 4752],
+    names: &[u8; 16896],
     asked: bool,
     out: &mut [u8; 4096],
     used: usize,
@@ -66,13 +66,13 @@ fn check_of(
 }
 
 // The answer to a check of the last plan.
-pub fn check(desk: Desk, bytes: &[u8; 8000], names: &[u8; 4752], out: &mut [u8; 4096]) -> Desk {
+pub fn check(desk: Desk, bytes: &[u8; 8000], names: &[u8; 16896], out: &mut [u8; 4096]) -> Desk {
     let used = check_of(bytes, desk.plan, names, true, out, desk.used);
     shown(desk, used)
 }
 
 // The warnings of the last plan alone; nothing where it has none, or is refused.
-pub fn warn(desk: Desk, bytes: &[u8; 8000], names: &[u8; 4752], out: &mut [u8; 4096]) -> Desk {
+pub fn warn(desk: Desk, bytes: &[u8; 8000], names: &[u8; 16896], out: &mut [u8; 4096]) -> Desk {
     let used = check_of(bytes, desk.plan, names, false, out, desk.used);
     shown(desk, used)
 }

@@ -12,7 +12,7 @@ struct Asked {
     count: u32,
 }
 
-fn cell(rows: &[u32; 87100], row: usize, place: usize) -> u32 {
+pub(crate) fn cell(rows: &[u32; 87100], row: usize, place: usize) -> u32 {
     if row < 4355 {
         if place < 20 {
             return rows[row * 20 + place];
@@ -21,7 +21,7 @@ fn cell(rows: &[u32; 87100], row: usize, place: usize) -> u32 {
     0
 }
 
-fn line_of(lines: &[u32; 4355], row: usize) -> u32 {
+pub(crate) fn line_of(lines: &[u32; 4355], row: usize) -> u32 {
     if row < 4355 {
         return lines[row];
     }
@@ -76,7 +76,7 @@ fn past_front(text: &[u8], at: usize) -> usize {
 }
 
 // Whether a line is an arm's: of the words that a line of a drawing begins with, `arm` alone begins with an a.
-fn is_arm(text: &[u8], line: u32) -> bool {
+pub(crate) fn is_arm(text: &[u8], line: u32) -> bool {
     let p = past_front(text, start_of(text, line));
     if p < text.len() {
         return text[p] == 97;

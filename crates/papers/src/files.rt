@@ -204,7 +204,7 @@ fn filed(desk: Desk, file: u64, seen: u64) -> Desk {
 }
 
 // The bytes of a file that the desk saves.
-fn put_desk(desk: Desk, names: &[u8; 4752], file: &mut [u8]) {
+fn put_desk(desk: Desk, names: &[u8; 16896], file: &mut [u8]) {
     let mut packed = [0u8; 12492];
     let state = desk.state;
     let tally = desk.tally;
@@ -217,7 +217,7 @@ pub fn save(
     desk: Desk,
     file: &[u8],
     number: u64,
-    names: &[u8; 4752],
+    names: &[u8; 16896],
     out: &mut [u8; 4096],
 ) -> Desk {
     // what was answered before is written first: where it cannot be, nothing is made lasting
@@ -226,7 +226,7 @@ pub fn save(
     if drawing::is_lost(used) {
         return before;
     }
-    let mut bytes = [0u8; 17260];
+    let mut bytes = [0u8; 29404];
     put_desk(desk, names, &mut bytes);
     let e = saved(file, &bytes);
     filed(
@@ -307,7 +307,7 @@ fn taken(
     kept: Kept,
     number: u64,
     bytes: &mut [u8; 8000],
-    names: &mut [u8; 4752],
+    names: &mut [u8; 16896],
     out: &mut [u8; 4096],
 ) -> Desk {
     if kept.refused {
@@ -356,7 +356,7 @@ fn taken_whole(
     file: &[u8],
     number: u64,
     bytes: &mut [u8; 8000],
-    names: &mut [u8; 4752],
+    names: &mut [u8; 16896],
     out: &mut [u8; 4096],
 ) -> Desk {
     let kept = kept_front(file);
@@ -373,7 +373,7 @@ fn taken_from(
     file: &[u8],
     number: u64,
     bytes: &mut [u8; 8000],
-    names: &mut [u8; 4752],
+    names: &mut [u8; 16896],
     out: &mut [u8; 4096],
 ) -> Desk {
     if sealed::is_sealed(file) {
@@ -396,11 +396,11 @@ fn read(
     file: u64,
     number: u64,
     bytes: &mut [u8; 8000],
-    names: &mut [u8; 4752],
+    names: &mut [u8; 16896],
     out: &mut [u8; 4096],
 ) -> Desk {
     // one byte more than a file has, so that a longer one is known
-    let mut held = [0u8; 17261];
+    let mut held = [0u8; 29405];
     let n = io::read_full(fd, &mut held);
     let e = unread(fd, n);
     libc::close(fd);
@@ -418,7 +418,7 @@ pub fn open(
     file: &[u8],
     number: u64,
     bytes: &mut [u8; 8000],
-    names: &mut [u8; 4752],
+    names: &mut [u8; 16896],
     out: &mut [u8; 4096],
 ) -> Desk {
     let fd = os::open_read(file);

@@ -37,7 +37,7 @@ fn mended(
     bytes: &[u8; 8000],
     length: usize,
     cut: usize,
-    names: &mut [u8; 4752],
+    names: &mut [u8; 16896],
     out: &mut [u8; 4096],
 ) -> Desk {
     let before = desk.state;
@@ -50,7 +50,7 @@ fn mend_into(
     desk: Desk,
     padded: &[u8],
     bytes: &mut [u8; 8000],
-    names: &mut [u8; 4752],
+    names: &mut [u8; 16896],
     out: &mut [u8; 4096],
 ) -> Desk {
     let a = mend::mend(padded, bytes);
@@ -68,7 +68,7 @@ fn mend_part(
     given: &[u8],
     count: usize,
     bytes: &mut [u8; 8000],
-    names: &mut [u8; 4752],
+    names: &mut [u8; 16896],
     out: &mut [u8; 4096],
 ) -> Desk {
     if count <= given.len() {
@@ -82,7 +82,7 @@ fn mend_in(
     given: &[u8; 8000],
     count: usize,
     bytes: &mut [u8; 8000],
-    names: &mut [u8; 4752],
+    names: &mut [u8; 16896],
     out: &mut [u8; 4096],
 ) -> Desk {
     mend_part(desk, given, count, bytes, names, out)
@@ -94,7 +94,7 @@ pub fn mend(
     word: &[u8],
     number: u64,
     bytes: &mut [u8; 8000],
-    names: &mut [u8; 4752],
+    names: &mut [u8; 16896],
     out: &mut [u8; 4096],
 ) -> Desk {
     let mut given = [0u8; 8000];

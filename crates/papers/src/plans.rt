@@ -42,7 +42,7 @@ fn put_plan(s: &[u8], out: &mut [u8; 4096], used: usize) -> usize {
 
 // What the last plan is called, and, where it is to be drawn, its drawing; a blank line.
 fn put_accepted(
-    names: &[u8; 4752],
+    names: &[u8; 16896],
     table: &Table,
     correlation: &[u8; 16],
     variables: u32,
@@ -65,7 +65,7 @@ fn put_refused(drawn: bool, number: u32, place: usize, out: &mut [u8; 4096], use
     put_pair(out, used, b"names", number as u64, place as u64)
 }
 
-fn put_draw(s: &[u8], names: &[u8; 4752], drawn: bool, out: &mut [u8; 4096], used: usize) -> usize {
+fn put_draw(s: &[u8], names: &[u8; 16896], drawn: bool, out: &mut [u8; 4096], used: usize) -> usize {
     let mut table = [0u32; LENGTH];
     let mut correlation = [0u8; 16];
     let a = plan::accept(s, &mut table, &mut correlation);
@@ -110,7 +110,7 @@ fn put_show(s: &[u8], k: u32, out: &mut [u8; 4096], used: usize) -> usize {
 fn draw_of(
     bytes: &[u8],
     plan: usize,
-    names: &[u8; 4752],
+    names: &[u8; 16896],
     drawn: bool,
     out: &mut [u8; 4096],
     used: usize,
@@ -121,12 +121,12 @@ fn draw_of(
     used
 }
 
-pub fn draw(desk: Desk, bytes: &[u8; 8000], names: &[u8; 4752], out: &mut [u8; 4096]) -> Desk {
+pub fn draw(desk: Desk, bytes: &[u8; 8000], names: &[u8; 16896], out: &mut [u8; 4096]) -> Desk {
     let used = draw_of(bytes, desk.plan, names, true, out, desk.used);
     shown(desk, used)
 }
 
-pub fn names(desk: Desk, bytes: &[u8; 8000], names: &[u8; 4752], out: &mut [u8; 4096]) -> Desk {
+pub fn names(desk: Desk, bytes: &[u8; 8000], names: &[u8; 16896], out: &mut [u8; 4096]) -> Desk {
     let used = draw_of(bytes, desk.plan, names, false, out, desk.used);
     shown(desk, used)
 }
@@ -193,7 +193,7 @@ pub fn load(
     word: &[u8],
     number: u64,
     bytes: &mut [u8; 8000],
-    names: &mut [u8; 4752],
+    names: &mut [u8; 16896],
     out: &mut [u8; 4096],
 ) -> Desk {
     let h = text::decode(word, bytes);

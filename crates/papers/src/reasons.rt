@@ -7,13 +7,15 @@ fn put_declaration(out: &mut [u8; 4096], used: usize, reason: usize) -> usize {
         1 => put(
             out,
             used,
-            b"expected 'variable NAME', 'variable NAME (correlation)', 'partner NUMBER NAME' or 'operation NUMBER NAME'",
+            b"expected 'variable NAME', 'variable NAME (correlation)', 'partner NUMBER NAME', 'operation NUMBER NAME', 'fault NUMBER NAME' or 'constant NAME NUMBER'",
         ),
         2 => put(out, used, b"another has this name"),
         3 => put(out, used, b"partners and operations are 0 to 63"),
         4 => put(out, used, b"a plan has at most 16 variables"),
         5 => put(out, used, b"declarations stand before the first activity"),
         22 => put(out, used, b"a name has at most 32 characters"),
+        27 => put(out, used, b"'and', 'or' and 'not' are words of expressions"),
+        28 => put(out, used, b"faults with a name are 16 to 255"),
         _ => put(out, used, b"this number has a name already"),
     }
 }
@@ -27,10 +29,14 @@ fn put_activity(out: &mut [u8; 4096], used: usize, reason: usize) -> usize {
         9 => put(
             out,
             used,
-            b"expected an expression: a number, a variable, or two operands with + - = or < between them, parentheses around an operand that has two",
+            b"expected an expression: numbers, variables and constants, with + - = != < <= > >= 'and' 'or' 'not' and parentheses",
         ),
         10 => put(out, used, b"numbers are 0 to 4294967295"),
-        11 => put(out, used, b"more than 31 parentheses within one another"),
+        11 => put(
+            out,
+            used,
+            b"more than 64 operations and parentheses within one another",
+        ),
         13 => put(out, used, b"the variable is not for correlation"),
         24 => put(out, used, b"expected 'set V to E'"),
         25 => put(out, used, b"nothing stands behind this word"),
@@ -66,7 +72,7 @@ fn put_place(out: &mut [u8; 4096], used: usize, reason: usize) -> usize {
         19 => put(
             out,
             used,
-            b"a part is missing: the root and a choose have 2, a scope 2 or 3, a repeat and an arm 1",
+            b"a part is missing: the root and a choose have 2, a scope 2 or 3, one with fault parts by number all of them, a repeat and an arm 1",
         ),
         20 => put(out, used, b"the text has no activity"),
         _ => put(out, used, b"a tab stands in it, where blanks may"),
@@ -78,6 +84,9 @@ fn is_of_declaration(reason: usize) -> bool {
         return true;
     }
     if reason == 22 {
+        return true;
+    }
+    if 26 < reason {
         return true;
     }
     reason == 23

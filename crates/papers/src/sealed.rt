@@ -1,5 +1,5 @@
-// A saved file as bytes: the state with its tally (12,492), the names (4,752), the version of the file (8) and the seal of all before it (8). In a file of the first
-// version, MOONDSK1, the state has 12,476 bytes, and all else is as in one of this, MOONDSK2.
+// A saved file as bytes: the state with its tally (12,492), the names (16,896), the version of the file, MOONDSK3 (8), and the seal of all before it (8). A file of the
+// second version, MOONDSK2, has no names of scopes and faults, and 4,752 bytes of names; one of the first, MOONDSK1, neither, and a state of 12,476 bytes.
 
 ghost use Prim.Native.Nat.{_≤_};
 
@@ -20,7 +20,7 @@ fn put_at(file: &mut [u8], at: usize, bytes: &[u8]) {
     let mut i = 0;
     while i < bytes.len() {
         set_byte(file, place, bytes[i]);
-        if place < 17260 {
+        if place < 29404 {
             place += 1;
         }
         i += 1;
@@ -37,20 +37,20 @@ fn seal_of(file: &[u8], end: usize) -> u64 {
 
 // That seal into the last eight bytes, the lowest first.
 fn put_seal(file: &mut [u8]) {
-    let mut left = seal_of(&file[..], 17252);
-    let mut place: usize = 17252;
-    while place < 17260 {
+    let mut left = seal_of(&file[..], 29396);
+    let mut place: usize = 29396;
+    while place < 29404 {
         set_byte(file, place, (left % 256) as u8);
         left /= 256;
         place += 1;
     }
 }
 
-// The file of a packed state and the names, in 17,260 bytes.
+// The file of a packed state and the names, in 29,404 bytes.
 pub(crate) fn put_file(file: &mut [u8], packed: &[u8], names: &[u8]) {
     put_at(file, 0, packed);
     put_at(file, 12492, names);
-    put_at(file, 17244, b"MOONDSK2");
+    put_at(file, 29388, b"MOONDSK3");
     put_seal(file);
 }
 
@@ -90,6 +90,9 @@ fn is_whole(file: &[u8], size: usize, version: &[u8]) -> bool
 
 // Whether bytes are a file that a desk saved, whole and unchanged.
 pub(crate) fn is_sealed(file: &[u8]) -> bool {
+    if is_whole(file, 29404, b"MOONDSK3") {
+        return true;
+    }
     if is_whole(file, 17260, b"MOONDSK2") {
         return true;
     }
@@ -126,15 +129,24 @@ fn names_start(size: usize) -> usize {
     12492
 }
 
-// The names that a file has.
-pub(crate) fn take_names(file: &[u8], names: &mut [u8; 4752]) {
-    let mut place = names_start(file.len());
-    let mut i: usize = 0;
-    while i < 4752 {
-        if place < file.len() {
-            names[i] = file[place];
-            place += 1;
+// Byte i of the names, which start at a place of a file, and behind which are its version and its seal; 0 where there is no more of them.
+fn name_byte(file: &[u8], start: usize, i: usize) -> u8 {
+    if start < 12493 {
+        if i < 16896 {
+            if start + i + 16 < file.len() {
+                return file[start + i];
+            }
         }
+    }
+    0
+}
+
+// The names that a file has.
+pub(crate) fn take_names(file: &[u8], names: &mut [u8; 16896]) {
+    let start = names_start(file.len());
+    let mut i: usize = 0;
+    while i < 16896 {
+        names[i] = name_byte(file, start, i);
         i += 1;
     }
 }

@@ -5,14 +5,18 @@ use super::brakes::is_braked;
 use super::disagreeing::put_disagreeing;
 use super::failed;
 use super::files::copied;
+use super::places::put_place;
 use super::plans::fresh;
 use super::reasons::put_why;
 use super::refused;
+use super::rules::put_rule;
+use super::shown;
 use drawing::put;
 use drawing::put_byte;
 use drawing::put_hex;
 use drawing::put_next;
 use drawing::put_pair;
+use drawing::unended;
 use machine::State;
 use sheet::Sheet;
 use writer::Answer;
@@ -54,16 +58,16 @@ fn is_kept(before: State, bytes: &[u8; 8000], length: usize) -> bool {
     false
 }
 
-fn clear(names: &mut [u8; 4752]) {
+fn clear(names: &mut [u8; 16896]) {
     let mut i = 0;
-    while i < 4752 {
+    while i < 16896 {
         names[i] = 0;
         i += 1;
     }
 }
 
 // The names are those of the plan of the state before, and of no other.
-pub(crate) fn forget(before: State, bytes: &[u8; 8000], length: usize, names: &mut [u8; 4752]) {
+pub(crate) fn forget(before: State, bytes: &[u8; 8000], length: usize, names: &mut [u8; 16896]) {
     if is_kept(before, bytes, length) {
         return;
     }
@@ -91,12 +95,23 @@ fn line_of(lines: &[u32; 4355], row: usize) -> u64 {
     0
 }
 
-// What is wrong with a line of the text.
-fn put_wrong(out: &mut [u8; 4096], used: usize, line: u64, reason: usize) -> usize {
+// What is wrong with a line of the text, and, where it is to be pointed at, by which word.
+fn put_wrong(
+    out: &mut [u8; 4096],
+    used: usize,
+    line: u64,
+    reason: usize,
+    text: &[u8],
+    place: usize,
+    pointed: bool,
+) -> usize {
     let mut at = put(out, used, b"error");
     at = put_next(out, at, line);
     at = put_byte(out, at, 32);
     at = put_why(out, at, reason);
+    if pointed {
+        at = put_place(out, at, text, place);
+    }
     put_byte(out, at, 10)
 }
 
@@ -122,7 +137,7 @@ fn renamed(
     text: &[u8],
     plan: &[u8],
     length: usize,
-    names: &mut [u8; 4752],
+    names: &mut [u8; 16896],
     out: &mut [u8; 4096],
 ) -> Desk {
     if length <= plan.len() {
@@ -150,7 +165,7 @@ fn written_with_care(
     length: usize,
     number: u64,
     bytes: &mut [u8; 8000],
-    names: &mut [u8; 4752],
+    names: &mut [u8; 16896],
     out: &mut [u8; 4096],
 ) -> Desk {
     let state = desk.state;
@@ -169,7 +184,7 @@ fn written(
     plan: &[u8; 4096],
     length: usize,
     bytes: &mut [u8; 8000],
-    names: &mut [u8; 4752],
+    names: &mut [u8; 16896],
     out: &mut [u8; 4096],
 ) -> Desk {
     copied(plan, bytes);
@@ -187,6 +202,27 @@ fn answer_of(rows: &[u32], length: usize, plan: &mut [u8; 4096]) -> Answer {
     }
 }
 
+// A text that is refused, and, for a person, by which rule where that is not told by the number.
+fn ruled(
+    desk: Desk,
+    text: &[u8],
+    rows: &[u32; 87100],
+    lines: &[u32; 4355],
+    row: usize,
+    out: &mut [u8; 4096],
+) -> Desk {
+    if desk.said != 5 {
+        return desk;
+    }
+    if !desk.spoken {
+        return desk;
+    }
+    let mut at = unended(out, desk.used);
+    at = put_rule(out, at, text, rows, lines, row);
+    at = put_byte(out, at, 10);
+    shown(desk, at)
+}
+
 // The rows of a text are written.
 fn write_rows(
     desk: Desk,
@@ -196,7 +232,7 @@ fn write_rows(
     length: usize,
     lines: &[u32; 4355],
     bytes: &mut [u8; 8000],
-    names: &mut [u8; 4752],
+    names: &mut [u8; 16896],
     out: &mut [u8; 4096],
 ) -> Desk {
     let mut plan = [0u8; 4096];
@@ -218,7 +254,7 @@ fn write_rows(
             }
             let line = line_after(number, line_of(lines, place));
             let used = put_pair(out, desk.used, b"write", wide(refusal), line);
-            refused(desk, used, refusal)
+            ruled(refused(desk, used, refusal), text, rows, lines, place, out)
         }
     }
 }
@@ -230,7 +266,7 @@ pub fn write(
     text: &[u8],
     number: u64,
     bytes: &mut [u8; 8000],
-    names: &mut [u8; 4752],
+    names: &mut [u8; 16896],
     out: &mut [u8; 4096],
 ) -> Desk {
     let mut rows = [0u32; 87100];
@@ -248,8 +284,20 @@ pub fn write(
             names,
             out,
         ),
-        Sheet::Wrong { line, reason } => {
-            let used = put_wrong(out, desk.used, line_after(number, line as u64), reason);
+        Sheet::Wrong {
+            line,
+            reason,
+            place,
+        } => {
+            let used = put_wrong(
+                out,
+                desk.used,
+                line_after(number, line as u64),
+                reason,
+                text,
+                place,
+                desk.spoken,
+            );
             failed(desk, used)
         }
     }

@@ -27,6 +27,7 @@ pub enum What {
     Mend,
     Save,
     Open,
+    Page,
     Write,
 }
 
@@ -194,6 +195,8 @@ fn kept(line: &[u8], at: usize, verb: u32) -> Phrase {
         17 => files::named(line, at, What::Save, true),
         18 => files::named(line, at, What::Open, false),
         19 => files::named(line, at, What::Open, true),
+        21 => files::named(line, at, What::Page, false),
+        22 => files::named(line, at, What::Page, true),
         _ => nothing(),
     }
 }

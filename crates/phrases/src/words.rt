@@ -40,5 +40,7 @@ pub(crate) fn verb_of(w: &[u8]) -> u32 {
     let v = either(w, b"save", 16, v);
     let v = either(w, b"save!", 17, v);
     let v = either(w, b"open", 18, v);
-    either(w, b"open!", 19, v)
+    let v = either(w, b"open!", 19, v);
+    let v = either(w, b"page", 21, v);
+    either(w, b"page!", 22, v)
 }

@@ -126,15 +126,20 @@ fn put_second(out: &mut [u8; 4096], used: usize, k: usize) -> usize {
         22 => put(
             out,
             used,
-            b"plain                           answer by numbers alone, with no brakes: for programs",
+            b"page FILE                       all of it as a page for a browser: orders, messages, drawings",
         ),
         23 => put(
             out,
             used,
+            b"plain                           answer by numbers alone, with no brakes: for programs",
+        ),
+        24 => put(
+            out,
+            used,
             b"spoken                          answer with words behind the numbers",
         ),
-        24 => put(out, used, b"quit                            end"),
-        25 => put(
+        25 => put(out, used, b"quit                            end"),
+        26 => put(
             out,
             used,
             b"help [WORD]                     this list, or more on one command; \"help refusals\" and \"help faults\" for what their numbers mean",
@@ -255,18 +260,23 @@ fn put_more_second(out: &mut [u8; 4096], used: usize, k: usize) -> usize {
             used,
             b"  Where orders are live or messages wait it is \"open!\" that drops them.",
         ),
-        22 => put(out, used, b"  \"spoken\" answers with words again."),
-        23 => put(
+        22 => put(
+            out,
+            used,
+            b"  One HTML file, made anew each time, that needs no server. It replaces a page only; \"page!\" any file, which stays as FILE.old.",
+        ),
+        23 => put(out, used, b"  \"spoken\" answers with words again."),
+        24 => put(
             out,
             used,
             b"  So the desk begins, but for the word plain behind its name.",
         ),
-        24 => put(
+        25 => put(
             out,
             used,
             b"  What is not saved is told; \"quit!\" ends all the same.",
         ),
-        25 => put(
+        26 => put(
             out,
             used,
             b"  Refusals are the numbers behind a command that is not done: post 14.",
@@ -307,16 +317,17 @@ fn is_second(word: &[u8], k: usize) -> bool {
         19 => same(word, b"show"),
         20 => same(word, b"save"),
         21 => same(word, b"open"),
-        22 => same(word, b"plain"),
-        23 => same(word, b"spoken"),
-        24 => same(word, b"quit"),
-        25 => same(word, b"help"),
+        22 => same(word, b"page"),
+        23 => same(word, b"plain"),
+        24 => same(word, b"spoken"),
+        25 => same(word, b"quit"),
+        26 => same(word, b"help"),
         _ => false,
     }
 }
 
 // How many commands there are.
-const TOPICS: usize = 26;
+const TOPICS: usize = 27;
 
 fn put_line(out: &mut [u8; 4096], used: usize, k: usize) -> usize {
     let mut at = put_first(out, used, k);

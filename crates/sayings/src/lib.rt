@@ -3,9 +3,11 @@ mod faults;
 mod help;
 mod refusals;
 
+pub use faults::has_faulted;
 pub use faults::put_by_fault;
 pub use faults::put_fault;
 pub use faults::put_faults;
+pub use faults::put_scope_faulted;
 pub use help::has_help;
 pub use help::put_help;
 pub use help::put_help_on;

@@ -1,42 +1,48 @@
 // Reads what an activity or an arm says of itself, as the drawing has it.
-use super::expressions::Read;
-use super::expressions::expression;
-use super::expressions::more;
-use super::expressions::narrow;
-use super::expressions::variable;
-use super::marks::after_mark;
-use super::marks::after_word;
-use super::marks::decimal;
-use super::marks::is_name;
-use super::marks::is_over;
-use super::marks::past_blanks;
-use super::marks::word_end;
-use super::names::after_correlation;
-use super::names::declared;
-use super::names::is_correlation;
-use super::table::add;
-use super::table::begin;
 use plan::code;
 use plan::kind;
+use spelling::Read;
+use spelling::add;
+use spelling::after_correlation;
+use spelling::after_mark;
+use spelling::after_word;
+use spelling::begin;
+use spelling::decimal;
+use spelling::declared;
+use spelling::expression;
+use spelling::fault_number;
+use spelling::is_correlation;
+use spelling::is_long;
+use spelling::is_name;
+use spelling::is_over;
+use spelling::is_scope_named;
+use spelling::more;
+use spelling::narrow;
+use spelling::no_fault;
+use spelling::past_blanks;
+use spelling::variable;
+use spelling::word_end;
 
-// What an activity is: its kind (of a scope that of one with no undo part), the next row, or what is wrong.
+// What an activity is: its kind (of a scope that of one with no undo part), the next row, or what is wrong, and where.
 pub struct Own {
     pub kind: usize,
     pub row: usize,
     pub wrong: usize,
+    pub at: usize,
 }
 
-fn bad(reason: usize) -> Own {
+fn bad(reason: usize, at: usize) -> Own {
     Own {
         kind: 0,
         row: 0,
         wrong: reason,
+        at,
     }
 }
 
-fn unread(reason: usize) -> Read {
+fn unread(reason: usize, at: usize) -> Read {
     Read {
-        at: 0,
+        at,
         row: 0,
         wrong: reason,
     }
@@ -62,7 +68,7 @@ fn numbered(
     let from = past_blanks(s, at);
     let to = word_end(s, from);
     if to <= from {
-        return unread(7);
+        return unread(7, from);
     }
     if is_name(s, from) {
         let x = declared(s, stop, what, from, to);
@@ -70,14 +76,14 @@ fn numbered(
             add(rows, r, narrow(x));
             return read_to(to);
         }
-        return unread(8);
+        return unread(8, from);
     }
     let y = decimal(s, from, to);
     if y < 4294967296 {
         add(rows, r, narrow(y));
         return read_to(to);
     }
-    unread(10)
+    unread(10, from)
 }
 
 // A variable of a tuple, with its mark where it has one, into row r.
@@ -85,11 +91,11 @@ fn member(s: &[u8], stop: usize, at: usize, rows: &mut [u32; 87100], r: usize) -
     let from = past_blanks(s, at);
     let to = word_end(s, from);
     if to <= from {
-        return unread(7);
+        return unread(7, from);
     }
     let v = variable(s, stop, from, to);
     if 4294967295 < v {
-        return unread(8);
+        return unread(8, from);
     }
     add(rows, r, narrow(v));
     let marked = after_correlation(s, to);
@@ -99,7 +105,7 @@ fn member(s: &[u8], stop: usize, at: usize, rows: &mut [u32; 87100], r: usize) -
     if is_correlation(s, stop, v) {
         return read_to(marked);
     }
-    unread(13)
+    unread(13, from)
 }
 
 // How many variables a tuple has: one more than it has commas.
@@ -133,45 +139,45 @@ fn tuple(s: &[u8], stop: usize, at: usize, rows: &mut [u32; 87100], r: usize) ->
     while p < s.len() {
         let m = member(s, stop, p, rows, r);
         if 0 < m.wrong {
-            return unread(m.wrong);
+            return m;
         }
         if is_over(s, m.at) {
             return read_to(m.at);
         }
         let q = after_mark(s, m.at, 44);
         if q <= p {
-            return unread(7);
+            return unread(7, m.at);
         }
         p = q;
     }
-    unread(7)
+    unread(7, p)
 }
 
 // `partner P, operation O: V, V` into row r.
 fn exchange(s: &[u8], stop: usize, at: usize, rows: &mut [u32; 87100], r: usize) -> Read {
     let a = after_word(s, at, b"partner");
     if a == 0 {
-        return unread(7);
+        return unread(7, at);
     }
     let p = numbered(s, stop, a, 1, rows, r);
     if 0 < p.wrong {
-        return unread(p.wrong);
+        return p;
     }
     let b = after_mark(s, p.at, 44);
     if b == 0 {
-        return unread(7);
+        return unread(7, p.at);
     }
     let c = after_word(s, b, b"operation");
     if c == 0 {
-        return unread(7);
+        return unread(7, b);
     }
     let o = numbered(s, stop, c, 2, rows, r);
     if 0 < o.wrong {
-        return unread(o.wrong);
+        return o;
     }
     let d = after_mark(s, o.at, 58);
     if d == 0 {
-        return unread(7);
+        return unread(7, o.at);
     }
     tuple(s, stop, d, rows, r)
 }
@@ -185,13 +191,10 @@ fn message(
     rows: &mut [u32; 87100],
     r: usize,
 ) -> Own {
-    if at == 0 {
-        return bad(26);
-    }
     put_code(kind, rows, r);
     let e = exchange(s, stop, at, rows, r);
     if 0 < e.wrong {
-        return bad(e.wrong);
+        return bad(e.wrong, e.at);
     }
     own_of(kind, r)
 }
@@ -221,21 +224,19 @@ fn with_expression(
     r: usize,
     line: u32,
 ) -> Own {
-    if at == 0 {
-        return bad(24);
-    }
     let e = expression(s, stop, at, rows, lines, more(r), line);
     if 0 < e.wrong {
-        return bad(e.wrong);
+        return bad(e.wrong, e.at);
     }
     if is_over(s, e.at) {
         return Own {
             kind,
             row: e.row,
             wrong: 0,
+            at: e.at,
         };
     }
-    bad(9)
+    bad(9, e.at)
 }
 
 fn set(
@@ -251,20 +252,15 @@ fn set(
     let to = word_end(s, from);
     let v = variable(s, stop, from, to);
     if 4294967295 < v {
-        return bad(8);
+        return bad(8, from);
+    }
+    let e = after_word(s, to, b"to");
+    if e == 0 {
+        return bad(24, to);
     }
     add(rows, r, kind::SET);
     add(rows, r, narrow(v));
-    with_expression(
-        s,
-        stop,
-        after_word(s, to, b"to"),
-        code::SET,
-        rows,
-        lines,
-        r,
-        line,
-    )
+    with_expression(s, stop, e, code::SET, rows, lines, r, line)
 }
 
 // An activity that is its word alone, or has a list, whose count is filled in as it is read.
@@ -273,7 +269,7 @@ fn plain(s: &[u8], at: usize, kind: usize, rows: &mut [u32; 87100], r: usize) ->
         add(rows, r, kind_code(kind));
         return listed(kind, rows, r);
     }
-    bad(25)
+    bad(25, at)
 }
 
 fn listed(kind: usize, rows: &mut [u32; 87100], r: usize) -> Own {
@@ -296,6 +292,7 @@ fn own_of(kind: usize, r: usize) -> Own {
         kind,
         row: more(r),
         wrong: 0,
+        at: 0,
     }
 }
 
@@ -394,50 +391,70 @@ pub(crate) fn activity(
         code::SET => set(s, stop, o.at, rows, lines, r, line),
         code::CHOOSE => judged(s, stop, o.at, code::CHOOSE, rows, lines, r, line),
         code::REPEAT => judged(s, stop, o.at, code::REPEAT, rows, lines, r, line),
-        code::ARM => arm_of(s, stop, after_mark(s, o.at, 58), rows, r),
-        _ => worded(s, o.at, rows, r),
+        code::ARM => arm_of(s, stop, o.at, rows, r),
+        _ => worded(s, stop, o.at, rows, r),
     }
 }
 
 fn arm_of(s: &[u8], stop: usize, at: usize, rows: &mut [u32; 87100], r: usize) -> Own {
-    if at == 0 {
-        return bad(26);
+    let mark = after_mark(s, at, 58);
+    if mark == 0 {
+        return bad(26, at);
     }
-    let receive = after_word(s, at, b"receive");
-    if receive == 0 {
-        return bad(26);
+    let from = after_both(s, mark, b"receive", b"from");
+    if from == 0 {
+        return bad(26, mark);
     }
-    message(s, stop, after_word(s, receive, b"from"), code::ARM, rows, r)
+    message(s, stop, from, code::ARM, rows, r)
 }
 
-// A raise, plain or with its number from `at` on.
-fn raised(s: &[u8], at: usize, rows: &mut [u32; 87100], r: usize) -> Own {
+// A scope, and the name that it may have: no other scope has it.
+fn scope(s: &[u8], stop: usize, at: usize, rows: &mut [u32; 87100], r: usize) -> Own {
+    if is_over(s, at) {
+        return plain(s, at, code::OPEN_SCOPE, rows, r);
+    }
+    let from = past_blanks(s, at);
+    let to = word_end(s, from);
+    if is_name(s, from) {
+        if is_long(from, to) {
+            return bad(22, from);
+        }
+        if is_scope_named(s, stop, from, to) {
+            return bad(2, from);
+        }
+        return plain(s, to, code::OPEN_SCOPE, rows, r);
+    }
+    bad(25, from)
+}
+
+// A raise, plain or with its number or name from `at` on.
+fn raised(s: &[u8], stop: usize, at: usize, rows: &mut [u32; 87100], r: usize) -> Own {
     if is_over(s, at) {
         return plain(s, at, code::RAISE, rows, r);
     }
     let from = past_blanks(s, at);
     let to = word_end(s, from);
-    let number = decimal(s, from, to);
+    let number = fault_number(s, stop, from, to);
     if 4294967295 < number {
-        return bad(10);
+        return bad(no_fault(s, from), from);
     }
     if is_over(s, to) {
         add(rows, r, kind_code(code::NUMBERED_RAISE));
         add(rows, r, narrow(number));
         return own_of(code::NUMBERED_RAISE, r);
     }
-    bad(25)
+    bad(25, to)
 }
 
 // An activity of one word, or a raise with its number.
-fn worded(s: &[u8], at: usize, rows: &mut [u32; 87100], r: usize) -> Own {
+fn worded(s: &[u8], stop: usize, at: usize, rows: &mut [u32; 87100], r: usize) -> Own {
     let empty = after_word(s, at, b"empty");
     if 0 < empty {
         return plain(s, empty, code::EMPTY, rows, r);
     }
     let raise = after_word(s, at, b"raise");
     if 0 < raise {
-        return raised(s, raise, rows, r);
+        return raised(s, stop, raise, rows, r);
     }
     let leave = after_word(s, at, b"leave");
     if 0 < leave {
@@ -455,9 +472,9 @@ fn worded(s: &[u8], at: usize, rows: &mut [u32; 87100], r: usize) -> Own {
     if 0 < pick {
         return plain(s, pick, code::PICK, rows, r);
     }
-    let scope = after_word(s, at, b"scope");
-    if 0 < scope {
-        return plain(s, scope, code::OPEN_SCOPE, rows, r);
+    let named = after_word(s, at, b"scope");
+    if 0 < named {
+        return scope(s, stop, named, rows, r);
     }
-    bad(6)
+    bad(6, at)
 }

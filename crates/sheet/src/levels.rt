@@ -1,9 +1,9 @@
 // The activities that a line may stand in: those that are open, the outermost first. Each has its column, its kind, its row, how many stand directly
-// in it, and their column. Kinds are those of plan, but for the root, which is the first and has one of its own; a scope is always one with no undo part
+// in it, and their column; a scope how many of these are fault parts by number, and the row of their count. Kinds are those of plan, but for the root, which is the first and has one of its own; a scope is always one with no undo part
 // here.
-use super::table::put;
 use plan::code;
 use plan::kind;
+use spelling::put;
 
 // The kind of the root.
 pub(crate) const ROOT: usize = 256;
@@ -37,6 +37,8 @@ pub(crate) fn open(
     set_field(levels, level, 2, row);
     set_field(levels, level, 3, 0);
     set_field(levels, level, 4, 0);
+    set_field(levels, level, 5, 0);
+    set_field(levels, level, 6, 0);
 }
 
 pub(crate) fn row_of(levels: &[usize; 512], level: usize) -> usize {
@@ -58,17 +60,65 @@ fn wanted(kind: usize) -> usize {
     }
 }
 
-// Whether what stands in an open activity is whole. Of a scope the undo part may be left out.
+// How many may stand in an open activity: in a scope, one more for each fault part by number.
+fn most(levels: &[usize; 512], level: usize) -> usize {
+    let kind = field(levels, level, 1);
+    if kind == code::OPEN_SCOPE {
+        return sum(wanted(kind), field(levels, level, 5));
+    }
+    wanted(kind)
+}
+
+fn sum(a: usize, b: usize) -> usize {
+    if a < 4096 {
+        if b < 4096 {
+            return a + b;
+        }
+    }
+    4096
+}
+
+// Whether what stands in an open activity is whole. Of a scope with no fault parts by number the undo part may be left out.
 pub(crate) fn is_whole(levels: &[usize; 512], level: usize) -> bool {
     let kind = field(levels, level, 1);
-    let w = wanted(kind);
+    let w = most(levels, level);
     if w == 1000000 {
         return true;
     }
     if kind == code::OPEN_SCOPE {
-        return 1 < field(levels, level, 3);
+        if field(levels, level, 5) == 0 {
+            return 1 < field(levels, level, 3);
+        }
     }
     field(levels, level, 3) == w
+}
+
+// Whether a fault part by number may stand next in an open activity: after the body of a scope, and after others of these.
+pub(crate) fn takes_number(levels: &[usize; 512], level: usize) -> bool {
+    if field(levels, level, 1) == code::OPEN_SCOPE {
+        return field(levels, level, 3) == sum(1, field(levels, level, 5));
+    }
+    false
+}
+
+// Whether an open scope has no fault part by number yet: then the row of their count comes first.
+pub(crate) fn is_first_number(levels: &[usize; 512], level: usize) -> bool {
+    field(levels, level, 5) == 0
+}
+
+// The row of their count.
+pub(crate) fn open_numbers(levels: &mut [usize; 512], level: usize, row: usize) {
+    set_field(levels, level, 6, row);
+}
+
+// One more fault part by number stands in an open scope: its count goes into the count's row, and the scope's code into its own.
+pub(crate) fn add_number(levels: &mut [usize; 512], level: usize, rows: &mut [u32; 87100]) {
+    let many = sum(1, field(levels, level, 5));
+    set_field(levels, level, 5, many);
+    if many < 4097 {
+        put(rows, field(levels, level, 6), 1, many as u32);
+    }
+    put(rows, row_of(levels, level), 1, kind::NUMBERED_SCOPE);
 }
 
 // Whether a line at this column stands in an open activity.
@@ -84,7 +134,7 @@ pub(crate) fn part(levels: &[usize; 512], level: usize) -> usize {
     let order = field(levels, level, 3);
     match field(levels, level, 1) {
         ROOT => of_root(order),
-        code::OPEN_SCOPE => of_scope(order),
+        code::OPEN_SCOPE => of_scope(order, field(levels, level, 5)),
         code::CHOOSE => of_choose(order),
         _ => 0,
     }
@@ -97,11 +147,12 @@ fn of_root(order: usize) -> usize {
     2
 }
 
-fn of_scope(order: usize) -> usize {
+// The general fault part stands after those by number, of which there are so many.
+fn of_scope(order: usize, numbered: usize) -> usize {
     if order == 0 {
         return 3;
     }
-    if order == 1 {
+    if order <= sum(1, numbered) {
         return 4;
     }
     5
@@ -152,13 +203,13 @@ pub(crate) fn enter(
     let outer = field(levels, level, 1);
     let order = field(levels, level, 3);
     if is_aligned(levels, level, column) {
-        if wanted(outer) <= order {
+        if most(levels, level) <= order {
             return 15;
         }
         if fits(kind, outer) {
             set_field(levels, level, 3, order + 1);
             set_field(levels, level, 4, column);
-            count(rows, outer, row_of(levels, level), order);
+            count(rows, outer, row_of(levels, level), order, field(levels, level, 5));
             return 0;
         }
         return 16;
@@ -166,7 +217,7 @@ pub(crate) fn enter(
     14
 }
 
-fn count(rows: &mut [u32; 87100], outer: usize, row: usize, order: usize) {
+fn count(rows: &mut [u32; 87100], outer: usize, row: usize, order: usize, numbered: usize) {
     if wanted(outer) == 1000000 {
         if order < 4294967295 {
             put(rows, row, 2, order as u32 + 1);
@@ -174,7 +225,14 @@ fn count(rows: &mut [u32; 87100], outer: usize, row: usize, order: usize) {
     }
     if outer == code::OPEN_SCOPE {
         if order == 2 {
-            put(rows, row, 1, kind::SCOPE);
+            close_scope(rows, row, numbered);
         }
+    }
+}
+
+// A scope with an undo part and no fault parts by number.
+fn close_scope(rows: &mut [u32; 87100], row: usize, numbered: usize) {
+    if numbered == 0 {
+        put(rows, row, 1, kind::SCOPE);
     }
 }

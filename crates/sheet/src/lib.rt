@@ -1,35 +1,35 @@
 // Reads a plan as text, the drawing of the desk with names declared in front, into the rows that the writer takes. The public calls are `read` and
 // `names_of`.
 mod activities;
-mod expressions;
 mod levels;
-mod marks;
-mod names;
-mod naming;
-mod table;
 
 use activities::activity;
 use activities::plus;
-use expressions::more;
-use marks::after_mark;
-use marks::after_word;
-use marks::decimal;
-use marks::has_tab;
-use marks::is_over;
-use marks::line_end;
-use marks::next_line;
-use marks::past_blanks;
-use marks::word_end;
-use names::declaration;
-use names::is_correlation;
-use names::what_of;
-pub use naming::names_of;
-use table::add;
-use table::begin;
-use table::is_there;
+use spelling::add;
+use spelling::after_numbered;
+use spelling::after_part;
+use spelling::begin;
+use spelling::declaration;
+use spelling::fault_number;
+use spelling::is_correlation;
+use spelling::is_over;
+use spelling::is_part;
+use spelling::is_there;
+use spelling::more;
+pub use spelling::names_of;
+use spelling::narrow;
+use spelling::next_line;
+use spelling::no_fault;
+use spelling::part_number;
+pub use spelling::past_blanks;
+use spelling::past_number;
+use spelling::tab_in;
+use spelling::what_of;
+pub use spelling::word_end;
+use spelling::wrong_place;
 
 // How many numbers of the table are used, 20 for each row; or the line that is wrong, counted from 1, and the reason:
-//     1  a declaration is a word, a number where it is a partner's or an operation's, and a name
+//     1  a declaration is a word, a number where it is a partner's, an operation's or a fault's, and a name; a constant's number stands behind its name
 //     2  the name is declared before, or is another variable's v0, v1, ..
 //     3  the number is above 63
 //     4  more than 16 variables
@@ -39,7 +39,7 @@ use table::is_there;
 //     8  no such name
 //     9  no such expression
 //     10 no such number
-//     11 more than 31 parentheses within one another
+//     11 more than 64 operations and parentheses within one another
 //     12 more rows than there is room for
 //     13 the variable is not for correlation
 //     14 the line does not stand where those before it do, or not an even number of blanks within
@@ -55,13 +55,22 @@ use table::is_there;
 //     24 a set is said otherwise
 //     25 something stands behind a word that stands alone
 //     26 an arm is said otherwise
+//     27 a word of expressions is no name
+//     28 a fault's number is not 16 to 255
+// `place` is where in the text, the length of the text where it is no place in it.
 pub enum Sheet {
-    Rows { length: usize },
-    Wrong { line: usize, reason: usize },
+    Rows {
+        length: usize,
+    },
+    Wrong {
+        line: usize,
+        reason: usize,
+        place: usize,
+    },
 }
 
 // Where the reading stands: the next row, the level of the last activity, how many variables are declared, where the declarations stop, whether they
-// have, the line, and what is wrong.
+// have, the line, what is wrong, and where.
 pub struct State {
     pub row: usize,
     pub level: usize,
@@ -70,9 +79,10 @@ pub struct State {
     pub drawing: bool,
     pub line: usize,
     pub wrong: usize,
+    pub place: usize,
 }
 
-fn failed(st: State, line: usize, reason: usize) -> State {
+fn failed(st: State, line: usize, reason: usize, place: usize) -> State {
     State {
         row: st.row,
         level: st.level,
@@ -81,6 +91,7 @@ fn failed(st: State, line: usize, reason: usize) -> State {
         drawing: st.drawing,
         line,
         wrong: reason,
+        place,
     }
 }
 
@@ -94,6 +105,7 @@ fn moved(st: State, row: usize, level: usize) -> State {
         drawing: st.drawing,
         line: st.line,
         wrong: st.wrong,
+        place: st.place,
     }
 }
 
@@ -106,6 +118,7 @@ fn counted(st: State) -> State {
         drawing: st.drawing,
         line: more(st.line),
         wrong: st.wrong,
+        place: st.place,
     }
 }
 
@@ -119,6 +132,7 @@ fn declared_one(st: State, what: usize) -> State {
             drawing: st.drawing,
             line: st.line,
             wrong: st.wrong,
+            place: st.place,
         };
     }
     st
@@ -141,11 +155,11 @@ fn small(n: usize) -> u32 {
 // A declaration.
 fn declare(s: &[u8], at: usize, what: usize, st: State) -> State {
     if st.drawing {
-        return failed(st, st.line, 5);
+        return failed(st, st.line, 5, at);
     }
     let w = declaration(s, at, what, st.variables);
     if 0 < w {
-        return failed(st, st.line, w);
+        return failed(st, st.line, w, wrong_place(s, at, what, w));
     }
     declared_one(st, what)
 }
@@ -163,7 +177,7 @@ fn correlations(s: &[u8], stop: usize, variables: u64) -> u32 {
 
 fn put_correlation(s: &[u8], stop: usize, k: u64, rows: &mut [u32; 87100]) {
     if is_correlation(s, stop, k) {
-        add(rows, 0, expressions::narrow(k));
+        add(rows, 0, narrow(k));
     }
 }
 
@@ -178,7 +192,7 @@ fn put_head(
 ) {
     begin(rows, lines, 0, line);
     add(rows, 0, 1);
-    add(rows, 0, expressions::narrow(variables));
+    add(rows, 0, narrow(variables));
     add(rows, 0, correlations(s, stop, variables));
     let mut k: u64 = 0;
     while k < variables {
@@ -209,79 +223,8 @@ fn started(
         drawing: true,
         line: st.line,
         wrong: st.wrong,
+        place: st.place,
     }
-}
-
-// The place after a number at the front of a line, which may be left out.
-fn past_number(s: &[u8], at: usize) -> usize {
-    let from = past_blanks(s, at);
-    let to = word_end(s, from);
-    if decimal(s, from, to) < 4294967296 {
-        return past_blanks(s, to);
-    }
-    from
-}
-
-// The place after the name of a part, as `fault part:`; 0 where it is not there.
-fn after_part(s: &[u8], at: usize, word: &[u8], more: &[u8]) -> usize {
-    let p = after_word(s, at, word);
-    if p == 0 {
-        return 0;
-    }
-    if more.len() == 0 {
-        return after_mark(s, p, 58);
-    }
-    let q = after_word(s, p, more);
-    if q == 0 {
-        return 0;
-    }
-    after_mark(s, q, 58)
-}
-
-// The place after the name of the root's parts; 0 where it is not there.
-fn after_root(s: &[u8], at: usize, part: usize) -> usize {
-    let p = after_word(s, at, b"root");
-    if p == 0 {
-        return 0;
-    }
-    if part == 1 {
-        return after_part(s, p, b"body", b"");
-    }
-    after_part(s, p, b"fault", b"part")
-}
-
-// The place after the name of this part; 0 where it is not there.
-fn after_name(s: &[u8], at: usize, part: usize) -> usize {
-    match part {
-        1 => after_root(s, at, 1),
-        2 => after_root(s, at, 2),
-        3 => after_part(s, at, b"body", b""),
-        4 => after_part(s, at, b"fault", b"part"),
-        5 => after_part(s, at, b"undo", b"part"),
-        6 => after_part(s, at, b"then", b""),
-        7 => after_part(s, at, b"else", b""),
-        _ => 0,
-    }
-}
-
-// Whether a line starts with a word that names a part.
-fn is_part(s: &[u8], at: usize) -> bool {
-    if 0 < after_word(s, at, b"root") {
-        return true;
-    }
-    if 0 < after_word(s, at, b"body") {
-        return true;
-    }
-    if 0 < after_word(s, at, b"fault") {
-        return true;
-    }
-    if 0 < after_word(s, at, b"undo") {
-        return true;
-    }
-    if 0 < after_word(s, at, b"then") {
-        return true;
-    }
-    0 < after_word(s, at, b"else")
 }
 
 fn wide(x: u32) -> usize {
@@ -296,7 +239,13 @@ fn line_of(lines: &[u32; 4355], row: usize) -> usize {
 }
 
 // The activities that a line does not stand in are closed, down to the level that it stands in.
-fn close(lines: &[u32; 4355], levels: &[usize; 512], column: usize, st: State) -> State {
+fn close(
+    lines: &[u32; 4355],
+    levels: &[usize; 512],
+    column: usize,
+    nowhere: usize,
+    st: State,
+) -> State {
     let mut level = st.level;
     while 0 < level {
         if levels::stands_in(levels, level, column) {
@@ -305,7 +254,12 @@ fn close(lines: &[u32; 4355], levels: &[usize; 512], column: usize, st: State) -
         if levels::is_whole(levels, level) {
             level -= 1;
         } else {
-            return failed(st, line_of(lines, levels::row_of(levels, level)), 19);
+            return failed(
+                st,
+                line_of(lines, levels::row_of(levels, level)),
+                19,
+                nowhere,
+            );
         }
     }
     moved(st, st.row, 0)
@@ -324,20 +278,87 @@ fn put_activity(
     if is_there(st.row) {
         let own = activity(s, st.stop, at, rows, lines, st.row, small(st.line));
         if 0 < own.wrong {
-            return failed(st, st.line, own.wrong);
+            return failed(st, st.line, own.wrong, own.at);
         }
         let w = levels::enter(levels, st.level, column, own.kind, rows);
         if 0 < w {
-            return failed(st, st.line, w);
+            return failed(st, st.line, w, at);
         }
         let level = more(st.level);
         if 63 < level {
-            return failed(st, st.line, 18);
+            return failed(st, st.line, 18, at);
         }
         levels::open(levels, level, column, own.kind, st.row);
         return moved(st, own.row, level);
     }
-    failed(st, st.line, 12)
+    failed(st, st.line, 12, at)
+}
+
+// The row of the count of fault parts by number, before the first of them.
+fn put_count(
+    rows: &mut [u32; 87100],
+    lines: &mut [u32; 4355],
+    levels: &mut [usize; 512],
+    st: State,
+) -> State {
+    if levels::is_first_number(levels, st.level) {
+        if is_there(st.row) {
+            begin(rows, lines, st.row, small(st.line));
+            add(rows, st.row, 0);
+            levels::open_numbers(levels, st.level, st.row);
+            return moved(st, more(st.row), st.level);
+        }
+    }
+    st
+}
+
+// The row of the number of a fault part, which stands at `from`, or its name.
+fn put_number(
+    s: &[u8],
+    from: usize,
+    rows: &mut [u32; 87100],
+    lines: &mut [u32; 4355],
+    levels: &mut [usize; 512],
+    st: State,
+) -> State {
+    let number = fault_number(s, st.stop, from, word_end(s, from));
+    if 4294967295 < number {
+        return failed(st, st.line, no_fault(s, from), from);
+    }
+    let c = put_count(rows, lines, levels, st);
+    if is_there(c.row) {
+        begin(rows, lines, c.row, small(c.line));
+        add(rows, c.row, narrow(number));
+        levels::add_number(levels, c.level, rows);
+        return moved(c, more(c.row), c.level);
+    }
+    failed(c, c.line, 12, from)
+}
+
+// A fault part by number, whose number stands at `from`.
+fn draw_numbered(
+    s: &[u8],
+    at: usize,
+    from: usize,
+    column: usize,
+    rows: &mut [u32; 87100],
+    lines: &mut [u32; 4355],
+    levels: &mut [usize; 512],
+    st: State,
+) -> State {
+    let c = put_number(s, from, rows, lines, levels, st);
+    if 0 < c.wrong {
+        return c;
+    }
+    put_activity(s, after_numbered(s, at), column, rows, lines, levels, c)
+}
+
+// Where the number of a fault part stands, in a line that may have one; else 0.
+fn number_in(s: &[u8], at: usize, levels: &[usize; 512], level: usize) -> usize {
+    if levels::takes_number(levels, level) {
+        return part_number(s, at);
+    }
+    0
 }
 
 // A line of the drawing, whose activity or part starts at `at`.
@@ -350,16 +371,20 @@ fn draw(
     levels: &mut [usize; 512],
     st: State,
 ) -> State {
-    let c = close(lines, levels, column, st);
+    let c = close(lines, levels, column, s.len(), st);
     if 0 < c.wrong {
         return c;
     }
-    let p = after_name(s, at, levels::part(levels, c.level));
+    let from = number_in(s, at, levels, c.level);
+    if 0 < from {
+        return draw_numbered(s, at, from, column, rows, lines, levels, c);
+    }
+    let p = after_part(s, at, levels::part(levels, c.level));
     if 0 < p {
         return put_activity(s, p, column, rows, lines, levels, c);
     }
     if is_part(s, at) {
-        return failed(c, c.line, 17);
+        return failed(c, c.line, 17, at);
     }
     put_activity(s, at, column, rows, lines, levels, c)
 }
@@ -381,14 +406,15 @@ fn read_line(
     before: State,
 ) -> State {
     let st = counted(before);
-    if has_tab(s, at) {
-        return failed(st, st.line, 21);
+    let tab = tab_in(s, at);
+    if tab < s.len() {
+        return failed(st, st.line, 21, tab);
     }
     if is_over(s, at) {
         return st;
     }
     let what = what_of(s, at);
-    if what < 3 {
+    if what < 5 {
         return declare(s, at, what, st);
     }
     let p = past_number(s, at);
@@ -405,17 +431,19 @@ fn fresh() -> State {
         drawing: false,
         line: 0,
         wrong: 0,
+        place: 0,
     }
 }
 
 // The text ends: everything in it is closed.
-fn end(lines: &[u32; 4355], levels: &[usize; 512], st: State) -> Sheet {
+fn end(lines: &[u32; 4355], levels: &[usize; 512], nowhere: usize, st: State) -> Sheet {
     if st.drawing {
-        let c = close(lines, levels, 0, st);
+        let c = close(lines, levels, 0, nowhere, st);
         if 0 < c.wrong {
             return Sheet::Wrong {
                 line: c.line,
                 reason: c.wrong,
+                place: nowhere,
             };
         }
         if levels::is_whole(levels, 0) {
@@ -424,11 +452,13 @@ fn end(lines: &[u32; 4355], levels: &[usize; 512], st: State) -> Sheet {
         return Sheet::Wrong {
             line: c.line,
             reason: 19,
+            place: nowhere,
         };
     }
     Sheet::Wrong {
         line: st.line,
         reason: 20,
+        place: nowhere,
     }
 }
 
@@ -450,13 +480,14 @@ pub fn read(s: &[u8], rows: &mut [u32; 87100], lines: &mut [u32; 4355]) -> Sheet
             return Sheet::Wrong {
                 line: st.line,
                 reason: st.wrong,
+                place: st.place,
             };
         }
         let next = next_line(s, at, s.len());
         if next <= at {
-            return end(lines, &levels, st);
+            return end(lines, &levels, s.len(), st);
         }
         at = next;
     }
-    end(lines, &levels, st)
+    end(lines, &levels, s.len(), st)
 }

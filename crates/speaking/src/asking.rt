@@ -12,7 +12,7 @@ use papers::refused;
 use papers::shown;
 
 // How many orders are live, and then each.
-fn put_asked(desk: Desk, only: usize, names: &[u8; 4752], out: &mut [u8; 4096]) -> Desk {
+fn put_asked(desk: Desk, only: usize, names: &[u8; 16896], out: &mut [u8; 4096]) -> Desk {
     let state = desk.state;
     let orders = state.orders;
     if state.length == 0 {
@@ -29,7 +29,7 @@ fn put_asked(desk: Desk, only: usize, names: &[u8; 4752], out: &mut [u8; 4096]) 
 }
 
 // Of all orders, and of the messages that nobody takes.
-pub(crate) fn why(desk: Desk, names: &[u8; 4752], out: &mut [u8; 4096]) -> Desk {
+pub(crate) fn why(desk: Desk, names: &[u8; 16896], out: &mut [u8; 4096]) -> Desk {
     put_asked(desk, 16, names, out)
 }
 
@@ -38,7 +38,7 @@ pub(crate) fn why_one(
     desk: Desk,
     slot: u32,
     number: u64,
-    names: &[u8; 4752],
+    names: &[u8; 16896],
     out: &mut [u8; 4096],
 ) -> Desk {
     if 15 < slot {

@@ -31,7 +31,7 @@ fn least(v: usize) -> usize {
     16
 }
 
-fn variable_of(names: &[u8; 4752], word: &[u8]) -> usize {
+fn variable_of(names: &[u8; 16896], word: &[u8]) -> usize {
     let v = names::variable_named(names, word);
     if v < 16 {
         return v;
@@ -58,7 +58,7 @@ fn has(order: Order, variable: usize, value: u32) -> bool {
 fn put_orders(
     out: &mut [u8; 4096],
     used: usize,
-    names: &[u8; 4752],
+    names: &[u8; 16896],
     state: State,
     variable: usize,
     value: u32,
@@ -105,7 +105,7 @@ pub(crate) fn order_by(
     word: &[u8],
     value: u32,
     number: u64,
-    names: &[u8; 4752],
+    names: &[u8; 16896],
     out: &mut [u8; 4096],
 ) -> Desk {
     let variable = variable_of(names, word);

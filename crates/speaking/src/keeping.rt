@@ -43,7 +43,7 @@ fn put_accepted(out: &mut [u8; 4096], used: usize, activities: usize) -> usize {
 }
 
 // What the last answer came to, in words behind it, and what the plan is warned of: an error says it all.
-fn told(desk: Desk, bytes: &[u8; 8000], names: &[u8; 4752], out: &mut [u8; 4096]) -> Desk {
+fn told(desk: Desk, bytes: &[u8; 8000], names: &[u8; 16896], out: &mut [u8; 4096]) -> Desk {
     if 999 < desk.said {
         return desk;
     }
@@ -102,7 +102,7 @@ pub(crate) fn plan(
     word: &[u8],
     number: u64,
     bytes: &mut [u8; 8000],
-    names: &mut [u8; 4752],
+    names: &mut [u8; 16896],
     out: &mut [u8; 4096],
 ) -> Desk {
     if is_braked(desk) {
@@ -131,7 +131,7 @@ pub(crate) fn mend(
     word: &[u8],
     number: u64,
     bytes: &mut [u8; 8000],
-    names: &mut [u8; 4752],
+    names: &mut [u8; 16896],
     out: &mut [u8; 4096],
 ) -> Desk {
     if is_braked(desk) {
@@ -172,11 +172,26 @@ pub(crate) fn save(
     desk: Desk,
     file: &[u8],
     number: u64,
-    names: &[u8; 4752],
+    names: &[u8; 16896],
     out: &mut [u8; 4096],
 ) -> Desk {
     let d = care::save(desk, file, number, names, out);
     filed(d, b" - saved in ", file, out)
+}
+
+// Writes a page.
+pub(crate) fn page(
+    desk: Desk,
+    file: &[u8],
+    number: u64,
+    names: &[u8; 16896],
+    out: &mut [u8; 4096],
+) -> Desk {
+    let d = care::page(desk, file, number, names, out);
+    if d.spoken {
+        return filed(d, b" - a page in ", file, out);
+    }
+    d
 }
 
 // Opens a file.
@@ -185,7 +200,7 @@ pub(crate) fn open(
     file: &[u8],
     number: u64,
     bytes: &mut [u8; 8000],
-    names: &mut [u8; 4752],
+    names: &mut [u8; 16896],
     out: &mut [u8; 4096],
 ) -> Desk {
     if is_braked(desk) {
@@ -205,7 +220,7 @@ pub fn written(
     text: &[u8],
     number: u64,
     bytes: &mut [u8; 8000],
-    names: &mut [u8; 4752],
+    names: &mut [u8; 16896],
     out: &mut [u8; 4096],
 ) -> Desk {
     let d = papers::write(desk, text, number, bytes, names, out);

@@ -27,7 +27,7 @@ fn answer_alone(
     line: &[u8],
     number: u64,
     bytes: &mut [u8; 8000],
-    names: &mut [u8; 4752],
+    names: &mut [u8; 16896],
     out: &mut [u8; 4096],
 ) -> Desk {
     match what {
@@ -51,7 +51,7 @@ fn answer_numbered(
     line: &[u8],
     number: u64,
     bytes: &mut [u8; 8000],
-    names: &mut [u8; 4752],
+    names: &mut [u8; 16896],
     out: &mut [u8; 4096],
 ) -> Desk {
     match what {
@@ -68,7 +68,7 @@ fn answer_listed(
     line: &[u8],
     from: usize,
     number: u64,
-    names: &[u8; 4752],
+    names: &[u8; 16896],
     out: &mut [u8; 4096],
 ) -> Desk {
     match what {
@@ -83,7 +83,7 @@ fn told(
     line: &[u8],
     number: u64,
     bytes: &mut [u8; 8000],
-    names: &mut [u8; 4752],
+    names: &mut [u8; 16896],
     out: &mut [u8; 4096],
 ) -> Desk {
     let c = commands::command_of(line);
@@ -116,7 +116,7 @@ fn usual(
     line: &[u8],
     number: u64,
     bytes: &mut [u8; 8000],
-    names: &mut [u8; 4752],
+    names: &mut [u8; 16896],
     out: &mut [u8; 4096],
 ) -> Desk {
     if desk.spoken {
@@ -132,7 +132,7 @@ fn kept(
     word: &[u8],
     number: u64,
     bytes: &mut [u8; 8000],
-    names: &mut [u8; 4752],
+    names: &mut [u8; 16896],
     out: &mut [u8; 4096],
 ) -> Desk {
     match what {
@@ -140,6 +140,7 @@ fn kept(
         What::Mend => keeping::mend(desk, word, number, bytes, names, out),
         What::Save => keeping::save(desk, word, number, names, out),
         What::Open => keeping::open(desk, word, number, bytes, names, out),
+        What::Page => keeping::page(desk, word, number, names, out),
         _ => desk,
     }
 }
@@ -150,7 +151,7 @@ fn said(
     p: Phrase,
     line: &[u8],
     number: u64,
-    names: &[u8; 4752],
+    names: &[u8; 16896],
     out: &mut [u8; 4096],
 ) -> Desk {
     let what = p.what;
@@ -183,7 +184,7 @@ fn said(
 // Whether a line is about plans and files; without the brakes of a person it is the console's.
 fn is_kept(what: What) -> bool {
     match what {
-        What::Plan | What::Mend | What::Save | What::Open => true,
+        What::Plan | What::Mend | What::Save | What::Open | What::Page => true,
         _ => false,
     }
 }
@@ -202,7 +203,7 @@ fn phrased(
     line: &[u8],
     number: u64,
     bytes: &mut [u8; 8000],
-    names: &mut [u8; 4752],
+    names: &mut [u8; 16896],
     out: &mut [u8; 4096],
 ) -> Desk {
     let what = p.what;
@@ -238,7 +239,7 @@ pub fn answer(
     line: &[u8],
     number: u64,
     bytes: &mut [u8; 8000],
-    names: &mut [u8; 4752],
+    names: &mut [u8; 16896],
     out: &mut [u8; 4096],
 ) -> Desk {
     let p = phrases::phrase_of(line);

@@ -40,7 +40,7 @@ fn message_in(messages: [Message; 64], place: usize) -> Message {
 fn put_taken(
     out: &mut [u8; 4096],
     used: usize,
-    names: &[u8; 4752],
+    names: &[u8; 16896],
     state: State,
     x: Step,
 ) -> usize {
@@ -64,7 +64,7 @@ fn put_taken(
     }
 }
 
-fn put_told(out: &mut [u8; 4096], used: usize, names: &[u8; 4752], state: State, x: Step) -> usize {
+fn put_told(out: &mut [u8; 4096], used: usize, names: &[u8; 16896], state: State, x: Step) -> usize {
     let mut at = unended(out, used);
     if x.refusal != 0 {
         return put_refused(out, at, x.refusal);
@@ -75,7 +75,7 @@ fn put_told(out: &mut [u8; 4096], used: usize, names: &[u8; 4752], state: State,
 }
 
 // Takes a step.
-pub(crate) fn step(desk: Desk, choice: u32, names: &[u8; 4752], out: &mut [u8; 4096]) -> Desk {
+pub(crate) fn step(desk: Desk, choice: u32, names: &[u8; 16896], out: &mut [u8; 4096]) -> Desk {
     let before = desk.state;
     let counted = desk.tally;
     let r = step::take_step(before, choice as usize, counted);
@@ -115,7 +115,7 @@ fn choice_at(choices: &[usize; 1000], i: usize) -> usize {
 }
 
 // One step more of a run, told; the state after it.
-fn put_turn(out: &mut [u8; 4096], used: usize, names: &[u8; 4752], state: State, x: Step) -> usize {
+fn put_turn(out: &mut [u8; 4096], used: usize, names: &[u8; 16896], state: State, x: Step) -> usize {
     let mut at = put(out, used, b"  ");
     at = put_taken(out, at, names, state, x);
     put_byte(out, at, 10)
@@ -125,7 +125,7 @@ fn put_turn(out: &mut [u8; 4096], used: usize, names: &[u8; 4752], state: State,
 fn put_turns(
     out: &mut [u8; 4096],
     used: usize,
-    names: &[u8; 4752],
+    names: &[u8; 16896],
     state: State,
     tally: Tally,
     choices: &[usize; 1000],
@@ -165,7 +165,7 @@ fn ran(
     choices: &[usize; 1000],
     n: usize,
     budget: u32,
-    names: &[u8; 4752],
+    names: &[u8; 16896],
     out: &mut [u8; 4096],
 ) -> Desk {
     let before = desk.state;
@@ -190,7 +190,7 @@ pub(crate) fn run(
     line: &[u8],
     from: usize,
     number: u64,
-    names: &[u8; 4752],
+    names: &[u8; 16896],
     out: &mut [u8; 4096],
 ) -> Desk {
     let mut numbers = [0u32; 1001];
@@ -208,7 +208,7 @@ pub(crate) fn run(
 }
 
 // Takes the first choice again and again, up to 1,000 times.
-pub(crate) fn go(desk: Desk, limit: u32, names: &[u8; 4752], out: &mut [u8; 4096]) -> Desk {
+pub(crate) fn go(desk: Desk, limit: u32, names: &[u8; 16896], out: &mut [u8; 4096]) -> Desk {
     let choices = [0usize; 1000];
     ran(desk, b"go", &choices, 1000, limit, names, out)
 }
@@ -217,7 +217,7 @@ pub(crate) fn go(desk: Desk, limit: u32, names: &[u8; 4752], out: &mut [u8; 4096
 fn put_out(
     out: &mut [u8; 4096],
     used: usize,
-    names: &[u8; 4752],
+    names: &[u8; 16896],
     state: State,
     m: Message,
 ) -> usize {
@@ -248,7 +248,7 @@ fn put_kept(out: &mut [u8; 4096], used: usize, refusal: u32, dropped: bool) -> u
 fn put_handed(
     out: &mut [u8; 4096],
     used: usize,
-    names: &[u8; 4752],
+    names: &[u8; 16896],
     state: State,
     refusal: u32,
     m: Message,
@@ -269,7 +269,7 @@ fn handed(
     word: &[u8],
     c: Collected,
     dropped: bool,
-    names: &[u8; 4752],
+    names: &[u8; 16896],
     out: &mut [u8; 4096],
 ) -> Desk {
     let before = desk.state;
@@ -287,21 +287,21 @@ fn handed(
 }
 
 // Hands out the oldest message that leaves.
-pub(crate) fn collect(desk: Desk, names: &[u8; 4752], out: &mut [u8; 4096]) -> Desk {
+pub(crate) fn collect(desk: Desk, names: &[u8; 16896], out: &mut [u8; 4096]) -> Desk {
     let before = desk.state;
     let c = mail::collect(before);
     handed(desk, b"collect", c, false, names, out)
 }
 
 // Hands out the message at a place, whoever it is for.
-pub(crate) fn drop_at(desk: Desk, place: u32, names: &[u8; 4752], out: &mut [u8; 4096]) -> Desk {
+pub(crate) fn drop_at(desk: Desk, place: u32, names: &[u8; 16896], out: &mut [u8; 4096]) -> Desk {
     let before = desk.state;
     let c = mail::drop_at(before, place as usize);
     handed(desk, b"drop", c, true, names, out)
 }
 
 // Hands out all that go out, up to the refusal that says that there are no more.
-pub(crate) fn collect_all(desk: Desk, names: &[u8; 4752], out: &mut [u8; 4096]) -> Desk {
+pub(crate) fn collect_all(desk: Desk, names: &[u8; 16896], out: &mut [u8; 4096]) -> Desk {
     let mut d = desk;
     let mut left: usize = 65;
     while left > 0 {

@@ -33,7 +33,7 @@ enum Reading {
 }
 
 // What stands at a place of a post: what its word n stands for.
-fn next_of(names: &[u8; 4752], line: &[u8], at: usize, n: usize) -> Next {
+fn next_of(names: &[u8; 16896], line: &[u8], at: usize, n: usize) -> Next {
     let w = text::word_at(line, at);
     let from = w.from;
     let to = w.to;
@@ -60,7 +60,7 @@ fn store(numbers: &mut [u32; 1001], n: usize, value: u32) {
 }
 
 // The words of a post as numbers: a partner, an operation, and up to eight values.
-fn numbers_of(names: &[u8; 4752], line: &[u8], from: usize, numbers: &mut [u32; 1001]) -> Reading {
+fn numbers_of(names: &[u8; 16896], line: &[u8], from: usize, numbers: &mut [u32; 1001]) -> Reading {
     let mut at = from;
     let mut n = 0;
     while n < 11 {
@@ -105,7 +105,7 @@ fn put_fate(
 fn put_waits(
     out: &mut [u8; 4096],
     used: usize,
-    names: &[u8; 4752],
+    names: &[u8; 16896],
     state: State,
     m: Message,
 ) -> usize {
@@ -130,7 +130,7 @@ fn put_waits(
     }
 }
 
-fn posted(desk: Desk, m: Message, names: &[u8; 4752], out: &mut [u8; 4096]) -> Desk {
+fn posted(desk: Desk, m: Message, names: &[u8; 16896], out: &mut [u8; 4096]) -> Desk {
     let before = desk.state;
     let p = mail::post(before, m);
     let at = put_refusal(out, desk.used, b"post", p.refusal);
@@ -163,7 +163,7 @@ pub(crate) fn post(
     line: &[u8],
     from: usize,
     number: u64,
-    names: &[u8; 4752],
+    names: &[u8; 16896],
     out: &mut [u8; 4096],
 ) -> Desk {
     let mut numbers = [0u32; 1001];

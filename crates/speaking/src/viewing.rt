@@ -37,7 +37,7 @@ pub(crate) fn planned(
     line: &[u8],
     number: u64,
     bytes: &mut [u8; 8000],
-    names: &mut [u8; 4752],
+    names: &mut [u8; 16896],
     out: &mut [u8; 4096],
 ) -> Desk {
     if has_plan(desk) {
@@ -52,7 +52,7 @@ pub(crate) fn drawn(
     line: &[u8],
     number: u64,
     bytes: &mut [u8; 8000],
-    names: &mut [u8; 4752],
+    names: &mut [u8; 16896],
     out: &mut [u8; 4096],
 ) -> Desk {
     let d = console::answer(desk, line, number, bytes, names, out);
@@ -71,7 +71,7 @@ pub(crate) fn shown(
     line: &[u8],
     number: u64,
     bytes: &mut [u8; 8000],
-    names: &mut [u8; 4752],
+    names: &mut [u8; 16896],
     out: &mut [u8; 4096],
 ) -> Desk {
     let d = drawn(desk, line, number, bytes, names, out);
@@ -109,7 +109,7 @@ pub(crate) fn offer(
     line: &[u8],
     number: u64,
     bytes: &mut [u8; 8000],
-    names: &mut [u8; 4752],
+    names: &mut [u8; 16896],
     out: &mut [u8; 4096],
 ) -> Desk {
     if !has_plan(desk) {
@@ -165,7 +165,7 @@ fn put_fate(
 fn put_one(
     out: &mut [u8; 4096],
     used: usize,
-    names: &[u8; 4752],
+    names: &[u8; 16896],
     table: &Table,
     activities: usize,
     place: usize,
@@ -182,7 +182,7 @@ fn put_one(
 fn put_all(
     out: &mut [u8; 4096],
     used: usize,
-    names: &[u8; 4752],
+    names: &[u8; 16896],
     table: &Table,
     activities: usize,
     messages: [Message; 64],
@@ -200,7 +200,7 @@ fn put_all(
     put_byte(out, at, 10)
 }
 
-fn put_waiting(out: &mut [u8; 4096], used: usize, names: &[u8; 4752], state: State) -> usize {
+fn put_waiting(out: &mut [u8; 4096], used: usize, names: &[u8; 16896], state: State) -> usize {
     let mut table = [0u32; LENGTH];
     let mut flags = [0u8; 16];
     let messages = state.messages;
@@ -227,7 +227,7 @@ fn put_waiting(out: &mut [u8; 4096], used: usize, names: &[u8; 4752], state: Sta
 }
 
 // The messages that wait, a line for each, and a blank line.
-pub(crate) fn waiting(desk: Desk, names: &[u8; 4752], out: &mut [u8; 4096]) -> Desk {
+pub(crate) fn waiting(desk: Desk, names: &[u8; 16896], out: &mut [u8; 4096]) -> Desk {
     let state = desk.state;
     let mut at = put(out, desk.used, b"waiting");
     at = put_next(out, at, state.waiting as u64);

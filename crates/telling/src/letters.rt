@@ -117,7 +117,7 @@ fn variable_at(
 fn put_value(
     out: &mut [u8; 4096],
     used: usize,
-    names: &[u8; 4752],
+    names: &[u8; 16896],
     variable: u32,
     front: &[u8],
     value: u32,
@@ -134,7 +134,7 @@ fn put_value(
 pub fn put_exchange(
     out: &mut [u8; 4096],
     used: usize,
-    names: &[u8; 4752],
+    names: &[u8; 16896],
     receiving: bool,
     partner: u32,
     operation: u32,
@@ -151,7 +151,7 @@ pub fn put_exchange(
 fn put_values(
     out: &mut [u8; 4096],
     used: usize,
-    names: &[u8; 4752],
+    names: &[u8; 16896],
     table: &Table,
     activities: usize,
     receiving: bool,
@@ -220,7 +220,7 @@ fn put_values(
 fn put_place(
     out: &mut [u8; 4096],
     used: usize,
-    names: &[u8; 4752],
+    names: &[u8; 16896],
     table: &Table,
     activities: usize,
     receiving: bool,
@@ -245,7 +245,7 @@ fn put_place(
 pub fn put_letter(
     out: &mut [u8; 4096],
     used: usize,
-    names: &[u8; 4752],
+    names: &[u8; 16896],
     table: &Table,
     activities: usize,
     m: Message,

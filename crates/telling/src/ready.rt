@@ -15,7 +15,7 @@ use plan::table::VARIABLES;
 fn put_one(
     out: &mut [u8; 4096],
     used: usize,
-    names: &[u8; 4752],
+    names: &[u8; 16896],
     wanted: bool,
     bound: &[u8; 16],
     values: &[u32; 16],
@@ -83,7 +83,7 @@ fn is_wanted(sent: bool, flags: &[u8; 16], bound: &[u8; 16], variable: u32) -> b
 fn put_member(
     out: &mut [u8; 4096],
     used: usize,
-    names: &[u8; 4752],
+    names: &[u8; 16896],
     table: &Table,
     flags: &[u8; 16],
     n: usize,
@@ -121,7 +121,7 @@ fn put_front(out: &mut [u8; 4096], used: usize, i: usize) -> usize {
 fn put_tuple(
     out: &mut [u8; 4096],
     used: usize,
-    names: &[u8; 4752],
+    names: &[u8; 16896],
     table: &Table,
     flags: &[u8; 16],
     n: usize,
@@ -147,7 +147,7 @@ fn put_tuple(
 pub fn put_sent(
     out: &mut [u8; 4096],
     used: usize,
-    names: &[u8; 4752],
+    names: &[u8; 16896],
     table: &Table,
     flags: &[u8; 16],
     n: usize,
@@ -161,7 +161,7 @@ pub fn put_sent(
 pub fn put_known(
     out: &mut [u8; 4096],
     used: usize,
-    names: &[u8; 4752],
+    names: &[u8; 16896],
     table: &Table,
     flags: &[u8; 16],
     n: usize,

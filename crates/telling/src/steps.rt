@@ -5,7 +5,9 @@ use super::settled::deed_of;
 use super::settled::put_raises;
 use drawing::entry;
 use drawing::put;
+use drawing::put_fault_name;
 use drawing::put_next;
+use drawing::put_scope;
 use drawing::put_variable;
 use machine::Message;
 use machine::Step;
@@ -21,18 +23,30 @@ use plan::table::VARIABLE;
 use sayings::put_by_fault;
 
 // An end by a fault.
-fn put_ended_by(out: &mut [u8; 4096], used: usize, words: &[u8], fault: u8) -> usize {
+fn put_ended_by(
+    out: &mut [u8; 4096],
+    used: usize,
+    names: &[u8; 16896],
+    words: &[u8],
+    fault: u8,
+) -> usize {
     let at = put(out, used, words);
-    put_by_fault(out, at, fault)
+    put_by_fault(out, at, names, fault)
 }
 
 // How an order ended, if it did, and by which fault, where it was by one.
-fn put_end(out: &mut [u8; 4096], used: usize, end: End, fault: u8) -> usize {
+fn put_end(
+    out: &mut [u8; 4096],
+    used: usize,
+    names: &[u8; 16896],
+    end: End,
+    fault: u8,
+) -> usize {
     match end {
         End::None => used,
         End::Well => put(out, used, b"; it ended well"),
-        End::Handled => put_ended_by(out, used, b"; it ended handled", fault),
-        End::Failed => put_ended_by(out, used, b"; it failed", fault),
+        End::Handled => put_ended_by(out, used, names, b"; it ended handled", fault),
+        End::Failed => put_ended_by(out, used, names, b"; it failed", fault),
         End::Left => put(out, used, b"; it left"),
     }
 }
@@ -50,7 +64,7 @@ fn put_whose(out: &mut [u8; 4096], used: usize, slot: usize, root: u8) -> usize 
 fn put_took(
     out: &mut [u8; 4096],
     used: usize,
-    names: &[u8; 4752],
+    names: &[u8; 16896],
     table: &Table,
     activities: usize,
     root: u8,
@@ -67,7 +81,7 @@ fn put_took(
 fn put_send(
     out: &mut [u8; 4096],
     used: usize,
-    names: &[u8; 4752],
+    names: &[u8; 16896],
     table: &Table,
     flags: &[u8; 16],
     n: usize,
@@ -87,7 +101,7 @@ fn put_send(
 fn put_set(
     out: &mut [u8; 4096],
     used: usize,
-    names: &[u8; 4752],
+    names: &[u8; 16896],
     variable: u32,
     w: Worth,
 ) -> usize {
@@ -101,12 +115,19 @@ fn put_set(
         Worth::Fault { number } => {
             let mut at = put(out, used, b"faulted: it could not set ");
             at = put_variable(out, at, names, variable);
-            put_by_fault(out, at, number)
+            put_by_fault(out, at, names, number)
         }
     }
 }
 
-fn put_chosen(out: &mut [u8; 4096], used: usize, w: Worth, yes: &[u8], no: &[u8]) -> usize {
+fn put_chosen(
+    out: &mut [u8; 4096],
+    used: usize,
+    names: &[u8; 16896],
+    w: Worth,
+    yes: &[u8],
+    no: &[u8],
+) -> usize {
     match w {
         Worth::Value { value } => {
             if value == 0 {
@@ -116,7 +137,7 @@ fn put_chosen(out: &mut [u8; 4096], used: usize, w: Worth, yes: &[u8], no: &[u8]
         }
         Worth::Fault { number } => {
             let at = put(out, used, b"faulted: it could not decide");
-            put_by_fault(out, at, number)
+            put_by_fault(out, at, names, number)
         }
     }
 }
@@ -125,28 +146,46 @@ fn worth_of(table: &Table, n: usize, order: Order) -> Worth {
     order::evaluation::evaluate_at(table, order, entry(table, n, EXPRESSION) as usize, 8)
 }
 
-fn put_closed(out: &mut [u8; 4096], used: usize, n: usize) -> usize {
-    let at = put(out, used, b"closed scope");
-    put_next(out, at, n as u64)
+fn put_closed(
+    out: &mut [u8; 4096],
+    used: usize,
+    names: &[u8; 16896],
+    table: &Table,
+    n: usize,
+) -> usize {
+    let at = put(out, used, b"closed ");
+    put_scope(out, at, names, table, n)
 }
 
 // A scope with no undo part.
-fn put_handed_on(out: &mut [u8; 4096], used: usize, n: usize) -> usize {
-    let at = put_closed(out, used, n);
+fn put_handed_on(
+    out: &mut [u8; 4096],
+    used: usize,
+    names: &[u8; 16896],
+    table: &Table,
+    n: usize,
+) -> usize {
+    let at = put_closed(out, used, names, table, n);
     put(out, at, b", and handed on what closed in it")
 }
 
 // A raise with a number of its own.
-fn put_raised(out: &mut [u8; 4096], used: usize, table: &Table, n: usize) -> usize {
-    let at = put(out, used, b"raised fault");
-    put_next(out, at, entry(table, n, NUMBER) as u64)
+fn put_raised(
+    out: &mut [u8; 4096],
+    used: usize,
+    names: &[u8; 16896],
+    table: &Table,
+    n: usize,
+) -> usize {
+    let at = put(out, used, b"raised ");
+    put_fault_name(out, at, names, b"fault ", entry(table, n, NUMBER))
 }
 
 // What a step did, by its activity.
 fn put_did(
     out: &mut [u8; 4096],
     used: usize,
-    names: &[u8; 4752],
+    names: &[u8; 16896],
     table: &Table,
     flags: &[u8; 16],
     activities: usize,
@@ -165,11 +204,12 @@ fn put_did(
             worth_of(table, n, order),
         ),
         kind::RAISE => put(out, used, b"raised a fault"),
-        kind::NUMBERED_RAISE => put_raised(out, used, table, n),
+        kind::NUMBERED_RAISE => put_raised(out, used, names, table, n),
         kind::LEAVE => put(out, used, b"left what it was doing"),
         kind::CHOOSE => put_chosen(
             out,
             used,
+            names,
             worth_of(table, n, order),
             b"decided: then",
             b"decided: else",
@@ -177,12 +217,13 @@ fn put_did(
         kind::REPEAT => put_chosen(
             out,
             used,
+            names,
             worth_of(table, n, order),
             b"goes round once more",
             b"goes round no more",
         ),
-        kind::SCOPE => put_closed(out, used, n),
-        kind::OPEN_SCOPE => put_handed_on(out, used, n),
+        kind::SCOPE | kind::NUMBERED_SCOPE => put_closed(out, used, names, table, n),
+        kind::OPEN_SCOPE => put_handed_on(out, used, names, table, n),
         _ => put(out, used, b"had a step of an unknown kind"),
     }
 }
@@ -206,7 +247,7 @@ fn put_behind(
 pub fn put_step(
     out: &mut [u8; 4096],
     used: usize,
-    names: &[u8; 4752],
+    names: &[u8; 16896],
     table: &Table,
     flags: &[u8; 16],
     activities: usize,
@@ -228,5 +269,5 @@ pub fn put_step(
         m,
     );
     at = put_behind(out, at, table, activities, order, m, x.activity);
-    put_end(out, at, end, x.fault)
+    put_end(out, at, names, end, x.fault)
 }

@@ -271,8 +271,11 @@ module _ (xs : List ℕ) (v : Bool) (b f : Act) (u : Acts) (k : ℕ) (n : Name) 
   undo-outside e o =
       decide v
       (λ t. let i = undo-in xs v (more f u) e t in
-      rw (t, outside-ne (partAt (generalPart xs) (more f u) (k + 1 + size b)) o (omega (arith, part-from (generalPart xs) (more f u) (k + 1 + size b)))
-      (omega (arith, part-to (generalPart xs) (more f u) (k + 1 + size b) i, positive (part (generalPart xs) (more f u))))))
+      rw (
+        t,
+        outside-ne (partAt (generalPart xs) (more f u) (k + 1 + size b)) o (omega (arith, part-from (generalPart xs) (more f u) (k + 1 + size b)))
+            (omega (arith, part-to (generalPart xs) (more f u) (k + 1 + size b) i, positive (part (generalPart xs) (more f u)))),
+      ))
       (λ t. rw t)
 
   fault-outside : (j : ℕ) → Outside j k (spread b f u) → byFault j (innerAt xs v k n ns (trio b f u)) ≡ false

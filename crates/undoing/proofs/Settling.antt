@@ -16,7 +16,7 @@ use Rattle.order.specs.declared.End.{End}
 use Rattle.order.specs.declared.End.the-variants.{None, Well, Handled, Failed, Left}
 use Rattle.machine.specs.declared.State.{State}
 use Rattle.machine.specs.declared.Tally.{Tally}
-use Rattle.order.specs.State.{idle, active, done, markOf, root, withMarks, noOrder, stateIn}
+use Rattle.order.specs.State.{idle, active, done, stateIn, markOf, root, withMarks, noOrder}
 use Rattle.machine.specs.State.{fresh}
 use Rattle.order.specs.Begin.{cleared}
 use Rattle.order.specs.declared.Way.{Way as Result}

@@ -1,8 +1,9 @@
 // Why orders stand as they do: what each waits for, which message nearly fits, what is held and by what, what would be undone; and the messages that
 // nobody can take. Each function writes at the place `used` of `out`, and answers the place after.
+mod holding;
 mod near;
 mod rows;
-mod strays;
+pub mod strays;
 mod undo;
 
 use drawing::put;
@@ -15,12 +16,13 @@ use plan::Answer;
 use plan::table::LENGTH;
 use plan::table::Table;
 use telling::value_in;
+pub use undo::put_undone;
 
 // A variable that is for correlation, where it is bound.
 fn put_key(
     out: &mut [u8; 4096],
     used: usize,
-    names: &[u8; 4752],
+    names: &[u8; 16896],
     flag: u8,
     variable: u32,
     known: u64,
@@ -40,7 +42,7 @@ fn put_key(
 fn put_keys(
     out: &mut [u8; 4096],
     used: usize,
-    names: &[u8; 4752],
+    names: &[u8; 16896],
     flags: &[u8; 16],
     bound: &[u8; 16],
     values: &[u32; 16],
@@ -61,10 +63,11 @@ fn put_keys(
     at
 }
 
-fn put_head(
+// What an order is called: by its slot, and what it is known by.
+pub fn put_called(
     out: &mut [u8; 4096],
     used: usize,
-    names: &[u8; 4752],
+    names: &[u8; 16896],
     flags: &[u8; 16],
     slot: usize,
     order: Order,
@@ -73,15 +76,40 @@ fn put_head(
     let values = order.values;
     let mut at = put(out, used, b"order");
     at = put_next(out, at, slot as u64);
-    at = put_keys(out, at, names, flags, &bound, &values);
-    put_byte(out, at, 10)
+    put_keys(out, at, names, flags, &bound, &values)
+}
+
+// What an order does and waits for, and, where its root faulted, by which fault: a line each.
+pub fn put_doings(
+    out: &mut [u8; 4096],
+    used: usize,
+    names: &[u8; 16896],
+    table: &Table,
+    flags: &[u8; 16],
+    picks: &[usize; 256],
+    activities: usize,
+    state: State,
+    order: Order,
+) -> usize {
+    let at = rows::put_root_faulted(out, used, names, table, order.root, order.cause);
+    rows::put_rows(
+        out,
+        at,
+        names,
+        table,
+        flags,
+        picks,
+        activities,
+        state,
+        order,
+    )
 }
 
 // One order.
 fn put_order(
     out: &mut [u8; 4096],
     used: usize,
-    names: &[u8; 4752],
+    names: &[u8; 16896],
     table: &Table,
     flags: &[u8; 16],
     picks: &[usize; 256],
@@ -90,9 +118,9 @@ fn put_order(
     slot: usize,
     order: Order,
 ) -> usize {
-    let mut at = put_head(out, used, names, flags, slot, order);
-    at = rows::put_root_faulted(out, at, table, order.root, order.cause);
-    at = rows::put_rows(
+    let mut at = put_called(out, used, names, flags, slot, order);
+    at = put_byte(out, at, 10);
+    at = put_doings(
         out,
         at,
         names,
@@ -120,7 +148,7 @@ fn is_asked(only: usize, slot: usize, root: u8) -> bool {
 fn put_orders(
     out: &mut [u8; 4096],
     used: usize,
-    names: &[u8; 4752],
+    names: &[u8; 16896],
     table: &Table,
     flags: &[u8; 16],
     picks: &[usize; 256],
@@ -156,7 +184,7 @@ fn put_orders(
 fn put_all(
     out: &mut [u8; 4096],
     used: usize,
-    names: &[u8; 4752],
+    names: &[u8; 16896],
     table: &Table,
     flags: &[u8; 16],
     activities: usize,
@@ -176,7 +204,17 @@ fn put_all(
         only,
     );
     if only == 16 {
-        at = strays::put_strays(out, at, names, table, flags, &picks, activities, state);
+        at = strays::put_strays(
+            out,
+            at,
+            names,
+            table,
+            flags,
+            &picks,
+            activities,
+            state,
+            false,
+        );
     }
     put_byte(out, at, 10)
 }
@@ -185,7 +223,7 @@ fn put_all(
 pub fn put_why(
     out: &mut [u8; 4096],
     used: usize,
-    names: &[u8; 4752],
+    names: &[u8; 16896],
     state: State,
     only: usize,
 ) -> usize {
@@ -203,4 +241,93 @@ pub fn put_why(
             nodes: _,
         } => put_all(out, used, names, &table, &flags, activities, state, only),
     }
+}
+
+// Row n of the order in a slot, where its step is held.
+fn put_held_row(
+    out: &mut [u8; 4096],
+    used: usize,
+    names: &[u8; 16896],
+    table: &Table,
+    flags: &[u8; 16],
+    picks: &[usize; 256],
+    activities: usize,
+    state: State,
+    slot: usize,
+    order: Order,
+    n: usize,
+) -> usize {
+    if holding::is_held(table, picks, activities, state.waiting, order, n) {
+        let at = put_called(out, used, names, flags, slot, order);
+        return rows::put_row(out, at, names, table, flags, picks, n, true, state, order);
+    }
+    used
+}
+
+fn put_held_rows(
+    out: &mut [u8; 4096],
+    used: usize,
+    names: &[u8; 16896],
+    table: &Table,
+    flags: &[u8; 16],
+    picks: &[usize; 256],
+    activities: usize,
+    state: State,
+    slot: usize,
+    order: Order,
+) -> usize {
+    let mut at = used;
+    let mut n = 0;
+    while n < activities {
+        at = put_held_row(
+            out,
+            at,
+            names,
+            table,
+            flags,
+            picks,
+            activities,
+            state,
+            slot,
+            order,
+            n,
+        );
+        n += 1;
+    }
+    at
+}
+
+// What is held, a line each: the steps of live orders, then the messages that would start one.
+pub fn put_held(
+    out: &mut [u8; 4096],
+    used: usize,
+    names: &[u8; 16896],
+    table: &Table,
+    flags: &[u8; 16],
+    picks: &[usize; 256],
+    activities: usize,
+    state: State,
+) -> usize {
+    let orders = state.orders;
+    let mut at = used;
+    let mut slot = 0;
+    while slot < 16 {
+        let order = orders[slot];
+        if order.root != 0 {
+            at = put_held_rows(
+                out,
+                at,
+                names,
+                table,
+                flags,
+                picks,
+                activities,
+                state,
+                slot,
+                order,
+            );
+        }
+        slot += 1;
+    }
+    strays::put_strays(out, at, names, table, flags, picks, activities, state, true)
 }

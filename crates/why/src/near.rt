@@ -86,7 +86,7 @@ fn less_one(asked: u64) -> u64 {
 fn put_miss(
     out: &mut [u8; 4096],
     used: usize,
-    names: &[u8; 4752],
+    names: &[u8; 16896],
     table: &Table,
     n: usize,
     asked: &[u64; 4],
@@ -108,7 +108,7 @@ fn put_miss(
 fn put_one(
     out: &mut [u8; 4096],
     used: usize,
-    names: &[u8; 4752],
+    names: &[u8; 16896],
     table: &Table,
     n: usize,
     asked: &[u64; 4],
@@ -134,7 +134,7 @@ fn put_one(
 pub(crate) fn put_near(
     out: &mut [u8; 4096],
     used: usize,
-    names: &[u8; 4752],
+    names: &[u8; 16896],
     table: &Table,
     n: usize,
     asked: &[u64; 4],

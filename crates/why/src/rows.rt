@@ -1,4 +1,5 @@
 // What an order does and waits for, a line for each activity that awaits its step.
+use super::holding::is_held;
 use super::near::put_near;
 use drawing::entry;
 use drawing::is_scope;
@@ -6,13 +7,16 @@ use drawing::put;
 use drawing::put_activity;
 use drawing::put_byte;
 use drawing::put_next;
+use drawing::put_scope;
 use machine::State;
 use order::Order;
 use order::fault;
 use plan::kind;
 use plan::table::KIND;
 use plan::table::Table;
+use sayings::has_faulted;
 use sayings::put_by_fault;
+use sayings::put_scope_faulted;
 use telling::put_known;
 use telling::put_sent;
 
@@ -33,7 +37,7 @@ fn put_place(out: &mut [u8; 4096], used: usize, n: usize) -> usize {
 fn put_open(
     out: &mut [u8; 4096],
     used: usize,
-    names: &[u8; 4752],
+    names: &[u8; 16896],
     table: &Table,
     flags: &[u8; 16],
     n: usize,
@@ -52,15 +56,15 @@ fn put_open(
     put_near(out, at, names, table, n, &asked, messages, state.waiting)
 }
 
-// A send that awaits its step: held while 64 messages wait, and a fault where a variable is not bound.
+// A send that awaits its step: it may be held while 64 messages wait, and is a fault where a variable is not bound.
 fn put_send(
     out: &mut [u8; 4096],
     used: usize,
-    names: &[u8; 4752],
+    names: &[u8; 16896],
     table: &Table,
     flags: &[u8; 16],
     n: usize,
-    waiting: usize,
+    held: bool,
     order: Order,
 ) -> usize {
     let bound = order.bound;
@@ -68,21 +72,13 @@ fn put_send(
     let mut at = put(out, used, b"  is to send ");
     at = put_sent(out, at, names, table, flags, n, &bound, &values);
     at = put_place(out, at, n);
+    if held {
+        return put(out, at, b": held, since 64 messages wait\n");
+    }
     if activity::all_bound(table, n, order) {
-        if 64 <= waiting {
-            return put(out, at, b": held, since 64 messages wait\n");
-        }
         return put_byte(out, at, 10);
     }
     put(out, at, b": it will fault\n")
-}
-
-// Whether a scope with this mark has faulted: it waits for its inner scopes, undoes, or runs its fault part.
-fn has_faulted(mark: u8) -> bool {
-    if 3 < mark {
-        return mark < 7;
-    }
-    false
 }
 
 // Row k and its rival, by their numbers.
@@ -92,21 +88,6 @@ fn put_rivals(out: &mut [u8; 4096], used: usize, k: usize, rival: usize) -> usiz
     at = put(out, at, b" and");
     at = put_next(out, at, k as u64);
     put(out, at, b" are for the same thing")
-}
-
-fn put_contested(out: &mut [u8; 4096], used: usize, k: usize, rival: usize) -> usize {
-    let mut at = put(out, used, b" faulted");
-    at = put_rivals(out, at, k, rival);
-    put(
-        out,
-        at,
-        b", and where both were open that alone faults it\n",
-    )
-}
-
-fn put_scope(out: &mut [u8; 4096], used: usize, n: usize) -> usize {
-    let at = put(out, used, b"  scope");
-    put_next(out, at, n as u64)
 }
 
 // Of a conflicting receive, the first two that are for one thing and may have made the root fault.
@@ -125,6 +106,7 @@ fn put_conflict(out: &mut [u8; 4096], used: usize, table: &Table, cause: u8) -> 
 pub(crate) fn put_root_faulted(
     out: &mut [u8; 4096],
     used: usize,
+    names: &[u8; 16896],
     table: &Table,
     mark: u8,
     cause: u8,
@@ -133,46 +115,68 @@ pub(crate) fn put_root_faulted(
         return used;
     }
     let mut at = put(out, used, b"  the root faulted");
-    at = put_by_fault(out, at, cause);
+    at = put_by_fault(out, at, names, cause);
     at = put_conflict(out, at, table, cause);
     put_byte(out, at, 10)
 }
 
-// Scope n, which has this mark: where it has faulted, which receives for one thing it may have faulted by. The state keeps by which fault the root faulted, and
-// not by which a scope did.
-fn put_faulted(out: &mut [u8; 4096], used: usize, table: &Table, n: usize, mark: u8) -> usize {
-    if !has_faulted(mark) {
+fn may_be_contested(choice: u8) -> bool {
+    match choice {
+        0 | 13 => true,
+        _ => false,
+    }
+}
+
+// Where the mark of a scope says that two receives were open for one thing, or does not say what it was, the first two in scope n for which that may be.
+fn put_contested(out: &mut [u8; 4096], used: usize, table: &Table, n: usize, choice: u8) -> usize {
+    if !may_be_contested(choice) {
         return used;
     }
     let k = checking::contested_in(table, n);
     if 255 < k {
         return used;
     }
-    let at = put_scope(out, used, n);
-    put_contested(out, at, k, checking::rival_of(table, k))
+    put_rivals(out, used, k, checking::rival_of(table, k))
 }
 
-fn put_close(out: &mut [u8; 4096], used: usize, n: usize, kept: usize) -> usize {
-    let mut at = put(out, used, b"  is to close scope");
-    at = put_next(out, at, n as u64);
-    if 32 <= kept {
-        return put(out, at, b": held, where it remembers 32 closings\n");
+// Scope n, which has this mark: where it has faulted, by which fault.
+fn put_faulted(
+    out: &mut [u8; 4096],
+    used: usize,
+    names: &[u8; 16896],
+    table: &Table,
+    n: usize,
+    mark: u8,
+) -> usize {
+    if !has_faulted(mark) {
+        return used;
     }
+    let mut at = put(out, used, b"  ");
+    at = put_scope_faulted(out, at, names, table, n, mark);
+    at = put_contested(out, at, table, n, mark / 16);
     put_byte(out, at, 10)
 }
 
-// How many closings may hold the close of a scope of this kind: all that are kept, but none where it has no undo part, and hands on what closed in it.
-fn held_by(kind: u32, kept: usize) -> usize {
-    if kind == kind::SCOPE {
-        return kept;
+fn put_close(
+    out: &mut [u8; 4096],
+    used: usize,
+    names: &[u8; 16896],
+    table: &Table,
+    n: usize,
+    held: bool,
+) -> usize {
+    let mut at = put(out, used, b"  is to close ");
+    at = put_scope(out, at, names, table, n);
+    if held {
+        return put(out, at, b": held, since the order remembers 32 closings\n");
     }
-    0
+    put_byte(out, at, 10)
 }
 
 fn put_ready(
     out: &mut [u8; 4096],
     used: usize,
-    names: &[u8; 4752],
+    names: &[u8; 16896],
     table: &Table,
     flags: &[u8; 16],
     n: usize,
@@ -187,15 +191,16 @@ fn put_ready(
 fn put_active(
     out: &mut [u8; 4096],
     used: usize,
-    names: &[u8; 4752],
+    names: &[u8; 16896],
     table: &Table,
     flags: &[u8; 16],
     n: usize,
+    held: bool,
     state: State,
     order: Order,
 ) -> usize {
     match entry(table, n, KIND) {
-        kind::SEND => put_send(out, used, names, table, flags, n, state.waiting, order),
+        kind::SEND => put_send(out, used, names, table, flags, n, held, order),
         kind::RECEIVE => put_open(out, used, names, table, flags, n, state, order),
         kind::SET
         | kind::RAISE
@@ -207,31 +212,32 @@ fn put_active(
     }
 }
 
-// Activity or arm n.
-fn put_row(
+// Activity or arm n, whose step is held or not.
+pub(crate) fn put_row(
     out: &mut [u8; 4096],
     used: usize,
-    names: &[u8; 4752],
+    names: &[u8; 16896],
     table: &Table,
     flags: &[u8; 16],
     picks: &[usize; 256],
     n: usize,
+    held: bool,
     state: State,
     order: Order,
 ) -> usize {
     let marks = order.marks;
     let mark = mark_at(&marks, n);
     if mark == 1 {
-        return put_active(out, used, names, table, flags, n, state, order);
+        return put_active(out, used, names, table, flags, n, held, state, order);
     }
     if mark == 3 {
-        return put_close(out, used, n, held_by(entry(table, n, KIND), order.kept));
+        return put_close(out, used, names, table, n, held);
     }
     if fit::search::arm_open(table, picks, &marks, n) {
         return put_open(out, used, names, table, flags, n, state, order);
     }
     if is_scope(entry(table, n, KIND)) {
-        return put_faulted(out, used, table, n, mark);
+        return put_faulted(out, used, names, table, n, mark);
     }
     used
 }
@@ -239,7 +245,7 @@ fn put_row(
 pub(crate) fn put_rows(
     out: &mut [u8; 4096],
     used: usize,
-    names: &[u8; 4752],
+    names: &[u8; 16896],
     table: &Table,
     flags: &[u8; 16],
     picks: &[usize; 256],
@@ -250,7 +256,8 @@ pub(crate) fn put_rows(
     let mut at = used;
     let mut n = 0;
     while n < activities {
-        at = put_row(out, at, names, table, flags, picks, n, state, order);
+        let held = is_held(table, picks, activities, state.waiting, order, n);
+        at = put_row(out, at, names, table, flags, picks, n, held, state, order);
         n += 1;
     }
     at

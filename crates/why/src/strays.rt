@@ -72,7 +72,7 @@ fn taker_of(
 fn put_message(
     out: &mut [u8; 4096],
     used: usize,
-    names: &[u8; 4752],
+    names: &[u8; 16896],
     table: &Table,
     activities: usize,
     j: usize,
@@ -86,66 +86,52 @@ fn put_message(
     put(out, at, why)
 }
 
-// Message j, where nobody takes it.
-fn put_stray(
-    out: &mut [u8; 4096],
-    used: usize,
-    names: &[u8; 4752],
-    table: &Table,
-    activities: usize,
-    taker: u32,
-    full: bool,
-    j: usize,
-    m: Message,
-) -> usize {
-    if !is_received(table, activities, m.partner) {
-        return used;
+// What becomes of a message.
+pub const LEAVES: u32 = 0;
+
+pub const UNTAKEN: u32 = 1;
+
+pub const LATER: u32 = 2;
+
+pub const TAKEN: u32 = 3;
+
+pub const STARTS: u32 = 4;
+
+pub const HELD: u32 = 5;
+
+// Of one that a receive of the plan takes, by who takes it.
+fn fate_by(taker: u32, full: bool) -> u32 {
+    match taker {
+        0 => LATER,
+        1 => TAKEN,
+        _ => {
+            if full {
+                return HELD;
+            }
+            STARTS
+        }
     }
-    if !is_taken(table, activities, m.partner, m.operation, m.count) {
-        return put_message(
-            out,
-            used,
-            names,
-            table,
-            activities,
-            j,
-            m,
-            b": no receive of the plan takes it\n",
-        );
-    }
-    if taker == 0 {
-        return put_message(
-            out,
-            used,
-            names,
-            table,
-            activities,
-            j,
-            m,
-            b": no order takes it now\n",
-        );
-    }
-    if is_held(taker, full) {
-        return put_message(
-            out,
-            used,
-            names,
-            table,
-            activities,
-            j,
-            m,
-            b": it would start an order: held, since 16 orders are live\n",
-        );
-    }
-    used
 }
 
-// Whether a message that would start an order is held.
-fn is_held(taker: u32, full: bool) -> bool {
-    if taker == 2 {
-        return full;
+// What becomes of message j, by the letters of all that wait (fit::letters).
+pub fn fate_of(
+    table: &Table,
+    flags: &[u8; 16],
+    picks: &[usize; 256],
+    activities: usize,
+    orders: [Order; 16],
+    letters: &[u32; 448],
+    j: usize,
+    m: Message,
+) -> u32 {
+    if !is_received(table, activities, m.partner) {
+        return LEAVES;
     }
-    false
+    if !is_taken(table, activities, m.partner, m.operation, m.count) {
+        return UNTAKEN;
+    }
+    let taker = taker_of(table, flags, picks, activities, orders, letters, j);
+    fate_by(taker, is_full(orders))
 }
 
 // Whether no slot is free.
@@ -161,28 +147,94 @@ fn is_full(orders: [Order; 16]) -> bool {
     true
 }
 
+// Message j by its fate, where nobody takes it; where only what is held is asked for, where that is its fate.
+fn put_stray(
+    out: &mut [u8; 4096],
+    used: usize,
+    names: &[u8; 16896],
+    table: &Table,
+    activities: usize,
+    held_alone: bool,
+    fate: u32,
+    j: usize,
+    m: Message,
+) -> usize {
+    if fate == HELD {
+        return put_message(
+            out,
+            used,
+            names,
+            table,
+            activities,
+            j,
+            m,
+            b": it would start an order: held, since 16 orders are live\n",
+        );
+    }
+    if held_alone {
+        return used;
+    }
+    put_untaken(out, used, names, table, activities, fate, j, m)
+}
+
+fn put_untaken(
+    out: &mut [u8; 4096],
+    used: usize,
+    names: &[u8; 16896],
+    table: &Table,
+    activities: usize,
+    fate: u32,
+    j: usize,
+    m: Message,
+) -> usize {
+    match fate {
+        UNTAKEN => put_message(
+            out,
+            used,
+            names,
+            table,
+            activities,
+            j,
+            m,
+            b": no receive of the plan takes it\n",
+        ),
+        LATER => put_message(
+            out,
+            used,
+            names,
+            table,
+            activities,
+            j,
+            m,
+            b": no order takes it now\n",
+        ),
+        _ => used,
+    }
+}
+
+// The messages that nobody takes; or those that are held alone.
 pub(crate) fn put_strays(
     out: &mut [u8; 4096],
     used: usize,
-    names: &[u8; 4752],
+    names: &[u8; 16896],
     table: &Table,
     flags: &[u8; 16],
     picks: &[usize; 256],
     activities: usize,
     state: State,
+    held_alone: bool,
 ) -> usize {
     let orders = state.orders;
     let messages = state.messages;
     let waiting = state.waiting;
     let letters = fit::letters::letters_of(messages, waiting);
-    let full = is_full(orders);
     let mut at = used;
     let mut j = 0;
     while j < 64 {
         if j < waiting {
             let m = messages[j];
-            let taker = taker_of(table, flags, picks, activities, orders, &letters, j);
-            at = put_stray(out, at, names, table, activities, taker, full, j, m);
+            let fate = fate_of(table, flags, picks, activities, orders, &letters, j, m);
+            at = put_stray(out, at, names, table, activities, held_alone, fate, j, m);
         }
         j += 1;
     }

@@ -1,10 +1,10 @@
 // What would be undone if what it is remembered for faulted now: the closings of an order, the latest first, and what each would send.
-use drawing::after;
 use drawing::end_of;
 use drawing::entry;
 use drawing::put;
 use drawing::put_byte;
-use drawing::put_next;
+use drawing::put_scope;
+use drawing::undo_of;
 use drawing::wide;
 use order::Order;
 use plan::kind;
@@ -13,10 +13,16 @@ use plan::table::Table;
 use telling::put_sent;
 
 // For what a closing is remembered: the body of the root is part 0, and that of scope k is part k + 1.
-fn put_whose(out: &mut [u8; 4096], used: usize, part: usize) -> usize {
+fn put_whose(
+    out: &mut [u8; 4096],
+    used: usize,
+    names: &[u8; 16896],
+    table: &Table,
+    part: usize,
+) -> usize {
     if 0 < part {
-        let at = put(out, used, b" for scope");
-        return put_next(out, at, (part - 1) as u64);
+        let at = put(out, used, b" for ");
+        return put_scope(out, at, names, table, part - 1);
     }
     put(out, used, b" for the root")
 }
@@ -25,7 +31,7 @@ fn put_whose(out: &mut [u8; 4096], used: usize, part: usize) -> usize {
 fn put_one(
     out: &mut [u8; 4096],
     used: usize,
-    names: &[u8; 4752],
+    names: &[u8; 16896],
     table: &Table,
     flags: &[u8; 16],
     n: usize,
@@ -45,7 +51,7 @@ fn put_one(
 fn put_sends(
     out: &mut [u8; 4096],
     used: usize,
-    names: &[u8; 4752],
+    names: &[u8; 16896],
     table: &Table,
     flags: &[u8; 16],
     from: usize,
@@ -61,29 +67,29 @@ fn put_sends(
     at
 }
 
-// A closing of scope n for a part: its undo part stands after the body and the fault part.
+// A closing of scope n for a part.
 fn put_closing(
     out: &mut [u8; 4096],
     used: usize,
-    names: &[u8; 4752],
+    names: &[u8; 16896],
     table: &Table,
     flags: &[u8; 16],
     n: usize,
     part: usize,
     order: Order,
 ) -> usize {
-    let mut at = put(out, used, b"  would undo scope");
-    at = put_next(out, at, n as u64);
-    at = put_whose(out, at, part);
+    let mut at = put_scope(out, used, names, table, n);
+    at = put_whose(out, at, names, table, part);
     at = put_byte(out, at, 10);
-    let from = end_of(table, end_of(table, after(n)));
+    let from = undo_of(table, n);
     put_sends(out, at, names, table, flags, from, end_of(table, n), order)
 }
 
-fn put_place(
+// The closing in place i, of those that an order remembers, the oldest in place 0: which scope, for what, and what its undo part sends.
+pub fn put_undone(
     out: &mut [u8; 4096],
     used: usize,
-    names: &[u8; 4752],
+    names: &[u8; 16896],
     table: &Table,
     flags: &[u8; 16],
     i: usize,
@@ -108,11 +114,28 @@ fn put_place(
     used
 }
 
+// The same in `why`, where there is one.
+fn put_would_undo(
+    out: &mut [u8; 4096],
+    used: usize,
+    names: &[u8; 16896],
+    table: &Table,
+    flags: &[u8; 16],
+    i: usize,
+    order: Order,
+) -> usize {
+    if i < order.kept {
+        let at = put(out, used, b"  would undo ");
+        return put_undone(out, at, names, table, flags, i, order);
+    }
+    used
+}
+
 // All closings that an order remembers, the latest first.
 pub(crate) fn put_undo(
     out: &mut [u8; 4096],
     used: usize,
-    names: &[u8; 4752],
+    names: &[u8; 16896],
     table: &Table,
     flags: &[u8; 16],
     order: Order,
@@ -120,7 +143,7 @@ pub(crate) fn put_undo(
     let mut at = used;
     let mut i = 0;
     while i < 32 {
-        at = put_place(out, at, names, table, flags, 31 - i, order);
+        at = put_would_undo(out, at, names, table, flags, 31 - i, order);
         i += 1;
     }
     at

@@ -36,7 +36,7 @@ fn put_mindfuls(out: &mut [u8; 4096], used: usize, orders: [Order; 16]) -> usize
 }
 
 // What is full: the messages, the slots, the closings of an order.
-pub(crate) fn put_full(out: &mut [u8; 4096], used: usize, state: State) -> usize {
+pub fn put_full(out: &mut [u8; 4096], used: usize, state: State) -> usize {
     let orders = state.orders;
     let mut at = used;
     if 64 <= state.waiting {

@@ -124,7 +124,7 @@ fn put_whose(out: &mut [u8; 4096], used: usize, orders: [Order; 16], slot: usize
 fn put_what(
     out: &mut [u8; 4096],
     used: usize,
-    names: &[u8; 4752],
+    names: &[u8; 16896],
     table: &Table,
     flags: &[u8; 16],
     n: usize,
@@ -156,7 +156,7 @@ fn put_which(
 fn put_choice(
     out: &mut [u8; 4096],
     used: usize,
-    names: &[u8; 4752],
+    names: &[u8; 16896],
     table: &Table,
     flags: &[u8; 16],
     state: State,
@@ -178,7 +178,7 @@ fn put_choice(
 fn put_worded(
     out: &mut [u8; 4096],
     used: usize,
-    names: &[u8; 4752],
+    names: &[u8; 16896],
     table: &Table,
     flags: &[u8; 16],
     state: State,
@@ -210,7 +210,7 @@ fn put_worded(
 fn put_worded_from(
     out: &mut [u8; 4096],
     used: usize,
-    names: &[u8; 4752],
+    names: &[u8; 16896],
     table: &Table,
     flags: &[u8; 16],
     state: State,
@@ -226,7 +226,7 @@ fn put_worded_from(
 fn put_choices(
     out: &mut [u8; 4096],
     used: usize,
-    names: &[u8; 4752],
+    names: &[u8; 16896],
     table: &Table,
     flags: &[u8; 16],
     state: State,
@@ -260,7 +260,7 @@ fn put_choices(
 }
 
 // All that is offered, in words; where something is held, what has no room left; and a blank line.
-pub fn put_offers(out: &mut [u8; 4096], used: usize, names: &[u8; 4752], state: State) -> usize {
+pub fn put_offers(out: &mut [u8; 4096], used: usize, names: &[u8; 16896], state: State) -> usize {
     let mut table = [0u32; LENGTH];
     let mut flags = [0u8; 16];
     let o = offer::offers(state);

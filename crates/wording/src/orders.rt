@@ -1,4 +1,5 @@
 // The live orders in words, and one order on the drawing of its plan.
+use super::doing::doing_of;
 use super::doing::part_in;
 use super::doing::put_doing;
 use super::doing::scope_in;
@@ -10,6 +11,7 @@ use drawing::put_member;
 use drawing::put_next;
 use drawing::put_number;
 use drawing::put_refusal;
+use drawing::put_scope;
 use machine::State;
 use order::Order;
 use plan::Answer;
@@ -24,9 +26,9 @@ fn order_in(orders: [Order; 16], slot: usize) -> Order {
     machine::made::no_order()
 }
 
-// How an order stands, by the mark of its root.
+// How an order stands, by the mark of its root, which has beside it what it says of its fault.
 fn put_root(out: &mut [u8; 4096], used: usize, root: u8) -> usize {
-    match root {
+    match root % 16 {
         0 => put(out, used, b"free"),
         1 => put(out, used, b"running"),
         4 => put(out, used, b"faulted"),
@@ -36,11 +38,17 @@ fn put_root(out: &mut [u8; 4096], used: usize, root: u8) -> usize {
 }
 
 // The fault that the root faulted with, where it has faulted: its mark is then neither free nor running.
-fn put_cause(out: &mut [u8; 4096], used: usize, root: u8, cause: u8) -> usize {
+fn put_cause(
+    out: &mut [u8; 4096],
+    used: usize,
+    names: &[u8; 16896],
+    root: u8,
+    cause: u8,
+) -> usize {
     if root < 2 {
         return used;
     }
-    sayings::put_by_fault(out, used, cause)
+    sayings::put_by_fault(out, used, names, cause)
 }
 
 // What stands between two of a list.
@@ -55,7 +63,7 @@ fn put_between(out: &mut [u8; 4096], used: usize, i: usize) -> usize {
 fn put_variable(
     out: &mut [u8; 4096],
     used: usize,
-    names: &[u8; 4752],
+    names: &[u8; 16896],
     correlation: &[u8; 16],
     i: usize,
     bound: u8,
@@ -75,7 +83,7 @@ fn put_variable(
 fn put_values(
     out: &mut [u8; 4096],
     used: usize,
-    names: &[u8; 4752],
+    names: &[u8; 16896],
     correlation: &[u8; 16],
     variables: u32,
     bound: &[u8; 16],
@@ -94,10 +102,10 @@ fn put_values(
 }
 
 // An order's variables.
-fn put_variables(
+pub fn put_variables(
     out: &mut [u8; 4096],
     used: usize,
-    names: &[u8; 4752],
+    names: &[u8; 16896],
     correlation: &[u8; 16],
     variables: u32,
     order: Order,
@@ -108,18 +116,30 @@ fn put_variables(
 }
 
 // Scope n, which closed, and for what that is remembered: the body of the root is part 0, and that of scope k is part k + 1.
-fn put_closing(out: &mut [u8; 4096], used: usize, n: usize, part: usize) -> usize {
-    let mut at = put(out, used, b"scope");
-    at = put_next(out, at, n as u64);
+fn put_closing(
+    out: &mut [u8; 4096],
+    used: usize,
+    names: &[u8; 16896],
+    table: &Table,
+    n: usize,
+    part: usize,
+) -> usize {
+    let mut at = put_scope(out, used, names, table, n);
     if 0 < part {
-        at = put(out, at, b" for scope");
-        return put_next(out, at, (part - 1) as u64);
+        at = put(out, at, b" for ");
+        return put_scope(out, at, names, table, part - 1);
     }
     put(out, at, b" for the root")
 }
 
 // An order's closings, oldest first.
-fn put_closings(out: &mut [u8; 4096], used: usize, order: Order) -> usize {
+fn put_closings(
+    out: &mut [u8; 4096],
+    used: usize,
+    names: &[u8; 16896],
+    table: &Table,
+    order: Order,
+) -> usize {
     let kept = order.kept;
     if kept == 0 {
         return put(out, used, b"none");
@@ -129,27 +149,80 @@ fn put_closings(out: &mut [u8; 4096], used: usize, order: Order) -> usize {
     while i < 32 {
         if i < kept {
             at = put_between(out, at, i);
-            at = put_closing(out, at, scope_in(order, i), part_in(order, i));
+            at = put_closing(out, at, names, table, scope_in(order, i), part_in(order, i));
         }
         i += 1;
     }
     at
 }
 
+// Activity n with this mark, where it is a scope that faulted.
+fn put_faulted(
+    out: &mut [u8; 4096],
+    used: usize,
+    names: &[u8; 16896],
+    table: &Table,
+    n: usize,
+    mark: u8,
+) -> usize {
+    if sayings::has_faulted(mark) {
+        let at = put(out, used, b"; ");
+        return sayings::put_scope_faulted(out, at, names, table, n, mark);
+    }
+    used
+}
+
+// The scopes of an order with these marks that faulted and are not over, each with its fault.
+fn put_all_faulted(
+    out: &mut [u8; 4096],
+    used: usize,
+    names: &[u8; 16896],
+    table: &Table,
+    marks: &[u8; 256],
+) -> usize {
+    let mut at = used;
+    let mut n = 0;
+    while n < 256 {
+        at = put_faulted(out, at, names, table, n, marks[n]);
+        n += 1;
+    }
+    at
+}
+
+// How an order stands, and by which fault; and which scopes in it faulted.
+pub fn put_standing(
+    out: &mut [u8; 4096],
+    used: usize,
+    names: &[u8; 16896],
+    table: &Table,
+    order: Order,
+) -> usize {
+    let marks = order.marks;
+    let mut at = put_root(out, used, order.root);
+    at = put_cause(out, at, names, order.root, order.cause);
+    put_all_faulted(out, at, names, table, &marks)
+}
+
 // The slot of an order, how it stands, and by which fault.
-fn put_head(out: &mut [u8; 4096], used: usize, slot: usize, order: Order) -> usize {
+fn put_head(
+    out: &mut [u8; 4096],
+    used: usize,
+    names: &[u8; 16896],
+    table: &Table,
+    slot: usize,
+    order: Order,
+) -> usize {
     let mut at = put(out, used, b"order");
     at = put_next(out, at, slot as u64);
     at = put_byte(out, at, 32);
-    at = put_root(out, at, order.root);
-    put_cause(out, at, order.root, order.cause)
+    put_standing(out, at, names, table, order)
 }
 
 // A line for a live order.
 fn put_order_line(
     out: &mut [u8; 4096],
     used: usize,
-    names: &[u8; 4752],
+    names: &[u8; 16896],
     table: &Table,
     correlation: &[u8; 16],
     variables: u32,
@@ -159,11 +232,11 @@ fn put_order_line(
     if order.root == 0 {
         return used;
     }
-    let mut at = put_head(out, used, slot, order);
+    let mut at = put_head(out, used, names, table, slot, order);
     at = put(out, at, b"; ");
     at = put_variables(out, at, names, correlation, variables, order);
     at = put(out, at, b"; remembered: ");
-    at = put_closings(out, at, order);
+    at = put_closings(out, at, names, table, order);
     put_byte(out, at, 10)
 }
 
@@ -178,7 +251,7 @@ fn with_live(live: u64, root: u8) -> u64 {
 }
 
 // How many orders are live.
-pub(crate) fn live_of(orders: [Order; 16]) -> u64 {
+pub fn live_of(orders: [Order; 16]) -> u64 {
     let mut live = 0;
     let mut slot = 0;
     while slot < 16 {
@@ -192,7 +265,7 @@ pub(crate) fn live_of(orders: [Order; 16]) -> u64 {
 fn put_order_lines(
     out: &mut [u8; 4096],
     used: usize,
-    names: &[u8; 4752],
+    names: &[u8; 16896],
     table: &Table,
     correlation: &[u8; 16],
     variables: u32,
@@ -211,7 +284,7 @@ fn put_order_lines(
 }
 
 // How many orders are live, each of them, and a blank line.
-pub fn put_orders(out: &mut [u8; 4096], used: usize, names: &[u8; 4752], state: State) -> usize {
+pub fn put_orders(out: &mut [u8; 4096], used: usize, names: &[u8; 16896], state: State) -> usize {
     let mut table = [0u32; LENGTH];
     let mut correlation = [0u8; 16];
     let orders = state.orders;
@@ -233,7 +306,7 @@ pub fn put_orders(out: &mut [u8; 4096], used: usize, names: &[u8; 4752], state: 
 fn put_doing_line(
     out: &mut [u8; 4096],
     used: usize,
-    names: &[u8; 4752],
+    names: &[u8; 16896],
     table: &Table,
     correlation: &[u8; 16],
     order: Order,
@@ -241,14 +314,14 @@ fn put_doing_line(
 ) -> usize {
     let mut at = put_aligned(out, used, n as u64);
     at = put(out, at, b"  ");
-    at = put_doing(out, at, table, order, n);
+    at = put_doing(out, at, true, doing_of(table, order, n));
     put_drawn(out, at, names, table, correlation, n)
 }
 
 fn put_doing_lines(
     out: &mut [u8; 4096],
     used: usize,
-    names: &[u8; 4752],
+    names: &[u8; 16896],
     table: &Table,
     correlation: &[u8; 16],
     activities: usize,
@@ -267,7 +340,7 @@ fn put_doing_lines(
 fn put_foot(
     out: &mut [u8; 4096],
     used: usize,
-    names: &[u8; 4752],
+    names: &[u8; 16896],
     table: &Table,
     correlation: &[u8; 16],
     variables: u32,
@@ -276,7 +349,7 @@ fn put_foot(
     let mut at = put(out, used, b"variables: ");
     at = put_variables(out, at, names, correlation, variables, order);
     at = put(out, at, b"\nremembered, oldest first: ");
-    at = put_closings(out, at, order);
+    at = put_closings(out, at, names, table, order);
     put(out, at, b"\n\n")
 }
 
@@ -284,7 +357,7 @@ fn put_foot(
 fn put_drawn_order(
     out: &mut [u8; 4096],
     used: usize,
-    names: &[u8; 4752],
+    names: &[u8; 16896],
     table: &Table,
     correlation: &[u8; 16],
     variables: u32,
@@ -292,7 +365,7 @@ fn put_drawn_order(
     slot: usize,
     order: Order,
 ) -> usize {
-    let mut at = put_head(out, used, slot, order);
+    let mut at = put_head(out, used, names, table, slot, order);
     at = put_byte(out, at, 10);
     if order.root == 0 {
         return at;
@@ -305,7 +378,7 @@ fn put_drawn_order(
 pub fn put_order(
     out: &mut [u8; 4096],
     used: usize,
-    names: &[u8; 4752],
+    names: &[u8; 16896],
     state: State,
     slot: usize,
 ) -> usize {

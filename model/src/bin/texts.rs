@@ -1,11 +1,11 @@
-//! Compares plans as text with the desk and with the library: every plan drawn and written back, by numbers, by names and laid out otherwise; and damaged
-//! texts, each of which is answered as the model of the text answers it.
+//! Compares plans as text with the desk and with the library: expressions in all their spellings; every plan drawn and written back, by numbers, by names, laid
+//! out and spelled otherwise; and damaged texts, each of which is answered as the model of the text answers it.
 
 #![forbid(unsafe_code)]
 
 use model::generate::{self, Random};
 use model::process::Process;
-use model::text::{self, Wrong};
+use model::text::{self, Exp, Wrong};
 use model::{edges, full, reader, vectors};
 use std::io::{Read, Write};
 use std::process::{Command, Stdio, exit};
@@ -81,9 +81,9 @@ impl Library {
                 answer == bytes.len() as u64
             }
             Err(Wrong::Refused(number, line)) => answer == u64::from(*number) << 32 | *line as u64,
-            // the reason may be any of the 26
+            // the reason may be any of the 27
             Err(Wrong::Line(line)) => {
-                (33..=58).contains(&(answer >> 32)) && answer as u32 as usize == *line
+                (33..=59).contains(&(answer >> 32)) && answer as u32 as usize == *line
             }
         };
         if !good || buffer != left {
@@ -221,11 +221,14 @@ fn name(random: &mut Random, number: usize) -> String {
     name + &end
 }
 
-/// Names for variables, partners and operations; an empty one is none.
+/// Names for variables, partners, operations, scopes and faults; an empty one is none.
 struct Named {
     variables: Vec<String>,
     partners: Vec<String>,
     operations: Vec<String>,
+    scopes: Vec<String>,
+    /// By their numbers; those below 16 have none.
+    faults: Vec<String>,
 }
 
 fn named(random: &mut Random) -> Named {
@@ -236,11 +239,15 @@ fn named(random: &mut Random) -> Named {
         };
         (0..many).map(|k| one(k, random)).collect::<Vec<String>>()
     };
-    Named {
+    let mut named = Named {
         variables: some(16, 80),
         partners: some(64, 60),
         operations: some(64, 60),
-    }
+        scopes: some(128, 60),
+        faults: some(256, 60),
+    };
+    named.faults[..16].fill(String::new());
+    named
 }
 
 /// A drawing by these names.
@@ -253,9 +260,12 @@ fn by_names(text: &str, named: &Named) -> String {
         let lines = lines.map(|(k, name)| format!("{what} {k} {name}\n"));
         lines.collect::<String>()
     };
-    let others = declared("partner", &named.partners) + &declared("operation", &named.operations);
+    let others = declared("partner", &named.partners)
+        + &declared("operation", &named.operations)
+        + &declared("fault", &named.faults);
     let mut out = String::new();
     let mut others = Some(others);
+    let mut scopes = named.scopes.iter();
     for line in text.lines() {
         if !line.starts_with("variable ") {
             out += &others.take().unwrap_or_default();
@@ -272,6 +282,7 @@ fn by_names(text: &str, named: &Named) -> String {
             let list = match (before, word.strip_prefix('v')) {
                 ("partner", _) => Some((&named.partners, word)),
                 ("operation", _) => Some((&named.operations, word)),
+                ("raise" | "part", _) => Some((&named.faults, word)),
                 (_, Some(number)) => Some((&named.variables, number)),
                 _ => None,
             };
@@ -285,6 +296,12 @@ fn by_names(text: &str, named: &Named) -> String {
                 before = word;
             }
             rest = behind;
+        }
+        if before == "scope" {
+            let name = scopes.next().map_or("", String::as_str);
+            if !name.is_empty() {
+                out += &format!(" {name}");
+            }
         }
         out += "\n";
     }
@@ -311,10 +328,19 @@ fn otherwise(random: &mut Random, text: &str) -> String {
             }
         }
         // blanks at marks and at the end
-        for mark in [",", ":", "(", ")", "+", "-", "=", "<"] {
+        const PAIRS: [(&str, &str); 3] = [("<=", "\x01"), (">=", "\x02"), ("!=", "\x03")];
+        for (pair, one) in PAIRS {
+            words = words.replace(pair, one);
+        }
+        for mark in [
+            ",", ":", "(", ")", "+", "-", "=", "<", ">", "\x01", "\x02", "\x03",
+        ] {
             if random.percent(20) {
                 words = words.replace(mark, &format!(" {mark}  "));
             }
+        }
+        for (pair, one) in PAIRS {
+            words = words.replace(one, pair);
         }
         if random.percent(20) {
             words += "   # and why";
@@ -323,6 +349,152 @@ fn otherwise(random: &mut Random, text: &str) -> String {
         out += "\n";
     }
     out
+}
+
+/// How strongly an operation binds.
+const OR: u32 = 1;
+const AND: u32 = 2;
+const NOT: u32 = 3;
+const COMPARED: u32 = 4;
+const SUM: u32 = 5;
+const OPERAND: u32 = 6;
+
+/// A comparison by itself, or what it says of a value: that it is above 0.
+fn weighed(random: &mut Random, e: &Exp) -> Option<Exp> {
+    match e {
+        Exp::Two(5, zero, value) if **zero == Exp::Constant(0) && random.percent(50) => {
+            match **value {
+                Exp::Two(4 | 5, ..) => Some(e.clone()),
+                _ => Some((**value).clone()),
+            }
+        }
+        Exp::Two(4 | 5, ..) => Some(e.clone()),
+        _ => None,
+    }
+}
+
+/// An expression in one of its spellings, within what binds as strongly as this.
+fn spelled(random: &mut Random, e: &Exp, least: u32) -> String {
+    let (binds, text) = match e {
+        Exp::Constant(value) => (OPERAND, value.to_string()),
+        Exp::Variable(number) => (OPERAND, format!("v{number}")),
+        Exp::Two(code, left, right) => operation(random, *code, left, right),
+    };
+    match binds < least || random.percent(10) {
+        true => format!("({text})"),
+        false => text,
+    }
+}
+
+fn operation(random: &mut Random, code: u32, left: &Exp, right: &Exp) -> (u32, String) {
+    let zero = Exp::Constant(0);
+    let mut between = |binds: u32, lefts: u32, rights: u32, word: &str, one: &Exp, other: &Exp| {
+        let one = spelled(random, one, lefts);
+        (
+            binds,
+            format!("{one} {word} {}", spelled(random, other, rights)),
+        )
+    };
+    match (code, left, right) {
+        (2, ..) => between(SUM, SUM, OPERAND, "+", left, right),
+        (3, ..) => between(SUM, SUM, OPERAND, "-", left, right),
+        (4, Exp::Two(4, one, other), _) if *right == zero && random.percent(70) => {
+            operands(random, "!=", one, other)
+        }
+        (4, Exp::Two(5, one, other), _) if *right == zero && random.percent(60) => {
+            match random.percent(50) {
+                true => operands(random, ">=", one, other),
+                false => operands(random, "<=", other, one),
+            }
+        }
+        (4, ..) if *right == zero && random.percent(50) => {
+            (NOT, format!("not {}", spelled(random, left, NOT)))
+        }
+        (4, ..) => operands(random, "=", left, right),
+        (_, Exp::Two(4, one, nothing), _) if **nothing == zero && random.percent(80) => {
+            match weighed(random, right) {
+                Some(other) => {
+                    let one = spelled(random, one, NOT);
+                    (AND, format!("{one} and {}", spelled(random, &other, AND)))
+                }
+                None => less(random, left, right),
+            }
+        }
+        (_, _, Exp::Two(2, one, other)) if *left == zero && random.percent(80) => {
+            match (weighed(random, one), weighed(random, other)) {
+                (Some(one), Some(other)) => {
+                    let one = spelled(random, &one, AND);
+                    (OR, format!("{one} or {}", spelled(random, &other, OR)))
+                }
+                _ => less(random, left, right),
+            }
+        }
+        _ => less(random, left, right),
+    }
+}
+
+fn operands(random: &mut Random, mark: &str, one: &Exp, other: &Exp) -> (u32, String) {
+    let one = spelled(random, one, SUM);
+    let other = spelled(random, other, SUM);
+    (COMPARED, format!("{one} {mark} {other}"))
+}
+
+fn less(random: &mut Random, left: &Exp, right: &Exp) -> (u32, String) {
+    match random.percent(50) {
+        true => operands(random, "<", left, right),
+        false => operands(random, ">", right, left),
+    }
+}
+
+/// The same drawing with its expressions spelled otherwise.
+fn respelled(random: &mut Random, text: &str) -> String {
+    let mut out = String::new();
+    for line in text.lines() {
+        let found = [" to ", "choose by ", "repeat while "]
+            .iter()
+            .find_map(|word| line.find(word).map(|at| at + word.len()));
+        let read = found.and_then(|at| Some((at, text::expression_of(&line[at..])?)));
+        match read {
+            Some((at, e)) => out += &format!("{}{}\n", &line[..at], spelled(random, &e, OR)),
+            None => out += &format!("{line}\n"),
+        }
+    }
+    out
+}
+
+/// An expression that people might write, right or not.
+fn written(random: &mut Random, depth: usize) -> String {
+    if depth == 0 || random.percent(20) {
+        const LEAVES: [&str; 8] = ["v0", "v1", "v2", "0", "1", "limit", "4294967295", "7"];
+        return LEAVES[random.below(LEAVES.len())].to_string();
+    }
+    const WORDS: [&str; 10] = ["+", "-", "=", "<", ">", "<=", ">=", "!=", "and", "or"];
+    let text = match random.below(7) {
+        0 => format!("not {}", written(random, depth - 1)),
+        _ => {
+            let word = WORDS[random.below(WORDS.len())];
+            let word = if random.percent(40) {
+                ["and", "or"][random.below(2)]
+            } else {
+                word
+            };
+            let one = written(random, depth - 1);
+            format!("{one} {word} {}", written(random, depth - 1))
+        }
+    };
+    match random.percent(60) {
+        true => format!("({text})"),
+        false => text,
+    }
+}
+
+/// A plan that chooses by an expression.
+fn choosing(random: &mut Random) -> String {
+    let depth = random.from_to(1, 5);
+    let e = written(random, depth);
+    format!(
+        "variable v0\nvariable v1\nvariable v2\nconstant limit 3\nsequence\n  receive from partner 0, operation 0: v0, v1, v2\n  choose by {e}\n    empty\n    empty\nempty\n"
+    )
 }
 
 /// The text with one thing wrong, or more; lines with nothing in them are left out, since they would end it.
@@ -367,7 +539,7 @@ fn damaged(random: &mut Random, text: &str) -> String {
                 lines[at].remove(place);
             }
             7 => {
-                let marks = b" \t\r#,:()+-=<0123456789vabz_;.\x01~";
+                let marks = b" \t\r#,:()+-=<>!0123456789vabz_;.\x01~";
                 let mark = marks[random.below(marks.len())] as char;
                 lines[at].insert(place, mark);
             }
@@ -422,7 +594,13 @@ fn damaged(random: &mut Random, text: &str) -> String {
             }
             15 => {
                 // a variable or a word is added to the end
-                const MORE: [&str; 10] = [
+                const MORE: [&str; 16] = [
+                    " and v0",
+                    " or 1",
+                    " > 2",
+                    " != (v0",
+                    " not",
+                    " scope_1",
                     ", v0",
                     ", v1, v2, v3",
                     " + 1",
@@ -467,6 +645,25 @@ fn main() {
     plans.retain(|bytes| reader::read(bytes).is_ok());
     let given = plans.len();
     plans.extend((0..count).map(|_| generate::legal(&mut random).bytes));
+
+    let mut library = Library::start();
+
+    // expressions as people write them: what is a plan is drawn and written back below
+    let mut script = Script::default();
+    let (mut read, mut deep, mut wrong) = (Vec::new(), 0, 0);
+    for _ in 0..count {
+        match script.write(&choosing(&mut random)) {
+            Ok(bytes) => read.push(bytes),
+            Err(Wrong::Refused(..)) => deep += 1,
+            Err(Wrong::Line(_)) => wrong += 1,
+        }
+    }
+    script.hold("expressions", &mut library, &mut random);
+    println!(
+        "texts: {count} expressions by and, or, not, > and the like, answered as the model answers them: {} are plans, {deep} too deep, {wrong} no expressions",
+        read.len()
+    );
+    plans.append(&mut read);
     let texts = drawn(&plans);
 
     // drawn, and written back: as it is, by names, and laid out otherwise
@@ -475,7 +672,8 @@ fn main() {
         let named = by_names(text, &named(&mut random));
         let one = if random.percent(50) { &named } else { text };
         let other = otherwise(&mut random, one);
-        for text in [text, &named, &other] {
+        let again = respelled(&mut random, text);
+        for text in [text, &named, &again, &other] {
             let read = script.write(text);
             if read.as_ref() != Ok(plan) {
                 println!("the model reads another plan, {read:?}, out of\n{text}");
@@ -496,10 +694,9 @@ fn main() {
         script.want("\nplan 2 0\nnames 2 0\n", text);
     }
     let written = script.lines;
-    let mut library = Library::start();
     script.hold("there and back", &mut library, &mut random);
     println!(
-        "texts: {} accepted plans, {given} of them given ones, drawn and written back byte for byte: as drawn, by names, laid out otherwise; {written} lines",
+        "texts: {} accepted plans, {given} of them given ones, drawn and written back byte for byte: as drawn, by names, spelled otherwise, laid out otherwise; {written} lines",
         plans.len()
     );
 
@@ -539,7 +736,7 @@ fn main() {
 
 /// The lines in front of a drawing.
 fn declarations(text: &str) -> String {
-    let words = ["variable ", "partner ", "operation "];
+    let words = ["variable ", "partner ", "operation ", "fault "];
     let lines = text
         .lines()
         .filter(|line| words.iter().any(|word| line.starts_with(word)));
@@ -552,16 +749,24 @@ fn names_of(text: &str) -> Named {
         variables: Vec::new(),
         partners: vec![String::new(); 64],
         operations: vec![String::new(); 64],
+        scopes: Vec::new(),
+        faults: vec![String::new(); 256],
     };
     for line in text.lines() {
-        let words: Vec<&str> = line.split_whitespace().collect();
+        let bare = line.split('#').next().expect("a line");
+        let words: Vec<&str> = bare.split_whitespace().collect();
         match words[..] {
+            [.., "scope"] => named.scopes.push(String::new()),
+            [.., "scope", name] => named.scopes.push(name.to_string()),
             ["variable", name, ..] => named.variables.push(name.to_string()),
             ["partner", number, name, ..] => {
                 named.partners[number.parse::<usize>().expect("a number")] = name.to_string()
             }
             ["operation", number, name, ..] => {
                 named.operations[number.parse::<usize>().expect("a number")] = name.to_string()
+            }
+            ["fault", number, name, ..] if number.parse::<usize>().is_ok() => {
+                named.faults[number.parse::<usize>().expect("a number")] = name.to_string()
             }
             _ => {}
         }

@@ -7,12 +7,15 @@ use borrow.Fn.PlainCycle.{Measures, is, falls, and}
 use Rattle.lettering.proofs.put_expression.Reads as put-expression
 use Rattle.lettering.proofs.put_expression.Kinds as put-expression-kinds
 use Rattle.lettering.proofs.+put_expression.Lts-put_expression as put-expression-lts
-use Rattle.lettering.proofs.table.after.Reads as after-reads
 use Rattle.lettering.proofs.table.code_of.Reads as code-of-reads
-use Rattle.lettering.proofs.put_if.Reads as put-if-reads
 use Rattle.lettering.proofs.put_leaf.Reads as put-leaf-reads
+use Rattle.lettering.proofs.put_if.Reads as put-if-reads
+use Rattle.lettering.proofs.output.put.Reads as put-reads
 use Rattle.lettering.proofs.put_operator.Reads as put-operator-reads
-use Rattle.lettering.proofs.table.value_of.Reads as value-of-reads
+use Rattle.forms.proofs.form_of.Reads as form-of-reads
+use Rattle.forms.proofs.first_of.Reads as first-of-reads
+use Rattle.forms.proofs.second_of.Reads as second-of-reads
+use Rattle.forms.proofs.goes_on.Reads as goes-on-reads
 use Rattle.lettering.proofs.+put_expression.{statement}
 use Rattle.lettering.proofs.+put_expression.Tie.{close}
 
@@ -38,7 +41,7 @@ put-expression-below t =
 pub +put-expression-spec : {M : Type 1} → statement M
 +put-expression-spec =
     close μ-put-expression λ t. put-expression-lts.spec
-    (code-of-reads.Asked, code-of-reads.Learnt, put-leaf-reads.Asked, put-leaf-reads.Learnt, put-if-reads.Asked, put-if-reads.Learnt, after-reads.Asked, after-reads.Learnt, put-expression-below t, put-expression.Post, put-operator-reads.Asked, put-operator-reads.Learnt, value-of-reads.Asked, value-of-reads.Learnt)
+    (code-of-reads.Asked, code-of-reads.Learnt, put-leaf-reads.Asked, put-leaf-reads.Learnt, form-of-reads.Asked, form-of-reads.Learnt, first-of-reads.Asked, first-of-reads.Learnt, put-if-reads.Asked, put-if-reads.Learnt, put-reads.Asked, put-reads.Learnt, put-expression-below t, put-expression.Post, put-operator-reads.Asked, put-operator-reads.Learnt, second-of-reads.Asked, second-of-reads.Learnt, goes-on-reads.Asked, goes-on-reads.Learnt)
     (put-expression-at t)
     put-expression.Post
     (λ c κs. search needs)
@@ -48,11 +51,18 @@ pub +put-expression-spec : {M : Type 1} → statement M
     (λ c. tt)
     (λ c κs. search needs)
     (λ c κs. search needs)
+    (λ c κs. search needs)
+    (λ c. search needs)
+    (λ c κs. search needs)
+    (λ c. search needs)
+    (λ c κs. (omega arith, tt))
+    (λ c κs. search needs)
+    (λ c. tt)
     (λ c. search needs)
     (λ c κs. (omega arith, tt))
     (λ c κs. search needs)
     (λ c κs. search needs)
-    (λ c. search needs)
+    (λ c κs. search needs)
     (λ c. search needs)
     (λ c κs. (omega arith, tt))
     (λ c κs. search needs)

@@ -4,10 +4,10 @@ use Rattle.sheet.proofs.close.Statement.{statement}
 use Rattle.sheet.proofs.close.Tie as tie
 
 abbrev Inv-loop : tie.InvT-loop
-Inv-loop lines levels column st level₀ level = Unit {0}
+Inv-loop lines levels column nowhere st level₀ level = Unit {0}
 
 abbrev μ-loop : tie.MeasureT-loop
-μ-loop lines levels column st level₀ level = level
+μ-loop lines levels column nowhere st level₀ level = level
 
 pub close-spec : {M : Type 1} → statement M
 close-spec =

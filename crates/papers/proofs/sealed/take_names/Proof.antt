@@ -6,10 +6,10 @@ use Rattle.papers.proofs.sealed.take_names.Statement.{statement}
 use Rattle.papers.proofs.sealed.take_names.Tie as tie
 
 abbrev Inv-loop : tie.InvT-loop
-Inv-loop file names₀ place₀ i₀ names place i = Unit {0}
+Inv-loop file names₀ start i₀ names i = Unit {0}
 
 abbrev μ-loop : tie.MeasureT-loop
-μ-loop file names₀ place₀ i₀ names place i = 4752 - i
+μ-loop file names₀ start i₀ names i = 16896 - i
 
 pub take-names-spec : {M : Type 1} → statement M
 take-names-spec =
@@ -19,8 +19,7 @@ take-names-spec =
     μ-loop
     (λ c κs. search needs)
     (λ c. tt)
-    (λ c. omega arith)
-    (λ c. omega arith)
+    (λ c κs. search needs)
     (λ c. omega arith)
     (λ c. omega arith)
     (λ c. omega arith)

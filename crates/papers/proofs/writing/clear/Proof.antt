@@ -8,7 +8,7 @@ abbrev Inv-loop : tie.InvT-loop
 Inv-loop names₀ i₀ names i = Unit {0}
 
 abbrev μ-loop : tie.MeasureT-loop
-μ-loop names₀ i₀ names i = 4752 - i
+μ-loop names₀ i₀ names i = 16896 - i
 
 pub clear-spec : {M : Type 1} → statement M
 clear-spec =

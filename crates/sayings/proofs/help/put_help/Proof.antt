@@ -9,7 +9,7 @@ abbrev Inv-loop : tie.InvT-loop
 Inv-loop out₀ used at₀ k₀ out at k = Unit {0}
 
 abbrev μ-loop : tie.MeasureT-loop
-μ-loop out₀ used at₀ k₀ out at k = 26 - k
+μ-loop out₀ used at₀ k₀ out at k = 27 - k
 
 pub put-help-spec : {M : Type 1} → statement M
 put-help-spec =

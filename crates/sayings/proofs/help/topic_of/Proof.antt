@@ -9,7 +9,7 @@ abbrev Inv-loop : tie.InvT-loop
 Inv-loop word k₀ k = Unit {0}
 
 abbrev μ-loop : tie.MeasureT-loop
-μ-loop word k₀ k = 26 - k
+μ-loop word k₀ k = 27 - k
 
 pub topic-of-spec : {M : Type 1} → statement M
 topic-of-spec =

@@ -22,8 +22,6 @@ tuple-spec =
     (λ c. tt)
     -- member-requires
     (λ c κs. search needs)
-    -- unread-requires
-    (λ c κs. search needs)
     -- returns
     (λ c. search needs)
     -- is-over-requires
@@ -34,7 +32,7 @@ tuple-spec =
     (λ c. search needs)
     -- after-mark-requires
     (λ c κs. search needs)
-    -- unread-requires-2
+    -- unread-requires
     (λ c κs. search needs)
     -- returns-3
     (λ c. search needs)
@@ -42,7 +40,7 @@ tuple-spec =
     (λ c. search needs)
     -- loop-again
     (λ c. tt)
-    -- unread-requires-3
+    -- unread-requires-2
     (λ c κs. search needs)
     -- returns-4
     (λ c. search needs))

@@ -19,6 +19,7 @@ put-rows-spec =
     μ-loop
     (λ c. tt)
     (λ c κs. search needs)
+    (λ c κs. search needs)
     (λ c. omega arith)
     (λ c. omega arith)
     (λ c. tt)

@@ -6,10 +6,10 @@ use Rattle.why.proofs.strays.put_strays.Statement.{statement}
 use Rattle.why.proofs.strays.put_strays.Tie as tie
 
 abbrev Inv-loop : tie.InvT-loop
-Inv-loop out₀ used names table flags picks activities orders messages waiting letters full at₀ j₀ out at j = Unit {0}
+Inv-loop out₀ used names table flags picks activities held_alone orders messages waiting letters at₀ j₀ out at j = Unit {0}
 
 abbrev μ-loop : tie.MeasureT-loop
-μ-loop out₀ used names table flags picks activities orders messages waiting letters full at₀ j₀ out at j = 64 - j
+μ-loop out₀ used names table flags picks activities held_alone orders messages waiting letters at₀ j₀ out at j = 64 - j
 
 pub put-strays-spec : {M : Type 1} → statement M
 put-strays-spec =
@@ -17,7 +17,6 @@ put-strays-spec =
     (tie.spec
     Inv-loop
     μ-loop
-    (λ c κs. search needs)
     (λ c κs. search needs)
     (λ c. tt)
     (λ c. search needs)

@@ -6,10 +6,10 @@ use Rattle.wording.proofs.orders.put_closings.Statement.{statement}
 use Rattle.wording.proofs.orders.put_closings.Tie as tie
 
 abbrev Inv-loop : tie.InvT-loop
-Inv-loop out₀ used order kept at₀ i₀ out at i = Unit {0}
+Inv-loop out₀ used names table order kept at₀ i₀ out at i = Unit {0}
 
 abbrev μ-loop : tie.MeasureT-loop
-μ-loop out₀ used order kept at₀ i₀ out at i = 32 - i
+μ-loop out₀ used names table order kept at₀ i₀ out at i = 32 - i
 
 pub put-closings-spec : {M : Type 1} → statement M
 put-closings-spec =
