@@ -83,7 +83,7 @@ impl Library {
             Err(Wrong::Refused(number, line)) => answer == u64::from(*number) << 32 | *line as u64,
             // the reason may be any of the 27
             Err(Wrong::Line(line)) => {
-                (33..=59).contains(&(answer >> 32)) && answer as u32 as usize == *line
+                (33..=60).contains(&(answer >> 32)) && answer as u32 as usize == *line
             }
         };
         if !good || buffer != left {
