@@ -66,7 +66,7 @@ static void words(void)
     same(moonhalyard_version(), MOONHALYARD_VERSION);
     same(strcmp(moonhalyard_says(MOONHALYARD_FULL), "64 messages wait already"), 0);
     for (uint32_t i = 0; i < 70; i++) {
-        int known = i <= MOONHALYARD_ROOM || i == MOONHALYARD_DISAGREE || (i > MOONHALYARD_TEXT && i <= MOONHALYARD_TEXT + 27);
+        int known = i <= MOONHALYARD_ROOM || i == MOONHALYARD_DISAGREE || (i > MOONHALYARD_TEXT && i <= MOONHALYARD_TEXT + 28);
         same(strcmp(moonhalyard_says(i), "unknown refusal") != 0, known);
     }
     same(strcmp(moonhalyard_says(UINT32_MAX), "unknown refusal"), 0);
