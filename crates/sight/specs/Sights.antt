@@ -7,7 +7,7 @@ use mathlib.Core.Path.{_≡_}
 use lib.Dec.{leb, eqb}
 use lib.ListN.{length, getD}
 use Rattle.plan.specs.Spells.{variablesOf}
-use Rattle.plan.specs.Tree.{Acts, Plan}
+use Rattle.plan.specs.Tree.{toPartner, toHeld, fromPartner, fromAsking, Acts, Plan}
 use Rattle.machine.specs.declared.Message.{Message}
 use Rattle.order.specs.declared.Order.{Order}
 use Rattle.machine.specs.declared.Step.{Step}
@@ -106,15 +106,17 @@ pub record Opening (t picks marks known bound parts : List ℕ) (kept : ℕ) (le
   pub marked : o .marks ≡ marks
   pub serving : Serving known bound parts kept letters waiting least o p l
 
--- the step of a row, by its kind and its partner and operation
-unfoldable pub doingBy : (kind partner operation : ℕ) → (variables : List ℕ) → Scope → Doing
-doingBy n a b vs s =
-    cond (eqb n 1) (sends a b vs)
-    (cond (eqb n 2 || eqb n 255) (takes a b vs)
+-- the step of a row, by its kind and its partner (of a send to a held partner: that to reply to), operation and variable
+unfoldable pub doingBy : (kind partner operation variable : ℕ) → (variables : List ℕ) → Scope → Doing
+doingBy n a b v vs s =
+    cond (eqb n 1) (sends (toPartner a) b vs)
+    (cond (eqb n 17) (sends (toHeld v a) b vs)
+    (cond (eqb n 2 || eqb n 255) (takes (fromPartner a) b vs)
+    (cond (eqb n 18) (takes (fromAsking a v) b vs)
     (cond (eqb n 11 || eqb n 14) (closes true s)
     (cond (eqb n 12) (closes false s)
     (cond (eqb n 13) cuts
-    (cond (leb 3 n && leb n 7) (cond (eqb n 4 || eqb n 5) cuts moves) noStep)))))
+    (cond (leb 3 n && leb n 7) (cond (eqb n 4 || eqb n 5) cuts moves) noStep)))))))
 
 -- r says whether row k awaits its step
 pub record AwaitsRow (t picks ms : List ℕ) (k : ℕ) (r : Bool) : Type 0 where
