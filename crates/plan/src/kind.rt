@@ -33,6 +33,12 @@ pub const NUMBERED_RAISE: u32 = 13;
 // A scope with fault parts by number, and with an undo part.
 pub const NUMBERED_SCOPE: u32 = 14;
 
+// A send to the partner that a variable holds, with a partner to reply to.
+pub const HELD_SEND: u32 = 17;
+
+// A receive that stores whom to reply to.
+pub const ASKING_RECEIVE: u32 = 18;
+
 // The last code of an activity: what stands on file above it is no activity.
 pub const LAST: u32 = NUMBERED_SCOPE;
 
