@@ -119,7 +119,7 @@ doing-closes n a b vs s e = go (eqb n 11) (eqb n 12) refl refl e
     go false false z w h = let q : n ≡ 14 = eqb-true n 14 h in rw q
 
 -- `doing_row`
-module _ (t known bound parts : List ℕ) (kept i k : ℕ) (letters : List ℕ) (wait : ℕ) (least : List ℕ) (s : Sight) where
+module _ (t known bound values parts : List ℕ) (kept i k : ℕ) (letters : List ℕ) (wait : ℕ) (least : List ℕ) (s : Sight) where
   doing-says : (n : ℕ) → getD t (k * 13) 0 ≡ n → (o : Order) (p : Plan) (l : List Letter) (x : Line) → Stands t (o .marks) k x
       → doingLine wait i o p l x s
       ≡ seen (stepOffers p wait l i o k (doingBy n (getD t (k * 13 + 1) 0) (getD t (k * 13 + 2) 0) (variablesOf (x .own)) (scopeAt (numbersOf (x .own)) k (x .within)))) s
@@ -127,12 +127,12 @@ module _ (t known bound parts : List ℕ) (kept i k : ℕ) (letters : List ℕ) 
   doing-says n z o p l x y = rw (y .activity, stands-doing y, z)
 
   module _ (z : getD t (k * 13) 0 ≡ 1) where
-    pub send-room : {r : Sight} → wait < 64 → r ≡ showing i k 0 s → Rows t k (Serving known bound parts kept letters wait least) (doingLine wait i) s r
+    pub send-room : {r : Sight} → wait < 64 → r ≡ showing i k 0 s → Rows t k (Serving known bound values parts kept letters wait least) (doingLine wait i) s r
     unfolding stepOffers doingBy
     send-room h q = record { is = λ o p l x g y. q ∙ sym (doing-says 1 z o p l x y ∙ rw (lt-leb 64 wait h) (seen-show i k 0 s)) }
 
     module _ (h : 64 ≤ wait) {b : Bool} (v : BoundRow t bound k b) where
-      pub send-held : {r : Sight} → b ≡ true → r ≡ withholding s → Rows t k (Serving known bound parts kept letters wait least) (doingLine wait i) s r
+      pub send-held : {r : Sight} → b ≡ true → r ≡ withholding s → Rows t k (Serving known bound values parts kept letters wait least) (doingLine wait i) s r
       unfolding stepOffers doingBy
       send-held e q = record {
         is = λ o p l x g y.
@@ -140,7 +140,7 @@ module _ (t known bound parts : List ℕ) (kept i k : ℕ) (letters : List ℕ) 
             ∙ rw (le-leb 64 wait h, sym (v .is o _ _ (variablesOf (x .own)) (g .bindings) (g .sixteen) (stands-exchange y (λ q. omega arith)) (y .few)) ∙ e) (seen-hold (offering i k 0 ∷ []) s));
       }
 
-      pub send-raises : {r : Sight} → b ≡ false → r ≡ showing i k 0 s → Rows t k (Serving known bound parts kept letters wait least) (doingLine wait i) s r
+      pub send-raises : {r : Sight} → b ≡ false → r ≡ showing i k 0 s → Rows t k (Serving known bound values parts kept letters wait least) (doingLine wait i) s r
       unfolding stepOffers doingBy
       send-raises e q = record {
         is = λ o p l x g y.
@@ -157,16 +157,16 @@ module _ (t known bound parts : List ℕ) (kept i k : ℕ) (letters : List ℕ) 
       ∙ (fold-only (λ v. showing i k (v .place)) (mayTake p o (getD t (k * 13 + 1) 0) (getD t (k * 13 + 2) 0) (variablesOf (x .own))) l s ∙ rw (y .activity))
 
   module _ {r : Sight} (w : Rows t k (Exchanging t k (Heeding known letters wait least)) (takeLine i (getD t (k * 13 + 1) 0) (getD t (k * 13 + 2) 0)) s r) where
-    pub receive-takes : getD t (k * 13) 0 ≡ 2 → Rows t k (Serving known bound parts kept letters wait least) (doingLine wait i) s r
+    pub receive-takes : getD t (k * 13) 0 ≡ 2 → Rows t k (Serving known bound values parts kept letters wait least) (doingLine wait i) s r
     unfolding doingBy
     receive-takes z = record { is = λ o p l x g y. w .is o p l x (record { row = λ q. omega arith; given = g .heeding }) y ∙ sym (doing-says 2 z o p l x y ∙ seen-takes o p l x y) }
 
-    pub arm-takes : getD t (k * 13) 0 ≡ 255 → Rows t k (Serving known bound parts kept letters wait least) (doingLine wait i) s r
+    pub arm-takes : getD t (k * 13) 0 ≡ 255 → Rows t k (Serving known bound values parts kept letters wait least) (doingLine wait i) s r
     unfolding doingBy
     arm-takes z = record { is = λ o p l x g y. w .is o p l x (record { row = λ q. omega arith; given = g .heeding }) y ∙ sym (doing-says 255 z o p l x y ∙ seen-takes o p l x y) }
 
   module _ {c : Bool} (z : c ≡ isScopeCode (getD t (k * 13) 0)) (d : c ≡ true) {b : Bool} (v : ClosesRow (getD t (k * 13) 0) parts kept k b) where
-    closes-says : (o : Order) (p : Plan) (l : List Letter) (x : Line) → Serving known bound parts kept letters wait least o p l → Stands t (o .marks) k x
+    closes-says : (o : Order) (p : Plan) (l : List Letter) (x : Line) → Serving known bound values parts kept letters wait least o p l → Stands t (o .marks) k x
         → doingLine wait i o p l x s ≡ seen (unlessHeld b (offering i k 0 ∷ [])) s
     unfolding stepOffers
     closes-says o p l x g y =
@@ -175,25 +175,25 @@ module _ (t known bound parts : List ℕ) (kept i k : ℕ) (letters : List ℕ) 
         ∙ ap (λ h. seen (unlessHeld h (offering i k 0 ∷ [])) s)
         (sym (v .is o (numbersOf (x .own)) (x .within) (g .memory) (g .many))))
 
-    pub close-held : {r : Sight} → b ≡ true → r ≡ withholding s → Rows t k (Serving known bound parts kept letters wait least) (doingLine wait i) s r
+    pub close-held : {r : Sight} → b ≡ true → r ≡ withholding s → Rows t k (Serving known bound values parts kept letters wait least) (doingLine wait i) s r
     close-held e q = record { is = λ o p l x g y. q ∙ sym (closes-says o p l x g y ∙ rw e (seen-hold (offering i k 0 ∷ []) s)) }
 
-    pub close-shown : {r : Sight} → b ≡ false → r ≡ showing i k 0 s → Rows t k (Serving known bound parts kept letters wait least) (doingLine wait i) s r
+    pub close-shown : {r : Sight} → b ≡ false → r ≡ showing i k 0 s → Rows t k (Serving known bound values parts kept letters wait least) (doingLine wait i) s r
     close-shown e q = record { is = λ o p l x g y. q ∙ sym (closes-says o p l x g y ∙ rw e (seen-show i k 0 s)) }
 
   pub doing-empty : (getD t (k * 13) 0 ≡ 1 → ⊥) → (getD t (k * 13) 0 ≡ 2 → ⊥) → getD t (k * 13) 0 < 3
-      → Rows t k (Serving known bound parts kept letters wait least) (doingLine wait i) s s
+      → Rows t k (Serving known bound values parts kept letters wait least) (doingLine wait i) s s
   unfolding stepOffers doingBy
   doing-empty x1 x2 h =
       let z : getD t (k * 13) 0 ≡ 0 = omega (arith, x1, x2) in
       record { is = λ o p l x g y. sym (doing-says 0 z o p l x y ∙ seen-none s) }
 
-  pub raise-shown : {r : Sight} → getD t (k * 13) 0 ≡ 13 → r ≡ showing i k 0 s → Rows t k (Serving known bound parts kept letters wait least) (doingLine wait i) s r
+  pub raise-shown : {r : Sight} → getD t (k * 13) 0 ≡ 13 → r ≡ showing i k 0 s → Rows t k (Serving known bound values parts kept letters wait least) (doingLine wait i) s r
   unfolding stepOffers doingBy
   raise-shown z q = record { is = λ o p l x g y. q ∙ sym (doing-says 13 z o p l x y ∙ seen-show i k 0 s) }
 
   pub doing-step : {r : Sight} → 3 ≤ getD t (k * 13) 0 → getD t (k * 13) 0 ≤ 7 → r ≡ showing i k 0 s
-      → Rows t k (Serving known bound parts kept letters wait least) (doingLine wait i) s r
+      → Rows t k (Serving known bound values parts kept letters wait least) (doingLine wait i) s r
   unfolding stepOffers
   doing-step h g q = record {
     is = λ o p l x v y.
@@ -207,7 +207,7 @@ module _ (t known bound parts : List ℕ) (kept i k : ℕ) (letters : List ℕ) 
       by-test o p l false = seen-show i k 0 s
 
   pub doing-none : {b : Bool} → 7 < getD t (k * 13) 0 → (getD t (k * 13) 0 ≡ 255 → ⊥) → (getD t (k * 13) 0 ≡ 13 → ⊥) → b ≡ isScopeCode (getD t (k * 13) 0) → b ≡ false
-      → Rows t k (Serving known bound parts kept letters wait least) (doingLine wait i) s s
+      → Rows t k (Serving known bound values parts kept letters wait least) (doingLine wait i) s s
   unfolding stepOffers
   doing-none h x1 x13 x2 e = record {
     is = λ o p l x v y.
@@ -217,46 +217,46 @@ module _ (t known bound parts : List ℕ) (kept i k : ℕ) (letters : List ℕ) 
   }
 
 -- `offer_row`
-module _ {t picks marks : List ℕ} (known bound parts : List ℕ) (kept i : ℕ) {k : ℕ} (letters : List ℕ) (wait : ℕ) (least : List ℕ) (s : Sight) {b : Bool}
+module _ {t picks marks : List ℕ} (known bound values parts : List ℕ) (kept i : ℕ) {k : ℕ} (letters : List ℕ) (wait : ℕ) (least : List ℕ) (s : Sight) {b : Bool}
     (w : AwaitsRow t picks marks k b) where
   ready-says : (o : Order) (x : Line) → Picks t picks → o .marks ≡ marks → Stands t (o .marks) k x → isReady (o .marks) x ≡ b
   ready-says o x v e y = sym (rw (← e) at w .is x v y)
 
   pub offer-idle : (cutting : Bool) → b ≡ false
-      → Rows t k (Opening t picks marks known bound parts kept letters wait least) (offerLine cutting wait i) s s
+      → Rows t k (Opening t picks marks known bound values parts kept letters wait least) (offerLine cutting wait i) s s
   unfolding offerLine
   offer-idle cutting e = record { is = λ o p l x g y. rw (ready-says o x (g .picked) (g .marked) y ∙ e) }
 
   module _ (e : b ≡ true) {cutting : Bool} where
-    pub offer-free : {r : Sight} → cutting ≡ false → Rows t k (Serving known bound parts kept letters wait least) (doingLine wait i) s r
-        → Rows t k (Opening t picks marks known bound parts kept letters wait least) (offerLine cutting wait i) s r
+    pub offer-free : {r : Sight} → cutting ≡ false → Rows t k (Serving known bound values parts kept letters wait least) (doingLine wait i) s r
+        → Rows t k (Opening t picks marks known bound values parts kept letters wait least) (offerLine cutting wait i) s r
     unfolding offerLine
     offer-free z d = record { is = λ o p l x g y. rw (ready-says o x (g .picked) (g .marked) y ∙ e, z) (d .is o p l x (g .serving) y) }
 
     module _ (z : cutting ≡ true) {c : Bool} (v : CutRow t k c) where
-      pub offer-cut : {r : Sight} → c ≡ true → Rows t k (Serving known bound parts kept letters wait least) (doingLine wait i) s r
-          → Rows t k (Opening t picks marks known bound parts kept letters wait least) (offerLine cutting wait i) s r
+      pub offer-cut : {r : Sight} → c ≡ true → Rows t k (Serving known bound values parts kept letters wait least) (doingLine wait i) s r
+          → Rows t k (Opening t picks marks known bound values parts kept letters wait least) (offerLine cutting wait i) s r
       unfolding offerLine
       offer-cut q d = record {
         is = λ o p l x g y.
             rw (ready-says o x (g .picked) (g .marked) y ∙ e, z, sym (v .is (o .marks) x y) ∙ q) (d .is o p l x (g .serving) y);
       }
 
-      pub offer-aside : c ≡ false → Rows t k (Opening t picks marks known bound parts kept letters wait least) (offerLine cutting wait i) s s
+      pub offer-aside : c ≡ false → Rows t k (Opening t picks marks known bound values parts kept letters wait least) (offerLine cutting wait i) s s
       unfolding offerLine
       offer-aside q = record {
         is = λ o p l x g y. rw (ready-says o x (g .picked) (g .marked) y ∙ e, z, sym (v .is (o .marks) x y) ∙ q);
       }
 
 -- `offer_rows`: of more than 64 messages nothing is known
-pub offer-full : (t picks marks known bound parts : List ℕ) (kept i n : ℕ) (cutting : Bool) (letters : List ℕ) {wait : ℕ} (least : List ℕ) (s : Sight) → 64 < wait
-    → Wholes t n (Opening t picks marks known bound parts kept letters wait least) (offerLine cutting wait i) s s
-offer-full t picks marks known bound parts kept i n cutting letters least s h = record { is = λ o p l g q. absurd (omega (arith, g .serving .heeding .told .few)) }
+pub offer-full : (t picks marks known bound values parts : List ℕ) (kept i n : ℕ) (cutting : Bool) (letters : List ℕ) {wait : ℕ} (least : List ℕ) (s : Sight) → 64 < wait
+    → Wholes t n (Opening t picks marks known bound values parts kept letters wait least) (offerLine cutting wait i) s s
+offer-full t picks marks known bound values parts kept i n cutting letters least s h = record { is = λ o p l g q. absurd (omega (arith, g .serving .heeding .told .few)) }
 
 -- `row_sight`: of a row beyond the table, and of more than 64 messages, nothing is known
-module _ (t picks marks known bound parts : List ℕ) (kept i : ℕ) {k : ℕ} (cutting : Bool) (letters : List ℕ) {wait : ℕ} (least : List ℕ) (s : Sight) where
-  pub row-beyond : 256 ≤ k → Rows t k (Opening t picks marks known bound parts kept letters wait least) (offerLine cutting wait i) s s
+module _ (t picks marks known bound values parts : List ℕ) (kept i : ℕ) {k : ℕ} (cutting : Bool) (letters : List ℕ) {wait : ℕ} (least : List ℕ) (s : Sight) where
+  pub row-beyond : 256 ≤ k → Rows t k (Opening t picks marks known bound values parts kept letters wait least) (offerLine cutting wait i) s s
   row-beyond h = record { is = λ o p l x g y. absurd (omega (arith, y .inside)) }
 
-  pub row-full : 64 < wait → Rows t k (Opening t picks marks known bound parts kept letters wait least) (offerLine cutting wait i) s s
+  pub row-full : 64 < wait → Rows t k (Opening t picks marks known bound values parts kept letters wait least) (offerLine cutting wait i) s s
   row-full h = record { is = λ o p l x g y. absurd (omega (arith, g .serving .heeding .told .few)) }

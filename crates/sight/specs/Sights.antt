@@ -14,10 +14,11 @@ use Rattle.machine.specs.declared.Step.{Step}
 use Rattle.fit.specs.Answering.{Exchange, Knows, Asking, UncheckedRow, messageAt, Picks}
 use Rattle.machine.specs.Calls.{Chosen, refusedChoice, chosen, previewed}
 use Rattle.machine.specs.Fit.{Doing, noStep, sends, takes, moves, cuts, closes, doingOf, Letter, mayTake}
+use Rattle.order.specs.Acting.{maySend}
 use Rattle.order.specs.Lists.{every}
 use Rattle.machine.specs.Offer.{Offer, offering, Offers, isCut, closeHeld, stepOffers}
 use Rattle.order.specs.Scope.{Scope, scopeAt}
-use Rattle.order.specs.State.{closingOf, isBound}
+use Rattle.order.specs.State.{closingOf, isBound, valueOf}
 use Rattle.machine.specs.State.{noMessage}
 use Rattle.sight.specs.declared.Pointer.{Pointer}
 use Rattle.sight.specs.declared.Sight.{Sight}
@@ -92,19 +93,21 @@ pub record Remembers (o : Order) (parts : List ℕ) : Type 0 where
   pub long : length (o .remembered) ≡ 32
   pub is : (i : ℕ) → i < 32 → getD parts i 0 ≡ getD (o .remembered) i (closingOf 0 0) .part
 
--- with what it remembers and which variables are bound
-pub record Serving (known bound parts : List ℕ) (kept : ℕ) (letters : List ℕ) (waiting : ℕ) (least : List ℕ) (o : Order) (p : Plan) (l : List Letter) : Type 0 where
+-- with what it remembers, which variables are bound, and to what
+pub record Serving (known bound values parts : List ℕ) (kept : ℕ) (letters : List ℕ) (waiting : ℕ) (least : List ℕ) (o : Order) (p : Plan) (l : List Letter) : Type 0 where
   pub heeding : Heeding known letters waiting least o p l
   pub bindings : o .bound ≡ bound
   pub sixteen : length bound ≡ 16
+  pub holds : o .values ≡ values
+  pub worths : length values ≡ 16
   pub memory : Remembers o parts
   pub many : o .kept ≡ kept
 
 -- and its marks
-pub record Opening (t picks marks known bound parts : List ℕ) (kept : ℕ) (letters : List ℕ) (waiting : ℕ) (least : List ℕ) (o : Order) (p : Plan) (l : List Letter) : Type 0 where
+pub record Opening (t picks marks known bound values parts : List ℕ) (kept : ℕ) (letters : List ℕ) (waiting : ℕ) (least : List ℕ) (o : Order) (p : Plan) (l : List Letter) : Type 0 where
   pub picked : Picks t picks
   pub marked : o .marks ≡ marks
-  pub serving : Serving known bound parts kept letters waiting least o p l
+  pub serving : Serving known bound values parts kept letters waiting least o p l
 
 -- the step of a row, by its kind and its partner (of a send to a held partner: that to reply to), operation and variable
 unfoldable pub doingBy : (kind partner operation variable : ℕ) → (variables : List ℕ) → Scope → Doing
@@ -133,6 +136,15 @@ cutLine o p l x c = cond (isReady (o .marks) x) (isCut (readyAt x) || c) c
 -- r says whether all variables of row k are bound
 pub record BoundRow (t bound : List ℕ) (k : ℕ) (r : Bool) : Type 0 where
   pub is : (o : Order) (a b : ℕ) (vs : List ℕ) → o .bound ≡ bound → length bound ≡ 16 → Exchange a b vs k t → length vs ≤ 4 → r ≡ every (isBound o) vs
+
+-- r says whether the value of variable v is the number of a partner
+pub record ReachesAt (values : List ℕ) (v : ℕ) (r : Bool) : Type 0 where
+  pub is : (o : Order) → o .values ≡ values → length values ≡ 16 → r ≡ leb (valueOf o v) 63
+
+-- r says whether the send to a held partner in row k would send; the place of a partner has its reply partner
+pub record HeldRow (t bound values : List ℕ) (k : ℕ) (r : Bool) : Type 0 where
+  pub is : (o : Order) (a b : ℕ) (vs : List ℕ) → o .bound ≡ bound → length bound ≡ 16 → o .values ≡ values → length values ≡ 16 → Exchange a b vs k t → length vs ≤ 4
+      → r ≡ maySend o (toHeld (getD t (k * 13 + 8) 0) a) vs
 
 -- r says whether the close in row k, of a scope of this kind, is held: of the three kinds 12 has no undo part
 pub record ClosesRow (kind : ℕ) (parts : List ℕ) (kept k : ℕ) (r : Bool) : Type 0 where

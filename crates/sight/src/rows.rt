@@ -9,6 +9,7 @@ use fit::search::arm_open;
 use plan::kind;
 use plan::table::COUNT;
 use plan::table::Table;
+use plan::table::VARIABLE;
 use plan::table::VARIABLES;
 use plan::table::WIDTH;
 ghost use Prim.Native.Nat.{_+_, _*_, _≤_, _<_};
@@ -19,7 +20,7 @@ ghost use mathlib.Core.Path.{_≡_};
 ghost use Rattle.plan.specs.Read.{isScopeCode};
 ghost use Rattle.fit.specs.Answering.{sixteenth};
 ghost use Rattle.fit.specs.Lines.{Rows, Wholes};
-ghost use Rattle.sight.specs.Sights.{Marked, Exchanging, Heeding, Serving, Opening, AwaitsRow, CutRow, cutLine, BoundRow, ClosesRow, TakesLetter, takeLine, doingLine, offerLine};
+ghost use Rattle.sight.specs.Sights.{Marked, Exchanging, Heeding, Serving, Opening, AwaitsRow, CutRow, cutLine, BoundRow, ReachesAt, HeldRow, ClosesRow, TakesLetter, takeLine, doingLine, offerLine};
 
 // Whether a kind is that of a scope, with an undo part of its own, with none, or with fault parts by number.
 fn is_scope(kind: u32) -> bool
@@ -125,6 +126,32 @@ fn bound_row(table: &Table, bound: &[u8; 16], k: usize) -> bool
     true
 }
 
+// Whether the partner that variable v holds is one: partners are 0 to 63.
+fn reaches_at(values: &[u32; 16], v: u32) -> bool
+    ensures { λ r. ⌜ ReachesAt (now (values .entry)) v r ⌝ }
+{
+    if 16 <= v {
+        return true;
+    }
+    let i = v as usize;
+    values[i] <= 63
+}
+
+// Whether the send to a held partner in row k would send: its variables are bound, its partner's too, and that partner is one.
+fn held_row(table: &Table, bound: &[u8; 16], values: &[u32; 16], k: usize) -> bool
+    requires { ⌜ k < 256 ⌝ }
+    ensures { λ r. ⌜ HeldRow (now (table .entry)) (now (bound .entry)) (now (values .entry)) k r ⌝ }
+{
+    let v = table[k * WIDTH + VARIABLE];
+    if bound_at(bound, v) {
+        if bound_row(table, bound, k) {
+            return reaches_at(values, v);
+        }
+        return false;
+    }
+    false
+}
+
 // What the message at place j adds at the receive or arm in row k.
 fn take_letter(
     table: &Table,
@@ -132,7 +159,7 @@ fn take_letter(
     k: usize,
     asked: &[u64; 4],
     unchecked: usize,
-    letters: &[u32; 448],
+    letters: &[u32; 512],
     j: usize,
     least: usize,
     s: Sight,
@@ -155,7 +182,7 @@ fn take_row(
     known: &[u64; 16],
     slot: usize,
     k: usize,
-    letters: &[u32; 448],
+    letters: &[u32; 512],
     waiting: usize,
     least: &[usize; 64],
     s: Sight,
@@ -208,17 +235,18 @@ fn doing_row(
     table: &Table,
     known: &[u64; 16],
     bound: &[u8; 16],
+    values: &[u32; 16],
     parts: &[u8; 32],
     kept: usize,
     slot: usize,
     k: usize,
-    letters: &[u32; 448],
+    letters: &[u32; 512],
     waiting: usize,
     least: &[usize; 64],
     s: Sight,
 ) -> Sight
     requires { ⌜ (k < 256) × (waiting ≤ 64) ⌝ }
-    ensures { λ r. ⌜ Rows (now (table .entry)) k (Serving (now (known .entry)) (now (bound .entry)) (now (parts .entry)) kept (now (letters .entry)) waiting (now (least .entry))) (doingLine waiting slot) s r ⌝ }
+    ensures { λ r. ⌜ Rows (now (table .entry)) k (Serving (now (known .entry)) (now (bound .entry)) (now (values .entry)) (now (parts .entry)) kept (now (letters .entry)) waiting (now (least .entry))) (doingLine waiting slot) s r ⌝ }
 {
     let kind = table[k * WIDTH];
     if kind == kind::SEND {
@@ -230,7 +258,19 @@ fn doing_row(
         }
         return shown(s, slot, k, 0);
     }
+    if kind == kind::HELD_SEND {
+        if waiting < 64 {
+            return shown(s, slot, k, 0);
+        }
+        if held_row(table, bound, values, k) {
+            return withheld(s);
+        }
+        return shown(s, slot, k, 0);
+    }
     if kind == kind::RECEIVE {
+        return take_row(table, known, slot, k, letters, waiting, least, s);
+    }
+    if kind == kind::ASKING_RECEIVE {
         return take_row(table, known, slot, k, letters, waiting, least, s);
     }
     if kind == kind::ARM {
@@ -261,18 +301,19 @@ pub(crate) fn offer_row(
     marks: &[u8; 256],
     known: &[u64; 16],
     bound: &[u8; 16],
+    values: &[u32; 16],
     parts: &[u8; 32],
     kept: usize,
     slot: usize,
     k: usize,
     cutting: bool,
-    letters: &[u32; 448],
+    letters: &[u32; 512],
     waiting: usize,
     least: &[usize; 64],
     s: Sight,
 ) -> Sight
     requires { ⌜ (k < 256) × (waiting ≤ 64) ⌝ }
-    ensures { λ r. ⌜ Rows (now (table .entry)) k (Opening (now (table .entry)) (now (picks .entry)) (now (marks .entry)) (now (known .entry)) (now (bound .entry)) (now (parts .entry)) kept (now (letters .entry)) waiting (now (least .entry))) (offerLine cutting waiting slot) s r ⌝ }
+    ensures { λ r. ⌜ Rows (now (table .entry)) k (Opening (now (table .entry)) (now (picks .entry)) (now (marks .entry)) (now (known .entry)) (now (bound .entry)) (now (values .entry)) (now (parts .entry)) kept (now (letters .entry)) waiting (now (least .entry))) (offerLine cutting waiting slot) s r ⌝ }
 {
     if awaits_at(table, picks, marks, k) {
         if cutting {
@@ -281,6 +322,7 @@ pub(crate) fn offer_row(
                     table,
                     known,
                     bound,
+                    values,
                     parts,
                     kept,
                     slot,
@@ -297,6 +339,7 @@ pub(crate) fn offer_row(
             table,
             known,
             bound,
+            values,
             parts,
             kept,
             slot,
@@ -317,17 +360,18 @@ pub fn offer_rows(
     marks: &[u8; 256],
     known: &[u64; 16],
     bound: &[u8; 16],
+    values: &[u32; 16],
     parts: &[u8; 32],
     kept: usize,
     slot: usize,
     activities: usize,
     cutting: bool,
-    letters: &[u32; 448],
+    letters: &[u32; 512],
     waiting: usize,
     least: &[usize; 64],
     s: Sight,
 ) -> Sight
-    ensures { λ r. ⌜ Wholes (now (table .entry)) activities (Opening (now (table .entry)) (now (picks .entry)) (now (marks .entry)) (now (known .entry)) (now (bound .entry)) (now (parts .entry)) kept (now (letters .entry)) waiting (now (least .entry))) (offerLine cutting waiting slot) s r ⌝ }
+    ensures { λ r. ⌜ Wholes (now (table .entry)) activities (Opening (now (table .entry)) (now (picks .entry)) (now (marks .entry)) (now (known .entry)) (now (bound .entry)) (now (values .entry)) (now (parts .entry)) kept (now (letters .entry)) waiting (now (least .entry))) (offerLine cutting waiting slot) s r ⌝ }
 {
     if 256 < activities {
         return s;
@@ -344,6 +388,7 @@ pub fn offer_rows(
             marks,
             known,
             bound,
+            values,
             parts,
             kept,
             slot,

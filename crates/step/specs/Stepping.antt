@@ -7,10 +7,11 @@ use mathlib.Core.Path.{_≡_}
 use lib.Dec.{eqb}
 use lib.ListN.{getD}
 use Rattle.plan.specs.Tree as tree
-use Rattle.plan.specs.Tree.{To, toPartner, toHeld, send, Plan, size}
+use Rattle.plan.specs.Tree.{To, toPartner, toHeld, replyOf, send, Plan, size}
 use Rattle.order.specs.declared.Order.{Order}
 use Rattle.order.specs.declared.Next.{Next}
 use Rattle.order.specs.Answering.{Names, Spelled, TakesOrder, StepsOrder}
+use Rattle.order.specs.Acting.{partnerTo}
 use Rattle.order.specs.Lists.{stored}
 use Rattle.order.specs.State.{noOrder, valueOf}
 use Rattle.machine.specs.declared.Mail.{Mail}
@@ -21,7 +22,7 @@ use Rattle.step.specs.declared.Change.{Change}
 use Rattle.step.specs.declared.Stepped.{Stepped}
 use Rattle.machine.specs.declared.Tally.{Tally}
 use Rattle.machine.specs.Calls as calls
-use Rattle.machine.specs.Calls.{doingAt, valuesOf, messagesAfter, answering, countEnd, choosing, chosen}
+use Rattle.machine.specs.Calls.{doingAt, valuesOf, gives, messagesAfter, answering, countEnd, choosing, chosen}
 use Rattle.machine.specs.Fit.{sends}
 use Rattle.machine.specs.Limits.{inLimits}
 use Rattle.machine.specs.Offer.{offering, sendHeld, offersOf}
@@ -57,6 +58,13 @@ pub record SendRow (a : To) (b : ℕ) (vs : List ℕ) (k : ℕ) (t : List ℕ) :
   pub operation : getD t (k * 13 + 2) 0 ≡ b
   pub names : Names t k vs
 
+-- r is the partner of the send in row k, and the reply partner that its message carries
+pub record SentPartner (t : List ℕ) (k : ℕ) (o : Order) (r : ℕ) : Type 0 where
+  pub is : (a : To) (b : ℕ) (vs : List ℕ) → SendRow a b vs k t → r ≡ partnerTo o a
+
+pub record SentReply (t : List ℕ) (k r : ℕ) : Type 0 where
+  pub is : (a : To) (b : ℕ) (vs : List ℕ) → SendRow a b vs k t → r ≡ replyOf a
+
 -- r is the state after the send in row k
 pub record Sends (t : List ℕ) (k : ℕ) (o : Order) (s r : State) : Type 0 where
   pub is : (a : To) (b : ℕ) (vs : List ℕ) (j : ℕ) → SendRow a b vs k t → sendHeld (s .waiting) o a vs ≡ false → r ≡ messagesAfter (sends a b vs) j o s
@@ -81,7 +89,7 @@ pub record StepsSlot (t : List ℕ) (activities : ℕ) (s : State) (o : Order) (
 pub record Nexts (t : List ℕ) (activities : ℕ) (messages : List Message) (o : Order) (k j : ℕ) (m : Next) : Type 0 where
   pub values : List ℕ
   pub between : Order
-  pub read : values ≡ getD messages j noMessage .values
+  pub read : values ≡ gives (getD messages j noMessage)
   pub takes : TakesOrder t activities k values o between
   pub moves : StepsOrder t activities k between m
 

@@ -9,11 +9,11 @@ use Rattle.listing.proofs.rows.list_row.Statement.{statement}
 use Rattle.listing.proofs.rows.list_row.Tie as tie
 
 abbrev Inv-loop : tie.InvT-loop
-Inv-loop table picks marks known bound parts kept slot k cutting letters waiting least first from out₀ skip₀ c₀ at₀ out skip c at =
-    Listens (RowOf table picks marks known bound parts kept slot k cutting letters waiting least) (holding first from out₀) c skip at out
+Inv-loop table picks marks known bound values parts kept slot k cutting letters waiting least first from out₀ skip₀ c₀ at₀ out skip c at =
+    Listens (RowOf table picks marks known bound values parts kept slot k cutting letters waiting least) (holding first from out₀) c skip at out
 
 abbrev μ-loop : tie.MeasureT-loop
-μ-loop table picks marks known bound parts kept slot k cutting letters waiting least first from out₀ skip₀ c₀ at₀ out skip c at = length out₀ - at
+μ-loop table picks marks known bound values parts kept slot k cutting letters waiting least first from out₀ skip₀ c₀ at₀ out skip c at = length out₀ - at
 
 pub list-row-spec : {M : Type 1} → statement M
 list-row-spec =
