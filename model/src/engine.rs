@@ -1,7 +1,7 @@
 //! The calls of the engine on a state: load, post, collect, offer, offers, step and run, written from documents 01 and 02 alone.
 
 use crate::order::{Faults, Running, kept_after_close};
-use crate::plan::{CONFLICT, Fault, Kind, Part, Plan, Tuple, UNBOUND};
+use crate::plan::{CONFLICT, Fault, Kind, NO_SUCH_PARTNER, Part, Plan, Sending, Tuple, UNBOUND};
 use crate::reader::{self, Refusal};
 use crate::state::*;
 
@@ -131,7 +131,7 @@ fn chosen(plan: &Plan, state: &State, choice: u64) -> Result<Step, u32> {
 /// The tuple of a receive or arm that is open in an order.
 fn open(plan: &Plan, order: &Order, k: usize) -> Option<Tuple> {
     let (tuple, awaits) = match (plan.kind(k), plan.activities[k].part) {
-        (Kind::Receive(tuple), _) => (tuple, k),
+        (Kind::Receive(tuple, _), _) => (tuple, k),
         (Kind::Arm(tuple), Part::Within(pick)) => (tuple, pick),
         _ => return None,
     };
@@ -234,9 +234,8 @@ fn offered(plan: &Plan, state: &State) -> Offer {
 fn acts(plan: &Plan, state: &State, order: &Order, k: usize, held: &mut Held) -> bool {
     let mark = order.marks[k];
     match plan.kind(k) {
-        Kind::Send(tuple) if mark == ACTIVE => {
-            let bound = |&variable: &usize| order.variable(variable).is_some();
-            let full = state.waiting == WAITING as u64 && tuple.variables().iter().all(bound);
+        Kind::Send(sending) if mark == ACTIVE => {
+            let full = state.waiting == WAITING as u64 && sent(order, &sending).is_ok();
             held.sends += usize::from(full);
             !full
         }
@@ -285,12 +284,12 @@ fn take(plan: &Plan, state: &mut State, step: Step, tally: &mut Tally) -> Taken 
     }
     // What the step does to the table of messages.
     let mut message = Message::default();
-    let mut unbound = false;
+    let mut unsent = None;
     match plan.kind(k) {
-        Kind::Receive(_) | Kind::Arm(_) => message = state.remove(step.place),
-        Kind::Send(tuple) => match sent(&state.orders[step.slot], &tuple) {
-            Some(message) => state.add(message),
-            None => unbound = true,
+        Kind::Receive(..) | Kind::Arm(_) => message = state.remove(step.place),
+        Kind::Send(sending) => match sent(&state.orders[step.slot], &sending) {
+            Ok(message) => state.add(message),
+            Err(fault) => unsent = Some(fault),
         },
         _ => {}
     }
@@ -298,14 +297,19 @@ fn take(plan: &Plan, state: &mut State, step: Step, tally: &mut Tally) -> Taken 
     let order = &mut state.orders[step.slot];
     let mut running = Running::new(plan, order);
     match plan.kind(k) {
-        Kind::Receive(tuple) | Kind::Arm(tuple) => {
+        Kind::Receive(tuple, _) | Kind::Arm(tuple) => {
             for (&variable, &value) in tuple.variables().iter().zip(&message.values) {
                 running.order.bind(variable, value);
             }
+            if let Kind::Receive(_, Some(variable)) = plan.kind(k) {
+                running.order.bind(variable, message.reply);
+            }
             running.taken(k);
         }
-        Kind::Send(_) if unbound => running.raise(k, UNBOUND),
-        Kind::Send(_) => running.over(k),
+        Kind::Send(_) => match unsent {
+            Some(fault) => running.raise(k, fault),
+            None => running.over(k),
+        },
         _ => running.act(k),
     }
     running.settle_around(k);
@@ -372,16 +376,22 @@ fn conflict(plan: &Plan, order: &Order) -> Option<usize> {
     })
 }
 
-/// The message that a send adds, where all its variables are bound.
-fn sent(order: &Order, tuple: &Tuple) -> Option<Message> {
+/// The message that a send adds, or the fault that it acts as: that of any unbound variable first.
+fn sent(order: &Order, sending: &Sending) -> Result<Message, Fault> {
+    let held = |variable| order.variable(variable).ok_or(UNBOUND);
+    let tuple = &sending.tuple;
     let mut message = Message {
-        partner: tuple.partner,
+        partner: sending.held_in.map_or(Ok(tuple.partner), held)?,
         operation: tuple.operation,
         count: tuple.count as u32,
         values: [0; 4],
+        reply: sending.reply,
     };
     for (place, &variable) in tuple.variables().iter().enumerate() {
-        message.values[place] = order.variable(variable)?;
+        message.values[place] = held(variable)?;
     }
-    Some(message)
+    if message.partner > 63 {
+        return Err(NO_SUCH_PARTNER);
+    }
+    Ok(message)
 }

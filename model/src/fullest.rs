@@ -14,6 +14,7 @@ fn message(partner: u32, operation: u32, values: &[u32]) -> Message {
         operation,
         count: values.len() as u32,
         values: [0; 4],
+        reply: 0,
     };
     message.values[..values.len()].copy_from_slice(values);
     message

@@ -6,6 +6,7 @@ use crate::engine::{self, Offer, Step};
 use crate::generate::{self, Random};
 use crate::lively;
 use crate::packed::{self, SIZE};
+use crate::order::{Faults, counted};
 use crate::plan::{Kind, Plan, Tuple};
 use crate::scramble;
 use crate::state::{End, Message, REMEMBERED, State, Tally, bare};
@@ -29,12 +30,12 @@ pub struct Seen {
     /// Receives and arms that raised because another was open for the same thing, and steps with several of them.
     pub conflicts: u64,
     pub many_conflicts: u64,
-    /// Orders that ended handled, and failed, by the number of the fault: 0 to 4, and one of 16 to 255.
-    pub handled: [u64; 6],
-    pub failed: [u64; 6],
+    /// Orders that ended handled, and failed, by the number of the fault.
+    pub handled: Faults,
+    pub failed: Faults,
     /// Faults out of a part of an inner scope, and faults that were absorbed, by their numbers.
-    pub outward: [u64; 6],
-    pub absorbed: [u64; 6],
+    pub outward: Faults,
+    pub absorbed: Faults,
     /// Fault parts by number that were begun, and general ones of scopes that have some.
     pub by_number: u64,
     pub general: u64,
@@ -118,7 +119,7 @@ impl Wander {
         self.plan = Plan::of(&bytes);
         self.received.clear();
         for activity in &self.plan.activities {
-            if let Kind::Receive(tuple) | Kind::Arm(tuple) = activity.kind {
+            if let Kind::Receive(tuple, _) | Kind::Arm(tuple) = activity.kind {
                 self.received.push(tuple);
             }
         }
@@ -238,11 +239,11 @@ impl Wander {
                 _ => None,
             };
             if let (Some(by), Some(fault)) = (ended, taken.fault) {
-                by[usize::from(fault.min(5))] += 1;
+                by[counted(fault)] += 1;
             }
             self.seen.by_number += taken.by_number as u64;
             self.seen.general += taken.general as u64;
-            for number in 0..6 {
+            for number in 0..taken.outward.len() {
                 self.seen.outward[number] += taken.outward[number];
                 self.seen.absorbed[number] += taken.absorbed[number];
             }
@@ -274,9 +275,9 @@ impl Wander {
 
     fn collect(&mut self) {
         let room = match self.random.below(20) {
-            0 => self.random.below(28),
-            1 => 40,
-            _ => 28,
+            0 => self.random.below(packed::MESSAGE),
+            1 => calls::MESSAGE,
+            _ => packed::MESSAGE,
         };
         let answer = self.comparison.make(Call::Collect(room)).answer;
         self.refused(answer);
@@ -306,11 +307,18 @@ impl Wander {
                 _ => self.random.below(high) as u32,
             };
         }
+        // Whom to reply to: most often one that is told apart by few values.
+        message.reply = match self.random.below(4) {
+            0 => 0,
+            1 => self.random.below(64) as u32,
+            _ => self.random.below(high + 1) as u32,
+        };
         // Now and then against its rule.
         match self.random.below(60) {
             0 => message.partner = [64, 65, u32::MAX, 1 << 31][self.random.below(4)],
             1 => message.operation = [64, 65, u32::MAX, 256][self.random.below(4)],
             2 => message.count = [0, 5, 6, u32::MAX, 257][self.random.below(5)],
+            3 => message.reply = [64, 65, u32::MAX, 1 << 16][self.random.below(4)],
             _ => {}
         }
         let answer = self.comparison.make(Call::Post(message)).answer;
@@ -323,7 +331,7 @@ impl Wander {
         let call = match self.random.below(7) {
             0 => Call::Load(self.bytes.clone()),
             1 => Call::Post(Message::default()),
-            2 => Call::Collect(28),
+            2 => Call::Collect(packed::MESSAGE),
             3 => Call::Offer(0),
             4 => Call::Offers,
             5 => Call::Step(0),

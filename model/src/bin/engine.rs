@@ -5,6 +5,7 @@
 use model::calls::Library;
 use model::comparison::{Comparison, Difference};
 use model::describe;
+use model::order::Faults;
 use model::wander::{Seen, Wander};
 use std::process::exit;
 use std::time::Instant;
@@ -63,10 +64,10 @@ fn main() {
 }
 
 /// How often each number of a fault was seen.
-fn by_number(seen: &[u64; 6]) -> String {
-    let [plain, unbound, large, below, conflict, numbered] = seen;
+fn by_number(seen: &Faults) -> String {
+    let [plain, unbound, large, below, conflict, partner, numbered] = seen;
     format!(
-        "0: {plain}, 1: {unbound}, 2: {large}, 3: {below}, 4: {conflict}, 16 to 255: {numbered}"
+        "0: {plain}, 1: {unbound}, 2: {large}, 3: {below}, 4: {conflict}, 5: {partner}, 16 to 255: {numbered}"
     )
 }
 
