@@ -25,7 +25,7 @@ store-beside (y ∷ r) base offset i x t h =
 module _ (i x : ℕ) (low : i < 3328) where
   noted-beside : (k p : ℕ) (t : List ℕ) → noted k p (set t i x) ≡ set (noted k p t) i x
   unfolding noted
-  noted-beside k p t = go (eqb k 2 || eqb k 255)
+  noted-beside k p t = go (eqb k 2 || (eqb k 18 || eqb k 255))
     where
       go : (b : Bool) → cond b (store (1 ∷ []) (3328 + p) 0 (set t i x)) (set t i x) ≡ set (cond b (store (1 ∷ []) (3328 + p) 0 t) t) i x
       go true = store-beside (1 ∷ []) (3328 + p) 0 i x t (omega arith)

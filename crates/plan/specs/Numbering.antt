@@ -9,6 +9,10 @@ unfoldable pub backwards : (k : ℕ) → List ℕ → List ℕ
 backwards zero l = []
 backwards (suc k) l = getD l k 0 ∷ backwards k l
 
+-- a tuple's variables in a list of eight
+abbrev pub eight : List ℕ → List ℕ
+eight l = getD l 0 0 ∷ getD l 1 0 ∷ getD l 2 0 ∷ getD l 3 0 ∷ 0 ∷ 0 ∷ 0 ∷ 0 ∷ []
+
 -- the row of a scope at `at` with `count` fault parts by number, whose numbers stand in l
 abbrev pub numbersRow : List ℕ → (count at : ℕ) → List ℕ
 numbersRow l count at =

@@ -39,7 +39,7 @@ pub const HELD_SEND: u32 = 17;
 // A receive that stores whom to reply to.
 pub const ASKING_RECEIVE: u32 = 18;
 
-// The last code of an activity: what stands on file above it is no activity.
+// The last of the codes that follow each other: above it stand those of a send and a receive with a reply partner alone.
 pub const LAST: u32 = NUMBERED_SCOPE;
 
 pub const ARM: u32 = 255;

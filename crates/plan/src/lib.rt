@@ -36,6 +36,15 @@ pub struct Tuple {
     pub variables: [u32; 4],
 }
 
+// What reading a send or a receive with a reply partner finds, up to that one: the count of its variables as the value, and beside it its first number, which is
+// its partner or the variable that holds it, its operation and its variables, with zeros behind them.
+pub struct Exchange {
+    pub out: Field,
+    pub first: u32,
+    pub operation: u32,
+    pub variables: [u32; 4],
+}
+
 // What reading an expression finds: the next place and the number of the next node.
 pub enum Nodes {
     Read { next: usize, nodes: usize },

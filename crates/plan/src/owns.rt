@@ -3,22 +3,26 @@ use super::Field;
 use super::Nodes;
 use super::Own;
 use super::expressions::expression_at;
+use super::fields::exchange_at;
 use super::fields::field_at;
 use super::fields::number_at;
 use super::fields::tuple_at;
 use super::kind;
 use super::kinds::is_scope;
+use super::named::is_among;
 use super::table::Table;
 use super::table::write_row;
 ghost use Prim.Native.Nat.{_≤_, _<_};
 ghost use lib.Dec.{eqb, leb};
-ghost use mathlib.Core.Bool.{_&&_, _||_};
+ghost use mathlib.Core.Bool.{not, _&&_, _||_};
 ghost use mathlib.Core.List.{[]};
 ghost use mathlib.Core.Path.{_≡_};
 ghost use Rattle.plan.specs.Answers.{fieldOf, messageOwn, expressionOwn, listOwn, OwnRead};
 ghost use Rattle.plan.specs.Fits.{NumberFits};
+ghost use Rattle.plan.specs.Found.{among};
 ghost use Rattle.plan.specs.Nodes.{Base, Room, IsMessage, IsExpression, IsList, nodeHeadIn};
-ghost use Rattle.plan.specs.Read.{exchangeIn, partnerIn, armIn, withExpressionIn, setIn, listIn, raiseIn, isScopeCode, codeIn, partsIn, headIn};
+ghost use Rattle.plan.specs.Numbering.{backwards, eight};
+ghost use Rattle.plan.specs.Read.{exchangeIn, partnerIn, armIn, heldSendIn, askingReceiveIn, withExpressionIn, setIn, listIn, raiseIn, isCode, isScopeCode, codeIn, partsIn, headIn};
 ghost use Rattle.plan.specs.Store.{chosen};
 ghost use Rattle.plan.specs.Table.{row, putRow};
 
@@ -150,6 +154,133 @@ fn arm_own(s: &[u8], at: usize, vars: u32, n: usize, m: usize, table: &mut Table
     }
 }
 
+// A send to the partner that a variable holds: what it exchanges, and the reply partner.
+fn held_send_own(
+    s: &[u8],
+    at: usize,
+    vars: u32,
+    n: usize,
+    m: usize,
+    place: usize,
+    table: &mut Table,
+) -> Own
+    requires { ⌜ Room (now s) vars n m place at ⌝ }
+    ensures { λ r. ⌜ OwnRead (heldSendIn vars (now (s .entry)) at) place n m r (now (table .entry)) (now (table .exit)) ⌝ }
+{
+    let x = exchange_at(s, at, vars, vars, false);
+    let out = x.out;
+    match out {
+        Field::Refused { number, place } => Own::Refused { number, place },
+        Field::Got { value: count, next } => {
+            let f = field_at(s, next, 0, 64);
+            match f {
+                Field::Refused { number, place } => Own::Refused { number, place },
+                Field::Got {
+                    value: reply,
+                    next: after,
+                } => {
+                    write_row(
+                        table,
+                        n,
+                        kind::HELD_SEND,
+                        reply,
+                        x.operation,
+                        count,
+                        x.variables,
+                        x.first,
+                        0,
+                        place,
+                    );
+                    Own::Read {
+                        kind: kind::HELD_SEND,
+                        within: 0,
+                        next: after,
+                        nodes: m,
+                    }
+                }
+            }
+        }
+    }
+}
+
+// Whether a variable may not store a reply partner: one for correlation, or among the others.
+fn spoken_for(variable: u32, correlation: &[u8; 16], variables: [u32; 4], count: u32) -> bool
+    requires { ⌜ (variable < 16) × (count ≤ 4) ⌝ }
+    ensures { λ r. ⌜ r ≡ (among variable (chosen 0 (now (correlation .entry))) || among variable (backwards count (eight variables))) ⌝ }
+{
+    let i = variable as usize;
+    if correlation[i] == 1 {
+        return true;
+    }
+    let others = [
+        variables[0],
+        variables[1],
+        variables[2],
+        variables[3],
+        0,
+        0,
+        0,
+        0,
+    ];
+    is_among(variable, others, count as usize)
+}
+
+// A receive that stores the reply partner: what it exchanges, and the variable.
+fn asking_receive_own(
+    s: &[u8],
+    at: usize,
+    vars: u32,
+    correlation: &[u8; 16],
+    n: usize,
+    m: usize,
+    place: usize,
+    table: &mut Table,
+) -> Own
+    requires { ⌜ Room (now s) vars n m place at ⌝ }
+    ensures { λ r. ⌜ OwnRead (askingReceiveIn vars (chosen 0 (now (correlation .entry))) (now (s .entry)) at) place n m r (now (table .entry)) (now (table .exit)) ⌝ }
+{
+    let x = exchange_at(s, at, 64, vars, true);
+    let out = x.out;
+    match out {
+        Field::Refused { number, place } => Own::Refused { number, place },
+        Field::Got { value: count, next } => {
+            let f = field_at(s, next, 0, vars);
+            match f {
+                Field::Refused { number, place } => Own::Refused { number, place },
+                Field::Got {
+                    value: variable,
+                    next: after,
+                } => {
+                    if spoken_for(variable, correlation, x.variables, count) {
+                        return Own::Refused {
+                            number: 5,
+                            place: next,
+                        };
+                    }
+                    write_row(
+                        table,
+                        n,
+                        kind::ASKING_RECEIVE,
+                        x.first,
+                        x.operation,
+                        count,
+                        x.variables,
+                        variable,
+                        0,
+                        place,
+                    );
+                    Own::Read {
+                        kind: kind::ASKING_RECEIVE,
+                        within: 0,
+                        next: after,
+                        nodes: m,
+                    }
+                }
+            }
+        }
+    }
+}
+
 // An activity with an expression.
 fn expression_own(
     s: &[u8],
@@ -267,6 +398,20 @@ fn raise_own(s: &[u8], at: usize, n: usize, m: usize, place: usize, table: &mut 
     }
 }
 
+// Whether no activity has this code.
+fn unknown(code: u32) -> bool
+    ensures { λ r. ⌜ r ≡ not (isCode code) ⌝ }
+{
+    if code <= kind::LAST {
+        return false;
+    }
+    match code {
+        kind::HELD_SEND => false,
+        kind::ASKING_RECEIVE => false,
+        _ => true,
+    }
+}
+
 // Whether a scope stands where none may.
 fn misplaced(code: u32, handler: bool) -> bool
     ensures { λ r. ⌜ r ≡ (handler && isScopeCode code) ⌝ }
@@ -293,7 +438,7 @@ fn code_at(s: &[u8], at: usize, handler: bool, depth: usize, n: usize) -> Field
             place: _,
         } => read,
         Field::Got { value, next: _ } => {
-            if kind::LAST < value {
+            if unknown(value) {
                 return Field::Refused {
                     number: 4,
                     place: at,
@@ -355,7 +500,9 @@ fn parts_own(
         kind::SCOPE => plain_own(at, kind::SCOPE, 3, n, m, place, table),
         kind::OPEN_SCOPE => plain_own(at, kind::OPEN_SCOPE, 2, n, m, place, table),
         kind::NUMBERED_RAISE => raise_own(s, at, n, m, place, table),
-        _ => Own::Numbered { body: at },
+        kind::NUMBERED_SCOPE => Own::Numbered { body: at },
+        kind::HELD_SEND => held_send_own(s, at, vars, n, m, place, table),
+        _ => asking_receive_own(s, at, vars, correlation, n, m, place, table),
     }
 }
 

@@ -32,7 +32,10 @@ pub const COUNT: usize = 3;
 
 pub const VARIABLES: usize = 4;
 
-// The variable of a set, and the number of the first node of the expression of a set, a choose or a repeat.
+// A send to the partner that a variable holds has its reply partner there.
+pub const REPLY: usize = PARTNER;
+
+// The variable of a set, the one that holds the partner of a send and the one that stores the reply partner of a receive; and the number of the first node of the expression of a set, a choose or a repeat.
 pub const VARIABLE: usize = 8;
 
 pub const EXPRESSION: usize = 9;
@@ -60,10 +63,11 @@ pub const VALUES: usize = NODES + 1;
 
 // Whether an activity of this kind takes messages.
 fn receives(kind: u32) -> bool
-    ensures { λ r. ⌜ r ≡ (eqb kind 2 || eqb kind 255) ⌝ }
+    ensures { λ r. ⌜ r ≡ (eqb kind 2 || (eqb kind 18 || eqb kind 255)) ⌝ }
 {
     match kind {
         kind::RECEIVE => true,
+        kind::ASKING_RECEIVE => true,
         kind::ARM => true,
         _ => false,
     }
