@@ -14,6 +14,7 @@ pub mod Stopping
 pub mod Waiting
 pub mod Breaking
 pub mod Scoping
+pub mod Sends
 pub mod Goings
 pub mod Combining
 pub mod Stepping

@@ -2,7 +2,7 @@
 use Prim.Native.Nat.{ℕ, zero, suc, _+_, _≤_}
 use native.Mathlib.Omega.{arith}
 use mathlib.Core.Path.{_≡_, refl, sym, ap, subst, _∙_}
-use mathlib.Core.Bool.{Bool, true, false, cond, not, _&&_, false≢true}
+use mathlib.Core.Bool.{Bool, true, false, cond, _&&_, false≢true}
 use mathlib.Core.List.{List, [], _∷_, _++_}
 use lib.ListN.{length, getD, length-append}
 use lib.Dec.{eqb, leb, ltb}
@@ -21,8 +21,8 @@ use Rattle.order.specs.Lists.{every, some, only}
 use Rattle.order.specs.State.{root, isLive, noOrder}
 use Rattle.machine.specs.State.{fresh}
 use Rattle.order.specs.Event.{Event, started, began, closed, faulted, stopped, ended, raised, left}
-use Rattle.order.specs.Expression.{unboundVariable, Value, fault, value, evaluate}
-use Rattle.order.specs.Acting.{allBound, Actor, itsOwn, inPlace, Moved, acted, begunOrder, startedOrder}
+use Rattle.order.specs.Expression.{Value, fault, value, evaluate}
+use Rattle.order.specs.Acting.{Actor, itsOwn, inPlace, Moved, acted, begunOrder, startedOrder}
 use Rattle.order.specs.Judging.{Verdict, clear, clash, conflict, following, upon, judged, spare, settled, stepOrder}
 use Rattle.machine.specs.Calls.{loadedAs, load, post, collect, dropAt, Stepped, doingAt, step, Call, posting, collecting, dropping, stepping}
 use Rattle.undoing.specs.History.{logOf}
@@ -49,6 +49,7 @@ use Rattle.undoing.proofs.OfOrder.{oneIf, Within, within-all, within-no
 use Rattle.undoing.proofs.OneTime.{first, its, isLeft, own-left, time-fewer, start-fewer}
 use Rattle.undoing.proofs.AsOften.{every-named, every-among}
 use Rattle.undoing.proofs.TakenBack.{endIn, end-in, fresh-free}
+use Rattle.undoing.proofs.Sends.{by-sent}
 
 -- how many events are such
 many-append : (f : Event → Bool) (l m : List Event) → howMany f (l ++ m) ≡ howMany f l + howMany f m
@@ -106,11 +107,6 @@ closed-deeds k (e ∷ l) =
     (λ t. rw (t, closed-deed k e t, t, closed-deeds k l))
     (λ t. decide (isDeed e) (λ d. rw (t, d, t, closed-deeds k l)) (λ d. rw (t, d, closed-deeds k l)))
 
-raised-shut : (e k x : ℕ) (b : Bool) → howMany (isClosedOf e) (raisedIf k x b) ≤ oneIf (eqb e k)
-unfolding only isClosedOf
-raised-shut e k x true = omega arith
-raised-shut e k x false = omega arith
-
 fault-shut : (e k : ℕ) (v : Value) → howMany (isClosedOf e) (raisedBy k v) ≤ oneIf (eqb e k)
 unfolding only isClosedOf
 fault-shut e k (fault x) = omega arith
@@ -119,7 +115,7 @@ fault-shut e k (value n) = omega arith
 deed-shut : (own : Own) (e k : ℕ) (o : Order) → howMany (isClosedOf e) (deedOf own k o) ≤ oneIf (eqb e k)
 unfolding deedOf only isClosedOf
 deed-shut empty e k o = omega arith
-deed-shut (send x y vs) e k o = raised-shut e k unboundVariable (not (allBound o vs))
+deed-shut (send x y vs) e k o = by-sent (λ l. howMany (isClosedOf e) l ≤ oneIf (eqb e k)) x y vs k o (omega arith) (λ n. omega arith)
 deed-shut (receive x y vs) e k o = omega arith
 deed-shut (setting v x) e k o = fault-shut e k (evaluate x o)
 deed-shut (raise number) e k o = omega arith

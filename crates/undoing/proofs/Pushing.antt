@@ -10,10 +10,10 @@ use Rattle.plan.specs.Tree.{Own, empty, send, receive, set as setting, raise, l
 use Rattle.order.specs.declared.Order.{Order}
 use Rattle.order.specs.Lists.{every, some, only, each}
 use Rattle.order.specs.State.{Name, root, inner, same}
-use Rattle.order.specs.Expression.{unboundVariable, conflictingReceive, Value, fault, value, evaluate}
+use Rattle.order.specs.Expression.{conflictingReceive, Value, fault, value, evaluate}
 use Rattle.order.specs.Event.{Event, started, began, closed, faulted, stopped, ended, raised, left}
 use Rattle.order.specs.Scope.{rootOf}
-use Rattle.order.specs.Acting.{allBound, Actor, itsOwn, inPlace, stepIn}
+use Rattle.order.specs.Acting.{Actor, itsOwn, inPlace, stepIn}
 use Rattle.undoing.specs.Demand3.{Inner, scopesOf, insideOf, isBegin, closedBy, closingsOf}
 use Rattle.undoing.specs.Ties.{Place, nameOf, isDeed, raisedIf, raisedBy, deedOf, deedIn, deedAmong}
 use Rattle.undoing.specs.Answered.{backIn, backAmong, backOf, isClose, putting}
@@ -28,6 +28,7 @@ use Rattle.undoing.proofs.Deeds.{step-deeds, raise-deeds}
 use Rattle.undoing.proofs.Judged.{isTake, Fitting, doing-body}
 use Rattle.undoing.proofs.Ending.{isStart, start-kept, deed-in-starts}
 use Rattle.undoing.proofs.Repaying.{none-directly, later-directly, direct-scope, back-part, back-first, back-later, back-without, out-directly, out-directly-in, dueIn, duesOf}
+use Rattle.undoing.proofs.Sends.{by-sent}
 
 -- the definition, by where the step is
 deed-is : (own : Own) (within : Acts) (k t : ℕ) (o : Order) (b : Bool) → eqb k t ≡ b → deedIn (act own within) k t o ≡ elim b [ true ↦ deedOf own k o | false ↦ deedAmong within (k + 1) t o ]
@@ -212,11 +213,6 @@ module _ (p : Plan) (h : Seat p (rootOf p)) where
   onto-dues (left ∷ l) past h = onto-dues l (left ∷ past) h ∙ ap (duesOnto (only isDeed l)) (next-dues left past refl)
 
   -- a step that closes nothing directly inside
-  if-raised : (k x : ℕ) (d : List (List ℕ)) (b : Bool) → duesOnto (raisedIf k x b) d ≡ d
-  unfolding duesOnto
-  if-raised k x d true = refl
-  if-raised k x d false = refl
-
   by-raised : (k : ℕ) (d : List (List ℕ)) (v : Value) → duesOnto (raisedBy k v) d ≡ d
   unfolding duesOnto
   by-raised k d (fault x) = refl
@@ -237,7 +233,7 @@ module _ (p : Plan) (h : Seat p (rootOf p)) where
   other-own : (own : Own) (k : ℕ) (o : Order) (d : List (List ℕ)) → isClose p root k ≡ false → duesOnto (deedOf own k o) d ≡ d
   unfolding deedOf duesOnto
   other-own empty k o d e = refl
-  other-own (send x y vs) k o d e = if-raised k unboundVariable d (not (allBound o vs))
+  other-own (send x y vs) k o d e = by-sent (λ l. duesOnto l d ≡ d) x y vs k o refl (λ n. nothing-closed k n d)
   other-own (receive x y vs) k o d e = refl
   other-own (setting v x) k o d e = by-raised k d (evaluate x o)
   other-own (raise number) k o d e = nothing-closed k number d

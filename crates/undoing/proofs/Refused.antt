@@ -61,7 +61,7 @@ verdict x =
 
 -- the message that starts each order, and the first choice
 abbrev first : Call
-first = posting (record { partner = 0; operation = 0; count = 1; values = 5 ∷ 0 ∷ 0 ∷ 0 ∷ [] })
+first = posting (record { partner = 0; operation = 0; count = 1; values = 5 ∷ 0 ∷ 0 ∷ 0 ∷ []; reply = 0 })
 
 abbrev next : Call
 next = stepping 0
