@@ -34,6 +34,8 @@ pub struct Taken {
     pub handed: usize,
     /// How many receives or arms raised because another was open for the same thing.
     pub conflicts: usize,
+    /// The fault that its send acted as.
+    pub unsent: Option<Fault>,
 }
 
 /// All that is offered, in order, and what is held.
@@ -47,6 +49,8 @@ pub struct Offer {
 #[derive(Clone, Copy, Debug, Default, PartialEq, Eq)]
 pub struct Held {
     pub sends: usize,
+    /// Of these, to a partner that a variable holds.
+    pub sends_to_held: usize,
     pub closes: usize,
     pub starts: usize,
 }
@@ -237,6 +241,7 @@ fn acts(plan: &Plan, state: &State, order: &Order, k: usize, held: &mut Held) ->
         Kind::Send(sending) if mark == ACTIVE => {
             let full = state.waiting == WAITING as u64 && sent(order, &sending).is_ok();
             held.sends += usize::from(full);
+            held.sends_to_held += usize::from(full && sending.held_in.is_some());
             !full
         }
         Kind::Scope(handlers) if mark == DONE => {
@@ -361,6 +366,7 @@ fn take(plan: &Plan, state: &mut State, step: Step, tally: &mut Tally) -> Taken 
         through,
         handed,
         conflicts,
+        unsent,
     }
 }
 

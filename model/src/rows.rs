@@ -348,7 +348,8 @@ impl<'a> Rows<'a> {
             8..=10 => (1..=most).contains(&row[2]) && self.spell(row, 2),
             13 => (16..=255).contains(&row[2]) && self.spell(row, 2),
             17 => {
-                row[2] < self.variables && self.exchange_then(row, 3, false, |_, _, reply| reply < 64)
+                row[2] < self.variables
+                    && self.exchange_then(row, 3, false, |_, _, reply| reply < 64)
             }
             18 => {
                 let stores = |rows: &Self, others: &[u32], variable: u32| {
@@ -546,13 +547,63 @@ mod tests {
             // The body comes before it.
             refused(&[&[14], &[15], count, &[16], &[4], &[3], &[0]], 4, 4);
         }
-        for number in [&[16][..], &[5], &[256], &[3, 0], &[]] {
+        for number in [&[16][..], &[6], &[256], &[3, 0], &[]] {
             refused(&[&[14], &[0], &[2], &[16], &[4], number, &[0]], 5, 8);
             // A part comes before the number behind it.
             refused(&[&[14], &[0], &[2], &[16], &[15], number, &[0]], 4, 7);
         }
         refused(&[&[14, 2], &[0], &[2], &[16], &[4], &[3], &[0]], 5, 3);
         refused(&[&[14], &[0], &[2], &[16], &[12], &[3], &[0]], 8, 7);
+    }
+
+    #[test]
+    fn whom_to_reply_to() {
+        // Variable 2 of four is for correlation.
+        let plan = |asking: &[u32], answer: &[u32]| -> Vec<u32> {
+            let rows: [&[u32]; 5] = [&[1, 4, 1, 2], &[8, 2], asking, answer, &[0]];
+            rows.iter().flat_map(|numbers| row(numbers)).collect()
+        };
+        let (asking, answer) = (&[18, 3, 5, 2, 0, 2, 1][..], &[17, 1, 9, 2, 2, 2, 63][..]);
+        let bytes = [
+            1, 4, 1, 2, 8, 2, 18, 3, 5, 2, 0, 2, 1, 17, 1, 9, 2, 2, 2, 63, 0,
+        ];
+        assert_eq!(table_of(&bytes), Ok(plan(asking, answer)));
+        let mut out = [9; 21];
+        assert_eq!(write(&plan(asking, answer), &mut out), Ok(21));
+        assert_eq!(out, bytes);
+        let refused = |asking: &[u32], answer: &[u32], number, place| {
+            let table = plan(asking, answer);
+            assert_eq!(write(&table, &mut []), Err(Refusal { number, place }));
+        };
+        for wrong in [
+            &[18, 64, 5, 2, 0, 2, 1][..],
+            &[18, 3, 64, 2, 0, 2, 1],
+            &[18, 3, 5, 2, 0, 0, 1],
+            // For correlation, among the others, no variable, none, and one more.
+            &[18, 3, 5, 1, 0, 2],
+            &[18, 3, 5, 2, 0, 1, 1],
+            &[18, 3, 5, 2, 0, 2, 4],
+            &[18, 3, 5, 2, 0, 2],
+            &[18, 3, 5, 2, 0, 2, 1, 0],
+            &[2, 3, 5, 2, 0, 2, 1],
+        ] {
+            refused(wrong, answer, 5, 2);
+        }
+        for wrong in [
+            &[17, 4, 9, 2, 2, 2, 63][..],
+            &[17, 1, 64, 2, 2, 2, 63],
+            &[17, 1, 9, 5, 0, 0, 0, 0, 0, 63],
+            &[17, 1, 9, 2, 2, 4, 63],
+            &[17, 1, 9, 2, 2, 2, 64],
+            &[17, 1, 9, 2, 2, 2],
+            &[17, 1, 9, 2, 2, 2, 63, 0],
+            &[1, 1, 9, 2, 2, 2, 63],
+        ] {
+            refused(asking, wrong, 5, 3);
+        }
+        refused(answer, asking, 7, 1);
+        refused(asking, &[18, 3, 5, 1, 0, 1], 21, 3);
+        refused(asking, &[16, 1, 9, 2, 2, 2, 63], 4, 3);
     }
 
     #[test]

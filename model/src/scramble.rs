@@ -247,10 +247,10 @@ fn beyond(random: &mut Random, state: &mut State) {
             let place = random.below(state.waiting as usize);
             let message = &mut state.messages[place];
             match random.below(5) {
-                4 => message.reply = random.from_to(63, 64) as u32,
                 0 => message.partner = random.from_to(63, 64) as u32,
                 1 => message.operation = random.from_to(63, 64) as u32,
                 2 => message.count = random.from_to(4, 5) as u32 % 5,
+                3 => message.reply = random.from_to(63, 64) as u32,
                 _ => message.values[3] = 1,
             }
         }

@@ -616,7 +616,10 @@ fn names_fault(tokens: &[Token]) -> bool {
 /// Whether a line is a declaration, right or wrong.
 fn is_declaration(tokens: &[Token]) -> bool {
     match tokens {
-        [Word(b"variable" | b"partner" | b"operation" | b"constant"), ..] => true,
+        [
+            Word(b"variable" | b"partner" | b"operation" | b"constant"),
+            ..,
+        ] => true,
         _ => names_fault(tokens),
     }
 }

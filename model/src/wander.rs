@@ -2,14 +2,14 @@
 
 use crate::calls::{self, Call};
 use crate::comparison::Comparison;
-use crate::engine::{self, Offer, Step};
+use crate::engine::{self, Offer, Step, Taken};
 use crate::generate::{self, Random};
 use crate::lively;
-use crate::packed::{self, SIZE};
 use crate::order::{Faults, counted};
-use crate::plan::{Kind, Plan, Tuple};
+use crate::packed::{self, SIZE};
+use crate::plan::{Kind, NO_SUCH_PARTNER, Plan, Sending, Tuple};
 use crate::scramble;
-use crate::state::{End, Message, REMEMBERED, State, Tally, bare};
+use crate::state::{End, Message, REMEMBERED, State, Tally, WAITING, bare};
 
 /// How often things were seen.
 #[derive(Default)]
@@ -39,6 +39,15 @@ pub struct Seen {
     /// Fault parts by number that were begun, and general ones of scopes that have some.
     pub by_number: u64,
     pub general: u64,
+    /// Steps of sends to a partner that a variable holds: sent, of an unbound variable, of a partner above 63, and of one while 64 messages wait; and held.
+    pub answered: u64,
+    pub answers_unbound: u64,
+    pub no_such_partner: u64,
+    pub no_such_partner_full: u64,
+    pub held_answers: u64,
+    /// Receives that stored whom to reply to, and those that stored another than 0.
+    pub asked: u64,
+    pub asked_by: u64,
     pub taken: u64,
     /// Scopes by their mark, in the order of each step taken in a run.
     pub scopes: [u64; 9],
@@ -210,16 +219,21 @@ impl Wander {
     fn step(&mut self) {
         let offer = self.offered();
         self.seen.held_sends += u64::from(offer.held.sends > 0);
+        self.seen.held_answers += u64::from(offer.held.sends_to_held > 0);
         self.seen.held_closes += u64::from(offer.held.closes > 0);
         self.seen.held_starts += u64::from(offer.held.starts > 0);
         if offer.steps.is_empty() && !offer.held.any() && self.random.percent(60) {
             return self.post();
         }
         let choice = self.choice(&offer);
+        let before = self.state();
         let told = self.comparison.make(Call::Step(choice));
         self.refused(told.answer >> 32 & 0xFF);
         if let Some(taken) = told.taken {
             self.scopes(taken.step.slot);
+            if let Some((state, _)) = before {
+                self.replies(&taken, &state);
+            }
             self.seen.taken += 1;
             self.seen.undone += taken.undone as u64;
             self.seen.through += taken.through as u64;
@@ -247,6 +261,28 @@ impl Wander {
                 self.seen.outward[number] += taken.outward[number];
                 self.seen.absorbed[number] += taken.absorbed[number];
             }
+        }
+    }
+
+    /// What a step did with whom to reply to, given the state before it.
+    fn replies(&mut self, taken: &Taken, before: &State) {
+        match self.plan.kind(taken.step.activity) {
+            Kind::Receive(_, Some(_)) => {
+                self.seen.asked += 1;
+                let reply = before.messages[taken.step.place].reply;
+                self.seen.asked_by += u64::from(reply > 0);
+            }
+            Kind::Send(Sending {
+                held_in: Some(_), ..
+            }) => match taken.unsent {
+                None => self.seen.answered += 1,
+                Some(NO_SUCH_PARTNER) => {
+                    self.seen.no_such_partner += 1;
+                    self.seen.no_such_partner_full += u64::from(before.waiting == WAITING as u64);
+                }
+                Some(_) => self.seen.answers_unbound += 1,
+            },
+            _ => {}
         }
     }
 
@@ -304,6 +340,7 @@ impl Wander {
             *value = match self.random.below(40) {
                 0 => u32::MAX,
                 1 => self.random.value(),
+                2 => self.random.from_to(62, 65) as u32,
                 _ => self.random.below(high) as u32,
             };
         }
