@@ -25,13 +25,14 @@ abbrev pub answeredTo : (reply : ℕ) → Message → Message
 answeredTo r m = record { partner = m .partner; operation = m .operation; count = m .count; values = m .values; reply = r }
 
 -- STORED. "Code 18 is a receive with one last part, the variable that stores the reply partner": after it took a message, and the order goes on, that variable holds what the
--- message carried.
+-- message carried. (A message has four values, and an order 16 variables: lists of these lengths, as the arrays of the code.)
 unfoldable pub RepliesStored : Type 0
 RepliesStored =
     (p : Plan) (next : ℕ) (s : State) (t : Tally) (c : ℕ) (x : Offer) → Planned p next s → length (s .orders) ≡ 16 → choosing (offersOf p s) c ≡ chosen x
     → (partner v operation : ℕ) (vs : List ℕ) → doingAt p (x .activity) ≡ takes (fromAsking partner v) operation vs → step c s t .answer .end ≡ None
-    → let o = getD (step c s t .state .orders) (x .slot) noOrder in
-    (isBound o v ≡ true) × (valueOf o v ≡ getD (s .messages) (x .place) noMessage .reply)
+    → let m = getD (s .messages) (x .place) noMessage in let q = actor p (s .orders) (x .slot) in
+    length (m .values) ≡ 4 → length (q .values) ≡ 16 → length (q .bound) ≡ 16
+    → let o = getD (step c s t .state .orders) (x .slot) noOrder in (isBound o v ≡ true) × (valueOf o v ≡ m .reply)
 
 -- SENT. "Code 17 is a send whose first part is a variable that holds its partner, and whose last part is the reply partner that it carries": where it sends, one message more
 -- waits, for that partner and with that reply partner.
