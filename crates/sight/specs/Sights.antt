@@ -11,14 +11,14 @@ use Rattle.plan.specs.Tree.{toPartner, toHeld, fromPartner, fromAsking, Acts, P
 use Rattle.machine.specs.declared.Message.{Message}
 use Rattle.order.specs.declared.Order.{Order}
 use Rattle.machine.specs.declared.Step.{Step}
-use Rattle.fit.specs.Answering.{Exchange, Knows, Asking, UncheckedRow, messageAt, Picks}
+use Rattle.fit.specs.Answering.{Knows, Asking, UncheckedRow, messageAt, Picks}
 use Rattle.machine.specs.Calls.{Chosen, refusedChoice, chosen, previewed}
 use Rattle.machine.specs.Fit.{Doing, noStep, sends, takes, moves, cuts, closes, doingOf, Letter, mayTake}
-use Rattle.order.specs.Acting.{maySend}
+use Rattle.order.specs.Answering.{Bindings, Values}
 use Rattle.order.specs.Lists.{every}
 use Rattle.machine.specs.Offer.{Offer, offering, Offers, isCut, closeHeld, stepOffers}
 use Rattle.order.specs.Scope.{Scope, scopeAt}
-use Rattle.order.specs.State.{closingOf, isBound, valueOf}
+use Rattle.order.specs.State.{closingOf}
 use Rattle.machine.specs.State.{noMessage}
 use Rattle.sight.specs.declared.Pointer.{Pointer}
 use Rattle.sight.specs.declared.Sight.{Sight}
@@ -96,10 +96,8 @@ pub record Remembers (o : Order) (parts : List ℕ) : Type 0 where
 -- with what it remembers, which variables are bound, and to what
 pub record Serving (known bound values parts : List ℕ) (kept : ℕ) (letters : List ℕ) (waiting : ℕ) (least : List ℕ) (o : Order) (p : Plan) (l : List Letter) : Type 0 where
   pub heeding : Heeding known letters waiting least o p l
-  pub bindings : o .bound ≡ bound
-  pub sixteen : length bound ≡ 16
-  pub holds : o .values ≡ values
-  pub worths : length values ≡ 16
+  pub bindings : Bindings o bound
+  pub holds : Values o values
   pub memory : Remembers o parts
   pub many : o .kept ≡ kept
 
@@ -108,6 +106,10 @@ pub record Opening (t picks marks known bound values parts : List ℕ) (kept : �
   pub picked : Picks t picks
   pub marked : o .marks ≡ marks
   pub serving : Serving known bound values parts kept letters waiting least o p l
+
+-- the kinds of sends: to a partner, or to the one that a variable holds
+unfoldable pub isSendCode : (kind : ℕ) → Bool
+isSendCode n = eqb n 1 || eqb n 17
 
 -- the step of a row, by its kind and its partner (of a send to a held partner: that to reply to), operation and variable
 unfoldable pub doingBy : (kind partner operation variable : ℕ) → (variables : List ℕ) → Scope → Doing
@@ -132,19 +134,6 @@ pub record CutRow (t : List ℕ) (k : ℕ) (r : Bool) : Type 0 where
 -- whether a line is an active raise or leave, or one was before
 unfoldable pub cutLine : Order → Plan → List Letter → Line → Bool → Bool
 cutLine o p l x c = cond (isReady (o .marks) x) (isCut (readyAt x) || c) c
-
--- r says whether all variables of row k are bound
-pub record BoundRow (t bound : List ℕ) (k : ℕ) (r : Bool) : Type 0 where
-  pub is : (o : Order) (a b : ℕ) (vs : List ℕ) → o .bound ≡ bound → length bound ≡ 16 → Exchange a b vs k t → length vs ≤ 4 → r ≡ every (isBound o) vs
-
--- r says whether the value of variable v is the number of a partner
-pub record ReachesAt (values : List ℕ) (v : ℕ) (r : Bool) : Type 0 where
-  pub is : (o : Order) → o .values ≡ values → length values ≡ 16 → r ≡ leb (valueOf o v) 63
-
--- r says whether the send to a held partner in row k would send; the place of a partner has its reply partner
-pub record HeldRow (t bound values : List ℕ) (k : ℕ) (r : Bool) : Type 0 where
-  pub is : (o : Order) (a b : ℕ) (vs : List ℕ) → o .bound ≡ bound → length bound ≡ 16 → o .values ≡ values → length values ≡ 16 → Exchange a b vs k t → length vs ≤ 4
-      → r ≡ maySend o (toHeld (getD t (k * 13 + 8) 0) a) vs
 
 -- r says whether the close in row k, of a scope of this kind, is held: of the three kinds 12 has no undo part
 pub record ClosesRow (kind : ℕ) (parts : List ℕ) (kept k : ℕ) (r : Bool) : Type 0 where

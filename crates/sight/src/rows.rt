@@ -6,11 +6,9 @@ use fit::fitness::asked_at;
 use fit::fitness::fits_at;
 use fit::fitness::unchecked_at;
 use fit::search::arm_open;
+use order::sending::may_send;
 use plan::kind;
-use plan::table::COUNT;
 use plan::table::Table;
-use plan::table::VARIABLE;
-use plan::table::VARIABLES;
 use plan::table::WIDTH;
 ghost use Prim.Native.Nat.{_+_, _*_, _≤_, _<_};
 ghost use lib.Dec.{eqb};
@@ -18,9 +16,8 @@ ghost use lib.ListN.{getD};
 ghost use mathlib.Core.Bool.{false};
 ghost use mathlib.Core.Path.{_≡_};
 ghost use Rattle.plan.specs.Read.{isScopeCode};
-ghost use Rattle.fit.specs.Answering.{sixteenth};
 ghost use Rattle.fit.specs.Lines.{Rows, Wholes};
-ghost use Rattle.sight.specs.Sights.{Marked, Exchanging, Heeding, Serving, Opening, AwaitsRow, CutRow, cutLine, BoundRow, ReachesAt, HeldRow, ClosesRow, TakesLetter, takeLine, doingLine, offerLine};
+ghost use Rattle.sight.specs.Sights.{Marked, Exchanging, Heeding, Serving, Opening, AwaitsRow, CutRow, cutLine, isSendCode, ClosesRow, TakesLetter, takeLine, doingLine, offerLine};
 
 // Whether a kind is that of a scope, with an undo part of its own, with none, or with fault parts by number.
 fn is_scope(kind: u32) -> bool
@@ -33,6 +30,16 @@ fn is_scope(kind: u32) -> bool
         return true;
     }
     kind == kind::NUMBERED_SCOPE
+}
+
+// Whether a kind is that of a send, to a partner or to the one that a variable holds.
+fn is_send(kind: u32) -> bool
+    ensures { λ r. ⌜ r ≡ isSendCode kind ⌝ }
+{
+    if kind == kind::SEND {
+        return true;
+    }
+    kind == kind::HELD_SEND
 }
 
 // Whether row k awaits its step.
@@ -93,63 +100,6 @@ pub fn cut_rows(table: &Table, marks: &[u8; 256], activities: usize) -> bool
         k += 1;
     }
     c
-}
-
-// Whether variable v is bound.
-fn bound_at(bound: &[u8; 16], v: u32) -> bool
-    ensures { λ r. ⌜ r ≡ eqb (sixteenth (now (bound .entry)) v) 1 ⌝ }
-{
-    if 16 <= v {
-        return false;
-    }
-    let i = v as usize;
-    bound[i] == 1
-}
-
-// Whether all variables of row k are bound.
-fn bound_row(table: &Table, bound: &[u8; 16], k: usize) -> bool
-    requires { ⌜ k < 256 ⌝ }
-    ensures { λ r. ⌜ BoundRow (now (table .entry)) (now (bound .entry)) k r ⌝ }
-{
-    let count = table[k * WIDTH + COUNT];
-    if 4 < count {
-        return false;
-    }
-    let many = count as usize;
-    let mut i: usize = 0;
-    while i < many {
-        if !bound_at(bound, table[k * WIDTH + VARIABLES + i]) {
-            return false;
-        }
-        i += 1;
-    }
-    true
-}
-
-// Whether the partner that variable v holds is one: partners are 0 to 63.
-fn reaches_at(values: &[u32; 16], v: u32) -> bool
-    ensures { λ r. ⌜ ReachesAt (now (values .entry)) v r ⌝ }
-{
-    if 16 <= v {
-        return true;
-    }
-    let i = v as usize;
-    values[i] <= 63
-}
-
-// Whether the send to a held partner in row k would send: its variables are bound, its partner's too, and that partner is one.
-fn held_row(table: &Table, bound: &[u8; 16], values: &[u32; 16], k: usize) -> bool
-    requires { ⌜ k < 256 ⌝ }
-    ensures { λ r. ⌜ HeldRow (now (table .entry)) (now (bound .entry)) (now (values .entry)) k r ⌝ }
-{
-    let v = table[k * WIDTH + VARIABLE];
-    if bound_at(bound, v) {
-        if bound_row(table, bound, k) {
-            return reaches_at(values, v);
-        }
-        return false;
-    }
-    false
 }
 
 // What the message at place j adds at the receive or arm in row k.
@@ -249,20 +199,11 @@ fn doing_row(
     ensures { λ r. ⌜ Rows (now (table .entry)) k (Serving (now (known .entry)) (now (bound .entry)) (now (values .entry)) (now (parts .entry)) kept (now (letters .entry)) waiting (now (least .entry))) (doingLine waiting slot) s r ⌝ }
 {
     let kind = table[k * WIDTH];
-    if kind == kind::SEND {
+    if is_send(kind) {
         if waiting < 64 {
             return shown(s, slot, k, 0);
         }
-        if bound_row(table, bound, k) {
-            return withheld(s);
-        }
-        return shown(s, slot, k, 0);
-    }
-    if kind == kind::HELD_SEND {
-        if waiting < 64 {
-            return shown(s, slot, k, 0);
-        }
-        if held_row(table, bound, values, k) {
+        if may_send(table, k, bound, values) {
             return withheld(s);
         }
         return shown(s, slot, k, 0);

@@ -11,7 +11,6 @@ use Rattle.plan.specs.Tree.{To, toPartner, toHeld, replyOf, send, Plan, size}
 use Rattle.order.specs.declared.Order.{Order}
 use Rattle.order.specs.declared.Next.{Next}
 use Rattle.order.specs.Answering.{Names, Spelled, TakesOrder, StepsOrder}
-use Rattle.order.specs.Acting.{partnerTo}
 use Rattle.order.specs.Lists.{stored}
 use Rattle.order.specs.State.{noOrder, valueOf}
 use Rattle.machine.specs.declared.Mail.{Mail}
@@ -58,10 +57,7 @@ pub record SendRow (a : To) (b : ℕ) (vs : List ℕ) (k : ℕ) (t : List ℕ) :
   pub operation : getD t (k * 13 + 2) 0 ≡ b
   pub names : Names t k vs
 
--- r is the partner of the send in row k, and the reply partner that its message carries
-pub record SentPartner (t : List ℕ) (k : ℕ) (o : Order) (r : ℕ) : Type 0 where
-  pub is : (a : To) (b : ℕ) (vs : List ℕ) → SendRow a b vs k t → r ≡ partnerTo o a
-
+-- r is the reply partner that the message of the send in row k carries
 pub record SentReply (t : List ℕ) (k r : ℕ) : Type 0 where
   pub is : (a : To) (b : ℕ) (vs : List ℕ) → SendRow a b vs k t → r ≡ replyOf a
 

@@ -9,12 +9,13 @@ use mail::letters;
 use order::End;
 use order::Next;
 use order::Order;
+use order::sending::may_send;
+use order::sending::partner_to;
 use plan::kind;
 use plan::table::COUNT;
 use plan::table::OPERATION;
 use plan::table::PARTNER;
 use plan::table::Table;
-use plan::table::VARIABLE;
 use plan::table::VARIABLES;
 use plan::table::WIDTH;
 ghost use Prim.Native.Nat.{_<_};
@@ -22,7 +23,7 @@ ghost use lib.ListN.{getD};
 ghost use mathlib.Core.Path.{_≡_};
 ghost use Rattle.machine.specs.Calls.{gives, counted as countedOf, countStart, countEnd};
 ghost use Rattle.machine.specs.State.{noMessage};
-ghost use Rattle.step.specs.Stepping.{Worths, SentValues, SentPartner, SentReply, SendsMail, MovesMail, Nexts, MovesFrom, Moves};
+ghost use Rattle.step.specs.Stepping.{Worths, SentValues, SentReply, SendsMail, MovesMail, Nexts, MovesFrom, Moves};
 
 // The value of variable v.
 fn value_of(order: Order, v: u32) -> u32
@@ -55,18 +56,7 @@ fn sent_values(table: &Table, k: usize, order: Order) -> [u32; 4]
     out
 }
 
-// The partner of the send in row k: the one that it names, or the one that its variable holds.
-fn sent_partner(table: &Table, k: usize, order: Order) -> u32
-    requires { ⌜ k < 256 ⌝ }
-    ensures { λ r. ⌜ SentPartner (now (table .entry)) k order r ⌝ }
-{
-    if table[k * WIDTH] == kind::HELD_SEND {
-        return value_of(order, table[k * WIDTH + VARIABLE]);
-    }
-    table[k * WIDTH + PARTNER]
-}
-
-// The reply partner that its message carries: a send to a held partner has it in the place of a partner, and any other carries 0.
+// The reply partner that the message of the send in row k carries: a send to a held partner has it in the place of a partner, and any other carries 0.
 fn sent_reply(table: &Table, k: usize) -> u32
     requires { ⌜ k < 256 ⌝ }
     ensures { λ r. ⌜ SentReply (now (table .entry)) k r ⌝ }
@@ -82,10 +72,12 @@ fn sent(table: &Table, k: usize, order: Order, messages: [Message; 64], waiting:
     requires { ⌜ k < 256 ⌝ }
     ensures { λ r. ⌜ SendsMail (now (table .entry)) k order messages waiting r ⌝ }
 {
-    if activity::may_send(table, k, order) {
+    let bound = order.bound;
+    let held = order.values;
+    if may_send(table, k, &bound, &held) {
         let values = sent_values(table, k, order);
         let m = Message {
-            partner: sent_partner(table, k, order),
+            partner: partner_to(table, k, &held),
             operation: table[k * WIDTH + OPERATION],
             count: table[k * WIDTH + COUNT],
             values,
