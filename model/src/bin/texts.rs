@@ -81,9 +81,9 @@ impl Library {
                 answer == bytes.len() as u64
             }
             Err(Wrong::Refused(number, line)) => answer == u64::from(*number) << 32 | *line as u64,
-            // the reason may be any of the 27
+            // the reason may be any of the 30
             Err(Wrong::Line(line)) => {
-                (33..=60).contains(&(answer >> 32)) && answer as u32 as usize == *line
+                (33..=62).contains(&(answer >> 32)) && answer as u32 as usize == *line
             }
         };
         if !good || buffer != left {
@@ -594,7 +594,11 @@ fn damaged(random: &mut Random, text: &str) -> String {
             }
             15 => {
                 // a variable or a word is added to the end
-                const MORE: [&str; 16] = [
+                const MORE: [&str; 20] = [
+                    " with reply to partner 3",
+                    " with reply to into v1",
+                    " with reply to v1",
+                    " with",
                     " and v0",
                     " or 1",
                     " > 2",
