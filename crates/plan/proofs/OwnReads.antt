@@ -87,7 +87,7 @@ module _ (g : Found Head) (at n m : ℕ) (t u : List ℕ) where
   own-found own e i c p = rw (e, i, c) (record { is = refl; put = p })
 
 -- an activity whose own numbers are no expression, where its row is written
-own-row : (g : Found Head) (at n m : ℕ) (t u : List ℕ) (own : Own) {k within next : ℕ} → g ≡ found (head own within) next → k ≡ kind own
+pub own-row : (g : Found Head) (at n m : ℕ) (t u : List ℕ) (own : Own) {k within next : ℕ} → g ≡ found (head own within) next → k ≡ kind own
     → ownNodes own ≡ 0 → putOwnNodes own m t ≡ t → u ≡ putRow n (rowOf own m at) t → OwnRead g at n m (code.Own.Read k within next m) t u
 unfolding putOwn
 own-row g at n m t u own e i z p w = own-found g at n m t u own e i (rw z (sym (add-zero m))) (rw p w)

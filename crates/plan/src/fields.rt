@@ -9,7 +9,7 @@ ghost use lib.Dec.{eqb};
 ghost use mathlib.Core.Bool.{_&&_};
 ghost use mathlib.Core.List.{[]};
 ghost use mathlib.Core.Path.{_≡_};
-ghost use Rattle.plan.specs.Answers.{fieldOf, tupleOf, exchangedIn, ExchangeIs};
+ghost use Rattle.plan.specs.Answers.{fieldOf, tupleOf, exchangedIn, ExchangeRead};
 ghost use Rattle.plan.specs.Fits.{NumberFits, FieldFits};
 ghost use Rattle.plan.specs.Found.{refused, numberIn, fieldIn};
 ghost use Rattle.plan.specs.Read.{variablesIn, tupleIn};
@@ -129,7 +129,7 @@ pub(crate) fn tuple_at(s: &[u8], at: usize, vars: u32, once: bool) -> Tuple
 
 // A refused exchange.
 fn no_exchange(number: u32, place: usize) -> Exchange
-    ensures { λ r. ⌜ ExchangeIs (refused number place) r ⌝ }
+    ensures { λ r. ⌜ ExchangeRead (refused number place) r ⌝ }
 {
     Exchange {
         out: Field::Refused { number, place },
@@ -142,7 +142,7 @@ fn no_exchange(number: u32, place: usize) -> Exchange
 // What an exchange with a reply partner says before it: a first number below `limit`, the operation and the variables.
 pub(crate) fn exchange_at(s: &[u8], at: usize, limit: u32, vars: u32, once: bool) -> Exchange
     requires { ⌜ vars ≤ 16 ⌝ }
-    ensures { λ r. ⌜ ExchangeIs (exchangedIn limit vars once (now (s .entry)) at) r ⌝ }
+    ensures { λ r. ⌜ ExchangeRead (exchangedIn limit vars once (now (s .entry)) at) r ⌝ }
 {
     let f = field_at(s, at, 0, limit);
     match f {
@@ -156,11 +156,13 @@ pub(crate) fn exchange_at(s: &[u8], at: usize, limit: u32, vars: u32, once: bool
                     next: after,
                 } => {
                     let t = tuple_at(s, after, vars, once);
+                    let out = t.out;
+                    let variables = t.variables;
                     Exchange {
-                        out: t.out,
+                        out,
                         first,
                         operation,
-                        variables: t.variables,
+                        variables,
                     }
                 }
             }

@@ -179,6 +179,7 @@ fn held_send_own(
                     value: reply,
                     next: after,
                 } => {
+                    let variables = x.variables;
                     write_row(
                         table,
                         n,
@@ -186,7 +187,7 @@ fn held_send_own(
                         reply,
                         x.operation,
                         count,
-                        x.variables,
+                        variables,
                         x.first,
                         0,
                         place,
@@ -251,7 +252,8 @@ fn asking_receive_own(
                     value: variable,
                     next: after,
                 } => {
-                    if spoken_for(variable, correlation, x.variables, count) {
+                    let variables = x.variables;
+                    if spoken_for(variable, correlation, variables, count) {
                         return Own::Refused {
                             number: 5,
                             place: next,
@@ -264,7 +266,7 @@ fn asking_receive_own(
                         x.first,
                         x.operation,
                         count,
-                        x.variables,
+                        variables,
                         variable,
                         0,
                         place,
