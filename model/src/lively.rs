@@ -216,9 +216,14 @@ impl Writer<'_> {
             } else {
                 self.code(3);
                 let variable = self.free[self.random.below(self.free.len())];
+                // Now and then about the highest partner, which a send may then be for.
+                let value = match self.random.below(4) {
+                    0 => self.random.from_to(62, 65),
+                    _ => count,
+                };
                 self.sheet.put(Kind::Variable, variable);
                 self.sheet.put(Kind::Form, 0);
-                self.sheet.put(Kind::Constant, count as u32);
+                self.sheet.put(Kind::Constant, value as u32);
             }
         }
         if self.random.percent(raises) {

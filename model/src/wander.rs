@@ -340,7 +340,7 @@ impl Wander {
             *value = match self.random.below(40) {
                 0 => u32::MAX,
                 1 => self.random.value(),
-                2 => self.random.from_to(62, 65) as u32,
+                2..=4 => self.random.from_to(62, 65) as u32,
                 _ => self.random.below(high) as u32,
             };
         }
