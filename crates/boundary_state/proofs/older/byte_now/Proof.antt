@@ -23,6 +23,8 @@ byte-now-spec =
     (λ c κs. search needs)
     -- returns-3
     (λ c. search cases)
+    -- sub-result
+    (λ c. search needs)
     -- shared-slice-read-result-2
     (λ c. search needs)
     -- returns-4
