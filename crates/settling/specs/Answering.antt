@@ -28,7 +28,7 @@ pub data Opened (t rows : List ℕ) : ℕ → List Ready → Type 0 where
 
 -- r says whether the receive or arm in row k is for the same thing as one in the first n of these rows
 pub record SeenRow (t rows : List ℕ) (n k : ℕ) (r : Bool) : Type 0 where
-  pub is : (l : List Ready) → Opened t rows n l → (a b : ℕ) (vs : List ℕ) → Exchange a b vs k t → length vs ≤ 4 → r ≡ some (λ x. isThing (fromPartner a) b vs (x .step)) l
+  pub is : (l : List Ready) → Opened t rows n l → (a : From) (b : ℕ) (vs : List ℕ) → Exchange (partnerFrom a) b vs k t → length vs ≤ 4 → r ≡ some (λ x. isThing a b vs (x .step)) l
 
 -- no active pick before row k ends beyond `reach`
 pub record Beyond (t ms : List ℕ) (reach k : ℕ) : Type 0 where
