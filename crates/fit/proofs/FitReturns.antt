@@ -119,10 +119,11 @@ module _ {flags : List ℕ} {o : Order} {out : List ℕ} {i : ℕ} (w : Filling 
       → Filling (Known flags o) 16 (set out i r) (i + 1)
   knowing-again h y = filling-again w h (record { is = y })
 
-  pub knowing-done : 16 ≤ i → length (o .bound) ≡ 16 → KnowsOrder flags o out
+  pub knowing-done : 16 ≤ i → length (o .bound) ≡ 16 → length (o .values) ≡ 16 → KnowsOrder flags o out
   unfolding askedOf sixteenth
-  knowing-done h b = record {
+  knowing-done h b n = record {
     bindings = b;
+    worths = n;
     is = λ p c. record {
       is = λ v.
           elim (decLt v 16) [

@@ -46,6 +46,7 @@ pub record Knows (known : List ℕ) (p : Plan) (o : Order) : Type 0 where
 -- r has that of an order; and how long the list of what is bound is, which a lent list does not say
 pub record KnowsOrder (flags : List ℕ) (o : Order) (r : List ℕ) : Type 0 where
   pub bindings : length (o .bound) ≡ 16
+  pub worths : length (o .values) ≡ 16
   pub is : (p : Plan) → Correlated p flags → Knows r p o
 
 -- r is what row k asks at its places

@@ -103,8 +103,8 @@ acts-live {act = act} a i {o} {wait = wait} {s = s} {cutting = cutting} h k m v 
         marked = refl;
         serving = record {
           heeding = record { knows = k .is p (g .correlated); told = g .told };
-          bindings = refl;
-          sixteen = k .bindings;
+          bindings = record { same = refl; sixteen = k .bindings };
+          holds = record { same = refl; sixteen = k .worths };
           memory = m;
           many = refl;
         };
