@@ -6,11 +6,10 @@ use mathlib.Core.List.{List, []}
 use mathlib.Core.Path.{_≡_}
 use lib.Dec.{eqb}
 use lib.ListN.{getD}
-use Rattle.plan.specs.Tree as tree
-use Rattle.plan.specs.Tree.{To, toPartner, toHeld, replyOf, send, Plan, size}
+use Rattle.plan.specs.Tree.{To, Plan, size}
 use Rattle.order.specs.declared.Order.{Order}
 use Rattle.order.specs.declared.Next.{Next}
-use Rattle.order.specs.Answering.{Names, Spelled, TakesOrder, StepsOrder}
+use Rattle.order.specs.Answering.{Names, toAt, Spelled, TakesOrder, StepsOrder}
 use Rattle.order.specs.Lists.{stored}
 use Rattle.order.specs.State.{noOrder, valueOf}
 use Rattle.machine.specs.declared.Mail.{Mail}
@@ -41,25 +40,11 @@ pub record Worths (o : Order) (v r : ℕ) : Type 0 where
 pub record SentValues (t : List ℕ) (k : ℕ) (o : Order) (r : List ℕ) : Type 0 where
   pub is : (vs : List ℕ) → Names t k vs → r ≡ stored 4 (valuesOf o vs)
 
--- row k sends this: what stands in the place of a partner, and the variable
-abbrev pub partnerPlace : To → ℕ
-partnerPlace (toPartner p) = p
-partnerPlace (toHeld v r) = r
-
-abbrev pub variablePlace : To → ℕ
-variablePlace (toPartner p) = 0
-variablePlace (toHeld v r) = v
-
+-- row k sends this
 pub record SendRow (a : To) (b : ℕ) (vs : List ℕ) (k : ℕ) (t : List ℕ) : Type 0 where
-  pub kind : getD t (k * 13) 0 ≡ tree.kind (send a b vs)
-  pub partner : getD t (k * 13 + 1) 0 ≡ partnerPlace a
-  pub variable : getD t (k * 13 + 8) 0 ≡ variablePlace a
+  pub to : toAt t k ≡ a
   pub operation : getD t (k * 13 + 2) 0 ≡ b
   pub names : Names t k vs
-
--- r is the reply partner that the message of the send in row k carries
-pub record SentReply (t : List ℕ) (k r : ℕ) : Type 0 where
-  pub is : (a : To) (b : ℕ) (vs : List ℕ) → SendRow a b vs k t → r ≡ replyOf a
 
 -- r is the state after the send in row k
 pub record Sends (t : List ℕ) (k : ℕ) (o : Order) (s r : State) : Type 0 where
