@@ -16,12 +16,12 @@ sends-spec =
     -- finishes-requires
     (λ c κs. search needs)
     -- returns
-    (λ c. search cases)
+    (λ c. search (cases, needs))
     -- raises-requires
     (λ c κs. search needs)
     -- returns-2
-    (λ c. search cases)
+    (λ c. search (cases, needs))
     -- raises-requires-2
     (λ c κs. search needs)
     -- returns-3
-    (λ c. search cases))
+    (λ c. search (cases, needs)))
