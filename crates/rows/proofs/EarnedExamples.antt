@@ -9,7 +9,7 @@ use Rattle.numbers.specs.Number.{lastGroup, groups, numberAt}
 use Rattle.numbers.specs.Shortest.{spelled, shortest}
 use Rattle.plan.specs.Agree.{inBytes, askedOwn, spanOf, spanAll, askedIn, askedAll, asked, agreesWith, judged}
 use Rattle.plan.specs.Found.{Found, refused, found, numberIn, fieldIn, among}
-use Rattle.plan.specs.Read.{expressionCodeIn, leafIn, expressionIn, variablesIn, tupleIn, exchangeIn, armIn, partnerIn, withExpressionIn, setIn, listIn, raiseIn, namable, faultNumberIn, codeIn, partsIn, headIn, manyIn, numberedIn, numberedScopeIn, readArm, readAct, starts, startForm, firstStarts, everyStarts, correlationIn, versionIn, rootIn, readAny, readPlan}
+use Rattle.plan.specs.Read.{expressionCodeIn, leafIn, expressionIn, variablesIn, tupleIn, exchangeIn, armIn, partnerIn, heldSendIn, askingReceiveIn, withExpressionIn, setIn, listIn, raiseIn, namable, faultNumberIn, codeIn, partsIn, headIn, manyIn, numberedIn, numberedScopeIn, readArm, readAct, starts, startForm, firstStarts, everyStarts, correlationIn, versionIn, rootIn, readAny, readPlan}
 use Rattle.plan.specs.Spell.{spell, operationCode, expressionNumbers, exchangeNumbers, ownNumbers, gapsOf, actNumbers, actsNumbers, planNumbers, spelling}
 use Rattle.plan.specs.Tree.{Plan, kind, size, sizes, count}
 use Rattle.plan.specs.Within.{variablesWithin, ascending}
@@ -68,7 +68,7 @@ allEarn :
     && (earns (headed (receiving 1 (1 ∷ 0 ∷ []) ∷ (0 ∷ []) ∷ (9 ∷ []) ∷ [])) 9
     && earns (headed ((9 ∷ 2 ∷ []) ∷ receiving 1 (1 ∷ 0 ∷ []) ∷ receiving 1 (2 ∷ 0 ∷ 1 ∷ []) ∷ (0 ∷ []) ∷ [])) 21)))))))))))))))))))
     ≡ true
-unfolding earns counted countedFrom asks activityAsks times activityHas numberedHas has line lines rowNumbers numbersFrom readRows agreedAt judged agreesWith asked askedAll askedIn askedOwn spanAll spanOf inRows inBytes ownRows expressionRows planAt rootAt headFits actAt armWith numberedScopeAt numberedAt faultNumberAt countAt namable gapsOf headAt partsAt withExpression partsFit codeAt armAt exchangeFits expressionAt expressionFits expressionHead rowIn shaped zeros variablesWithin ascending among manyIn startForm firstStarts everyStarts starts kind size sizes count spelling planNumbers actNumbers actsNumbers ownNumbers exchangeNumbers expressionNumbers operationCode spell shortest spelled lastGroup groups numberAt numberIn fieldIn expressionCodeIn leafIn expressionIn variablesIn tupleIn exchangeIn armIn partnerIn withExpressionIn setIn listIn raiseIn faultNumberIn codeIn partsIn headIn numberedIn numberedScopeIn readArm readAct correlationIn versionIn rootIn readAny readPlan
+unfolding earns counted countedFrom asks activityAsks times activityHas numberedHas has line lines rowNumbers numbersFrom readRows agreedAt judged agreesWith asked askedAll askedIn askedOwn spanAll spanOf inRows inBytes ownRows expressionRows planAt rootAt headFits actAt armWith numberedScopeAt numberedAt faultNumberAt countAt namable gapsOf headAt partsAt withExpression partsFit codeAt armAt exchangeFits expressionAt expressionFits expressionHead rowIn shaped zeros variablesWithin ascending among manyIn startForm firstStarts everyStarts starts kind size sizes count spelling planNumbers actNumbers actsNumbers ownNumbers exchangeNumbers expressionNumbers operationCode spell shortest spelled lastGroup groups numberAt numberIn fieldIn expressionCodeIn leafIn expressionIn variablesIn tupleIn exchangeIn armIn partnerIn heldSendIn askingReceiveIn withExpressionIn setIn listIn raiseIn faultNumberIn codeIn partsIn headIn numberedIn numberedScopeIn readArm readAct correlationIn versionIn rootIn readAny readPlan
 allEarn = refl
 
 -- a set with no variable: 5 by its count, where the bytes end; so the table is none of the counted ones
@@ -76,5 +76,5 @@ abbrev miscounted : List (List ℕ)
 miscounted = headed ((8 ∷ 2 ∷ []) ∷ receiving 1 (1 ∷ 0 ∷ []) ∷ (4 ∷ []) ∷ (3 ∷ []) ∷ [])
 
 otherwise : (not (counted (lines miscounted)) && (eqb (ofTable miscounted) 5 && eqb (ofBytes miscounted) 2)) ≡ true
-unfolding counted countedFrom asks activityAsks times activityHas numberedHas has line lines rowNumbers numbersFrom readRows agreedAt judged agreesWith asked askedAll askedIn askedOwn spanAll spanOf inRows inBytes ownRows expressionRows planAt rootAt headFits actAt armWith numberedScopeAt numberedAt faultNumberAt countAt namable gapsOf headAt partsAt withExpression partsFit codeAt armAt exchangeFits expressionAt expressionFits expressionHead rowIn shaped zeros variablesWithin ascending among manyIn startForm firstStarts everyStarts starts kind size sizes count spelling planNumbers actNumbers actsNumbers ownNumbers exchangeNumbers expressionNumbers operationCode spell shortest spelled lastGroup groups numberAt numberIn fieldIn expressionCodeIn leafIn expressionIn variablesIn tupleIn exchangeIn armIn partnerIn withExpressionIn setIn listIn raiseIn faultNumberIn codeIn partsIn headIn numberedIn numberedScopeIn readArm readAct correlationIn versionIn rootIn readAny readPlan
+unfolding counted countedFrom asks activityAsks times activityHas numberedHas has line lines rowNumbers numbersFrom readRows agreedAt judged agreesWith asked askedAll askedIn askedOwn spanAll spanOf inRows inBytes ownRows expressionRows planAt rootAt headFits actAt armWith numberedScopeAt numberedAt faultNumberAt countAt namable gapsOf headAt partsAt withExpression partsFit codeAt armAt exchangeFits expressionAt expressionFits expressionHead rowIn shaped zeros variablesWithin ascending among manyIn startForm firstStarts everyStarts starts kind size sizes count spelling planNumbers actNumbers actsNumbers ownNumbers exchangeNumbers expressionNumbers operationCode spell shortest spelled lastGroup groups numberAt numberIn fieldIn expressionCodeIn leafIn expressionIn variablesIn tupleIn exchangeIn armIn partnerIn heldSendIn askingReceiveIn withExpressionIn setIn listIn raiseIn faultNumberIn codeIn partsIn headIn numberedIn numberedScopeIn readArm readAct correlationIn versionIn rootIn readAny readPlan
 otherwise = refl

@@ -47,7 +47,7 @@ pub is-either : (k : ℕ) → (k ≡ 2 → ⊥) → eqb k 18 ≡ (eqb k 2 || eqb
 is-either k n = rw (ne-eqb k 2 n)
 
 -- `hear_row`
-module _ (t : List ℕ) (r : ℕ) {k : ℕ} (s : Noted) where
+module _ (t : List ℕ) (r k : ℕ) (s : Noted) where
   pub hears-receive : {b : Bool} → b ≡ (eqb k 2 || eqb k 18) → b ≡ true → {p o m : ℕ} {u : Noted} → u ≡ heard (asking p o m r) s → p ≡ cell t r 2 → o ≡ cell t r 3 → m ≡ cell t r 4
       → u ≡ heardAll (rowAsks t r k) s
   unfolding heardAll rowAsks
