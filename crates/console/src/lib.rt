@@ -11,7 +11,7 @@ use commands::Numbered;
 use commands::Worded;
 use drawing::put_error;
 pub use lists::Numbers;
-pub use lists::before_reply;
+pub use lists::before;
 pub use lists::numbers_of;
 pub use lists::reply_in;
 pub use lists::rest_of;

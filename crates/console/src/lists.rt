@@ -84,7 +84,7 @@ fn is_reply(line: &[u8], w: Word) -> bool {
 pub fn reply_in(line: &[u8], from: usize) -> Word {
     let partner = text::word_at(line, from);
     let mut w = text::word_at(line, partner.to);
-    let mut left = 9;
+    let mut left: usize = 9;
     while left > 0 {
         w = text::word_at(line, w.to);
         if is_reply(line, w) {
@@ -98,10 +98,10 @@ pub fn reply_in(line: &[u8], from: usize) -> Word {
     }
 }
 
-// A line up to its word `reply`.
-pub fn before_reply(line: &[u8], w: Word) -> &[u8] {
-    if w.from <= line.len() {
-        return &line[..w.from];
+// A line up to a place.
+pub fn before(line: &[u8], at: usize) -> &[u8] {
+    if at <= line.len() {
+        return &line[0..at];
     }
     line
 }

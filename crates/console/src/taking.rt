@@ -2,7 +2,7 @@
 use super::answering::wrong;
 use super::lists::Numbers;
 use super::lists::Reply;
-use super::lists::before_reply;
+use super::lists::before;
 use super::lists::numbers_of;
 use super::lists::reply_in;
 use super::lists::reply_of;
@@ -86,7 +86,7 @@ pub(crate) fn post(
 ) -> Desk {
     let mut numbers = [0u32; 1001];
     let reply = reply_in(line, from);
-    let n = numbers_of(before_reply(line, reply), from, 11, &mut numbers);
+    let n = numbers_of(before(line, reply.from), from, 11, &mut numbers);
     match n {
         Numbers::Wrong { why } => wrong(desk, number, why, out),
         Numbers::All { count } => posted_with(desk, line, reply, number, &numbers, count, out),

@@ -217,12 +217,7 @@ pub(crate) fn post(
 ) -> Desk {
     let mut numbers = [0u32; 1001];
     let reply = console::reply_in(line, from);
-    let n = numbers_of(
-        names,
-        console::before_reply(line, reply),
-        from,
-        &mut numbers,
-    );
+    let n = numbers_of(names, console::before(line, reply.from), from, &mut numbers);
     match n {
         Reading::Wrong { why } => console::wrong(desk, number, why, out),
         Reading::Unnamed { from, to } => unnamed(desk, number, part(line, from, to), out),
