@@ -399,8 +399,7 @@ fn read(
     names: &mut [u8; 16896],
     out: &mut [u8; 4096],
 ) -> Desk {
-    // one byte more than a file has, so that a longer one is known
-    let mut held = [0u8; 29661];
+    let mut held = [0u8; sealed::READ];
     let n = io::read_full(fd, &mut held);
     let e = unread(fd, n);
     libc::close(fd);

@@ -47,6 +47,9 @@ fn put_seal(file: &mut [u8]) {
     }
 }
 
+// How many bytes are read of a file: one more than a saved one has, so that a longer one is known.
+pub const READ: usize = 29661;
+
 // The file of a packed state and the names, in 29,660 bytes.
 pub(crate) fn put_file(file: &mut [u8], packed: &[u8], names: &[u8]) {
     put_at(file, 0, packed);
