@@ -777,11 +777,11 @@ module _ (t s : List ℕ) (words : Words t) where
       (λ u v i. scope-meets (actAt depth vars cs t) (readAct depth vars cs s) (activity-meets depth vars cs) handler n ps u v i)
 
   -- The head: its correlation variables, each below `vars` and above the one before.
-  correlation-meet : (vars : ℕ) (left least : ℕ) (read : List ℕ) {ps : List Part} {r c q : ℕ} → Inside ps r c left q
-      → (l : List ℕ) → take left (drop (r * 20 + c) t) ≡ l → Tuple ps r (ascending vars least l) (read ++ l) (correlationIn vars s left least read q)
+  correlation-meet : (vars : ℕ) (left least : ℕ) (read : List ℕ) {ps : List Part} {r c d q : ℕ} → Inside ps r c left q → c + left ≡ d
+      → (l : List ℕ) → take left (drop (r * 20 + c) t) ≡ l → Tuple ps r d 0 (ascending vars least l) (read ++ l) (correlationIn vars s left least read q)
   unfolding correlationIn ascending fieldIn
-  correlation-meet vars zero least read w l e = rw (sym e, append-nil read) (all refl (leaves w))
-  correlation-meet vars (suc left) least read {ps} {r} {c} {q} w l e =
+  correlation-meet vars zero least read w g l e = rw (sym e, append-nil read) (all refl (inside-at (omega arith) refl w))
+  correlation-meet vars (suc left) least read {ps} {r} {c} {d} {q} w g l e =
       let x = cell-read w in
       let v = cell t r c in
       let a : cell t r c ∷ take left (drop (r * 20 + (c + 1)) t) ≡ l = sym (cells-cons t r c left (omega (arith, w .rows)) (omega (arith, w .room))) ∙ e in
@@ -789,7 +789,7 @@ module _ (t s : List ℕ) (words : Words t) where
       (decide (leb least v)
       (λ i. rw (i, le-ltb v least (leb-true least v i))
       (decide (ltb v vars)
-      (λ j. rw (j, below v vars .0 j, sym (append-assoc read (v ∷ []) (take left (drop (r * 20 + (c + 1)) t)))) (correlation-meet vars left (v + 1) (read ++ (v ∷ [])) (x .inside) _ refl))
+      (λ j. rw (j, below v vars .0 j, sym (append-assoc read (v ∷ []) (take left (drop (r * 20 + (c + 1)) t)))) (correlation-meet vars left (v + 1) (read ++ (v ∷ [])) (x .inside) (omega arith) _ refl))
       (λ j. rw (j, below v vars .1 j) (wrong refl))))
       (λ i. rw (i, lt-ltb v least (leb-false least v i)) (wrong refl)))
 
@@ -825,9 +825,9 @@ module _ (t s : List ℕ) (words : Words t) where
         meets-then (activity-meets 16 vars cs true (size b) [] u v i) (λ f y z d.
         closing-meets (record { variables = vars; correlation = cs; body = b; fault = f }) r q y z d))
 
-    tuple-root : (vars : ℕ) {good : Bool} {cs : List ℕ} {x : Found (List ℕ)} → Tuple (anActivity ∷ anActivity ∷ []) 0 good cs x
+    tuple-root : (vars : ℕ) {d : ℕ} {good : Bool} {cs : List ℕ} {x : Found (List ℕ)} → Tuple (anActivity ∷ anActivity ∷ []) 0 d 0 good cs x
         → Meets [] (cond good (rootAt vars cs t 1) (refused 5 0)) (andThen x (λ us q. rootIn vars us s q))
-    tuple-root vars {cs = cs} (all {q} e h) = rw e (root-meets vars cs 1 q h)
+    tuple-root vars {cs = cs} (all {q} e h) = rw e (root-meets vars cs 1 q (leaves h))
     tuple-root vars (wrong e) = rw e same
 
     -- the head, and the whole
@@ -863,7 +863,7 @@ module _ (t s : List ℕ) (words : Words t) where
             (λ d. let f : leb (v + 1) n ≡ false = lt-leb (v + 1) n (omega (arith, leb-true n v d)) in
             let g : k - 2 ≡ n = (let m = used-low (3 + n) (omega (arith, leb-true n v d, leb-true v 16 c)) in omega (arith, e, m)) in
             rw (d, f, w .shape, and-true (ascending v 0 (tuple t 0 3)))
-            (tuple-root v (correlation-meet v n 0 [] (inside-as refl g (z .inside)) (tuple t 0 3) refl)))
+            (tuple-root v (correlation-meet v n 0 [] (inside-as refl g (z .inside)) refl (tuple t 0 3) refl)))
             (λ d. let f : leb (v + 1) n ≡ true = le-leb (v + 1) n (omega (arith, leb-false n v d)) in rw (d, f) same)))
             (λ c. rw (b, c, le-ltb v 1 (leb-true 1 v b), le-leb 17 v (omega (arith, leb-false v 16 c))) same))
             (λ b. rw (b, lt-ltb v 1 (omega (arith, leb-false 1 v b))) same)))

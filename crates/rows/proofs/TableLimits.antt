@@ -132,7 +132,7 @@ module _ (t : List ℕ) (words : Words t) where
         finds-code k 13 (omega arith) (λ e. finds-found (raise-within (cell t r 2) _ (rw e at h))) (λ z.
         finds-code k 14 (omega arith) (λ e. finds-found (rw (sym (and-true handler) ∙ rw e at g))) (λ z.
         finds-cond (eqb k 17) (λ f. let e = eqb-true k 17 f in finds-found (held-within r k next w (rw e at h))) (λ f.
-        let e = last-code k l z f in finds-found (asking-within r k next w (rw e at h)))))))))))))))))))
+        let e = last-code k l z f in finds-found (asking-within r k next w (rw e at h))))))))))))))))))
 
     head-within : (depth n r : ℕ) → Finds (λ h q. Kept h q × (n < 256)) (headAt vars cs t handler depth n r)
     unfolding headAt
