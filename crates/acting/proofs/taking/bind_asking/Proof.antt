@@ -19,8 +19,6 @@ bind-asking-spec =
     (λ c. search needs)
     -- element-copy-out-binding
     (λ c. search needs)
-    -- mul-binding-3
-    (λ c. search needs)
     -- array-read-binding
     (λ c. search needs)
     -- binding-requires
