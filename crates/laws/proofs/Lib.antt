@@ -12,3 +12,4 @@ pub mod Replies
 pub mod Counting
 mod Seventeen
 mod Spoilt
+mod Answered

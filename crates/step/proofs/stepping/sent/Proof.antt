@@ -4,42 +4,36 @@ use Rattle.step.proofs.Taken.{mail-adds, mail-raises}
 use Rattle.step.proofs.stepping.sent.Statement.{statement}
 use Rattle.step.proofs.stepping.sent.Tie as tie
 
-ruleset cases = (mail-adds, mail-raises)
-
 pub sent-spec : {M : Type 1} → statement M
 sent-spec =
     tie.close (tie.spec
-    -- all-bound-requires
+    -- may-send-requires
     (λ c κs. search needs)
     -- sent-values-requires
     (λ c κs. search needs)
-    -- mul-t9
+    -- partner-to-requires
+    (λ c κs. search needs)
+    -- mul-operation
     (λ c. search needs)
-    -- add-t10
+    -- add-operation
     (λ c. search needs)
-    -- mul-t11
+    -- mul-operation-2
     (λ c. search needs)
-    -- element-copy-out-t14
+    -- element-copy-out-operation
     (λ c. search needs)
-    -- mul-t15
+    -- mul-count
     (λ c. search needs)
-    -- add-t16
+    -- add-count
     (λ c. search needs)
-    -- mul-t17
+    -- mul-count-2
     (λ c. search needs)
-    -- element-copy-out-t20
+    -- element-copy-out-count
     (λ c. search needs)
-    -- mul-t21
-    (λ c. search needs)
-    -- add-t22
-    (λ c. search needs)
-    -- mul-t23
-    (λ c. search needs)
-    -- element-copy-out-t26
-    (λ c. search needs)
+    -- sent-reply-requires
+    (λ c κs. search needs)
     -- with-message-requires
     (λ c κs. search needs)
     -- returns
-    (λ c. search cases)
+    (λ c. search (mail-adds, needs))
     -- returns-2
-    (λ c. search cases))
+    (λ c. search (mail-raises, needs)))
