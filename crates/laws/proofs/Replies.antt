@@ -84,7 +84,8 @@ replies-stored p next s t c x f n e partner v operation vs d z h i j =
     let g = chosen-fine p s c x e .good .inside in
     let w = act-stores partner v operation vs (gives (getD (s .messages) (x .place) noMessage)) (actor p (s .orders) (x .slot)) i j
     (actAt p (x .activity)) (x .activity) (sym (plan-doing p (x .activity) g) ∙ d) (lower-at p (x .activity) (plan-within f) g) in
-    let y = subst (λ (u : End). Leaves u _ (getD (step c s t .state .orders) (x .slot) noOrder)) z (variables-move p next s t c x f n e) in
+    let q = variablesAfter (ownOf (actAt p (x .activity))) (gives (getD (s .messages) (x .place) noMessage)) (actor p (s .orders) (x .slot)) in
+    let y = subst (λ (u : End). Leaves u q (getD (step c s t .state .orders) (x .slot) noOrder)) z (variables-move p next s t c x f n e) in
     (rw (y .1) (w .0), rw (y .0) (w .1 ∙ gives-reply (getD (s .messages) (x .place) noMessage) h))
 
 pub replies-sent : RepliesSent

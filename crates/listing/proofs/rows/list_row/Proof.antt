@@ -32,11 +32,11 @@ list-row-spec =
     (λ c.
     let w = c .before .before .before .before .before .before .before .before .before in
     let l = w .before in
-    omega (arith, w .loop-test .taken, l .loop .inv .near, l .loop .inv .long, l .before .before .good .1 .1 .1 .1 .1 .1 .1 .1 .1 .1 .1 .1 .1 .1 .1 .0))
+    omega (arith, w .loop-test .taken, l .loop .inv .near, l .loop .inv .long, l .before .before .good .1 .1 .1 .1 .1 .1 .1 .1 .1 .1 .1 .1 .1 .1 .1 .1 .0))
     -- add-at
     (λ c.
     let w = c .before .before .before .before .before .before .before .before .before in
-    omega (arith, w .loop-test .taken, w .before .loop .inv .long, w .before .before .before .good .1 .1 .1 .1 .1 .1 .1 .1 .1 .1 .1 .1 .1 .1 .1 .0))
+    omega (arith, w .loop-test .taken, w .before .loop .inv .long, w .before .before .before .good .1 .1 .1 .1 .1 .1 .1 .1 .1 .1 .1 .1 .1 .1 .1 .1 .0))
     -- loop-less
     (λ c.
     let w = c .before .before .before .before .before .before .before .before .before in
