@@ -199,8 +199,28 @@ fn drawn(plans: &[Vec<u8>]) -> Vec<String> {
     texts
 }
 
-/// A word for a number, which no other number has.
+/// A word for a number, which no other number has; at times a word of the drawing itself.
 fn name(random: &mut Random, number: usize) -> String {
+    const OWN: [&str; 15] = [
+        "with",
+        "reply",
+        "to",
+        "into",
+        "in",
+        "the",
+        "partner",
+        "operation",
+        "send",
+        "receive",
+        "from",
+        "arm",
+        "root",
+        "set",
+        "raise",
+    ];
+    if number < OWN.len() && random.percent(20) {
+        return OWN[number].to_string();
+    }
     const WORDS: [&str; 12] = [
         "stepping",
         "to",
