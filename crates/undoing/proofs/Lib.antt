@@ -96,5 +96,11 @@ pub mod Finding
 pub mod Locating
 pub mod OfOrder
 pub mod OneTime
+pub mod Stacks
+pub mod Takers
+pub mod Remaining
+pub mod Heads
+pub mod Noting
 pub mod NeverTwice
+pub mod LatestTold
 pub mod AnyScopeExamples

@@ -60,7 +60,7 @@ unfolding only
 many-more f e l = decide (f e) (λ t. rw t (omega arith)) (λ t. rw t (omega arith))
 
 -- where one began there is one
-some-many : (f : Event → Bool) (l : List Event) → some f l ≡ true → 1 ≤ howMany f l
+pub some-many : (f : Event → Bool) (l : List Event) → some f l ≡ true → 1 ≤ howMany f l
 unfolding some only
 some-many f [] h = absurd (false≢true h)
 some-many f (e ∷ l) h = decide (f e) (λ t. rw t (omega arith)) (λ t. rw t (some-many f l (rw t at h)))
@@ -162,9 +162,19 @@ one-most true = omega arith
 one-most false = omega arith
 
 -- what is written down of a step, and how often it closes; of a raise in place of a receive nothing, and never
-abbrev wrote : Actor → (i k : ℕ) → ℕ
+abbrev pub wrote : Actor → (i k : ℕ) → ℕ
 wrote itsOwn i k = oneIf (eqb i k)
 wrote inPlace i k = 0
+
+-- how often a step closes a scope
+pub acted-shut : (p : Plan) (e : ℕ) (actor : Actor) (k : ℕ) (o : Order) → Fitting actor p k → howMany (isClosedOf e) (acted actor p k o .log) ≤ wrote actor e k
+unfolding only isClosedOf
+acted-shut p e itsOwn k o f =
+    let a = closed-deeds e (acted itsOwn p k o .log) in
+    let b = ap (λ (l : List Event). howMany (isClosedOf e) l) (acted-deeds p k o) in let c = deed-at-shut p e k o in omega arith
+acted-shut p e inPlace k o f =
+    let a = closed-deeds e (acted inPlace p k o .log) in
+    let b : howMany (isClosedOf e) (only isDeed (acted inPlace p k o .log)) ≡ 0 = ap (λ (l : List Event). howMany (isClosedOf e) l) (raised-deeds p k o f) in omega arith
 
 -- One step that takes one scope back.
 module _ (p : Plan) (h : Promised p) (e t : ℕ) (takes : some (eqb t) (backOf p e) ≡ true) where
@@ -194,14 +204,6 @@ module _ (p : Plan) (h : Promised p) (e t : ℕ) (takes : some (eqb t) (backOf p
     shut : shuts (m .log) ≤ C
     comes : m .end ≡ None → A + mark (m .order .marks) ≤ B + begins (m .log)
 
-  acted-shut : (actor : Actor) (k : ℕ) (o : Order) → Fitting actor p k → shuts (acted actor p k o .log) ≤ wrote actor e k
-  unfolding only isClosedOf
-  acted-shut itsOwn k o f =
-      let a = closed-deeds e (acted itsOwn p k o .log) in
-      let b = ap (λ (l : List Event). shuts l) (acted-deeds p k o) in let c = deed-at-shut p e k o in omega arith
-  acted-shut inPlace k o f =
-      let a = closed-deeds e (acted inPlace p k o .log) in let b : shuts (only isDeed (acted inPlace p k o .log)) ≡ 0 = ap (λ (l : List Event). shuts l) (raised-deeds p k o f) in omega arith
-
   -- where it is the step it was to come
   was-left : (actor : Actor) (k : ℕ) (o : Order) → Awaited p (o .marks) k → Standing p o → wrote actor t k ≤ mark (o .marks)
   was-left itsOwn k o w st =
@@ -218,7 +220,7 @@ module _ (p : Plan) (h : Promised p) (e t : ℕ) (takes : some (eqb t) (backOf p
   acted-kept : (actor : Actor) (k : ℕ) (o o′ : Order) (past : List Event) (A B : ℕ) → Fitting actor p k → Alike p o o′ → Awaited p (o .marks) k → Standing p o → HoldsAt p (momentOf p o) past
       → A + mark (o .marks) ≤ B → Kept (A + wrote actor t k) B (wrote actor e k) (acted actor p k o′)
   acted-kept actor k o o′ past A B f like w st g c =
-      record { unstarted = log-starts actor p k o′ f; shut = acted-shut actor k o′ f; comes = λ d. go (live d) }
+      record { unstarted = log-starts actor p k o′ f; shut = acted-shut p e actor k o′ f; comes = λ d. go (live d) }
     where
       m : Moved
       m = acted actor p k o′

@@ -15,7 +15,7 @@ use Rattle.order.specs.Event.{Event, started, began, closed, faulted, stopped, 
 use Rattle.order.specs.Scope.{rootOf}
 use Rattle.order.specs.Acting.{Actor, itsOwn, inPlace, stepIn}
 use Rattle.undoing.specs.Demand3.{Inner, scopesOf, insideOf, isBegin, closedBy, closingsOf}
-use Rattle.undoing.specs.Ties.{Place, nameOf, isDeed, raisedIf, raisedBy, deedOf, deedIn, deedAmong}
+use Rattle.undoing.specs.Ties.{Place, nameOf, beyondOf, isDeed, raisedIf, raisedBy, deedOf, deedIn, deedAmong}
 use Rattle.undoing.specs.Answered.{backIn, backAmong, backOf, isClose, putting}
 use Rattle.undoing.proofs.Parts.{both, decide, every-so, some-none}
 use Rattle.undoing.proofs.Accounts.{Known}
@@ -63,28 +63,30 @@ mutual
       (λ i. let j = later-directly a l c t d i in deed-among-is a l c t o false (le-ltb t (c + size a) (directly-range-in l (c + size a) t j .0)) ∙ close-deeds l (c + size a) t o y j)
 
 -- a number of a tree that no scope directly in it has
-abbrev Apart : Act → (k e : ℕ) → Bool
+abbrev pub Apart : Act → (k e : ℕ) → Bool
 Apart a k e = not (directly a k e) && (leb k e && ltb e (k + size a))
 
 abbrev ApartIn : Acts → (c e : ℕ) → Bool
 ApartIn l c e = not (directlyIn l c e) && (leb c e && ltb e (c + sizes l))
 
 -- A scope directly in a tree, as the plan has it; where it has no undo part nothing takes it back, and what closed in it stands nowhere directly in the tree.
-record CloseAt (p : Plan) (n : Name) (back : List ℕ) (apart : ℕ → Bool) (t : ℕ) : Type 0 where
-  its : Inner
-  known : Known p its
-  number : its .number ≡ t
-  around : its .around ≡ n
-  none-back : its .undoes ≡ false → back ≡ []
-  handed : its .undoes ≡ false → (past : List Event) → every apart (closingsOf p (inner t) past) ≡ true
+pub record CloseAt (p : Plan) (n : Name) (ns : List Name) (back : List ℕ) (apart : ℕ → Bool) (t : ℕ) : Type 0 where
+  pub its : Inner
+  pub known : Known p its
+  pub number : its .number ≡ t
+  pub around : its .around ≡ n
+  pub beyond : its .beyond ≡ ns
+  pub none-back : its .undoes ≡ false → back ≡ []
+  pub handed : its .undoes ≡ false → (past : List Event) → every apart (closingsOf p (inner t) past) ≡ true
 
-close-so : {p : Plan} {n : Name} {back back′ : List ℕ} {f g : ℕ → Bool} {t : ℕ} → CloseAt p n back f t → back′ ≡ back → ((e : ℕ) → f e ≡ true → g e ≡ true) → CloseAt p n back′ g t
+close-so : {p : Plan} {n : Name} {ns : List Name} {back back′ : List ℕ} {f g : ℕ → Bool} {t : ℕ} → CloseAt p n ns back f t → back′ ≡ back → ((e : ℕ) → f e ≡ true → g e ≡ true) → CloseAt p n ns back′ g t
 close-so {p} {f = f} {g} {t} w e h =
     record {
       its = w .its;
       known = w .known;
       number = w .number;
       around = w .around;
+      beyond = w .beyond;
       none-back = λ u. e ∙ w .none-back u;
       handed = λ u past. every-so f g h (closingsOf p (inner t) past) (w .handed u past);
     }
@@ -122,21 +124,22 @@ rest-back {z = true} h b k e = absurd (false≢true (sym e))
 rest-back {z = false} h b k e = back-without h b k k (eq-eqb k k refl)
 
 mutual
-  close-at : {p : Plan} {x : Place} {a : Act} {k : ℕ} → Sits p x a k → (t : ℕ) → directly a k t ≡ true → CloseAt p (nameOf x) (backIn a k t) (Apart a k) t
+  pub close-at : {p : Plan} {x : Place} {a : Act} {k : ℕ} → Sits p x a k → (t : ℕ) → directly a k t ≡ true → CloseAt p (nameOf x) (beyondOf x) (backIn a k t) (Apart a k) t
   close-at (sits-part {own = own} {within} {k} s g v y l) t d =
       close-so (close-at-in l t (sym (directly-is own within k t false s) ∙ d)) (back-part own within k t s) (λ e. part-apart own within k e s)
   close-at {p = p} (sits-scope {xs} {v = z₀} {n} {c} {ns} {b} {f} {u} {k} kn v i sb z) t d =
-      subst (λ (j : ℕ). CloseAt p n (backIn (act (scope xs z₀) (trio b f u)) k j) (Apart (act (scope xs z₀) (trio b f u)) k) j) (eqb-true k t (direct-scope xs z₀ (trio b f u) k t d))
+      subst (λ (j : ℕ). CloseAt p n ns (backIn (act (scope xs z₀) (trio b f u)) k j) (Apart (act (scope xs z₀) (trio b f u)) k) j) (eqb-true k t (direct-scope xs z₀ (trio b f u) k t d))
       (record {
         its = innerAt xs z₀ k n ns (trio b f u);
         known = kn;
         number = refl;
         around = refl;
+        beyond = refl;
         none-back = λ e. rest-back z b k e;
         handed = λ e past. every-so (reaches b (k + 1)) (Apart (act (scope xs z₀) (trio b f u)) k) (λ j h. scope-apart xs z₀ b f u k j h) (closingsOf p (inner k) past) (closings-reach p past sb i);
       })
 
-  close-at-in : {p : Plan} {x : Place} {l : Acts} {c : ℕ} → SitsIn p x l c → (t : ℕ) → directlyIn l c t ≡ true → CloseAt p (nameOf x) (backAmong l c t) (ApartIn l c) t
+  close-at-in : {p : Plan} {x : Place} {l : Acts} {c : ℕ} → SitsIn p x l c → (t : ℕ) → directlyIn l c t ≡ true → CloseAt p (nameOf x) (beyondOf x) (backAmong l c t) (ApartIn l c) t
   close-at-in (sits-none {c = c}) t d = absurd (none-directly c t d)
   close-at-in (sits-more {a = a} {l} {c} s y) t d =
       decide (directly a c t)
@@ -170,7 +173,7 @@ module _ (p : Plan) (h : Seat p (rootOf p)) where
       ap (λ (l : List ℕ). duesIn (l ++ c)) (found w) ∙ (by-undo w d (w .its .undoes) refl ∙ rw e))
       (λ e. rw (e, some-none (λ x. eqb (x .number) k) (insideOf p root) e))
     where
-      found : (w : CloseAt p root (backIn (p .body) 0 k) (Apart (p .body) 0) k)
+      found : (w : CloseAt p root (h .beyond) (backIn (p .body) 0 k) (Apart (p .body) 0) k)
           → closedBy (insideOf p root) (λ j. closingsOf p (inner j) past) (closed k) ≡ cond (w .its .undoes) (k ∷ []) (closingsOf p (inner k) past)
       found w =
           closed-inside p root (λ j. closingsOf p (inner j) past) k
@@ -178,7 +181,7 @@ module _ (p : Plan) (h : Seat p (rootOf p)) where
           (ap (λ (j : ℕ). only (λ x. eqb (x .number) j) (scopesOf p)) (sym (w .number)) ∙ w .known .byNumber)
           ∙ rw (w .around, w .number, append-nil))
 
-      by-undo : (w : CloseAt p root (backIn (p .body) 0 k) (Apart (p .body) 0) k) → directly (p .body) 0 k ≡ true → (b : Bool) → w .its .undoes ≡ b
+      by-undo : (w : CloseAt p root (h .beyond) (backIn (p .body) 0 k) (Apart (p .body) 0) k) → directly (p .body) 0 k ≡ true → (b : Bool) → w .its .undoes ≡ b
           → duesIn (cond (w .its .undoes) (k ∷ []) (closingsOf p (inner k) past) ++ c) ≡ putting (backIn (p .body) 0 k) (duesIn c)
       by-undo w d true u = rw (u, d)
       by-undo w d false u = rw (u, w .none-back u) (apart-dues (p .body) 0 (closingsOf p (inner k) past) c (w .handed u past))
