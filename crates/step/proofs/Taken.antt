@@ -98,7 +98,7 @@ module _ (t : List ℕ) (k : ℕ) where
   reply-none e = rw (ne-eqb (getD t (k * 13) 0) 17 e)
 
 -- `sent`
-module _ {t : List ℕ} {k : ℕ} {o : Order} {b : Bool} (a : MaySend t k (o .bound) (o .values) b) (g : length (o .bound) ≡ 16) (d : length (o .values) ≡ 16) (s : State) where
+module _ {t : List ℕ} {k : ℕ} (o : Order) {b : Bool} (a : MaySend t k (o .bound) (o .values) b) (g : length (o .bound) ≡ 16) (d : length (o .values) ≡ 16) (s : State) where
   holds : Values o (o .values)
   holds = record { same = refl; sixteen = d }
 
@@ -133,10 +133,10 @@ module _ {t : List ℕ} {k : ℕ} {o : Order} {b : Bool} (a : MaySend t k (o .bo
 module _ {t : List ℕ} {k : ℕ} {o : Order} {b : Bool} (a : MaySend t k (o .bound) (o .values) b) (g : length (o .bound) ≡ 16) (d : length (o .values) ≡ 16) (l : List Message) (w : ℕ) where
   pub mail-adds : b ≡ true → {xs : List ℕ} {x y : ℕ} {r : Mail} → SentValues t k o xs → PartnerTo t k (o .values) x → y ≡ replyOf (toAt t k)
       → Adds (record { partner = x; operation = getD t (k * 13 + 2) 0; count = getD t (k * 13 + 3) 0; values = xs; reply = y }) l w r → SendsMail t k o l w r
-  mail-adds e v u z q = record { is = λ s f h. send-adds a g d s e v u z (q .is s f h) }
+  mail-adds e v u z q = record { is = λ s f h. send-adds o a g d s e v u z (q .is s f h) }
 
   pub mail-raises : b ≡ false → SendsMail t k o l w (record { messages = l; waiting = w })
-  mail-raises e = record { is = λ s f h. subst (Sends t k o s) (sym (kept-mail s f h)) (send-raises a g d s e) }
+  mail-raises e = record { is = λ s f h. subst (Sends t k o s) (sym (kept-mail s f h)) (send-raises o a g d s e) }
 
 -- `messages_after`
 module _ (t : List ℕ) (n : ℕ) (s : State) (o : Order) (x j : ℕ) where

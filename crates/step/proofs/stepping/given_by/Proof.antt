@@ -7,19 +7,11 @@ use Rattle.step.proofs.stepping.given_by.Tie as tie
 pub given-by-spec : {M : Type 1} → statement M
 given-by-spec =
     tie.close (tie.spec
-    -- mul-result
-    (λ c. search needs)
     -- element-copy-out-result
-    (λ c. search needs)
-    -- mul-result-2
     (λ c. search needs)
     -- element-copy-out-result-2
     (λ c. search needs)
-    -- mul-result-3
-    (λ c. search needs)
     -- element-copy-out-result-3
-    (λ c. search needs)
-    -- mul-result-4
     (λ c. search needs)
     -- element-copy-out-result-4
     (λ c. search needs)
