@@ -16,7 +16,7 @@ use Rattle.plan.specs.declared.Own as code
 use Rattle.plan.specs.Answers.{fieldOf, tupleOf, NodesRead, messageOwn, expressionOwn, listOwn, ownAnswer, OwnPut, OwnRead}
 use Rattle.plan.specs.Fits.{NumberFits, FieldFits}
 use Rattle.plan.specs.Found.{Found, refused, found, andThen, numberIn, fieldIn, among}
-use Rattle.plan.specs.Nodes.{Base, Room, IsMessage, sends, receives, isArm, IsExpression, sets, chooses, repeats, IsList, isSequence, isFlow, isPick, nodeHeadIn}
+use Rattle.plan.specs.Nodes.{Base, Room, IsMessage, sends, receives, holds, asks, isArm, IsExpression, sets, chooses, repeats, IsList, isSequence, isFlow, isPick, nodeHeadIn}
 use Rattle.plan.specs.Read.{Head, head, expressionIn, tupleIn, exchangeIn, armIn, partnerIn, heldSendIn, askingReceiveIn, withExpressionIn, setIn, listIn, raiseIn, isCode, isScopeCode, codeIn, partsIn, headIn}
 use Rattle.plan.specs.Store.{store, padded, chosen}
 use Rattle.plan.specs.Table.{row, rowOf, putRow, putOwn, putOwnNodes, putNodes, ownNodes, nodesOf}
@@ -190,6 +190,8 @@ message-row : (g : Found Head) (at n m : ℕ) (t u : List ℕ) (p o : ℕ) (vs :
 unfolding messageOwn kind ownNodes putOwnNodes rowOf
 message-row g at n m t u p o vs sends e w = own-row g at n m t u (messageOwn 1 p o vs) e refl refl refl w
 message-row g at n m t u p o vs receives e w = own-row g at n m t u (messageOwn 2 p o vs) e refl refl refl w
+message-row g at n m t u p o vs holds e w = own-row g at n m t u (messageOwn 17 p o vs) e refl refl refl w
+message-row g at n m t u p o vs asks e w = own-row g at n m t u (messageOwn 18 p o vs) e refl refl refl w
 message-row g at n m t u p o vs isArm e w = own-row g at n m t u (messageOwn 255 p o vs) e refl refl refl w
 
 -- `expression_own`

@@ -1,5 +1,4 @@
 // The numbers of a plan, each with its rule, and tuples of variables.
-use super::Exchange;
 use super::Field;
 use super::Tuple;
 use super::reading;
@@ -9,7 +8,7 @@ ghost use lib.Dec.{eqb};
 ghost use mathlib.Core.Bool.{_&&_};
 ghost use mathlib.Core.List.{[]};
 ghost use mathlib.Core.Path.{_≡_};
-ghost use Rattle.plan.specs.Answers.{fieldOf, tupleOf, exchangedIn, ExchangeRead};
+ghost use Rattle.plan.specs.Answers.{fieldOf, tupleOf};
 ghost use Rattle.plan.specs.Fits.{NumberFits, FieldFits};
 ghost use Rattle.plan.specs.Found.{refused, numberIn, fieldIn};
 ghost use Rattle.plan.specs.Read.{variablesIn, tupleIn};
@@ -124,48 +123,5 @@ pub(crate) fn tuple_at(s: &[u8], at: usize, vars: u32, once: bool) -> Tuple
     match f {
         Field::Refused { number, place } => no_tuple(number, place),
         Field::Got { value, next } => variables_at(s, next, value, vars, once),
-    }
-}
-
-// A refused exchange.
-fn no_exchange(number: u32, place: usize) -> Exchange
-    ensures { λ r. ⌜ ExchangeRead (refused number place) r ⌝ }
-{
-    Exchange {
-        out: Field::Refused { number, place },
-        first: 0,
-        operation: 0,
-        variables: [0u32; 4],
-    }
-}
-
-// What an exchange with a reply partner says before it: a first number below `limit`, the operation and the variables.
-pub(crate) fn exchange_at(s: &[u8], at: usize, limit: u32, vars: u32, once: bool) -> Exchange
-    requires { ⌜ vars ≤ 16 ⌝ }
-    ensures { λ r. ⌜ ExchangeRead (exchangedIn limit vars once (now (s .entry)) at) r ⌝ }
-{
-    let f = field_at(s, at, 0, limit);
-    match f {
-        Field::Refused { number, place } => no_exchange(number, place),
-        Field::Got { value: first, next } => {
-            let o = field_at(s, next, 0, 64);
-            match o {
-                Field::Refused { number, place } => no_exchange(number, place),
-                Field::Got {
-                    value: operation,
-                    next: after,
-                } => {
-                    let t = tuple_at(s, after, vars, once);
-                    let out = t.out;
-                    let variables = t.variables;
-                    Exchange {
-                        out,
-                        first,
-                        operation,
-                        variables,
-                    }
-                }
-            }
-        }
     }
 }

@@ -8,6 +8,7 @@ mod kinds;
 mod named;
 mod owns;
 mod reading;
+mod replies;
 mod root;
 pub mod table;
 mod tree;
@@ -33,15 +34,6 @@ pub enum Field {
 // What reading a tuple finds: its count as the value, and beside it its variables, with zeros behind them.
 pub struct Tuple {
     pub out: Field,
-    pub variables: [u32; 4],
-}
-
-// What reading a send or a receive with a reply partner finds, up to that one: the count of its variables as the value, and beside it its first number, which is
-// its partner or the variable that holds it, its operation and its variables, with zeros behind them.
-pub struct Exchange {
-    pub out: Field,
-    pub first: u32,
-    pub operation: u32,
     pub variables: [u32; 4],
 }
 

@@ -3,13 +3,13 @@ use super::Field;
 use super::Nodes;
 use super::Own;
 use super::expressions::expression_at;
-use super::fields::exchange_at;
 use super::fields::field_at;
 use super::fields::number_at;
 use super::fields::tuple_at;
 use super::kind;
 use super::kinds::is_scope;
-use super::named::is_among;
+use super::replies::asking_receive_own;
+use super::replies::held_send_own;
 use super::table::Table;
 use super::table::write_row;
 ghost use Prim.Native.Nat.{_≤_, _<_};
@@ -19,10 +19,8 @@ ghost use mathlib.Core.List.{[]};
 ghost use mathlib.Core.Path.{_≡_};
 ghost use Rattle.plan.specs.Answers.{fieldOf, messageOwn, expressionOwn, listOwn, OwnRead};
 ghost use Rattle.plan.specs.Fits.{NumberFits};
-ghost use Rattle.plan.specs.Found.{among};
 ghost use Rattle.plan.specs.Nodes.{Base, Room, IsMessage, IsExpression, IsList, nodeHeadIn};
-ghost use Rattle.plan.specs.Numbering.{backwards, eight};
-ghost use Rattle.plan.specs.Read.{exchangeIn, partnerIn, armIn, heldSendIn, askingReceiveIn, withExpressionIn, setIn, listIn, raiseIn, isCode, isScopeCode, codeIn, partsIn, headIn};
+ghost use Rattle.plan.specs.Read.{exchangeIn, partnerIn, armIn, withExpressionIn, setIn, listIn, raiseIn, isCode, isScopeCode, codeIn, partsIn, headIn};
 ghost use Rattle.plan.specs.Store.{chosen};
 ghost use Rattle.plan.specs.Table.{row, putRow};
 
@@ -49,8 +47,8 @@ fn plain_own(
     }
 }
 
-// Operation, count and variables.
-fn exchange_own(
+// Operation, count and variables; of a send or a receive with a reply partner its row is written as if that were 0.
+pub(crate) fn exchange_own(
     s: &[u8],
     at: usize,
     kind: u32,
@@ -150,135 +148,6 @@ fn arm_own(s: &[u8], at: usize, vars: u32, n: usize, m: usize, table: &mut Table
                 };
             }
             exchange_own(s, next, kind::ARM, partner, true, 1, vars, n, m, at, table)
-        }
-    }
-}
-
-// A send to the partner that a variable holds: what it exchanges, and the reply partner.
-fn held_send_own(
-    s: &[u8],
-    at: usize,
-    vars: u32,
-    n: usize,
-    m: usize,
-    place: usize,
-    table: &mut Table,
-) -> Own
-    requires { ⌜ Room (now s) vars n m place at ⌝ }
-    ensures { λ r. ⌜ OwnRead (heldSendIn vars (now (s .entry)) at) place n m r (now (table .entry)) (now (table .exit)) ⌝ }
-{
-    let x = exchange_at(s, at, vars, vars, false);
-    let out = x.out;
-    match out {
-        Field::Refused { number, place } => Own::Refused { number, place },
-        Field::Got { value: count, next } => {
-            let f = field_at(s, next, 0, 64);
-            match f {
-                Field::Refused { number, place } => Own::Refused { number, place },
-                Field::Got {
-                    value: reply,
-                    next: after,
-                } => {
-                    let variables = x.variables;
-                    write_row(
-                        table,
-                        n,
-                        kind::HELD_SEND,
-                        reply,
-                        x.operation,
-                        count,
-                        variables,
-                        x.first,
-                        0,
-                        place,
-                    );
-                    Own::Read {
-                        kind: kind::HELD_SEND,
-                        within: 0,
-                        next: after,
-                        nodes: m,
-                    }
-                }
-            }
-        }
-    }
-}
-
-// Whether a variable may not store a reply partner: one for correlation, or among the others.
-fn spoken_for(variable: u32, correlation: &[u8; 16], variables: [u32; 4], count: u32) -> bool
-    requires { ⌜ (variable < 16) × (count ≤ 4) ⌝ }
-    ensures { λ r. ⌜ r ≡ (among variable (chosen 0 (now (correlation .entry))) || among variable (backwards count (eight variables))) ⌝ }
-{
-    let i = variable as usize;
-    if correlation[i] == 1 {
-        return true;
-    }
-    let others = [
-        variables[0],
-        variables[1],
-        variables[2],
-        variables[3],
-        0,
-        0,
-        0,
-        0,
-    ];
-    is_among(variable, others, count as usize)
-}
-
-// A receive that stores the reply partner: what it exchanges, and the variable.
-fn asking_receive_own(
-    s: &[u8],
-    at: usize,
-    vars: u32,
-    correlation: &[u8; 16],
-    n: usize,
-    m: usize,
-    place: usize,
-    table: &mut Table,
-) -> Own
-    requires { ⌜ Room (now s) vars n m place at ⌝ }
-    ensures { λ r. ⌜ OwnRead (askingReceiveIn vars (chosen 0 (now (correlation .entry))) (now (s .entry)) at) place n m r (now (table .entry)) (now (table .exit)) ⌝ }
-{
-    let x = exchange_at(s, at, 64, vars, true);
-    let out = x.out;
-    match out {
-        Field::Refused { number, place } => Own::Refused { number, place },
-        Field::Got { value: count, next } => {
-            let f = field_at(s, next, 0, vars);
-            match f {
-                Field::Refused { number, place } => Own::Refused { number, place },
-                Field::Got {
-                    value: variable,
-                    next: after,
-                } => {
-                    let variables = x.variables;
-                    if spoken_for(variable, correlation, variables, count) {
-                        return Own::Refused {
-                            number: 5,
-                            place: next,
-                        };
-                    }
-                    write_row(
-                        table,
-                        n,
-                        kind::ASKING_RECEIVE,
-                        x.first,
-                        x.operation,
-                        count,
-                        variables,
-                        variable,
-                        0,
-                        place,
-                    );
-                    Own::Read {
-                        kind: kind::ASKING_RECEIVE,
-                        within: 0,
-                        next: after,
-                        nodes: m,
-                    }
-                }
-            }
         }
     }
 }

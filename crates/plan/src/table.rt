@@ -1,9 +1,9 @@
 // The table of a plan (specs/Table.antt): how it is laid out, a row for each activity and arm, then a flag for each partner, then a pair for each node of the
 // expressions; and the stores into it.
 use super::kind;
-ghost use Prim.Native.Nat.{_≤_, _<_};
+ghost use Prim.Native.Nat.{_+_, _*_, _≤_, _<_};
 ghost use lib.Dec.{eqb};
-ghost use lib.ListN.{getD};
+ghost use lib.ListN.{getD, set};
 ghost use mathlib.Core.Bool.{_||_};
 ghost use mathlib.Core.List.{[], _∷_};
 ghost use mathlib.Core.Path.{_≡_};
@@ -138,6 +138,14 @@ pub(crate) fn write_numbers(
     table[b + 8] = numbers[6];
     table[b + 9] = numbers[7];
     table[b + PLACE] = place as u32;
+}
+
+// Column c of row n.
+pub(crate) fn write_column(table: &mut Table, n: usize, c: usize, x: u32)
+    requires { ⌜ (n < 256) × (c < 13) ⌝ }
+    ensures { λ _. ⌜ now (table .exit) ≡ set (now (table .entry)) (n * 13 + c) x ⌝ }
+{
+    table[n * WIDTH + c] = x;
 }
 
 // The end and the stop of row n: the number after its last activity, and the place after its last byte.
