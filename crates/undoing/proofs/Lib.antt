@@ -102,5 +102,8 @@ pub mod Remaining
 pub mod Heads
 pub mod Noting
 pub mod NeverTwice
+pub mod Lying
+pub mod LeftAlone
+pub mod AloneTold
 pub mod LatestTold
 pub mod AnyScopeExamples
