@@ -117,7 +117,7 @@ static void offsets(void)
     same(memcmp(state, MOONHALYARD_MARK, 8), 0);
     same(moonhalyard_long(state + MOONHALYARD_PLAN_LENGTH), plan_length);
     same(memcmp(state + MOONHALYARD_PLAN, plan, plan_length), 0);
-    same(moonhalyard_post(state, sizeof state, 0, 0, 3, 101, 7, 40, 0, 0), 0);
+    same(moonhalyard_post(state, sizeof state, 5, 0, 3, 101, 7, 40, 0, 10), 0);
     same(moonhalyard_post(state, sizeof state, 63, 62, 4, 1, 2, 3, UINT32_MAX, 61), 0);
     same(moonhalyard_post(state, sizeof state, 63, 62, 4, 1, 2, 3, UINT32_MAX, 64), MOONHALYARD_MESSAGE_RULE);
     same(moonhalyard_long(state + MOONHALYARD_WAITING), 2);
@@ -128,7 +128,7 @@ static void offsets(void)
     same(moonhalyard_number(message + MOONHALYARD_MESSAGE_VALUES), 1);
     same(moonhalyard_number(message + MOONHALYARD_MESSAGE_VALUES + 12), UINT32_MAX);
     same(moonhalyard_number(message + MOONHALYARD_MESSAGE_REPLY), 61);
-    same(moonhalyard_number(message - MOONHALYARD_MESSAGE + MOONHALYARD_MESSAGE_REPLY), 0);
+    same(moonhalyard_number(moonhalyard_message(state, 0) + MOONHALYARD_MESSAGE_REPLY), 10);
     same(moonhalyard_step_refusal(moonhalyard_step(state, sizeof state, 0)), 0);
     order = moonhalyard_order(state, 0);
     same(order[MOONHALYARD_ORDER_ROOT], 1);
@@ -139,6 +139,9 @@ static void offsets(void)
     same(moonhalyard_number(order + MOONHALYARD_ORDER_VALUES), 101);
     same(moonhalyard_number(order + MOONHALYARD_ORDER_VALUES + 4), 7);
     same(moonhalyard_number(order + MOONHALYARD_ORDER_VALUES + 8), 40);
+    /* The partner to reply to is stored, behind the answer and the reason. */
+    same(order[MOONHALYARD_ORDER_BOUND + 5], 1);
+    same(moonhalyard_number(order + MOONHALYARD_ORDER_VALUES + 20), 10);
     same(moonhalyard_number(state + MOONHALYARD_TALLY_STARTED), 1);
     same(moonhalyard_long(order + MOONHALYARD_ORDER_KEPT), 0);
     same(order[MOONHALYARD_ORDER_CAUSE], 0);
@@ -171,7 +174,7 @@ static void busy(uint8_t *of)
 {
     memcpy(of, state, MOONHALYARD_STATE);
     for (uint32_t i = 0; i < 12; i++) {
-        same(moonhalyard_post(of, MOONHALYARD_STATE, 0, 0, 3, 100 + i / 2, 7, 40, 0, 0), 0);
+        same(moonhalyard_post(of, MOONHALYARD_STATE, 5, 0, 3, 100 + i / 2, 7, 40, 0, i), 0);
         if (i % 3 == 0)
             same(moonhalyard_step_refusal(moonhalyard_step(of, MOONHALYARD_STATE, 0)), 0);
     }

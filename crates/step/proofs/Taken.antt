@@ -43,7 +43,7 @@ use Rattle.machine.specs.Offer.{Offer, offering, sendHeld, closeHeld, offersOf}
 use Rattle.machine.specs.Planned.{addedTo, takenFrom, Adds, Removes}
 use Rattle.machine.specs.State.{noMessage, withOrder}
 use Rattle.laws.specs.Good.{Allowed, Good, actor}
-use Rattle.step.specs.Stepping.{bare, Worths, SentValues, SendRow, Sends, SendsMail, MovesMessages, MovesMail, StepsSlot, Nexts, movedIn, changed, MovesFrom, Moves, TakesOffer}
+use Rattle.step.specs.Stepping.{bare, Worths, SentValues, SentReply, SendRow, Sends, SendsMail, MovesMessages, MovesMail, StepsSlot, Nexts, movedIn, changed, MovesFrom, Moves, TakesOffer}
 use Rattle.machine.proofs.Copied.{stored-more}
 use Rattle.machine.proofs.Moved.{kept-mail, letter-there, limits-letters}
 use Rattle.laws.proofs.Offering.{pick-true, pick-false, chosen-fine}
@@ -91,11 +91,11 @@ module _ {t : List ℕ} {k : ℕ} {o : Order} {out : List ℕ} {i : ℕ} (a : Se
 
 -- `sent_reply`
 module _ (t : List ℕ) (k : ℕ) where
-  pub reply-held : getD t (k * 13) 0 ≡ 17 → getD t (k * 13 + 1) 0 ≡ replyOf (toAt t k)
-  reply-held e = rw (eq-eqb (getD t (k * 13) 0) 17 e)
+  pub reply-held : getD t (k * 13) 0 ≡ 17 → SentReply t k (getD t (k * 13 + 1) 0)
+  reply-held e = record { is = rw (eq-eqb (getD t (k * 13) 0) 17 e) }
 
-  pub reply-none : (getD t (k * 13) 0 ≡ 17 → ⊥) → 0 ≡ replyOf (toAt t k)
-  reply-none e = rw (ne-eqb (getD t (k * 13) 0) 17 e)
+  pub reply-none : (getD t (k * 13) 0 ≡ 17 → ⊥) → SentReply t k 0
+  reply-none e = record { is = rw (ne-eqb (getD t (k * 13) 0) 17 e) }
 
 -- `sent`
 module _ {t : List ℕ} {k : ℕ} (o : Order) {b : Bool} (a : MaySend t k (o .bound) (o .values) b) (g : length (o .bound) ≡ 16) (d : length (o .values) ≡ 16) (s : State) where
@@ -105,7 +105,7 @@ module _ {t : List ℕ} {k : ℕ} (o : Order) {b : Bool} (a : MaySend t k (o .bo
   may-says : (to : To) (q : ℕ) (vs : List ℕ) → SendRow to q vs k t → maySend o to vs ≡ b
   may-says to q vs r = ap (λ (z : To). maySend o z vs) (sym (r .to)) ∙ sym (a .is o vs (record { same = refl; sixteen = g }) holds (names-tuple (r .names)))
 
-  send-adds : b ≡ true → {xs : List ℕ} {x y : ℕ} {u : State} → SentValues t k o xs → PartnerTo t k (o .values) x → y ≡ replyOf (toAt t k)
+  send-adds : b ≡ true → {xs : List ℕ} {x y : ℕ} {u : State} → SentValues t k o xs → PartnerTo t k (o .values) x → SentReply t k y
       → u ≡ addedTo (record { partner = x; operation = getD t (k * 13 + 2) 0; count = getD t (k * 13 + 3) 0; values = xs; reply = y }) s → Sends t k o s u
   unfolding messagesAfter addedTo
   send-adds e v w z q = record {
@@ -116,7 +116,7 @@ module _ {t : List ℕ} {k : ℕ} (o : Order) {b : Bool} (a : MaySend t k (o .bo
           f,
           v .is vs (r .names),
           w .is o holds ∙ ap (partnerTo o) (r .to),
-          z ∙ ap replyOf (r .to),
+          z .is ∙ ap replyOf (r .to),
           r .operation,
           r .names .count,
         );
@@ -131,7 +131,7 @@ module _ {t : List ℕ} {k : ℕ} (o : Order) {b : Bool} (a : MaySend t k (o .bo
   }
 
 module _ {t : List ℕ} {k : ℕ} {o : Order} {b : Bool} (a : MaySend t k (o .bound) (o .values) b) (g : length (o .bound) ≡ 16) (d : length (o .values) ≡ 16) (l : List Message) (w : ℕ) where
-  pub mail-adds : b ≡ true → {xs : List ℕ} {x y : ℕ} {r : Mail} → SentValues t k o xs → PartnerTo t k (o .values) x → y ≡ replyOf (toAt t k)
+  pub mail-adds : b ≡ true → {xs : List ℕ} {x y : ℕ} {r : Mail} → SentValues t k o xs → PartnerTo t k (o .values) x → SentReply t k y
       → Adds (record { partner = x; operation = getD t (k * 13 + 2) 0; count = getD t (k * 13 + 3) 0; values = xs; reply = y }) l w r → SendsMail t k o l w r
   mail-adds e v u z q = record { is = λ s f h. send-adds o a g d s e v u z (q .is s f h) }
 

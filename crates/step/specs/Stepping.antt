@@ -6,7 +6,7 @@ use mathlib.Core.List.{List, []}
 use mathlib.Core.Path.{_≡_}
 use lib.Dec.{eqb}
 use lib.ListN.{getD}
-use Rattle.plan.specs.Tree.{To, Plan, size}
+use Rattle.plan.specs.Tree.{To, replyOf, Plan, size}
 use Rattle.order.specs.declared.Order.{Order}
 use Rattle.order.specs.declared.Next.{Next}
 use Rattle.order.specs.Answering.{Names, toAt, Spelled, TakesOrder, StepsOrder}
@@ -45,6 +45,10 @@ pub record SendRow (a : To) (b : ℕ) (vs : List ℕ) (k : ℕ) (t : List ℕ) :
   pub to : toAt t k ≡ a
   pub operation : getD t (k * 13 + 2) 0 ≡ b
   pub names : Names t k vs
+
+-- r is the reply partner that the message of the send in row k carries
+pub record SentReply (t : List ℕ) (k r : ℕ) : Type 0 where
+  pub is : r ≡ replyOf (toAt t k)
 
 -- r is the state after the send in row k
 pub record Sends (t : List ℕ) (k : ℕ) (o : Order) (s r : State) : Type 0 where

@@ -21,11 +21,9 @@ use plan::table::WIDTH;
 ghost use Prim.Native.Nat.{_<_};
 ghost use lib.ListN.{getD};
 ghost use mathlib.Core.Path.{_≡_};
-ghost use Rattle.plan.specs.Tree.{replyOf};
-ghost use Rattle.order.specs.Answering.{toAt};
 ghost use Rattle.machine.specs.Calls.{gives, counted as countedOf, countStart, countEnd};
 ghost use Rattle.machine.specs.State.{noMessage};
-ghost use Rattle.step.specs.Stepping.{Worths, SentValues, SendsMail, MovesMail, Nexts, MovesFrom, Moves};
+ghost use Rattle.step.specs.Stepping.{Worths, SentValues, SentReply, SendsMail, MovesMail, Nexts, MovesFrom, Moves};
 
 // The value of variable v.
 fn value_of(order: Order, v: u32) -> u32
@@ -61,7 +59,7 @@ fn sent_values(table: &Table, k: usize, order: Order) -> [u32; 4]
 // The reply partner that the message of the send in row k carries: a send to a held partner has it in the place of a partner, and any other carries 0.
 fn sent_reply(table: &Table, k: usize) -> u32
     requires { ⌜ k < 256 ⌝ }
-    ensures { λ r. ⌜ r ≡ replyOf (toAt (now (table .entry)) k) ⌝ }
+    ensures { λ r. ⌜ SentReply (now (table .entry)) k r ⌝ }
 {
     if table[k * WIDTH] == kind::HELD_SEND {
         return table[k * WIDTH + PARTNER];

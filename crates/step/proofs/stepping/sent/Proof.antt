@@ -1,8 +1,11 @@
 -- `step::stepping::sent` meets its contract. Assumes nothing.
 use borrow.Author.Needs.{needs}
+use Rattle.order.proofs.Whole.{order-whole}
 use Rattle.step.proofs.Taken.{mail-adds, mail-raises}
 use Rattle.step.proofs.stepping.sent.Statement.{statement}
 use Rattle.step.proofs.stepping.sent.Tie as tie
+
+ruleset cases = (mail-adds, mail-raises)
 
 pub sent-spec : {M : Type 1} → statement M
 sent-spec =
@@ -34,6 +37,11 @@ sent-spec =
     -- with-message-requires
     (λ c κs. search needs)
     -- returns
-    (λ c. search (mail-adds, needs))
+    (λ c.
+    let start = c .before .before .before .before .before .before .before .before .before .before .before .before .before in
+    let w = order-whole (start .args .order) _ (start .good .1 .1 .0) in
+    let b = w .bound-long in
+    let v = w .values-long in
+    search cases)
     -- returns-2
     (λ c. search (mail-raises, needs)))
